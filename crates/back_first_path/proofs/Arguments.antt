@@ -4,7 +4,7 @@ use Rattle.std.specs.Prelude.{codes}
 use Rattle.base.specs.declared.place.Place.{Place}
 use Rattle.base.specs.Data.{Item, item, list, no_item, item_and, items_of, items_list, no_tail, dotted, place_of}
 use Rattle.back_first_path.specs.Heads.{list_in}
-use Rattle.back_first_path.specs.Shapes.{Tables, word_of, is_text, stream_of, letter_of, put_form, format_char_form}
+use Rattle.back_first_path.specs.Shapes.{FirstPathTables, word_of, is_text, stream_of, letter_of, put_form, format_char_form}
 
 -- a stream is a proper list of one word
 pub stream_of_other : (texts : Seq (Seq ℕ)) (d : Item) → list_in d ≡ None → stream_of texts d ≡ None
@@ -33,11 +33,11 @@ stream_of_one texts (item p c) x ds e h g = absurd (cc)
 pub ruleset one_word = (stream_of_other, stream_of_items, stream_of_one)
 
 -- after a first item: no two arguments, and two
-pub format_char_form_other : (texts : Seq (Seq ℕ)) (p : Place) (ds : Seq Item) (t : Tables) → length ds ≢ 3 → format_char_form texts p (items_of (drop 1 ds)) t ≡ None
+pub format_char_form_other : (texts : Seq (Seq ℕ)) (p : Place) (ds : Seq Item) (t : FirstPathTables) → length ds ≢ 3 → format_char_form texts p (items_of (drop 1 ds)) t ≡ None
 format_char_form_other texts p (x ∷ a ∷ b ∷ []) t h = absurd (h refl)
 format_char_form_other texts p ds t h = refl
 
-pub format_char_form_both : (texts : Seq (Seq ℕ)) (p : Place) (ds : Seq Item) (a b : Item) (t : Tables) → length ds ≡ 3 → a ≡ get_or ds 1 a → b ≡ get_or ds 2 b → format_char_form texts p (items_of (drop 1 ds)) t ≡ put_form p (stream_of texts a) (letter_of b) t
+pub format_char_form_both : (texts : Seq (Seq ℕ)) (p : Place) (ds : Seq Item) (a b : Item) (t : FirstPathTables) → length ds ≡ 3 → a ≡ get_or ds 1 a → b ≡ get_or ds 2 b → format_char_form texts p (items_of (drop 1 ds)) t ≡ put_form p (stream_of texts a) (letter_of b) t
 format_char_form_both texts p (x ∷ y ∷ z ∷ []) a b t h e f = rw (← e, ← f) refl
 format_char_form_both texts p ds a b t h e f = absurd (omega (arith, h))
 

@@ -4,18 +4,18 @@ use Rattle.std.specs.Prelude.{slice_index, slice_set}
 use Rattle.rv_encode.specs.declared.instruction.Instr.TheVariants.{Add, Bne, Jalr}
 use Rattle.back_first_path.specs.Code.{load_6, load_11, add_6_to_5, go_to_5, over_jump_unless_same, jump_over, second_constant, clause_code, nil_word, t_word}
 use Rattle.back_first_path.proofs.Instructions.{instructions}
-use Rattle.back_first_path.proofs.Runs.{at, word_in, Comes, and_on, HasAt, one, linked, moved, loaded, next_place}
+use Rattle.back_first_path.proofs.Runs.{at, word_in, ReachesIn, and_on, HasAt, one_instruction, linked, moved, loaded, next_place}
 use Rattle.back_first_path.proofs.Yields.{Ready, ready_set, same, other, has_prefix, has_suffix, Yields}
 
 -- register 10 is as before
-record Passes (steps : ℕ) (arena registers printed : List ℕ) (i n i' : ℕ) : Type 0 where
+record CodePasses (steps : ℕ) (arena registers printed : List ℕ) (i n i' : ℕ) : Type 0 where
   registers' : List ℕ
-  comes : Comes steps (at arena i registers printed n) (at arena i' registers' printed (n + steps))
+  comes : ReachesIn steps (at arena i registers printed n) (at arena i' registers' printed (n + steps))
   ready : Ready registers'
   first : slice_index registers' 10 ≡ slice_index registers 10
 
 -- a jump over so many words
-jumped : (words : ℕ) (arena registers printed : List ℕ) (i n : ℕ) → Ready registers → i + 5 + words < 2 ^ 25 → HasAt arena i (jump_over words) → Passes 4 arena registers printed i n (i + 5 + words)
+jumped : (words : ℕ) (arena registers printed : List ℕ) (i n : ℕ) → Ready registers → i + 5 + words < 2 ^ 25 → HasAt arena i (jump_over words) → CodePasses 4 arena registers printed i n (i + 5 + words)
 jumped words arena registers printed i n ready room has =
     let five : List ℕ = slice_set registers 5 (4 * (i + 1)) in
     let five_ready : Ready five = ready_set registers 5 (4 * (i + 1)) (omega arith) ready in
@@ -31,13 +31,13 @@ jumped words arena registers printed i n ready room has =
     let x5 : slice_index six 5 ≡ 4 * (i + 1) = other five 6 (words * 4 + 16) 5 (omega arith) ∙ same registers 5 (4 * (i + 1)) (omega arith) ready in
     let x6 : slice_index six 6 ≡ words * 4 + 16 = same five 6 (words * 4 + 16) (omega arith) five_ready in
     let sum : (4 * (i + 1) + (words * 4 + 16)) % 2 ^ 32 ≡ 4 * (i + 5 + words) = omega arith in
-    let add = one arena six printed (i + 2 + 1) (n + 1 + 1) add_6_to_5 (Add 5 5 6) (at arena (i + 2 + 1 + 1) target printed (n + 1 + 1 + 1)) at_add instructions.add_6_to_5 (λ input go_on. rw (x5, x6, sum, next_place (i + 2 + 1) (omega arith)) refl) in
+    let add = one_instruction arena six printed (i + 2 + 1) (n + 1 + 1) add_6_to_5 (Add 5 5 6) (at arena (i + 2 + 1 + 1) target printed (n + 1 + 1 + 1)) at_add instructions.add_6_to_5 (λ input go_on. rw (x5, x6, sum, next_place (i + 2 + 1) (omega arith)) refl) in
     let m : i + 1 + 1 + 1 + 1 ≡ i + 2 + 1 + 1 = omega arith in
     let at_go : word_in arena (i + 2 + 1 + 1) ≡ Some go_to_5 = subst (λ x. word_in arena x ≡ Some go_to_5) m has.1.1.1.1.0 in
     let t5 : slice_index target 5 ≡ 4 * (i + 5 + words) = same six 5 (4 * (i + 5 + words)) (omega arith) six_ready in
     let there : (4 * (i + 5 + words) + 0) % 2 ^ 32 ≡ 4 * (i + 5 + words) = omega arith in
     let whole : 4 * (i + 5 + words) - 4 * (i + 5 + words) % 2 ≡ 4 * (i + 5 + words) = omega arith in
-    let go = one arena target printed (i + 2 + 1 + 1) (n + 1 + 1 + 1) go_to_5 (Jalr 0 5 0) (at arena (i + 5 + words) target printed (n + 1 + 1 + 1 + 1)) at_go instructions.go_to_5 (λ input go_on. rw (t5, there, whole) refl) in
+    let go = one_instruction arena target printed (i + 2 + 1 + 1) (n + 1 + 1 + 1) go_to_5 (Jalr 0 5 0) (at arena (i + 5 + words) target printed (n + 1 + 1 + 1 + 1)) at_go instructions.go_to_5 (λ input go_on. rw (t5, there, whole) refl) in
     record {
       registers' = target;
       comes = moved (i + 5 + words) (n + 4) refl (omega arith) (and_on (and_on (and_on link load) add) go);
@@ -46,7 +46,7 @@ jumped words arena registers printed i n ready room has =
     }
 
 -- nil in register 11
-second_loaded : (arena registers printed : List ℕ) (i n word : ℕ) → Ready registers → i + 3 < 2 ^ 25 → HasAt arena i (second_constant word) → (r : List ℕ) × Comes 2 (at arena i registers printed n) (at arena (i + 3) r printed (n + 2)) × Ready r × (slice_index r 10 ≡ slice_index registers 10) × (slice_index r 11 ≡ word)
+second_loaded : (arena registers printed : List ℕ) (i n word : ℕ) → Ready registers → i + 3 < 2 ^ 25 → HasAt arena i (second_constant word) → (r : List ℕ) × ReachesIn 2 (at arena i registers printed n) (at arena (i + 3) r printed (n + 2)) × Ready r × (slice_index r 10 ≡ slice_index registers 10) × (slice_index r 11 ≡ word)
 second_loaded arena registers printed i n word ready room has =
     let five : List ℕ = slice_set registers 5 (4 * (i + 1)) in
     let five_ready : Ready five = ready_set registers 5 (4 * (i + 1)) (omega arith) ready in
@@ -62,19 +62,19 @@ second_loaded arena registers printed i n word ready room has =
     )
 
 -- a branch over a jump where register 10 is not nil
-tested_true : (arena registers printed : List ℕ) (i n : ℕ) → Ready registers → i + 9 < 2 ^ 25 → slice_index registers 10 ≡ t_word → HasAt arena i (second_constant nil_word) → word_in arena (i + 3) ≡ Some over_jump_unless_same → Passes 3 arena registers printed i n (i + 9)
+tested_true : (arena registers printed : List ℕ) (i n : ℕ) → Ready registers → i + 9 < 2 ^ 25 → slice_index registers 10 ≡ t_word → HasAt arena i (second_constant nil_word) → word_in arena (i + 3) ≡ Some over_jump_unless_same → CodePasses 3 arena registers printed i n (i + 9)
 tested_true arena registers printed i n ready room ten has branch =
     let s = second_loaded arena registers printed i n nil_word ready (omega arith) has in
     let x10 : slice_index s.0 10 ≡ t_word = s.3 ∙ ten in
     let p : (4 * (i + 3) + 24) % 2 ^ 32 ≡ 4 * (i + 9) = omega arith in
-    let b = one arena s.0 printed (i + 3) (n + 2) over_jump_unless_same (Bne 10 11 24) (at arena (i + 9) s.0 printed (n + 2 + 1)) branch instructions.over_jump_unless_same (λ input go_on. rw (x10, s.4, p) refl) in
+    let b = one_instruction arena s.0 printed (i + 3) (n + 2) over_jump_unless_same (Bne 10 11 24) (at arena (i + 9) s.0 printed (n + 2 + 1)) branch instructions.over_jump_unless_same (λ input go_on. rw (x10, s.4, p) refl) in
     record { registers' = s.0; comes = moved (i + 9) (n + 3) refl (omega arith) (and_on s.1 b); ready = s.2; first = s.3 }
 
-tested_false : (arena registers printed : List ℕ) (i n : ℕ) → Ready registers → i + 9 < 2 ^ 25 → slice_index registers 10 ≡ nil_word → HasAt arena i (second_constant nil_word) → word_in arena (i + 3) ≡ Some over_jump_unless_same → Passes 3 arena registers printed i n (i + 4)
+tested_false : (arena registers printed : List ℕ) (i n : ℕ) → Ready registers → i + 9 < 2 ^ 25 → slice_index registers 10 ≡ nil_word → HasAt arena i (second_constant nil_word) → word_in arena (i + 3) ≡ Some over_jump_unless_same → CodePasses 3 arena registers printed i n (i + 4)
 tested_false arena registers printed i n ready room ten has branch =
     let s = second_loaded arena registers printed i n nil_word ready (omega arith) has in
     let x10 : slice_index s.0 10 ≡ nil_word = s.3 ∙ ten in
-    let b = one arena s.0 printed (i + 3) (n + 2) over_jump_unless_same (Bne 10 11 24) (at arena (i + 3 + 1) s.0 printed (n + 2 + 1)) branch instructions.over_jump_unless_same (λ input go_on. rw (x10, s.4, next_place (i + 3) (omega arith)) refl) in
+    let b = one_instruction arena s.0 printed (i + 3) (n + 2) over_jump_unless_same (Bne 10 11 24) (at arena (i + 3 + 1) s.0 printed (n + 2 + 1)) branch instructions.over_jump_unless_same (λ input go_on. rw (x10, s.4, next_place (i + 3) (omega arith)) refl) in
     record { registers' = s.0; comes = moved (i + 4) (n + 3) (omega arith) (omega arith) (and_on s.1 b); ready = s.2; first = s.3 }
 
 -- where the parts of a clause's code stand
@@ -128,7 +128,7 @@ chosen_yields before test body others bytes word c d y z = record {
       let p = placed arena i test body others has in
       let t = y.by arena registers printed i n ready held (omega (arith, p.size)) p.test_at in
       let same_printed : printed ++ [] ≡ printed = append-nil printed in
-      let t_comes : Comes c (at arena i registers printed n) (at arena (i + length test) t.registers' printed (n + c)) = subst (λ q. Comes c (at arena i registers printed n) (at arena (i + length test) t.registers' q (n + c))) same_printed t.comes in
+      let t_comes : ReachesIn c (at arena i registers printed n) (at arena (i + length test) t.registers' printed (n + c)) = subst (λ q. ReachesIn c (at arena i registers printed n) (at arena (i + length test) t.registers' q (n + c))) same_printed t.comes in
       let s = tested_true arena t.registers' printed (i + length test) (n + c) t.ready (omega (arith, p.size)) t.holds p.nil_at p.branch_at.0 in
       let b = z.by arena s.registers' printed (i + length test + 9) (n + c + 3) s.ready (s.first ∙ t.holds) (omega (arith, p.size)) p.body_at in
       let j = jumped (length others) arena b.registers' (printed ++ bytes) (i + length test + 9 + length body) (n + c + 3 + d) b.ready (omega (arith, p.size)) p.jump_at in
@@ -147,7 +147,7 @@ passed_yields before test body others bytes word c d y z = record {
       let p = placed arena i test body others has in
       let t = y.by arena registers printed i n ready held (omega (arith, p.size)) p.test_at in
       let same_printed : printed ++ [] ≡ printed = append-nil printed in
-      let t_comes : Comes c (at arena i registers printed n) (at arena (i + length test) t.registers' printed (n + c)) = subst (λ q. Comes c (at arena i registers printed n) (at arena (i + length test) t.registers' q (n + c))) same_printed t.comes in
+      let t_comes : ReachesIn c (at arena i registers printed n) (at arena (i + length test) t.registers' printed (n + c)) = subst (λ q. ReachesIn c (at arena i registers printed n) (at arena (i + length test) t.registers' q (n + c))) same_printed t.comes in
       let s = tested_false arena t.registers' printed (i + length test) (n + c) t.ready (omega (arith, p.size)) t.holds p.nil_at p.branch_at.0 in
       let jump_has : HasAt arena (i + length test + 4) (jump_over (length body + 5)) = shifted arena (jump_over (length body + 5)) _ _ (omega arith) p.branch_at.1 in
       let j = jumped (length body + 5) arena s.registers' printed (i + length test + 4) (n + c + 3) s.ready (omega (arith, p.size)) jump_has in

@@ -18,10 +18,10 @@ use Rattle.base.specs.declared.reason.Refusal.{Refusal}
 use Rattle.base.specs.declared.reason.Stop.{Stop}
 use Rattle.base.specs.declared.reason.Stop.TheVariants.{Refused, NoMemory}
 use Rattle.front_reader.specs.Stops.{StopsFirst}
-use Rattle.front_reader.specs.Answers.{IsRead, IsEnded, IsStopped as IsStoppedReader}
+use Rattle.front_reader.specs.Answers.{IsRead, IsEnded, IsReaderStopped as IsStoppedReader}
 use Rattle.back_first_path.specs.Finds.{IsForm, IsNoForm}
-use Rattle.back_first_path.specs.Shapes.{Tables, no_tables, as_form, form_of, forms_of, program_with, program_of}
-use Rattle.back_first_path.specs.Verdicts.{DataOf, no_datum, then_datum, BeginsWithProgram, Accepts, Refuses, text_fault, not_built, IsStopped}
+use Rattle.back_first_path.specs.Shapes.{FirstPathTables, no_tables, as_form, form_of, forms_of, program_with, program_of}
+use Rattle.back_first_path.specs.Verdicts.{DataOf, no_datum, then_datum, BeginsWithProgram, Accepts, Refuses, text_fault, not_built, IsFirstPathStop}
 use Rattle.back_first_path.proofs.Founds.{was_and, was_made}
 use Rattle.back_first_path.specs.Code.{program_code}
 use Rattle.back_first_path.proofs.Sizes.{small}
@@ -30,8 +30,8 @@ use Rattle.back_first_path.proofs.LaterNames.{data-later}
 use Rattle.back_first_path.proofs.LaterForms.{forms-later}
 
 -- the forms of data and one more, behind the first
-more-behind : (names : Seq (Seq ℕ)) (es : Seq Item) (d : Item) (t : Tables) (e : Item) (fs : Seq Form) (u : Tables) (f : Form) (v : Tables)
-    (g : Form) (after : Tables) (part : Forms) → form_of names e t ≡ Some (g, after) → forms_of names (items_of es) after ≡ Some (part, u)
+more-behind : (names : Seq (Seq ℕ)) (es : Seq Item) (d : Item) (t : FirstPathTables) (e : Item) (fs : Seq Form) (u : FirstPathTables) (f : Form) (v : FirstPathTables)
+    (g : Form) (after : FirstPathTables) (part : Forms) → form_of names e t ≡ Some (g, after) → forms_of names (items_of es) after ≡ Some (part, u)
     → form_and g part ≡ forms fs → form_of names d u ≡ Some (f, v)
     → ((gs : Seq Form) → part ≡ forms gs → forms_of names (items_of (es ++ d ∷ [])) after ≡ Some (forms (gs ++ f ∷ []), v))
     → forms_of names (items_of (e ∷ es ++ d ∷ [])) t ≡ Some (forms (fs ++ f ∷ []), v)
@@ -43,16 +43,16 @@ more-behind names es d t e (x ∷ xs) u f v g after part h i j k l =
     rw (h, l xs tail, head) refl
 
 -- the forms of data and one more
-forms-more : (names : Seq (Seq ℕ)) (ds : Seq Item) (d : Item) (t : Tables) (fs : Seq Form) (u : Tables) (f : Form) (v : Tables)
+forms-more : (names : Seq (Seq ℕ)) (ds : Seq Item) (d : Item) (t : FirstPathTables) (fs : Seq Form) (u : FirstPathTables) (f : Form) (v : FirstPathTables)
     → forms_of names (items_of ds) t ≡ Some (forms fs, u) → form_of names d u ≡ Some (f, v)
     → forms_of names (items_of (ds ++ d ∷ [])) t ≡ Some (forms (fs ++ f ∷ []), v)
 unfolding forms_of
 forms-more names [] d t [] u f v h k =
-    let pair : ◌≡◌ {A = Forms × Tables} (no_form, t) (no_form, u) = cc in
+    let pair : ◌≡◌ {A = Forms × FirstPathTables} (no_form, t) (no_form, u) = cc in
     let same : t ≡ u = ap (λ x. x.1) pair in
     rw (same, k) refl
 forms-more names [] d t (g ∷ gs) u f v h k =
-    let pair : ◌≡◌ {A = Forms × Tables} (no_form, t) (form_and g (forms gs), u) = cc in
+    let pair : ◌≡◌ {A = Forms × FirstPathTables} (no_form, t) (form_and g (forms gs), u) = cc in
     let first : no_form ≡ form_and g (forms gs) = ap (λ x. x.0) pair in
     absurd (cc)
 forms-more names (e ∷ es) d t fs u f v h k =
@@ -61,12 +61,12 @@ forms-more names (e ∷ es) d t fs u f v h k =
     more-behind names es d t e fs u f v a.part a.tables m.part a.first m.found m.made k (λ gs e'. forms-more names es d a.tables gs u f v (m.found ∙ ap (λ x. Some (x, u)) e') k)
 
 -- where one more is no form, there are none
-forms-none : (names : Seq (Seq ℕ)) (ds : Seq Item) (d : Item) (t : Tables) (fs : Forms) (u : Tables)
+forms-none : (names : Seq (Seq ℕ)) (ds : Seq Item) (d : Item) (t : FirstPathTables) (fs : Forms) (u : FirstPathTables)
     → forms_of names (items_of ds) t ≡ Some (fs, u) → form_of names d u ≡ None
     → forms_of names (items_of (ds ++ d ∷ [])) t ≡ None
 unfolding forms_of
 forms-none names [] d t fs u h k =
-    let pair : ◌≡◌ {A = Forms × Tables} (no_form, t) (fs, u) = cc in
+    let pair : ◌≡◌ {A = Forms × FirstPathTables} (no_form, t) (fs, u) = cc in
     let same : t ≡ u = ap (λ x. x.1) pair in
     rw (same, k) refl
 forms-none names (e ∷ es) d t fs u h k =
@@ -83,11 +83,11 @@ all-more p (e ∷ es) d h k = both (p e) (list_all p es) (list_all p (es ++ d �
     both false b c h k = absurd (cc)
 
 -- the program of forms and tables
-abbrev pub program_from : Seq Form → Tables → Option ProgramRows
+abbrev pub program_from : Seq Form → FirstPathTables → Option ProgramRows
 program_from fs t = program_with (Some (forms fs, t))
 
 -- the text's first data were read; these are their forms and tables
-pub record Judged (names : Seq (Seq ℕ)) (text : Seq ℕ) (reader : ReaderState) (fs : Seq Form) (tables : Tables) : Type 0 where
+pub record Judged (names : Seq (Seq ℕ)) (text : Seq ℕ) (reader : ReaderState) (fs : Seq Form) (tables : FirstPathTables) : Type 0 where
   pub data_before : Seq Item
   pub read : DataOf names text data_before reader.rest reader.place
   pub fresh : reader.stop ≡ None
@@ -100,7 +100,7 @@ unfolding forms_of
 judged-start names text = record { data_before = []; read = no_datum; fresh = refl; shallow = refl; found = refl }
 
 -- the table of names has grown
-pub judged-later : (old new : Seq (Seq ℕ)) (text : Seq ℕ) (reader : ReaderState) (fs : Seq Form) (tables : Tables) → Extends old new
+pub judged-later : (old new : Seq (Seq ℕ)) (text : Seq ℕ) (reader : ReaderState) (fs : Seq Form) (tables : FirstPathTables) → Extends old new
     → Judged old text reader fs tables → Judged new text reader fs tables
 judged-later old new text reader fs tables x j = record {
   data_before = j.data_before;
@@ -111,7 +111,7 @@ judged-later old new text reader fs tables x j = record {
 }
 
 -- one datum more
-pub judged-more : (names : Seq (Seq ℕ)) (text : Seq ℕ) (old new : ReaderState) (d : Item) (fs : Seq Form) (t : Tables) (f : Form) (u : Tables)
+pub judged-more : (names : Seq (Seq ℕ)) (text : Seq ℕ) (old new : ReaderState) (d : Item) (fs : Seq Form) (t : FirstPathTables) (f : Form) (u : FirstPathTables)
     → Judged names text old fs t → IsRead names old new d → depth_of d ≤ 64 → form_of names d t ≡ Some (f, u)
     → Judged names text new (fs ++ f ∷ []) u
 judged-more names text old new d fs t f u j r deep k = record {
@@ -123,7 +123,7 @@ judged-more names text old new d fs t f u j r deep k = record {
 }
 
 -- the data so far begin the text
-pub judged-begins : (names : Seq (Seq ℕ)) (text : Seq ℕ) (reader : ReaderState) (fs : Seq Form) (t : Tables) (program : ProgramRows)
+pub judged-begins : (names : Seq (Seq ℕ)) (text : Seq ℕ) (reader : ReaderState) (fs : Seq Form) (t : FirstPathTables) (program : ProgramRows)
     → length text ≤ 4096 → Judged names text reader fs t → program_from fs t ≡ Some program → BeginsWithProgram text
 judged-begins names text reader fs t program short j e = record {
   short = short;
@@ -137,18 +137,18 @@ judged-begins names text reader fs t program short j e = record {
 }
 
 -- the end of the text
-pub judged-end : (names : Seq (Seq ℕ)) (text : Seq ℕ) (old new : ReaderState) (fs : Seq Form) (t : Tables) (program : ProgramRows)
+pub judged-end : (names : Seq (Seq ℕ)) (text : Seq ℕ) (old new : ReaderState) (fs : Seq Form) (t : FirstPathTables) (program : ProgramRows)
     → length text ≤ 4096 → Judged names text old fs t → IsEnded old new → program_from fs t ≡ Some program → Accepts text program
 unfolding judged-begins
 judged-end names text old new fs t program short j k e =
     record { begins = judged-begins names text old fs t program short j e; at_end = k.is_gap; same = refl }
 
 -- some program is that of forms and tables
-some-program : (fs : Seq Form) (t : Tables) → (program : ProgramRows) × (program_from fs t ≡ Some program)
+some-program : (fs : Seq Form) (t : FirstPathTables) → (program : ProgramRows) × (program_from fs t ≡ Some program)
 some-program fs t = (_, refl)
 
 -- a stop of the text
-pub judged-stop : (names : Seq (Seq ℕ)) (text : Seq ℕ) (reader : ReaderState) (fs : Seq Form) (t : Tables) (at : Place) (r : Reason)
+pub judged-stop : (names : Seq (Seq ℕ)) (text : Seq ℕ) (reader : ReaderState) (fs : Seq Form) (t : FirstPathTables) (at : Place) (r : Reason)
     → length text ≤ 4096 → Judged names text reader fs t → StopsFirst reader.place reader.rest at r → Refuses text at r
 unfolding judged-begins
 judged-stop names text reader fs t at r short j k =
@@ -156,7 +156,7 @@ judged-stop names text reader fs t at r short j k =
     text_fault r (record { begins = judged-begins names text reader fs t p.0 short j p.1; stops = k })
 
 -- a datum that is too deep, or no form
-judged-not_built : (names : Seq (Seq ℕ)) (text : Seq ℕ) (old new : ReaderState) (d : Item) (fs : Seq Form) (t : Tables)
+judged-not_built : (names : Seq (Seq ℕ)) (text : Seq ℕ) (old new : ReaderState) (d : Item) (fs : Seq Form) (t : FirstPathTables)
     → length text ≤ 4096 → (j : Judged names text old fs t) → IsRead names old new d
     → (64 < depth_of d) ⊎ (program_of names (items_of (j.data_before ++ d ∷ [])) ≡ None) → Refuses text (place_of d) NotBuilt
 unfolding judged-begins
@@ -171,23 +171,23 @@ judged-not_built names text old new d fs t short j r none =
       stands = refl;
     })
 
-pub judged-deep : (names : Seq (Seq ℕ)) (text : Seq ℕ) (old new : ReaderState) (d : Item) (fs : Seq Form) (t : Tables)
+pub judged-deep : (names : Seq (Seq ℕ)) (text : Seq ℕ) (old new : ReaderState) (d : Item) (fs : Seq Form) (t : FirstPathTables)
     → length text ≤ 4096 → Judged names text old fs t → IsRead names old new d → 64 < depth_of d → Refuses text (place_of d) NotBuilt
 judged-deep names text old new d fs t short j r deep = judged-not_built names text old new d fs t short j r (inl deep)
 
-pub judged-none : (names : Seq (Seq ℕ)) (text : Seq ℕ) (old new : ReaderState) (d : Item) (fs : Seq Form) (t : Tables)
+pub judged-none : (names : Seq (Seq ℕ)) (text : Seq ℕ) (old new : ReaderState) (d : Item) (fs : Seq Form) (t : FirstPathTables)
     → length text ≤ 4096 → Judged names text old fs t → IsRead names old new d → form_of names d t ≡ None → Refuses text (place_of d) NotBuilt
 judged-none names text old new d fs t short j r none =
     judged-not_built names text old new d fs t short j r (inr (ap program_with (forms-none names j.data_before d no_tables (forms fs) t j.found none)))
 
 -- before the first datum, as the code begins
-pub judged-init : (names : Seq (Seq ℕ)) (text : Seq ℕ) (reader : ReaderState) (fs : Seq Form) (t : Tables)
+pub judged-init : (names : Seq (Seq ℕ)) (text : Seq ℕ) (reader : ReaderState) (fs : Seq Form) (t : FirstPathTables)
     → reader ≡ record { rest = text; place = first_place File; stop = None } → fs ≡ [] → t ≡ no_tables
     → Judged names text reader fs t
 judged-init names text reader fs t e f g = rw (e, f, g) (judged-start names text)
 
 -- one datum more, with a table of names that may have grown
-pub judged-step : (names later : Seq (Seq ℕ)) (text : Seq ℕ) (old new : ReaderState) (d : Item) (t u : Tables) (fs gs : Seq Form)
+pub judged-step : (names later : Seq (Seq ℕ)) (text : Seq ℕ) (old new : ReaderState) (d : Item) (t u : FirstPathTables) (fs gs : Seq Form)
     → Extends names later → Judged names text old fs t → IsRead later old new d → IsForm later d t u fs gs
     → Judged later text new gs u
 judged-step names later text old new d t u fs gs x j r f =
@@ -195,9 +195,9 @@ judged-step names later text old new d t u fs gs x j r f =
     (judged-more later text old new d fs t f.form u (judged-later names later text old fs t x j) r f.shallow f.found)
 
 -- a datum that is no form
-pub judged-offends : (names later : Seq (Seq ℕ)) (text : Seq ℕ) (old new : ReaderState) (d : Item) (t : Tables) (fs : Seq Form) (stop : Stop)
+pub judged-offends : (names later : Seq (Seq ℕ)) (text : Seq ℕ) (old new : ReaderState) (d : Item) (t : FirstPathTables) (fs : Seq Form) (stop : Stop)
     → length text ≤ 4096 → Extends names later → Judged names text old fs t → IsRead later old new d → IsNoForm later d t stop
-    → IsStopped text stop
+    → IsFirstPathStop text stop
 judged-offends names later text old new d t fs NoMemory short x j r k = tt
 judged-offends names later text old new d t fs (Refused r') short x j r k =
     let g = judged-later names later text old fs t x j in
@@ -207,9 +207,9 @@ judged-offends names later text old new d t fs (Refused r') short x j r k =
     subst P (sym k.0) there
 
 -- a stop of the text
-pub judged-stops : (names later : Seq (Seq ℕ)) (text : Seq ℕ) (old new : ReaderState) (t : Tables) (fs : Seq Form) (stop : Stop)
+pub judged-stops : (names later : Seq (Seq ℕ)) (text : Seq ℕ) (old new : ReaderState) (t : FirstPathTables) (fs : Seq Form) (stop : Stop)
     → length text ≤ 4096 → Extends names later → Judged names text old fs t → IsStoppedReader old new stop
-    → IsStopped text stop
+    → IsFirstPathStop text stop
 judged-stops names later text old new t fs NoMemory short x j k = tt
 judged-stops names later text old new t fs (Refused r) short x j k =
     judged-stop names text old fs t r.place r.reason short j (k.stops j.fresh)

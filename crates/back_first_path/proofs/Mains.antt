@@ -5,7 +5,7 @@ use Rattle.lang_meaning.specs.Form.{Form}
 use Rattle.lang_meaning.specs.Counts.{nodes, application_words}
 use Rattle.lang_meaning.specs.Values.{Value}
 use Rattle.lang_meaning.specs.Objects.{no_environment}
-use Rattle.lang_meaning.specs.State.{State, Evaluated, full, gives, go_on, Limit, words, unlimited, has_room, room_left, with_words, main_surroundings}
+use Rattle.lang_meaning.specs.State.{State, Evaluated, full, gives, go_on, Limit, words, unlimited, has_room, room_left, with_words, main_context}
 use Rattle.lang_meaning.specs.Signals.{form}
 use Rattle.lang_meaning.specs.Meaning.{meaning_at, mean_main, mean_mains, none_below}
 use Rattle.back_first_path.specs.Shapes.{names}
@@ -30,10 +30,10 @@ pub record MeansMains (program : ProgramRows) (last : Value) (fs : List Form) (v
   pub free : (k : ℕ) (z : State) → HasOutput z → Went z v bytes units (mean_mains names program unlimited k fs last z)
 
 -- at any number of levels a form means what it means with some meaning below
-at_levels : (program : ProgramRows) (f : Form) (v : Value) (bytes : List ℕ) (units : ℕ) → Means program f v bytes units → (limit : Limit) (k : ℕ) (z : State) → HasOutput z → meaning_at names program limit k (form f) no_environment main_surroundings z ≡ gives v (after bytes units z)
+at_levels : (program : ProgramRows) (f : Form) (v : Value) (bytes : List ℕ) (units : ℕ) → Means program f v bytes units → (limit : Limit) (k : ℕ) (z : State) → HasOutput z → meaning_at names program limit k (form f) no_environment main_context z ≡ gives v (after bytes units z)
 unfolding meaning_at
-at_levels program f v bytes units m limit zero z s = m.by limit none_below no_environment main_surroundings z s
-at_levels program f v bytes units m limit (suc k) z s = m.by limit (meaning_at names program limit k) no_environment main_surroundings z s
+at_levels program f v bytes units m limit zero z s = m.by limit none_below no_environment main_context z s
+at_levels program f v bytes units m limit (suc k) z s = m.by limit (meaning_at names program limit k) no_environment main_context z s
 
 -- the state after a main form
 abbrev after_main : Form → List ℕ → ℕ → State → State

@@ -12,9 +12,9 @@ use Rattle.lang_meaning.specs.Form.{Form, literal, clauses, sequence, prim, site
 use Rattle.lang_meaning.specs.Form.{Forms, no_form, form_and}
 use Rattle.lang_meaning.specs.Values.{Value, t, nil}
 use Rattle.lang_meaning.specs.Objects.{Environment, output_stream}
-use Rattle.lang_meaning.specs.Layout.{literal_value}
+use Rattle.lang_meaning.specs.InitialHeap.{literal_value}
 use Rattle.lang_meaning.specs.Primitives.{primitive, result}
-use Rattle.lang_meaning.specs.State.{State, Surroundings, gives, go_on, Limit, charged}
+use Rattle.lang_meaning.specs.State.{State, DynamicContext, gives, go_on, Limit, charged}
 use Rattle.lang_meaning.specs.Signals.{Context, Task, Evaluation, answered}
 use Rattle.lang_meaning.specs.Meaning.{unless_nil, mean, mean_sequence, mean_arguments, mean_clauses, context_of}
 use Rattle.back_first_path.specs.Shapes.{names}
@@ -38,10 +38,10 @@ at = context_of names
 
 -- under any limit and with anything below, where the standard output is there, the form has this value
 pub record Means (program : ProgramRows) (f : Form) (v : Value) (bytes : List ℕ) (units : ℕ) : Type 0 where
-  pub by : (limit : Limit) (below : Task → Evaluation) (env : Environment) (around : Surroundings) (z : State) → HasOutput z → mean (at program limit below) f env around z ≡ gives v (after bytes units z)
+  pub by : (limit : Limit) (below : Task → Evaluation) (env : Environment) (around : DynamicContext) (z : State) → HasOutput z → mean (at program limit below) f env around z ≡ gives v (after bytes units z)
 
 pub record MeansSequence (program : ProgramRows) (last : Value) (fs : Forms) (v : Value) (bytes : List ℕ) (units : ℕ) : Type 0 where
-  pub by : (limit : Limit) (below : Task → Evaluation) (env : Environment) (around : Surroundings) (z : State) → HasOutput z → mean_sequence (at program limit below) last fs env around z ≡ gives v (after bytes units z)
+  pub by : (limit : Limit) (below : Task → Evaluation) (env : Environment) (around : DynamicContext) (z : State) → HasOutput z → mean_sequence (at program limit below) last fs env around z ≡ gives v (after bytes units z)
 
 pub no_forms_mean : (program : ProgramRows) (last : Value) → MeansSequence program last no_form last [] 0
 unfolding mean

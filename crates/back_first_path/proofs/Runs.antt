@@ -30,13 +30,13 @@ abbrev pub word_in : List ℕ → ℕ → Option ℕ
 word_in memory i = number_at 4 (4 * i) memory
 
 -- from one moment the machine comes to another in so many instructions
-pub record Comes (steps : ℕ) (m m' : Point) : Type 0 where
+pub record ReachesIn (steps : ℕ) (m m' : Point) : Type 0 where
   pub by : (input : List ℕ) (k t : ℕ) → t ≡ steps + k → run_from t (m input) ≡ run_from k (m' input)
 
-pub stays : (m : Point) → Comes 0 m m
+pub stays : (m : Point) → ReachesIn 0 m m
 stays m = record { by = λ input k t e. ap (λ x. run_from x (m input)) (e ∙ omega arith) }
 
-pub and_on : {a b : ℕ} {m m' m'' : Point} → Comes a m m' → Comes b m' m'' → Comes (a + b) m m''
+pub and_on : {a b : ℕ} {m m' m'' : Point} → ReachesIn a m m' → ReachesIn b m' m'' → ReachesIn (a + b) m m''
 and_on {a} {b} c d = record { by = λ input k t e. c.by input (b + k) t (omega (arith, e)) ∙ d.by input k (b + k) refl }
 
 -- these words stand in the memory from a place on
@@ -45,9 +45,9 @@ HasAt arena i [] = Unit {0}
 HasAt arena i (w ∷ ws) = (word_in arena i ≡ Some w) × HasAt arena (i + 1) ws
 
 -- one instruction
-pub one : (arena registers printed : List ℕ) (i n w : ℕ) (ins : Instr) (m' : Point) → word_in arena i ≡ Some w → decode_of w ≡ Some ins → ((input : List ℕ) (go_on : Moment → Ended) → act go_on (execute ins (at arena i registers printed n input).state) (at arena i registers printed n input) ≡ go_on (m' input)) → Comes 1 (at arena i registers printed n) m'
+pub one_instruction : (arena registers printed : List ℕ) (i n w : ℕ) (ins : Instr) (m' : Point) → word_in arena i ≡ Some w → decode_of w ≡ Some ins → ((input : List ℕ) (go_on : Moment → Ended) → act go_on (execute ins (at arena i registers printed n input).state) (at arena i registers printed n input) ≡ go_on (m' input)) → ReachesIn 1 (at arena i registers printed n) m'
 unfolding run_from step_of
-one arena registers printed i n w ins m' h d e = record {
+one_instruction arena registers printed i n w ins m' h d e = record {
   by = λ input k t q.
       let p : t ≡ suc k = omega (arith, q) in
       ap (λ x. run_from x (at arena i registers printed n input)) p
@@ -61,24 +61,24 @@ pub next_place : (i : ℕ) → i < 2 ^ 25 → (4 * i + 4) % 2 ^ 32 ≡ 4 * (i + 
 next_place i b = omega arith
 
 -- the jump over a constant leaves its address in x5
-pub linked : (arena registers printed : List ℕ) (i n : ℕ) → i < 2 ^ 25 → word_in arena i ≡ Some link_5_over_word → Comes 1 (at arena i registers printed n) (at arena (i + 2) (slice_set registers 5 (4 * (i + 1))) printed (n + 1))
+pub linked : (arena registers printed : List ℕ) (i n : ℕ) → i < 2 ^ 25 → word_in arena i ≡ Some link_5_over_word → ReachesIn 1 (at arena i registers printed n) (at arena (i + 2) (slice_set registers 5 (4 * (i + 1))) printed (n + 1))
 linked arena registers printed i n b h =
     let p : (4 * i + 8) % 2 ^ 32 ≡ 4 * (i + 2) = omega arith in
     let q : (4 * i + 4) % 2 ^ 32 ≡ 4 * (i + 1) = omega arith in
-    one arena registers printed i n link_5_over_word (Jal 5 8) (at arena (i + 2) (slice_set registers 5 (4 * (i + 1))) printed (n + 1)) h instructions.link_5_over_word (λ input go_on. rw (p, q) refl)
+    one_instruction arena registers printed i n link_5_over_word (Jal 5 8) (at arena (i + 2) (slice_set registers 5 (4 * (i + 1))) printed (n + 1)) h instructions.link_5_over_word (λ input go_on. rw (p, q) refl)
 
 -- a moment may be told by equal numbers
-pub moved : {a : ℕ} {m : Point} {arena registers printed : List ℕ} {i n : ℕ} (i' n' : ℕ) → i ≡ i' → n ≡ n' → Comes a m (at arena i registers printed n) → Comes a m (at arena i' registers printed n')
+pub moved : {a : ℕ} {m : Point} {arena registers printed : List ℕ} {i n : ℕ} (i' n' : ℕ) → i ≡ i' → n ≡ n' → ReachesIn a m (at arena i registers printed n) → ReachesIn a m (at arena i' registers printed n')
 moved {a} {m} {arena} {registers} {printed} {i} {n} i' n' p q c =
-    subst (λ x. Comes a m (at arena x registers printed n')) p (subst (λ y. Comes a m (at arena i registers printed y)) q c)
+    subst (λ x. ReachesIn a m (at arena x registers printed n')) p (subst (λ y. ReachesIn a m (at arena i registers printed y)) q c)
 
-pub costs : {a : ℕ} {m m' : Point} (b : ℕ) → a ≡ b → Comes a m m' → Comes b m m'
-costs {a} {m} {m'} b e c = subst (λ x. Comes x m m') e c
+pub costs : {a : ℕ} {m m' : Point} (b : ℕ) → a ≡ b → ReachesIn a m m' → ReachesIn b m m'
+costs {a} {m} {m'} b e c = subst (λ x. ReachesIn x m m') e c
 
 -- a load from the word whose address is in x5; x5 and the register loaded are told by `put`
-pub loaded : (arena registers printed : List ℕ) (i n w rd j value : ℕ) → i < 2 ^ 25 → j < 2 ^ 25 → decode_of w ≡ Some (Lw rd 5 0) → word_in arena i ≡ Some w → slice_index registers 5 ≡ 4 * j → word_in arena j ≡ Some value → Comes 1 (at arena i registers printed n) (at arena (i + 1) (put rd value (at arena i registers printed n []).state).registers printed (n + 1))
+pub loaded : (arena registers printed : List ℕ) (i n w rd j value : ℕ) → i < 2 ^ 25 → j < 2 ^ 25 → decode_of w ≡ Some (Lw rd 5 0) → word_in arena i ≡ Some w → slice_index registers 5 ≡ 4 * j → word_in arena j ≡ Some value → ReachesIn 1 (at arena i registers printed n) (at arena (i + 1) (put rd value (at arena i registers printed n []).state).registers printed (n + 1))
 loaded arena registers printed i n w rd j value b bj d h five there =
     let a : (slice_index registers 5 + 0) % 2 ^ 32 ≡ 4 * j = omega (arith, five) in
     let p : (4 * i + 4) % 2 ^ 32 ≡ 4 * (i + 1) = omega arith in
-    one arena registers printed i n w (Lw rd 5 0) (at arena (i + 1) (put rd value (at arena i registers printed n []).state).registers printed (n + 1)) h d
+    one_instruction arena registers printed i n w (Lw rd 5 0) (at arena (i + 1) (put rd value (at arena i registers printed n []).state).registers printed (n + 1)) h d
     (λ input go_on. rw (a, there, p) refl)

@@ -14,14 +14,14 @@ use Rattle.lang_meaning.specs.Values.{t as true_value, Value, integer, character
 use Rattle.base.specs.Data.{Item, item, list, Items, no_item, item_and, no_tail}
 use Rattle.lang_meaning.specs.Primitives.{primitive, result}
 use Rattle.lang_meaning.specs.State.{State}
-use Rattle.back_first_path.specs.Shapes.{names, Tables, with_site, with_truth, next_literal, next_site, and_then, as_form, head_of, format_char_form, progn_form, sum_form, test_of, choice, if_form, form_of, forms_of}
+use Rattle.back_first_path.specs.Shapes.{names, FirstPathTables, with_site, with_truth, next_literal, next_site, and_then, as_form, head_of, format_char_form, progn_form, sum_form, test_of, choice, if_form, form_of, forms_of}
 use Rattle.back_first_path.specs.Code.{integer_word, character_word, nil_word, t_word, stream_word, constant, put_code, row_word, row_byte, byte_of, literal_number, between, operation_code, truth_code, clause_code, move_12_from_10, move_13_from_10, add_12_and_10, subtract_10_from_12, over_four_if_same, over_four_if_less, form_code, forms_code}
 use Rattle.back_first_path.proofs.Yields.{Yields, nothing, constant_yields, put_yields}
 use Rattle.back_first_path.proofs.Yields.{and_then as yields_then}
 use Rattle.back_first_path.proofs.Means.{Means, MeansSequence, no_forms_mean, forms_mean, sequence_means, sited_means, put_means, literal_means, two_mean, chosen_means, passed_means}
 use Rattle.back_first_path.proofs.OperandCode.{Operand, operand_yields, constant_operand, sum_operand, difference_operand, truth_word, truth_cost, same_yields, less_yields}
 use Rattle.back_first_path.proofs.ChoiceCode.{chosen_yields, passed_yields, placed_length}
-use Rattle.back_first_path.proofs.Integers.{Within, wider, sum_within, difference_within, within_range, small_word, sum_word, difference_word, less_word, same_word}
+use Rattle.back_first_path.proofs.Integers.{IsBoundedBy, wider, sum_within, difference_within, within_range, small_word, sum_word, difference_word, less_word, same_word}
 use Rattle.back_first_path.proofs.Mains.{MeansMains, no_mains, main_and}
 use Rattle.lang_meaning.specs.Subforms.{forms_list}
 use Rattle.lang_meaning.specs.declared.primitive.Primitive.{Primitive}
@@ -36,12 +36,12 @@ word_of nil = nil_word
 word_of (object i) = stream_word
 
 -- a value that the form of a file may have here: an integer or nil
-abbrev pub IsPlain : Value → Type 0
-IsPlain (integer n) = Unit {0}
-IsPlain (character c) = ⊥
-IsPlain (symbol s) = ⊥
-IsPlain nil = Unit {0}
-IsPlain (object i) = ⊥
+abbrev pub IsSmallValue : Value → Type 0
+IsSmallValue (integer n) = Unit {0}
+IsSmallValue (character c) = ⊥
+IsSmallValue (symbol s) = ⊥
+IsSmallValue nil = Unit {0}
+IsSmallValue (object i) = ⊥
 
 -- a form and its code: what the form means, what the code yields, and how long that takes
 pub record Simulates (program : ProgramRows) (f : Form) : Type 0 where
@@ -53,7 +53,7 @@ pub record Simulates (program : ProgramRows) (f : Form) : Type 0 where
   pub yields : (before : ℕ) → Yields before (form_code program.literals f) bytes (word_of v) cost
   pub cheap : cost ≤ 300 * units
   pub forward : cost ≤ length (form_code program.literals f)
-  pub plain : IsPlain v
+  pub plain : IsSmallValue v
 
 -- forms in order after a value
 pub record SimulatesAll (program : ProgramRows) (last : Value) (fs : Forms) : Type 0 where
@@ -65,7 +65,7 @@ pub record SimulatesAll (program : ProgramRows) (last : Value) (fs : Forms) : Ty
   pub yields : Yields (word_of last) (forms_code program.literals fs) bytes (word_of v) cost
   pub cheap : cost ≤ 300 * units
   pub forward : cost ≤ length (forms_code program.literals fs)
-  pub plain : IsPlain last → IsPlain v
+  pub plain : IsSmallValue last → IsSmallValue v
   pub mains : MeansMains program last (forms_list fs) v bytes units
 
 none_simulated : (program : ProgramRows) (last : Value) → SimulatesAll program last no_form
@@ -149,7 +149,7 @@ put_simulated program site inner id c p b h = record {
 -- an operand: an integer, which the code leaves in register 10 while register 13 stays
 record SimulatesOperand (program : ProgramRows) (f : Form) : Type 0 where
   n : ℤ
-  within : Within 199999998 n
+  within : IsBoundedBy 199999998 n
   units : ℕ
   cost : ℕ
   means : Means program f (integer n) [] units
@@ -180,7 +180,7 @@ operand_simulated program f o = record {
   plain = tt;
 }
 
-integer_simulated : (program : ProgramRows) (id : ℕ) (p : Place) (n : ℤ) → Within 99999999 n → slice_get program.literals id ≡ Some (row.Datum (datum.item p (datum.integer n))) → SimulatesOperand program (literal id)
+integer_simulated : (program : ProgramRows) (id : ℕ) (p : Place) (n : ℤ) → IsBoundedBy 99999999 n → slice_get program.literals id ≡ Some (row.Datum (datum.item p (datum.integer n))) → SimulatesOperand program (literal id)
 unfolding form_code
 integer_simulated program id p n small h = record {
   n = n;
@@ -195,10 +195,10 @@ integer_simulated program id p n small h = record {
 
 -- a primitive of two integers that gives an integer, and the instruction that computes it
 record IsSum (which : Primitive) (instruction : ℕ) (f : ℤ → ℤ → ℤ) : Type 0 where
-  within : (a b : ℤ) → Within 99999999 a → Within 99999999 b → Within 199999998 (f a b)
-  gives : (program : ProgramRows) (a b : ℤ) (z : State) → Within 199999998 (f a b) → primitive names program which (integer a ∷ integer b ∷ []) z ≡ result (integer (f a b)) z
+  within : (a b : ℤ) → IsBoundedBy 99999999 a → IsBoundedBy 99999999 b → IsBoundedBy 199999998 (f a b)
+  gives : (program : ProgramRows) (a b : ℤ) (z : State) → IsBoundedBy 199999998 (f a b) → primitive names program which (integer a ∷ integer b ∷ []) z ≡ result (integer (f a b)) z
   code : (first second : List ℕ) (byte : ℕ) → operation_code which first second byte ≡ between first move_12_from_10 second (instruction ∷ [])
-  computes : (a b : ℤ) → Within 99999999 a → Within 99999999 b → Operand (between (constant (integer_word a)) move_12_from_10 (constant (integer_word b)) (instruction ∷ [])) (integer_word (f a b)) 6
+  computes : (a b : ℤ) → IsBoundedBy 99999999 a → IsBoundedBy 99999999 b → Operand (between (constant (integer_word a)) move_12_from_10 (constant (integer_word b)) (instruction ∷ [])) (integer_word (f a b)) 6
 
 addition : IsSum Add add_12_and_10 (λ a b. a +ℤ b)
 addition = record {
@@ -217,7 +217,7 @@ subtraction = record {
 }
 
 -- such a primitive of two literals under a site
-sum_simulated : {which : Primitive} {instruction : ℕ} {f : ℤ → ℤ → ℤ} → IsSum which instruction f → (program : ProgramRows) (site i j : ℕ) (p q : Place) (a b : ℤ) → Within 99999999 a → Within 99999999 b → slice_get program.literals i ≡ Some (row.Datum (datum.item p (datum.integer a))) → slice_get program.literals j ≡ Some (row.Datum (datum.item q (datum.integer b))) → SimulatesOperand program (sited site (prim which (form_and (literal i) (form_and (literal j) no_form))))
+sum_simulated : {which : Primitive} {instruction : ℕ} {f : ℤ → ℤ → ℤ} → IsSum which instruction f → (program : ProgramRows) (site i j : ℕ) (p q : Place) (a b : ℤ) → IsBoundedBy 99999999 a → IsBoundedBy 99999999 b → slice_get program.literals i ≡ Some (row.Datum (datum.item p (datum.integer a))) → slice_get program.literals j ≡ Some (row.Datum (datum.item q (datum.integer b))) → SimulatesOperand program (sited site (prim which (form_and (literal i) (form_and (literal j) no_form))))
 unfolding form_code
 sum_simulated {which} {instruction} {f} s program site i j p q a b x y h k =
     let code = s.code (constant (row_word (slice_get program.literals i))) (constant (row_word (slice_get program.literals j))) (row_byte (slice_get program.literals j)) in
@@ -244,7 +244,7 @@ truth_short false = omega arith
 record IsComparison (which : Primitive) (branch : ℕ) (f : ℤ → ℤ → Bool) : Type 0 where
   gives : (program : ProgramRows) (a b : ℤ) (z : State) → primitive names program which (integer a ∷ integer b ∷ []) z ≡ result (truth (f a b)) z
   code : (first second : List ℕ) (byte : ℕ) → operation_code which first second byte ≡ between first move_13_from_10 second (truth_code branch)
-  tells : (a b : ℤ) → Within 199999998 a → Within 199999998 b → (before : ℕ) (first second : List ℕ) (c d : ℕ) → Operand first (integer_word a) c → Operand second (integer_word b) d → Yields before (between first move_13_from_10 second (truth_code branch)) [] (truth_word (f a b)) (c + 1 + d + truth_cost (f a b))
+  tells : (a b : ℤ) → IsBoundedBy 199999998 a → IsBoundedBy 199999998 b → (before : ℕ) (first second : List ℕ) (c d : ℕ) → Operand first (integer_word a) c → Operand second (integer_word b) d → Yields before (between first move_13_from_10 second (truth_code branch)) [] (truth_word (f a b)) (c + 1 + d + truth_cost (f a b))
 
 equality : IsComparison NumberEqual over_four_if_same int_equal
 equality = record {
@@ -324,50 +324,50 @@ grew_one : (rows : List LiteralRow) (r : LiteralRow) → Grew rows (rows ++ r �
 grew_one rows r = record { more = r ∷ []; is = refl }
 
 -- the rows that a form adds come after the rows before it
-grew_tables : (t u t' : Tables) → t' ≡ u → Grew t.literals u.literals → Grew t.literals t'.literals
+grew_tables : (t u t' : FirstPathTables) → t' ≡ u → Grew t.literals u.literals → Grew t.literals t'.literals
 grew_tables t u t' e g = subst (λ x. Grew t.literals x.literals) (sym e) g
 
-put_grew : (t : Tables) (f : Form) (t' : Tables) → WasPut t f t' → Grew t.literals t'.literals
+put_grew : (t : FirstPathTables) (f : Form) (t' : FirstPathTables) → WasPut t f t' → Grew t.literals t'.literals
 put_grew t f t' w = grew_tables t _ t' w.tables (grew_one t.literals (row.Datum (datum.item w.r (datum.character w.c))))
 
-integer_grew : (t : Tables) (f : Form) (t' : Tables) → WasInteger t f t' → Grew t.literals t'.literals
+integer_grew : (t : FirstPathTables) (f : Form) (t' : FirstPathTables) → WasInteger t f t' → Grew t.literals t'.literals
 integer_grew t f t' w = grew_tables t _ t' w.tables (grew_one t.literals (row.Datum (datum.item w.p (datum.integer w.n))))
 
-sum_grew : (which : Primitive) (t : Tables) (f : Form) (t' : Tables) → WasSum which t f t' → Grew t.literals t'.literals
+sum_grew : (which : Primitive) (t : FirstPathTables) (f : Form) (t' : FirstPathTables) → WasSum which t f t' → Grew t.literals t'.literals
 sum_grew which t f t' w =
     let a : LiteralRow = row.Datum (datum.item w.q (datum.integer w.a)) in
     let b : LiteralRow = row.Datum (datum.item w.r (datum.integer w.b)) in
     grew_tables t _ t' w.tables (grew_both (grew_one t.literals a) (grew_one (t.literals ++ a ∷ []) b))
 
-operand_grew : (t : Tables) (f : Form) (t' : Tables) → WasOperand t f t' → Grew t.literals t'.literals
+operand_grew : (t : FirstPathTables) (f : Form) (t' : FirstPathTables) → WasOperand t f t' → Grew t.literals t'.literals
 operand_grew t f t' (was_number w) = integer_grew t f t' w
 operand_grew t f t' (was_added w) = sum_grew Add t f t' w
 operand_grew t f t' (was_subtracted w) = sum_grew Subtract t f t' w
 
-comparison_grew : (which : Primitive) (t : Tables) (f : Form) (t' : Tables) → WasComparison which t f t' → Grew t.literals t'.literals
+comparison_grew : (which : Primitive) (t : FirstPathTables) (f : Form) (t' : FirstPathTables) → WasComparison which t f t' → Grew t.literals t'.literals
 comparison_grew which t f t' w = grew_both (operand_grew (with_site w.p t) w.first w.middle w.one) (operand_grew w.middle w.second t' w.two)
 
-test_grew : (texts : List (List ℕ)) (x : Item) (t : Tables) (f : Form) (t' : Tables) → test_of texts x t ≡ Some (f, t') → Grew t.literals t'.literals
+test_grew : (texts : List (List ℕ)) (x : Item) (t : FirstPathTables) (f : Form) (t' : FirstPathTables) → test_of texts x t ≡ Some (f, t') → Grew t.literals t'.literals
 test_grew texts x t f t' e = ⊎_elim (λ w. comparison_grew NumberEqual t f t' w) (λ w. comparison_grew NumberLess t f t' w) (was_test texts x t f t' e)
 
 -- forms that were found are simulated, in every program whose rows go on from theirs
-found_put_simulated : (program : ProgramRows) (t : Tables) (f : Form) (t' : Tables) → WasPut t f t' → Grew t'.literals program.literals → Simulates program f
+found_put_simulated : (program : ProgramRows) (t : FirstPathTables) (f : Form) (t' : FirstPathTables) → WasPut t f t' → Grew t'.literals program.literals → Simulates program f
 found_put_simulated program t f t' w g =
     let g' : Grew (t.literals ++ row.Datum (datum.item w.r (datum.character w.c)) ∷ []) program.literals = subst (λ x. Grew x.literals program.literals) w.tables g in
     subst (Simulates program) (sym w.form) (put_simulated program (next_site t) (next_site t + 1) (next_literal t) w.c w.r w.byte (row_there t.literals program.literals (row.Datum (datum.item w.r (datum.character w.c))) g'))
 
-found_integer_simulated : (program : ProgramRows) (t : Tables) (f : Form) (t' : Tables) → WasInteger t f t' → Grew t'.literals program.literals → SimulatesOperand program f
+found_integer_simulated : (program : ProgramRows) (t : FirstPathTables) (f : Form) (t' : FirstPathTables) → WasInteger t f t' → Grew t'.literals program.literals → SimulatesOperand program f
 found_integer_simulated program t f t' w g =
     let r : LiteralRow = row.Datum (datum.item w.p (datum.integer w.n)) in
     let g' : Grew (t.literals ++ r ∷ []) program.literals = subst (λ x. Grew x.literals program.literals) w.tables g in
     subst (SimulatesOperand program) (sym w.form) (integer_simulated program (next_literal t) w.p w.n w.small (row_there t.literals program.literals r g'))
 
 -- where the two rows of a sum stand
-record BothRows (program : ProgramRows) (t : Tables) (q r : Place) (a b : ℤ) : Type 0 where
+record BothRows (program : ProgramRows) (t : FirstPathTables) (q r : Place) (a b : ℤ) : Type 0 where
   left : slice_get program.literals (next_literal t) ≡ Some (row.Datum (datum.item q (datum.integer a)))
   right : slice_get program.literals (next_literal t + 1) ≡ Some (row.Datum (datum.item r (datum.integer b)))
 
-both_rows : (which : Primitive) (program : ProgramRows) (t : Tables) (f : Form) (t' : Tables) (w : WasSum which t f t') → Grew t'.literals program.literals → BothRows program t w.q w.r w.a w.b
+both_rows : (which : Primitive) (program : ProgramRows) (t : FirstPathTables) (f : Form) (t' : FirstPathTables) (w : WasSum which t f t') → Grew t'.literals program.literals → BothRows program t w.q w.r w.a w.b
 both_rows which program t f t' w g =
     let a : LiteralRow = row.Datum (datum.item w.q (datum.integer w.a)) in
     let b : LiteralRow = row.Datum (datum.item w.r (datum.integer w.b)) in
@@ -378,23 +378,23 @@ both_rows which program t f t' w g =
       right = subst (λ i. slice_get program.literals i ≡ Some b) l (row_there (t.literals ++ a ∷ []) program.literals b g');
     }
 
-found_sum_simulated : {which : Primitive} {instruction : ℕ} {h : ℤ → ℤ → ℤ} → IsSum which instruction h → (program : ProgramRows) (t : Tables) (f : Form) (t' : Tables) → WasSum which t f t' → Grew t'.literals program.literals → SimulatesOperand program f
+found_sum_simulated : {which : Primitive} {instruction : ℕ} {h : ℤ → ℤ → ℤ} → IsSum which instruction h → (program : ProgramRows) (t : FirstPathTables) (f : Form) (t' : FirstPathTables) → WasSum which t f t' → Grew t'.literals program.literals → SimulatesOperand program f
 found_sum_simulated {which} s program t f t' w g =
     let rows = both_rows which program t f t' w g in
     subst (SimulatesOperand program) (sym w.form) (sum_simulated s program (next_site t) (next_literal t) (next_literal t + 1) w.q w.r w.a w.b w.first w.second rows.left rows.right)
 
-found_operand_simulated : (program : ProgramRows) (t : Tables) (f : Form) (t' : Tables) → WasOperand t f t' → Grew t'.literals program.literals → SimulatesOperand program f
+found_operand_simulated : (program : ProgramRows) (t : FirstPathTables) (f : Form) (t' : FirstPathTables) → WasOperand t f t' → Grew t'.literals program.literals → SimulatesOperand program f
 found_operand_simulated program t f t' (was_number w) g = found_integer_simulated program t f t' w g
 found_operand_simulated program t f t' (was_added w) g = found_sum_simulated addition program t f t' w g
 found_operand_simulated program t f t' (was_subtracted w) g = found_sum_simulated subtraction program t f t' w g
 
-found_comparison_simulated : {which : Primitive} {branch : ℕ} {h : ℤ → ℤ → Bool} → IsComparison which branch h → (program : ProgramRows) (t : Tables) (f : Form) (t' : Tables) → WasComparison which t f t' → Grew t'.literals program.literals → SimulatesTest program f
+found_comparison_simulated : {which : Primitive} {branch : ℕ} {h : ℤ → ℤ → Bool} → IsComparison which branch h → (program : ProgramRows) (t : FirstPathTables) (f : Form) (t' : FirstPathTables) → WasComparison which t f t' → Grew t'.literals program.literals → SimulatesTest program f
 found_comparison_simulated s program t f t' w g =
     let a = found_operand_simulated program (with_site w.p t) w.first w.middle w.one (grew_both (operand_grew w.middle w.second t' w.two) g) in
     let b = found_operand_simulated program w.middle w.second t' w.two g in
     subst (SimulatesTest program) (sym w.form) (comparison_simulated s program (next_site t) w.first w.second a b)
 
-found_test_simulated : (texts : List (List ℕ)) (program : ProgramRows) (x : Item) (t : Tables) (f : Form) (t' : Tables) → test_of texts x t ≡ Some (f, t') → Grew t'.literals program.literals → SimulatesTest program f
+found_test_simulated : (texts : List (List ℕ)) (program : ProgramRows) (x : Item) (t : FirstPathTables) (f : Form) (t' : FirstPathTables) → test_of texts x t ≡ Some (f, t') → Grew t'.literals program.literals → SimulatesTest program f
 found_test_simulated texts program x t f t' e g =
     ⊎_elim
     (λ w. found_comparison_simulated equality program t f t' w g)
@@ -402,18 +402,18 @@ found_test_simulated texts program x t f t' e g =
     (was_test texts x t f t' e)
 
 -- the parts of an `if`
-pub record WasIf (texts : List (List ℕ)) (p : Place) (x a b : Item) (t : Tables) (f : Form) (t' : Tables) : Type 0 where
+pub record WasIf (texts : List (List ℕ)) (p : Place) (x a b : Item) (t : FirstPathTables) (f : Form) (t' : FirstPathTables) : Type 0 where
   pub test : Form
   pub one : Form
   pub two : Form
-  pub u : Tables
-  pub v : Tables
+  pub u : FirstPathTables
+  pub v : FirstPathTables
   pub tested : test_of texts x (with_site p t) ≡ Some (test, u)
   pub first : form_of texts a u ≡ Some (one, v)
   pub second : form_of texts b (with_truth p v) ≡ Some (two, t')
   pub made : choice (next_site t) (next_literal v) test one two ≡ f
 
-pub was_if_form : (texts : List (List ℕ)) (p : Place) (x a b : Item) (t : Tables) (f : Form) (t' : Tables) → if_form texts p (item_and x (item_and a (item_and b no_item))) t ≡ Some (f, t') → WasIf texts p x a b t f t'
+pub was_if_form : (texts : List (List ℕ)) (p : Place) (x a b : Item) (t : FirstPathTables) (f : Form) (t' : FirstPathTables) → if_form texts p (item_and x (item_and a (item_and b no_item))) t ≡ Some (f, t') → WasIf texts p x a b t f t'
 unfolding form_of
 was_if_form texts p x a b t f t' e =
     let k = was_and (test_of texts x (with_site p t)) (λ g u. and_then (form_of texts a u) (λ h v. as_form (λ l. choice (next_site t) (next_literal v) g h l) (form_of texts b (with_truth p v)))) f t' e in
@@ -425,7 +425,7 @@ mutual
   unfolding form_of
 
   -- the rows of a form come after the rows before it
-  form_grew : (texts : List (List ℕ)) (x : Item) (t : Tables) (f : Form) (t' : Tables) → form_of texts x t ≡ Some (f, t') → Grew t.literals t'.literals
+  form_grew : (texts : List (List ℕ)) (x : Item) (t : FirstPathTables) (f : Form) (t' : FirstPathTables) → form_of texts x t ≡ Some (f, t') → Grew t.literals t'.literals
   form_grew texts (item p (list (item_and h ts) no_tail)) t f t' e =
       elim (was_headed (head_of texts h) (progn_form t (forms_of texts ts (with_site p t))) (format_char_form texts p ts t) (if_form texts p ts t) (sum_form Add p ts t) (sum_form Subtract p ts t) f t' e) [
         | was_progn k ↦ let m = was_made (λ fs. sited (next_site t) (sequence fs)) (forms_of texts ts (with_site p t)) f t' k in forms_grew texts ts (with_site p t) m.part t' m.found
@@ -436,14 +436,14 @@ mutual
       ]
   form_grew texts (item p c) t f t' e = integer_grew t f t' (was_integer (item p c) t f t' e)
 
-  if_grew : (texts : List (List ℕ)) (p : Place) (ts : Items) (t : Tables) (f : Form) (t' : Tables) → if_form texts p ts t ≡ Some (f, t') → Grew t.literals t'.literals
+  if_grew : (texts : List (List ℕ)) (p : Place) (ts : Items) (t : FirstPathTables) (f : Form) (t' : FirstPathTables) → if_form texts p ts t ≡ Some (f, t') → Grew t.literals t'.literals
   if_grew texts p (item_and x (item_and a (item_and b no_item))) t f t' e =
       let w = was_if_form texts p x a b t f t' e in
       grew_both (test_grew texts x (with_site p t) w.test w.u w.tested) (grew_both (form_grew texts a w.u w.one w.v w.first) (grew_both (grew_one w.v.literals (row.Datum (datum.item p (datum.symbol (Named (record { 0 = 0 })))))) (form_grew texts b (with_truth p w.v) w.two t' w.second)))
   if_grew texts p ts t f t' e = absurd (cc)
 
-  forms_grew : (texts : List (List ℕ)) (xs : Items) (t : Tables) (fs : Forms) (t' : Tables) → forms_of texts xs t ≡ Some (fs, t') → Grew t.literals t'.literals
-  forms_grew texts no_item t fs t' e = let h : ◌≡◌ {A = Forms × Tables} (no_form, t) (fs, t') = cc in subst (λ x. Grew t.literals x.literals) (ap (λ x. x.1) h) (grew_none t.literals)
+  forms_grew : (texts : List (List ℕ)) (xs : Items) (t : FirstPathTables) (fs : Forms) (t' : FirstPathTables) → forms_of texts xs t ≡ Some (fs, t') → Grew t.literals t'.literals
+  forms_grew texts no_item t fs t' e = let h : ◌≡◌ {A = Forms × FirstPathTables} (no_form, t) (fs, t') = cc in subst (λ x. Grew t.literals x.literals) (ap (λ x. x.1) h) (grew_none t.literals)
   forms_grew texts (item_and x xs) t fs t' e =
       let a = was_and (form_of texts x t) (λ f after. as_form (λ gs. form_and f gs) (forms_of texts xs after)) fs t' e in
       let m = was_made (λ gs. form_and a.part gs) (forms_of texts xs a.tables) fs t' a.second in
@@ -456,7 +456,7 @@ single_simulated program f s = sequence_simulated program (form_and f no_form) (
 mutual
   unfolding form_of
 
-  pub form_simulated : (texts : List (List ℕ)) (program : ProgramRows) (x : Item) (t : Tables) (f : Form) (t' : Tables) → form_of texts x t ≡ Some (f, t') → Grew t'.literals program.literals → Simulates program f
+  pub form_simulated : (texts : List (List ℕ)) (program : ProgramRows) (x : Item) (t : FirstPathTables) (f : Form) (t' : FirstPathTables) → form_of texts x t ≡ Some (f, t') → Grew t'.literals program.literals → Simulates program f
   form_simulated texts program (item p (list (item_and h ts) no_tail)) t f t' e g =
       elim (was_headed (head_of texts h) (progn_form t (forms_of texts ts (with_site p t))) (format_char_form texts p ts t) (if_form texts p ts t) (sum_form Add p ts t) (sum_form Subtract p ts t) f t' e) [
         | was_progn k ↦ let m = was_made (λ fs. sited (next_site t) (sequence fs)) (forms_of texts ts (with_site p t)) f t' k in
@@ -468,7 +468,7 @@ mutual
       ]
   form_simulated texts program (item p c) t f t' e g = operand_simulated program f (found_integer_simulated program t f t' (was_integer (item p c) t f t' e) g)
 
-  if_simulated : (texts : List (List ℕ)) (program : ProgramRows) (p : Place) (ts : Items) (t : Tables) (f : Form) (t' : Tables) → if_form texts p ts t ≡ Some (f, t') → Grew t'.literals program.literals → Simulates program f
+  if_simulated : (texts : List (List ℕ)) (program : ProgramRows) (p : Place) (ts : Items) (t : FirstPathTables) (f : Form) (t' : FirstPathTables) → if_form texts p ts t ≡ Some (f, t') → Grew t'.literals program.literals → Simulates program f
   if_simulated texts program p (item_and x (item_and a (item_and b no_item))) t f t' e g =
       let w = was_if_form texts p x a b t f t' e in
       let r : LiteralRow = row.Datum (datum.item p (datum.symbol (Named (record { 0 = 0 })))) in
@@ -481,8 +481,8 @@ mutual
       subst (Simulates program) w.made (sited_simulated program (next_site t) _ (choice_simulated program (next_literal w.v) p w.test (sequence (form_and w.one no_form)) (sequence (form_and w.two no_form)) (row_there w.v.literals program.literals r g2) test test.so refl (single_simulated program w.one one) (single_simulated program w.two two)))
   if_simulated texts program p ts t f t' e g = absurd (cc)
 
-  pub forms_simulated : (texts : List (List ℕ)) (program : ProgramRows) (xs : Items) (t : Tables) (fs : Forms) (t' : Tables) (last : Value) → forms_of texts xs t ≡ Some (fs, t') → Grew t'.literals program.literals → SimulatesAll program last fs
-  forms_simulated texts program no_item t fs t' last e g = let h : ◌≡◌ {A = Forms × Tables} (no_form, t) (fs, t') = cc in subst (SimulatesAll program last) (ap (λ x. x.0) h) (none_simulated program last)
+  pub forms_simulated : (texts : List (List ℕ)) (program : ProgramRows) (xs : Items) (t : FirstPathTables) (fs : Forms) (t' : FirstPathTables) (last : Value) → forms_of texts xs t ≡ Some (fs, t') → Grew t'.literals program.literals → SimulatesAll program last fs
+  forms_simulated texts program no_item t fs t' last e g = let h : ◌≡◌ {A = Forms × FirstPathTables} (no_form, t) (fs, t') = cc in subst (SimulatesAll program last) (ap (λ x. x.0) h) (none_simulated program last)
   forms_simulated texts program (item_and x xs) t fs t' last e g =
       let a = was_and (form_of texts x t) (λ f after. as_form (λ gs. form_and f gs) (forms_of texts xs after)) fs t' e in
       let m = was_made (λ gs. form_and a.part gs) (forms_of texts xs a.tables) fs t' a.second in

@@ -8,7 +8,7 @@ use Rattle.lang_meaning.specs.Form.{Forms, no_form, form_and}
 use Rattle.lang_meaning.specs.Subforms.{forms_list}
 use Rattle.lang_meaning.specs.model.View.{forms}
 use Rattle.base.specs.Data.{Item, item, list, Items, no_item, item_and, no_tail}
-use Rattle.back_first_path.specs.Shapes.{program_of_parts, Tables, no_tables, with_site, with_truth, next_literal, next_site, Found, as_form, head_of, format_char_form, progn_form, sum_form, operand_of, comparison_form, test_of, choice, if_form, form_of, forms_of, program_with, program_of}
+use Rattle.back_first_path.specs.Shapes.{program_of_parts, FirstPathTables, no_tables, with_site, with_truth, next_literal, next_site, Found, as_form, head_of, format_char_form, progn_form, sum_form, operand_of, comparison_form, test_of, choice, if_form, form_of, forms_of, program_with, program_of}
 use Rattle.back_first_path.specs.Code.{constant, nil_word, clause_code, truth_code, move_13_from_10, over_four_if_same, over_four_if_less, program_code, form_code, forms_code, choose_halt, environment}
 use Rattle.lang_meaning.specs.declared.primitive.Primitive.{Primitive}
 use Rattle.lang_meaning.specs.declared.primitive.Primitive.TheVariants.{Add, Subtract, NumberEqual, NumberLess}
@@ -19,29 +19,29 @@ use Rattle.back_first_path.proofs.Weights.{weight, weights, some_weight}
 use Rattle.back_first_path.proofs.Whole.{forms_again}
 
 -- the code of forms that put a character, numbers and sums
-put_short : (rows : List LiteralRow) (t : Tables) (f : Form) (t' : Tables) → WasPut t f t' → length (form_code rows f) ≤ 11
+put_short : (rows : List LiteralRow) (t : FirstPathTables) (f : Form) (t' : FirstPathTables) → WasPut t f t' → length (form_code rows f) ≤ 11
 unfolding form_code
 put_short rows t f t' w = rw w.form (omega arith)
 
-integer_short : (rows : List LiteralRow) (t : Tables) (f : Form) (t' : Tables) → WasInteger t f t' → length (form_code rows f) ≤ 3
+integer_short : (rows : List LiteralRow) (t : FirstPathTables) (f : Form) (t' : FirstPathTables) → WasInteger t f t' → length (form_code rows f) ≤ 3
 unfolding form_code
 integer_short rows t f t' w = rw w.form (omega arith)
 
-added_short : (rows : List LiteralRow) (t : Tables) (f : Form) (t' : Tables) → WasSum Add t f t' → length (form_code rows f) ≤ 8
+added_short : (rows : List LiteralRow) (t : FirstPathTables) (f : Form) (t' : FirstPathTables) → WasSum Add t f t' → length (form_code rows f) ≤ 8
 unfolding form_code
 added_short rows t f t' w = rw w.form (omega arith)
 
-subtracted_short : (rows : List LiteralRow) (t : Tables) (f : Form) (t' : Tables) → WasSum Subtract t f t' → length (form_code rows f) ≤ 8
+subtracted_short : (rows : List LiteralRow) (t : FirstPathTables) (f : Form) (t' : FirstPathTables) → WasSum Subtract t f t' → length (form_code rows f) ≤ 8
 unfolding form_code
 subtracted_short rows t f t' w = rw w.form (omega arith)
 
 -- what puts a character has two data behind its head
-put_weight : (texts : List (List ℕ)) (p : Place) (ts : Items) (t : Tables) (f : Form) (t' : Tables) → format_char_form texts p ts t ≡ Some (f, t') → 20 ≤ weights ts
+put_weight : (texts : List (List ℕ)) (p : Place) (ts : Items) (t : FirstPathTables) (f : Form) (t' : FirstPathTables) → format_char_form texts p ts t ≡ Some (f, t') → 20 ≤ weights ts
 put_weight texts p (item_and x (item_and y no_item)) t f t' e = omega (arith, some_weight x, some_weight y)
 put_weight texts p _ t f t' e = absurd (cc)
 
 -- an operand weighs seven more than its words, and a test twenty-one
-operand_short : (rows : List LiteralRow) (texts : List (List ℕ)) (x : Item) (t : Tables) (f : Form) (t' : Tables) → operand_of texts x t ≡ Some (f, t') → length (form_code rows f) + 7 ≤ weight x
+operand_short : (rows : List LiteralRow) (texts : List (List ℕ)) (x : Item) (t : FirstPathTables) (f : Form) (t' : FirstPathTables) → operand_of texts x t ≡ Some (f, t') → length (form_code rows f) + 7 ≤ weight x
 operand_short rows texts (item p (list (item_and h ds) no_tail)) t f t' e =
     ⊎_elim
     (λ k. omega (arith, added_short rows t f t' (was_sum Add p ds t f t' k), some_weight h))
@@ -57,7 +57,7 @@ record Compared (rows : List LiteralRow) (which : Primitive) (ds : Items) (f : F
   form : f ≡ sited site (prim which (form_and first (form_and second no_form)))
   short : length (form_code rows first) + length (form_code rows second) + 14 ≤ weights ds
 
-compared : (rows : List LiteralRow) (texts : List (List ℕ)) (which : Primitive) (p : Place) (ds : Items) (t : Tables) (f : Form) (t' : Tables) → comparison_form texts which p ds t ≡ Some (f, t') → Compared rows which ds f
+compared : (rows : List LiteralRow) (texts : List (List ℕ)) (which : Primitive) (p : Place) (ds : Items) (t : FirstPathTables) (f : Form) (t' : FirstPathTables) → comparison_form texts which p ds t ≡ Some (f, t') → Compared rows which ds f
 compared rows texts which p (item_and x (item_and y no_item)) t f t' e =
     let a = was_and (operand_of texts x (with_site p t)) (λ g after. as_form (λ h. sited (next_site t) (prim which (form_and g (form_and h no_form)))) (operand_of texts y after)) f t' e in
     let m = was_made (λ h. sited (next_site t) (prim which (form_and a.part (form_and h no_form)))) (operand_of texts y a.tables) f t' a.second in
@@ -80,7 +80,7 @@ unfolding form_code
 less_short rows ds f w =
     rw w.form (omega (arith, w.short, length-append (form_code rows w.first) (move_13_from_10 ∷ (form_code rows w.second ++ truth_code over_four_if_less)), length-append (form_code rows w.second) (truth_code over_four_if_less)))
 
-test_short : (rows : List LiteralRow) (texts : List (List ℕ)) (x : Item) (t : Tables) (f : Form) (t' : Tables) → test_of texts x t ≡ Some (f, t') → length (form_code rows f) + 21 ≤ weight x
+test_short : (rows : List LiteralRow) (texts : List (List ℕ)) (x : Item) (t : FirstPathTables) (f : Form) (t' : FirstPathTables) → test_of texts x t ≡ Some (f, t') → length (form_code rows f) + 21 ≤ weight x
 test_short rows texts (item p (list (item_and h ds) no_tail)) t f t' e =
     ⊎_elim
     (λ k. omega (arith, equal_short rows ds f (compared rows texts NumberEqual p ds t f t' k), some_weight h))
@@ -101,7 +101,7 @@ choice_short rows site id f g h =
 mutual
   unfolding form_of form_code
 
-  form_short : (rows : List LiteralRow) (texts : List (List ℕ)) (x : Item) (t : Tables) (f : Form) (t' : Tables) → form_of texts x t ≡ Some (f, t') → length (form_code rows f) + 7 ≤ weight x
+  form_short : (rows : List LiteralRow) (texts : List (List ℕ)) (x : Item) (t : FirstPathTables) (f : Form) (t' : FirstPathTables) → form_of texts x t ≡ Some (f, t') → length (form_code rows f) + 7 ≤ weight x
   form_short rows texts (item p (list (item_and h ts) no_tail)) t f t' e =
       elim (was_headed (head_of texts h) (progn_form t (forms_of texts ts (with_site p t))) (format_char_form texts p ts t) (if_form texts p ts t) (sum_form Add p ts t) (sum_form Subtract p ts t) f t' e) [
         | was_progn k ↦ let m = was_made (λ fs. sited (next_site t) (sequence fs)) (forms_of texts ts (with_site p t)) f t' k in
@@ -114,7 +114,7 @@ mutual
       ]
   form_short rows texts (item p c) t f t' e = omega (arith, integer_short rows t f t' (was_integer (item p c) t f t' e), some_weight (item p c))
 
-  if_short : (rows : List LiteralRow) (texts : List (List ℕ)) (p : Place) (ts : Items) (t : Tables) (f : Form) (t' : Tables) → if_form texts p ts t ≡ Some (f, t') → length (form_code rows f) ≤ weights ts + 9
+  if_short : (rows : List LiteralRow) (texts : List (List ℕ)) (p : Place) (ts : Items) (t : FirstPathTables) (f : Form) (t' : FirstPathTables) → if_form texts p ts t ≡ Some (f, t') → length (form_code rows f) ≤ weights ts + 9
   if_short rows texts p no_item t f t' e = absurd (cc)
   if_short rows texts p (item_and x no_item) t f t' e = absurd (cc)
   if_short rows texts p (item_and x (item_and a no_item)) t f t' e = absurd (cc)
@@ -124,8 +124,8 @@ mutual
       subst P w.made (omega (arith, choice_short rows (next_site t) (next_literal w.v) w.test w.one w.two, test_short rows texts x (with_site p t) w.test w.u w.tested, form_short rows texts a w.u w.one w.v w.first, form_short rows texts b (with_truth p w.v) w.two t' w.second))
   if_short rows texts p (item_and x (item_and a (item_and b (item_and c cs)))) t f t' e = absurd (cc)
 
-  forms_short : (rows : List LiteralRow) (texts : List (List ℕ)) (xs : Items) (t : Tables) (fs : Forms) (t' : Tables) → forms_of texts xs t ≡ Some (fs, t') → length (forms_code rows fs) ≤ weights xs
-  forms_short rows texts no_item t fs t' e = let h : ◌≡◌ {A = Forms × Tables} (no_form, t) (fs, t') = cc in subst (λ x. length (forms_code rows x) ≤ 0) (ap (λ x. x.0) h) (omega arith)
+  forms_short : (rows : List LiteralRow) (texts : List (List ℕ)) (xs : Items) (t : FirstPathTables) (fs : Forms) (t' : FirstPathTables) → forms_of texts xs t ≡ Some (fs, t') → length (forms_code rows fs) ≤ weights xs
+  forms_short rows texts no_item t fs t' e = let h : ◌≡◌ {A = Forms × FirstPathTables} (no_form, t) (fs, t') = cc in subst (λ x. length (forms_code rows x) ≤ 0) (ap (λ x. x.0) h) (omega arith)
   forms_short rows texts (item_and x xs) t fs t' e =
       let a = was_and (form_of texts x t) (λ f after. as_form (λ gs. form_and f gs) (forms_of texts xs after)) fs t' e in
       let m = was_made (λ gs. form_and a.part gs) (forms_of texts xs a.tables) fs t' a.second in
@@ -133,9 +133,9 @@ mutual
       (omega (arith, form_short rows texts x t a.part a.tables a.first, forms_short rows texts xs a.tables m.part t' m.found, length-append (form_code rows a.part) (forms_code rows m.part)))
 
 -- with the seven words around it, since a form weighs seven more than its words
-forms_fit : (rows : List LiteralRow) (texts : List (List ℕ)) (xs : Items) (t : Tables) (fs : Forms) (t' : Tables) → forms_of texts xs t ≡ Some (fs, t') → weights xs ≤ 65536 → length (forms_code rows fs) + 7 ≤ 65536
+forms_fit : (rows : List LiteralRow) (texts : List (List ℕ)) (xs : Items) (t : FirstPathTables) (fs : Forms) (t' : FirstPathTables) → forms_of texts xs t ≡ Some (fs, t') → weights xs ≤ 65536 → length (forms_code rows fs) + 7 ≤ 65536
 unfolding form_of form_code
-forms_fit rows texts no_item t fs t' e b = let h : ◌≡◌ {A = Forms × Tables} (no_form, t) (fs, t') = cc in subst (λ x. length (forms_code rows x) + 7 ≤ 65536) (ap (λ x. x.0) h) (omega arith)
+forms_fit rows texts no_item t fs t' e b = let h : ◌≡◌ {A = Forms × FirstPathTables} (no_form, t) (fs, t') = cc in subst (λ x. length (forms_code rows x) + 7 ≤ 65536) (ap (λ x. x.0) h) (omega arith)
 forms_fit rows texts (item_and x xs) t fs t' e b =
     let a = was_and (form_of texts x t) (λ f after. as_form (λ gs. form_and f gs) (forms_of texts xs after)) fs t' e in
     let m = was_made (λ gs. form_and a.part gs) (forms_of texts xs a.tables) fs t' a.second in

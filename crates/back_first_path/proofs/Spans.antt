@@ -10,7 +10,7 @@ use Rattle.front_reader.specs.Atoms.{Atom, an_integer, a_character, a_symbol, a_
 use Rattle.front_reader.specs.Trees.{Tree, atom, proper, improper, row, prefixed, Trees, no_tree, then_tree, prefix_bytes, spelled, spelled_all, behind_all, Stands, StandsAll}
 use Rattle.front_reader.specs.Meanings.{number_in, named, atom_content, list_content, in_front, joined, prefix_item, Means, MeansAll}
 use Rattle.front_reader.specs.Reads.{ReadsNext}
-use Rattle.front_reader.specs.bridge.GoodReads.{some_bytes, prefix_some}
+use Rattle.front_reader.specs.bridge.WellFormedReads.{some_bytes, prefix_some}
 use Rattle.back_first_path.specs.Verdicts.{DataOf, no_datum, then_datum}
 use Rattle.back_first_path.proofs.Weights.{weight, content_weight, weights, list_weight, list_heavy}
 

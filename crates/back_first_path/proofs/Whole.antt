@@ -17,7 +17,7 @@ use Rattle.lang_meaning.specs.model.View.{forms}
 use Rattle.lang_meaning.specs.Counts.{bound}
 use Rattle.lang_meaning.specs.Values.{Value, integer, character, symbol, named, unnamed, nil, object}
 use Rattle.lang_meaning.specs.State.{State, Limit, words, unlimited, first_state}
-use Rattle.lang_meaning.specs.Layout.{objects_at_start}
+use Rattle.lang_meaning.specs.InitialHeap.{objects_at_start}
 use Rattle.lang_meaning.specs.Meaning.{Meant, ended_value, ended_full, meaning, mean_mains, end_of}
 use Rattle.back_first_path.specs.Shapes.{program_of_parts, names, no_tables, Found, forms_of, program_of, program_with}
 use Rattle.base.specs.Data.{Items}
@@ -25,26 +25,26 @@ use Rattle.back_first_path.specs.Code.{program_code, entry, constant, nil_word, 
 use Rattle.back_first_path.specs.Represents.{Represents}
 use Rattle.back_first_path.specs.Compiled.{IsPrefixOf, HaltsWith, Faithful, Compiled}
 use Rattle.back_first_path.proofs.Instructions.{instructions}
-use Rattle.back_first_path.proofs.Runs.{Point, at, word_in, Comes, HasAt, one, and_on}
+use Rattle.back_first_path.proofs.Runs.{Point, at, word_in, ReachesIn, HasAt, one_instruction, and_on}
 use Rattle.back_first_path.proofs.Yields.{Yields, Ready, has_prefix, has_suffix, same, other, constant_yields}
 use Rattle.back_first_path.proofs.Yields.{and_then as yields_then}
 use Rattle.back_first_path.proofs.Mains.{MeansMains, Went}
 use Rattle.back_first_path.proofs.Founds.{Grew, grew_none, at_seam}
-use Rattle.back_first_path.proofs.Simulates.{IsPlain, word_of, SimulatesAll, forms_simulated}
+use Rattle.back_first_path.proofs.Simulates.{IsSmallValue, word_of, SimulatesAll, forms_simulated}
 
 -- `addi x17, x0, 0` chooses the call that halts
-halt_chosen : (arena registers printed : List ℕ) (i n : ℕ) → i < 2 ^ 25 → Ready registers → word_in arena i ≡ Some choose_halt → Comes 1 (at arena i registers printed n) (at arena (i + 1) (slice_set registers 17 0) printed (n + 1))
+halt_chosen : (arena registers printed : List ℕ) (i n : ℕ) → i < 2 ^ 25 → Ready registers → word_in arena i ≡ Some choose_halt → ReachesIn 1 (at arena i registers printed n) (at arena (i + 1) (slice_set registers 17 0) printed (n + 1))
 halt_chosen arena registers printed i n b ready h =
     let v : (slice_index registers 0 + 0) % 2 ^ 32 ≡ 0 = ap (λ z. (z + 0) % 2 ^ 32) ready.zero_is in
     let p : (4 * i + 4) % 2 ^ 32 ≡ 4 * (i + 1) = omega arith in
-    one arena registers printed i n choose_halt (Addi 17 0 0) (at arena (i + 1) (slice_set registers 17 0) printed (n + 1)) h instructions.choose_halt
+    one_instruction arena registers printed i n choose_halt (Addi 17 0 0) (at arena (i + 1) (slice_set registers 17 0) printed (n + 1)) h instructions.choose_halt
     (λ input go_on. rw (v, p) refl)
 
 -- from a moment every run of enough instructions ends so
 record EndsIn (steps : ℕ) (m : Point) (e : List ℕ → Ended) : Type 0 where
   by : (input : List ℕ) (n : ℕ) → steps ≤ n → run_from n (m input) ≡ e input
 
-ends_after : {a b : ℕ} {m m' : Point} {e : List ℕ → Ended} → Comes a m m' → EndsIn b m' e → EndsIn (a + b) m e
+ends_after : {a b : ℕ} {m m' : Point} {e : List ℕ → Ended} → ReachesIn a m m' → EndsIn b m' e → EndsIn (a + b) m e
 ends_after {a} {b} c f = record {
   by = λ input n h. c.by input (n - a) n (omega (arith, h)) ∙ f.by input (n - a) (omega (arith, h));
 }
@@ -101,7 +101,7 @@ pub forms_again : (fs : Forms) → forms (forms_list fs) ≡ fs
 forms_again no_form = refl
 forms_again (form_and f fs) = ap (form_and f) (forms_again fs)
 
-represents_plain : (arena : List ℕ) (v : Value) → IsPlain v → Represents arena (word_of v) v
+represents_plain : (arena : List ℕ) (v : Value) → IsSmallValue v → Represents arena (word_of v) v
 represents_plain arena (integer n) p = refl
 represents_plain arena (character c) p = absurd p
 represents_plain arena (symbol (named name)) p = absurd p

@@ -5,7 +5,7 @@ use Rattle.std.proofs.lemmas.List.{get_or-set_same, get_or-set_other, length-set
 use Rattle.rv_encode.specs.declared.instruction.Instr.TheVariants.{Addi, Ecall}
 use Rattle.back_first_path.specs.Code.{load_10, constant, put_code, nil_word, choose_put, environment}
 use Rattle.back_first_path.proofs.Instructions.{instructions}
-use Rattle.back_first_path.proofs.Runs.{at, word_in, Comes, stays, and_on, HasAt, one, linked, moved, loaded, next_place}
+use Rattle.back_first_path.proofs.Runs.{at, word_in, ReachesIn, stays, and_on, HasAt, one_instruction, linked, moved, loaded, next_place}
 
 -- a value in the arena from which code is read
 pub has_prefix : (arena : List ℕ) (i : ℕ) (a b : List ℕ) → HasAt arena i (a ++ b) → HasAt arena i a
@@ -39,7 +39,7 @@ other registers rd value r ne = get_or-set_other registers rd r value 0 ne
 -- where the code ends: its registers, with the word in register 10
 pub record Reached (arena registers printed : List ℕ) (i n size : ℕ) (bytes : List ℕ) (word cost : ℕ) : Type 0 where
   pub registers' : List ℕ
-  pub comes : Comes cost (at arena i registers printed n) (at arena (i + size) registers' (printed ++ bytes) (n + cost))
+  pub comes : ReachesIn cost (at arena i registers printed n) (at arena (i + size) registers' (printed ++ bytes) (n + cost))
   pub holds : slice_index registers' 10 ≡ word
   pub ready : Ready registers'
 
@@ -56,7 +56,7 @@ and_then {before} {middle} {word} {c} {d} {code} {more} {bytes} {after} y z = re
       let second = z.by arena first.registers' (printed ++ bytes) (i + length code) (n + c) first.ready first.holds (omega (arith, len)) (has_suffix arena i code more has) in
       record {
         registers' = second.registers';
-        comes = subst (λ p. Comes (c + d) (at arena i registers printed n) (at arena (i + length (code ++ more)) second.registers' p (n + (c + d)))) (append_assoc printed bytes after)
+        comes = subst (λ p. ReachesIn (c + d) (at arena i registers printed n) (at arena (i + length (code ++ more)) second.registers' p (n + (c + d)))) (append_assoc printed bytes after)
             (moved (i + length (code ++ more)) (n + (c + d)) (omega (arith, len)) (omega arith) (and_on first.comes second.comes));
         holds = second.holds;
         ready = second.ready;
@@ -68,7 +68,7 @@ pub nothing : (before : ℕ) → Yields before [] [] before 0
 nothing before = record {
   by = λ arena registers printed i n ready held room has. record {
     registers' = registers;
-    comes = subst (λ p. Comes 0 (at arena i registers printed n) (at arena (i + 0) registers p (n + 0))) (sym (append-nil printed)) (moved (i + 0) (n + 0) (omega arith) (omega arith) (stays (at arena i registers printed n)));
+    comes = subst (λ p. ReachesIn 0 (at arena i registers printed n) (at arena (i + 0) registers p (n + 0))) (sym (append-nil printed)) (moved (i + 0) (n + 0) (omega arith) (omega arith) (stays (at arena i registers printed n)));
     holds = held;
     ready = ready;
   };
@@ -77,7 +77,7 @@ nothing before = record {
 -- a constant changes registers 5 and 10
 pub record Constant (arena registers printed : List ℕ) (i n word : ℕ) : Type 0 where
   pub registers' : List ℕ
-  pub comes : Comes 2 (at arena i registers printed n) (at arena (i + 3) registers' printed (n + 2))
+  pub comes : ReachesIn 2 (at arena i registers printed n) (at arena (i + 3) registers' printed (n + 2))
   pub holds : slice_index registers' 10 ≡ word
   pub ready : Ready registers'
   pub first : slice_index registers' 13 ≡ slice_index registers 13
@@ -107,23 +107,23 @@ constant_yields before word = record {
       let c = constant_reached arena registers printed i n word ready room has in
       record {
         registers' = c.registers';
-        comes = subst (λ p. Comes 2 (at arena i registers printed n) (at arena (i + 3) c.registers' p (n + 2))) (sym (append-nil printed)) c.comes;
+        comes = subst (λ p. ReachesIn 2 (at arena i registers printed n) (at arena (i + 3) c.registers' p (n + 2))) (sym (append-nil printed)) c.comes;
         holds = c.holds;
         ready = c.ready;
       };
 }
 
 -- `addi x17, x0, 1` chooses the call that puts a byte
-put_chosen : (arena registers printed : List ℕ) (i n : ℕ) → i < 2 ^ 25 → Ready registers → word_in arena i ≡ Some choose_put → Comes 1 (at arena i registers printed n) (at arena (i + 1) (slice_set registers 17 1) printed (n + 1))
+put_chosen : (arena registers printed : List ℕ) (i n : ℕ) → i < 2 ^ 25 → Ready registers → word_in arena i ≡ Some choose_put → ReachesIn 1 (at arena i registers printed n) (at arena (i + 1) (slice_set registers 17 1) printed (n + 1))
 put_chosen arena registers printed i n b ready h =
     let v : (slice_index registers 0 + 1) % 2 ^ 32 ≡ 1 = ap (λ z. (z + 1) % 2 ^ 32) ready.zero_is in
-    one arena registers printed i n choose_put (Addi 17 0 1) (at arena (i + 1) (slice_set registers 17 1) printed (n + 1)) h instructions.choose_put
+    one_instruction arena registers printed i n choose_put (Addi 17 0 1) (at arena (i + 1) (slice_set registers 17 1) printed (n + 1)) h instructions.choose_put
     (λ input go_on. rw (v, next_place i b) refl)
 
 -- and the call puts it
-byte_put : (arena registers printed : List ℕ) (i n : ℕ) → i < 2 ^ 25 → slice_index registers 17 ≡ 1 → word_in arena i ≡ Some environment → Comes 1 (at arena i registers printed n) (at arena (i + 1) registers (printed ++ slice_index registers 10 % 256 ∷ []) (n + 1))
+byte_put : (arena registers printed : List ℕ) (i n : ℕ) → i < 2 ^ 25 → slice_index registers 17 ≡ 1 → word_in arena i ≡ Some environment → ReachesIn 1 (at arena i registers printed n) (at arena (i + 1) registers (printed ++ slice_index registers 10 % 256 ∷ []) (n + 1))
 byte_put arena registers printed i n b chosen h =
-    one arena registers printed i n environment Ecall (at arena (i + 1) registers (printed ++ slice_index registers 10 % 256 ∷ []) (n + 1)) h instructions.environment
+    one_instruction arena registers printed i n environment Ecall (at arena (i + 1) registers (printed ++ slice_index registers 10 % 256 ∷ []) (n + 1)) h instructions.environment
     (λ input go_on. rw (chosen, next_place i b) refl)
 
 -- the byte in register 10 is put, and nil is the value
@@ -139,7 +139,7 @@ put_yields byte = and_then {before = byte} {middle = byte} {word = nil_word} {c 
           let b = byte_put arena chosen printed (i + 1) (n + 1) (omega arith) (same registers 17 1 (omega arith) ready) has.1.0 in
           record {
             registers' = chosen;
-            comes = subst (λ x. Comes 2 (at arena i registers printed n) (at arena (i + 2) chosen (printed ++ x % 256 ∷ []) (n + 2))) ten (moved (i + 2) (n + 2) (omega arith) (omega arith) (and_on a b));
+            comes = subst (λ x. ReachesIn 2 (at arena i registers printed n) (at arena (i + 2) chosen (printed ++ x % 256 ∷ []) (n + 2))) ten (moved (i + 2) (n + 2) (omega arith) (omega arith) (and_on a b));
             holds = ten;
             ready = ready_set registers 17 1 (omega arith) ready;
           };

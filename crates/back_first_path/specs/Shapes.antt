@@ -36,32 +36,32 @@ is_text w None = false
 is_text w (Some v) = bytes_eq v w
 
 -- the literals and the sites that the forms so far have
-pub record Tables : Type 0 where
+pub record FirstPathTables : Type 0 where
   pub literals : List LiteralRow
   pub sites : List Place
 
-abbrev pub no_tables : Tables
+abbrev pub no_tables : FirstPathTables
 no_tables = record { literals = []; sites = [] }
 
 -- a literal more; its number is that of the rows before it
-abbrev pub with_literal : Place → Content → Tables → Tables
+abbrev pub with_literal : Place → Content → FirstPathTables → FirstPathTables
 with_literal p content t = record t { literals = t.literals ++ row.Datum (item p content) ∷ [] }
 
 -- a site more; sites are counted from 1
-abbrev pub with_site : Place → Tables → Tables
+abbrev pub with_site : Place → FirstPathTables → FirstPathTables
 with_site p t = record t { sites = t.sites ++ p ∷ [] }
 
-abbrev pub next_literal : Tables → ℕ
+abbrev pub next_literal : FirstPathTables → ℕ
 next_literal t = length t.literals
 
-abbrev pub next_site : Tables → ℕ
+abbrev pub next_site : FirstPathTables → ℕ
 next_site t = length t.sites + 1
 
 -- a form with the tables after it, where there is one
 abbrev pub Found : Type 0 → Type 0
-Found A = Option (A × Tables)
+Found A = Option (A × FirstPathTables)
 
-abbrev pub and_then : {A B : Type 0} → Found A → (A → Tables → Found B) → Found B
+abbrev pub and_then : {A B : Type 0} → Found A → (A → FirstPathTables → Found B) → Found B
 and_then None next = None
 and_then (Some found) next = next found.0 found.1
 
@@ -124,7 +124,7 @@ stream_of texts (item p (list (item_and h no_item) no_tail)) =
 stream_of texts (item p _) = None
 
 -- a form that puts a character
-abbrev pub put_form : Place → Option Place → Option Letter → Tables → Found Form
+abbrev pub put_form : Place → Option Place → Option Letter → FirstPathTables → Found Form
 put_form p None l t = None
 put_form p (Some q) None t = None
 put_form p (Some q) (Some l) t =
@@ -134,17 +134,17 @@ put_form p (Some q) (Some l) t =
     )
 
 -- (format-char (standard-output) c) after its head
-abbrev pub format_char_form : List (List ℕ) → Place → Items → Tables → Found Form
+abbrev pub format_char_form : List (List ℕ) → Place → Items → FirstPathTables → Found Form
 format_char_form texts p (item_and x (item_and y no_item)) t = put_form p (stream_of texts x) (letter_of y) t
 format_char_form texts p _ t = None
 
 -- a number that is a form
-abbrev pub integer_form : Option Number → Tables → Found Form
+abbrev pub integer_form : Option Number → FirstPathTables → Found Form
 integer_form None t = None
 integer_form (Some n) t = Some (literal (next_literal t), with_literal n.place (integer n.value) t)
 
 -- two numbers under `+` or `-`
-abbrev pub sum_of : Primitive → Place → Option Number → Option Number → Tables → Found Form
+abbrev pub sum_of : Primitive → Place → Option Number → Option Number → FirstPathTables → Found Form
 sum_of which p None b t = None
 sum_of which p (Some a) None t = None
 sum_of which p (Some a) (Some b) t =
@@ -153,7 +153,7 @@ sum_of which p (Some a) (Some b) t =
       with_literal b.place (integer b.value) (with_literal a.place (integer a.value) (with_site p t)),
     )
 
-abbrev pub sum_form : Primitive → Place → Items → Tables → Found Form
+abbrev pub sum_form : Primitive → Place → Items → FirstPathTables → Found Form
 sum_form which p (item_and x (item_and y no_item)) t = sum_of which p (number_of x) (number_of y) t
 sum_form which p _ t = None
 
@@ -164,18 +164,18 @@ by_sum minus_head plus minus = minus
 by_sum head plus minus = None
 
 -- Z: a number, a sum or a difference
-abbrev pub operand_of : List (List ℕ) → Item → Tables → Found Form
+abbrev pub operand_of : List (List ℕ) → Item → FirstPathTables → Found Form
 operand_of texts (item p (list (item_and h ds) no_tail)) t =
     by_sum (head_of texts h) (sum_form Add p ds t) (sum_form Subtract p ds t)
 operand_of texts (item p c) t = integer_form (number_of (item p c)) t
 
 -- two operands under `=` or `<`
-abbrev pub comparison_of : List (List ℕ) → Primitive → Place → Item → Item → Tables → Found Form
+abbrev pub comparison_of : List (List ℕ) → Primitive → Place → Item → Item → FirstPathTables → Found Form
 comparison_of texts which p x y t =
     and_then (operand_of texts x (with_site p t)) (λ f after.
     as_form (λ g. sited (next_site t) (prim which (form_and f (form_and g no_form)))) (operand_of texts y after))
 
-abbrev pub comparison_form : List (List ℕ) → Primitive → Place → Items → Tables → Found Form
+abbrev pub comparison_form : List (List ℕ) → Primitive → Place → Items → FirstPathTables → Found Form
 comparison_form texts which p (item_and x (item_and y no_item)) t = comparison_of texts which p x y t
 comparison_form texts which p _ t = None
 
@@ -185,7 +185,7 @@ by_test less_head equal less = less
 by_test head equal less = None
 
 -- T: a comparison
-abbrev pub test_of : List (List ℕ) → Item → Tables → Found Form
+abbrev pub test_of : List (List ℕ) → Item → FirstPathTables → Found Form
 test_of texts (item p (list (item_and h ds) no_tail)) t =
     by_test (head_of texts h) (comparison_form texts NumberEqual p ds t) (comparison_form texts NumberLess p ds t)
 test_of texts (item p _) t = None
@@ -196,7 +196,7 @@ choice site truth x a b =
     sited site (clauses (clause_and x (with_body (sequence (form_and a no_form))) (clause_and (literal truth) (with_body (sequence (form_and b no_form))) no_clause)))
 
 -- the symbol t, which has the number 0 among the names
-abbrev pub with_truth : Place → Tables → Tables
+abbrev pub with_truth : Place → FirstPathTables → FirstPathTables
 with_truth p t = with_literal p (symbol (Named (record { 0 = 0 }))) t
 
 -- what a list is, by its first item
@@ -208,24 +208,24 @@ by_head plus_head progn format_char if_form plus minus = plus
 by_head minus_head progn format_char if_form plus minus = minus
 by_head head progn format_char if_form plus minus = None
 
-abbrev pub progn_form : Tables → Found Forms → Found Form
+abbrev pub progn_form : FirstPathTables → Found Forms → Found Form
 progn_form t = as_form (λ fs. sited (next_site t) (sequence fs))
 
 unfoldable mutual
   -- F
-  pub form_of : List (List ℕ) → Item → Tables → Found Form
+  pub form_of : List (List ℕ) → Item → FirstPathTables → Found Form
   form_of texts (item p (list (item_and h ds) no_tail)) t =
       by_head (head_of texts h) (progn_form t (forms_of texts ds (with_site p t))) (format_char_form texts p ds t) (if_form texts p ds t) (sum_form Add p ds t) (sum_form Subtract p ds t)
   form_of texts (item p c) t = integer_form (number_of (item p c)) t
 
-  pub if_form : List (List ℕ) → Place → Items → Tables → Found Form
+  pub if_form : List (List ℕ) → Place → Items → FirstPathTables → Found Form
   if_form texts p (item_and x (item_and a (item_and b no_item))) t =
       and_then (test_of texts x (with_site p t)) (λ f u.
       and_then (form_of texts a u) (λ g v.
       as_form (λ h. choice (next_site t) (next_literal v) f g h) (form_of texts b (with_truth p v))))
   if_form texts p ts t = None
 
-  pub forms_of : List (List ℕ) → Items → Tables → Found Forms
+  pub forms_of : List (List ℕ) → Items → FirstPathTables → Found Forms
   forms_of texts no_item t = Some (no_form, t)
   forms_of texts (item_and x xs) t = and_then (form_of texts x t) (λ f after. as_form (λ fs. form_and f fs) (forms_of texts xs after))
 

@@ -19,7 +19,7 @@ use Rattle.front_reader.specs.Reads.{ReadsNext}
 use Rattle.front_reader.specs.Readers.{first_place}
 use Rattle.front_reader.specs.Stops.{StopsFirst}
 use Rattle.back_first_path.specs.Limits.{longest_program, deepest_program}
-use Rattle.back_first_path.specs.Shapes.{Tables, program_of, program_with}
+use Rattle.back_first_path.specs.Shapes.{FirstPathTables, program_of, program_with}
 
 -- `DataOf names text ds rest p`: the text begins with the data ds; what is left of it stands at place p.
 -- Symbols are numbered by the table of names
@@ -52,7 +52,7 @@ pub record Accepts (text : List ℕ) (program : ProgramRows) : Type 0 where
   pub same : begins.program ≡ program
 
 -- the text is the program of these forms and tables
-abbrev pub IsProgramOf : List ℕ → List Form → Tables → Type 0
+abbrev pub IsProgramOf : List ℕ → List Form → FirstPathTables → Type 0
 IsProgramOf text fs t = (program : ProgramRows) → program_with (Some (forms fs, t)) ≡ Some program → Accepts text program
 
 -- the datum that comes next is no form behind the data before it
@@ -77,6 +77,6 @@ pub data Refuses (text : List ℕ) (at : Place) : Reason → Type 0 where
   not_built : OffendsNext text at → Refuses text at NotBuilt
 
 -- why there is no program
-abbrev pub IsStopped : List ℕ → Stop → Type 0
-IsStopped text (Refused r) = Refuses text r.place r.reason
-IsStopped text NoMemory = Unit {0}
+abbrev pub IsFirstPathStop : List ℕ → Stop → Type 0
+IsFirstPathStop text (Refused r) = Refuses text r.place r.reason
+IsFirstPathStop text NoMemory = Unit {0}

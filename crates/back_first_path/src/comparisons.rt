@@ -8,7 +8,7 @@ ghost use Rattle.back_first_path.specs.Shapes.{comparison_of, comparison_form, t
 
 use crate::heads::{Head, list_in};
 use crate::operands::operand_of;
-use crate::tables::Tables;
+use crate::tables::FirstPathTables;
 use base::{Datum, DatumList, Names, NoMemory, Place};
 use lang_meaning::{Core, CoreList, Primitive, SiteId};
 use std::alloc::Global;
@@ -19,7 +19,7 @@ pub(crate) fn test_of(
     alloc: Global,
     names: &Names,
     datum: &Datum,
-    tables: &mut Tables,
+    tables: &mut FirstPathTables,
 ) -> Result<Option<Core>, NoMemory>
     ensures { Finds result tables.new (test_of names.now datum.now tables.old) }
 {
@@ -45,7 +45,7 @@ fn comparison_form(
     which: Primitive,
     place: Place,
     list: &DatumList,
-    tables: &mut Tables,
+    tables: &mut FirstPathTables,
 ) -> Result<Option<Core>, NoMemory>
     ensures { Finds result tables.new
         (comparison_form names.now which place (items_of (drop 1 list.now)) tables.old) }
@@ -64,7 +64,7 @@ fn comparison_of(
     place: Place,
     first: &Datum,
     second: &Datum,
-    tables: &mut Tables,
+    tables: &mut FirstPathTables,
 ) -> Result<Option<Core>, NoMemory>
     ensures { Finds result tables.new
         (comparison_of names.now which place first.now second.now tables.old) }

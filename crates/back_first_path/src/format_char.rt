@@ -7,7 +7,7 @@ ghost use Rattle.back_first_path.specs.Shapes.{stream_of, letter_of as letter_of
 
 use crate::comparisons::operation;
 use crate::heads::{list_in, word_of};
-use crate::tables::Tables;
+use crate::tables::FirstPathTables;
 use base::{Datum, DatumList, Kind, Names, NoMemory, Place};
 use lang_meaning::{Core, CoreList, Primitive};
 use std::alloc::Global;
@@ -27,7 +27,7 @@ pub(crate) fn format_char_form(
     names: &Names,
     place: Place,
     list: &DatumList,
-    tables: &mut Tables,
+    tables: &mut FirstPathTables,
 ) -> Result<Option<Core>, NoMemory>
     ensures { Finds result tables.new
         (format_char_form names.now place (items_of (drop 1 list.now)) tables.old) }
@@ -83,7 +83,7 @@ fn put_form(
     place: Place,
     stream: Place,
     letter: Letter,
-    tables: &mut Tables,
+    tables: &mut FirstPathTables,
 ) -> Result<Core, NoMemory>
     ensures { IfOk result (λ f.
         put_form place (Some stream) (Some letter) tables.old ≡ Some (f, tables.new)) }

@@ -8,7 +8,7 @@ ghost use Rattle.back_first_path.specs.Shapes.{is_small, number_of as number_of_
 
 use crate::comparisons::operation;
 use crate::heads::{Head, list_in};
-use crate::tables::Tables;
+use crate::tables::FirstPathTables;
 use base::{Datum, DatumList, Kind, Names, NoMemory, Place};
 use lang_meaning::{Core, LiteralId, Primitive};
 use std::alloc::Global;
@@ -52,7 +52,7 @@ fn is_small(value: i32) -> bool
 /// The form of a number, if there is one.
 pub(crate) fn integer_form(
     number: Option<Number>,
-    tables: &mut Tables,
+    tables: &mut FirstPathTables,
 ) -> Result<Option<Core>, NoMemory>
     ensures { Finds result tables.new (integer_form number tables.old) }
 {
@@ -70,7 +70,7 @@ pub(crate) fn sum_form(
     which: Primitive,
     place: Place,
     list: &DatumList,
-    tables: &mut Tables,
+    tables: &mut FirstPathTables,
 ) -> Result<Option<Core>, NoMemory>
     ensures { Finds result tables.new
         (sum_form which place (items_of (drop 1 list.now)) tables.old) }
@@ -93,7 +93,7 @@ pub(crate) fn operand_of(
     alloc: Global,
     names: &Names,
     datum: &Datum,
-    tables: &mut Tables,
+    tables: &mut FirstPathTables,
 ) -> Result<Option<Core>, NoMemory>
     ensures { Finds result tables.new (operand_of names.now datum.now tables.old) }
 {
@@ -116,7 +116,7 @@ fn sum_of(
     place: Place,
     first: Number,
     second: Number,
-    tables: &mut Tables,
+    tables: &mut FirstPathTables,
 ) -> Result<Core, NoMemory>
     ensures { IfOk result (λ f. sum_of which place (Some first) (Some second) tables.old
         ≡ Some (f, tables.new)) }
@@ -134,7 +134,7 @@ fn sum_of(
 }
 
 // The literal of a number.
-fn number_literal(number: Number, tables: &mut Tables) -> Result<LiteralId, NoMemory>
+fn number_literal(number: Number, tables: &mut FirstPathTables) -> Result<LiteralId, NoMemory>
     ensures { IfOk result (λ id. integer_form (Some number) tables.old ≡ Some (literal id, tables.new)) }
 {
     tables.add_literal(Datum::new(number.place, Kind::Int(number.value)))

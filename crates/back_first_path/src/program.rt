@@ -4,11 +4,11 @@ ghost use Rattle.std.specs.Prelude.{◌≡◌, ◌≤◌, [], length, Some, None
 ghost use Rattle.lang_meaning.specs.model.View.{forms};
 ghost use Rattle.back_first_path.specs.Code.{program_code};
 ghost use Rattle.back_first_path.specs.Finds.{IsForm, IsNoForm};
-ghost use Rattle.back_first_path.specs.Verdicts.{Accepts, IsProgramOf, IsStopped};
+ghost use Rattle.back_first_path.specs.Verdicts.{Accepts, IsProgramOf, IsFirstPathStop};
 ghost use Rattle.back_first_path.specs.Shapes.{no_tables};
 
 use crate::shape::form_of;
-use crate::tables::Tables;
+use crate::tables::FirstPathTables;
 use base::{Datum, LONGEST_TEXT, Names, Origin, Place, Reason, Refusal, Stop};
 use front_reader::Reader;
 use lang_meaning::{CoreList, ProgramRows};
@@ -29,7 +29,7 @@ const START: Place = Place { line: 1, column: 1 };
 pub fn read_program(alloc: Global, text: &[u8]) -> Result<ProgramRows, Stop>
     ensures program { IfOk result (Accepts text.now) }
     ensures small { IfOk result (λ program. length (program_code program.literals (forms program.main)) ≤ 65536) }
-    ensures stopped { IfErr result (IsStopped text.now) }
+    ensures stopped { IfErr result (IsFirstPathStop text.now) }
 {
     if text.len() > LONGEST_TEXT {
         return Err(refused(START, Reason::SourceTooLong));
@@ -44,10 +44,10 @@ pub fn read_program(alloc: Global, text: &[u8]) -> Result<ProgramRows, Stop>
 fn program_of(alloc: Global, text: &[u8]) -> Result<ProgramRows, Stop>
     requires { length text.now ≤ 4096 }
     ensures program { IfOk result (Accepts text.now) }
-    ensures stopped { IfErr result (IsStopped text.now) }
+    ensures stopped { IfErr result (IsFirstPathStop text.now) }
 {
     let mut names = Names::new(alloc);
-    let mut tables = Tables::new(alloc);
+    let mut tables = FirstPathTables::new(alloc);
     let mut main = CoreList::new(alloc);
     add_forms(alloc, text, &mut names, &mut tables, &mut main)?;
     Ok(tables.program(alloc, main))
@@ -58,14 +58,14 @@ fn add_forms(
     alloc: Global,
     text: &[u8],
     names: &mut Names,
-    tables: &mut Tables,
+    tables: &mut FirstPathTables,
     main: &mut CoreList,
 ) -> Result<(), Stop>
     requires short { length text.now ≤ 4096 }
     requires tables { tables.old ≡ no_tables }
     requires main { main.old ≡ [] }
     ensures program { OnOk result (IsProgramOf text.now main.new tables.new) }
-    ensures stopped { IfErr result (IsStopped text.now) }
+    ensures stopped { IfErr result (IsFirstPathStop text.now) }
 {
     names.intern(b"t")?;
     let mut reader = Reader::new(text, Origin::File);
@@ -80,7 +80,7 @@ fn add_form(
     alloc: Global,
     names: &Names,
     datum: Datum,
-    tables: &mut Tables,
+    tables: &mut FirstPathTables,
     main: &mut CoreList,
 ) -> Result<(), Stop>
     ensures added { OnOk result (IsForm names.now datum tables.old tables.new main.old main.new) }
@@ -96,7 +96,7 @@ fn add_form_of(
     alloc: Global,
     names: &Names,
     datum: &Datum,
-    tables: &mut Tables,
+    tables: &mut FirstPathTables,
     main: &mut CoreList,
 ) -> Result<(), Stop>
     ensures added { OnOk result (IsForm names.now datum.now tables.old tables.new main.old main.new) }

@@ -12,7 +12,7 @@ use crate::comparisons::test_of;
 use crate::format_char::format_char_form;
 use crate::heads::{Head, list_in};
 use crate::operands::{integer_form, number_of, sum_form};
-use crate::tables::Tables;
+use crate::tables::FirstPathTables;
 use base::{Datum, DatumList, Names, NoMemory, Place};
 use lang_meaning::{Core, CoreList, Primitive};
 use std::alloc::Global;
@@ -30,7 +30,7 @@ pub(crate) fn form_of(
     alloc: Global,
     names: &Names,
     datum: &Datum,
-    tables: &mut Tables,
+    tables: &mut FirstPathTables,
 ) -> Result<Option<Core>, NoMemory>
     ensures { Finds result tables.new (form_of names.now datum.now tables.old) }
 {
@@ -47,7 +47,7 @@ fn list_form(
     names: &Names,
     place: Place,
     list: &DatumList,
-    tables: &mut Tables,
+    tables: &mut FirstPathTables,
 ) -> Result<Option<Core>, NoMemory>
     ensures { Finds result tables.new (list_form names.now place list.now tables.old) }
 {
@@ -68,7 +68,7 @@ fn sequence_form(
     names: &Names,
     place: Place,
     list: &DatumList,
-    tables: &mut Tables,
+    tables: &mut FirstPathTables,
 ) -> Result<Option<Core>, NoMemory>
     ensures { Finds result tables.new (progn_form tables.old
         (forms_of names.now (items_of (drop 1 list.now)) (with_site place tables.old))) }
@@ -89,7 +89,7 @@ fn if_form(
     names: &Names,
     place: Place,
     list: &DatumList,
-    tables: &mut Tables,
+    tables: &mut FirstPathTables,
 ) -> Result<Option<Core>, NoMemory>
     ensures { Finds result tables.new
         (if_form names.now place (items_of (drop 1 list.now)) tables.old) }
@@ -136,7 +136,7 @@ fn forms_of(
     names: &Names,
     list: &DatumList,
     start: usize,
-    tables: &mut Tables,
+    tables: &mut FirstPathTables,
 ) -> Result<Option<CoreList>, NoMemory>
     ensures { FindsAs forms result tables.new
         (forms_of names.now (items_of (drop start list.now)) tables.old) }

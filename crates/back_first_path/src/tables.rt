@@ -13,16 +13,16 @@ use lang_meaning::{
 use std::alloc::Global;
 use std::marker::Model;
 
-/// The literals and the sites that the forms so far have. Contracts see it as the `Tables` of
+/// The literals and the sites that the forms so far have. Contracts see it as the `FirstPathTables` of
 /// specs/Shapes.antt.
 #[derive(Drop)]
-pub(crate) struct Tables {
+pub(crate) struct FirstPathTables {
     literals: LiteralRows,
     sites: PlaceList,
 }
 
-impl Model for Tables {
-    ghost use Rattle.back_first_path.specs.Shapes.{Tables as FormTables};
+impl Model for FirstPathTables {
+    ghost use Rattle.back_first_path.specs.Shapes.{FirstPathTables as FormTables};
 
     ghost Value = { FormTables };
 
@@ -34,12 +34,12 @@ impl Model for Tables {
     ghost view = { λ t. record { literals = t.literals; sites = t.sites } };
 }
 
-impl Tables {
+impl FirstPathTables {
     /// No literal and no site; takes no memory.
-    pub(crate) fn new(alloc: Global) -> Tables
+    pub(crate) fn new(alloc: Global) -> FirstPathTables
         ensures { result ≡ no_tables }
     {
-        Tables {
+        FirstPathTables {
             literals: LiteralRows::new(alloc),
             sites: PlaceList::new(alloc),
         }

@@ -6,7 +6,7 @@ use Rattle.base.specs.Outside.{Took}
 use Rattle.base.specs.Given.{WasGiven}
 
 -- a front of the bytes was given, and the rest is left
-pub record Written (told told' : Option (List ℕ)) (faults faults' : ℕ) (bytes rest : List ℕ) : Type 0 where
+pub record FrontGiven (told told' : Option (List ℕ)) (faults faults' : ℕ) (bytes rest : List ℕ) : Type 0 where
   pub front : List ℕ
   pub joined : front ++ rest ≡ bytes
   pub given : WasGiven told front told'
@@ -16,7 +16,7 @@ given_none : (told : Option (List ℕ)) → WasGiven told [] told
 given_none None = tt
 given_none (Some x) = (x, refl, sym (append-nil x))
 
-pub written_none : (told : Option (List ℕ)) (faults : ℕ) (bytes : List ℕ) → Written told told faults faults bytes bytes
+pub written_none : (told : Option (List ℕ)) (faults : ℕ) (bytes : List ℕ) → FrontGiven told told faults faults bytes bytes
 written_none told faults bytes = record { front = []; joined = refl; given = given_none told; count = omega arith }
 
 given_more : (told told' told'' : Option (List ℕ)) (front more : List ℕ) → WasGiven told front told' → IfSome told'' (λ after. (before : List ℕ) × (told' ≡ Some before) × (after ≡ before ++ more)) → WasGiven told (front ++ more) told''
@@ -29,7 +29,7 @@ took_more : (told' told'' : Option (List ℕ)) (writes n writes'' : ℕ) (rest :
 took_more told' None writes n writes'' rest h = tt
 took_more told' (Some after) writes n writes'' rest h = (h.before, h.was, h.appended)
 
-pub written_more : (told told' told'' : Option (List ℕ)) (faults faults' faults'' writes n writes'' : ℕ) (bytes rest : List ℕ) → Written told told' faults faults' bytes rest → IfSome told'' (λ after. Took told' writes n rest after writes'') → faults' ≤ faults'' → Written told told'' faults faults'' bytes (drop n rest)
+pub written_more : (told told' told'' : Option (List ℕ)) (faults faults' faults'' writes n writes'' : ℕ) (bytes rest : List ℕ) → FrontGiven told told' faults faults' bytes rest → IfSome told'' (λ after. Took told' writes n rest after writes'') → faults' ≤ faults'' → FrontGiven told told'' faults faults'' bytes (drop n rest)
 written_more told told' told'' faults faults' faults'' writes n writes'' bytes rest w h c = record {
   front = w.front ++ take n rest;
   joined = append_assoc w.front (take n rest) (drop n rest) ∙ ap (λ x. w.front ++ x) (take-append-drop n rest) ∙ w.joined;
@@ -38,7 +38,7 @@ written_more told told' told'' faults faults' faults'' writes n writes'' bytes r
 }
 
 -- all of it
-pub written_all : (told told' : Option (List ℕ)) (faults faults' : ℕ) (bytes rest : List ℕ) → Written told told' faults faults' bytes rest → rest ≡ [] → WasGiven told bytes told'
+pub written_all : (told told' : Option (List ℕ)) (faults faults' : ℕ) (bytes rest : List ℕ) → FrontGiven told told' faults faults' bytes rest → rest ≡ [] → WasGiven told bytes told'
 written_all told told' faults faults' bytes rest w e =
     subst (λ x. WasGiven told x told') (sym (append-nil w.front) ∙ ap (λ x. w.front ++ x) (sym e) ∙ w.joined) w.given
 

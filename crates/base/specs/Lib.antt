@@ -12,7 +12,7 @@ pub mod DataFormed
 pub mod AllOf
 pub mod DataParts
 pub mod DataNames
-pub mod GoodData
+pub mod WellFormedData
 pub mod Names
 pub mod NameNumbers
 pub mod NameMap

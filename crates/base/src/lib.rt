@@ -22,8 +22,8 @@ pub mod words;
 mod writing;
 
 pub use calls::Calls;
-pub use datum::{Datum, DatumList, FreshList, Kind, Name, NameList, Symbol};
 pub use datum::naming::{symbol_text, text_of};
+pub use datum::{Datum, DatumList, FreshList, Kind, Name, NameList, Symbol};
 pub use faults::{Failed, NoMemory};
 pub use limits::LONGEST_TEXT;
 pub use lists::{Bytes, CallList, ItemList, PlaceList, WordList};

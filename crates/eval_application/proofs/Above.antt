@@ -3,35 +3,35 @@ use Rattle.std.proofs.Common.{◌≡◌, ℕ, ◌+◌, ◌-◌, List, [], ◌∷
 use Rattle.std.specs.Prelude.{reverse}
 use Rattle.std.proofs.Math.Seq.{drop-append_seam, take-append_seam}
 use Rattle.lang_meaning.specs.Values.{Value}
-use Rattle.lang_meaning.specs.State.{Surroundings}
-use Rattle.eval_machine.specs.Moment.{Setting, Step}
+use Rattle.lang_meaning.specs.State.{DynamicContext}
+use Rattle.eval_machine.specs.Configuration.{Setting, Transition}
 use Rattle.eval_store.specs.declared.word.Word.{Word}
 use Rattle.eval_store.specs.Words.{values_of}
-use Rattle.eval_state.specs.declared.frame.Frame.{Frame}
+use Rattle.eval_state.specs.declared.frame.ContinuationFrame.{ContinuationFrame}
 use Rattle.eval_state.specs.declared.given.Given.{Given}
-use Rattle.eval_state.specs.declared.situation.Around.{Around}
+use Rattle.eval_state.specs.declared.situation.DynamicLinks.{DynamicLinks}
 use Rattle.eval_state.specs.declared.machine.Machine.{Machine}
 use Rattle.eval_state.specs.Frames.{last_of, others_of, around_in, frames_in}
 use Rattle.eval_state.specs.Operands.{IsDropped}
 use Rattle.eval_state.specs.Tops.{IsAbove}
-use Rattle.eval_state.specs.View.{Steps, IsGiven, IsPlain, setting_of, waiting, state, top, frames, surroundings}
+use Rattle.eval_state.specs.View.{StepsTo, IsGiven, OnlyWaits, setting_of, waiting_frame_of, state, top, frames, dynamic_context}
 use Rattle.eval_application.specs.Methods.{ArePushed}
 use Rattle.eval_state.proofs.Doing.{then_dropped}
 use Rattle.eval_state.proofs.Pushes.{pushed, surroundings_stay, others_none}
 
 -- a plain frame is pushed
-pub then_above : (old mid new : Machine) (w : Frame) (n : ℕ) (a : Around) (t : List (List ℕ) → Setting → List Value → Surroundings → Step) → IsAbove old mid w → IsPlain w ≡ true
-    → Steps mid new (λ names s b. t names s (top names mid n) (surroundings names mid a) (frames names mid n) (state names mid b))
-    → Steps old new (λ names s b. t names s (top names old n) (surroundings names old a) (waiting names old w ∷ frames names old n) (state names old b))
+pub then_above : (old mid new : Machine) (w : ContinuationFrame) (n : ℕ) (a : DynamicLinks) (t : List (List ℕ) → Setting → List Value → DynamicContext → Transition) → IsAbove old mid w → OnlyWaits w ≡ true
+    → StepsTo mid new (λ names s b. t names s (top names mid n) (dynamic_context names mid a) (frames names mid n) (state names mid b))
+    → StepsTo old new (λ names s b. t names s (top names old n) (dynamic_context names old a) (waiting_frame_of names old w ∷ frames names old n) (state names old b))
 then_above old mid new w n a t h plain s = record {
   given = s.given ∙ ap (λ (m : Machine). m.given) h.same;
   comes = λ names b g.
       s.comes names b (let P : Given → Type 0 = λ x. IsGiven names x in subst P (sym (ap (λ (m : Machine). m.given) h.same)) g)
-      ∙ ap (λ (m : Machine). t names (setting_of names m.given) (top names m n) (surroundings names m a) (frames names m n) (state names m b)) h.same
+      ∙ ap (λ (m : Machine). t names (setting_of names m.given) (top names m n) (dynamic_context names m a) (frames names m n) (state names m b)) h.same
       ∙ ap (λ items. t names (setting_of names old.given) (top names old n) (around_in names (reverse items) a) (frames_in names old.current (others_of n old.operands.items) old.slots.items (reverse items)) (state names old b)) h.frames
       ∙ ap (λ x. t names (setting_of names old.given) (top names old n) x (frames_in names old.current (others_of n old.operands.items) old.slots.items (reverse (old.frames.items ++ w ∷ []))) (state names old b))
       (surroundings_stay names old.frames.items w a plain)
-      ∙ ap (λ x. t names (setting_of names old.given) (top names old n) (surroundings names old a) x (state names old b))
+      ∙ ap (λ x. t names (setting_of names old.given) (top names old n) (dynamic_context names old a) x (state names old b))
       (pushed names old.current (others_of n old.operands.items) old.slots.items old.frames.items w plain);
 }
 
@@ -49,25 +49,25 @@ others_pushed xs ys n e =
     ap (λ k. take k (xs ++ ys)) d ∙ take-append_seam xs ys
 
 -- operands are pushed, which are the arguments
-pub then_arguments : (old mid new : Machine) (ws : List Word) (n : ℕ) (a : Around) (t : List (List ℕ) → Setting → List Value → Surroundings → Step) → ArePushed old mid ws → n ≡ length ws
-    → Steps mid new (λ names s b. t names s (top names mid n) (surroundings names mid a) (frames names mid n) (state names mid b))
-    → Steps old new (λ names s b. t names s (values_of names ws) (surroundings names old a) (frames names old 0) (state names old b))
+pub then_arguments : (old mid new : Machine) (ws : List Word) (n : ℕ) (a : DynamicLinks) (t : List (List ℕ) → Setting → List Value → DynamicContext → Transition) → ArePushed old mid ws → n ≡ length ws
+    → StepsTo mid new (λ names s b. t names s (top names mid n) (dynamic_context names mid a) (frames names mid n) (state names mid b))
+    → StepsTo old new (λ names s b. t names s (values_of names ws) (dynamic_context names old a) (frames names old 0) (state names old b))
 then_arguments old mid new ws n a t h e s = record {
   given = s.given ∙ ap (λ (m : Machine). m.given) h.same;
   comes = λ names b g.
       s.comes names b (let P : Given → Type 0 = λ x. IsGiven names x in subst P (sym (ap (λ (m : Machine). m.given) h.same)) g)
-      ∙ ap (λ (m : Machine). t names (setting_of names m.given) (top names mid n) (surroundings names m a) (frames_in names m.current (others_of n mid.operands.items) m.slots.items (reverse m.frames.items)) (state names m b)) h.same
-      ∙ ap (λ xs. t names (setting_of names old.given) (values_of names (last_of n xs)) (surroundings names old a) (frames_in names old.current (others_of n xs) old.slots.items (reverse old.frames.items)) (state names old b)) h.operands
-      ∙ ap (λ xs. t names (setting_of names old.given) (values_of names xs) (surroundings names old a) (frames_in names old.current (others_of n (old.operands.items ++ ws)) old.slots.items (reverse old.frames.items)) (state names old b)) (last_pushed old.operands.items ws n e)
-      ∙ ap (λ xs. t names (setting_of names old.given) (values_of names ws) (surroundings names old a) (frames_in names old.current xs old.slots.items (reverse old.frames.items)) (state names old b))
+      ∙ ap (λ (m : Machine). t names (setting_of names m.given) (top names mid n) (dynamic_context names m a) (frames_in names m.current (others_of n mid.operands.items) m.slots.items (reverse m.frames.items)) (state names m b)) h.same
+      ∙ ap (λ xs. t names (setting_of names old.given) (values_of names (last_of n xs)) (dynamic_context names old a) (frames_in names old.current (others_of n xs) old.slots.items (reverse old.frames.items)) (state names old b)) h.operands
+      ∙ ap (λ xs. t names (setting_of names old.given) (values_of names xs) (dynamic_context names old a) (frames_in names old.current (others_of n (old.operands.items ++ ws)) old.slots.items (reverse old.frames.items)) (state names old b)) (last_pushed old.operands.items ws n e)
+      ∙ ap (λ xs. t names (setting_of names old.given) (values_of names ws) (dynamic_context names old a) (frames_in names old.current xs old.slots.items (reverse old.frames.items)) (state names old b))
       (others_pushed old.operands.items ws n e ∙ sym (others_none old.operands.items));
 }
 
--- operands are dropped, where the surroundings do not count
-nowhere : Around
+-- operands are dropped, where the dynamic context does not count
+nowhere : DynamicLinks
 nowhere = record { exits = 0; handlers = 0; bindings = 0; site = record { line = 0; column = 0 } }
 
-pub then_fewer : (old mid new : Machine) (n : ℕ) (t : List (List ℕ) → Setting → Step) → IsDropped old mid n
-    → Steps mid new (λ names s b. t names s (frames names mid 0) (state names mid b))
-    → Steps old new (λ names s b. t names s (frames names old n) (state names old b))
+pub then_fewer : (old mid new : Machine) (n : ℕ) (t : List (List ℕ) → Setting → Transition) → IsDropped old mid n
+    → StepsTo mid new (λ names s b. t names s (frames names mid 0) (state names mid b))
+    → StepsTo old new (λ names s b. t names s (frames names old n) (state names old b))
 then_fewer old mid new n t d s = then_dropped old mid new n nowhere (λ names s around frames z. t names s frames z) d s

@@ -6,22 +6,22 @@ use Rattle.std.proofs.lemmas.Bool.{le-ltb}
 use Rattle.flat_language.specs.FlatForm.{FlatForm}
 use Rattle.flat_language.specs.FlatNodes.{homes}
 use Rattle.flat_language.specs.FlatState.{no_environment, with_slots}
-use Rattle.eval_machine.specs.Moment.{moment, evaluate, restores_slots}
+use Rattle.eval_machine.specs.Configuration.{configuration, evaluate, restores_slots}
 use Rattle.eval_machine.specs.Applications.{begin_body}
 use Rattle.eval_store.specs.declared.word.Word.{Word}
 use Rattle.eval_store.specs.Words.{values_of, called_or_none}
 use Rattle.eval_store.specs.View.{seen}
 use Rattle.eval_state.specs.declared.slot.Slot.{Slot}
-use Rattle.eval_state.specs.declared.frame.Frame.{Frame}
-use Rattle.eval_state.specs.declared.frame.Frame.TheVariants.{RestoresSlots}
+use Rattle.eval_state.specs.declared.frame.ContinuationFrame.{ContinuationFrame}
+use Rattle.eval_state.specs.declared.frame.ContinuationFrame.TheVariants.{RestoresSlots}
 use Rattle.eval_state.specs.declared.given.Given.{Given}
-use Rattle.eval_state.specs.declared.situation.Around.{Around}
+use Rattle.eval_state.specs.declared.situation.DynamicLinks.{DynamicLinks}
 use Rattle.eval_state.specs.declared.situation.Activation.{Activation}
 use Rattle.eval_state.specs.declared.machine.Machine.{Machine}
 use Rattle.eval_application.specs.declared.entering.Entering.{Entering}
 use Rattle.eval_state.specs.Chains.{Linking, chained}
 use Rattle.eval_state.specs.Frames.{last_of, others_of, slot_of, frame_slots, around_in, own_in, environment_in, situation_in, frames_in, own_link}
-use Rattle.eval_state.specs.View.{Steps, IsGiven, at, state, top, frames, surroundings}
+use Rattle.eval_state.specs.View.{StepsTo, IsGiven, at, state, top, frames, dynamic_context}
 use Rattle.eval_state.specs.Operands.{IsDropped}
 use Rattle.eval_state.specs.Variables.{AreSlotted}
 use Rattle.eval_application.specs.Entering.{entered_of, captured_in}
@@ -34,12 +34,12 @@ unfolding chained
 from_nothing of [] = refl
 from_nothing of (w ∷ ws) = let t : nat_lt (length ws) 0 ≡ false = le-ltb (length ws) 0 (omega arith) in rw t (from_nothing of ws)
 
-no_exits : (ws : List Frame) → own_in ws 0 ≡ []
+no_exits : (ws : List ContinuationFrame) → own_in ws 0 ≡ []
 unfolding own_in
 no_exits ws = ap reverse (from_nothing own_link ws)
 
 -- the situation of the body
-body_situation : (names : List (List ℕ)) (a saved : Activation) (ws : List Frame) (level : ℕ) (around : Around)
+body_situation : (names : List (List ℕ)) (a saved : Activation) (ws : List ContinuationFrame) (level : ℕ) (around : DynamicLinks)
     → situation_in names a (RestoresSlots saved ∷ ws) (record { level = level; own = 0; around = around })
     ≡ record { level = level; environment = record no_environment { captured = captured_in names a; method = called_or_none names a.method }; around = around_in names ws around }
 unfolding situation_in environment_in
@@ -49,7 +49,7 @@ body_situation names a saved ws level around =
     (around_stays names ws (RestoresSlots saved) around (record { own = refl; exit = refl; handler = refl; binding = refl }))
 
 -- the frames below the body
-body_frames : (names : List (List ℕ)) (a saved : Activation) (operands : List Word) (slots more : List Slot) (ws : List Frame) → a.slots ≡ 0 + length more
+body_frames : (names : List (List ℕ)) (a saved : Activation) (operands : List Word) (slots more : List Slot) (ws : List ContinuationFrame) → a.slots ≡ 0 + length more
     → frames_in names a operands (slots ++ more) (RestoresSlots saved ∷ ws) ≡ restores_slots (frame_slots names saved slots) ∷ frames_in names saved operands slots ws
 unfolding frames_in
 body_frames names a saved operands slots more ws e =
@@ -59,12 +59,12 @@ body_frames names a saved operands slots more ws e =
 last_none : {X : Type 0} (xs : List X) → last_of 0 xs ≡ []
 last_none xs = drop_all (length xs - 0) xs (omega arith)
 
-pub body_begun : (old pushed slotted dropped new : Machine) (p : Entering) (n level : ℕ) (around : Around) (body : FlatForm)
+pub body_begun : (old pushed slotted dropped new : Machine) (p : Entering) (n level : ℕ) (around : DynamicLinks) (body : FlatForm)
     → pushed ≡ record old { frames = pushed.frames; current = record p.activation { slots = 0 } }
     → pushed.frames.items ≡ old.frames.items ++ RestoresSlots old.current ∷ []
     → AreSlotted pushed slotted (homes p.procedure.now) (last_of n pushed.operands.items) → IsDropped slotted dropped n → body ≡ p.procedure.now.body
-    → Steps dropped new (λ names s b. moment (evaluate body (at names dropped (record { level = level; own = 0; around = around }))) (frames names dropped 0) (state names dropped b))
-    → Steps old new (λ names s b. begin_body s p.procedure.now (entered_of names p).captured (entered_of names p).called (top names old n) level (surroundings names old around) (frames names old n) (state names old b))
+    → StepsTo dropped new (λ names s b. configuration (evaluate body (at names dropped (record { level = level; own = 0; around = around }))) (frames names dropped 0) (state names dropped b))
+    → StepsTo old new (λ names s b. begin_body s p.procedure.now (entered_of names p).captured (entered_of names p).called (top names old n) level (dynamic_context names old around) (frames names old n) (state names old b))
 body_begun old pushed slotted dropped new p n level around body is_pushed items are_slotted is_dropped is_body s =
     let current : Activation = record p.activation { slots = slotted.current.slots } in
     let slotted_is : slotted ≡ record old { frames = pushed.frames; current = current; slots = slotted.slots; store = slotted.store } =
@@ -82,18 +82,18 @@ body_begun old pushed slotted dropped new p n level around body is_pushed items 
       given = s.given ∙ given_is;
       comes = λ names b g.
           s.comes names b (let P : Given → Type 0 = λ x. IsGiven names x in subst P (sym given_is) g)
-          ∙ ap (λ f. moment (evaluate f (at names dropped (record { level = level; own = 0; around = around }))) (frames names dropped 0) (state names dropped b)) is_body
-          ∙ ap (λ x. moment (evaluate p.procedure.now.body x) (frames names dropped 0) (state names dropped b))
+          ∙ ap (λ f. configuration (evaluate f (at names dropped (record { level = level; own = 0; around = around }))) (frames names dropped 0) (state names dropped b)) is_body
+          ∙ ap (λ x. configuration (evaluate p.procedure.now.body x) (frames names dropped 0) (state names dropped b))
           (ap (λ (m : Machine). at names m (record { level = level; own = 0; around = around })) dropped_is
           ∙ ap (λ ws. situation_in names current ws (record { level = level; own = 0; around = around })) (ap reverse items ∙ one_on old.frames.items (RestoresSlots old.current))
           ∙ body_situation names current old.current (reverse old.frames.items) level around)
-          ∙ ap (λ x. moment (evaluate p.procedure.now.body (record { level = level; environment = record no_environment { captured = captured_in names current; method = called_or_none names current.method }; around = surroundings names old around })) x (state names dropped b))
+          ∙ ap (λ x. configuration (evaluate p.procedure.now.body (record { level = level; environment = record no_environment { captured = captured_in names current; method = called_or_none names current.method }; around = dynamic_context names old around })) x (state names dropped b))
           (ap (λ (m : Machine). frames names m 0) dropped_is
           ∙ ap (λ ws. frames_in names current (others_of 0 dropped.operands.items) slotted.slots.items ws) (ap reverse items ∙ one_on old.frames.items (RestoresSlots old.current))
           ∙ ap (λ os. frames_in names current os slotted.slots.items (RestoresSlots old.current ∷ reverse old.frames.items)) operands_are
           ∙ ap (λ xs. frames_in names current (others_of n old.operands.items) xs (RestoresSlots old.current ∷ reverse old.frames.items)) slots_are
           ∙ body_frames names current old.current (others_of n old.operands.items) old.slots.items are_slotted.more (reverse old.frames.items) count_is)
-          ∙ ap (λ x. moment (evaluate p.procedure.now.body (record { level = level; environment = record no_environment { captured = captured_in names current; method = called_or_none names current.method }; around = surroundings names old around }))
+          ∙ ap (λ x. configuration (evaluate p.procedure.now.body (record { level = level; environment = record no_environment { captured = captured_in names current; method = called_or_none names current.method }; around = dynamic_context names old around }))
           (restores_slots (frame_slots names old.current old.slots.items) ∷ frames names old n) x)
           (ap (λ (m : Machine). state names m b) is_dropped.same
           ∙ are_slotted.state_is names b

@@ -4,11 +4,11 @@ use Rattle.std.specs.Prelude.{option_map}
 use Rattle.std.specs.declared.rc.Rc.{Rc}
 use Rattle.base.specs.declared.lists.ItemList.{ItemList}
 use Rattle.lang_meaning.specs.Values.{Value}
-use Rattle.lang_meaning.specs.State.{Surroundings}
+use Rattle.lang_meaning.specs.State.{DynamicContext}
 use Rattle.lang_meaning.specs.Objects.{function_class}
 use Rattle.lang_meaning.specs.Primitives.{is_function}
 use Rattle.flat_language.specs.FlatState as flat
-use Rattle.eval_machine.specs.Moment.{Setting, Frame}
+use Rattle.eval_machine.specs.Configuration.{Setting, ContinuationFrame}
 use Rattle.eval_machine.specs.Applications.{apply_function, apply_object, apply_value, signal_domain}
 use Rattle.eval_store.specs.declared.word.Word.{Word}
 use Rattle.eval_store.specs.declared.store.Store.{Store}
@@ -19,31 +19,31 @@ use Rattle.eval_store.specs.Words.{value_of_word, object_of}
 use Rattle.eval_store.specs.View.{Beside, seen, IsFetched, captured_in}
 use Rattle.eval_application.specs.Applying.{captured_values}
 use Rattle.eval_application.specs.declared.functions.Function.TheVariants as kind
-use Rattle.eval_application.specs.Functions.{IsFunction, IsFunctionOrNot}
+use Rattle.eval_application.specs.Functions.{IsFunctionValue, IsFunctionOrNot}
 
 -- a value is applied as the object that it fetches
-fetched_applied : (s : Store) (w : Word) (o : Option Object) (names : List (List ℕ)) (t : Setting) (b : Beside) (vs : List Value) (level : ℕ) (around : Surroundings) (frames : List Frame) → IsFetched s w o
+fetched_applied : (s : Store) (w : Word) (o : Option Object) (names : List (List ℕ)) (t : Setting) (b : Beside) (vs : List Value) (level : ℕ) (around : DynamicContext) (frames : List ContinuationFrame) → IsFetched s w o
     → apply_value t (value_of_word names w) vs level around frames (seen names s b)
     ≡ apply_object t (option_map (object_of names) o) (captured_in names o) (value_of_word names w) vs level around frames (seen names s b)
 fetched_applied s w o names t b vs level around frames x =
     ap (λ r. apply_object t r (flat.captured_by (value_of_word names w) (seen names s b)) (value_of_word names w) vs level around frames (seen names s b)) (x.object names b)
     ∙ ap (λ r. apply_object t (option_map (object_of names) o) r (value_of_word names w) vs level around frames (seen names s b)) (x.captured names b)
 
-pub procedure_there : (s : Store) (w : Word) (o : Object) (n : ℕ) → IsFetched s w (Some o) → o ≡ Function n → IsFunction s w (kind.Procedure n)
+pub procedure_there : (s : Store) (w : Word) (o : Object) (n : ℕ) → IsFetched s w (Some o) → o ≡ Function n → IsFunctionValue s w (kind.Procedure n)
 procedure_there s w o n x e = record {
   applies = λ names t b vs level around frames.
       fetched_applied s w (Some o) names t b vs level around frames x
       ∙ ap (λ p. apply_object t (option_map (object_of names) (Some p)) (captured_in names (Some p)) (value_of_word names w) vs level around frames (seen names s b)) e;
 }
 
-pub generic_there : (s : Store) (w : Word) (o : Object) (n : ℕ) → IsFetched s w (Some o) → o ≡ Generic n → IsFunction s w (kind.Generic n)
+pub generic_there : (s : Store) (w : Word) (o : Object) (n : ℕ) → IsFetched s w (Some o) → o ≡ Generic n → IsFunctionValue s w (kind.Generic n)
 generic_there s w o n x e = record {
   applies = λ names t b vs level around frames.
       fetched_applied s w (Some o) names t b vs level around frames x
       ∙ ap (λ p. apply_object t (option_map (object_of names) (Some p)) (captured_in names (Some p)) (value_of_word names w) vs level around frames (seen names s b)) e;
 }
 
-pub closure_there : (s : Store) (w : Word) (o : Object) (n : ℕ) (cs shared : Rc (ItemList Captured) Global) → IsFetched s w (Some o) → o ≡ Closure n cs → shared.value ≡ cs.value → IsFunction s w (kind.Closure n shared)
+pub closure_there : (s : Store) (w : Word) (o : Object) (n : ℕ) (cs shared : Rc (ItemList Captured) Global) → IsFetched s w (Some o) → o ≡ Closure n cs → shared.value ≡ cs.value → IsFunctionValue s w (kind.Closure n shared)
 closure_there s w o n cs shared x e h = record {
   applies = λ names t b vs level around frames.
       fetched_applied s w (Some o) names t b vs level around frames x
@@ -61,14 +61,14 @@ nothing_applied names (Generic n) f g h t captured v vs = absurd (h n refl)
 nothing_applied names o f g h t captured v vs = refl
 
 pub function_else : (s : Store) (w : Word) (o : Object) → IsFetched s w (Some o) → ((n : ℕ) → o ≡ Function n → ⊥)
-    → ((n : ℕ) (cs : Rc (ItemList Captured) Global) → o ≡ Closure n cs → ⊥) → ((g : ℕ) → o ≡ Generic g → ⊥) → IsFunction s w kind.NoFunction
+    → ((n : ℕ) (cs : Rc (ItemList Captured) Global) → o ≡ Closure n cs → ⊥) → ((g : ℕ) → o ≡ Generic g → ⊥) → IsFunctionValue s w kind.NoFunction
 function_else s w o x f g h = record {
   applies = λ names t b vs level around frames.
       fetched_applied s w (Some o) names t b vs level around frames x
       ∙ ap (λ k. k level around frames (seen names s b)) (nothing_applied names o f g h t (captured_in names (Some o)) (value_of_word names w) vs);
 }
 
-pub function_absent : (s : Store) (w : Word) → IsFetched s w None → IsFunction s w kind.NoFunction
+pub function_absent : (s : Store) (w : Word) → IsFetched s w None → IsFunctionValue s w kind.NoFunction
 function_absent s w x = record {
   applies = λ names t b vs level around frames. fetched_applied s w None names t b vs level around frames x;
 }

@@ -3,7 +3,7 @@ use Rattle.std.proofs.Common.{◌≡◌, ℕ, suc, ◌<◌, List, [], ◌∷◌,
 use Rattle.std.specs.Prelude.{reverse, if◌then◌else◌}
 use Rattle.lang_meaning.specs.Values.{Value, integer, character, symbol, nil, object}
 use Rattle.lang_meaning.specs.Objects.{Object, cons, string, vector, instance, function, closure, generic_function, class_object, input_stream, output_stream, fresh_symbol, serious_condition_class, function_class}
-use Rattle.lang_meaning.specs.State.{State, Surroundings, signal_exit, at_site}
+use Rattle.lang_meaning.specs.State.{State, DynamicContext, signal_exit, at_site}
 use Rattle.lang_meaning.specs.State as base
 use Rattle.lang_meaning.specs.Signals.{marked_at}
 use Rattle.lang_meaning.specs.Signals as meaning
@@ -13,15 +13,15 @@ use Rattle.flat_language.specs.FlatForm.{FlatForm}
 use Rattle.flat_language.specs.FlatNodes.{tables}
 use Rattle.flat_language.specs.FlatState.{FlatState, charged, exit_made}
 use Rattle.flat_language.specs.FlatSignals.{marked}
-use Rattle.eval_machine.specs.Moment.{Moment, moment, evaluate, signals, come_to, awaits, catches, unbinds, handler_return}
+use Rattle.eval_machine.specs.Configuration.{Configuration, configuration, evaluate, signals, come_to, awaits, catches, unbinds, handler_return}
 use Rattle.eval_machine.specs.Applications.{apply_value, signal_under, signal_domain}
 use Rattle.eval_machine.specs.Step.{signal_step, handler_step}
 use Rattle.eval_store.specs.declared.word.Word.{Word}
 use Rattle.eval_store.specs.Words.{value_of_word}
 use Rattle.eval_store.specs.View.{Beside}
-use Rattle.eval_state.specs.declared.frame.Frame.{Frame as Kept}
-use Rattle.eval_state.specs.declared.frame.Frame.TheVariants as frame
-use Rattle.eval_state.specs.declared.situation.Around.{Around}
+use Rattle.eval_state.specs.declared.frame.ContinuationFrame.{ContinuationFrame as Kept}
+use Rattle.eval_state.specs.declared.frame.ContinuationFrame.TheVariants as frame
+use Rattle.eval_state.specs.declared.situation.DynamicLinks.{DynamicLinks}
 use Rattle.eval_state.specs.declared.situation.Situation.{Situation}
 use Rattle.eval_state.specs.declared.situation.Activation.{Activation}
 use Rattle.eval_state.specs.declared.machine.Machine.{Machine}
@@ -30,7 +30,7 @@ use Rattle.eval_state.specs.Frames.{others_of, around_in, own_in, environment_in
 use Rattle.eval_state.specs.Tops.{IsAbove, taken, below}
 use Rattle.eval_state.specs.declared.machine.Control.TheVariants.{Signals}
 use Rattle.eval_state.specs.Operands.{IsPushed}
-use Rattle.eval_state.specs.View.{Steps, IsGiven, IsCharged, setting_of, moment_of, at, top, frames, state, surroundings}
+use Rattle.eval_state.specs.View.{StepsTo, IsGiven, IsCharged, setting_of, configuration_of, at, top, frames, state, dynamic_context}
 use Rattle.eval_application.specs.declared.signalling.Handler.{Handler}
 use Rattle.eval_application.specs.Methods.{ArePushed}
 use Rattle.eval_application.specs.Signalling.{IsSignalled, IsHandled, IsUnhandled, around_handler, handled_by}
@@ -38,7 +38,7 @@ use Rattle.std.proofs.lemmas.List.{length-append, length-reverse}
 use Rattle.eval_state.proofs.Going.{after_store, after_push}
 use Rattle.eval_state.proofs.Linking.{over}
 use Rattle.eval_state.proofs.Pushes.{passed_over, others_none}
-use Rattle.eval_state.proofs.Stepping.{same_moment}
+use Rattle.eval_state.proofs.Stepping.{same_configuration}
 use Rattle.eval_application.proofs.Above.{then_above, then_arguments}
 use Rattle.eval_application.proofs.Situations.{level_at, around_at}
 
@@ -82,7 +82,7 @@ signalled old mid new c mark number same is made_is after marked_is = record {
 }
 
 -- what surrounds a handler
-signal_around : (names : List (List ℕ)) (ws : List Kept) (a : Around) (n : ℕ) (c mark : Word) (link outside : ℕ) → link ≡ suc (length ws)
+signal_around : (names : List (List ℕ)) (ws : List Kept) (a : DynamicLinks) (n : ℕ) (c mark : Word) (link outside : ℕ) → link ≡ suc (length ws)
     → around_in names (frame.Signal n c mark a.exits ∷ ws) (record a { exits = link; handlers = outside })
     ≡ record (around_in names ws a) {
       exits = record { number = n; kind = signal_exit (value_of_word names c) (value_of_word names mark) } ∷ (around_in names ws a).exits;
@@ -93,12 +93,12 @@ signal_around names ws a n c mark link outside e =
     let below : length ws < link = omega arith in
     rw (passed_over (binding_link names) (frame.Signal n c mark a.exits) ws a.bindings refl, passed_over (handler_link names) (frame.Signal n c mark a.exits) ws outside refl, over (exit_link names) (frame.Signal n c mark a.exits) ws link below) refl
 
--- the parts of surroundings
-handlers_in : (names : List (List ℕ)) (m : Machine) (a : Around) → (surroundings names m a).handlers ≡ chained (handler_link names) (reverse m.frames.items) a.handlers
+-- the parts of a dynamic context
+handlers_in : (names : List (List ℕ)) (m : Machine) (a : DynamicLinks) → (dynamic_context names m a).handlers ≡ chained (handler_link names) (reverse m.frames.items) a.handlers
 unfolding around_in
 handlers_in names m a = refl
 
-site_in : (names : List (List ℕ)) (m : Machine) (a : Around) → a.site ≡ (surroundings names m a).site
+site_in : (names : List (List ℕ)) (m : Machine) (a : DynamicLinks) → a.site ≡ (dynamic_context names m a).site
 unfolding around_in
 site_in names m a = refl
 
@@ -112,18 +112,18 @@ pub link_above : (old above : Machine) (w : Kept) → IsAbove old above w → le
 link_above old above w i = let e : length above.frames.items ≡ length (old.frames.items ++ w ∷ []) = ap (λ (ws : List Kept). length ws) i.frames in omega (arith, e, length-append old.frames.items (w ∷ []))
 
 -- a handler is applied above the frame of its signal
-pub handled : (old above returning pushed new : Machine) (w : Kept) (h : Handler) (c : Word) (within : Around) (level : ℕ) (a : Around) → within ≡ around_handler old h a
+pub handled : (old above returning pushed new : Machine) (w : Kept) (h : Handler) (c : Word) (within : DynamicLinks) (level : ℕ) (a : DynamicLinks) → within ≡ around_handler old h a
     → IsAbove old above w → IsAbove above returning (frame.HandlerReturn level within) → IsPushed returning pushed c
-    → Steps pushed new (λ names s b. apply_value s (value_of_word names h.word) (top names pushed 1) level (surroundings names pushed within) (frames names pushed 1) (state names pushed b))
-    → Steps old new (λ names s b. handled_by names old w h c level a s (state names old b))
+    → StepsTo pushed new (λ names s b. apply_value s (value_of_word names h.word) (top names pushed 1) level (dynamic_context names pushed within) (frames names pushed 1) (state names pushed b))
+    → StepsTo old new (λ names s b. handled_by names old w h c level a s (state names old b))
 handled old above returning pushed new w h c within level a e i j p x =
     let one : ArePushed returning pushed (c ∷ []) = record { operands = p.operands; same = p.same } in
-    let given : Steps returning new (λ names s b. apply_value s (value_of_word names h.word) (value_of_word names c ∷ []) level (surroundings names returning within) (frames names returning 0) (state names returning b)) =
+    let given : StepsTo returning new (λ names s b. apply_value s (value_of_word names h.word) (value_of_word names c ∷ []) level (dynamic_context names returning within) (frames names returning 0) (state names returning b)) =
     then_arguments returning pushed new (c ∷ []) 1 within (λ names s vs around fs z. apply_value s (value_of_word names h.word) vs level around fs z) one refl x in
-    let inner : Steps above new (λ names s b. apply_value s (value_of_word names h.word) (value_of_word names c ∷ []) level (surroundings names above within)
-    (awaits (handler_return level (surroundings names above within)) ∷ frames names above 0) (state names above b)) =
+    let inner : StepsTo above new (λ names s b. apply_value s (value_of_word names h.word) (value_of_word names c ∷ []) level (dynamic_context names above within)
+    (awaits (handler_return level (dynamic_context names above within)) ∷ frames names above 0) (state names above b)) =
     then_above above returning new (frame.HandlerReturn level within) 0 within (λ names s vs around fs z. apply_value s (value_of_word names h.word) (value_of_word names c ∷ []) level around fs z) j refl given in
-    same_moment old new _ _
+    same_configuration old new _ _
     (after_push old above new w
     (λ m names s ws z. apply_value s (value_of_word names h.word) (value_of_word names c ∷ []) level (around_in names ws within)
     (awaits (handler_return level (around_in names ws within)) ∷ frames_in names m.current (others_of 0 m.operands.items) m.slots.items ws) z) i inner)
@@ -135,21 +135,21 @@ handled old above returning pushed new w h c within level a e i j p x =
     (ap (λ os. frames_in names old.current os old.slots.items (w ∷ reverse old.frames.items)) (others_none old.operands.items) ∙ top_is names old w))
 
 -- the innermost handler is applied
-pub signal_handled : (old mid counted new : Machine) (c mark : Word) (h : Handler) (number level : ℕ) (a : Around) → IsHandled old a.handlers h → IsSignalled old mid c mark number → IsCharged mid counted 1
-    → Steps counted new (λ names s b. handled_by names counted (frame.Signal number c mark a.exits) h c level a s (state names counted b))
-    → Steps old new (λ names s b. signal_under s (surroundings names old a).handlers (value_of_word names c) (value_of_word names mark) level (surroundings names old a) (frames names old 0) (state names old b))
+pub signal_handled : (old mid counted new : Machine) (c mark : Word) (h : Handler) (number level : ℕ) (a : DynamicLinks) → IsHandled old a.handlers h → IsSignalled old mid c mark number → IsCharged mid counted 1
+    → StepsTo counted new (λ names s b. handled_by names counted (frame.Signal number c mark a.exits) h c level a s (state names counted b))
+    → StepsTo old new (λ names s b. signal_under s (dynamic_context names old a).handlers (value_of_word names c) (value_of_word names mark) level (dynamic_context names old a) (frames names old 0) (state names old b))
 signal_handled old mid counted new c mark h number level a there i k x =
     let same : counted ≡ record old { store = counted.store } = k.same ∙ ap (λ (m : Machine). record m { store = counted.store }) i.same in
     let is : (names : List (List ℕ)) (b : Beside) → state names counted b ≡ charged 1 (exit_made (marked (value_of_word names c) (value_of_word names mark) (state names old b))) =
     λ names b. k.state_is names b ∙ ap (charged 1) (i.state_is names b) in
-    same_moment old new _ _
+    same_configuration old new _ _
     (after_store old counted new (λ m names s z. handled_by names m (frame.Signal number c mark a.exits) h c level a s z)
     (λ names z. charged 1 (exit_made (marked (value_of_word names c) (value_of_word names mark) z))) same is x)
     (λ names b g.
     let z : FlatState = state names old b in
-    let around : Surroundings = surroundings names old a in
+    let around : DynamicContext = dynamic_context names old a in
     let outside : List Value = chained (handler_link names) (reverse old.frames.items) h.outside in
-    let on : Surroundings → ℕ → Moment = λ within e.
+    let on : DynamicContext → ℕ → Configuration = λ within e.
     apply_value (setting_of names old.given) (value_of_word names h.word) (value_of_word names c ∷ []) level within (awaits (handler_return level within) ∷ catches e ∷ frames names old 0)
     (charged 1 (exit_made (marked (value_of_word names c) (value_of_word names mark) z))) in
     ap (λ within. on within number) (signal_around names (reverse old.frames.items) a number c mark (suc (length old.frames.items)) h.outside (ap suc (sym (length-reverse old.frames.items))))
@@ -157,46 +157,46 @@ signal_handled old mid counted new c mark h number level a there i k x =
     ∙ sym (ap (λ hs. signal_under (setting_of names old.given) hs (value_of_word names c) (value_of_word names mark) level around (frames names old 0) z) (handlers_in names old a ∙ there.handlers names)))
 
 -- without a handler the program ends
-pub signal_unhandled : (old mid new : Machine) (c mark : Word) (number level : ℕ) (a : Around) → IsUnhandled old a.handlers → IsSignalled old mid c mark number
-    → Steps mid new (λ names s b. moment (come_to (base.exit 0 (value_of_word names c) (at_site a.site))) (frames names mid 0) (state names mid b))
-    → Steps old new (λ names s b. signal_under s (surroundings names old a).handlers (value_of_word names c) (value_of_word names mark) level (surroundings names old a) (frames names old 0) (state names old b))
+pub signal_unhandled : (old mid new : Machine) (c mark : Word) (number level : ℕ) (a : DynamicLinks) → IsUnhandled old a.handlers → IsSignalled old mid c mark number
+    → StepsTo mid new (λ names s b. configuration (come_to (base.exit 0 (value_of_word names c) (at_site a.site))) (frames names mid 0) (state names mid b))
+    → StepsTo old new (λ names s b. signal_under s (dynamic_context names old a).handlers (value_of_word names c) (value_of_word names mark) level (dynamic_context names old a) (frames names old 0) (state names old b))
 signal_unhandled old mid new c mark number level a there i x =
-    same_moment old new _ _
-    (after_store old mid new (λ m names s z. moment (come_to (base.exit 0 (value_of_word names c) (at_site a.site))) (frames names m 0) z)
+    same_configuration old new _ _
+    (after_store old mid new (λ m names s z. configuration (come_to (base.exit 0 (value_of_word names c) (at_site a.site))) (frames names m 0) z)
     (λ names z. exit_made (marked (value_of_word names c) (value_of_word names mark) z)) i.same i.state_is x)
     (λ names b g.
     let z : FlatState = state names old b in
-    ap (λ p. moment (come_to (base.exit 0 (value_of_word names c) (at_site p))) (frames names old 0) (exit_made (marked (value_of_word names c) (value_of_word names mark) z))) (site_in names old a)
-    ∙ sym (ap (λ hs. signal_under (setting_of names old.given) hs (value_of_word names c) (value_of_word names mark) level (surroundings names old a) (frames names old 0) z) (handlers_in names old a ∙ there.handlers names)))
+    ap (λ p. configuration (come_to (base.exit 0 (value_of_word names c) (at_site p))) (frames names old 0) (exit_made (marked (value_of_word names c) (value_of_word names mark) z))) (site_in names old a)
+    ∙ sym (ap (λ hs. signal_under (setting_of names old.given) hs (value_of_word names c) (value_of_word names mark) level (dynamic_context names old a) (frames names old 0) z) (handlers_in names old a ∙ there.handlers names)))
 
 -- a condition is signalled next
-pub signals_next : (old new : Machine) (c mark : Word) (level : ℕ) (a : Around) → new ≡ record old { control = Signals c mark level a }
-    → Steps old new (λ names s b. moment (signals (value_of_word names c) (value_of_word names mark) level (surroundings names old a)) (frames names old 0) (state names old b))
+pub signals_next : (old new : Machine) (c mark : Word) (level : ℕ) (a : DynamicLinks) → new ≡ record old { control = Signals c mark level a }
+    → StepsTo old new (λ names s b. configuration (signals (value_of_word names c) (value_of_word names mark) level (dynamic_context names old a)) (frames names old 0) (state names old b))
 signals_next old new c mark level a e = record {
   given = ap (λ (m : Machine). m.given) e;
-  comes = λ names b g. ap (λ (m : Machine). moment_of names m b) e;
+  comes = λ names b g. ap (λ (m : Machine). configuration_of names m b) e;
 }
 
 pub condition_signals : (old new : Machine) (c mark : Word) (t : Situation)
     → ((names : List (List ℕ)) (b : Beside) → IsGiven names old.given → is_condition (tables old.given.program.now) (state names old b).state (value_of_word names c) ≡ true)
-    → Steps old new (λ names s b. moment (signals (value_of_word names c) (value_of_word names mark) t.level (surroundings names old t.around)) (frames names old 0) (state names old b))
-    → Steps old new (λ names s b. signal_step s (value_of_word names c) (value_of_word names mark) (at names old t) (frames names old 0) (state names old b))
+    → StepsTo old new (λ names s b. configuration (signals (value_of_word names c) (value_of_word names mark) t.level (dynamic_context names old t.around)) (frames names old 0) (state names old b))
+    → StepsTo old new (λ names s b. signal_step s (value_of_word names c) (value_of_word names mark) (at names old t) (frames names old 0) (state names old b))
 condition_signals old new c mark t h s =
-    same_moment old new _ _ s (λ names b g.
-    ap (λ k. moment (signals (value_of_word names c) (value_of_word names mark) k (surroundings names old t.around)) (frames names old 0) (state names old b)) (level_at names old t)
-    ∙ ap (λ k. moment (signals (value_of_word names c) (value_of_word names mark) (at names old t).level k) (frames names old 0) (state names old b)) (around_at names old t)
-    ∙ sym (ap (λ k. if k then moment (signals (value_of_word names c) (value_of_word names mark) (at names old t).level (at names old t).around) (frames names old 0) (state names old b)
+    same_configuration old new _ _ s (λ names b g.
+    ap (λ k. configuration (signals (value_of_word names c) (value_of_word names mark) k (dynamic_context names old t.around)) (frames names old 0) (state names old b)) (level_at names old t)
+    ∙ ap (λ k. configuration (signals (value_of_word names c) (value_of_word names mark) (at names old t).level k) (frames names old 0) (state names old b)) (around_at names old t)
+    ∙ sym (ap (λ k. if k then configuration (signals (value_of_word names c) (value_of_word names mark) (at names old t).level (at names old t).around) (frames names old 0) (state names old b)
     else signal_domain (setting_of names old.given) (value_of_word names c) serious_condition_class (at names old t).level (at names old t).around (frames names old 0) (state names old b)) (h names b g)))
 
 pub no_condition_signals : (old new : Machine) (c mark : Word) (t : Situation)
     → ((names : List (List ℕ)) (b : Beside) → IsGiven names old.given → is_condition (tables old.given.program.now) (state names old b).state (value_of_word names c) ≡ false)
-    → Steps old new (λ names s b. signal_domain s (value_of_word names c) serious_condition_class t.level (surroundings names old t.around) (frames names old 0) (state names old b))
-    → Steps old new (λ names s b. signal_step s (value_of_word names c) (value_of_word names mark) (at names old t) (frames names old 0) (state names old b))
+    → StepsTo old new (λ names s b. signal_domain s (value_of_word names c) serious_condition_class t.level (dynamic_context names old t.around) (frames names old 0) (state names old b))
+    → StepsTo old new (λ names s b. signal_step s (value_of_word names c) (value_of_word names mark) (at names old t) (frames names old 0) (state names old b))
 no_condition_signals old new c mark t h s =
-    same_moment old new _ _ s (λ names b g.
-    ap (λ k. signal_domain (setting_of names old.given) (value_of_word names c) serious_condition_class k (surroundings names old t.around) (frames names old 0) (state names old b)) (level_at names old t)
+    same_configuration old new _ _ s (λ names b g.
+    ap (λ k. signal_domain (setting_of names old.given) (value_of_word names c) serious_condition_class k (dynamic_context names old t.around) (frames names old 0) (state names old b)) (level_at names old t)
     ∙ ap (λ k. signal_domain (setting_of names old.given) (value_of_word names c) serious_condition_class (at names old t).level k (frames names old 0) (state names old b)) (around_at names old t)
-    ∙ sym (ap (λ k. if k then moment (signals (value_of_word names c) (value_of_word names mark) (at names old t).level (at names old t).around) (frames names old 0) (state names old b)
+    ∙ sym (ap (λ k. if k then configuration (signals (value_of_word names c) (value_of_word names mark) (at names old t).level (at names old t).around) (frames names old 0) (state names old b)
     else signal_domain (setting_of names old.given) (value_of_word names c) serious_condition_class (at names old t).level (at names old t).around (frames names old 0) (state names old b)) (h names b g)))
 
 -- the situation under a handler
@@ -210,22 +210,22 @@ handler_inside names a ws t w link e =
 
 pub handler_begins : (old new : Machine) (w : Word) (body : FlatForm) (t inside : Situation) (link : ℕ) → ((names : List (List ℕ)) (b : Beside) → is_function (fetch (state names old b).state (value_of_word names w)) ≡ true)
     → link ≡ suc (length old.frames.items) → inside ≡ record t { around = record t.around { handlers = link } }
-    → Steps old new (λ names s b. moment (evaluate body (situation_in names old.current (frame.Handles w t.around.handlers ∷ reverse old.frames.items) inside))
+    → StepsTo old new (λ names s b. configuration (evaluate body (situation_in names old.current (frame.Handles w t.around.handlers ∷ reverse old.frames.items) inside))
     (taken names old (frame.Handles w t.around.handlers) ∷ below names old (frame.Handles w t.around.handlers)) (state names old b))
-    → Steps old new (λ names s b. handler_step s (value_of_word names w) body (at names old t) (frames names old 0) (state names old b))
+    → StepsTo old new (λ names s b. handler_step s (value_of_word names w) body (at names old t) (frames names old 0) (state names old b))
 handler_begins old new w body t inside link h l i s =
-    same_moment old new _ _ s (λ names b g.
-    ap (λ q. moment (evaluate body (situation_in names old.current (frame.Handles w t.around.handlers ∷ reverse old.frames.items) q)) (unbinds ∷ frames names old 0) (state names old b)) i
-    ∙ ap (λ q. moment (evaluate body q) (unbinds ∷ frames names old 0) (state names old b)) (handler_inside names old.current (reverse old.frames.items) t w link (l ∙ ap suc (sym (length-reverse old.frames.items))))
-    ∙ sym (ap (λ k. if k then moment (evaluate body (record (at names old t) { around = record (at names old t).around { handlers = value_of_word names w ∷ (at names old t).around.handlers } })) (unbinds ∷ frames names old 0) (state names old b)
+    same_configuration old new _ _ s (λ names b g.
+    ap (λ q. configuration (evaluate body (situation_in names old.current (frame.Handles w t.around.handlers ∷ reverse old.frames.items) q)) (unbinds ∷ frames names old 0) (state names old b)) i
+    ∙ ap (λ q. configuration (evaluate body q) (unbinds ∷ frames names old 0) (state names old b)) (handler_inside names old.current (reverse old.frames.items) t w link (l ∙ ap suc (sym (length-reverse old.frames.items))))
+    ∙ sym (ap (λ k. if k then configuration (evaluate body (record (at names old t) { around = record (at names old t).around { handlers = value_of_word names w ∷ (at names old t).around.handlers } })) (unbinds ∷ frames names old 0) (state names old b)
     else signal_domain (setting_of names old.given) (value_of_word names w) function_class (at names old t).level (at names old t).around (frames names old 0) (state names old b)) (h names b)))
 
 pub no_handler_begins : (old new : Machine) (w : Word) (body : FlatForm) (t : Situation) → ((names : List (List ℕ)) (b : Beside) → is_function (fetch (state names old b).state (value_of_word names w)) ≡ false)
-    → Steps old new (λ names s b. signal_domain s (value_of_word names w) function_class t.level (surroundings names old t.around) (frames names old 0) (state names old b))
-    → Steps old new (λ names s b. handler_step s (value_of_word names w) body (at names old t) (frames names old 0) (state names old b))
+    → StepsTo old new (λ names s b. signal_domain s (value_of_word names w) function_class t.level (dynamic_context names old t.around) (frames names old 0) (state names old b))
+    → StepsTo old new (λ names s b. handler_step s (value_of_word names w) body (at names old t) (frames names old 0) (state names old b))
 no_handler_begins old new w body t h s =
-    same_moment old new _ _ s (λ names b g.
-    ap (λ k. signal_domain (setting_of names old.given) (value_of_word names w) function_class k (surroundings names old t.around) (frames names old 0) (state names old b)) (level_at names old t)
+    same_configuration old new _ _ s (λ names b g.
+    ap (λ k. signal_domain (setting_of names old.given) (value_of_word names w) function_class k (dynamic_context names old t.around) (frames names old 0) (state names old b)) (level_at names old t)
     ∙ ap (λ k. signal_domain (setting_of names old.given) (value_of_word names w) function_class (at names old t).level k (frames names old 0) (state names old b)) (around_at names old t)
-    ∙ sym (ap (λ k. if k then moment (evaluate body (record (at names old t) { around = record (at names old t).around { handlers = value_of_word names w ∷ (at names old t).around.handlers } })) (unbinds ∷ frames names old 0) (state names old b)
+    ∙ sym (ap (λ k. if k then configuration (evaluate body (record (at names old t) { around = record (at names old t).around { handlers = value_of_word names w ∷ (at names old t).around.handlers } })) (unbinds ∷ frames names old 0) (state names old b)
     else signal_domain (setting_of names old.given) (value_of_word names w) function_class (at names old t).level (at names old t).around (frames names old 0) (state names old b)) (h names b)))

@@ -1,4 +1,4 @@
-pub mod CellWords
+pub mod BoxWords
 pub mod Listed
 pub mod MoreSlots
 pub mod Entries

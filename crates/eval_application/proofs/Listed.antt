@@ -15,7 +15,7 @@ use Rattle.eval_store.specs.View.{limit_of}
 use Rattle.eval_state.specs.declared.machine.Machine.{Machine}
 use Rattle.eval_state.specs.Frames.{last_of}
 use Rattle.eval_state.specs.View.{top, state}
-use Rattle.eval_state.specs.Doing.{Gives, Fills, Does}
+use Rattle.eval_state.specs.Doing.{Gives, Fills, GivesWord}
 use Rattle.eval_state.proofs.Doing.{alike, given_then, nothing_done}
 
 -- the last ones, and one more
@@ -41,8 +41,8 @@ listed_full limit (u ∷ us) vs z y asked left h =
 pub one_listed : (old now new : Machine) (n i : ℕ) (x tail : Word) (r : Option Word) → n < length old.operands.items → i ≡ length old.operands.items - 1 - n
     → slice_get now.operands.items i ≡ Some x
     → Gives old now (λ names z. listed (limit_of old.given.limit) (top names old n) z) tail
-    → Does now new (λ names z. made (limit_of now.given.limit) 2 0 (cons (value_of_word names x) (value_of_word names tail)) z) r
-    → Does old new (λ names z. listed (limit_of old.given.limit) (top names old (n + 1)) z) r
+    → GivesWord now new (λ names z. made (limit_of now.given.limit) 2 0 (cons (value_of_word names x) (value_of_word names tail)) z) r
+    → GivesWord old new (λ names z. listed (limit_of old.given.limit) (top names old (n + 1)) z) r
 one_listed old now new n i x tail r h j e a d =
     let there : slice_get old.operands.items (length old.operands.items - 1 - n) ≡ Some x =
     ap (slice_get old.operands.items) (sym j) ∙ sym (ap (λ (m : Machine). slice_get m.operands.items i) a.same) ∙ e in

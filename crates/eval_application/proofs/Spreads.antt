@@ -6,13 +6,13 @@ use Rattle.std.proofs.lemmas.Bool.{cases_eq}
 use Rattle.std.proofs.lemmas.Bool.Decides.{nat_tests}
 use Rattle.lang_meaning.specs.Values.{Value, object}
 use Rattle.lang_meaning.specs.Objects.{cons, list_class, function_class}
-use Rattle.lang_meaning.specs.State.{State, Surroundings}
+use Rattle.lang_meaning.specs.State.{State, DynamicContext}
 use Rattle.lang_meaning.specs.Lookup.{is_in}
 use Rattle.lang_meaning.specs.Classes.{fetch}
 use Rattle.lang_meaning.specs.Meaning.{Spread, spread_at, spread}
 use Rattle.lang_meaning.specs.Primitives.{is_function}
 use Rattle.flat_language.specs.FlatState.{FlatState, charged}
-use Rattle.eval_machine.specs.Moment.{Setting, Frame, Moment}
+use Rattle.eval_machine.specs.Configuration.{Setting, ContinuationFrame, Configuration}
 use Rattle.eval_machine.specs.Applications.{apply_value, signal_domain}
 use Rattle.eval_machine.specs.Step.{apply_step}
 use Rattle.eval_store.specs.declared.word.Word.{Word}
@@ -26,18 +26,18 @@ use Rattle.eval_state.specs.declared.situation.Situation.{Situation}
 use Rattle.eval_state.specs.declared.machine.Machine.{Machine}
 use Rattle.eval_state.specs.Frames.{frame_slots}
 use Rattle.eval_state.specs.Operands.{IsPushed, IsDropped}
-use Rattle.eval_state.specs.View.{Steps, IsCharged, setting_of, at, top, frames, state, surroundings}
+use Rattle.eval_state.specs.View.{StepsTo, IsCharged, setting_of, at, top, frames, state, dynamic_context}
 use Rattle.eval_application.specs.declared.spreading.Spread.{Spread as Pushed}
 use Rattle.eval_application.specs.Methods.{ArePushed}
-use Rattle.eval_application.specs.Spreading.{GoesOn, EndsSo, IsSpread, behind}
+use Rattle.eval_application.specs.Spreading.{ListGoesOn, ListEnds, IsSpread, behind}
 use Rattle.eval_state.proofs.Doing.{then_dropped}
 use Rattle.eval_state.proofs.Going.{after_store}
-use Rattle.eval_state.proofs.Stepping.{same_moment}
+use Rattle.eval_state.proofs.Stepping.{same_configuration}
 use Rattle.eval_application.proofs.Above.{then_arguments}
 use Rattle.eval_application.proofs.Situations.{level_at, around_at}
 
 -- what a list goes on with
-pub cons_on : (s : Store) (w : Word) (o : Kept) (n : ℕ) (car cdr : Word) → w ≡ word.Object n → IsFetched s (word.Object n) (Some o) → o ≡ made.Cons car cdr → GoesOn s w n car cdr
+pub cons_on : (s : Store) (w : Word) (o : Kept) (n : ℕ) (car cdr : Word) → w ≡ word.Object n → IsFetched s (word.Object n) (Some o) → o ≡ made.Cons car cdr → ListGoesOn s w n car cdr
 cons_on s w o n car cdr e x h = record {
   is_object = e;
   there = λ names b. ap (λ u. fetch (state_of names s b) (value_of_word names u)) e ∙ x.object names b ∙ ap (λ p. Some (object_of names p)) h;
@@ -49,7 +49,7 @@ else_ends : (names : List (List ℕ)) (n : ℕ) (o : Kept) → ((a : Word) (d : 
 else_ends names n (made.Cons a d) f others seen = absurd (f a d refl)
 else_ends names n o f others seen = refl
 
-pub no_cons_ends : (s : Store) (w : Word) (o : Kept) (n : ℕ) → w ≡ word.Object n → IsFetched s (word.Object n) (Some o) → ((a : Word) (d : Word) → o ≡ made.Cons a d → ⊥) → EndsSo s w false
+pub no_cons_ends : (s : Store) (w : Word) (o : Kept) (n : ℕ) → w ≡ word.Object n → IsFetched s (word.Object n) (Some o) → ((a : Word) (d : Word) → o ≡ made.Cons a d → ⊥) → ListEnds s w false
 no_cons_ends s w o n e x f = record {
   ends = λ names b others seen.
       ap (λ u. spread_at others seen (value_of_word names u) (fetch (state_of names s b) (value_of_word names u))) e
@@ -57,19 +57,19 @@ no_cons_ends s w o n e x f = record {
       ∙ else_ends names n o f others seen;
 }
 
-pub nothing_ends : (s : Store) (w : Word) (n : ℕ) → w ≡ word.Object n → IsFetched s (word.Object n) None → EndsSo s w false
+pub nothing_ends : (s : Store) (w : Word) (n : ℕ) → w ≡ word.Object n → IsFetched s (word.Object n) None → ListEnds s w false
 nothing_ends s w n e x = record {
   ends = λ names b others seen.
       ap (λ u. spread_at others seen (value_of_word names u) (fetch (state_of names s b) (value_of_word names u))) e
       ∙ ap (λ r. spread_at others seen (object n) r) (x.object names b);
 }
 
-pub atom_ends : (s : Store) (w : Word) → w ≢ word.Nil → ((n : ℕ) → w ≡ word.Object n → ⊥) → EndsSo s w false
+pub atom_ends : (s : Store) (w : Word) → w ≢ word.Nil → ((n : ℕ) → w ≡ word.Object n → ⊥) → ListEnds s w false
 atom_ends s word.Nil f g = absurd (f refl)
 atom_ends s (word.Object n) f g = absurd (g n refl)
 atom_ends s w f g = record { ends = λ names b others seen. refl }
 
-pub nil_ends : (s : Store) → EndsSo s word.Nil true
+pub nil_ends : (s : Store) → ListEnds s word.Nil true
 nil_ends s = record { ends = λ names b others seen. refl }
 
 -- how far the list has come
@@ -123,11 +123,11 @@ in_more : (k n : ℕ) (m : Bool) (seen : List ℕ) → m ≡ is_in k seen → co
 in_more k n m seen h =
     ap (λ t. cond t true m) (swapped k n) ∙ elim (k == n) as (λ t. cond t true m ≡ (t || is_in k seen)) [ true ↦ refl | false ↦ h ]
 
-pub one_spread : (old now new : Machine) (list left car cdr : Word) (count n : ℕ) (member after : ℕ → Bool) → Spreading old now list left count member → GoesOn now.store left n car cdr
+pub one_spread : (old now new : Machine) (list left car cdr : Word) (count n : ℕ) (member after : ℕ → Bool) → Spreading old now list left count member → ListGoesOn now.store left n car cdr
     → member n ≡ false → IsPushed now new car → ((k : ℕ) → after k ≡ cond (n == k) true (member k))
     → Spreading old new list cdr (count + 1) after
 one_spread old now new list left car cdr count n member after h g f p u =
-    let here : GoesOn old.store left n car cdr = subst (λ s. GoesOn s left n car cdr) (same_store old now h.more h.pushed) g in
+    let here : ListGoesOn old.store left n car cdr = subst (λ s. ListGoesOn s left n car cdr) (same_store old now h.more h.pushed) g in
     record {
       more = h.more ++ car ∷ [];
       seen = n ∷ h.seen;
@@ -170,14 +170,14 @@ module _ (old now : Machine) (list left : Word) (count limit : ℕ) (member : �
         ∙ ap (λ xs. record { elements = xs; proper = proper }) (append-nil (values_of names h.more));
   }
 
-  pub spread_ended : (proper : Bool) → count < limit → EndsSo now.store left proper → IsSpread old now list (record { count = count; proper = proper })
+  pub spread_ended : (proper : Bool) → count < limit → ListEnds now.store left proper → IsSpread old now list (record { count = count; proper = proper })
   spread_ended proper k e =
-      let here : EndsSo old.store left proper = subst (λ s. EndsSo s left proper) (same_store old now h.more h.pushed) e in
+      let here : ListEnds old.store left proper = subst (λ s. ListEnds s left proper) (same_store old now h.more h.pushed) e in
       stops proper k (λ names b fuel. here.ends names (record b { frame = frame_slots names old.current old.slots.items }) (λ i d. spread fuel (state names old b).state (i ∷ h.seen) d) h.seen)
 
-  pub spread_repeated : (n : ℕ) (car cdr : Word) → count < limit → GoesOn now.store left n car cdr → member n ≡ true → IsSpread old now list (record { count = count; proper = false })
+  pub spread_repeated : (n : ℕ) (car cdr : Word) → count < limit → ListGoesOn now.store left n car cdr → member n ≡ true → IsSpread old now list (record { count = count; proper = false })
   spread_repeated n car cdr k g f =
-      let here : GoesOn old.store left n car cdr = subst (λ s. GoesOn s left n car cdr) (same_store old now h.more h.pushed) g in
+      let here : ListGoesOn old.store left n car cdr = subst (λ s. ListGoesOn s left n car cdr) (same_store old now h.more h.pushed) g in
       stops false k (λ names b fuel. spread_again (state names old b).state fuel n h.seen (value_of_word names left) (value_of_word names car) (value_of_word names cdr)
       (ap (value_of_word names) here.is_object) (here.there names (record b { frame = frame_slots names old.current old.slots.items })) (sym (h.members n) ∙ f))
 
@@ -195,24 +195,24 @@ module _ (old now : Machine) (list left : Word) (count limit : ℕ) (member : �
   }
 
 -- a function is applied to the elements
-abbrev pub on_elements : Setting → Value → Value → Spread → (level : ℕ) → Surroundings → List Frame → FlatState → Moment
+abbrev pub on_elements : Setting → Value → Value → Spread → (level : ℕ) → DynamicContext → List ContinuationFrame → FlatState → Configuration
 on_elements s f list x level around frames z =
     if x.proper then apply_value s f x.elements level around frames (charged (length x.elements) z)
     else signal_domain s list list_class level around frames (charged (length x.elements) z)
 
 module _ (names : List (List ℕ)) (s : Setting) (b : Beside) (old : Machine) (f list : Word) (t : Situation) where
   -- what is applied to a list
-  abbrev pub list_applied_at : ℕ → Surroundings → Bool → Spread → Moment
+  abbrev pub list_applied_at : ℕ → DynamicContext → Bool → Spread → Configuration
   list_applied_at level around is x =
       if is then on_elements s (value_of_word names f) (value_of_word names list) x level around (frames names old 0) (state names old b)
       else signal_domain s (value_of_word names f) function_class level around (frames names old 0) (state names old b)
 
   is_applied : (is : Bool) (x : Spread) → is_function (fetch (state names old b).state (value_of_word names f)) ≡ is
       → spread (length (state names old b).state.store + 1) (state names old b).state [] (value_of_word names list) ≡ x
-      → list_applied_at t.level (surroundings names old t.around) is x
+      → list_applied_at t.level (dynamic_context names old t.around) is x
       ≡ apply_step s (value_of_word names f) (value_of_word names list) (at names old t) (frames names old 0) (state names old b)
   is_applied is x e h =
-      ap (λ k. list_applied_at k (surroundings names old t.around) is x) (level_at names old t)
+      ap (λ k. list_applied_at k (dynamic_context names old t.around) is x) (level_at names old t)
       ∙ ap (λ k. list_applied_at (at names old t).level k is x) (around_at names old t)
       ∙ ap (λ k. list_applied_at (at names old t).level (at names old t).around is k) (sym h)
       ∙ ap (λ k. list_applied_at (at names old t).level (at names old t).around k (spread (length (state names old b).state.store + 1) (state names old b).state [] (value_of_word names list))) (sym e)
@@ -223,37 +223,37 @@ so_many_elements names ws n e = e ∙ sym (length-map ws (value_of_word names))
 
 pub list_applied : (old mid counted new : Machine) (f list : Word) (x : Pushed) (t : Situation) → ((names : List (List ℕ)) (b : Beside) → is_function (fetch (state names old b).state (value_of_word names f)) ≡ true)
     → IsSpread old mid list x → x.proper ≡ true → IsCharged mid counted x.count
-    → Steps counted new (λ names s b. apply_value s (value_of_word names f) (top names counted x.count) t.level (surroundings names counted t.around) (frames names counted x.count) (state names counted b))
-    → Steps old new (λ names s b. apply_step s (value_of_word names f) (value_of_word names list) (at names old t) (frames names old 0) (state names old b))
+    → StepsTo counted new (λ names s b. apply_value s (value_of_word names f) (top names counted x.count) t.level (dynamic_context names counted t.around) (frames names counted x.count) (state names counted b))
+    → StepsTo old new (λ names s b. apply_step s (value_of_word names f) (value_of_word names list) (at names old t) (frames names old 0) (state names old b))
 list_applied old mid counted new f list x t is p proper k s =
-    let on : Steps mid new (λ names s b. apply_value s (value_of_word names f) (top names mid x.count) t.level (surroundings names mid t.around) (frames names mid x.count) (charged x.count (state names mid b))) =
-    after_store mid counted new (λ m names s z. apply_value s (value_of_word names f) (top names m x.count) t.level (surroundings names m t.around) (frames names m x.count) z) (λ names z. charged x.count z) k.same k.state_is s in
-    let all : Steps old new (λ names s b. apply_value s (value_of_word names f) (values_of names p.more) t.level (surroundings names old t.around) (frames names old 0) (charged x.count (state names old b))) =
+    let on : StepsTo mid new (λ names s b. apply_value s (value_of_word names f) (top names mid x.count) t.level (dynamic_context names mid t.around) (frames names mid x.count) (charged x.count (state names mid b))) =
+    after_store mid counted new (λ m names s z. apply_value s (value_of_word names f) (top names m x.count) t.level (dynamic_context names m t.around) (frames names m x.count) z) (λ names z. charged x.count z) k.same k.state_is s in
+    let all : StepsTo old new (λ names s b. apply_value s (value_of_word names f) (values_of names p.more) t.level (dynamic_context names old t.around) (frames names old 0) (charged x.count (state names old b))) =
     then_arguments old mid new p.more x.count t.around (λ names s vs around frames z. apply_value s (value_of_word names f) vs t.level around frames (charged x.count z)) p.pushed p.count_is on in
-    same_moment old new _ _ all (λ names b g.
-    ap (λ n. apply_value (setting_of names old.given) (value_of_word names f) (values_of names p.more) t.level (surroundings names old t.around) (frames names old 0) (charged n (state names old b))) (so_many_elements names p.more x.count p.count_is)
-    ∙ ap (λ q. list_applied_at names (setting_of names old.given) b old f list t t.level (surroundings names old t.around) true (record { elements = values_of names p.more; proper = q })) (sym proper)
+    same_configuration old new _ _ all (λ names b g.
+    ap (λ n. apply_value (setting_of names old.given) (value_of_word names f) (values_of names p.more) t.level (dynamic_context names old t.around) (frames names old 0) (charged n (state names old b))) (so_many_elements names p.more x.count p.count_is)
+    ∙ ap (λ q. list_applied_at names (setting_of names old.given) b old f list t t.level (dynamic_context names old t.around) true (record { elements = values_of names p.more; proper = q })) (sym proper)
     ∙ is_applied names (setting_of names old.given) b old f list t true (record { elements = values_of names p.more; proper = x.proper }) (is names b) (p.spread_is names b))
 
 pub list_not_proper : (old mid counted dropped new : Machine) (f list : Word) (x : Pushed) (t : Situation) → ((names : List (List ℕ)) (b : Beside) → is_function (fetch (state names old b).state (value_of_word names f)) ≡ true)
     → IsSpread old mid list x → x.proper ≡ false → IsCharged mid counted x.count → IsDropped counted dropped x.count
-    → Steps dropped new (λ names s b. signal_domain s (value_of_word names list) list_class t.level (surroundings names dropped t.around) (frames names dropped 0) (state names dropped b))
-    → Steps old new (λ names s b. apply_step s (value_of_word names f) (value_of_word names list) (at names old t) (frames names old 0) (state names old b))
+    → StepsTo dropped new (λ names s b. signal_domain s (value_of_word names list) list_class t.level (dynamic_context names dropped t.around) (frames names dropped 0) (state names dropped b))
+    → StepsTo old new (λ names s b. apply_step s (value_of_word names f) (value_of_word names list) (at names old t) (frames names old 0) (state names old b))
 list_not_proper old mid counted dropped new f list x t is p proper k d s =
-    let fewer : Steps counted new (λ names s b. signal_domain s (value_of_word names list) list_class t.level (surroundings names counted t.around) (frames names counted x.count) (state names counted b)) =
+    let fewer : StepsTo counted new (λ names s b. signal_domain s (value_of_word names list) list_class t.level (dynamic_context names counted t.around) (frames names counted x.count) (state names counted b)) =
     then_dropped counted dropped new x.count t.around (λ names s around frames z. signal_domain s (value_of_word names list) list_class t.level around frames z) d s in
-    let on : Steps mid new (λ names s b. signal_domain s (value_of_word names list) list_class t.level (surroundings names mid t.around) (frames names mid x.count) (charged x.count (state names mid b))) =
-    after_store mid counted new (λ m names s z. signal_domain s (value_of_word names list) list_class t.level (surroundings names m t.around) (frames names m x.count) z) (λ names z. charged x.count z) k.same k.state_is fewer in
-    let all : Steps old new (λ names s b. signal_domain s (value_of_word names list) list_class t.level (surroundings names old t.around) (frames names old 0) (charged x.count (state names old b))) =
+    let on : StepsTo mid new (λ names s b. signal_domain s (value_of_word names list) list_class t.level (dynamic_context names mid t.around) (frames names mid x.count) (charged x.count (state names mid b))) =
+    after_store mid counted new (λ m names s z. signal_domain s (value_of_word names list) list_class t.level (dynamic_context names m t.around) (frames names m x.count) z) (λ names z. charged x.count z) k.same k.state_is fewer in
+    let all : StepsTo old new (λ names s b. signal_domain s (value_of_word names list) list_class t.level (dynamic_context names old t.around) (frames names old 0) (charged x.count (state names old b))) =
     then_arguments old mid new p.more x.count t.around (λ names s vs around frames z. signal_domain s (value_of_word names list) list_class t.level around frames (charged x.count z)) p.pushed p.count_is on in
-    same_moment old new _ _ all (λ names b g.
-    ap (λ n. signal_domain (setting_of names old.given) (value_of_word names list) list_class t.level (surroundings names old t.around) (frames names old 0) (charged n (state names old b))) (so_many_elements names p.more x.count p.count_is)
-    ∙ ap (λ q. list_applied_at names (setting_of names old.given) b old f list t t.level (surroundings names old t.around) true (record { elements = values_of names p.more; proper = q })) (sym proper)
+    same_configuration old new _ _ all (λ names b g.
+    ap (λ n. signal_domain (setting_of names old.given) (value_of_word names list) list_class t.level (dynamic_context names old t.around) (frames names old 0) (charged n (state names old b))) (so_many_elements names p.more x.count p.count_is)
+    ∙ ap (λ q. list_applied_at names (setting_of names old.given) b old f list t t.level (dynamic_context names old t.around) true (record { elements = values_of names p.more; proper = q })) (sym proper)
     ∙ is_applied names (setting_of names old.given) b old f list t true (record { elements = values_of names p.more; proper = x.proper }) (is names b) (p.spread_is names b))
 
 pub no_function_applied : (old new : Machine) (f list : Word) (t : Situation) → ((names : List (List ℕ)) (b : Beside) → is_function (fetch (state names old b).state (value_of_word names f)) ≡ false)
-    → Steps old new (λ names s b. signal_domain s (value_of_word names f) function_class t.level (surroundings names old t.around) (frames names old 0) (state names old b))
-    → Steps old new (λ names s b. apply_step s (value_of_word names f) (value_of_word names list) (at names old t) (frames names old 0) (state names old b))
+    → StepsTo old new (λ names s b. signal_domain s (value_of_word names f) function_class t.level (dynamic_context names old t.around) (frames names old 0) (state names old b))
+    → StepsTo old new (λ names s b. apply_step s (value_of_word names f) (value_of_word names list) (at names old t) (frames names old 0) (state names old b))
 no_function_applied old new f list t is s =
-    same_moment old new _ _ s (λ names b g.
+    same_configuration old new _ _ s (λ names b g.
     is_applied names (setting_of names old.given) b old f list t false (spread (length (state names old b).state.store + 1) (state names old b).state [] (value_of_word names list)) (is names b) refl)

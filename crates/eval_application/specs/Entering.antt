@@ -2,20 +2,20 @@
 use Rattle.std.specs.Prelude.{◌≡◌, ℕ, suc, ◌+◌, List, [], ◌∷◌, ◌++◌, map, length, Bool, true, false, Option, Some, None, is_some, if◌then◌else◌}
 use Rattle.lang_meaning.specs.Values.{Value, nil}
 use Rattle.lang_meaning.specs.Objects.{Called, program_error_class}
-use Rattle.lang_meaning.specs.State.{Surroundings}
+use Rattle.lang_meaning.specs.State.{DynamicContext}
 use Rattle.lang_meaning.specs.Signals.{takes}
 use Rattle.flat_language.specs.declared.program.FlatProcedure.{FlatProcedure}
 use Rattle.flat_language.specs.FlatNodes.{homes}
 use Rattle.flat_language.specs.FlatState.{Captured, FlatState, gives, charged}
-use Rattle.eval_machine.specs.Moment.{Setting, Step, restores_stack, then_on}
-use Rattle.eval_machine.specs.Applications.{requested, rest_listed, variable_values, recorded, celled, begin_body, signal_class}
+use Rattle.eval_machine.specs.Configuration.{Setting, Transition, restores_stack, then_on}
+use Rattle.eval_machine.specs.Applications.{requested, rest_listed, variable_values, recorded, boxes_requested, begin_body, signal_class}
 use Rattle.eval_store.specs.Words.{captured_of, called_or_none}
 use Rattle.eval_store.specs.View.{Beside, limit_of}
-use Rattle.eval_state.specs.declared.frame.Frame.TheVariants.{RestoresStack}
+use Rattle.eval_state.specs.declared.frame.ContinuationFrame.TheVariants.{RestoresStack}
 use Rattle.eval_state.specs.declared.situation.Activation.{Activation}
 use Rattle.eval_state.specs.declared.machine.Machine.{Machine}
 use Rattle.eval_application.specs.declared.entering.Entering.{Entering}
-use Rattle.eval_state.specs.View.{Steps, top, frames, state, surroundings}
+use Rattle.eval_state.specs.View.{StepsTo, top, frames, state, dynamic_context}
 use Rattle.eval_state.specs.Doing.{Fills}
 
 -- what is entered: a procedure, the words of the stack of its body, what its function captured and what its method was called with
@@ -26,34 +26,34 @@ pub record Entered : Type 0 where
   pub called : Option Called
 
 -- its body
-abbrev pub in_body : Setting → Entered → List Value → (level : ℕ) → Surroundings → Step
+abbrev pub in_body : Setting → Entered → List Value → (level : ℕ) → DynamicContext → Transition
 in_body s e ws k around frames z = begin_body s e.procedure e.captured e.called ws k around frames z
 
--- the cells of its variables; and then its body
-abbrev pub in_cells : Setting → Entered → List Value → (level : ℕ) → Surroundings → Step
-in_cells s e ws k around frames z =
-    then_on (celled s.limit (homes e.procedure) z) frames (λ none ready. in_body s e ws k around frames ready)
+-- the boxes of its variables; and then its body
+abbrev pub in_boxes : Setting → Entered → List Value → (level : ℕ) → DynamicContext → Transition
+in_boxes s e ws k around frames z =
+    then_on (boxes_requested s.limit (homes e.procedure) z) frames (λ none ready. in_body s e ws k around frames ready)
 
--- the words of a method's record, where it is kept; and then the cells
-abbrev pub in_record : Setting → Entered → List Value → (level : ℕ) → Surroundings → Step
+-- the words of a method's record, where it is kept; and then the boxes
+abbrev pub in_record : Setting → Entered → List Value → (level : ℕ) → DynamicContext → Transition
 in_record s e ws k around frames z =
     then_on (recorded s.limit e.called e.procedure.keeps_method z) frames (λ nothing noted.
-    in_cells s e ws k around frames noted)
+    in_boxes s e ws k around frames noted)
 
 -- the list of the rest; and then the record
-abbrev pub in_rest : Setting → Entered → List Value → (level : ℕ) → Surroundings → Step
+abbrev pub in_rest : Setting → Entered → List Value → (level : ℕ) → DynamicContext → Transition
 in_rest s e vs k around frames z =
     then_on (rest_listed s.limit (length e.procedure.required) (is_some e.procedure.rest) vs z) frames (λ tail gone.
     in_record s e (variable_values (length e.procedure.required) (is_some e.procedure.rest) vs tail) k around frames gone)
 
 -- the words of the stack; and then the rest
-abbrev pub in_words : Setting → Entered → List Value → (level : ℕ) → Surroundings → Step
+abbrev pub in_words : Setting → Entered → List Value → (level : ℕ) → DynamicContext → Transition
 in_words s e vs k around frames z =
     then_on (requested s.limit 0 (e.words + length vs) z) frames (λ ignored inner.
     in_rest s e vs k around (restores_stack z.state.stack ∷ frames) (charged (length vs) inner))
 
 -- the number of arguments is judged first
-abbrev pub entering : Setting → Entered → List Value → (level : ℕ) → Surroundings → Step
+abbrev pub entering : Setting → Entered → List Value → (level : ℕ) → DynamicContext → Transition
 entering s e vs k around frames z =
     if takes (length e.procedure.required) (is_some e.procedure.rest) (length vs) then in_words s e vs k around frames z
     else signal_class s program_error_class [] (suc k) around frames z
@@ -71,9 +71,9 @@ entered_of names e = record {
 }
 
 -- the machine has done what a stage does with the last operands, so many as that
-abbrev pub Enters : Machine → Machine → Entering → ℕ → (Setting → Entered → List Value → (level : ℕ) → Surroundings → Step) → Type 0
-Enters old new e count stage = Steps old new (λ names s b.
-    stage s (entered_of names e) (top names old count) e.level (surroundings names old e.around) (frames names old count) (state names old b))
+abbrev pub Enters : Machine → Machine → Entering → ℕ → (Setting → Entered → List Value → (level : ℕ) → DynamicContext → Transition) → Type 0
+Enters old new e count stage = StepsTo old new (λ names s b.
+    stage s (entered_of names e) (top names old count) e.level (dynamic_context names old e.around) (frames names old count) (state names old b))
 
 -- an application has words of the stack, which are given back when it is left, and units were counted
 pub record HasStack (old new : Machine) (words units : ℕ) : Type 0 where

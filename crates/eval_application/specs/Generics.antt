@@ -4,10 +4,10 @@ use Rattle.lang_meaning.specs.declared.program.ProgramRows.{ProgramRows}
 use Rattle.lang_meaning.specs.declared.program.GenericRow.{GenericRow}
 use Rattle.lang_meaning.specs.Values.{Value}
 use Rattle.lang_meaning.specs.Objects.{Chain}
-use Rattle.lang_meaning.specs.State.{Surroundings}
+use Rattle.lang_meaning.specs.State.{DynamicContext}
 use Rattle.lang_meaning.specs.Classes.{chain, class_of}
 use Rattle.flat_language.specs.FlatState.{charged}
-use Rattle.eval_machine.specs.Moment.{Setting, Step, restores_stack, then_on, descend}
+use Rattle.eval_machine.specs.Configuration.{Setting, Transition, restores_stack, then_on, descend}
 use Rattle.eval_machine.specs.Applications.{requested, run_chain}
 use Rattle.lang_dispatch.specs.declared.chain.Chain.{Chain as Kept}
 use Rattle.lang_dispatch.specs.Chains.{seen}
@@ -40,7 +40,7 @@ IsChainFor program g cs None = chain program g cs ≡ None
 IsChainFor program g cs (Some c) = chain program g cs ≡ Some (seen c)
 
 -- a chain runs one level below, with words of the stack
-abbrev pub chain_begins : Setting → Chain → List Value → (level : ℕ) → Surroundings → Step
+abbrev pub chain_begins : Setting → Chain → List Value → (level : ℕ) → DynamicContext → Transition
 chain_begins s c vs level around =
     descend level (λ k frames z.
     then_on (requested s.limit 0 (16 + length vs) z) frames (λ ignored inner.

@@ -2,13 +2,13 @@
 use Rattle.std.specs.Prelude.{◌≡◌, ℕ, suc, List, [], ◌∷◌, length, Option, Some, None, reverse}
 use Rattle.flat_language.specs.FlatState.{FlatState, exit_made}
 use Rattle.flat_language.specs.FlatSignals.{marked}
-use Rattle.eval_machine.specs.Moment.{Setting, Moment, awaits, handler_return}
+use Rattle.eval_machine.specs.Configuration.{Setting, Configuration, awaits, handler_return}
 use Rattle.eval_machine.specs.Applications.{apply_value}
 use Rattle.eval_store.specs.declared.word.Word.{Word}
 use Rattle.eval_store.specs.Words.{value_of_word}
 use Rattle.eval_store.specs.View.{Beside}
-use Rattle.eval_state.specs.declared.frame.Frame.{Frame}
-use Rattle.eval_state.specs.declared.situation.Around.{Around}
+use Rattle.eval_state.specs.declared.frame.ContinuationFrame.{ContinuationFrame}
+use Rattle.eval_state.specs.declared.situation.DynamicLinks.{DynamicLinks}
 use Rattle.eval_state.specs.declared.machine.Machine.{Machine}
 use Rattle.eval_state.specs.Chains.{chained}
 use Rattle.eval_state.specs.Frames.{around_in, handler_link}
@@ -35,11 +35,11 @@ IsInnermost m link (Some h) = IsHandled m link h
 IsInnermost m link None = IsUnhandled m link
 
 -- what surrounds a handler, above the frame of its signal
-abbrev pub around_handler : Machine → Handler → Around → Around
+abbrev pub around_handler : Machine → Handler → DynamicLinks → DynamicLinks
 around_handler m h a = record a { exits = suc (length m.frames.items); handlers = h.outside }
 
 -- a handler is applied to a condition, above the frame of its signal
-abbrev pub handled_by : List (List ℕ) → Machine → Frame → Handler → (condition : Word) → (level : ℕ) → Around → Setting → FlatState → Moment
+abbrev pub handled_by : List (List ℕ) → Machine → ContinuationFrame → Handler → (condition : Word) → (level : ℕ) → DynamicLinks → Setting → FlatState → Configuration
 handled_by names m w h condition level a s z =
     let within = around_in names (w ∷ reverse m.frames.items) (around_handler m h a) in
     apply_value s (value_of_word names h.word) (value_of_word names condition ∷ []) level within

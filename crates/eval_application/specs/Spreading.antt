@@ -11,25 +11,25 @@ use Rattle.eval_store.specs.Words.{value_of_word, values_of}
 use Rattle.eval_store.specs.View.{Beside, state_of}
 use Rattle.eval_state.specs.declared.machine.Machine.{Machine}
 use Rattle.eval_state.specs.View.{state}
-use Rattle.eval_application.specs.declared.spreading.Part.{Part}
-use Rattle.eval_application.specs.declared.spreading.Part.TheVariants.{Cons, End, NoList}
+use Rattle.eval_application.specs.declared.spreading.ListStep.{ListStep}
+use Rattle.eval_application.specs.declared.spreading.ListStep.TheVariants.{Cons, End, NoList}
 use Rattle.eval_application.specs.declared.spreading.Spread.{Spread as Pushed}
 use Rattle.eval_application.specs.Methods.{ArePushed}
 
 -- a list goes on with a cons
-pub record GoesOn (s : Store) (w : Word) (n : ℕ) (car cdr : Word) : Type 0 where
+pub record ListGoesOn (s : Store) (w : Word) (n : ℕ) (car cdr : Word) : Type 0 where
   pub is_object : w ≡ word.Object n
   pub there : (names : List (List ℕ)) (b : Beside) → fetch (state_of names s b) (value_of_word names w) ≡ Some (cons (value_of_word names car) (value_of_word names cdr))
 
 -- or it ends there
-pub record EndsSo (s : Store) (w : Word) (proper : Bool) : Type 0 where
+pub record ListEnds (s : Store) (w : Word) (proper : Bool) : Type 0 where
   pub ends : (names : List (List ℕ)) (b : Beside) (others : ℕ → Value → Spread) (seen : List ℕ)
       → spread_at others seen (value_of_word names w) (fetch (state_of names s b) (value_of_word names w)) ≡ record { elements = []; proper = proper }
 
-abbrev pub IsPart : Store → Word → Part → Type 0
-IsPart s w (Cons n car cdr) = GoesOn s w n car cdr
-IsPart s w End = EndsSo s w true
-IsPart s w NoList = EndsSo s w false
+abbrev pub IsListStep : Store → Word → ListStep → Type 0
+IsListStep s w (Cons n car cdr) = ListGoesOn s w n car cdr
+IsListStep s w End = ListEnds s w true
+IsListStep s w NoList = ListEnds s w false
 
 -- elements in front of others
 abbrev pub behind : List Value → Spread → Spread

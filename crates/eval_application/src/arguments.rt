@@ -3,7 +3,7 @@
 ghost use Rattle.std.specs.Prelude.{◌≤◌, IfOk, length};
 ghost use Rattle.eval_machine.specs.Applications.{listed};
 ghost use Rattle.eval_store.specs.View.{limit_of};
-ghost use Rattle.eval_state.specs.Doing.{Does};
+ghost use Rattle.eval_state.specs.Doing.{GivesWord};
 ghost use Rattle.eval_state.specs.View.{top};
 
 use crate::making::make_cons;
@@ -14,7 +14,7 @@ use eval_store::Word;
 /// A list of the last operands, so many as that, is made from its end. They stay.
 pub fn make_list(machine: &mut Machine<'_>, count: usize) -> Result<Option<Word>, NoMemory>
     requires { count ≤ length machine.old.operands.items }
-    ensures { IfOk result (Does machine.old machine.new (λ names z. listed (limit_of machine.old.given.limit) (top names machine.old count) z)) }
+    ensures { IfOk result (GivesWord machine.old machine.new (λ names z. listed (limit_of machine.old.given.limit) (top names machine.old count) z)) }
 {
     let held = machine.operands.len();
     let mut tail = Word::Nil;

@@ -2,16 +2,16 @@
 
 ghost use Rattle.std.specs.Prelude.{◌≡◌, ◌≤◌, ◌<◌, ◌+◌, ◌^◌, true, length, is_some, OnOk, IfOk};
 ghost use Rattle.lang_meaning.specs.Signals.{takes};
-ghost use Rattle.eval_application.specs.Entering.{entering, in_words, in_rest, in_record, in_cells, in_body, Enters, IsGivenStack};
+ghost use Rattle.eval_application.specs.Entering.{entering, in_words, in_rest, in_record, in_boxes, in_body, Enters, IsGivenStack};
 
 use crate::arguments::make_list;
-use crate::cells::{take_procedure_cells, take_record};
+use crate::boxes::{take_procedure_boxes, take_record};
 use crate::classes::PROGRAM_ERROR;
 use crate::variables::add_variables;
 use base::NoMemory;
-use eval_state::frame::Frame;
+use eval_state::frame::ContinuationFrame;
 use eval_state::machine::Machine;
-use eval_state::situation::{Activation, Around, Situation};
+use eval_state::situation::{Activation, DynamicLinks, Situation};
 use flat_language::FlatProcedure;
 use std::mem;
 
@@ -23,7 +23,7 @@ pub struct Entering<'p> {
     pub words: u64,
     pub activation: Activation<'p>,
     pub level: u64,
-    pub around: Around,
+    pub around: DynamicLinks,
 }
 
 /// A procedure is entered with the last operands, so many as that: their number is judged first.
@@ -36,7 +36,7 @@ pub fn enter_procedure<'p>(
     ensures { OnOk result (Enters machine.old machine.new procedure.entry operands entering) }
 {
     let count = machine.held_operands(operands);
-    if takes(procedure.procedure, count) {
+    if takes_arguments(procedure.procedure, count) {
         take_words(machine, procedure, count)
     } else {
         let (level, around) = (procedure.level, procedure.around);
@@ -83,7 +83,7 @@ pub fn take_stack(machine: &mut Machine<'_>, words: u64, count: usize) -> Result
         return Ok(false);
     }
     machine.charge(count)?;
-    machine.push_frame(Frame::RestoresStack(before))?;
+    machine.push_frame(ContinuationFrame::RestoresStack(before))?;
     Ok(true)
 }
 
@@ -142,7 +142,7 @@ fn keep_record<'p>(
         return Err(NoMemory);
     };
     if granted {
-        make_cells(machine, procedure, count)
+        make_boxes(machine, procedure, count)
     } else {
         drop(procedure);
         machine.drop_operands(count);
@@ -150,16 +150,16 @@ fn keep_record<'p>(
     }
 }
 
-// The words of the cells are asked for.
-fn make_cells<'p>(
+// The words of the boxes are asked for.
+fn make_boxes<'p>(
     machine: &mut Machine<'p>,
     procedure: Entering<'p>,
     count: usize,
 ) -> Result<(), NoMemory>
     requires { count ≤ length machine.old.operands.items }
-    ensures { OnOk result (Enters machine.old machine.new procedure.entry count in_cells) }
+    ensures { OnOk result (Enters machine.old machine.new procedure.entry count in_boxes) }
 {
-    let Ok(granted) = take_procedure_cells(machine, procedure.procedure) else {
+    let Ok(granted) = take_procedure_boxes(machine, procedure.procedure) else {
         drop(procedure);
         return Err(NoMemory);
     };
@@ -186,7 +186,7 @@ fn begin_body<'p>(
     let mut activation = procedure.activation;
     activation.slots = 0;
     let caller = mem::replace(&mut machine.current, activation);
-    machine.push_frame(Frame::RestoresSlots(caller))?;
+    machine.push_frame(ContinuationFrame::RestoresSlots(caller))?;
     add_variables(machine, code, count)?;
     machine.drop_operands(count);
     machine.evaluate(
@@ -201,7 +201,7 @@ fn begin_body<'p>(
 }
 
 // Whether a procedure takes so many arguments.
-fn takes(procedure: &FlatProcedure, count: usize) -> bool
+fn takes_arguments(procedure: &FlatProcedure, count: usize) -> bool
     ensures { result ≡ takes (length procedure.now.required) (is_some procedure.now.rest) count }
 {
     if procedure.rest.is_some() {

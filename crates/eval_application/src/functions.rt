@@ -1,7 +1,7 @@
 // What functions values are.
 
 ghost use Rattle.std.specs.Prelude.{IfOk, option_copied};
-ghost use Rattle.eval_application.specs.Functions.{IsFunction, IsFunctionOrNot};
+ghost use Rattle.eval_application.specs.Functions.{IsFunctionValue, IsFunctionOrNot};
 
 use base::NoMemory;
 use eval_store::{CapturedList, Object, Store, Word};
@@ -21,7 +21,7 @@ pub enum Function<'p> {
 /// The function that a value is.
 #[tactic(auto, using(crate::proofs::Finding::procedure_there, crate::proofs::Finding::generic_there, crate::proofs::Finding::function_else, crate::proofs::Finding::function_absent))]
 pub fn function_of<'p>(store: &Store<'p>, word: Word) -> Result<Function<'p>, NoMemory>
-    ensures { IfOk result (λ function. IsFunction store.now word function) }
+    ensures { IfOk result (λ function. IsFunctionValue store.now word function) }
 {
     match store.fetch(word) {
         Some(object) => match object {

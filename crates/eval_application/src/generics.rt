@@ -8,7 +8,7 @@ ghost use Rattle.flat_language.specs.FlatNodes.{tables};
 ghost use Rattle.eval_machine.specs.Applications.{apply_generic, apply_chain};
 ghost use Rattle.lang_dispatch.specs.Chains.{seen};
 ghost use Rattle.eval_state.specs.Frames.{last_of};
-ghost use Rattle.eval_state.specs.View.{Steps, IsGiven, top, frames, state, surroundings};
+ghost use Rattle.eval_state.specs.View.{StepsTo, IsGiven, top, frames, state, dynamic_context};
 ghost use Rattle.eval_application.specs.Generics.{AreBelow, AreClassesOf, IsChainFor, chain_begins};
 
 use crate::classes::PROGRAM_ERROR;
@@ -19,7 +19,7 @@ use base::{ItemList, NoMemory};
 use eval_primitives::class_of;
 use eval_state::given::Given;
 use eval_state::machine::Machine;
-use eval_state::situation::Around;
+use eval_state::situation::DynamicLinks;
 use eval_store::{Arguments, Rest};
 use lang_dispatch::Chain;
 use lang_meaning::{ClassId, ClassIds, GenericId, GenericRow};
@@ -31,16 +31,16 @@ pub fn apply_generic(
     number: GenericId,
     operands: usize,
     level: u64,
-    around: Around,
+    around: DynamicLinks,
 ) -> Result<(), NoMemory>
-    ensures { OnOk result (Steps machine.old machine.new (λ names s b. apply_generic s number (top names machine.old operands) level (surroundings names machine.old around) (frames names machine.old operands) (state names machine.old b))) }
+    ensures { OnOk result (StepsTo machine.old machine.new (λ names s b. apply_generic s number (top names machine.old operands) level (dynamic_context names machine.old around) (frames names machine.old operands) (state names machine.old b))) }
 {
     let Some(row) = machine.given.program.generics.get(number) else {
         give_nil(machine, operands);
         return Ok(());
     };
     let count = machine.held_operands(operands);
-    if takes(row, count) {
+    if takes_arguments(row, count) {
         dispatch(machine, number, row, count, level, around)
     } else {
         machine.drop_operands(operands);
@@ -49,7 +49,7 @@ pub fn apply_generic(
 }
 
 // Whether a generic function takes so many arguments.
-fn takes(row: &GenericRow, count: usize) -> bool
+fn takes_arguments(row: &GenericRow, count: usize) -> bool
     ensures { result ≡ takes row.now.required row.now.rest count }
 {
     if row.rest {
@@ -66,12 +66,12 @@ fn dispatch<'p>(
     row: &'p GenericRow,
     count: usize,
     level: u64,
-    around: Around,
+    around: DynamicLinks,
 ) -> Result<(), NoMemory>
     requires held { count ≤ length machine.old.operands.items }
     requires taken { row.now.required ≤ count }
     requires there { slice_get machine.old.given.program.now.generics number ≡ Some row.now }
-    ensures { OnOk result (Steps machine.old machine.new (λ names s b. apply_chain s row.now (chain (tables s.program) row.now (map (class_of (state names machine.old b).state) (take row.now.required (top names machine.old count)))) (top names machine.old count) level (surroundings names machine.old around) (frames names machine.old count) (state names machine.old b))) }
+    ensures { OnOk result (StepsTo machine.old machine.new (λ names s b. apply_chain s row.now (chain (tables s.program) row.now (map (class_of (state names machine.old b).state) (take row.now.required (top names machine.old count)))) (top names machine.old count) level (dynamic_context names machine.old around) (frames names machine.old count) (state names machine.old b))) }
 {
     let classes = classes_of(machine, count, row.required as usize)?;
     let chain = chain_for(machine.given, number, classes.as_slice());
@@ -130,10 +130,10 @@ fn begin_chain<'p>(
     chain: &'p Chain,
     count: usize,
     level: u64,
-    around: Around,
+    around: DynamicLinks,
 ) -> Result<(), NoMemory>
     requires { count ≤ length machine.old.operands.items }
-    ensures { OnOk result (Steps machine.old machine.new (λ names s b. chain_begins s (seen chain.now) (top names machine.old count) level (surroundings names machine.old around) (frames names machine.old count) (state names machine.old b))) }
+    ensures { OnOk result (StepsTo machine.old machine.new (λ names s b. chain_begins s (seen chain.now) (top names machine.old count) level (dynamic_context names machine.old around) (frames names machine.old count) (state names machine.old b))) }
 {
     let Some(below) = level.checked_sub(1) else {
         end_levels(machine, count);

@@ -2,8 +2,8 @@
 #![tactic(auto)]
 
 pub mod arguments;
+pub mod boxes;
 pub mod calls;
-pub mod cells;
 pub mod classes;
 pub mod entering;
 pub mod functions;

@@ -1,20 +1,20 @@
 // The methods of a call run: around methods, and then before methods, the first primary method and after methods.
 
 ghost use Rattle.std.specs.Prelude.{◌≡◌, ◌<◌, ◌≤◌, ◌+◌, [], ◌∷◌, Some, OnOk, IfOk, MatchOption, length, drop, slice_get};
-ghost use Rattle.eval_machine.specs.Moment.{primary_method};
+ghost use Rattle.eval_machine.specs.Configuration.{primary_method};
 ghost use Rattle.eval_machine.specs.Applications.{apply_method, apply_each, run_chain, run_primary};
 ghost use Rattle.eval_machine.specs.Step.{next_method_step, value_step};
 ghost use Rattle.eval_store.specs.Words.{value_of_word, values_of, called_of, called_or_none, rest_of};
-ghost use Rattle.eval_state.specs.View.{Steps, at, frames, state, surroundings};
+ghost use Rattle.eval_state.specs.View.{StepsTo, at, frames, state, dynamic_context};
 ghost use Rattle.eval_application.specs.Methods.{IsNextAround, IsNextPrimary, IsAfterBefore, after_before, ArePushed};
 
 use crate::classes::CONTROL_ERROR;
 use crate::procedures::apply_procedure;
 use base::{ItemList, NoMemory};
-use eval_state::frame::{Frame, Outcome};
+use eval_state::frame::{ContinuationFrame, Outcome};
 use eval_state::machine::Machine;
-use eval_state::places::after;
-use eval_state::situation::{Around, Situation};
+use eval_state::places::place_behind;
+use eval_state::situation::{DynamicLinks, Situation};
 use eval_store::{Arguments, Called, Rest, Word};
 use lang_dispatch::Chain;
 use lang_meaning::ProcedureId;
@@ -44,9 +44,9 @@ pub fn apply_method<'p>(
     number: ProcedureId,
     called: Called<'p>,
     level: u64,
-    around: Around,
+    around: DynamicLinks,
 ) -> Result<(), NoMemory>
-    ensures { OnOk result (Steps machine.old machine.new (λ names s b. apply_method s number (called_of names called.entry) level (surroundings names machine.old around) (frames names machine.old 0) (state names machine.old b))) }
+    ensures { OnOk result (StepsTo machine.old machine.new (λ names s b. apply_method s number (called_of names called.entry) level (dynamic_context names machine.old around) (frames names machine.old 0) (state names machine.old b))) }
 {
     let count = push_arguments(machine, &called.arguments)?;
     apply_procedure(machine, number, Some(called), count, level, around)
@@ -59,9 +59,9 @@ pub fn apply_each<'p>(
     at: usize,
     arguments: Rc<Arguments>,
     level: u64,
-    around: Around,
+    around: DynamicLinks,
 ) -> Result<(), NoMemory>
-    ensures { OnOk result (Steps machine.old machine.new (λ names s b. apply_each s (drop at list.now) (values_of names arguments.value) level (surroundings names machine.old around) (frames names machine.old 0) (state names machine.old b))) }
+    ensures { OnOk result (StepsTo machine.old machine.new (λ names s b. apply_each s (drop at list.now) (values_of names arguments.value) level (dynamic_context names machine.old around) (frames names machine.old 0) (state names machine.old b))) }
 {
     if at < list.len() {
         apply_next(machine, list, at, arguments, level, around)
@@ -79,17 +79,17 @@ fn apply_next<'p>(
     at: usize,
     arguments: Rc<Arguments>,
     level: u64,
-    around: Around,
+    around: DynamicLinks,
 ) -> Result<(), NoMemory>
     requires { at < length list.now }
-    ensures { OnOk result (Steps machine.old machine.new (λ names s b. apply_each s (drop at list.now) (values_of names arguments.value) level (surroundings names machine.old around) (frames names machine.old 0) (state names machine.old b))) }
+    ensures { OnOk result (StepsTo machine.old machine.new (λ names s b. apply_each s (drop at list.now) (values_of names arguments.value) level (dynamic_context names machine.old around) (frames names machine.old 0) (state names machine.old b))) }
 {
     let Some(number) = list.get(at) else {
         unreachable!()
     };
-    let next = after(at)?;
+    let next = place_behind(at)?;
     let count = push_arguments(machine, &arguments)?;
-    machine.push_frame(Frame::Methods(list, next, arguments, level, around))?;
+    machine.push_frame(ContinuationFrame::Methods(list, next, arguments, level, around))?;
     apply_procedure(machine, *number, None, count, level, around)
 }
 
@@ -99,9 +99,9 @@ pub fn run_chain<'p>(
     rest: Rest<'p>,
     arguments: Rc<Arguments>,
     level: u64,
-    around: Around,
+    around: DynamicLinks,
 ) -> Result<(), NoMemory>
-    ensures { OnOk result (Steps machine.old machine.new (λ names s b. run_chain s (rest_of rest.entry) (values_of names arguments.value) level (surroundings names machine.old around) (frames names machine.old 0) (state names machine.old b))) }
+    ensures { OnOk result (StepsTo machine.old machine.new (λ names s b. run_chain s (rest_of rest.entry) (values_of names arguments.value) level (dynamic_context names machine.old around) (frames names machine.old 0) (state names machine.old b))) }
 {
     match next_around(rest) {
         Some(next) => {
@@ -121,16 +121,16 @@ fn run_primary<'p>(
     rest: Rest<'p>,
     arguments: Rc<Arguments>,
     level: u64,
-    around: Around,
+    around: DynamicLinks,
 ) -> Result<(), NoMemory>
-    ensures { OnOk result (Steps machine.old machine.new (λ names s b. run_primary s (rest_of rest.entry) (rest_of rest.entry).primary (values_of names arguments.value) level (surroundings names machine.old around) (frames names machine.old 0) (state names machine.old b))) }
+    ensures { OnOk result (StepsTo machine.old machine.new (λ names s b. run_primary s (rest_of rest.entry) (rest_of rest.entry).primary (values_of names arguments.value) level (dynamic_context names machine.old around) (frames names machine.old 0) (state names machine.old b))) }
 {
     if next_primary(rest).is_none() {
         drop(arguments);
         return machine.signal_class(CONTROL_ERROR, level, around);
     }
     let shared = arguments.clone()?;
-    machine.push_frame(Frame::BeforeMethods(rest, shared, level, around))?;
+    machine.push_frame(ContinuationFrame::BeforeMethods(rest, shared, level, around))?;
     let (list, at) = before_methods(rest);
     apply_each(machine, list, at, arguments, level, around)
 }
@@ -141,13 +141,13 @@ pub fn after_before<'p>(
     rest: Rest<'p>,
     arguments: Rc<Arguments>,
     level: u64,
-    around: Around,
+    around: DynamicLinks,
 ) -> Result<(), NoMemory>
-    ensures { OnOk result (Steps machine.old machine.new (λ names s b. after_before s (rest_of rest.entry) (rest_of rest.entry).primary (values_of names arguments.value) level (surroundings names machine.old around) (frames names machine.old 0) (state names machine.old b))) }
+    ensures { OnOk result (StepsTo machine.old machine.new (λ names s b. after_before s (rest_of rest.entry) (rest_of rest.entry).primary (values_of names arguments.value) level (dynamic_context names machine.old around) (frames names machine.old 0) (state names machine.old b))) }
 {
     let next = primary_after(rest);
     let shared = arguments.clone()?;
-    machine.push_frame(Frame::PrimaryMethod(rest, shared, level, around))?;
+    machine.push_frame(ContinuationFrame::PrimaryMethod(rest, shared, level, around))?;
     let called = Called {
         arguments,
         rest: next.rest,
@@ -162,11 +162,11 @@ pub fn after_primary<'p>(
     arguments: Rc<Arguments>,
     word: Word,
     level: u64,
-    around: Around,
+    around: DynamicLinks,
 ) -> Result<(), NoMemory>
-    ensures { OnOk result (Steps machine.old machine.new (λ names s b. value_step s (primary_method (rest_of rest.entry).after (values_of names arguments.value) level (surroundings names machine.old around)) (value_of_word names word) (frames names machine.old 0) (state names machine.old b))) }
+    ensures { OnOk result (StepsTo machine.old machine.new (λ names s b. value_step s (primary_method (rest_of rest.entry).after (values_of names arguments.value) level (dynamic_context names machine.old around)) (value_of_word names word) (frames names machine.old 0) (state names machine.old b))) }
 {
-    let Ok(()) = machine.push_frame(Frame::Kept(Outcome::Value(word))) else {
+    let Ok(()) = machine.push_frame(ContinuationFrame::Kept(Outcome::Value(word))) else {
         drop(arguments);
         return Err(NoMemory);
     };
@@ -180,7 +180,7 @@ pub fn next_method<'p>(
     called: Option<Called<'p>>,
     situation: Situation,
 ) -> Result<(), NoMemory>
-    ensures { OnOk result (Steps machine.old machine.new (λ names s b. next_method_step s (called_or_none names called.entry) (at names machine.old situation) (frames names machine.old 0) (state names machine.old b))) }
+    ensures { OnOk result (StepsTo machine.old machine.new (λ names s b. next_method_step s (called_or_none names called.entry) (at names machine.old situation) (frames names machine.old 0) (state names machine.old b))) }
 {
     match called {
         Some(called) => run_chain(
@@ -223,7 +223,7 @@ fn next_primary(rest: Rest<'_>) -> Option<Next<'_>>
 // The primary method at that place of a chain, and those behind it.
 fn primary_at(chain: &Chain, at: usize) -> Option<Next<'_>>
     ensures { MatchOption result (length chain.now.primary ≤ at)
-        (λ x. (slice_get chain.now.primary at ≡ Some x.number) × (rest_of x.rest ≡ record { around = []; before = []; primary = drop (at + 1) chain.now.primary; after = [] })) }
+        (λ x. (slice_get chain.now.primary at ≡ Some x.number) × (rest_of x.rest ≡ record { around = []; before = []; primary = drop (at + 1) chain.now.primary; place_behind = [] })) }
 {
     if at < chain.primary.len() {
         let number = *chain.primary.get(at)?;
@@ -251,7 +251,7 @@ fn primary_after(rest: Rest<'_>) -> Next<'_>
 
 // No method is left.
 fn nothing_left(rest: Rest<'_>) -> Rest<'_>
-    ensures { rest_of result ≡ record { around = []; before = []; primary = []; after = [] } }
+    ensures { rest_of result ≡ record { around = []; before = []; primary = []; place_behind = [] } }
 {
     match rest {
         Rest::Around(chain, _) | Rest::Primary(chain, _) => {

@@ -3,10 +3,10 @@
 ghost use Rattle.std.specs.Prelude.{OnOk};
 ghost use Rattle.lang_meaning.specs.Values.{nil};
 ghost use Rattle.lang_meaning.specs.State.{value, more};
-ghost use Rattle.eval_machine.specs.Moment.{moment, come_to};
+ghost use Rattle.eval_machine.specs.Configuration.{configuration, come_to};
 ghost use Rattle.eval_machine.specs.Applications.{apply_procedure, apply_function};
 ghost use Rattle.eval_store.specs.Words.{called_or_none, captured_of};
-ghost use Rattle.eval_state.specs.View.{Steps, top, frames, state, surroundings};
+ghost use Rattle.eval_state.specs.View.{StepsTo, top, frames, state, dynamic_context};
 ghost use Rattle.eval_application.specs.Applying.{coded, entered_option, captured_values};
 
 use crate::entering::{Entering, enter_procedure};
@@ -14,7 +14,7 @@ use base::NoMemory;
 use eval_state::frame::Outcome;
 use eval_state::lookups::Code;
 use eval_state::machine::Machine;
-use eval_state::situation::{Activation, Around};
+use eval_state::situation::{Activation, DynamicLinks};
 use eval_store::{Called, CapturedList, Word};
 use lang_meaning::ProcedureId;
 use std::rc::Rc;
@@ -26,9 +26,9 @@ pub fn apply_procedure<'p>(
     called: Option<Called<'p>>,
     operands: usize,
     level: u64,
-    around: Around,
+    around: DynamicLinks,
 ) -> Result<(), NoMemory>
-    ensures { OnOk result (Steps machine.old machine.new (λ names s b. apply_procedure s number (called_or_none names called.entry) (top names machine.old operands) level (surroundings names machine.old around) (frames names machine.old operands) (state names machine.old b))) }
+    ensures { OnOk result (StepsTo machine.old machine.new (λ names s b. apply_procedure s number (called_or_none names called.entry) (top names machine.old operands) level (dynamic_context names machine.old around) (frames names machine.old operands) (state names machine.old b))) }
 {
     let code = machine.given.procedure(number);
     let activation = Activation {
@@ -46,9 +46,9 @@ pub fn apply_function<'p>(
     captured: Rc<CapturedList<'p>>,
     operands: usize,
     level: u64,
-    around: Around,
+    around: DynamicLinks,
 ) -> Result<(), NoMemory>
-    ensures { OnOk result (Steps machine.old machine.new (λ names s b. apply_function s number (captured_values names captured.entry.value) (top names machine.old operands) level (surroundings names machine.old around) (frames names machine.old operands) (state names machine.old b))) }
+    ensures { OnOk result (StepsTo machine.old machine.new (λ names s b. apply_function s number (captured_values names captured.entry.value) (top names machine.old operands) level (dynamic_context names machine.old around) (frames names machine.old operands) (state names machine.old b))) }
 {
     let code = machine.given.lambda(number);
     let activation = Activation {
@@ -66,9 +66,9 @@ fn apply_code<'p>(
     activation: Activation<'p>,
     operands: usize,
     level: u64,
-    around: Around,
+    around: DynamicLinks,
 ) -> Result<(), NoMemory>
-    ensures { OnOk result (Steps machine.old machine.new (λ names s b. coded s (entered_option names code.entry activation.entry) (top names machine.old operands) level (surroundings names machine.old around) (frames names machine.old operands) (state names machine.old b))) }
+    ensures { OnOk result (StepsTo machine.old machine.new (λ names s b. coded s (entered_option names code.entry activation.entry) (top names machine.old operands) level (dynamic_context names machine.old around) (frames names machine.old operands) (state names machine.old b))) }
 {
     let Some(below) = level.checked_sub(1) else {
         drop(activation);
@@ -92,7 +92,7 @@ fn apply_code<'p>(
 
 /// The levels have come to an end, and so many operands go.
 pub fn end_levels(machine: &mut Machine<'_>, operands: usize)
-    ensures { Steps machine.old machine.new (λ names s b. moment (come_to more) (frames names machine.old operands) (state names machine.old b)) }
+    ensures { StepsTo machine.old machine.new (λ names s b. configuration (come_to more) (frames names machine.old operands) (state names machine.old b)) }
 {
     machine.drop_operands(operands);
     machine.come_to(Outcome::More);
@@ -100,7 +100,7 @@ pub fn end_levels(machine: &mut Machine<'_>, operands: usize)
 
 /// Nil comes, and so many operands go.
 pub fn give_nil(machine: &mut Machine<'_>, operands: usize)
-    ensures { Steps machine.old machine.new (λ names s b. moment (come_to (value nil)) (frames names machine.old operands) (state names machine.old b)) }
+    ensures { StepsTo machine.old machine.new (λ names s b. configuration (come_to (value nil)) (frames names machine.old operands) (state names machine.old b)) }
 {
     machine.drop_operands(operands);
     machine.gives(Word::Nil);

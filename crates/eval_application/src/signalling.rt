@@ -5,17 +5,17 @@ ghost use Rattle.eval_machine.specs.Applications.{signal_under};
 ghost use Rattle.eval_machine.specs.Step.{signal_step, handler_step};
 ghost use Rattle.eval_store.specs.Words.{value_of_word};
 ghost use Rattle.eval_state.specs.Frames.{handler_link};
-ghost use Rattle.eval_state.specs.View.{Steps, at, frames, state, surroundings};
+ghost use Rattle.eval_state.specs.View.{StepsTo, at, frames, state, dynamic_context};
 ghost use Rattle.eval_application.specs.Signalling.{IsSignalled, IsInnermost, handled_by};
 
 use crate::classes::{FUNCTION, SERIOUS_CONDITION};
 use crate::functions::is_function;
 use crate::values::apply_value;
 use base::NoMemory;
-use eval_state::frame::{Frame, Landing, Outcome};
-use eval_state::links::Kind;
+use eval_state::frame::{ContinuationFrame, Landing, Outcome};
+use eval_state::links::LinkKind;
 use eval_state::machine::{Control, Machine};
-use eval_state::situation::{Around, Situation};
+use eval_state::situation::{DynamicLinks, Situation};
 use eval_store::Word;
 use flat_language::FlatCore;
 
@@ -33,9 +33,9 @@ pub fn signal_under(
     condition: Word,
     mark: Word,
     level: u64,
-    around: Around,
+    around: DynamicLinks,
 ) -> Result<(), NoMemory>
-    ensures { OnOk result (Steps machine.old machine.new (λ names s b. signal_under s (surroundings names machine.old around).handlers (value_of_word names condition) (value_of_word names mark) level (surroundings names machine.old around) (frames names machine.old 0) (state names machine.old b))) }
+    ensures { OnOk result (StepsTo machine.old machine.new (λ names s b. signal_under s (dynamic_context names machine.old around).handlers (value_of_word names condition) (value_of_word names mark) level (dynamic_context names machine.old around) (frames names machine.old 0) (state names machine.old b))) }
 {
     let handler = innermost_handler(machine, around.handlers);
     let number = begin_signal(machine, condition, mark)?;
@@ -44,7 +44,7 @@ pub fn signal_under(
             machine.charge(1)?;
             handle(
                 machine,
-                Frame::Signal {
+                ContinuationFrame::Signal {
                     number,
                     condition,
                     mark,
@@ -66,27 +66,27 @@ pub fn signal_under(
 // A handler is applied to a condition above the frame of its signal, inside whose exit it runs.
 fn handle<'p>(
     machine: &mut Machine<'p>,
-    frame: Frame<'p>,
+    frame: ContinuationFrame<'p>,
     handler: Handler,
     condition: Word,
     level: u64,
-    around: Around,
+    around: DynamicLinks,
 ) -> Result<(), NoMemory>
-    ensures { OnOk result (Steps machine.old machine.new (λ names s b. handled_by names machine.old frame.entry handler condition level around s (state names machine.old b))) }
+    ensures { OnOk result (StepsTo machine.old machine.new (λ names s b. handled_by names machine.old frame.entry handler condition level around s (state names machine.old b))) }
 {
     machine.push_frame(frame)?;
     let link = machine.frames.as_slice().len();
     let within = inside_signal(around, link, handler.outside);
-    machine.push_frame(Frame::HandlerReturn(level, within))?;
+    machine.push_frame(ContinuationFrame::HandlerReturn(level, within))?;
     machine.push_operand(condition)?;
     apply_value(machine, handler.word, 1, level, within)
 }
 
 // What surrounds a handler.
-fn inside_signal(around: Around, exits: usize, handlers: usize) -> Around
+fn inside_signal(around: DynamicLinks, exits: usize, handlers: usize) -> DynamicLinks
     ensures { result ≡ record around { exits = exits; handlers = handlers } }
 {
-    Around {
+    DynamicLinks {
         exits,
         handlers,
         bindings: around.bindings,
@@ -107,7 +107,7 @@ fn begin_signal(machine: &mut Machine<'_>, condition: Word, mark: Word) -> Resul
 fn innermost_handler(machine: &Machine<'_>, link: usize) -> Option<Handler>
     ensures { IsInnermost machine.now link result }
 {
-    match machine.nearest(Kind::Handlers, link) {
+    match machine.nearest(LinkKind::Handlers, link) {
         Some((frame, outside)) => {
             let Some(word) = handler_of(frame) else {
                 unreachable!()
@@ -119,11 +119,11 @@ fn innermost_handler(machine: &Machine<'_>, link: usize) -> Option<Handler>
 }
 
 // The handler of a frame.
-fn handler_of(frame: &Frame<'_>) -> Option<Word>
+fn handler_of(frame: &ContinuationFrame<'_>) -> Option<Word>
     ensures { (names : List (List ℕ)) → option_map (λ l. l.items) (handler_link names frame.now) ≡ option_map (λ w. value_of_word names w ∷ []) result }
 {
     match frame {
-        Frame::Handles(word, _) => Some(*word),
+        ContinuationFrame::Handles(word, _) => Some(*word),
         _ => None,
     }
 }
@@ -135,7 +135,7 @@ pub fn signal_condition(
     mark: Word,
     situation: Situation,
 ) -> Result<(), NoMemory>
-    ensures { OnOk result (Steps machine.old machine.new (λ names s b. signal_step s (value_of_word names condition) (value_of_word names mark) (at names machine.old situation) (frames names machine.old 0) (state names machine.old b))) }
+    ensures { OnOk result (StepsTo machine.old machine.new (λ names s b. signal_step s (value_of_word names condition) (value_of_word names mark) (at names machine.old situation) (frames names machine.old 0) (state names machine.old b))) }
 {
     if machine
         .given
@@ -166,11 +166,11 @@ pub fn with_handler<'p>(
     body: &'p FlatCore,
     situation: Situation,
 ) -> Result<(), NoMemory>
-    ensures { OnOk result (Steps machine.old machine.new (λ names s b. handler_step s (value_of_word names handler) body.now (at names machine.old situation) (frames names machine.old 0) (state names machine.old b))) }
+    ensures { OnOk result (StepsTo machine.old machine.new (λ names s b. handler_step s (value_of_word names handler) body.now (at names machine.old situation) (frames names machine.old 0) (state names machine.old b))) }
 {
     if is_function(&machine.store, handler) {
         let link = machine.next_link()?;
-        let frame = Frame::Handles(handler, situation.around.handlers);
+        let frame = ContinuationFrame::Handles(handler, situation.around.handlers);
         machine.enter(frame, body, under_handler(situation, link))
     } else {
         machine.signal_domain(handler, FUNCTION, situation.level, situation.around)
@@ -184,7 +184,7 @@ fn under_handler(outside: Situation, link: usize) -> Situation
     Situation {
         level: outside.level,
         own: outside.own,
-        around: Around {
+        around: DynamicLinks {
             exits: outside.around.exits,
             handlers: link,
             bindings: outside.around.bindings,

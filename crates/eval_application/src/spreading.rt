@@ -2,17 +2,17 @@
 
 ghost use Rattle.std.specs.Prelude.{◌≡◌, IfOk};
 ghost use Rattle.std.specs.HashSet.{IsEmpty};
-ghost use Rattle.eval_application.specs.Spreading.{IsPart, IsSpread};
+ghost use Rattle.eval_application.specs.Spreading.{IsListStep, IsSpread};
 
 use base::NoMemory;
 use eval_state::machine::Machine;
-use eval_state::places::after;
+use eval_state::places::place_behind;
 use eval_store::{Object, Store, Word};
 use std::collections::HashSet;
 
 /// What a list goes on with: a cons, by its number, with both parts; its end; or what is no list.
 #[derive(Clone, Copy)]
-pub enum Part {
+pub enum ListStep {
     Cons(usize, Word, Word),
     End,
     NoList,
@@ -43,10 +43,10 @@ fn push_unseen(
     ensures { IfOk result (λ s. IsSpread machine.old machine.new list s) }
 {
     let mut left = list;
-    let limit = after(machine.store.object_count())?;
+    let limit = place_behind(machine.store.object_count())?;
     for count in 0..limit {
-        match part_of(&machine.store, left) {
-            Part::Cons(number, car, cdr) => {
+        match list_step(&machine.store, left) {
+            ListStep::Cons(number, car, cdr) => {
                 if seen.contains(&number) {
                     return Ok(Spread {
                         count,
@@ -57,13 +57,13 @@ fn push_unseen(
                 machine.push_operand(car)?;
                 left = cdr;
             }
-            Part::End => {
+            ListStep::End => {
                 return Ok(Spread {
                     count,
                     proper: true,
                 });
             }
-            Part::NoList => {
+            ListStep::NoList => {
                 return Ok(Spread {
                     count,
                     proper: false,
@@ -78,18 +78,18 @@ fn push_unseen(
 }
 
 // What a list goes on with.
-fn part_of(store: &Store<'_>, word: Word) -> Part
-    ensures { IsPart store.now word result }
+fn list_step(store: &Store<'_>, word: Word) -> ListStep
+    ensures { IsListStep store.now word result }
 {
     match word {
-        Word::Nil => Part::End,
+        Word::Nil => ListStep::End,
         Word::Object(number) => match store.fetch(word) {
             Some(object) => match object {
-                Object::Cons(car, cdr) => Part::Cons(number, *car, *cdr),
-                _ => Part::NoList,
+                Object::Cons(car, cdr) => ListStep::Cons(number, *car, *cdr),
+                _ => ListStep::NoList,
             },
-            None => Part::NoList,
+            None => ListStep::NoList,
         },
-        _ => Part::NoList,
+        _ => ListStep::NoList,
     }
 }

@@ -5,10 +5,10 @@ ghost use Rattle.lang_meaning.specs.Lookup.{text};
 ghost use Rattle.lang_meaning.specs.Literals.{function_row};
 ghost use Rattle.eval_machine.specs.Applications.{apply_value, apply_callee, apply_row};
 ghost use Rattle.eval_store.specs.Words.{value_of_word};
-ghost use Rattle.eval_state.specs.View.{Steps, at, top, frames, state, surroundings};
+ghost use Rattle.eval_state.specs.View.{StepsTo, at, top, frames, state, dynamic_context};
 ghost use Rattle.eval_machine.specs.Step.{call_value_step};
 ghost use Rattle.eval_application.specs.Functions.{applied};
-ghost use Rattle.eval_application.specs.Firsts.{IsFirst};
+ghost use Rattle.eval_application.specs.Firsts.{IsFirstArgument};
 
 use crate::classes::FUNCTION;
 use crate::functions::{Function, function_of};
@@ -16,7 +16,7 @@ use crate::generics::apply_generic;
 use crate::procedures::{apply_function, apply_procedure, give_nil};
 use base::{Name, NoMemory};
 use eval_state::machine::Machine;
-use eval_state::situation::{Around, Situation};
+use eval_state::situation::{DynamicLinks, Situation};
 use eval_store::Word;
 use lang_meaning::Callee;
 
@@ -26,9 +26,9 @@ pub fn apply_value(
     word: Word,
     operands: usize,
     level: u64,
-    around: Around,
+    around: DynamicLinks,
 ) -> Result<(), NoMemory>
-    ensures { OnOk result (Steps machine.old machine.new (λ names s b. apply_value s (value_of_word names word) (top names machine.old operands) level (surroundings names machine.old around) (frames names machine.old operands) (state names machine.old b))) }
+    ensures { OnOk result (StepsTo machine.old machine.new (λ names s b. apply_value s (value_of_word names word) (top names machine.old operands) level (dynamic_context names machine.old around) (frames names machine.old operands) (state names machine.old b))) }
 {
     let function = function_of(&machine.store, word)?;
     apply_found(machine, function, word, operands, level, around)
@@ -41,9 +41,9 @@ fn apply_found<'p>(
     word: Word,
     operands: usize,
     level: u64,
-    around: Around,
+    around: DynamicLinks,
 ) -> Result<(), NoMemory>
-    ensures { OnOk result (Steps machine.old machine.new (λ names s b. applied names s function.entry word (top names machine.old operands) level (surroundings names machine.old around) (frames names machine.old operands) (state names machine.old b))) }
+    ensures { OnOk result (StepsTo machine.old machine.new (λ names s b. applied names s function.entry word (top names machine.old operands) level (dynamic_context names machine.old around) (frames names machine.old operands) (state names machine.old b))) }
 {
     match function {
         Function::Procedure(number) => {
@@ -66,9 +66,9 @@ pub fn apply_callee(
     callee: Callee,
     operands: usize,
     level: u64,
-    around: Around,
+    around: DynamicLinks,
 ) -> Result<(), NoMemory>
-    ensures { OnOk result (Steps machine.old machine.new (λ names s b. apply_callee s callee (top names machine.old operands) level (surroundings names machine.old around) (frames names machine.old operands) (state names machine.old b))) }
+    ensures { OnOk result (StepsTo machine.old machine.new (λ names s b. apply_callee s callee (top names machine.old operands) level (dynamic_context names machine.old around) (frames names machine.old operands) (state names machine.old b))) }
 {
     match callee {
         Callee::Procedure(number) => {
@@ -84,9 +84,9 @@ pub fn apply_name(
     name: Name,
     operands: usize,
     level: u64,
-    around: Around,
+    around: DynamicLinks,
 ) -> Result<(), NoMemory>
-    ensures { OnOk result (Steps machine.old machine.new (λ names s b. apply_row s (text names name.0) (function_row names s.program.functions (text names name.0)) (top names machine.old operands) level (surroundings names machine.old around) (frames names machine.old operands) (state names machine.old b))) }
+    ensures { OnOk result (StepsTo machine.old machine.new (λ names s b. apply_row s (text names name.0) (function_row names s.program.functions (text names name.0)) (top names machine.old operands) level (dynamic_context names machine.old around) (frames names machine.old operands) (state names machine.old b))) }
 {
     match machine.given.layout.callee(name) {
         Some(callee) => apply_callee(machine, callee, operands, level, around),
@@ -103,7 +103,7 @@ pub fn call_first(
     operands: usize,
     situation: Situation,
 ) -> Result<(), NoMemory>
-    ensures { OnOk result (Steps machine.old machine.new (λ names s b. call_value_step s (top names machine.old operands) (at names machine.old situation) (frames names machine.old operands) (state names machine.old b))) }
+    ensures { OnOk result (StepsTo machine.old machine.new (λ names s b. call_value_step s (top names machine.old operands) (at names machine.old situation) (frames names machine.old operands) (state names machine.old b))) }
 {
     let count = machine.held_operands(operands);
     let Some(others) = count.checked_sub(1) else {
@@ -118,7 +118,7 @@ pub fn call_first(
 fn take_first(machine: &mut Machine<'_>, count: usize) -> Word
     requires some { 0 < count }
     requires held { count ≤ length machine.old.operands.items }
-    ensures { IsFirst machine.old machine.new count result }
+    ensures { IsFirstArgument machine.old machine.new count result }
 {
     let place = machine.operands.len() - count;
     machine.operands.remove(place)

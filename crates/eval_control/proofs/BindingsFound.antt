@@ -7,11 +7,11 @@ use Rattle.lang_meaning.specs.Lookup.{text, passed}
 use Rattle.flat_language.specs.declared.flat_core.FlatDynBinding.{FlatDynBinding}
 use Rattle.flat_language.specs.FlatState.{charged}
 use Rattle.flat_language.specs.model.View.{dynamics_of}
-use Rattle.eval_machine.specs.Moment.{first_that}
+use Rattle.eval_machine.specs.Configuration.{first_that}
 use Rattle.eval_store.specs.Spelling.{IsSpelling}
-use Rattle.eval_state.specs.declared.frame.Frame.{Frame}
-use Rattle.eval_state.specs.declared.frame.Frame.TheVariants as frame
-use Rattle.eval_state.specs.declared.links.Kind.TheVariants.{Bindings}
+use Rattle.eval_state.specs.declared.frame.ContinuationFrame.{ContinuationFrame}
+use Rattle.eval_state.specs.declared.frame.ContinuationFrame.TheVariants as frame
+use Rattle.eval_state.specs.declared.links.LinkKind.TheVariants.{Bindings}
 use Rattle.eval_state.specs.declared.machine.Machine.{Machine}
 use Rattle.eval_state.specs.Chains.{Linking, chained}
 use Rattle.eval_state.specs.Frames.{binding_link}
@@ -19,12 +19,12 @@ use Rattle.eval_state.specs.Links.{next_of, IsNoneNearer, IsNearest}
 use Rattle.eval_state.specs.View.{IsCharged, state}
 use Rattle.eval_state.proofs.Givens.{spelling}
 use Rattle.eval_state.proofs.Following.{AreLinked, none_further, one_further}
-use Rattle.eval_control.specs.declared.bound.Bound.{Bound}
+use Rattle.eval_control.specs.declared.bound.FoundBinding.{FoundBinding}
 use Rattle.eval_control.proofs.Searching.{IsSearching, search_begins, search_goes, search_found, search_ends}
 use Rattle.eval_control.specs.Bindings.{is_named, bindings_in, IsBound, IsThere, IsNowhere, IsBoundBy, IsBindingFound}
 
 -- the bindings are those of frames that link bindings
-binding_next : (names : List (List ℕ)) (w : Frame) → next_of Bindings w ≡ option_map (λ (l : Linking (List ℕ × ℕ)). l.next) (binding_link names w)
+binding_next : (names : List (List ℕ)) (w : ContinuationFrame) → next_of Bindings w ≡ option_map (λ (l : Linking (List ℕ × ℕ)). l.next) (binding_link names w)
 binding_next names (frame.Binds bs n m) = refl
 binding_next names w = refl
 
@@ -95,17 +95,17 @@ is_nowhere names n bs at e sought =
     }
 
 -- in frames: how far they were searched
-abbrev pub around_from : List (List ℕ) → List Frame → ℕ → List (List ℕ × ℕ)
+abbrev pub around_from : List (List ℕ) → List ContinuationFrame → ℕ → List (List ℕ × ℕ)
 around_from names items link = chained (binding_link names) (reverse items) link
 
-abbrev pub IsSeeking : List (List ℕ) → ℕ → List Frame → (link left count : ℕ) → Type 0
+abbrev pub IsSeeking : List (List ℕ) → ℕ → List ContinuationFrame → (link left count : ℕ) → Type 0
 IsSeeking names n items link left count = IsSearching (is_named names n) (around_from names items link) (around_from names items left) count
 
-pub frames_begin : (names : List (List ℕ)) (n : ℕ) (items : List Frame) (link : ℕ) → IsSeeking names n items link link 0
+pub frames_begin : (names : List (List ℕ)) (n : ℕ) (items : List ContinuationFrame) (link : ℕ) → IsSeeking names n items link link 0
 frames_begin names n items link = search_begins (is_named names n) (around_from names items link)
 
 -- the bindings of the nearest frame, and those behind it
-nearest_bindings : (names : List (List ℕ)) (n : ℕ) (items : List Frame) (left behind : ℕ) (w : Frame) (here : Bound)
+nearest_bindings : (names : List (List ℕ)) (n : ℕ) (items : List ContinuationFrame) (left behind : ℕ) (w : ContinuationFrame) (here : FoundBinding)
     → IsNearest Bindings items left w behind → IsBoundBy names n w here
     → (xs : List (List ℕ × ℕ)) × (around_from names items left ≡ xs ++ around_from names items behind) × IsBound names n xs here
 nearest_bindings names n items left behind w here near bound = by (binding_link names w) refl
@@ -132,7 +132,7 @@ with_variable : (o : Option (List ℕ × ℕ)) (v : ℕ) → option_map (λ (x :
 with_variable None v e = absurd (cc)
 with_variable (Some x) v e = (x, refl, cc)
 
-pub frames_go : (names : List (List ℕ)) (n : ℕ) (items : List Frame) (link left behind count more : ℕ) (w : Frame) (here : Bound)
+pub frames_go : (names : List (List ℕ)) (n : ℕ) (items : List ContinuationFrame) (link left behind count more : ℕ) (w : ContinuationFrame) (here : FoundBinding)
     → more ≡ count + here.passed → here.variable ≡ None → IsSeeking names n items link left count → IsNearest Bindings items left w behind
     → IsBoundBy names n w here
     → IsSeeking names n items link behind more
@@ -141,7 +141,7 @@ frames_go names n items link left behind count more w here e none s near bound =
     search_goes (is_named names n) (around_from names items link) (around_from names items left) xs (around_from names items behind) count more
     there (no_variable (first_that (is_named names n) xs) (is.variable ∙ none)) (e ∙ ap (λ k. count + k) is.passed_so_many) s
 
-pub frames_found : (names : List (List ℕ)) (n : ℕ) (items : List Frame) (link left behind count more v : ℕ) (w : Frame) (here : Bound)
+pub frames_found : (names : List (List ℕ)) (n : ℕ) (items : List ContinuationFrame) (link left behind count more v : ℕ) (w : ContinuationFrame) (here : FoundBinding)
     → more ≡ count + here.passed → here.variable ≡ Some v → IsSeeking names n items link left count → IsNearest Bindings items left w behind
     → IsBoundBy names n w here
     → IsBound names n (around_from names items link) (record { variable = here.variable; passed = more })
@@ -155,7 +155,7 @@ frames_found names n items link left behind count more v w here e some s near bo
       passed_so_many = found.1;
     }
 
-pub frames_end : (names : List (List ℕ)) (n : ℕ) (items : List Frame) (link left count : ℕ) → IsSeeking names n items link left count
+pub frames_end : (names : List (List ℕ)) (n : ℕ) (items : List ContinuationFrame) (link left count : ℕ) → IsSeeking names n items link left count
     → IsNoneNearer Bindings items 0 left
     → IsBound names n (around_from names items link) (record { variable = None; passed = count })
 frames_end names n items link left count s none =
@@ -173,7 +173,7 @@ none_there (Some x) e = absurd (cc)
 none_there None e = refl
 
 -- those that were passed are counted
-pub binding_counted : (old new : Machine) (n link : ℕ) (bound : Bound)
+pub binding_counted : (old new : Machine) (n link : ℕ) (bound : FoundBinding)
     → ((names : List (List ℕ)) → IsSpelling names old.given.spellings → IsBound names n (around_from names old.frames.items link) bound)
     → IsCharged old new bound.passed
     → IsBindingFound old new n link bound.variable

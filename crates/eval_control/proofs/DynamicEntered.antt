@@ -10,14 +10,14 @@ use Rattle.flat_language.specs.FlatForm.{FlatForm}
 use Rattle.flat_language.specs.FlatMeaning.{bound_names}
 use Rattle.flat_language.specs.FlatState.{FlatState, on_state, with_values}
 use Rattle.flat_language.specs.model.View.{dynamics_of}
-use Rattle.eval_machine.specs.Moment.{moment, evaluate, unbinds}
+use Rattle.eval_machine.specs.Configuration.{configuration, evaluate, unbinds}
 use Rattle.eval_machine.specs.Step.{dynamic_let_step}
 use Rattle.eval_store.specs.declared.word.Word.{Word}
 use Rattle.eval_store.specs.Words.{value_of_word, values_of}
 use Rattle.eval_store.specs.View.{Beside, seen, Becomes}
 use Rattle.eval_state.specs.declared.given.Given.{Given}
-use Rattle.eval_state.specs.declared.frame.Frame.{Frame}
-use Rattle.eval_state.specs.declared.frame.Frame.TheVariants as frame
+use Rattle.eval_state.specs.declared.frame.ContinuationFrame.{ContinuationFrame}
+use Rattle.eval_state.specs.declared.frame.ContinuationFrame.TheVariants as frame
 use Rattle.eval_state.specs.declared.situation.Situation.{Situation}
 use Rattle.eval_state.specs.declared.situation.Activation.{Activation}
 use Rattle.eval_state.specs.declared.machine.Machine.{Machine}
@@ -25,7 +25,7 @@ use Rattle.eval_state.specs.Frames.{last_of, others_of, frame_slots, situation_i
 use Rattle.eval_state.specs.Operands.{IsDropped}
 use Rattle.eval_state.specs.Tops.{taken, below}
 use Rattle.eval_state.specs.Variables.{AreVariables}
-use Rattle.eval_state.specs.View.{Steps, IsGiven, at, state, top, frames}
+use Rattle.eval_state.specs.View.{StepsTo, IsGiven, at, state, top, frames}
 use Rattle.eval_state.proofs.Linking.{over}
 use Rattle.eval_state.proofs.Pushes.{passed_over, others_none}
 use Rattle.eval_state.proofs.SlotLists.{last_held}
@@ -65,7 +65,7 @@ adding_ends old new ws i h a = record {
 }
 
 -- inside dynamic bindings
-bindings_inside : (names : List (List ℕ)) (a : Activation) (ws : List Frame) (list : Bor (List FlatDynBinding)) (first : ℕ) (q : Situation) (link : ℕ)
+bindings_inside : (names : List (List ℕ)) (a : Activation) (ws : List ContinuationFrame) (list : Bor (List FlatDynBinding)) (first : ℕ) (q : Situation) (link : ℕ)
     → link ≡ suc (length ws)
     → situation_in names a (frame.Binds list first q.around.bindings ∷ ws) (record q { around = record q.around { bindings = link } })
     ≡ record (situation_in names a ws q) {
@@ -91,12 +91,12 @@ pub dynamic_entered : (old added dropped new : Machine) (list : Bor (List FlatDy
     → ((names : List (List ℕ)) (b : Beside) → first ≡ length (seen names old.store b).state.variables)
     → AreVariables old added (last_of held old.operands.items) → IsDropped added dropped n
     → link ≡ suc (length dropped.frames.items) → within ≡ record q { around = record q.around { bindings = link } }
-    → Steps dropped new (λ names s b. moment
+    → StepsTo dropped new (λ names s b. configuration
     (evaluate body (situation_in names dropped.current (frame.Binds list first q.around.bindings ∷ reverse dropped.frames.items) within))
     (taken names dropped (frame.Binds list first q.around.bindings) ∷ below names dropped (frame.Binds list first q.around.bindings)) (state names dropped b))
-    → Steps old new (λ names s b. dynamic_let_step s (dynamics_of list.now) body (top names old n) (at names old q) (frames names old n) (state names old b))
+    → StepsTo old new (λ names s b. dynamic_let_step s (dynamics_of list.now) body (top names old n) (at names old q) (frames names old n) (state names old b))
 dynamic_entered old added dropped new list n held first link body q within is_held is_first are_added is_dropped is_link is_within s =
-    let w : Frame = frame.Binds list first q.around.bindings in
+    let w : ContinuationFrame = frame.Binds list first q.around.bindings in
     let dropped_is : dropped ≡ record old { store = added.store; operands = dropped.operands } =
     is_dropped.same ∙ ap (λ (m : Machine). record m { operands = dropped.operands }) are_added.same in
     let given_is : dropped.given ≡ old.given = ap (λ (m : Machine). m.given) dropped_is in
@@ -108,13 +108,13 @@ dynamic_entered old added dropped new list n held first link body q within is_he
       given = s.given ∙ given_is;
       comes = λ names b g.
           s.comes names b (let P : Given → Type 0 = λ x. IsGiven names x in subst P (sym given_is) g)
-          ∙ ap (λ (m : Machine). moment (evaluate body (situation_in names m.current (w ∷ reverse m.frames.items) within))
+          ∙ ap (λ (m : Machine). configuration (evaluate body (situation_in names m.current (w ∷ reverse m.frames.items) within))
           (unbinds ∷ frames_in names m.current (others_of 0 dropped.operands.items) m.slots.items (reverse m.frames.items))
           (state names dropped b)) dropped_is
-          ∙ ap (λ i. moment (evaluate body (situation_in names old.current (w ∷ reverse old.frames.items) i))
+          ∙ ap (λ i. configuration (evaluate body (situation_in names old.current (w ∷ reverse old.frames.items) i))
           (unbinds ∷ frames_in names old.current (others_of 0 dropped.operands.items) old.slots.items (reverse old.frames.items))
           (state names dropped b)) is_within
-          ∙ ap (λ p. moment (evaluate body p)
+          ∙ ap (λ p. configuration (evaluate body p)
           (unbinds ∷ frames_in names old.current (others_of 0 dropped.operands.items) old.slots.items (reverse old.frames.items)) (state names dropped b))
           (bindings_inside names old.current (reverse old.frames.items) list first q link link_is
           ∙ ap (λ k. record (at names old q) {
@@ -122,7 +122,7 @@ dynamic_entered old added dropped new list n held first link body q within is_he
                 (at names old q).around { bindings = numbered (bound_names names (dynamics_of list.now)) k ++ (at names old q).around.bindings };
           })
           (is_first names b))
-          ∙ ap (λ os. moment (evaluate body
+          ∙ ap (λ os. configuration (evaluate body
           (record (at names old q) {
             around = record
                 (at names old q).around {
@@ -131,7 +131,7 @@ dynamic_entered old added dropped new list n held first link body q within is_he
                 };
           }))
           (unbinds ∷ frames_in names old.current os old.slots.items (reverse old.frames.items)) (state names dropped b)) operands_are
-          ∙ ap (moment (evaluate body (record
+          ∙ ap (configuration (evaluate body (record
           (at names old q) {
             around = record
                 (at names old q).around {

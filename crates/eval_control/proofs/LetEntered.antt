@@ -6,15 +6,15 @@ use Rattle.flat_language.specs.FlatForm.{FlatForm}
 use Rattle.flat_language.specs.FlatMeaning.{binding_homes}
 use Rattle.flat_language.specs.FlatState.{FlatState, FlatEvaluated, with_slots}
 use Rattle.flat_language.specs.model.View.{bindings_of}
-use Rattle.eval_machine.specs.Moment.{Setting, Step, moment, evaluate, drops_slots, then_on}
-use Rattle.eval_machine.specs.Moment as machine
+use Rattle.eval_machine.specs.Configuration.{Setting, Transition, configuration, evaluate, drops_slots, then_on}
+use Rattle.eval_machine.specs.Configuration as machine
 use Rattle.lang_meaning.specs.Values.{Value}
 use Rattle.eval_store.specs.declared.word.Word.{Word}
 use Rattle.eval_store.specs.Words.{value_of_word, values_of}
 use Rattle.eval_state.specs.declared.slot.Slot.{Slot}
 use Rattle.eval_state.specs.declared.given.Given.{Given}
-use Rattle.eval_state.specs.declared.frame.Frame.{Frame}
-use Rattle.eval_state.specs.declared.frame.Frame.TheVariants.{DropsSlots}
+use Rattle.eval_state.specs.declared.frame.ContinuationFrame.{ContinuationFrame}
+use Rattle.eval_state.specs.declared.frame.ContinuationFrame.TheVariants.{DropsSlots}
 use Rattle.eval_state.specs.declared.situation.Situation.{Situation}
 use Rattle.eval_state.specs.declared.situation.Activation.{Activation}
 use Rattle.eval_state.specs.declared.machine.Machine.{Machine}
@@ -23,7 +23,7 @@ use Rattle.eval_state.specs.Frames.{last_of, others_of, frame_slots, situation_i
 use Rattle.eval_state.specs.Operands.{IsDropped}
 use Rattle.eval_state.specs.Tops.{IsAbove}
 use Rattle.eval_state.specs.Variables.{AreSlotted}
-use Rattle.eval_state.specs.View.{Steps, IsGiven, setting_of, at, state, top, frames}
+use Rattle.eval_state.specs.View.{StepsTo, IsGiven, setting_of, at, state, top, frames}
 use Rattle.eval_state.proofs.Pushes.{one_on, others_none}
 use Rattle.eval_state.proofs.SlotLists.{others_below, last_held}
 use Rattle.eval_state.proofs.Tops.{stays_unlinked}
@@ -32,10 +32,10 @@ use Rattle.eval_control.specs.LetBodies.{let_enters}
 
 -- what goes on with the value of what was done, in a situation
 pub given_at : (old mid new : Machine) (n : ℕ) (q : Situation) (f : List (List ℕ) → Setting → FlatState → FlatEvaluated) (w : Word)
-    (t : List (List ℕ) → Setting → List Value → machine.Situation → Value → Step)
+    (t : List (List ℕ) → Setting → List Value → machine.Situation → Value → Transition)
     → Gives old mid (λ names z. f names (setting_of names old.given) z) w
-    → Steps mid new (λ names s b. t names s (top names mid n) (at names mid q) (value_of_word names w) (frames names mid n) (state names mid b))
-    → Steps old new (λ names s b. then_on (f names s (state names old b)) (frames names old n)
+    → StepsTo mid new (λ names s b. t names s (top names mid n) (at names mid q) (value_of_word names w) (frames names mid n) (state names mid b))
+    → StepsTo old new (λ names s b. then_on (f names s (state names old b)) (frames names old n)
     (λ v after. t names s (top names old n) (at names old q) v (frames names old n) after))
 given_at old mid new n q f w t d s = record {
   given = s.given ∙ ap (λ (m : Machine). m.given) d.same;
@@ -48,7 +48,7 @@ given_at old mid new n q f w t d s = record {
 }
 
 -- the frame that drops the slots, and those below it
-dropping : (names : List (List ℕ)) (a : Activation) (operands : List Word) (slots : List Slot) (ws : List Frame) (n : ℕ)
+dropping : (names : List (List ℕ)) (a : Activation) (operands : List Word) (slots : List Slot) (ws : List ContinuationFrame) (n : ℕ)
     → frames_in names a operands slots (DropsSlots n ∷ ws) ≡ drops_slots n ∷ frames_in names a operands slots ws
 unfolding frames_in
 dropping names a operands slots ws n = ap (λ os. drops_slots n ∷ frames_in names a os slots ws) (others_none operands)
@@ -58,8 +58,8 @@ pub let_entered : (old pushed slotted dropped new : Machine) (bs : List FlatBind
     → ((names : List (List ℕ)) → before ≡ length (frame_slots names old.current old.slots.items))
     → IsAbove old pushed (DropsSlots before) → AreSlotted pushed slotted (binding_homes (bindings_of bs)) (last_of held pushed.operands.items)
     → IsDropped slotted dropped n
-    → Steps dropped new (λ names s b. moment (evaluate body (at names dropped q)) (frames names dropped 0) (state names dropped b))
-    → Steps old new (λ names s b. let_enters (bindings_of bs) body (top names old n) (at names old q) (frames names old n) (state names old b))
+    → StepsTo dropped new (λ names s b. configuration (evaluate body (at names dropped q)) (frames names dropped 0) (state names dropped b))
+    → StepsTo old new (λ names s b. let_enters (bindings_of bs) body (top names old n) (at names old q) (frames names old n) (state names old b))
 let_entered old pushed slotted dropped new bs n held before body q is_held is_before above are_slotted is_dropped s =
     let current : Activation = record old.current { slots = slotted.current.slots } in
     let slotted_is : slotted ≡ record old { frames = pushed.frames; current = current; slots = slotted.slots; store = slotted.store } =
@@ -79,12 +79,12 @@ let_entered old pushed slotted dropped new bs n held before body q is_held is_be
       given = s.given ∙ given_is;
       comes = λ names b g.
           s.comes names b (let P : Given → Type 0 = λ x. IsGiven names x in subst P (sym given_is) g)
-          ∙ ap (λ x. moment (evaluate body x) (frames names dropped 0) (state names dropped b))
+          ∙ ap (λ x. configuration (evaluate body x) (frames names dropped 0) (state names dropped b))
           (ap (λ (m : Machine). at names m q) dropped_is
           ∙ ap (λ ws. situation_in names current ws q) frames_are
           ∙ stays_unlinked names current (reverse old.frames.items) (DropsSlots before) q refl
           ∙ situation_aside names old.current slotted.current.slots (reverse old.frames.items) q)
-          ∙ ap (λ x. moment (evaluate body (at names old q)) x (state names dropped b))
+          ∙ ap (λ x. configuration (evaluate body (at names old q)) x (state names dropped b))
           (ap (λ (m : Machine). frames names m 0) dropped_is
           ∙ ap (λ ws. frames_in names current (others_of 0 dropped.operands.items) slotted.slots.items ws) frames_are
           ∙ ap (λ os. frames_in names current os slotted.slots.items (DropsSlots before ∷ reverse old.frames.items)) operands_are
@@ -93,7 +93,7 @@ let_entered old pushed slotted dropped new bs n held before body q is_held is_be
           (ap (others_of slotted.current.slots) slots_are ∙ others_below old.slots.items are_slotted.more old.current.slots slotted.current.slots count_is)
           ∙ dropping names old.current (others_of n old.operands.items) old.slots.items (reverse old.frames.items) before
           ∙ ap (λ k. drops_slots k ∷ frames names old n) (is_before names))
-          ∙ ap (λ x. moment (evaluate body (at names old q)) (drops_slots (length (frame_slots names old.current old.slots.items)) ∷ frames names old n) x)
+          ∙ ap (λ x. configuration (evaluate body (at names old q)) (drops_slots (length (frame_slots names old.current old.slots.items)) ∷ frames names old n) x)
           (ap (λ (m : Machine). state names m b) is_dropped.same
           ∙ are_slotted.state_is names b
           ∙ ap (λ (m : Machine). with_slots (binding_homes (bindings_of bs)) (values_of names (last_of held m.operands.items)) (state names m b)) above.same

@@ -3,9 +3,9 @@ use Rattle.std.proofs.Common.{◌≡◌, ℕ, ◌+◌, Bool, true, false, List, 
 use Rattle.std.specs.Prelude.{reverse, option_map}
 use Rattle.lang_meaning.specs.State.{Exit}
 use Rattle.lang_meaning.specs.Lookup.{passed}
-use Rattle.eval_state.specs.declared.frame.Frame.{Frame}
-use Rattle.eval_state.specs.declared.frame.Frame.TheVariants as frame
-use Rattle.eval_state.specs.declared.links.Kind.TheVariants.{Exits}
+use Rattle.eval_state.specs.declared.frame.ContinuationFrame.{ContinuationFrame}
+use Rattle.eval_state.specs.declared.frame.ContinuationFrame.TheVariants as frame
+use Rattle.eval_state.specs.declared.links.LinkKind.TheVariants.{Exits}
 use Rattle.eval_state.specs.Chains.{Linking, chained}
 use Rattle.eval_state.specs.Frames.{exit_link}
 use Rattle.eval_state.specs.Links.{next_of, IsNoneNearer, IsNearest}
@@ -16,7 +16,7 @@ use Rattle.eval_control.specs.Exits.{exit_of, meets, IsLookedFor}
 use Rattle.eval_control.proofs.Searching.{IsSearching, search_begins, search_goes, search_found, search_ends}
 
 -- the exits are those of frames that link exits
-next_exit : (names : List (List ℕ)) (w : Frame) → next_of Exits w ≡ option_map (λ (l : Linking Exit). l.next) (exit_link names w)
+next_exit : (names : List (List ℕ)) (w : ContinuationFrame) → next_of Exits w ≡ option_map (λ (l : Linking Exit). l.next) (exit_link names w)
 next_exit names (frame.Block n e o) = refl
 next_exit names w = refl
 
@@ -24,25 +24,25 @@ pub exits_linked : (names : List (List ℕ)) → AreLinked Exits (exit_link name
 exits_linked names = record { next_is = next_exit names }
 
 -- no exit is left
-pub none_left : (names : List (List ℕ)) (items : List Frame) (link : ℕ) → IsNoneNearer Exits items 0 link → chained (exit_link names) (reverse items) link ≡ []
+pub none_left : (names : List (List ℕ)) (items : List ContinuationFrame) (link : ℕ) → IsNoneNearer Exits items 0 link → chained (exit_link names) (reverse items) link ≡ []
 none_left names items link f = none_further Exits (exit_link names) items link (exits_linked names) f
 
 -- the innermost one, and those behind it
-pub first_left : (names : List (List ℕ)) (items : List Frame) (link behind : ℕ) (w : Frame) (e : Here) → IsNearest Exits items link w behind
+pub first_left : (names : List (List ℕ)) (items : List ContinuationFrame) (link behind : ℕ) (w : ContinuationFrame) (e : Here) → IsNearest Exits items link w behind
     → option_map (λ (l : Linking Exit). l.items) (exit_link names w) ≡ Some (exit_of names e ∷ [])
     → chained (exit_link names) (reverse items) link ≡ exit_of names e ∷ chained (exit_link names) (reverse items) behind
 first_left names items link behind w e n made = one_further Exits (exit_link names) items link behind w (exit_of names e ∷ []) (exits_linked names) n made
 
 -- how far the search has come
-abbrev pub IsLooking : List (List ℕ) → Sought → List Frame → (link left count : ℕ) → Type 0
+abbrev pub IsLooking : List (List ℕ) → Sought → List ContinuationFrame → (link left count : ℕ) → Type 0
 IsLooking names sought items link left count =
     IsSearching (meets names sought) (chained (exit_link names) (reverse items) link) (chained (exit_link names) (reverse items) left) count
 
-pub begun : (names : List (List ℕ)) (sought : Sought) (items : List Frame) (link : ℕ) → IsLooking names sought items link link 0
+pub begun : (names : List (List ℕ)) (sought : Sought) (items : List ContinuationFrame) (link : ℕ) → IsLooking names sought items link link 0
 begun names sought items link = search_begins (meets names sought) (chained (exit_link names) (reverse items) link)
 
 module _
-    (names : List (List ℕ)) (sought : Sought) (items : List Frame) (link left behind count more : ℕ) (w : Frame) (e : Here)
+    (names : List (List ℕ)) (sought : Sought) (items : List ContinuationFrame) (link left behind count more : ℕ) (w : ContinuationFrame) (e : Here)
     (one : more ≡ count + 1) (looking : IsLooking names sought items link left count) (near : IsNearest Exits items left w behind)
     (made : option_map (λ (l : Linking Exit). l.items) (exit_link names w) ≡ Some (exit_of names e ∷ []))
   where
@@ -68,7 +68,7 @@ module _
         record { found = found.0; passed_so_many = found.1 }
 
 -- there is none
-pub found_none : (names : List (List ℕ)) (sought : Sought) (items : List Frame) (link left count : ℕ) → IsLooking names sought items link left count
+pub found_none : (names : List (List ℕ)) (sought : Sought) (items : List ContinuationFrame) (link left count : ℕ) → IsLooking names sought items link left count
     → IsNoneNearer Exits items 0 left
     → IsLookedFor names sought (reverse items) link (record { found = None; passed = count })
 found_none names sought items link left count looking n =
@@ -77,6 +77,6 @@ found_none names sought items link left count looking n =
     record { found = ended.0; passed_so_many = ended.1 }
 
 -- a frame that links exits makes one
-pub makes_one : (names : List (List ℕ)) (items : List Frame) (link behind : ℕ) (w : Frame) → IsNearest Exits items link w behind
+pub makes_one : (names : List (List ℕ)) (items : List ContinuationFrame) (link behind : ℕ) (w : ContinuationFrame) → IsNearest Exits items link w behind
     → option_map (λ (l : Linking Exit). l.items) (exit_link names w) ≡ None → ⊥
 makes_one names items link behind w n h = has_things Exits (exit_link names) items link behind w (exits_linked names) n h

@@ -4,10 +4,10 @@ use Rattle.std.proofs.lemmas.List.{length-map, map-append, take_more}
 use Rattle.std.specs.declared.rc.Rc.{Rc}
 use Rattle.base.specs.declared.lists.ItemList.{ItemList}
 use Rattle.lang_meaning.specs.State.{Limit, value, full}
-use Rattle.flat_language.specs.declared.place.FlatPart.{FlatPart}
+use Rattle.flat_language.specs.declared.place.FlatCapture.{FlatCapture}
 use Rattle.flat_language.specs.FlatState.{FlatState, gives, make_closure, captured_part}
 use Rattle.flat_language.specs.FlatState as flat
-use Rattle.eval_machine.specs.Moment.{moment, come_to, ended}
+use Rattle.eval_machine.specs.Configuration.{configuration, come_to, ended}
 use Rattle.eval_store.specs.declared.word.Word.{Word}
 use Rattle.eval_store.specs.declared.object.Captured.{Captured}
 use Rattle.eval_store.specs.declared.object.Object.TheVariants.{Closure}
@@ -17,10 +17,10 @@ use Rattle.eval_state.specs.declared.given.Given.{Given}
 use Rattle.eval_state.specs.declared.situation.Situation.{Situation}
 use Rattle.eval_state.specs.declared.machine.Machine.{Machine}
 use Rattle.eval_state.specs.Building.{IsMade, IsDenied}
-use Rattle.eval_state.specs.View.{Steps, IsGiven, moment_of, at, frames, state}
+use Rattle.eval_state.specs.View.{StepsTo, IsGiven, configuration_of, at, frames, state}
 
 -- the meaning's way to make it
-closure_built : (names : List (List ℕ)) (limit : Limit) (p size : ℕ) (shared : Rc (ItemList Captured) Global) (g : FlatPart → flat.Captured) (parts : List FlatPart) (z : FlatState)
+closure_built : (names : List (List ℕ)) (limit : Limit) (p size : ℕ) (shared : Rc (ItemList Captured) Global) (g : FlatCapture → flat.Captured) (parts : List FlatCapture) (z : FlatState)
     → size ≡ 2 + length parts → map (captured_of names) shared.value ≡ map g parts
     → built names limit size 0 (Closure p shared) z ≡ make_closure limit p (map g parts) z (λ v after. gives v after)
 closure_built names limit p size shared g parts z e h =
@@ -29,12 +29,12 @@ closure_built names limit p size shared g parts z e h =
     ∙ ap (λ xs. make_closure limit p xs z (λ v after. gives v after)) h
 
 -- what is captured of some places
-abbrev pub AreCaptured : Machine → Situation → List Captured → List FlatPart → Type 0
+abbrev pub AreCaptured : Machine → Situation → List Captured → List FlatCapture → Type 0
 AreCaptured m q cs parts = (names : List (List ℕ)) (b : Beside)
     → map (captured_of names) cs ≡ map (captured_part (at names m q).environment (state names m b)) parts
 
 -- one place more
-pub one_captured : (m : Machine) (q : Situation) (cs : List Captured) (parts : List FlatPart) (c : Captured) (i : ℕ) (d : FlatPart) → i < length parts
+pub one_captured : (m : Machine) (q : Situation) (cs : List Captured) (parts : List FlatCapture) (c : Captured) (i : ℕ) (d : FlatCapture) → i < length parts
     → AreCaptured m q cs (take i parts)
     → ((names : List (List ℕ)) (b : Beside) → captured_of names c ≡ captured_part (at names m q).environment (state names m b) (get_or parts i d))
     → AreCaptured m q (cs ++ c ∷ []) (take (i + 1) parts)
@@ -45,11 +45,11 @@ one_captured m q cs parts c i d h a one names b =
     ∙ sym (map-append (captured_part (at names m q).environment (state names m b)) (take i parts) (get_or parts i d ∷ []))
     ∙ ap (map (captured_part (at names m q).environment (state names m b))) (sym (take_more parts i d h))
 
-pub function_made : (old mid new : Machine) (p size : ℕ) (shared : Rc (ItemList Captured) Global) (w : Word) (parts : List FlatPart)
+pub function_made : (old mid new : Machine) (p size : ℕ) (shared : Rc (ItemList Captured) Global) (w : Word) (parts : List FlatCapture)
     (q : Situation)
     → size ≡ 2 + length parts → AreCaptured old q shared.value parts → IsMade old mid size 0 (Closure p shared) w
-    → Steps mid new (λ names s b. moment (come_to (value (value_of_word names w))) (frames names mid 0) (state names mid b))
-    → Steps old new (λ names s b. ended
+    → StepsTo mid new (λ names s b. configuration (come_to (value (value_of_word names w))) (frames names mid 0) (state names mid b))
+    → StepsTo old new (λ names s b. ended
     (make_closure s.limit p (map (captured_part (at names old q).environment (state names old b)) parts) (state names old b)
     (λ v after. gives v after)) (frames names old 0))
 function_made old mid new p size shared w parts q many captured made s =
@@ -58,7 +58,7 @@ function_made old mid new p size shared w parts q many captured made s =
       given = s.given ∙ given_is;
       comes = λ names b g.
           s.comes names b (let P : Given → Type 0 = λ x. IsGiven names x in subst P (sym given_is) g)
-          ∙ ap (λ (m : Machine). moment (come_to (value (value_of_word names w))) (frames names m 0) (state names mid b)) made.same
+          ∙ ap (λ (m : Machine). configuration (come_to (value (value_of_word names w))) (frames names m 0) (state names mid b)) made.same
           ∙ sym (ap (λ r. ended r (frames names old 0))
           (sym (closure_built names (limit_of old.given.limit) p size shared (captured_part (at names old q).environment (state names old b)) parts
           (state names old b)
@@ -66,16 +66,16 @@ function_made old mid new p size shared w parts q many captured made s =
           ∙ made.state_is names b));
     }
 
-pub function_denied : (old new : Machine) (p size : ℕ) (shared : Rc (ItemList Captured) Global) (parts : List FlatPart) (q : Situation)
+pub function_denied : (old new : Machine) (p size : ℕ) (shared : Rc (ItemList Captured) Global) (parts : List FlatCapture) (q : Situation)
     → size ≡ 2 + length parts → AreCaptured old q shared.value parts → IsDenied old new size 0 (Closure p shared)
-    → Steps old new (λ names s b. ended
+    → StepsTo old new (λ names s b. ended
     (make_closure s.limit p (map (captured_part (at names old q).environment (state names old b)) parts) (state names old b)
     (λ v after. gives v after)) (frames names old 0))
 function_denied old new p size shared parts q many captured denied = record {
   given = ap (λ (m : Machine). m.given) denied.same;
   comes = λ names b g.
-      ap (λ (m : Machine). moment_of names m b) denied.same
-      ∙ ap (λ (m : Machine). moment (come_to (full denied.asked denied.left)) (frames names old 0) (state names m b))
+      ap (λ (m : Machine). configuration_of names m b) denied.same
+      ∙ ap (λ (m : Machine). configuration (come_to (full denied.asked denied.left)) (frames names old 0) (state names m b))
       (sym (ap (λ (m : Machine). record m { control = old.control }) denied.same))
       ∙ sym (ap (λ r. ended r (frames names old 0))
       (sym (closure_built names (limit_of old.given.limit) p size shared (captured_part (at names old q).environment (state names old b)) parts

@@ -7,16 +7,16 @@ use Rattle.flat_language.specs.declared.flat_core.FlatBinding.{FlatBinding}
 use Rattle.flat_language.specs.declared.flat_core.FlatDynBinding.{FlatDynBinding}
 use Rattle.flat_language.specs.FlatForm.{FlatForm}
 use Rattle.eval_store.specs.declared.word.Word.{Word}
-use Rattle.eval_state.specs.declared.situation.Around.{Around}
+use Rattle.eval_state.specs.declared.situation.DynamicLinks.{DynamicLinks}
 use Rattle.eval_state.specs.declared.situation.Situation.{Situation}
 use Rattle.eval_state.specs.declared.situation.Activation.{Activation}
 use Rattle.eval_state.specs.declared.frame.Outcome.{Outcome}
-use Rattle.eval_state.specs.declared.frame.Frame.{Frame}
-use Rattle.eval_state.specs.declared.frame.Frame.TheVariants as frame
+use Rattle.eval_state.specs.declared.frame.ContinuationFrame.{ContinuationFrame}
+use Rattle.eval_state.specs.declared.frame.ContinuationFrame.TheVariants as frame
 use Rattle.eval_control.specs.Passing.{waiting_operands, WantsMore}
 
 -- every frame that takes any outcome is of one of these kinds
-pub no_other_takes : (w : Frame) → waiting_operands w ≡ None
+pub no_other_takes : (w : ContinuationFrame) → waiting_operands w ≡ None
     → ((a : ℕ) (b : ℕ) (c : ℕ) → w ≡ frame.Block a b c → ⊥)
     → ((a : ℕ) (b : Word) (c : ℕ) → w ≡ frame.Catch a b c → ⊥)
     → ((a : ℕ) (b : Word) (c : Word) (d : ℕ) → w ≡ frame.Signal a b c d → ⊥)
@@ -41,7 +41,7 @@ no_other_takes (frame.Binds bs n m) h not_0 not_1 not_2 not_3 not_4 not_5 not_6 
 no_other_takes w h not_0 not_1 not_2 not_3 not_4 not_5 not_6 not_7 not_8 not_9 = absurd (cc)
 
 -- and every frame that waits for a value and wants the machine alone of one of these
-pub no_other_waits : (w : Frame) → is_some (waiting_operands w) ≡ true → WantsMore w ≡ false
+pub no_other_waits : (w : ContinuationFrame) → is_some (waiting_operands w) ≡ true → WantsMore w ≡ false
     → ((a : VariablePlace) (b : Situation) → w ≡ frame.SetLocal a b → ⊥)
     → ((a : Bor (List FlatForm)) (b : ℕ) (c : Situation) → w ≡ frame.Sequence a b c → ⊥)
     → ((a : Bor (List FlatClause)) (b : ℕ) (c : Situation) → w ≡ frame.Clause a b c → ⊥)
@@ -59,7 +59,7 @@ pub no_other_waits : (w : Frame) → is_some (waiting_operands w) ≡ true → W
     → ((a : Bor FlatForm) (b : Situation) → w ≡ frame.ContinueCondition a b → ⊥)
     → ((a : Word) (b : Situation) → w ≡ frame.ContinueValue a b → ⊥)
     → ((a : Outcome) → w ≡ frame.Kept a → ⊥)
-    → ((a : ℕ) (b : Around) → w ≡ frame.HandlerReturn a b → ⊥)
+    → ((a : ℕ) (b : DynamicLinks) → w ≡ frame.HandlerReturn a b → ⊥)
     → ((a : ℕ) → w ≡ frame.MainForm a → ⊥)
     → ((a : ℕ) (b : Bor (List FlatForm)) (c : ℕ) → w ≡ frame.MainForms a b c → ⊥)
     → ⊥

@@ -9,7 +9,7 @@ use Rattle.flat_language.specs.FlatForm.{FlatForm, FlatForms}
 use Rattle.flat_language.specs.FlatMeaning.{from_segment}
 use Rattle.flat_language.specs.FlatState.{FlatState}
 use Rattle.flat_language.specs.model.View.{forms}
-use Rattle.eval_machine.specs.Moment.{Setting, Frame, Step, Situation as Within, moment, come_to, descend}
+use Rattle.eval_machine.specs.Configuration.{Setting, ContinuationFrame, Transition, Situation as Within, configuration, come_to, descend}
 use Rattle.eval_machine.specs.Step.{turn_step, cleanup_step, segments_step}
 use Rattle.eval_store.specs.declared.word.Word.{Word}
 use Rattle.eval_state.specs.declared.frame.Outcome.{Outcome}
@@ -42,15 +42,15 @@ unfolding situation_in around_in
 without_inner names m number link s h = rw h refl
 
 -- a transfer to the tagbody, which goes on one level below
-pub turned : (s : Setting) (number e level : ℕ) (all : FlatForms) (at : Within) (w : Value) (landing : Landing) (frames : List Frame) (z : FlatState) → at.level ≡ level → e ≡ number
+pub turned : (s : Setting) (number e level : ℕ) (all : FlatForms) (at : Within) (w : Value) (landing : Landing) (frames : List ContinuationFrame) (z : FlatState) → at.level ≡ level → e ≡ number
     → descend level (λ k. segments_step s number (from_segment (segment_of landing) all) all (record at { level = k })) frames z ≡ turn_step s number all at (exit e w landing) frames z
 turned s number e level all at w landing frames z h k =
     let t : (e == number) ≡ true = grind (arith, nat_tests) in
     ap (λ n. descend n (λ k. segments_step s number (from_segment (segment_of landing) all) all (record at { level = k })) frames z) (sym h) ∙ rw t refl
 
 -- a transfer that goes further
-pub not_turned : (s : Setting) (number e : ℕ) (all : FlatForms) (at : Within) (w : Value) (landing : Landing) (frames : List Frame) (z : FlatState) → e ≢ number
-    → moment (come_to (exit e w landing)) frames z ≡ turn_step s number all at (exit e w landing) frames z
+pub not_turned : (s : Setting) (number e : ℕ) (all : FlatForms) (at : Within) (w : Value) (landing : Landing) (frames : List ContinuationFrame) (z : FlatState) → e ≢ number
+    → configuration (come_to (exit e w landing)) frames z ≡ turn_step s number all at (exit e w landing) frames z
 not_turned s number e all at w landing frames z k =
     let t : (e == number) ≡ false = grind (arith, nat_tests) in
     rw t refl
@@ -61,26 +61,26 @@ unfolding situation_in
 level_in names m number outside = refl
 
 -- no level is left
-pub no_level_left : (next : ℕ → Step) (level : ℕ) (frames : List Frame) (z : FlatState) → level ≡ 0 → moment (come_to more) frames z ≡ descend level next frames z
+pub no_level_left : (next : ℕ → Transition) (level : ℕ) (frames : List ContinuationFrame) (z : FlatState) → level ≡ 0 → configuration (come_to more) frames z ≡ descend level next frames z
 no_level_left next level frames z h = ap (λ n. descend n next frames z) (sym h)
 
 -- there is one below
-pub one_level_less : (next : ℕ → Step) (level below : ℕ) (frames : List Frame) (z : FlatState) → level ≡ suc below → next below frames z ≡ descend level next frames z
+pub one_level_less : (next : ℕ → Transition) (level below : ℕ) (frames : List ContinuationFrame) (z : FlatState) → level ≡ suc below → next below frames z ≡ descend level next frames z
 one_level_less next level below frames z h = ap (λ n. descend n next frames z) (sym h)
 
 -- an outcome that is no transfer goes through a tagbody
-pub turns_other : (names : List (List ℕ)) (s : Setting) (number : ℕ) (all : FlatForms) (at : Within) (o : Outcome) (frames : List Frame) (z : FlatState)
+pub turns_other : (names : List (List ℕ)) (s : Setting) (number : ℕ) (all : FlatForms) (at : Within) (o : Outcome) (frames : List ContinuationFrame) (z : FlatState)
     → ((w : Word) × (o ≡ outcome.Value w)) ⊎ ((asked : ℕ) × (left : ℕ) × (o ≡ outcome.Full asked left)) ⊎ (o ≡ outcome.More)
-    → moment (come_to (outcome_of names o)) frames z ≡ turn_step s number all at (outcome_of names o) frames z
+    → configuration (come_to (outcome_of names o)) frames z ≡ turn_step s number all at (outcome_of names o) frames z
 turns_other names s number all at (outcome.Value x) frames z h = refl
 turns_other names s number all at (outcome.Exit e x l) frames z h = absurd (⊎_elim (λ p. cc) (λ p. ⊎_elim (λ q. cc) (λ q. cc) p) h)
 turns_other names s number all at (outcome.Full asked left) frames z h = refl
 turns_other names s number all at outcome.More frames z h = refl
 
 -- and one that fails goes through a form with a cleanup
-pub cleans_other : (names : List (List ℕ)) (s : Setting) (cleanup : FlatForm) (at : Within) (o : Outcome) (frames : List Frame) (z : FlatState)
+pub cleans_other : (names : List (List ℕ)) (s : Setting) (cleanup : FlatForm) (at : Within) (o : Outcome) (frames : List ContinuationFrame) (z : FlatState)
     → ((asked : ℕ) × (left : ℕ) × (o ≡ outcome.Full asked left)) ⊎ (o ≡ outcome.More)
-    → moment (come_to (outcome_of names o)) frames z ≡ cleanup_step s cleanup at (outcome_of names o) frames z
+    → configuration (come_to (outcome_of names o)) frames z ≡ cleanup_step s cleanup at (outcome_of names o) frames z
 cleans_other names s cleanup at (outcome.Value x) frames z h = absurd (⊎_elim (λ p. cc) (λ p. cc) h)
 cleans_other names s cleanup at (outcome.Exit e x l) frames z h = absurd (⊎_elim (λ p. cc) (λ p. cc) h)
 cleans_other names s cleanup at (outcome.Full asked left) frames z h = refl

@@ -1,7 +1,7 @@
 -- A search along a list, some of its things at a time.
 use Rattle.std.proofs.Common.{◌≡◌, ℕ, ◌+◌, Bool, true, false, List, [], ◌∷◌, ◌++◌, Some, None, refl, ap, sym, ◌∙◌, arith, zero-add, add_assoc}
 use Rattle.lang_meaning.specs.Lookup.{passed}
-use Rattle.eval_machine.specs.Moment.{first_that}
+use Rattle.eval_machine.specs.Configuration.{first_that}
 
 -- how far it has come: what is left, and how many were passed
 pub record IsSearching {X : Type 0} (p : X → Bool) (all left : List X) (count : ℕ) : Type 0 where

@@ -7,14 +7,14 @@ use Rattle.flat_language.specs.FlatForm.{FlatDynamics}
 use Rattle.flat_language.specs.FlatMeaning.{bound_names}
 use Rattle.flat_language.specs.FlatState.{charged}
 use Rattle.flat_language.specs.model.View.{dynamics_of}
-use Rattle.eval_machine.specs.Moment.{first_that}
+use Rattle.eval_machine.specs.Configuration.{first_that}
 use Rattle.eval_store.specs.View.{Beside}
-use Rattle.eval_state.specs.declared.frame.Frame.{Frame}
+use Rattle.eval_state.specs.declared.frame.ContinuationFrame.{ContinuationFrame}
 use Rattle.eval_state.specs.declared.machine.Machine.{Machine}
 use Rattle.eval_state.specs.Chains.{Linking, chained}
 use Rattle.eval_state.specs.Frames.{binding_link}
 use Rattle.eval_state.specs.View.{state, IsGiven}
-use Rattle.eval_control.specs.declared.bound.Bound.{Bound}
+use Rattle.eval_control.specs.declared.bound.FoundBinding.{FoundBinding}
 
 -- whether a binding is of a name
 abbrev pub is_named : List (List ℕ) → ℕ → List ℕ × ℕ → Bool
@@ -29,7 +29,7 @@ abbrev pub bindings_in : List (List ℕ) → FlatDynamics → ℕ → List (List
 bindings_in names bs first = numbered (bound_names names bs) first
 
 -- it was found, and so many were passed
-pub record IsBound (names : List (List ℕ)) (n : ℕ) (bs : List (List ℕ × ℕ)) (bound : Bound) : Type 0 where
+pub record IsBound (names : List (List ℕ)) (n : ℕ) (bs : List (List ℕ × ℕ)) (bound : FoundBinding) : Type 0 where
   pub variable : variable_of names n bs ≡ bound.variable
   pub passed_so_many : bound.passed ≡ passed (is_named names n) bs
 
@@ -47,7 +47,7 @@ IsPlace names n bs (Some place) = IsThere names n bs place
 IsPlace names n bs None = IsNowhere names n bs
 
 -- the same for the bindings of a frame, where it has any
-pub record IsBoundBy (names : List (List ℕ)) (n : ℕ) (w : Frame) (bound : Bound) : Type 0 where
+pub record IsBoundBy (names : List (List ℕ)) (n : ℕ) (w : ContinuationFrame) (bound : FoundBinding) : Type 0 where
   pub bound_by : (l : Linking (List ℕ × ℕ)) → binding_link names w ≡ Some l → IsBound names n l.items bound
 
 -- it was looked for from a link on, and those that were passed were counted

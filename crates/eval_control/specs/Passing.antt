@@ -2,8 +2,8 @@
 use Rattle.std.specs.Prelude.{ℕ, Bool, true, false, Option, Some, None}
 use Rattle.eval_state.specs.declared.frame.Outcome.{Outcome}
 use Rattle.eval_state.specs.declared.frame.Outcome.TheVariants as outcome
-use Rattle.eval_state.specs.declared.frame.Frame.{Frame}
-use Rattle.eval_state.specs.declared.frame.Frame.TheVariants as frame
+use Rattle.eval_state.specs.declared.frame.ContinuationFrame.{ContinuationFrame}
+use Rattle.eval_state.specs.declared.frame.ContinuationFrame.TheVariants as frame
 
 -- whether an outcome is a value, which they do not pass on
 abbrev pub IsValue : Outcome → Bool
@@ -11,7 +11,7 @@ IsValue (outcome.Value w) = true
 IsValue o = false
 
 -- the operands of a frame that waits for a value; other frames take any outcome
-abbrev pub waiting_operands : Frame → Option ℕ
+abbrev pub waiting_operands : ContinuationFrame → Option ℕ
 waiting_operands (frame.Binding bs at body s) = Some at
 waiting_operands (frame.Argument o fs at s) = Some at
 waiting_operands (frame.DynamicValue bs at body s) = Some at
@@ -28,7 +28,7 @@ waiting_operands (frame.Binds bs first next) = None
 waiting_operands w = Some 0
 
 -- whether what a frame does with a value wants an application, or what stands beside the machine
-abbrev pub WantsMore : Frame → Bool
+abbrev pub WantsMore : ContinuationFrame → Bool
 WantsMore (frame.SetGlobal n s) = true
 WantsMore (frame.DefGlobal n) = true
 WantsMore (frame.Argument o fs at s) = true

@@ -3,17 +3,17 @@
 ghost use Rattle.std.specs.Prelude.{◌≡◌, OnOk};
 ghost use Rattle.flat_language.specs.model.View.{forms};
 ghost use Rattle.eval_machine.specs.Step.{segments_step, value_step};
-ghost use Rattle.eval_machine.specs.Moment.{catch_tag};
+ghost use Rattle.eval_machine.specs.Configuration.{catch_tag};
 ghost use Rattle.eval_store.specs.Words.{value_of_word};
 ghost use Rattle.eval_state.specs.Frames.{forms_from, inside_tagbody};
-ghost use Rattle.eval_state.specs.View.{Steps, at, frames, state};
+ghost use Rattle.eval_state.specs.View.{StepsTo, at, frames, state};
 ghost use Rattle.eval_control.specs.Begins.{block_begins, tagbody_begins};
 
 use crate::lists::sequence;
 use base::NoMemory;
-use eval_state::frame::Frame;
+use eval_state::frame::ContinuationFrame;
 use eval_state::machine::Machine;
-use eval_state::situation::{Around, Situation};
+use eval_state::situation::{DynamicLinks, Situation};
 use eval_store::Word;
 use flat_language::{FlatCore, FlatCoreList};
 
@@ -23,11 +23,11 @@ pub fn block<'p>(
     body: &'p FlatCore,
     situation: Situation,
 ) -> Result<(), NoMemory>
-    ensures { OnOk result (Steps machine.old machine.new (λ names s b. block_begins s body.now (at names machine.old situation) (frames names machine.old 0) (state names machine.old b))) }
+    ensures { OnOk result (StepsTo machine.old machine.new (λ names s b. block_begins s body.now (at names machine.old situation) (frames names machine.old 0) (state names machine.old b))) }
 {
     let number = machine.new_exit()?;
     let link = machine.next_link()?;
-    let frame = Frame::Block {
+    let frame = ContinuationFrame::Block {
         number,
         exits: situation.around.exits,
         own: situation.own,
@@ -42,13 +42,13 @@ pub fn catch<'p>(
     tag: Word,
     situation: Situation,
 ) -> Result<(), NoMemory>
-    ensures { OnOk result (Steps machine.old machine.new (λ names s b. value_step s (catch_tag body.now (at names machine.old situation)) (value_of_word names tag) (frames names machine.old 0) (state names machine.old b))) }
+    ensures { OnOk result (StepsTo machine.old machine.new (λ names s b. value_step s (catch_tag body.now (at names machine.old situation)) (value_of_word names tag) (frames names machine.old 0) (state names machine.old b))) }
 {
     let number = machine.new_exit()?;
     let link = machine.next_link()?;
     let exits = situation.around.exits;
     machine.enter(
-        Frame::Catch { number, tag, exits },
+        ContinuationFrame::Catch { number, tag, exits },
         body,
         inside_catch(situation, link),
     )
@@ -60,7 +60,7 @@ pub fn tagbody<'p>(
     list: &'p FlatCoreList,
     situation: Situation,
 ) -> Result<(), NoMemory>
-    ensures { OnOk result (Steps machine.old machine.new (λ names s b. tagbody_begins s (forms list.now) (at names machine.old situation) (frames names machine.old 0) (state names machine.old b))) }
+    ensures { OnOk result (StepsTo machine.old machine.new (λ names s b. tagbody_begins s (forms list.now) (at names machine.old situation) (frames names machine.old 0) (state names machine.old b))) }
 {
     let number = machine.new_exit()?;
     segments(machine, number, list, 0, situation)
@@ -74,15 +74,15 @@ pub fn segments<'p>(
     place: usize,
     outside: Situation,
 ) -> Result<(), NoMemory>
-    ensures { OnOk result (Steps machine.old machine.new (λ names s b. segments_step s number (forms_from list.now place) (forms list.now) (inside_tagbody number (at names machine.old outside)) (frames names machine.old 0) (state names machine.old b))) }
+    ensures { OnOk result (StepsTo machine.old machine.new (λ names s b. segments_step s number (forms_from list.now place) (forms list.now) (inside_tagbody number (at names machine.old outside)) (frames names machine.old 0) (state names machine.old b))) }
 {
     let link = machine.next_link()?;
-    machine.push_frame(Frame::Tagbody {
+    machine.push_frame(ContinuationFrame::Tagbody {
         number,
         segments: list,
         outside,
     })?;
-    machine.push_frame(Frame::LastSegment)?;
+    machine.push_frame(ContinuationFrame::LastSegment)?;
     sequence(machine, Word::Nil, list, place, inside(outside, link))
 }
 
@@ -93,7 +93,7 @@ fn inside(outside: Situation, link: usize) -> Situation
     Situation {
         level: outside.level,
         own: link,
-        around: Around {
+        around: DynamicLinks {
             exits: link,
             handlers: outside.around.handlers,
             bindings: outside.around.bindings,
@@ -109,7 +109,7 @@ fn inside_catch(outside: Situation, link: usize) -> Situation
     Situation {
         level: outside.level,
         own: outside.own,
-        around: Around {
+        around: DynamicLinks {
             exits: link,
             handlers: outside.around.handlers,
             bindings: outside.around.bindings,

@@ -8,15 +8,15 @@ ghost use Rattle.eval_state.specs.Frames.{binding_link};
 ghost use Rattle.eval_control.specs.Bindings.{IsPlace, IsBound, IsBoundBy, IsBindingFound, bindings_in};
 
 use base::{Name, NoMemory};
-use eval_state::frame::Frame;
-use eval_state::links::Kind;
+use eval_state::frame::ContinuationFrame;
+use eval_state::links::LinkKind;
 use eval_state::machine::Machine;
 use eval_store::Spellings;
 use flat_language::FlatDynBindings;
 
 /// What was found: the number of the variable, and how many bindings were passed, the one that was found too.
 #[derive(Clone, Copy)]
-pub struct Bound {
+pub struct FoundBinding {
     pub variable: Option<usize>,
     pub passed: u64,
 }
@@ -35,38 +35,46 @@ pub fn find_binding(
 }
 
 // The innermost binding of a name, from a link on.
-fn look_for_binding(machine: &Machine<'_>, name: Name, link: usize) -> Result<Bound, NoMemory>
+fn look_for_binding(
+    machine: &Machine<'_>,
+    name: Name,
+    link: usize,
+) -> Result<FoundBinding, NoMemory>
     ensures { IfOk result (λ bound. (names : List (List ℕ)) → IsSpelling names machine.now.given.spellings → IsBound names name.0 (chained (binding_link names) (reverse machine.now.frames.items) link) bound) }
 {
     let mut left = link;
     let mut passed: u64 = 0;
-    while let Some((frame, behind)) = machine.nearest(Kind::Bindings, left) {
+    while let Some((frame, behind)) = machine.nearest(LinkKind::Bindings, left) {
         let here = bound_by(frame, name, machine.given.spellings)?;
         let Some(more) = passed.checked_add(here.passed) else {
             return Err(NoMemory);
         };
         passed = more;
         if here.variable.is_some() {
-            return Ok(Bound {
+            return Ok(FoundBinding {
                 variable: here.variable,
                 passed,
             });
         }
         left = behind;
     }
-    Ok(Bound {
+    Ok(FoundBinding {
         variable: None,
         passed,
     })
 }
 
 // The first binding of a name among those of a frame.
-fn bound_by(frame: &Frame<'_>, name: Name, spellings: Spellings) -> Result<Bound, NoMemory>
+fn bound_by(
+    frame: &ContinuationFrame<'_>,
+    name: Name,
+    spellings: Spellings,
+) -> Result<FoundBinding, NoMemory>
     ensures { IfOk result (λ bound. (names : List (List ℕ)) → IsSpelling names spellings → IsBoundBy names name.0 frame.now bound) }
 {
     match frame {
-        Frame::Binds(list, first, _) => bound_in(list, *first, name, spellings),
-        _ => Ok(Bound {
+        ContinuationFrame::Binds(list, first, _) => bound_in(list, *first, name, spellings),
+        _ => Ok(FoundBinding {
             variable: None,
             passed: 0,
         }),
@@ -79,7 +87,7 @@ fn bound_in(
     first: usize,
     name: Name,
     spellings: Spellings,
-) -> Result<Bound, NoMemory>
+) -> Result<FoundBinding, NoMemory>
     ensures { IfOk result (λ bound. (names : List (List ℕ)) → IsSpelling names spellings → IsBound names name.0 (bindings_in names (dynamics_of list.now) first) bound) }
 {
     match place_in(list, name, spellings) {
@@ -90,12 +98,12 @@ fn bound_in(
             let Some(passed) = (place as u64).checked_add(1) else {
                 return Err(NoMemory);
             };
-            Ok(Bound {
+            Ok(FoundBinding {
                 variable: Some(number),
                 passed,
             })
         }
-        None => Ok(Bound {
+        None => Ok(FoundBinding {
             variable: None,
             passed: list.len() as u64,
         }),

@@ -5,12 +5,12 @@ ghost use Rattle.flat_language.specs.model.View.{dynamics_of};
 ghost use Rattle.eval_machine.specs.Step.{dynamic_let_step};
 ghost use Rattle.eval_state.specs.Frames.{last_of};
 ghost use Rattle.eval_state.specs.Variables.{AreVariables};
-ghost use Rattle.eval_state.specs.View.{Steps, at, top, frames, state};
+ghost use Rattle.eval_state.specs.View.{StepsTo, at, top, frames, state};
 
 use base::NoMemory;
-use eval_state::frame::Frame;
+use eval_state::frame::ContinuationFrame;
 use eval_state::machine::Machine;
-use eval_state::situation::{Around, Situation};
+use eval_state::situation::{DynamicLinks, Situation};
 use flat_language::{FlatCore, FlatDynBindings};
 
 /// The values of dynamic bindings are there, which are the last operands: they become variables, and the body is
@@ -22,14 +22,14 @@ pub fn dynamic_body<'p>(
     body: &'p FlatCore,
     situation: Situation,
 ) -> Result<(), NoMemory>
-    ensures { OnOk result (Steps machine.old machine.new (λ names s b. dynamic_let_step s (dynamics_of list.now) body.now (top names machine.old count) (at names machine.old situation) (frames names machine.old count) (state names machine.old b))) }
+    ensures { OnOk result (StepsTo machine.old machine.new (λ names s b. dynamic_let_step s (dynamics_of list.now) body.now (top names machine.old count) (at names machine.old situation) (frames names machine.old count) (state names machine.old b))) }
 {
     let first = machine.store.variable_count();
     let held = machine.held_operands(count);
     add_values(machine, held)?;
     machine.drop_operands(count);
     let link = machine.next_link()?;
-    let frame = Frame::Binds(list, first, situation.around.bindings);
+    let frame = ContinuationFrame::Binds(list, first, situation.around.bindings);
     machine.enter(frame, body, inside_bindings(situation, link))
 }
 
@@ -53,7 +53,7 @@ fn inside_bindings(outside: Situation, link: usize) -> Situation
     Situation {
         level: outside.level,
         own: outside.own,
-        around: Around {
+        around: DynamicLinks {
             exits: outside.around.exits,
             handlers: outside.around.handlers,
             bindings: link,

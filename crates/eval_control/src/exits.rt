@@ -7,8 +7,8 @@ ghost use Rattle.eval_state.specs.Frames.{exit_link};
 ghost use Rattle.eval_control.specs.Exits.{exit_of, meets, IsLookedFor};
 
 use base::NoMemory;
-use eval_state::frame::Frame;
-use eval_state::links::Kind;
+use eval_state::frame::ContinuationFrame;
+use eval_state::links::LinkKind;
 use eval_state::machine::Machine;
 use eval_store::{Spellings, Word};
 
@@ -39,29 +39,29 @@ pub struct Exit {
 
 /// What was found, and how many exits were passed, the one that was found too.
 #[derive(Clone, Copy)]
-pub struct Looked {
+pub struct FoundExit {
     pub found: Option<Exit>,
     pub passed: u64,
 }
 
 /// The exit that a frame makes.
-pub fn made_by(frame: &Frame<'_>) -> Option<Exit>
+pub fn made_by(frame: &ContinuationFrame<'_>) -> Option<Exit>
     ensures { (names : List (List ℕ)) → option_map (λ l. l.items) (exit_link names frame.now) ≡ option_map (λ e. exit_of names e ∷ []) result }
 {
     match frame {
-        Frame::Block { number, .. } => Some(Exit {
+        ContinuationFrame::Block { number, .. } => Some(Exit {
             number: *number,
             kind: Kinds::Block,
         }),
-        Frame::Tagbody { number, .. } => Some(Exit {
+        ContinuationFrame::Tagbody { number, .. } => Some(Exit {
             number: *number,
             kind: Kinds::Tagbody,
         }),
-        Frame::Catch { number, tag, .. } => Some(Exit {
+        ContinuationFrame::Catch { number, tag, .. } => Some(Exit {
             number: *number,
             kind: Kinds::Catch(*tag),
         }),
-        Frame::Signal {
+        ContinuationFrame::Signal {
             number,
             condition,
             mark,
@@ -70,7 +70,7 @@ pub fn made_by(frame: &Frame<'_>) -> Option<Exit>
             number: *number,
             kind: Kinds::Signal(*condition, *mark),
         }),
-        Frame::MainForms(..) => Some(Exit {
+        ContinuationFrame::MainForms(..) => Some(Exit {
             number: 0,
             kind: Kinds::End,
         }),
@@ -106,12 +106,12 @@ impl Exit {
 }
 
 /// Looks for an exit from a link on.
-pub fn look_for(machine: &Machine<'_>, sought: Sought, link: usize) -> Result<Looked, NoMemory>
+pub fn look_for(machine: &Machine<'_>, sought: Sought, link: usize) -> Result<FoundExit, NoMemory>
     ensures { IfOk result (λ looked. (names : List (List ℕ)) → IsSpelling names machine.now.given.spellings → IsLookedFor names sought (reverse machine.now.frames.items) link looked) }
 {
     let mut left = link;
     let mut passed: u64 = 0;
-    while let Some((frame, behind)) = machine.nearest(Kind::Exits, left) {
+    while let Some((frame, behind)) = machine.nearest(LinkKind::Exits, left) {
         let Some(more) = passed.checked_add(1) else {
             return Err(NoMemory);
         };
@@ -120,14 +120,14 @@ pub fn look_for(machine: &Machine<'_>, sought: Sought, link: usize) -> Result<Lo
             unreachable!()
         };
         if exit.meets(sought, machine.given.spellings) {
-            return Ok(Looked {
+            return Ok(FoundExit {
                 found: Some(exit),
                 passed,
             });
         }
         left = behind;
     }
-    Ok(Looked {
+    Ok(FoundExit {
         found: None,
         passed,
     })

@@ -3,7 +3,7 @@
 ghost use Rattle.std.specs.Prelude.{◌≡◌, false, OnOk};
 ghost use Rattle.flat_language.specs.FlatForm.{while_form};
 ghost use Rattle.flat_language.specs.model.View.{view_form};
-ghost use Rattle.eval_state.specs.View.{Steps, at, frames, state};
+ghost use Rattle.eval_state.specs.View.{StepsTo, at, frames, state};
 ghost use Rattle.eval_control.specs.Begins.{begins, FormWantsMore};
 
 use crate::blocks::{block, tagbody};
@@ -13,24 +13,28 @@ use crate::lists::{bindings, clauses, dynamics, sequence};
 use crate::literals::literal;
 use crate::locals::local;
 use crate::next_methods::has_next;
-use crate::sites::sited;
+use crate::sites::form_at_site;
 use base::NoMemory;
-use eval_state::frame::Frame;
+use eval_state::frame::ContinuationFrame;
 use eval_state::machine::Machine;
 use eval_state::situation::Situation;
 use eval_store::Word;
 use flat_language::{FlatCore, FlatCoreForm};
 
 /// A loop begins, or goes on.
-pub fn turn<'p>(
+pub fn loop_turn<'p>(
     machine: &mut Machine<'p>,
     test: &'p FlatCore,
     body: &'p FlatCore,
     situation: Situation,
 ) -> Result<(), NoMemory>
-    ensures { OnOk result (Steps machine.old machine.new (λ names s b. begins s (while_form test.now body.now) (at names machine.old situation) (frames names machine.old 0) (state names machine.old b))) }
+    ensures { OnOk result (StepsTo machine.old machine.new (λ names s b. begins s (while_form test.now body.now) (at names machine.old situation) (frames names machine.old 0) (state names machine.old b))) }
 {
-    machine.wait(Frame::WhileTest(test, body, situation), test, situation)
+    machine.wait(
+        ContinuationFrame::WhileTest(test, body, situation),
+        test,
+        situation,
+    )
 }
 
 /// What a form does, once it is charged.
@@ -40,7 +44,7 @@ pub fn begin_kind<'p>(
     situation: Situation,
 ) -> Result<(), NoMemory>
     requires { FormWantsMore (view_form form.now) ≡ false }
-    ensures { OnOk result (Steps machine.old machine.new (λ names s b. begins s (view_form form.now) (at names machine.old situation) (frames names machine.old 0) (state names machine.old b))) }
+    ensures { OnOk result (StepsTo machine.old machine.new (λ names s b. begins s (view_form form.now) (at names machine.old situation) (frames names machine.old 0) (state names machine.old b))) }
 {
     match form {
         FlatCoreForm::Literal(id) => literal(machine, *id, situation),
@@ -51,75 +55,75 @@ pub fn begin_kind<'p>(
         FlatCoreForm::MakeFunction(number, parts) => make_function(
             machine, *number, parts, situation,
         ),
-        FlatCoreForm::While(test, body) => turn(machine, test, body, situation),
+        FlatCoreForm::While(test, body) => loop_turn(machine, test, body, situation),
         FlatCoreForm::Block(body) => block(machine, body, situation),
         FlatCoreForm::Tagbody(list) => tagbody(machine, list, situation),
         FlatCoreForm::Go(exit, segment) => go(machine, *exit, *segment, situation),
         FlatCoreForm::DynamicLet(list, body) => dynamics(machine, list, 0, body, situation),
         FlatCoreForm::HasNext(place) => has_next(machine, *place, situation),
-        FlatCoreForm::Sited(site, form) => sited(machine, *site, form, situation),
+        FlatCoreForm::Sited(site, form) => form_at_site(machine, *site, form, situation),
         FlatCoreForm::SetLocal(place, inside) => machine.wait(
-            Frame::SetLocal(*place, situation),
+            ContinuationFrame::SetLocal(*place, situation),
             inside,
             situation,
         ),
         FlatCoreForm::SetGlobal(name, inside) => machine.wait(
-            Frame::SetGlobal(*name, situation),
+            ContinuationFrame::SetGlobal(*name, situation),
             inside,
             situation,
         ),
         FlatCoreForm::DefGlobal(name, inside) => machine.wait(
-            Frame::DefGlobal(*name),
+            ContinuationFrame::DefGlobal(*name),
             inside,
             situation,
         ),
         FlatCoreForm::Apply(function, list) => machine.wait(
-            Frame::AppliedFunction(list, situation),
+            ContinuationFrame::AppliedFunction(list, situation),
             function,
             situation,
         ),
         FlatCoreForm::Return(exit, inside) => machine.wait(
-            Frame::ReturnValue(*exit, situation),
+            ContinuationFrame::ReturnValue(*exit, situation),
             inside,
             situation,
         ),
         FlatCoreForm::Catch(tag, body) => machine.wait(
-            Frame::CatchTag(body, situation),
+            ContinuationFrame::CatchTag(body, situation),
             tag,
             situation,
         ),
         FlatCoreForm::Throw(tag, value) => machine.wait(
-            Frame::ThrowTag(value, situation),
+            ContinuationFrame::ThrowTag(value, situation),
             tag,
             situation,
         ),
         FlatCoreForm::Unwind(inside, cleanup) => machine.wait(
-            Frame::Cleans(cleanup, situation),
+            ContinuationFrame::Cleans(cleanup, situation),
             inside,
             situation,
         ),
         FlatCoreForm::SetDynamic(name, inside) => machine.wait(
-            Frame::SetDynamic(*name, situation),
+            ContinuationFrame::SetDynamic(*name, situation),
             inside,
             situation,
         ),
         FlatCoreForm::DefDynamic(name, inside) => machine.wait(
-            Frame::DefDynamic(*name),
+            ContinuationFrame::DefDynamic(*name),
             inside,
             situation,
         ),
         FlatCoreForm::WithHandler(handler, body) => machine.wait(
-            Frame::HandlerValue(body, situation),
+            ContinuationFrame::HandlerValue(body, situation),
             handler,
             situation,
         ),
         FlatCoreForm::Signal(condition, mark) => machine.wait(
-            Frame::SignalCondition(mark, situation),
+            ContinuationFrame::SignalCondition(mark, situation),
             condition,
             situation,
         ),
         FlatCoreForm::Continue(condition, value) => machine.wait(
-            Frame::ContinueCondition(value, situation),
+            ContinuationFrame::ContinueCondition(value, situation),
             condition,
             situation,
         ),

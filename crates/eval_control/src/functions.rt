@@ -2,28 +2,28 @@
 
 ghost use Rattle.std.specs.Prelude.{◌≡◌, ◌+◌, List, ℕ, map, length, OnOk, IfOk};
 ghost use Rattle.flat_language.specs.FlatState.{gives, captured_variable, captured_part, make_closure};
-ghost use Rattle.eval_machine.specs.Moment.{ended};
+ghost use Rattle.eval_machine.specs.Configuration.{ended};
 ghost use Rattle.eval_store.specs.View.{Beside};
 ghost use Rattle.eval_store.specs.Words.{captured_of};
 ghost use Rattle.eval_state.specs.declared.situation.Situation.{Situation as Here};
-ghost use Rattle.eval_state.specs.View.{Steps, at, frames, state};
+ghost use Rattle.eval_state.specs.View.{StepsTo, at, frames, state};
 
 use crate::jumps::exit_at;
 use base::{ItemList, NoMemory};
 use eval_state::machine::Machine;
 use eval_state::situation::Situation;
 use eval_store::{Captured, CapturedList, Object};
-use flat_language::{FlatPart, FlatPartList, VariablePlace};
+use flat_language::{FlatCapture, FlatCaptureList, VariablePlace};
 use std::rc::Rc;
 
 /// The function of a procedure is made, with what it captures.
 pub fn make_function<'p>(
     machine: &mut Machine<'p>,
     procedure: usize,
-    parts: &'p FlatPartList,
+    parts: &'p FlatCaptureList,
     situation: Situation,
 ) -> Result<(), NoMemory>
-    ensures { OnOk result (Steps machine.old machine.new (λ names s b. ended (make_closure s.limit procedure (map (captured_part (at names machine.old situation).environment (state names machine.old b)) parts.now) (state names machine.old b) (λ v after. gives v after)) (frames names machine.old 0))) }
+    ensures { OnOk result (StepsTo machine.old machine.new (λ names s b. ended (make_closure s.limit procedure (map (captured_part (at names machine.old situation).environment (state names machine.old b)) parts.now) (state names machine.old b) (λ v after. gives v after)) (frames names machine.old 0))) }
 {
     let size = closure_words(parts)?;
     let shared = shared_parts(machine, parts, situation)?;
@@ -37,7 +37,7 @@ pub fn make_function<'p>(
 // What is captured of these places, for all that share the function.
 fn shared_parts<'p>(
     machine: &Machine<'p>,
-    parts: &FlatPartList,
+    parts: &FlatCaptureList,
     situation: Situation,
 ) -> Result<Rc<CapturedList<'p>>, NoMemory>
     ensures { IfOk result (λ list. (names : List (List ℕ)) (b : Beside) → map (captured_of names) list.value ≡ map (captured_part (at names machine.now situation).environment (state names machine.now b)) parts.now) }
@@ -57,7 +57,7 @@ fn shared_parts<'p>(
 // What is captured of these places.
 fn captured_parts<'p>(
     machine: &Machine<'p>,
-    parts: &FlatPartList,
+    parts: &FlatCaptureList,
     situation: Situation,
 ) -> Result<CapturedList<'p>, NoMemory>
     ensures { IfOk result (λ list. (names : List (List ℕ)) (b : Beside) → map (captured_of names) list ≡ map (captured_part (at names machine.now situation).environment (state names machine.now b)) parts.now) }
@@ -73,38 +73,38 @@ fn captured_parts<'p>(
 // What is captured of a place.
 fn captured_part<'p>(
     machine: &Machine<'p>,
-    part: FlatPart,
+    part: FlatCapture,
     situation: Situation,
 ) -> Result<Captured<'p>, NoMemory>
     ensures { IfOk result (λ c. (names : List (List ℕ)) (b : Beside) → captured_of names c ≡ captured_part (at names machine.now situation).environment (state names machine.now b) part) }
 {
     match part {
-        FlatPart::Variable(place) => Ok(captured_variable(machine, place)),
-        FlatPart::Exit(place) => {
+        FlatCapture::Variable(place) => Ok(captured_variable(machine, place)),
+        FlatCapture::Exit(place) => {
             let exit = exit_at(machine, place, situation)?;
             Ok(Captured::Exit(exit))
         }
-        FlatPart::Method(place) => {
+        FlatCapture::Method(place) => {
             let method = machine.method_at(place)?;
             Ok(Captured::Method(method))
         }
     }
 }
 
-// What is captured of a variable: its cell, where it has one, else its value.
+// What is captured of a variable: its box, where it has one, else its value.
 fn captured_variable<'p>(machine: &Machine<'p>, place: VariablePlace) -> Captured<'p>
     ensures { (names : List (List ℕ)) (b : Beside) (s : Here) → captured_of names result ≡ captured_variable place (at names machine.now s).environment (state names machine.now b) }
 {
     match place {
         VariablePlace::Slot(number) => Captured::Value(machine.slot_value(number)),
-        VariablePlace::SlotCell(number) => Captured::Cell(machine.slot_cell(number)),
+        VariablePlace::SlotBox(number) => Captured::Boxed(machine.slot_box(number)),
         VariablePlace::CapturedValue(number) => Captured::Value(machine.captured_value(number)),
-        VariablePlace::CapturedCell(number) => Captured::Cell(machine.captured_cell(number)),
+        VariablePlace::CapturedBox(number) => Captured::Boxed(machine.captured_box(number)),
     }
 }
 
 // The words of a function that captures so much.
-fn closure_words(parts: &FlatPartList) -> Result<u64, NoMemory>
+fn closure_words(parts: &FlatCaptureList) -> Result<u64, NoMemory>
     ensures { IfOk result (λ words. words ≡ 2 + length parts.now) }
 {
     (parts.len() as u64).checked_add(2).ok_or(NoMemory)

@@ -3,11 +3,11 @@
 ghost use Rattle.std.specs.Prelude.{OnOk};
 ghost use Rattle.flat_language.specs.model.View.{bindings_of};
 ghost use Rattle.eval_machine.specs.Step.{let_step};
-ghost use Rattle.eval_state.specs.View.{Steps, at, top, frames, state};
+ghost use Rattle.eval_state.specs.View.{StepsTo, at, top, frames, state};
 ghost use Rattle.eval_control.specs.LetBodies.{let_enters};
 
 use base::NoMemory;
-use eval_state::frame::Frame;
+use eval_state::frame::ContinuationFrame;
 use eval_state::machine::Machine;
 use eval_state::situation::Situation;
 use flat_language::{FlatBindingList, FlatCore};
@@ -20,9 +20,9 @@ pub fn let_body<'p>(
     body: &'p FlatCore,
     situation: Situation,
 ) -> Result<(), NoMemory>
-    ensures { OnOk result (Steps machine.old machine.new (λ names s b. let_step s (bindings_of list.now) body.now (top names machine.old count) (at names machine.old situation) (frames names machine.old count) (state names machine.old b))) }
+    ensures { OnOk result (StepsTo machine.old machine.new (λ names s b. let_step s (bindings_of list.now) body.now (top names machine.old count) (at names machine.old situation) (frames names machine.old count) (state names machine.old b))) }
 {
-    if machine.take_binding_cells(list)? {
+    if machine.take_binding_boxes(list)? {
         enter_let(machine, list, count, body, situation)
     } else {
         machine.drop_operands(count);
@@ -30,7 +30,7 @@ pub fn let_body<'p>(
     }
 }
 
-// The words of the cells are there: the variables are made, and the body is evaluated.
+// The words of the boxes are there: the variables are made, and the body is evaluated.
 fn enter_let<'p>(
     machine: &mut Machine<'p>,
     list: &'p FlatBindingList,
@@ -38,11 +38,11 @@ fn enter_let<'p>(
     body: &'p FlatCore,
     situation: Situation,
 ) -> Result<(), NoMemory>
-    ensures { OnOk result (Steps machine.old machine.new (λ names s b. let_enters (bindings_of list.now) body.now (top names machine.old count) (at names machine.old situation) (frames names machine.old count) (state names machine.old b))) }
+    ensures { OnOk result (StepsTo machine.old machine.new (λ names s b. let_enters (bindings_of list.now) body.now (top names machine.old count) (at names machine.old situation) (frames names machine.old count) (state names machine.old b))) }
 {
     let before = machine.slot_count();
     let held = machine.held_operands(count);
-    machine.push_frame(Frame::DropsSlots(before))?;
+    machine.push_frame(ContinuationFrame::DropsSlots(before))?;
     machine.add_bindings(list, held)?;
     machine.drop_operands(count);
     machine.evaluate(body, situation);

@@ -5,14 +5,14 @@ ghost use Rattle.eval_machine.specs.Step.{sequence_step, clauses_step, bindings_
 ghost use Rattle.flat_language.specs.model.View.{bindings_of, dynamics_of};
 ghost use Rattle.eval_store.specs.Words.{value_of_word};
 ghost use Rattle.eval_state.specs.Frames.{forms_from, clauses_from, bindings_from, dynamics_from};
-ghost use Rattle.eval_state.specs.View.{Steps, at, top, frames, state};
+ghost use Rattle.eval_state.specs.View.{StepsTo, at, top, frames, state};
 
 use crate::dynamic_bodies::dynamic_body;
 use crate::let_bodies::let_body;
 use base::NoMemory;
-use eval_state::frame::Frame;
+use eval_state::frame::ContinuationFrame;
 use eval_state::machine::Machine;
-use eval_state::places::after;
+use eval_state::places::place_behind;
 use eval_state::situation::Situation;
 use eval_store::Word;
 use flat_language::{FlatBindingList, FlatClauseList, FlatCore, FlatCoreList, FlatDynBindings};
@@ -25,12 +25,16 @@ pub fn sequence<'p>(
     place: usize,
     situation: Situation,
 ) -> Result<(), NoMemory>
-    ensures { OnOk result (Steps machine.old machine.new (λ names s b. sequence_step s (value_of_word names last) (forms_from list.now place) (at names machine.old situation) (frames names machine.old 0) (state names machine.old b))) }
+    ensures { OnOk result (StepsTo machine.old machine.new (λ names s b. sequence_step s (value_of_word names last) (forms_from list.now place) (at names machine.old situation) (frames names machine.old 0) (state names machine.old b))) }
 {
     match list.get(place) {
         Some(form) => {
-            let left = after(place)?;
-            machine.wait(Frame::Sequence(list, left, situation), form, situation)
+            let left = place_behind(place)?;
+            machine.wait(
+                ContinuationFrame::Sequence(list, left, situation),
+                form,
+                situation,
+            )
         }
         None => {
             machine.gives(last);
@@ -46,11 +50,11 @@ pub fn clauses<'p>(
     place: usize,
     situation: Situation,
 ) -> Result<(), NoMemory>
-    ensures { OnOk result (Steps machine.old machine.new (λ names s b. clauses_step s (clauses_from list.now place) (at names machine.old situation) (frames names machine.old 0) (state names machine.old b))) }
+    ensures { OnOk result (StepsTo machine.old machine.new (λ names s b. clauses_step s (clauses_from list.now place) (at names machine.old situation) (frames names machine.old 0) (state names machine.old b))) }
 {
     match list.get(place) {
         Some(clause) => machine.wait(
-            Frame::Clause(list, place, situation),
+            ContinuationFrame::Clause(list, place, situation),
             &clause.test,
             situation,
         ),
@@ -69,11 +73,11 @@ pub fn bindings<'p>(
     body: &'p FlatCore,
     situation: Situation,
 ) -> Result<(), NoMemory>
-    ensures { OnOk result (Steps machine.old machine.new (λ names s b. bindings_step s (bindings_from list.now count) (top names machine.old count) (bindings_of list.now) body.now (at names machine.old situation) (frames names machine.old count) (state names machine.old b))) }
+    ensures { OnOk result (StepsTo machine.old machine.new (λ names s b. bindings_step s (bindings_from list.now count) (top names machine.old count) (bindings_of list.now) body.now (at names machine.old situation) (frames names machine.old count) (state names machine.old b))) }
 {
     match list.get(count) {
         Some(binding) => machine.hold(
-            Frame::Binding(list, count, body, situation),
+            ContinuationFrame::Binding(list, count, body, situation),
             &binding.value,
             situation,
         ),
@@ -89,11 +93,11 @@ pub fn dynamics<'p>(
     body: &'p FlatCore,
     situation: Situation,
 ) -> Result<(), NoMemory>
-    ensures { OnOk result (Steps machine.old machine.new (λ names s b. dynamics_step s (dynamics_from list.now count) (top names machine.old count) (dynamics_of list.now) body.now (at names machine.old situation) (frames names machine.old count) (state names machine.old b))) }
+    ensures { OnOk result (StepsTo machine.old machine.new (λ names s b. dynamics_step s (dynamics_from list.now count) (top names machine.old count) (dynamics_of list.now) body.now (at names machine.old situation) (frames names machine.old count) (state names machine.old b))) }
 {
     match list.get(count) {
         Some(binding) => machine.hold(
-            Frame::DynamicValue(list, count, body, situation),
+            ContinuationFrame::DynamicValue(list, count, body, situation),
             &binding.value,
             situation,
         ),

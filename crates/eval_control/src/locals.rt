@@ -2,12 +2,12 @@
 
 ghost use Rattle.std.specs.Prelude.{◌≡◌, List, ℕ, OnOk};
 ghost use Rattle.flat_language.specs.FlatState.{gives, value_of, set_to};
-ghost use Rattle.eval_machine.specs.Moment.{ended};
+ghost use Rattle.eval_machine.specs.Configuration.{ended};
 ghost use Rattle.eval_store.specs.View.{Beside};
 ghost use Rattle.eval_store.specs.Words.{value_of_word};
 ghost use Rattle.eval_state.specs.declared.situation.Situation.{Situation};
 ghost use Rattle.eval_state.specs.Slots.{IsChanged};
-ghost use Rattle.eval_state.specs.View.{Steps, at, frames, state};
+ghost use Rattle.eval_state.specs.View.{StepsTo, at, frames, state};
 
 use base::NoMemory;
 use eval_state::machine::Machine;
@@ -22,11 +22,9 @@ fn value_of(machine: &Machine<'_>, place: VariablePlace) -> Word
 {
     match place {
         VariablePlace::Slot(number) => machine.slot_value(number),
-        VariablePlace::SlotCell(number) => machine.store.variable(machine.slot_cell(number)),
+        VariablePlace::SlotBox(number) => machine.store.variable(machine.slot_box(number)),
         VariablePlace::CapturedValue(number) => machine.captured_value(number),
-        VariablePlace::CapturedCell(number) => machine
-            .store
-            .variable(machine.captured_cell(number)),
+        VariablePlace::CapturedBox(number) => machine.store.variable(machine.captured_box(number)),
     }
 }
 
@@ -36,14 +34,14 @@ fn set_variable(machine: &mut Machine<'_>, place: VariablePlace, word: Word)
 {
     match place {
         VariablePlace::Slot(number) => machine.set_slot(number, Slot::Value(word)),
-        VariablePlace::SlotCell(number) => {
-            let cell = machine.slot_cell(number);
-            machine.store.set_variable(cell, word);
+        VariablePlace::SlotBox(number) => {
+            let boxed = machine.slot_box(number);
+            machine.store.set_variable(boxed, word);
         }
         VariablePlace::CapturedValue(_) => {}
-        VariablePlace::CapturedCell(number) => {
-            let cell = machine.captured_cell(number);
-            machine.store.set_variable(cell, word);
+        VariablePlace::CapturedBox(number) => {
+            let boxed = machine.captured_box(number);
+            machine.store.set_variable(boxed, word);
         }
     }
 }
@@ -54,7 +52,7 @@ pub fn local(
     place: VariablePlace,
     situation: Situation,
 ) -> Result<(), NoMemory>
-    ensures { OnOk result (Steps machine.old machine.new (λ names s b. ended (gives (value_of place (at names machine.old situation).environment (state names machine.old b)) (state names machine.old b)) (frames names machine.old 0))) }
+    ensures { OnOk result (StepsTo machine.old machine.new (λ names s b. ended (gives (value_of place (at names machine.old situation).environment (state names machine.old b)) (state names machine.old b)) (frames names machine.old 0))) }
 {
     let word = value_of(machine, place);
     machine.gives(word);
@@ -68,7 +66,7 @@ pub fn set_local(
     word: Word,
     situation: Situation,
 ) -> Result<(), NoMemory>
-    ensures { OnOk result (Steps machine.old machine.new (λ names s b. ended (gives (value_of_word names word) (set_to place (value_of_word names word) (at names machine.old situation).environment (state names machine.old b))) (frames names machine.old 0))) }
+    ensures { OnOk result (StepsTo machine.old machine.new (λ names s b. ended (gives (value_of_word names word) (set_to place (value_of_word names word) (at names machine.old situation).environment (state names machine.old b))) (frames names machine.old 0))) }
 {
     set_variable(machine, place, word);
     machine.gives(word);

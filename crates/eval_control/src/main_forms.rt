@@ -1,17 +1,17 @@
 // The main forms of a program run one after another, each in an activation of its own with words of the stack.
 
 ghost use Rattle.std.specs.Prelude.{◌≡◌, OnOk, drop};
-ghost use Rattle.eval_machine.specs.Moment.{main_form, main_forms};
+ghost use Rattle.eval_machine.specs.Configuration.{main_form, main_forms};
 ghost use Rattle.eval_machine.specs.Step.{value_step};
 ghost use Rattle.eval_store.specs.Words.{value_of_word};
-ghost use Rattle.eval_state.specs.View.{Steps, frames, state};
+ghost use Rattle.eval_state.specs.View.{StepsTo, frames, state};
 ghost use Rattle.eval_control.specs.Mains.{main_form_step};
 
 use base::{NoMemory, Place};
-use eval_state::frame::Frame;
+use eval_state::frame::ContinuationFrame;
 use eval_state::machine::Machine;
-use eval_state::places::after;
-use eval_state::situation::{Activation, Around, Situation};
+use eval_state::places::place_behind;
+use eval_state::situation::{Activation, DynamicLinks, Situation};
 use eval_state::sizes::form_words;
 use eval_store::Word;
 use flat_language::{FlatCore, FlatCoreList};
@@ -24,7 +24,7 @@ fn outermost(level: u64, link: usize) -> Situation
     Situation {
         level,
         own: 0,
-        around: Around {
+        around: DynamicLinks {
             exits: link,
             handlers: 0,
             bindings: 0,
@@ -41,11 +41,11 @@ pub fn main_forms<'p>(
     place: usize,
     last: Word,
 ) -> Result<(), NoMemory>
-    ensures { OnOk result (Steps machine.old machine.new (λ names s b. value_step s (main_forms level (drop place list.now)) (value_of_word names last) (frames names machine.old 0) (state names machine.old b))) }
+    ensures { OnOk result (StepsTo machine.old machine.new (λ names s b. value_step s (main_forms level (drop place list.now)) (value_of_word names last) (frames names machine.old 0) (state names machine.old b))) }
 {
     match list.get(place) {
         Some(form) => {
-            let left = after(place)?;
+            let left = place_behind(place)?;
             main_form(machine, level, list, left, form)
         }
         None => {
@@ -63,30 +63,30 @@ fn main_form<'p>(
     left: usize,
     form: &'p FlatCore,
 ) -> Result<(), NoMemory>
-    ensures { OnOk result (Steps machine.old machine.new (λ names s b. main_form_step s level (drop left list.now) form.now (frames names machine.old 0) (state names machine.old b))) }
+    ensures { OnOk result (StepsTo machine.old machine.new (λ names s b. main_form_step s level (drop left list.now) form.now (frames names machine.old 0) (state names machine.old b))) }
 {
     let words = form_words(form)?;
     let before = machine.store.stack();
     let link = machine.next_link()?;
-    machine.push_frame(Frame::MainForms(level, list, left))?;
+    machine.push_frame(ContinuationFrame::MainForms(level, list, left))?;
     if !machine.ask(0, words)? {
         return Ok(());
     }
-    machine.push_frame(Frame::MainForm(before))?;
+    machine.push_frame(ContinuationFrame::MainForm(before))?;
     let activation = Activation {
         captured: None,
         method: None,
         slots: 0,
     };
     let caller = mem::replace(&mut machine.current, activation);
-    machine.push_frame(Frame::RestoresSlots(caller))?;
+    machine.push_frame(ContinuationFrame::RestoresSlots(caller))?;
     machine.evaluate(form, outermost(level, link));
     Ok(())
 }
 
 /// The value of a main form: the words of the stack are as many as before it.
 pub fn main_value(machine: &mut Machine<'_>, stack: u64, word: Word)
-    ensures { Steps machine.old machine.new (λ names s b. value_step s (main_form stack) (value_of_word names word) (frames names machine.old 0) (state names machine.old b)) }
+    ensures { StepsTo machine.old machine.new (λ names s b. value_step s (main_form stack) (value_of_word names word) (frames names machine.old 0) (state names machine.old b)) }
 {
     machine.store.set_stack(stack);
     machine.gives(word);

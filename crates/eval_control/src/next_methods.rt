@@ -5,10 +5,10 @@ ghost use Rattle.lang_meaning.specs.Meaning.{is_next};
 ghost use Rattle.lang_meaning.specs.Objects.{Called as Chained};
 ghost use Rattle.lang_meaning.specs.Values.{truth};
 ghost use Rattle.flat_language.specs.FlatState.{gives, method_of};
-ghost use Rattle.eval_machine.specs.Moment.{ended};
+ghost use Rattle.eval_machine.specs.Configuration.{ended};
 ghost use Rattle.eval_store.specs.Words.{value_of_word, rest_of};
 ghost use Rattle.eval_state.specs.declared.situation.Situation.{Situation as Here};
-ghost use Rattle.eval_state.specs.View.{Steps, at, frames, state};
+ghost use Rattle.eval_state.specs.View.{StepsTo, at, frames, state};
 
 use base::NoMemory;
 use eval_state::machine::Machine;
@@ -32,7 +32,7 @@ pub fn has_next(
     place: MethodPlace,
     situation: Situation,
 ) -> Result<(), NoMemory>
-    ensures { OnOk result (Steps machine.old machine.new (λ names s b. ended (gives (truth (is_next (method_of place (at names machine.old situation).environment))) (state names machine.old b)) (frames names machine.old 0))) }
+    ensures { OnOk result (StepsTo machine.old machine.new (λ names s b. ended (gives (truth (is_next (method_of place (at names machine.old situation).environment))) (state names machine.old b)) (frames names machine.old 0))) }
 {
     let word = truth_word(is_next(machine, place));
     machine.gives(word);

@@ -6,18 +6,18 @@ ghost use Rattle.lang_meaning.specs.Meaning.{segment_of};
 ghost use Rattle.flat_language.specs.FlatMeaning.{from_segment};
 ghost use Rattle.flat_language.specs.FlatState.{FlatState, caught};
 ghost use Rattle.flat_language.specs.model.View.{forms};
-ghost use Rattle.eval_machine.specs.Moment.{moment, ended, come_to, descend};
+ghost use Rattle.eval_machine.specs.Configuration.{configuration, ended, come_to, descend};
 ghost use Rattle.eval_machine.specs.Step.{segments_step, turn_step, cleanup_step};
 ghost use Rattle.eval_state.specs.Chains.{chained};
 ghost use Rattle.eval_state.specs.Frames.{landing_of, outcome_of, exit_link, inside_tagbody};
-ghost use Rattle.eval_state.specs.View.{Steps, at, frames, state};
+ghost use Rattle.eval_state.specs.View.{StepsTo, at, frames, state};
 
 use crate::blocks;
 use crate::remaining::exits_from;
 use base::NoMemory;
-use eval_state::frame::{Frame, Landing, Outcome};
+use eval_state::frame::{ContinuationFrame, Landing, Outcome};
 use eval_state::machine::Machine;
-use eval_state::situation::{Around, Situation};
+use eval_state::situation::{DynamicLinks, Situation};
 use flat_language::{FlatCore, FlatCoreList};
 
 // What comes out of an exit: a transfer to it gives a value.
@@ -64,7 +64,7 @@ fn with_exits(situation: Situation, exits: usize) -> Situation
     Situation {
         level: situation.level,
         own: situation.own,
-        around: Around {
+        around: DynamicLinks {
             exits,
             handlers: situation.around.handlers,
             bindings: situation.around.bindings,
@@ -75,7 +75,7 @@ fn with_exits(situation: Situation, exits: usize) -> Situation
 
 /// An outcome goes on to the frames below, and so many operands go.
 pub fn pass(machine: &mut Machine<'_>, outcome: Outcome, operands: usize)
-    ensures { Steps machine.old machine.new (λ names s b. moment (come_to (outcome_of names outcome)) (frames names machine.old operands) (state names machine.old b)) }
+    ensures { StepsTo machine.old machine.new (λ names s b. configuration (come_to (outcome_of names outcome)) (frames names machine.old operands) (state names machine.old b)) }
 {
     machine.drop_operands(operands);
     machine.come_to(outcome);
@@ -83,7 +83,7 @@ pub fn pass(machine: &mut Machine<'_>, outcome: Outcome, operands: usize)
 
 /// An outcome comes to an exit.
 pub fn catches(machine: &mut Machine<'_>, number: u64, outcome: Outcome)
-    ensures { Steps machine.old machine.new (λ names s b. ended (caught number (record { outcome = outcome_of names outcome; state = state names machine.old b })) (frames names machine.old 0)) }
+    ensures { StepsTo machine.old machine.new (λ names s b. ended (caught number (record { outcome = outcome_of names outcome; state = state names machine.old b })) (frames names machine.old 0)) }
 {
     machine.come_to(caught(number, outcome));
 }
@@ -96,7 +96,7 @@ pub fn turns<'p>(
     outside: Situation,
     outcome: Outcome,
 ) -> Result<(), NoMemory>
-    ensures { OnOk result (Steps machine.old machine.new (λ names s b. turn_step s number (forms segments.now) (inside_tagbody number (at names machine.old outside)) (outcome_of names outcome) (frames names machine.old 0) (state names machine.old b))) }
+    ensures { OnOk result (StepsTo machine.old machine.new (λ names s b. turn_step s number (forms segments.now) (inside_tagbody number (at names machine.old outside)) (outcome_of names outcome) (frames names machine.old 0) (state names machine.old b))) }
 {
     match outcome {
         Outcome::Exit(exit, _, landing) => {
@@ -122,7 +122,7 @@ fn turns_to<'p>(
     landing: Landing,
     outside: Situation,
 ) -> Result<(), NoMemory>
-    ensures { OnOk result (Steps machine.old machine.new (λ names s b. descend outside.level (λ k. segments_step s number (from_segment (segment_of (landing_of landing)) (forms segments.now)) (forms segments.now) (record (inside_tagbody number (at names machine.old outside)) { level = k })) (frames names machine.old 0) (state names machine.old b))) }
+    ensures { OnOk result (StepsTo machine.old machine.new (λ names s b. descend outside.level (λ k. segments_step s number (from_segment (segment_of (landing_of landing)) (forms segments.now)) (forms segments.now) (record (inside_tagbody number (at names machine.old outside)) { level = k })) (frames names machine.old 0) (state names machine.old b))) }
 {
     let Some(below) = outside.level.checked_sub(1) else {
         machine.come_to(Outcome::More);
@@ -139,13 +139,17 @@ pub fn cleans<'p>(
     situation: Situation,
     outcome: Outcome,
 ) -> Result<(), NoMemory>
-    ensures { OnOk result (Steps machine.old machine.new (λ names s b. cleanup_step s cleanup.now (at names machine.old situation) (outcome_of names outcome) (frames names machine.old 0) (state names machine.old b))) }
+    ensures { OnOk result (StepsTo machine.old machine.new (λ names s b. cleanup_step s cleanup.now (at names machine.old situation) (outcome_of names outcome) (frames names machine.old 0) (state names machine.old b))) }
 {
     match outcome {
-        Outcome::Value(_) => machine.wait(Frame::Kept(outcome), cleanup, situation),
+        Outcome::Value(_) => machine.wait(ContinuationFrame::Kept(outcome), cleanup, situation),
         Outcome::Exit(exit, _, _) => {
             let exits = exits_from(machine, exit, situation.around.exits);
-            machine.wait(Frame::Kept(outcome), cleanup, with_exits(situation, exits))
+            machine.wait(
+                ContinuationFrame::Kept(outcome),
+                cleanup,
+                with_exits(situation, exits),
+            )
         }
         Outcome::Full { .. } | Outcome::More => {
             machine.come_to(outcome);

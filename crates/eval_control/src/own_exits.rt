@@ -5,18 +5,18 @@ ghost use Rattle.eval_state.specs.Chains.{chained};
 ghost use Rattle.eval_state.specs.Frames.{own_link, own_in};
 
 use base::NoMemory;
-use eval_state::frame::Frame;
-use eval_state::links::Kind;
+use eval_state::frame::ContinuationFrame;
+use eval_state::links::LinkKind;
 use eval_state::machine::Machine;
-use eval_state::places::after;
+use eval_state::places::place_behind;
 
 // The number of the exit that a frame makes for its own activation.
-fn own_number(frame: &Frame<'_>) -> Option<u64>
+fn own_number(frame: &ContinuationFrame<'_>) -> Option<u64>
     ensures { option_map (λ l. l.items) (own_link frame.now) ≡ option_map (λ n. n ∷ []) result }
 {
     match frame {
-        Frame::Block { number, .. } => Some(*number),
-        Frame::Tagbody { number, .. } => Some(*number),
+        ContinuationFrame::Block { number, .. } => Some(*number),
+        ContinuationFrame::Tagbody { number, .. } => Some(*number),
         _ => None,
     }
 }
@@ -39,8 +39,8 @@ fn own_count(machine: &Machine<'_>, link: usize) -> Result<usize, NoMemory>
 {
     let mut left = link;
     let mut count = 0;
-    while let Some((_frame, behind)) = machine.nearest(Kind::Own, left) {
-        count = after(count)?;
+    while let Some((_frame, behind)) = machine.nearest(LinkKind::Own, left) {
+        count = place_behind(count)?;
         left = behind;
     }
     Ok(count)
@@ -52,7 +52,7 @@ fn own_behind(machine: &Machine<'_>, link: usize, others: usize) -> Option<u64>
 {
     let mut left = link;
     let mut more = others;
-    while let Some((frame, behind)) = machine.nearest(Kind::Own, left) {
+    while let Some((frame, behind)) = machine.nearest(LinkKind::Own, left) {
         if more == 0 {
             return own_number(frame);
         }

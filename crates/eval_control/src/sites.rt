@@ -2,24 +2,24 @@
 
 ghost use Rattle.std.specs.Prelude.{◌≡◌};
 ghost use Rattle.lang_meaning.specs.Meaning.{place_of_site};
-ghost use Rattle.eval_machine.specs.Moment.{moment, evaluate};
-ghost use Rattle.eval_state.specs.View.{Steps, at, frames, state};
+ghost use Rattle.eval_machine.specs.Configuration.{configuration, evaluate};
+ghost use Rattle.eval_state.specs.View.{StepsTo, at, frames, state};
 ghost use Rattle.std.specs.Prelude.{OnOk};
 
 use base::{NoMemory, Place};
 use eval_state::machine::Machine;
-use eval_state::situation::{Around, Situation};
+use eval_state::situation::{DynamicLinks, Situation};
 use flat_language::FlatCore;
 use lang_meaning::SiteId;
 
 /// A form of the file is evaluated, which has a site.
-pub fn sited<'p>(
+pub fn form_at_site<'p>(
     machine: &mut Machine<'p>,
     site: SiteId,
     form: &'p FlatCore,
     situation: Situation,
 ) -> Result<(), NoMemory>
-    ensures { OnOk result (Steps machine.old machine.new (λ names s b. moment (evaluate form.now (record (at names machine.old situation) { around = record (at names machine.old situation).around { site = place_of_site s.program.sites site } })) (frames names machine.old 0) (state names machine.old b))) }
+    ensures { OnOk result (StepsTo machine.old machine.new (λ names s b. configuration (evaluate form.now (record (at names machine.old situation) { around = record (at names machine.old situation).around { site = place_of_site s.program.sites site } })) (frames names machine.old 0) (state names machine.old b))) }
 {
     let place = place_of(machine, site);
     machine.evaluate(form, at_place(situation, place));
@@ -43,7 +43,7 @@ fn at_place(situation: Situation, place: Place) -> Situation
     Situation {
         level: situation.level,
         own: situation.own,
-        around: Around {
+        around: DynamicLinks {
             exits: situation.around.exits,
             handlers: situation.around.handlers,
             bindings: situation.around.bindings,

@@ -4,14 +4,14 @@ ghost use Rattle.std.specs.Prelude.{◌≡◌, ◌∷◌, [], OnOk, IfOk, Option
 ghost use Rattle.eval_store.specs.Words.{value_of_word};
 ghost use Rattle.eval_machine.specs.Applications.{transfer, throw_to, continue_with};
 ghost use Rattle.eval_state.specs.Frames.{landing_of};
-ghost use Rattle.eval_state.specs.View.{Steps, frames, state, surroundings};
+ghost use Rattle.eval_state.specs.View.{StepsTo, frames, state, dynamic_context};
 ghost use Rattle.eval_control.specs.Exits.{IsFound, leaving, meets};
 
 use crate::exits::{Exit, Sought, look_for};
 use base::NoMemory;
 use eval_state::frame::{Landing, Outcome};
 use eval_state::machine::Machine;
-use eval_state::situation::Around;
+use eval_state::situation::DynamicLinks;
 use eval_store::Word;
 use lang_meaning::ClassId;
 
@@ -19,7 +19,11 @@ use lang_meaning::ClassId;
 const CONTROL_ERROR: ClassId = 22;
 
 // The exit that is looked for; each one that is passed counts.
-fn find(machine: &mut Machine<'_>, sought: Sought, link: usize) -> Result<Option<Exit>, NoMemory>
+fn find_exit(
+    machine: &mut Machine<'_>,
+    sought: Sought,
+    link: usize,
+) -> Result<Option<Exit>, NoMemory>
     ensures { IfOk result (λ found. IsFound machine.old machine.new sought link found) }
 {
     let looked = look_for(machine, sought, link)?;
@@ -28,17 +32,17 @@ fn find(machine: &mut Machine<'_>, sought: Sought, link: usize) -> Result<Option
 }
 
 // A transfer to the exit that is looked for; where there is none, a control error.
-fn leave(
+fn leave_to(
     machine: &mut Machine<'_>,
     sought: Sought,
     word: Word,
     landing: Landing,
     level: u64,
-    around: Around,
+    around: DynamicLinks,
 ) -> Result<(), NoMemory>
-    ensures { OnOk result (Steps machine.old machine.new (λ names s b. leaving s (meets names sought) (value_of_word names word) (landing_of landing) level (surroundings names machine.old around) (frames names machine.old 0) (state names machine.old b))) }
+    ensures { OnOk result (StepsTo machine.old machine.new (λ names s b. leaving s (meets names sought) (value_of_word names word) (landing_of landing) level (dynamic_context names machine.old around) (frames names machine.old 0) (state names machine.old b))) }
 {
-    match find(machine, sought, around.exits)? {
+    match find_exit(machine, sought, around.exits)? {
         Some(exit) => {
             machine.come_to(Outcome::Exit(exit.number, word, landing));
             Ok(())
@@ -54,12 +58,12 @@ pub fn transfer(
     word: Word,
     landing: Landing,
     level: u64,
-    around: Around,
+    around: DynamicLinks,
 ) -> Result<(), NoMemory>
-    ensures { OnOk result (Steps machine.old machine.new (λ names s b. transfer s exit (value_of_word names word) (landing_of landing) level (surroundings names machine.old around) (frames names machine.old 0) (state names machine.old b))) }
+    ensures { OnOk result (StepsTo machine.old machine.new (λ names s b. transfer s exit (value_of_word names word) (landing_of landing) level (dynamic_context names machine.old around) (frames names machine.old 0) (state names machine.old b))) }
 {
     match exit {
-        Some(number) => leave(
+        Some(number) => leave_to(
             machine,
             Sought::Number(number),
             word,
@@ -77,11 +81,11 @@ pub fn throw_to(
     tag: Word,
     word: Word,
     level: u64,
-    around: Around,
+    around: DynamicLinks,
 ) -> Result<(), NoMemory>
-    ensures { OnOk result (Steps machine.old machine.new (λ names s b. throw_to s (value_of_word names tag) (value_of_word names word) level (surroundings names machine.old around) (frames names machine.old 0) (state names machine.old b))) }
+    ensures { OnOk result (StepsTo machine.old machine.new (λ names s b. throw_to s (value_of_word names tag) (value_of_word names word) level (dynamic_context names machine.old around) (frames names machine.old 0) (state names machine.old b))) }
 {
-    leave(
+    leave_to(
         machine,
         Sought::CatchOf(tag),
         word,
@@ -97,11 +101,11 @@ pub fn continue_with(
     condition: Word,
     word: Word,
     level: u64,
-    around: Around,
+    around: DynamicLinks,
 ) -> Result<(), NoMemory>
-    ensures { OnOk result (Steps machine.old machine.new (λ names s b. continue_with s (value_of_word names condition) (value_of_word names word) level (surroundings names machine.old around) (frames names machine.old 0) (state names machine.old b))) }
+    ensures { OnOk result (StepsTo machine.old machine.new (λ names s b. continue_with s (value_of_word names condition) (value_of_word names word) level (dynamic_context names machine.old around) (frames names machine.old 0) (state names machine.old b))) }
 {
-    match find(machine, Sought::SignalOf(condition), around.exits)? {
+    match find_exit(machine, Sought::SignalOf(condition), around.exits)? {
         Some(exit) => {
             if exit.is_continuable() {
                 machine.come_to(Outcome::Exit(exit.number, word, Landing::Segment(0)));

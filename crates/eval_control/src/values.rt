@@ -6,13 +6,13 @@ ghost use Rattle.lang_meaning.specs.Values.{is_true, nil};
 ghost use Rattle.flat_language.specs.FlatForm.{while_form};
 ghost use Rattle.flat_language.specs.FlatState.{gives};
 ghost use Rattle.flat_language.specs.model.View.{bindings_of, dynamics_of};
-ghost use Rattle.eval_machine.specs.Moment.{moment, ended, evaluate, awaits, descend, while_body};
-ghost use Rattle.eval_machine.specs.Moment as plain;
+ghost use Rattle.eval_machine.specs.Configuration.{configuration, ended, evaluate, awaits, descend, while_body};
+ghost use Rattle.eval_machine.specs.Configuration as plain;
 ghost use Rattle.eval_machine.specs.Step.{value_step, bindings_step, dynamics_step, outcome_step};
 ghost use Rattle.eval_store.specs.Words.{value_of_word};
 ghost use Rattle.eval_state.specs.Frames.{bindings_from, dynamics_from, clauses_from, clause_wait};
 ghost use Rattle.eval_state.specs.Tops.{taken, below};
-ghost use Rattle.eval_state.specs.View.{Steps, at, top, frames, state};
+ghost use Rattle.eval_state.specs.View.{StepsTo, at, top, frames, state};
 ghost use Rattle.eval_control.specs.Passing.{waiting_operands, WantsMore};
 ghost use Rattle.eval_control.specs.Valued.{clause_body_of};
 
@@ -24,9 +24,9 @@ use crate::main_forms::{main_forms, main_value};
 use crate::outcomes::at_level;
 use crate::transfers::{continue_with, throw_to};
 use base::NoMemory;
-use eval_state::frame::{Frame, Outcome};
+use eval_state::frame::{ContinuationFrame, Outcome};
 use eval_state::machine::{Control, Machine};
-use eval_state::places::after;
+use eval_state::places::place_behind;
 use eval_state::situation::Situation;
 use eval_state::word_tests::is_true;
 use eval_store::Word;
@@ -44,13 +44,13 @@ fn clause_value<'p>(
     word: Word,
     situation: Situation,
 ) -> Result<(), NoMemory>
-    ensures { OnOk result (Steps machine.old machine.new (λ names s b. value_step s (clause_wait (slice_get list.now place) (clauses_from list.now (suc place)) (at names machine.old situation)) (value_of_word names word) (frames names machine.old 0) (state names machine.old b))) }
+    ensures { OnOk result (StepsTo machine.old machine.new (λ names s b. value_step s (clause_wait (slice_get list.now place) (clauses_from list.now (suc place)) (at names machine.old situation)) (value_of_word names word) (frames names machine.old 0) (state names machine.old b))) }
 {
     if is_true(word) {
         clause_body(machine, list.get(place), word, situation);
         Ok(())
     } else {
-        let next = after(place)?;
+        let next = place_behind(place)?;
         clauses(machine, list, next, situation)
     }
 }
@@ -62,7 +62,7 @@ fn clause_body<'p>(
     word: Word,
     situation: Situation,
 )
-    ensures { Steps machine.old machine.new (λ names s b. clause_body_of s (value_of_word names word) (option_copied clause.entry) (at names machine.old situation) (frames names machine.old 0) (state names machine.old b)) }
+    ensures { StepsTo machine.old machine.new (λ names s b. clause_body_of s (value_of_word names word) (option_copied clause.entry) (at names machine.old situation) (frames names machine.old 0) (state names machine.old b)) }
 {
     let Some(clause) = clause else {
         machine.gives(word);
@@ -83,9 +83,9 @@ fn binding_value<'p>(
     word: Word,
     situation: Situation,
 ) -> Result<(), NoMemory>
-    ensures { OnOk result (Steps machine.old machine.new (λ names s b. bindings_step s (bindings_from list.now (suc count)) (top names machine.old count ++ value_of_word names word ∷ []) (bindings_of list.now) body.now (at names machine.old situation) (frames names machine.old count) (state names machine.old b))) }
+    ensures { OnOk result (StepsTo machine.old machine.new (λ names s b. bindings_step s (bindings_from list.now (suc count)) (top names machine.old count ++ value_of_word names word ∷ []) (bindings_of list.now) body.now (at names machine.old situation) (frames names machine.old count) (state names machine.old b))) }
 {
-    let next = after(count)?;
+    let next = place_behind(count)?;
     machine.push_operand(word)?;
     bindings(machine, list, next, body, situation)
 }
@@ -99,9 +99,9 @@ fn dynamic_value<'p>(
     word: Word,
     situation: Situation,
 ) -> Result<(), NoMemory>
-    ensures { OnOk result (Steps machine.old machine.new (λ names s b. dynamics_step s (dynamics_from list.now (suc count)) (top names machine.old count ++ value_of_word names word ∷ []) (dynamics_of list.now) body.now (at names machine.old situation) (frames names machine.old count) (state names machine.old b))) }
+    ensures { OnOk result (StepsTo machine.old machine.new (λ names s b. dynamics_step s (dynamics_from list.now (suc count)) (top names machine.old count ++ value_of_word names word ∷ []) (dynamics_of list.now) body.now (at names machine.old situation) (frames names machine.old count) (state names machine.old b))) }
 {
-    let next = after(count)?;
+    let next = place_behind(count)?;
     machine.push_operand(word)?;
     dynamics(machine, list, next, body, situation)
 }
@@ -114,10 +114,14 @@ fn loop_value<'p>(
     word: Word,
     situation: Situation,
 ) -> Result<(), NoMemory>
-    ensures { OnOk result (Steps machine.old machine.new (λ names s b. value_step s (plain.while_test test.now body.now (at names machine.old situation)) (value_of_word names word) (frames names machine.old 0) (state names machine.old b))) }
+    ensures { OnOk result (StepsTo machine.old machine.new (λ names s b. value_step s (plain.while_test test.now body.now (at names machine.old situation)) (value_of_word names word) (frames names machine.old 0) (state names machine.old b))) }
 {
     if is_true(word) {
-        machine.wait(Frame::WhileBody(test, body, situation), body, situation)
+        machine.wait(
+            ContinuationFrame::WhileBody(test, body, situation),
+            body,
+            situation,
+        )
     } else {
         machine.gives(Word::Nil);
         Ok(())
@@ -131,7 +135,7 @@ fn goes_on<'p>(
     body: &'p FlatCore,
     situation: Situation,
 )
-    ensures { Steps machine.old machine.new (λ names s b. descend situation.level (λ k. moment (evaluate (while_form test.now body.now) (record (at names machine.old situation) { level = k }))) (frames names machine.old 0) (state names machine.old b)) }
+    ensures { StepsTo machine.old machine.new (λ names s b. descend situation.level (λ k. configuration (evaluate (while_form test.now body.now) (record (at names machine.old situation) { level = k }))) (frames names machine.old 0) (state names machine.old b)) }
 {
     let Some(below) = situation.level.checked_sub(1) else {
         machine.come_to(Outcome::More);
@@ -141,78 +145,94 @@ fn goes_on<'p>(
 }
 
 /// A value comes to a place that waits for it, whose frame was on top.
-pub fn value<'p>(machine: &mut Machine<'p>, frame: Frame<'p>, word: Word) -> Result<(), NoMemory>
+pub fn value_at_frame<'p>(
+    machine: &mut Machine<'p>,
+    frame: ContinuationFrame<'p>,
+    word: Word,
+) -> Result<(), NoMemory>
     requires waits { is_some (waiting_operands frame) ≡ true }
     requires alone { WantsMore frame ≡ false }
-    ensures { OnOk result (Steps machine.old machine.new (λ names s b. outcome_step s (taken names machine.old frame.entry) (value (value_of_word names word)) (below names machine.old frame.entry) (state names machine.old b))) }
+    ensures { OnOk result (StepsTo machine.old machine.new (λ names s b. outcome_step s (taken names machine.old frame.entry) (value (value_of_word names word)) (below names machine.old frame.entry) (state names machine.old b))) }
 {
     match frame {
-        Frame::SetLocal(place, situation) => set_local(machine, place, word, situation),
-        Frame::Sequence(list, place, situation) => sequence(machine, word, list, place, situation),
-        Frame::Clause(list, place, situation) => clause_value(
+        ContinuationFrame::SetLocal(place, situation) => set_local(machine, place, word, situation),
+        ContinuationFrame::Sequence(list, place, situation) => sequence(
+            machine, word, list, place, situation,
+        ),
+        ContinuationFrame::Clause(list, place, situation) => clause_value(
             machine, list, place, word, situation,
         ),
-        Frame::Binding(list, count, body, situation) => binding_value(
+        ContinuationFrame::Binding(list, count, body, situation) => binding_value(
             machine, list, count, body, word, situation,
         ),
-        Frame::DynamicValue(list, count, body, situation) => dynamic_value(
+        ContinuationFrame::DynamicValue(list, count, body, situation) => dynamic_value(
             machine, list, count, body, word, situation,
         ),
-        Frame::AppliedFunction(list, situation) => machine.wait(
-            Frame::AppliedList(word, situation),
+        ContinuationFrame::AppliedFunction(list, situation) => machine.wait(
+            ContinuationFrame::AppliedList(word, situation),
             list,
             situation,
         ),
-        Frame::WhileTest(test, body, situation) => loop_value(machine, test, body, word, situation),
-        Frame::WhileBody(test, body, situation) => {
+        ContinuationFrame::WhileTest(test, body, situation) => loop_value(
+            machine, test, body, word, situation,
+        ),
+        ContinuationFrame::WhileBody(test, body, situation) => {
             goes_on(machine, test, body, situation);
             Ok(())
         }
-        Frame::ReturnValue(place, situation) => return_from(machine, place, word, situation),
-        Frame::LastSegment => {
+        ContinuationFrame::ReturnValue(place, situation) => return_from(
+            machine, place, word, situation,
+        ),
+        ContinuationFrame::LastSegment => {
             machine.gives(Word::Nil);
             Ok(())
         }
-        Frame::CatchTag(body, situation) => catch(machine, body, word, situation),
-        Frame::ThrowTag(form, situation) => machine.wait(
-            Frame::ThrowValue(word, situation),
+        ContinuationFrame::CatchTag(body, situation) => catch(machine, body, word, situation),
+        ContinuationFrame::ThrowTag(form, situation) => machine.wait(
+            ContinuationFrame::ThrowValue(word, situation),
             form,
             situation,
         ),
-        Frame::ThrowValue(tag, situation) => throw_to(
+        ContinuationFrame::ThrowValue(tag, situation) => throw_to(
             machine,
             tag,
             word,
             situation.level,
             situation.around,
         ),
-        Frame::SignalCondition(mark, situation) => machine.wait(
-            Frame::SignalMark(word, situation),
+        ContinuationFrame::SignalCondition(mark, situation) => machine.wait(
+            ContinuationFrame::SignalMark(word, situation),
             mark,
             situation,
         ),
-        Frame::ContinueCondition(form, situation) => machine.wait(
-            Frame::ContinueValue(word, situation),
+        ContinuationFrame::ContinueCondition(form, situation) => machine.wait(
+            ContinuationFrame::ContinueValue(word, situation),
             form,
             situation,
         ),
-        Frame::ContinueValue(condition, situation) => continue_with(
+        ContinuationFrame::ContinueValue(condition, situation) => continue_with(
             machine,
             condition,
             word,
             situation.level,
             situation.around,
         ),
-        Frame::Kept(outcome) => {
+        ContinuationFrame::Kept(outcome) => {
             machine.come_to(outcome);
             Ok(())
         }
-        Frame::HandlerReturn(level, around) => machine.signal_class(CONTROL_ERROR, level, around),
-        Frame::MainForm(stack) => {
+        ContinuationFrame::HandlerReturn(level, around) => machine.signal_class(
+            CONTROL_ERROR,
+            level,
+            around,
+        ),
+        ContinuationFrame::MainForm(stack) => {
             main_value(machine, stack, word);
             Ok(())
         }
-        Frame::MainForms(level, list, place) => main_forms(machine, level, list, place, word),
+        ContinuationFrame::MainForms(level, list, place) => main_forms(
+            machine, level, list, place, word,
+        ),
         _ => unreachable!(),
     }
 }

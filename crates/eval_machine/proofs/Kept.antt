@@ -9,7 +9,7 @@ use Rattle.lang_meaning.specs.State.{State, Outcome, value, exit, full, more}
 use Rattle.lang_meaning.specs.State as base
 use Rattle.lang_meaning.specs.Lookup.{passed}
 use Rattle.flat_language.specs.FlatState.{FlatState, FlatEvaluated, charged, go_on, go_on_from}
-use Rattle.eval_machine.specs.Moment.{Wait, Frame, Control, evaluate, signals, come_to, kept, awaits, Moment, Step, moment, ended, then_on, then_on_from, some_or, descend, first_that}
+use Rattle.eval_machine.specs.Configuration.{Wait, ContinuationFrame, Control, evaluate, signals, come_to, kept, awaits, Configuration, Transition, configuration, ended, then_on, then_on_from, some_or, descend, first_that}
 use Rattle.eval_machine.specs.Applications.{searched}
 
 -- how far a run is: what was printed, what is left of the input, and the units
@@ -97,20 +97,20 @@ abbrev pub FineWait : Wait → Type 0
 FineWait (kept o) = FineOutcome o
 FineWait w = ⊤
 
-abbrev pub FineFrame : Frame → Type 0
+abbrev pub FineFrame : ContinuationFrame → Type 0
 FineFrame (awaits w) = FineWait w
 FineFrame f = ⊤
 
-abbrev pub FineFrames : List Frame → Type 0
+abbrev pub FineFrames : List ContinuationFrame → Type 0
 FineFrames [] = ⊤
 FineFrames (f ∷ fs) = FineFrame f × FineFrames fs
 
-pub record IsFine (m : Moment) : Type 0 where
+pub record IsFine (m : Configuration) : Type 0 where
   pub control : FineControl m.control
   pub frames : FineFrames m.frames
 
 -- what a step comes to, from these frames and how far the run was before
-pub record Leads (frames : List Frame) (before : Progress) (m : Moment) : Type 0 where
+pub record StepKeepsPrinted (frames : List ContinuationFrame) (before : Progress) (m : Configuration) : Type 0 where
   pub later : IsLater before (progress m.state.state)
   pub fine : FineFrames frames → IsFine m
 
@@ -119,20 +119,20 @@ pub record Gives (before : Progress) (r : FlatEvaluated) : Type 0 where
   pub later : IsLater before (progress r.state.state)
   pub fine : FineOutcome r.outcome
 
--- a moment with the same frames, and with one more
-pub there : {before : Progress} {c : Control} {frames : List Frame} {z : FlatState}
-    → IsLater before (progress z.state) → FineControl c → Leads frames before (moment c frames z)
+-- a configuration with the same frames, and with one more
+pub there : {before : Progress} {c : Control} {frames : List ContinuationFrame} {z : FlatState}
+    → IsLater before (progress z.state) → FineControl c → StepKeepsPrinted frames before (configuration c frames z)
 there p f = record { later = p; fine = λ h. record { control = f; frames = h } }
 
-pub framed : {before : Progress} {c : Control} {f : Frame} {frames : List Frame} {z : FlatState}
-    → IsLater before (progress z.state) → FineControl c → FineFrame f → Leads frames before (moment c (f ∷ frames) z)
+pub framed : {before : Progress} {c : Control} {f : ContinuationFrame} {frames : List ContinuationFrame} {z : FlatState}
+    → IsLater before (progress z.state) → FineControl c → FineFrame f → StepKeepsPrinted frames before (configuration c (f ∷ frames) z)
 framed p f g = record { later = p; fine = λ h. record { control = f; frames = (g, h) } }
 
 -- from earlier on, and from beneath a frame that was added
-pub earlier : {frames : List Frame} {few many : Progress} {m : Moment} → IsLater few many → Leads frames many m → Leads frames few m
+pub earlier : {frames : List ContinuationFrame} {few many : Progress} {m : Configuration} → IsLater few many → StepKeepsPrinted frames many m → StepKeepsPrinted frames few m
 earlier p x = record { later = further p x.later; fine = x.fine }
 
-pub beneath : {frames : List Frame} {before : Progress} {m : Moment} (f : Frame) → FineFrame f → Leads (f ∷ frames) before m → Leads frames before m
+pub beneath : {frames : List ContinuationFrame} {before : Progress} {m : Configuration} (f : ContinuationFrame) → FineFrame f → StepKeepsPrinted (f ∷ frames) before m → StepKeepsPrinted frames before m
 beneath f g x = record { later = x.later; fine = λ h. x.fine (g, h) }
 
 pub gives_earlier : {few many : Progress} {r : FlatEvaluated} → IsLater few many → Gives many r → Gives few r
@@ -142,43 +142,43 @@ gives_earlier p x = record { later = further p x.later; fine = x.fine }
 pub given : {before : Progress} {o : Outcome} {z : FlatState} → IsLater before (progress z.state) → FineOutcome o → Gives before (record { outcome = o; state = z })
 given p f = record { later = p; fine = f }
 
-pub ends : {frames : List Frame} {before : Progress} {r : FlatEvaluated} → Gives before r → Leads frames before (ended r frames)
+pub ends : {frames : List ContinuationFrame} {before : Progress} {r : FlatEvaluated} → Gives before r → StepKeepsPrinted frames before (ended r frames)
 ends g = record { later = g.later; fine = λ h. record { control = g.fine; frames = h } }
 
 -- what goes on with a value
-on_from : {before : Progress} (o : Outcome) (z : FlatState) (frames : List Frame) (next : Value → FlatState → Moment)
-    → IsLater before (progress z.state) → FineOutcome o → ((v : Value) (y : FlatState) → Leads frames (progress y.state) (next v y))
-    → Leads frames before (then_on_from o z frames next)
+on_from : {before : Progress} (o : Outcome) (z : FlatState) (frames : List ContinuationFrame) (next : Value → FlatState → Configuration)
+    → IsLater before (progress z.state) → FineOutcome o → ((v : Value) (y : FlatState) → StepKeepsPrinted frames (progress y.state) (next v y))
+    → StepKeepsPrinted frames before (then_on_from o z frames next)
 on_from (value v) z frames next p f h = earlier p (h v z)
 on_from (exit e v landing) z frames next p f h = there p f
 on_from (full asked left) z frames next p f h = there p f
 on_from more z frames next p f h = there p f
 
-pub on : {before : Progress} {r : FlatEvaluated} {frames : List Frame} {next : Value → FlatState → Moment}
-    → Gives before r → ((v : Value) (y : FlatState) → Leads frames (progress y.state) (next v y)) → Leads frames before (then_on r frames next)
+pub on : {before : Progress} {r : FlatEvaluated} {frames : List ContinuationFrame} {next : Value → FlatState → Configuration}
+    → Gives before r → ((v : Value) (y : FlatState) → StepKeepsPrinted frames (progress y.state) (next v y)) → StepKeepsPrinted frames before (then_on r frames next)
 on {before} {r} {frames} {next} g h = on_from r.outcome r.state frames next g.later g.fine h
 
 -- either of two, and what stands there, if something does
-pub either : (b : Bool) {frames : List Frame} {before : Progress} {m m' : Moment}
-    → Leads frames before m → Leads frames before m' → Leads frames before (if b then m else m')
+pub either : (b : Bool) {frames : List ContinuationFrame} {before : Progress} {m m' : Configuration}
+    → StepKeepsPrinted frames before m → StepKeepsPrinted frames before m' → StepKeepsPrinted frames before (if b then m else m')
 either true x y = x
 either false x y = y
 
-pub some : {X : Type 0} (o : Option X) (otherwise : Step) (next : X → Step) {frames inner : List Frame} {before : Progress} {z : FlatState}
-    → Leads frames before (otherwise inner z) → ((x : X) → Leads frames before (next x inner z)) → Leads frames before (some_or o otherwise next inner z)
+pub some : {X : Type 0} (o : Option X) (otherwise : Transition) (next : X → Transition) {frames inner : List ContinuationFrame} {before : Progress} {z : FlatState}
+    → StepKeepsPrinted frames before (otherwise inner z) → ((x : X) → StepKeepsPrinted frames before (next x inner z)) → StepKeepsPrinted frames before (some_or o otherwise next inner z)
 some None otherwise next n s = n
 some (Some x) otherwise next n s = s x
 
 -- a search
-pub searches : {X : Type 0} (p : X → Bool) (found : X → Step) (otherwise : Step) (xs : List X) (frames : List Frame) (z : FlatState)
-    → ((x : X) (y : FlatState) → Leads frames (progress y.state) (found x frames y)) → ((y : FlatState) → Leads frames (progress y.state) (otherwise frames y))
-    → Leads frames (progress z.state) (searched p found otherwise xs frames z)
+pub searches : {X : Type 0} (p : X → Bool) (found : X → Transition) (otherwise : Transition) (xs : List X) (frames : List ContinuationFrame) (z : FlatState)
+    → ((x : X) (y : FlatState) → StepKeepsPrinted frames (progress y.state) (found x frames y)) → ((y : FlatState) → StepKeepsPrinted frames (progress y.state) (otherwise frames y))
+    → StepKeepsPrinted frames (progress z.state) (searched p found otherwise xs frames z)
 searches p found otherwise xs frames z f n =
     earlier (counts (passed p xs) z.state) (some (first_that p xs) otherwise found (n (charged (passed p xs) z)) (λ x. f x (charged (passed p xs) z)))
 
 -- what needs a level
-pub descends : (level : ℕ) (next : ℕ → Step) (frames : List Frame) (z : FlatState)
-    → ((k : ℕ) → Leads frames (progress z.state) (next k frames z)) → Leads frames (progress z.state) (descend level next frames z)
+pub descends : (level : ℕ) (next : ℕ → Transition) (frames : List ContinuationFrame) (z : FlatState)
+    → ((k : ℕ) → StepKeepsPrinted frames (progress z.state) (next k frames z)) → StepKeepsPrinted frames (progress z.state) (descend level next frames z)
 descends zero next frames z h = there (same _) tt
 descends (suc k) next frames z h = h k
 

@@ -19,13 +19,13 @@ use Rattle.flat_language.specs.FlatForm.{FlatBindings, no_binding, binding_and, 
 use Rattle.flat_language.specs.FlatNodes.{tables, own_nodes}
 use Rattle.flat_language.specs.FlatState.{FlatState, charged, exit_of, method_of, exit_made}
 use Rattle.flat_language.specs.FlatMeaning.{charged_for, binding_homes, with_exit}
-use Rattle.eval_machine.specs.Moment.{Setting, Situation, Operation, call_name, call_first, compute, Frame, Step, awaits, turns, last_segment, some_or}
+use Rattle.eval_machine.specs.Configuration.{Setting, Situation, Operator, call_name, call_first, compute, ContinuationFrame, Transition, awaits, turns, last_segment, some_or}
 use Rattle.eval_machine.specs.Run.{form_begins}
 use Rattle.eval_machine.specs.Applications.{signal_unbound}
 use Rattle.eval_machine.specs.Step.{literal_step, global_step, set_global_step, dynamic_step, set_dynamic_step, apply_step, call_value_step, operation_step, signal_step, handler_step, next_method_step, sequence_step, clauses_step, clause_body_step, arguments_step, let_step, bindings_step, dynamics_step, segments_step, form_step}
-use Rattle.eval_machine.proofs.Kept.{Progress, progress, counted, IsLater, same, with_units, none_counted, counts, Leads, there, framed, earlier, beneath, given, ends, on, either, some, searches}
+use Rattle.eval_machine.proofs.Kept.{Progress, progress, counted, IsLater, same, with_units, none_counted, counts, StepKeepsPrinted, there, framed, earlier, beneath, given, ends, on, either, some, searches}
 use Rattle.eval_machine.proofs.KeptAnswers.{answers}
-use Rattle.eval_machine.proofs.KeptWords.{makes_function, cells, cell_set}
+use Rattle.eval_machine.proofs.KeptWords.{makes_function, boxes, box_set}
 use Rattle.eval_machine.proofs.KeptApplied.{value_here, signals_class, signals_domain, runs_chain, applies_value, applies_row, comes_answer, transfers}
 
 -- a form that begins counts one or more
@@ -48,8 +48,8 @@ begins_so : (f : FlatForm) (z : State) → IsLater (counted (if form_begins f th
 begins_so f z = with_units (if form_begins f then 1 else 0) (own_nodes f) (progress z) (least f)
 
 module _ (s : Setting) where
-  literals : (id : ℕ) (o : Option LiteralRow) (at : Situation) (frames : List Frame) (z : FlatState)
-      → Leads frames (progress z.state) (literal_step s id o at frames z)
+  literals : (id : ℕ) (o : Option LiteralRow) (at : Situation) (frames : List ContinuationFrame) (z : FlatState)
+      → StepKeepsPrinted frames (progress z.state) (literal_step s id o at frames z)
   literals id None at frames z = value_here nil frames z
   literals id (Some (row.Datum d)) at frames z = value_here _ frames z
   literals id (Some (row.Class c)) at frames z = value_here _ frames z
@@ -58,34 +58,34 @@ module _ (s : Setting) where
       (signals_class s undefined_function_class (symbol (named (text s.names name.0)) ∷ []) at.level at.around frames z) (λ f. value_here _ frames z)
 
   -- variables that no form has bound: global ones, and the outermost dynamic ones
-  outermost : (name : List ℕ) (o : Option Value) (next : Value → Step) (at : Situation) (frames : List Frame) (z : FlatState)
-      → ((v : Value) → Leads frames (progress z.state) (next v frames z))
-      → Leads frames (progress z.state) (some_or o (signal_unbound s name at.level at.around) next frames z)
+  outermost : (name : List ℕ) (o : Option Value) (next : Value → Transition) (at : Situation) (frames : List ContinuationFrame) (z : FlatState)
+      → ((v : Value) → StepKeepsPrinted frames (progress z.state) (next v frames z))
+      → StepKeepsPrinted frames (progress z.state) (some_or o (signal_unbound s name at.level at.around) next frames z)
   outermost name o next at frames z h =
       some o _ next (signals_class s unbound_variable_class (symbol (named name) ∷ []) at.level at.around frames z) h
 
-  globals : (name : List ℕ) (at : Situation) (frames : List Frame) (z : FlatState) → Leads frames (progress z.state) (global_step s name at frames z)
+  globals : (name : List ℕ) (at : Situation) (frames : List ContinuationFrame) (z : FlatState) → StepKeepsPrinted frames (progress z.state) (global_step s name at frames z)
   globals name at frames z = outermost name (under_text name z.state.globals) _ at frames z (λ v. value_here v frames z)
 
-  pub globals_set : (name : List ℕ) (v : Value) (at : Situation) (frames : List Frame) (z : FlatState)
-      → Leads frames (progress z.state) (set_global_step s name v at frames z)
+  pub globals_set : (name : List ℕ) (v : Value) (at : Situation) (frames : List ContinuationFrame) (z : FlatState)
+      → StepKeepsPrinted frames (progress z.state) (set_global_step s name v at frames z)
   globals_set name v at frames z = outermost name (under_text name z.state.globals) _ at frames z (λ old. ends (given (same _) tt))
 
-  dynamics : (name : List ℕ) (at : Situation) (frames : List Frame) (z : FlatState) → Leads frames (progress z.state) (dynamic_step s name at frames z)
+  dynamics : (name : List ℕ) (at : Situation) (frames : List ContinuationFrame) (z : FlatState) → StepKeepsPrinted frames (progress z.state) (dynamic_step s name at frames z)
   dynamics name at frames z =
       searches (λ (b : List ℕ × ℕ). bytes_eq name b.0) _ _ at.around.bindings frames z
       (λ b y. value_here (value_at (Some b.1) y.state) frames y)
       (λ y. outermost name (under_text name y.state.dynamics) _ at frames y (λ v. value_here v frames y))
 
-  pub dynamics_set : (name : List ℕ) (v : Value) (at : Situation) (frames : List Frame) (z : FlatState)
-      → Leads frames (progress z.state) (set_dynamic_step s name v at frames z)
+  pub dynamics_set : (name : List ℕ) (v : Value) (at : Situation) (frames : List ContinuationFrame) (z : FlatState)
+      → StepKeepsPrinted frames (progress z.state) (set_dynamic_step s name v at frames z)
   dynamics_set name v at frames z =
       searches (λ (b : List ℕ × ℕ). bytes_eq name b.0) _ _ at.around.bindings frames z
-      (λ b y. ends (given (cell_set (Some b.1) v y.state) tt))
+      (λ b y. ends (given (box_set (Some b.1) v y.state) tt))
       (λ y. outermost name (under_text name y.state.dynamics) _ at frames y (λ old. ends (given (same _) tt)))
 
   -- applications
-  pub lists_apply : (f list : Value) (at : Situation) (frames : List Frame) (z : FlatState) → Leads frames (progress z.state) (apply_step s f list at frames z)
+  pub lists_apply : (f list : Value) (at : Situation) (frames : List ContinuationFrame) (z : FlatState) → StepKeepsPrinted frames (progress z.state) (apply_step s f list at frames z)
   lists_apply f list at frames z =
       let found : Spread = spread (length z.state.store + 1) z.state [] list in
       either (is_function (fetch z.state f))
@@ -94,11 +94,11 @@ module _ (s : Setting) where
       (earlier (counts (length found.elements) z.state) (signals_domain s list list_class at.level at.around frames (charged (length found.elements) z))))
       (signals_domain s f function_class at.level at.around frames z)
 
-  values_call : (vs : List Value) (at : Situation) (frames : List Frame) (z : FlatState) → Leads frames (progress z.state) (call_value_step s vs at frames z)
+  values_call : (vs : List Value) (at : Situation) (frames : List ContinuationFrame) (z : FlatState) → StepKeepsPrinted frames (progress z.state) (call_value_step s vs at frames z)
   values_call [] at frames z = value_here nil frames z
   values_call (f ∷ vs) at frames z = applies_value s f vs at.level at.around frames z
 
-  operates : (o : Operation) (vs : List Value) (at : Situation) (frames : List Frame) (z : FlatState) → Leads frames (progress z.state) (operation_step s o vs at frames z)
+  operates : (o : Operator) (vs : List Value) (at : Situation) (frames : List ContinuationFrame) (z : FlatState) → StepKeepsPrinted frames (progress z.state) (operation_step s o vs at frames z)
   operates (call_name n) vs at frames z =
       applies_row s (text s.names n) (function_row s.names s.program.functions (text s.names n)) vs at.level at.around frames z
   operates call_first vs at frames z = values_call vs at frames z
@@ -106,61 +106,61 @@ module _ (s : Setting) where
       comes_answer s _ (progress z.state) (answers s.names (tables s.program) which vs z.state) at.level at.around frames z
 
   -- conditions and methods
-  pub signals_one : (c mark : Value) (at : Situation) (frames : List Frame) (z : FlatState) → Leads frames (progress z.state) (signal_step s c mark at frames z)
+  pub signals_one : (c mark : Value) (at : Situation) (frames : List ContinuationFrame) (z : FlatState) → StepKeepsPrinted frames (progress z.state) (signal_step s c mark at frames z)
   signals_one c mark at frames z =
       either (is_condition (tables s.program) z.state c) (there (same _) tt) (signals_domain s c serious_condition_class at.level at.around frames z)
 
-  pub handles : (h : Value) (body : FlatForm) (at : Situation) (frames : List Frame) (z : FlatState) → Leads frames (progress z.state) (handler_step s h body at frames z)
+  pub handles : (h : Value) (body : FlatForm) (at : Situation) (frames : List ContinuationFrame) (z : FlatState) → StepKeepsPrinted frames (progress z.state) (handler_step s h body at frames z)
   handles h body at frames z =
       either (is_function (fetch z.state h)) (framed (same _) tt tt) (signals_domain s h function_class at.level at.around frames z)
 
-  methods_next : (o : Option Called) (at : Situation) (frames : List Frame) (z : FlatState) → Leads frames (progress z.state) (next_method_step s o at frames z)
+  methods_next : (o : Option Called) (at : Situation) (frames : List ContinuationFrame) (z : FlatState) → StepKeepsPrinted frames (progress z.state) (next_method_step s o at frames z)
   methods_next None at frames z = signals_class s control_error_class [] at.level at.around frames z
   methods_next (Some called) at frames z = runs_chain s called.rest called.arguments at.level at.around frames z
 
   -- lists of forms
-  pub sequences : (last : Value) (fs : FlatForms) (at : Situation) (frames : List Frame) (z : FlatState) → Leads frames (progress z.state) (sequence_step s last fs at frames z)
+  pub sequences : (last : Value) (fs : FlatForms) (at : Situation) (frames : List ContinuationFrame) (z : FlatState) → StepKeepsPrinted frames (progress z.state) (sequence_step s last fs at frames z)
   sequences last no_form at frames z = value_here last frames z
   sequences last (form_and f fs) at frames z = framed (same _) tt tt
 
-  pub clauses_lead : (cs : FlatClauses) (at : Situation) (frames : List Frame) (z : FlatState) → Leads frames (progress z.state) (clauses_step s cs at frames z)
+  pub clauses_lead : (cs : FlatClauses) (at : Situation) (frames : List ContinuationFrame) (z : FlatState) → StepKeepsPrinted frames (progress z.state) (clauses_step s cs at frames z)
   clauses_lead no_clause at frames z = value_here nil frames z
   clauses_lead (clause_and test body cs) at frames z = framed (same _) tt tt
 
-  pub bodies_lead : (v : Value) (b : FlatBody) (at : Situation) (frames : List Frame) (z : FlatState) → Leads frames (progress z.state) (clause_body_step s v b at frames z)
+  pub bodies_lead : (v : Value) (b : FlatBody) (at : Situation) (frames : List ContinuationFrame) (z : FlatState) → StepKeepsPrinted frames (progress z.state) (clause_body_step s v b at frames z)
   bodies_lead v no_body at frames z = value_here v frames z
   bodies_lead v (with_body f) at frames z = there (same _) tt
 
-  pub arguments_lead : (o : Operation) (fs : FlatForms) (vs : List Value) (at : Situation) (frames : List Frame) (z : FlatState)
-      → Leads frames (progress z.state) (arguments_step s o fs vs at frames z)
+  pub arguments_lead : (o : Operator) (fs : FlatForms) (vs : List Value) (at : Situation) (frames : List ContinuationFrame) (z : FlatState)
+      → StepKeepsPrinted frames (progress z.state) (arguments_step s o fs vs at frames z)
   arguments_lead o no_form vs at frames z = operates o vs at frames z
   arguments_lead o (form_and f fs) vs at frames z = framed (same _) tt tt
 
   -- bodies with variables
-  lets : (all : FlatBindings) (body : FlatForm) (vs : List Value) (at : Situation) (frames : List Frame) (z : FlatState)
-      → Leads frames (progress z.state) (let_step s all body vs at frames z)
-  lets all body vs at frames z = on (cells s.limit (binding_homes all) z) (λ ignored ready. framed (same _) tt tt)
+  lets : (all : FlatBindings) (body : FlatForm) (vs : List Value) (at : Situation) (frames : List ContinuationFrame) (z : FlatState)
+      → StepKeepsPrinted frames (progress z.state) (let_step s all body vs at frames z)
+  lets all body vs at frames z = on (boxes s.limit (binding_homes all) z) (λ ignored ready. framed (same _) tt tt)
 
-  pub bindings_lead : (bs : FlatBindings) (vs : List Value) (all : FlatBindings) (body : FlatForm) (at : Situation) (frames : List Frame) (z : FlatState)
-      → Leads frames (progress z.state) (bindings_step s bs vs all body at frames z)
+  pub bindings_lead : (bs : FlatBindings) (vs : List Value) (all : FlatBindings) (body : FlatForm) (at : Situation) (frames : List ContinuationFrame) (z : FlatState)
+      → StepKeepsPrinted frames (progress z.state) (bindings_step s bs vs all body at frames z)
   bindings_lead no_binding vs all body at frames z = lets all body vs at frames z
   bindings_lead (binding_and x f bs) vs all body at frames z = framed (same _) tt tt
 
-  pub dynamics_lead : (bs : FlatDynamics) (vs : List Value) (all : FlatDynamics) (body : FlatForm) (at : Situation) (frames : List Frame) (z : FlatState)
-      → Leads frames (progress z.state) (dynamics_step s bs vs all body at frames z)
+  pub dynamics_lead : (bs : FlatDynamics) (vs : List Value) (all : FlatDynamics) (body : FlatForm) (at : Situation) (frames : List ContinuationFrame) (z : FlatState)
+      → StepKeepsPrinted frames (progress z.state) (dynamics_step s bs vs all body at frames z)
   dynamics_lead no_dynamic vs all body at frames z = framed (same _) tt tt
   dynamics_lead (dynamic_and n f bs) vs all body at frames z = framed (same _) tt tt
 
   -- segments
-  pub segments_lead : (e : ℕ) (left all : FlatForms) (at : Situation) (frames : List Frame) (z : FlatState)
-      → Leads frames (progress z.state) (segments_step s e left all at frames z)
+  pub segments_lead : (e : ℕ) (left all : FlatForms) (at : Situation) (frames : List ContinuationFrame) (z : FlatState)
+      → StepKeepsPrinted frames (progress z.state) (segments_step s e left all at frames z)
   segments_lead e left all at frames z =
       beneath (turns e all at) tt
       (beneath (awaits last_segment) tt
       (sequences nil left (record at { around = with_turns e at.around }) (awaits last_segment ∷ turns e all at ∷ frames) z))
 
   -- a form begins
-  pub forms_lead : (f : FlatForm) (at : Situation) (frames : List Frame) (z : FlatState) → Leads frames (begun f z) (form_step s f at frames z)
+  pub forms_lead : (f : FlatForm) (at : Situation) (frames : List ContinuationFrame) (z : FlatState) → StepKeepsPrinted frames (begun f z) (form_step s f at frames z)
   forms_lead (literal id) at frames z =
       earlier (begins_so (literal id) z.state) (literals id (slice_get s.program.literals id) at frames (charged_for (literal id) z))
   forms_lead (local p) at frames z =

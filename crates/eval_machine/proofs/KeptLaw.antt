@@ -1,10 +1,10 @@
 -- The laws of runs: what one step keeps, so many steps keep.
 use Rattle.std.proofs.Common.{ℕ, zero, suc, ◌+◌, ◌≤◌, subst, if◌then◌else◌, arith}
-use Rattle.eval_machine.specs.Moment.{Setting, Moment}
+use Rattle.eval_machine.specs.Configuration.{Setting, Configuration}
 use Rattle.eval_machine.specs.Run.{next, steps, start, begins, forms_begun}
 use Rattle.eval_machine.specs.RunLaws.{LawOfPrinting, LawOfReading, LawOfUnits, LawOfWords}
 use Rattle.eval_machine.proofs.Kept.{Progress, progress, counted, IsLater, FineControl, IsFine, further}
-use Rattle.eval_machine.proofs.Outcomes.{Keeps, unchanged, next_keeps}
+use Rattle.eval_machine.proofs.Outcomes.{LaterConfiguration, unchanged, next_keeps}
 
 -- some units, and others behind them
 both_counted : (a b : ℕ) (x y z : Progress) → IsLater (counted a x) y → IsLater (counted b y) z → IsLater (counted (a + b) x) z
@@ -18,12 +18,12 @@ both_counted a b x y z p q =
     sum : (x a b y z : ℕ) → x + a ≤ y → y + b ≤ z → x + (a + b) ≤ z
     sum x a b y z p q = omega arith
 
-steps_keep : (s : Setting) (n : ℕ) (m : Moment) → Keeps (forms_begun s n m) m (steps s n m)
+steps_keep : (s : Setting) (n : ℕ) (m : Configuration) → LaterConfiguration (forms_begun s n m) m (steps s n m)
 steps_keep s zero m = unchanged m
 steps_keep s (suc n) m =
     let first : ℕ = if begins m.control then 1 else 0 in
-    let one : Keeps first m (next s m) = next_keeps s m.control m.frames m.state in
-    let others : Keeps (forms_begun s n (next s m)) (next s m) (steps s n (next s m)) = steps_keep s n (next s m) in
+    let one : LaterConfiguration first m (next s m) = next_keeps s m.control m.frames m.state in
+    let others : LaterConfiguration (forms_begun s n (next s m)) (next s m) (steps s n (next s m)) = steps_keep s n (next s m) in
     record {
       later = both_counted first (forms_begun s n (next s m)) (progress m.state.state) (progress (next s m).state.state) (progress (steps s n (next s m)).state.state)
           one.later others.later;

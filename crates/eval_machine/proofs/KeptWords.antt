@@ -12,13 +12,13 @@ use Rattle.lang_meaning.specs.Signals.{marked_at}
 use Rattle.flat_language.specs.declared.place.Home.{Home}
 use Rattle.flat_language.specs.declared.place.Home.TheVariants as home
 use Rattle.flat_language.specs.declared.place.VariablePlace.{VariablePlace}
-use Rattle.flat_language.specs.declared.place.VariablePlace.TheVariants.{Slot, SlotCell, CapturedValue, CapturedCell}
+use Rattle.flat_language.specs.declared.place.VariablePlace.TheVariants.{Slot, SlotBox, CapturedValue, CapturedBox}
 use Rattle.flat_language.specs.FlatNodes.{tables}
 use Rattle.flat_language.specs.FlatState.{Captured, FlatEnvironment, FlatState, FlatEvaluated, on_state, gives, set_to, request, make_closure}
 use Rattle.flat_language.specs.FlatState.{charged as flat_charged}
 use Rattle.flat_language.specs.FlatSignals.{marked}
-use Rattle.eval_machine.specs.Moment.{Setting}
-use Rattle.eval_machine.specs.Applications.{requested, made, listed, rest_listed, recorded, celled, condition_made}
+use Rattle.eval_machine.specs.Configuration.{Setting}
+use Rattle.eval_machine.specs.Applications.{requested, made, listed, rest_listed, recorded, boxes_requested, condition_made}
 use Rattle.eval_machine.proofs.Kept.{Progress, progress, IsLater, same, counts, Gives, gives_earlier, given, then_given}
 use Rattle.eval_machine.proofs.KeptAnswers.{instance_has_words}
 
@@ -64,28 +64,28 @@ makes_function limit p cs z = requests limit (2 + length cs) 0 z
 pub makes_condition : (s : Setting) (class : ℕ) (slots : List Value) (z : FlatState) → Gives (progress z.state) (condition_made s class slots z)
 makes_condition s class slots z = makes_object s.limit _ 0 _ z (instance_has_words (tables s.program) class (length slots))
 
--- the words of a method's record, and of cells
+-- the words of a method's record, and of boxes
 pub records : (limit : Limit) (called : Option Called) (keeps : Bool) (z : FlatState) → Gives (progress z.state) (recorded limit called keeps z)
 records limit None keeps z = given (same _) tt
 records limit (Some called) false z = given (same _) tt
 records limit (Some called) true z = requests limit (2 + length called.arguments) 0 z
     (λ y. gives nil (flat_charged (2 + length called.arguments) y)) (omega arith) (λ y. given (counts (2 + length called.arguments) y.state) tt)
 
-pub cells : (limit : Limit) (hs : List Home) (z : FlatState) → Gives (progress z.state) (celled limit hs z)
-cells limit [] z = given (same _) tt
-cells limit (home.Slot ∷ hs) z = cells limit hs z
-cells limit (home.Cell ∷ hs) z = requests limit 1 0 z (λ y. celled limit hs (flat_charged 1 y)) (omega arith) (λ y. gives_earlier (counts 1 y.state) (cells limit hs (flat_charged 1 y)))
+pub boxes : (limit : Limit) (hs : List Home) (z : FlatState) → Gives (progress z.state) (boxes_requested limit hs z)
+boxes limit [] z = given (same _) tt
+boxes limit (home.Slot ∷ hs) z = boxes limit hs z
+boxes limit (home.Boxed ∷ hs) z = requests limit 1 0 z (λ y. boxes_requested limit hs (flat_charged 1 y)) (omega arith) (λ y. gives_earlier (counts 1 y.state) (boxes limit hs (flat_charged 1 y)))
 
 -- changes of the state that print, read and count nothing
-pub cell_set : (o : Option ℕ) (v : Value) (y : State) → IsLater (progress y) (progress (set_at o v y))
-cell_set (Some i) v y = same _
-cell_set None v y = same _
+pub box_set : (o : Option ℕ) (v : Value) (y : State) → IsLater (progress y) (progress (set_at o v y))
+box_set (Some i) v y = same _
+box_set None v y = same _
 
 pub variable_set : (p : VariablePlace) (v : Value) (env : FlatEnvironment) (z : FlatState) → IsLater (progress z.state) (progress (set_to p v env z).state)
 variable_set (Slot n) v env z = same _
-variable_set (SlotCell n) v env z = cell_set _ v z.state
+variable_set (SlotBox n) v env z = box_set _ v z.state
 variable_set (CapturedValue n) v env z = same _
-variable_set (CapturedCell n) v env z = cell_set _ v z.state
+variable_set (CapturedBox n) v env z = box_set _ v z.state
 
 mark_set : (c mark : Value) (o : Option Object) (y : State) → IsLater (progress y) (progress (marked_at c mark o y))
 mark_set (object i) mark (Some (instance class slots old)) y = same _

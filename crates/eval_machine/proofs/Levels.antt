@@ -2,17 +2,17 @@
 use Rattle.std.proofs.Common.{ℕ, zero, suc, List, [], ◌∷◌, refl}
 use Rattle.lang_meaning.specs.Counts.{application_words}
 use Rattle.lang_meaning.specs.Values.{Value, nil}
-use Rattle.lang_meaning.specs.State.{State, main_surroundings}
+use Rattle.lang_meaning.specs.State.{State, main_context}
 use Rattle.lang_meaning.specs.Meaning.{with_turns}
 use Rattle.flat_language.specs.FlatForm.{FlatForm}
 use Rattle.flat_language.specs.FlatNodes.{nodes}
 use Rattle.flat_language.specs.FlatState.{no_environment, FlatState, gives, go_on, on_state, in_own_frame}
 use Rattle.flat_language.specs.FlatSignals.{form, signal}
 use Rattle.flat_language.specs.FlatMeaning.{flat_meaning_at, mean_main, mean_mains}
-use Rattle.eval_machine.specs.Moment.{Setting, Frame, evaluate, main_form, main_forms, awaits, restores_slots, moment, then_on}
+use Rattle.eval_machine.specs.Configuration.{Setting, ContinuationFrame, evaluate, main_form, main_forms, awaits, restores_slots, configuration, then_on}
 use Rattle.eval_machine.specs.Applications.{requested}
 use Rattle.eval_machine.specs.Step.{value_step}
-use Rattle.eval_machine.proofs.Reach.{Comes, here, on, slots_left, asks}
+use Rattle.eval_machine.proofs.Reach.{ReachesOutcome, here, on, slots_left, asks}
 use Rattle.eval_machine.proofs.Applied.{context_at, situation, TasksCome, LowerCome, chains, signals_come}
 use Rattle.eval_machine.proofs.Forms.{form_means, sequence_means, segments_turn}
 
@@ -42,22 +42,22 @@ module _ (s : Setting) where
   level_comes (suc k) = tasks_come (suc k) (level_comes k)
 
   -- a main form, which has a frame of its own
-  main_comes : (k : ℕ) (f : FlatForm) (frames : List Frame) (z : FlatState)
-      → Comes s (then_on (requested s.limit 0 (application_words (nodes f)) z) frames (λ ignored entered.
-      moment (evaluate f (situation k no_environment main_surroundings))
+  main_comes : (k : ℕ) (f : FlatForm) (frames : List ContinuationFrame) (z : FlatState)
+      → ReachesOutcome s (then_on (requested s.limit 0 (application_words (nodes f)) z) frames (λ ignored entered.
+      configuration (evaluate f (situation k no_environment main_context))
       (restores_slots entered.frame ∷ awaits (main_form z.state.stack) ∷ frames) (record entered { frame = [] })))
       (mean_main s.names s.program s.limit k f z) frames
   main_comes k f frames z =
       asks s s.limit 0 (application_words (nodes f)) z _
       {follow = λ entered.
-      go_on (in_own_frame (λ inner. flat_meaning_at s.names s.program s.limit k (form f) no_environment main_surroundings inner) entered) (λ v after.
+      go_on (in_own_frame (λ inner. flat_meaning_at s.names s.program s.limit k (form f) no_environment main_context inner) entered) (λ v after.
       gives v (on_state (λ (y : State). record y { stack = z.state.stack }) after))}
       (λ ignored entered.
-      on s (slots_left s ((level_comes k).form_comes f no_environment main_surroundings
+      on s (slots_left s ((level_comes k).form_comes f no_environment main_context
       (restores_slots entered.frame ∷ awaits (main_form z.state.stack) ∷ frames) (record entered { frame = [] }))) (λ v after. here s))
 
   -- main forms in order
-  pub mains_come : (k : ℕ) (fs : List FlatForm) (last : Value) (frames : List Frame) (z : FlatState)
-      → Comes s (value_step s (main_forms k fs) last frames z) (mean_mains s.names s.program s.limit k fs last z) frames
+  pub mains_come : (k : ℕ) (fs : List FlatForm) (last : Value) (frames : List ContinuationFrame) (z : FlatState)
+      → ReachesOutcome s (value_step s (main_forms k fs) last frames z) (mean_mains s.names s.program s.limit k fs last z) frames
   mains_come k [] last frames z = here s
   mains_come k (f ∷ fs) last frames z = on s (main_comes k f (awaits (main_forms k fs) ∷ frames) z) (λ v after. mains_come k fs v frames after)

@@ -12,48 +12,48 @@ use Rattle.flat_language.specs.FlatForm.{FlatForm, FlatForms}
 use Rattle.flat_language.specs.FlatNodes.{nodes}
 use Rattle.flat_language.specs.FlatState.{FlatState, exit_of, gives}
 use Rattle.flat_language.specs.FlatMeaning.{from_segment}
-use Rattle.eval_machine.specs.Moment.{Setting, Situation, Wait, Frame, Control, evaluate, signals, come_to, Moment, moment, ended}
-use Rattle.eval_machine.specs.Moment.{set_local_value, set_global_value, def_global_value, sequence_form, clause_test, binding_value, argument, applied_function, applied_list, while_test, while_body, return_value, last_segment, catch_tag, throw_tag, throw_value, dynamic_value, set_dynamic_value, def_dynamic_value, handler_value, signal_condition, signal_mark, continue_condition, continue_value}
-use Rattle.eval_machine.specs.Moment.{kept, method_value, before_methods, primary_method, handler_return, main_form, main_forms, awaits, catches, turns, cleans}
+use Rattle.eval_machine.specs.Configuration.{Setting, Situation, Wait, ContinuationFrame, Control, evaluate, signals, come_to, Configuration, configuration, ended}
+use Rattle.eval_machine.specs.Configuration.{set_local_value, set_global_value, def_global_value, sequence_form, clause_test, binding_value, argument, applied_function, applied_list, while_test, while_body, return_value, last_segment, catch_tag, throw_tag, throw_value, dynamic_value, set_dynamic_value, def_dynamic_value, handler_value, signal_condition, signal_mark, continue_condition, continue_value}
+use Rattle.eval_machine.specs.Configuration.{kept, method_value, before_methods, primary_method, handler_return, main_form, main_forms, awaits, catches, turns, cleans}
 use Rattle.eval_machine.specs.Step.{value_step, turn_step, cleanup_step, outcome_step, control_step}
 use Rattle.eval_machine.specs.Run.{next_or, begins}
-use Rattle.eval_machine.proofs.Kept.{Progress, progress, counted, IsLater, same, further, none_counted, FineOutcome, FineFrames, IsFine, Leads, there, framed, earlier, beneath, given, ends, on, either, descends}
+use Rattle.eval_machine.proofs.Kept.{Progress, progress, counted, IsLater, same, further, none_counted, FineOutcome, FineFrames, IsFine, StepKeepsPrinted, there, framed, earlier, beneath, given, ends, on, either, descends}
 use Rattle.eval_machine.proofs.KeptWords.{requests_words, variable_set}
 use Rattle.eval_machine.proofs.KeptApplied.{value_here, signals_class, applies_each, applies_method, throws, transfers, continues, signals_under}
 use Rattle.eval_machine.proofs.KeptForms.{globals_set, dynamics_set, lists_apply, signals_one, handles, sequences, clauses_lead, bodies_lead, arguments_lead, bindings_lead, dynamics_lead, segments_lead, forms_lead}
 
 -- a frame that goes
-beyond : {f : Frame} {frames : List Frame} {before : Progress} {m : Moment} → Leads frames before m → Leads (f ∷ frames) before m
+beyond : {f : ContinuationFrame} {frames : List ContinuationFrame} {before : Progress} {m : Configuration} → StepKeepsPrinted frames before m → StepKeepsPrinted (f ∷ frames) before m
 beyond x = record { later = x.later; fine = λ h. x.fine h.1 }
 
 -- what an outcome comes to, where it and the frames are fine
-record Comes (o : Outcome) (frames : List Frame) (before : Progress) (m : Moment) : Type 0 where
+record OutcomeKeepsPrinted (o : Outcome) (frames : List ContinuationFrame) (before : Progress) (m : Configuration) : Type 0 where
   pub later : IsLater before (progress m.state.state)
   pub fine : FineOutcome o → FineFrames frames → IsFine m
 
 -- whatever the outcome is
-always : {o : Outcome} {frames : List Frame} {before : Progress} {m : Moment} → Leads frames before m → Comes o frames before m
+always : {o : Outcome} {frames : List ContinuationFrame} {before : Progress} {m : Configuration} → StepKeepsPrinted frames before m → OutcomeKeepsPrinted o frames before m
 always x = record { later = x.later; fine = λ g. x.fine }
 
 -- an outcome that passes
-passes : {o : Outcome} {f : Frame} {frames : List Frame} {before : Progress} {y : FlatState} → IsLater before (progress y.state)
-    → Comes o (f ∷ frames) before (moment (come_to o) frames y)
+passes : {o : Outcome} {f : ContinuationFrame} {frames : List ContinuationFrame} {before : Progress} {y : FlatState} → IsLater before (progress y.state)
+    → OutcomeKeepsPrinted o (f ∷ frames) before (configuration (come_to o) frames y)
 passes p = record { later = p; fine = λ g h. record { control = g; frames = h.1 } }
 
--- what a moment keeps of an earlier one, after which so many forms began
-pub record Keeps (forms : ℕ) (a b : Moment) : Type 0 where
+-- whin a configuration keeps of an earlier one, after which so many forms began
+pub record LaterConfiguration (forms : ℕ) (a b : Configuration) : Type 0 where
   pub later : IsLater (counted forms (progress a.state.state)) (progress b.state.state)
   pub fine : IsFine a → IsFine b
 
-pub unchanged : (m : Moment) → Keeps 0 m m
+pub unchanged : (m : Configuration) → LaterConfiguration 0 m m
 unchanged m = record { later = none_counted m.state.state; fine = λ h. h }
 
-from : {c : Control} {frames : List Frame} {z : FlatState} {m : Moment} {forms : ℕ} → Leads frames (counted forms (progress z.state)) m → Keeps forms (moment c frames z) m
+from : {c : Control} {frames : List ContinuationFrame} {z : FlatState} {m : Configuration} {forms : ℕ} → StepKeepsPrinted frames (counted forms (progress z.state)) m → LaterConfiguration forms (configuration c frames z) m
 from x = record { later = x.later; fine = λ h. x.fine h.frames }
 
 module _ (s : Setting) where
   -- a value
-  waits : (w : Wait) (v : Value) (frames : List Frame) (z : FlatState) → Leads (awaits w ∷ frames) (progress z.state) (value_step s w v frames z)
+  waits : (w : Wait) (v : Value) (frames : List ContinuationFrame) (z : FlatState) → StepKeepsPrinted (awaits w ∷ frames) (progress z.state) (value_step s w v frames z)
   waits (set_local_value p at) x frames z = beyond (ends (given (variable_set p x at.environment z) tt))
   waits (set_global_value n at) x frames z = beyond (globals_set s (text s.names n) x at frames z)
   waits (def_global_value n) x frames z = beyond (ends (given (same _) tt))
@@ -94,25 +94,25 @@ module _ (s : Setting) where
       beneath (awaits (main_form z.state.stack)) tt (framed (same _) tt tt))))
 
   -- any outcome, at each frame
-  waiting : (w : Wait) (o : Outcome) (frames : List Frame) (z : FlatState) → Comes o (awaits w ∷ frames) (progress z.state) (outcome_step s (awaits w) o frames z)
+  waiting : (w : Wait) (o : Outcome) (frames : List ContinuationFrame) (z : FlatState) → OutcomeKeepsPrinted o (awaits w ∷ frames) (progress z.state) (outcome_step s (awaits w) o frames z)
   waiting w (value v) frames z = always (waits w v frames z)
   waiting w (exit e v landing) frames z = passes (same _)
   waiting w (full asked left) frames z = passes (same _)
   waiting w more frames z = passes (same _)
 
-  catching : (e : ℕ) (o : Outcome) (frames : List Frame) (z : FlatState) → Comes o (catches e ∷ frames) (progress z.state) (outcome_step s (catches e) o frames z)
+  catching : (e : ℕ) (o : Outcome) (frames : List ContinuationFrame) (z : FlatState) → OutcomeKeepsPrinted o (catches e ∷ frames) (progress z.state) (outcome_step s (catches e) o frames z)
   catching e (value v) frames z = passes (same _)
   catching e (exit x v landing) frames z = caught_or (x == e)
     where
-      caught_or : (b : Bool) → Comes (exit x v landing) (catches e ∷ frames) (progress z.state)
+      caught_or : (b : Bool) → OutcomeKeepsPrinted (exit x v landing) (catches e ∷ frames) (progress z.state)
           (ended (if b then gives v z else record { outcome = exit x v landing; state = z }) frames)
       caught_or true = always (beyond (value_here v frames z))
       caught_or false = passes (same _)
   catching e (full asked left) frames z = passes (same _)
   catching e more frames z = passes (same _)
 
-  turning : (e : ℕ) (all : FlatForms) (at : Situation) (o : Outcome) (frames : List Frame) (z : FlatState)
-      → Comes o (turns e all at ∷ frames) (progress z.state) (turn_step s e all at o frames z)
+  turning : (e : ℕ) (all : FlatForms) (at : Situation) (o : Outcome) (frames : List ContinuationFrame) (z : FlatState)
+      → OutcomeKeepsPrinted o (turns e all at ∷ frames) (progress z.state) (turn_step s e all at o frames z)
   turning e all at (value v) frames z = passes (same _)
   turning e all at (exit x v landing) frames z =
       always (beyond (either (x == e)
@@ -121,14 +121,14 @@ module _ (s : Setting) where
   turning e all at (full asked left) frames z = passes (same _)
   turning e all at more frames z = passes (same _)
 
-  cleaning : (cleanup : FlatForm) (at : Situation) (o : Outcome) (frames : List Frame) (z : FlatState)
-      → Comes o (cleans cleanup at ∷ frames) (progress z.state) (cleanup_step s cleanup at o frames z)
+  cleaning : (cleanup : FlatForm) (at : Situation) (o : Outcome) (frames : List ContinuationFrame) (z : FlatState)
+      → OutcomeKeepsPrinted o (cleans cleanup at ∷ frames) (progress z.state) (cleanup_step s cleanup at o frames z)
   cleaning cleanup at (value v) frames z = always (beyond (framed (same _) tt tt))
   cleaning cleanup at (exit e v landing) frames z = always (beyond (framed (same _) tt tt))
   cleaning cleanup at (full asked left) frames z = passes (same _)
   cleaning cleanup at more frames z = passes (same _)
 
-  outcomes : (f : Frame) (o : Outcome) (frames : List Frame) (z : FlatState) → Comes o (f ∷ frames) (progress z.state) (outcome_step s f o frames z)
+  outcomes : (f : ContinuationFrame) (o : Outcome) (frames : List ContinuationFrame) (z : FlatState) → OutcomeKeepsPrinted o (f ∷ frames) (progress z.state) (outcome_step s f o frames z)
   outcomes (awaits w) o frames z = waiting w o frames z
   outcomes (catches e) o frames z = catching e o frames z
   outcomes (turns e all at) o frames z = turning e all at o frames z
@@ -136,8 +136,8 @@ module _ (s : Setting) where
   outcomes other o frames z = passes (same _)
 
   -- one step
-  pub next_keeps : (c : Control) (frames : List Frame) (z : FlatState)
-      → Keeps (if begins c then 1 else 0) (moment c frames z) (next_or (moment c frames z) (control_step s c frames z))
+  pub next_keeps : (c : Control) (frames : List ContinuationFrame) (z : FlatState)
+      → LaterConfiguration (if begins c then 1 else 0) (configuration c frames z) (next_or (configuration c frames z) (control_step s c frames z))
   next_keeps (evaluate f at) frames z = from (forms_lead s f at frames z)
   next_keeps (signals c mark level around) frames z = from (earlier (none_counted z.state) (signals_under s around.handlers c mark level around frames z))
   next_keeps (come_to o) [] z = unchanged _

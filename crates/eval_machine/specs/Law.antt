@@ -4,20 +4,20 @@ use Rattle.lang_meaning.specs.State.{Limit}
 use Rattle.lang_meaning.specs.Meaning.{Meant}
 use Rattle.flat_language.specs.declared.program.FlatProgram.{FlatProgram}
 use Rattle.flat_language.specs.FlatMeaning.{flat_meaning}
-use Rattle.eval_machine.specs.Moment.{Setting, Moment}
+use Rattle.eval_machine.specs.Configuration.{Setting, Configuration}
 use Rattle.eval_machine.specs.Run.{steps, IsEnd, start, done}
 
 -- the law of steps: a machine that has ended after some number of steps is the same after any other after which it has ended
 abbrev pub LawOfSteps : Type 0
-LawOfSteps = (s : Setting) (m : Moment) (n j : ℕ) → IsEnd s (steps s n m) → IsEnd s (steps s j m) → steps s j m ≡ steps s n m
+LawOfSteps = (s : Setting) (m : Configuration) (n j : ℕ) → IsEnd s (steps s n m) → IsEnd s (steps s j m) → steps s j m ≡ steps s n m
 
 -- a run of the machine that ends
-pub record Ends (s : Setting) (m : Moment) : Type 0 where
+pub record Ends (s : Setting) (m : Configuration) : Type 0 where
   pub count : ℕ
   pub is_end : IsEnd s (steps s count m)
 
--- whenever a machine that goes on from that moment has ended, it has done that
-abbrev pub Leads : Setting → Moment → Meant → Type 0
+-- whenever a machine that goes on from that configuration has ended, it has done that
+abbrev pub Leads : Setting → Configuration → Meant → Type 0
 Leads s m r = (n : ℕ) → IsEnd s (steps s n m) → done (steps s n m) ≡ r
 
 abbrev pub setting : List (List ℕ) → FlatProgram → Limit → Setting

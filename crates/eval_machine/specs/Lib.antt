@@ -1,4 +1,4 @@
-pub mod Moment
+pub mod Configuration
 pub mod Applications
 pub mod Step
 pub mod Run

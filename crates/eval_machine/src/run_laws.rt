@@ -2,17 +2,17 @@
 
 ghost use Rattle.eval_machine.specs.RunLaws.{LawOfPrinting, LawOfReading, LawOfUnits, LawOfWords};
 
-/// The law of printing: from every moment on, what was printed stays, and what is printed later stands behind it.
+/// The law of printing: from every configuration on, what was printed stays, and what is printed later stands behind it.
 pub fn law_printing()
     ensures { LawOfPrinting }
 {}
 
-/// The law of reading: from every moment on, what is left of the input are the last ones of the bytes that were left.
+/// The law of reading: from every configuration on, what is left of the input are the last ones of the bytes that were left.
 pub fn law_reading()
     ensures { LawOfReading }
 {}
 
-/// The law of units: from every moment on, each form that begins counts a unit or more, and none is taken back.
+/// The law of units: from every configuration on, each form that begins counts a unit or more, and none is taken back.
 pub fn law_units()
     ensures { LawOfUnits }
 {}

@@ -36,13 +36,13 @@ use Rattle.eval_primitives.specs.declared.searching.Walk.{Walk}
 use Rattle.eval_primitives.specs.declared.primitives.Primitives.{Primitives}
 use Rattle.eval_primitives.specs.declared.words.Spelt.{Spelt as SpeltWord}
 use Rattle.eval_primitives.specs.declared.words.Spelt.TheVariants as spelt
-use Rattle.eval_primitives.specs.Answers.{told, carried_out, carried, state_after, Comes, IsSaid, IsCount}
+use Rattle.eval_primitives.specs.Answers.{told, carried_out, carried, state_after, AnswersAs, IsSaid, IsCount}
 use Rattle.eval_primitives.specs.Objects.{HasClass, HasInstance}
 use Rattle.eval_primitives.specs.Words.{HasSymbol, spelt_of}
 use Rattle.eval_primitives.specs.Classing.{HasClassOf}
 use Rattle.eval_primitives.specs.Searching.{IsWalk}
-use Rattle.eval_primitives.specs.Charging.{IsCharged, IsSpent, IsPlaceTold, IsNoPlaceTold}
-use Rattle.eval_primitives.specs.Computed.{IsFitted, IsAlwaysComputed, HasWalk, IsNamed, IsSlotPast, IsSlotFound, IsSlotMissing, HasPlace, IsBelow}
+use Rattle.eval_primitives.specs.Charging.{IsCharged, AreUnitsSpent, IsPlaceTold, IsNoPlaceTold}
+use Rattle.eval_primitives.specs.Computed.{IsFitted, IsAlwaysComputed, HasWalk, IsNamed, IsSlotPast, IsSlotFound, IsSlotMissing, HasPlace, IsSubclassTold}
 use Rattle.eval_primitives.proofs.Placing.{carried_told}
 use Rattle.eval_primitives.proofs.Looking.{read_computed, same_answer}
 
@@ -65,10 +65,10 @@ told_state names limit (Gives w) y z = refl
 told_state names limit (Fails c) y z = refl
 told_state names limit (DomainError w c) y z = refl
 
-spent_comes : (names : List (List ℕ)) (limit : Option ℕ) (s t : Store) (b : Beside) (a : Answer) (n : ℕ) (h : Halt) → IsSpent n s h
-    → Comes names (Err h) (seen names t b) (carried_out (limit_of limit) (told names a (base.charged n (state_of names s b))) (seen names s b))
+spent_comes : (names : List (List ℕ)) (limit : Option ℕ) (s t : Store) (b : Beside) (a : Answer) (n : ℕ) (h : Halt) → AreUnitsSpent n s h
+    → AnswersAs names (Err h) (seen names t b) (carried_out (limit_of limit) (told names a (base.charged n (state_of names s b))) (seen names s b))
 spent_comes names limit s t b a n h x =
-    let P : Halt → Type 0 = λ k. Comes names (Err k) (seen names t b) (carried_out (limit_of limit) (told names a (base.charged n (state_of names s b))) (seen names s b)) in
+    let P : Halt → Type 0 = λ k. AnswersAs names (Err k) (seen names t b) (carried_out (limit_of limit) (told names a (base.charged n (state_of names s b))) (seen names s b)) in
     subst P (sym x.halt)
     (let Q : State → Type 0 = λ y. 2 ^ 64 ≤ y.peak + y.units + y.symbols + 1 in
     subst Q (sym (told_state names limit a (base.charged n (state_of names s b)) (seen names s b))) (let u : 2 ^ 64 ≤ (seen names s b).state.units + n = x.units names b in omega arith))
@@ -99,7 +99,7 @@ below_form : (p : Primitives) (c d : ℕ) (w : Walk) → HasWalk p c d w → (na
 below_form p c d w h names rows f z =
     ap (λ r. says r (base.charged (passed (λ e. d == e) (precedence rows c)) z)) (h.found names rows f) ∙ ap (λ n. says w.found (base.charged n z)) (h.passed names rows f)
 
-pub below_found : (p : Primitives) (c d : ℕ) (w : Walk) (s t : Store) (a : Answer) → HasWalk p c d w → IsCharged w.passed s t → IsSaid w.found a → IsBelow p c d s t (Ok a)
+pub below_found : (p : Primitives) (c d : ℕ) (w : Walk) (s t : Store) (a : Answer) → HasWalk p c d w → IsCharged w.passed s t → IsSaid w.found a → IsSubclassTold p c d s t (Ok a)
 below_found p c d w s t a h x y = record {
   comes = λ names rows b limit f.
       same_answer names limit s t b (Ok a) (says (is_below rows c d) (base.charged (passed (λ e. d == e) (precedence rows c)) (state_of names s b)))
@@ -108,7 +108,7 @@ below_found p c d w s t a h x y = record {
       (charged_comes names limit s t b a w.passed x);
 }
 
-pub below_spent : (p : Primitives) (c d : ℕ) (w : Walk) (s t : Store) (h : Halt) → HasWalk p c d w → IsSpent w.passed s h → IsBelow p c d s t (Err h)
+pub below_spent : (p : Primitives) (c d : ℕ) (w : Walk) (s t : Store) (h : Halt) → HasWalk p c d w → AreUnitsSpent w.passed s h → IsSubclassTold p c d s t (Err h)
 below_spent p c d w s t h x y = record {
   comes = λ names rows b limit f.
       same_answer names limit s t b (Err h) (says (is_below rows c d) (base.charged (passed (λ e. d == e) (precedence rows c)) (state_of names s b)))
@@ -117,7 +117,7 @@ below_spent p c d w s t h x y = record {
       (spent_comes names limit s t b (truth_answer w.found) w.passed h y);
 }
 
-pub subclass_found : (p : Primitives) (s t : Store) (w v : Word) (c d : ℕ) (r : Result Answer Halt) → HasClass s w (Some c) → HasClass s v (Some d) → IsBelow p c d s t r
+pub subclass_found : (p : Primitives) (s t : Store) (w v : Word) (c d : ℕ) (r : Result Answer Halt) → HasClass s w (Some c) → HasClass s v (Some d) → IsSubclassTold p c d s t r
     → IsAlwaysComputed p the.IsSubclass (w ∷ v ∷ []) s t r
 subclass_found p s t w v c d r h k x = record { always = λ limit. record { comes = λ names rows b f. rw (h.seen names b, k.seen names b) (x.comes names rows b limit f) } }
 
@@ -133,7 +133,7 @@ instance_form : (names : List (List ℕ)) (rows : ProgramRows) (s : Store) (b : 
     ≡ says (is_below rows (class_of (state_of names s b) (value_of_word names w)) d) (base.charged (passed (λ e. d == e) (precedence rows (class_of (state_of names s b) (value_of_word names w)))) (state_of names s b))
 instance_form names rows s b w v d k = rw (k.seen names b) refl
 
-pub instance_found : (p : Primitives) (s t : Store) (w v : Word) (c d : ℕ) (r : Result Answer Halt) → HasClassOf s w c → HasClass s v (Some d) → IsBelow p c d s t r
+pub instance_found : (p : Primitives) (s t : Store) (w v : Word) (c d : ℕ) (r : Result Answer Halt) → HasClassOf s w c → HasClass s v (Some d) → IsSubclassTold p c d s t r
     → IsAlwaysComputed p the.IsInstance (w ∷ v ∷ []) s t r
 instance_found p s t w v c d r h k x = record {
   always = λ limit. record {
@@ -218,7 +218,7 @@ place_told at s t a h x = record {
       (sym (h.told names (base.charged (at + 1) (state_of names s b)))) (charged_comes names limit s t b a (at + 1) x);
 }
 
-pub place_spent : (at : ℕ) (s t : Store) (h : Halt) → IsSpent (at + 1) s h → IsPlaceTold at s t (Err h)
+pub place_spent : (at : ℕ) (s t : Store) (h : Halt) → AreUnitsSpent (at + 1) s h → IsPlaceTold at s t (Err h)
 place_spent at s t h x = record { comes = λ names b limit. spent_comes names limit s t b (Gives (word.Integer (pos at))) (at + 1) h x }
 
 pub place_unsaid : (at : ℕ) (s t : Store) → IsPlaceTold at s t (Err NoMemory)
@@ -227,7 +227,7 @@ place_unsaid at s t = record { comes = λ names b limit. tt }
 pub no_place_told : (n : ℕ) (s t : Store) → IsCharged n s t → IsNoPlaceTold n s t (Ok (Fails 24))
 no_place_told n s t x = record { comes = λ names b limit. charged_comes names limit s t b (Fails 24) n x }
 
-pub no_place_spent : (n : ℕ) (s t : Store) (h : Halt) → IsSpent n s h → IsNoPlaceTold n s t (Err h)
+pub no_place_spent : (n : ℕ) (s t : Store) (h : Halt) → AreUnitsSpent n s h → IsNoPlaceTold n s t (Err h)
 no_place_spent n s t h x = record { comes = λ names b limit. spent_comes names limit s t b (Fails 24) n h x }
 
 -- the meaning's place of a slot

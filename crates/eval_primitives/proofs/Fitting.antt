@@ -15,7 +15,7 @@ use Rattle.eval_store.specs.declared.store.Store.{Store}
 use Rattle.eval_store.specs.Spelling.{IsSpelling}
 use Rattle.eval_store.specs.Words.{value_of_word}
 use Rattle.eval_store.specs.View.{Beside, state_of}
-use Rattle.eval_store.specs.Layout.{IsLayout}
+use Rattle.eval_store.specs.InitialHeap.{IsInitialHeap}
 use Rattle.eval_primitives.specs.declared.primitives.Primitives.{Primitives}
 use Rattle.eval_primitives.specs.Serious.{is_serious_row}
 use Rattle.eval_primitives.specs.Classing.{HasClassOf}
@@ -28,7 +28,7 @@ table_at (r ∷ rs) zero = refl
 table_at (r ∷ rs) (suc c) = table_at rs c
 
 pub fitted : (names : List (List ℕ)) (p : Primitives) → p.names.now ≡ names → p.serious.items ≡ map is_serious_row p.program.now.classes
-    → IsSpelling names p.spellings → IsLayout names (tables p.program.now) p.layout.now → IsFitted names (tables p.program.now) p
+    → IsSpelling names p.spellings → IsInitialHeap names (tables p.program.now) p.layout.now → IsFitted names (tables p.program.now) p
 fitted names p known serious spelling layout = record {
   known = known;
   spelling = spelling;

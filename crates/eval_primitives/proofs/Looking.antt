@@ -29,10 +29,10 @@ use Rattle.eval_primitives.specs.declared.answer.Answer.TheVariants.{Gives, Fail
 use Rattle.eval_primitives.specs.declared.primitives.Primitives.{Primitives}
 use Rattle.eval_primitives.specs.declared.words.Spelt.{Spelt as SpeltWord}
 use Rattle.eval_primitives.specs.declared.words.Spelt.TheVariants as spelt
-use Rattle.eval_primitives.specs.Answers.{carried_out, Comes}
+use Rattle.eval_primitives.specs.Answers.{carried_out, AnswersAs}
 use Rattle.eval_primitives.specs.Objects.{HasClass, HasInstance}
 use Rattle.eval_primitives.specs.Words.{HasSymbol, spelt_of}
-use Rattle.eval_primitives.specs.Done.{IsDone, Brings, unbound}
+use Rattle.eval_primitives.specs.Done.{IsPrimitiveDone, Brings, unbound}
 use Rattle.eval_primitives.specs.Naming.{IsNameOf, IsTextOf, text_of}
 use Rattle.eval_primitives.specs.Computed.{IsFitted, IsReadBy, IsComputed, IsSerious, HasSlots}
 use Rattle.eval_primitives.proofs.Placing.{carried_told}
@@ -44,7 +44,7 @@ read_computed p limit which ws s a x = record {
       ap (λ y. carried_out (limit_of limit) y (seen names s b)) (x.told names rows b f) ∙ carried_told names (limit_of limit) a (seen names s b) (seen names s b) refl;
 }
 
-pub done_computed : (p : Primitives) (limit : Option ℕ) (which : Primitive) (ws : List Word) (s t : Store) (r : Result Answer Halt) → IsDone limit which ws s t r → IsComputed p limit which ws s t r
+pub done_computed : (p : Primitives) (limit : Option ℕ) (which : Primitive) (ws : List Word) (s t : Store) (r : Result Answer Halt) → IsPrimitiveDone limit which ws s t r → IsComputed p limit which ws s t r
 done_computed p limit which ws s t r x = record { comes = λ names rows b f. x.comes names rows b }
 
 -- names of classes
@@ -104,9 +104,9 @@ symbol_form names rows z v (meaning.by_serial serial) e = rw e refl
 
 -- an answer that is another one in the meaning's words
 pub same_answer : (names : List (List ℕ)) (limit : Option ℕ) (s t : Store) (b : Beside) (r : Result Answer Halt) (x y : meaning.Answer) → x ≡ y
-    → Comes names r (seen names t b) (carried_out (limit_of limit) y (seen names s b)) → Comes names r (seen names t b) (carried_out (limit_of limit) x (seen names s b))
+    → AnswersAs names r (seen names t b) (carried_out (limit_of limit) y (seen names s b)) → AnswersAs names r (seen names t b) (carried_out (limit_of limit) x (seen names s b))
 same_answer names limit s t b r x y e h =
-    let P : meaning.Answer → Type 0 = λ u. Comes names r (seen names t b) (carried_out (limit_of limit) u (seen names s b)) in
+    let P : meaning.Answer → Type 0 = λ u. AnswersAs names r (seen names t b) (carried_out (limit_of limit) u (seen names s b)) in
     subst P (sym e) h
 
 pub name_brought : (p : Primitives) (limit : Option ℕ) (s t : Store) (w : Word) (x : SpeltWord) (bytes : List ℕ) (r : Result Answer Halt)

@@ -23,10 +23,10 @@ use Rattle.eval_store.specs.Words.{value_of_word, value_or_none, object_of, capt
 use Rattle.eval_store.specs.View.{Beside, state_of, seen, limit_of, requested, placed, built, symbol_built, ComesTo}
 use Rattle.eval_primitives.specs.declared.answer.Answer.{Answer}
 use Rattle.eval_primitives.specs.declared.answer.Answer.TheVariants.{Gives, Fails, DomainError}
-use Rattle.eval_primitives.specs.Answers.{told, carried, evaluated, to_signal, to_signal_domain, Comes, carried_out, IsTold}
+use Rattle.eval_primitives.specs.Answers.{told, carried, evaluated, to_signal, to_signal_domain, AnswersAs, carried_out, IsTold}
 use Rattle.eval_primitives.specs.Reading.{IsRead}
 use Rattle.eval_primitives.specs.Setting.{IsSet}
-use Rattle.eval_primitives.specs.Done.{IsDone, Brings, IsKept, Keeps, answer_of, unbound}
+use Rattle.eval_primitives.specs.Done.{IsPrimitiveDone, Brings, IsStored, ObjectIsStored, answer_of, unbound}
 
 -- what was answered, carried out
 pub carried_told : (names : List (List ℕ)) (limit : Limit) (a : Answer) (z after : FlatState) → after ≡ record z { state = after.state }
@@ -35,19 +35,19 @@ carried_told names limit (Gives w) z after e = ap (λ y. evaluated (gives (value
 carried_told names limit (Fails c) z after e = ap (λ y. to_signal c [] y) (sym e)
 carried_told names limit (DomainError w c) z after e = ap (λ y. to_signal_domain (value_of_word names w) c y) (sym e)
 
-pub set_done : (limit : Option ℕ) (which : Primitive) (ws : List Word) (s t : Store) (a : Answer) → IsSet which ws s t a → IsDone limit which ws s t (Ok a)
+pub set_done : (limit : Option ℕ) (which : Primitive) (ws : List Word) (s t : Store) (a : Answer) → IsSet which ws s t a → IsPrimitiveDone limit which ws s t (Ok a)
 set_done limit which ws s t a x = record {
   comes = λ names rows b. ap (λ y. carried_out (limit_of limit) y (seen names s b)) (x.told names rows b) ∙ carried_told names (limit_of limit) a (seen names s b) (seen names t b) (x.besides names b);
 }
 
-pub read_done : (limit : Option ℕ) (which : Primitive) (ws : List Word) (s : Store) (a : Answer) → IsRead which ws s a → IsDone limit which ws s s (Ok a)
+pub read_done : (limit : Option ℕ) (which : Primitive) (ws : List Word) (s : Store) (a : Answer) → IsRead which ws s a → IsPrimitiveDone limit which ws s s (Ok a)
 read_done limit which ws s a x = set_done limit which ws s s a (record { told = x.told; besides = λ names b. refl })
 
-pub told_done : (limit : Option ℕ) (which : Primitive) (ws : List Word) (s : Store) (a : Answer) → IsTold which ws a → IsDone limit which ws s s (Ok a)
+pub told_done : (limit : Option ℕ) (which : Primitive) (ws : List Word) (s : Store) (a : Answer) → IsTold which ws a → IsPrimitiveDone limit which ws s s (Ok a)
 told_done limit which ws s a x = read_done limit which ws s a (record { told = λ names rows b. x.told names rows (state_of names s b) })
 
 -- an object is made at once
-comes_of : (names : List (List ℕ)) (r : Result Word Halt) (z : FlatState) (e : FlatEvaluated) → ComesTo r (value_of_word names) z e → Comes names (answer_of r) z (evaluated e)
+comes_of : (names : List (List ℕ)) (r : Result Word Halt) (z : FlatState) (e : FlatEvaluated) → ComesTo r (value_of_word names) z e → AnswersAs names (answer_of r) z (evaluated e)
 comes_of names (Ok w) z e h = ap evaluated h
 comes_of names (Err NoMemory) z e h = tt
 comes_of names (Err Spent) z e h = h
@@ -55,12 +55,12 @@ comes_of names (Err (Full asked left)) z e h = ap evaluated h
 
 pub cons_made : (limit : Option ℕ) (a d : Word) (s t : Store) (r : Result Word Halt)
     → ((names : List (List ℕ)) (b : Beside) → ComesTo r (value_of_word names) (seen names t b) (built names (limit_of limit) 2 0 (Cons a d) (seen names s b)))
-    → IsDone limit p.Cons (a ∷ d ∷ []) s t (answer_of r)
+    → IsPrimitiveDone limit p.Cons (a ∷ d ∷ []) s t (answer_of r)
 cons_made limit a d s t r h = record { comes = λ names rows b. comes_of names r (seen names t b) (built names (limit_of limit) 2 0 (Cons a d) (seen names s b)) (h names b) }
 
 pub symbol_made : (limit : Option ℕ) (s t : Store) (r : Result Word Halt)
     → ((names : List (List ℕ)) (b : Beside) → ComesTo r (value_of_word names) (seen names t b) (symbol_built names (limit_of limit) (seen names s b)))
-    → IsDone limit p.Gensym [] s t (answer_of r)
+    → IsPrimitiveDone limit p.Gensym [] s t (answer_of r)
 symbol_made limit s t r h = record { comes = λ names rows b. comes_of names r (seen names t b) (symbol_built names (limit_of limit) (seen names s b)) (h names b) }
 
 -- an object is kept for which words were granted
@@ -122,7 +122,7 @@ pub kept : (s r t : Store) (size besides n : ℕ) (o : Object)
     → ((names : List (List ℕ)) (b : Beside) → gives nil (charged (size + besides) (seen names s b)) ≡ gives nil (seen names r b))
     → ((names : List (List ℕ)) (b : Beside) → n ≡ length (seen names r b).state.store)
     → ((names : List (List ℕ)) (b : Beside) → seen names t b ≡ placed names o (seen names r b))
-    → IsKept size besides o s t (word.Object n)
+    → IsStored size besides o s t (word.Object n)
 kept s r t size besides n o counted number after = record {
   number = λ names b. ap object (number names b ∙ ap (λ (e : FlatEvaluated). length e.state.state.store) (sym (counted names b)));
   after = λ names b. after names b ∙ ap (λ (e : FlatEvaluated). placed names o e.state) (sym (counted names b));
@@ -133,7 +133,7 @@ brought : (limit : Option ℕ) (size besides : ℕ) (o : Object) (answer : List 
     → ((names : List (List ℕ)) (z : State) → answer names z ≡ makes size besides (object_of names o) z)
     → ((names : List (List ℕ)) → captured_by names o ≡ None)
     → ((names : List (List ℕ)) (b : Beside) → requested (limit_of limit) size 0 (seen names s b) ≡ gives nil (seen names r b))
-    → Keeps size besides o r t k → Brings limit answer s t (answer_of k)
+    → ObjectIsStored size besides o r t k → Brings limit answer s t (answer_of k)
 brought limit size besides o answer s r t (Ok w) form none given x = record {
   comes = λ names b.
       rw (form names (state_of names s b))
@@ -163,62 +163,62 @@ string_form count c z = rw (length-replicate count c) refl
 
 pub vector_brought : (limit : Option ℕ) (count : ℕ) (e : Word) (ws : List Word) (s r t : Store) (k : Result Word Halt)
     → ((names : List (List ℕ)) (b : Beside) → requested (limit_of limit) (2 + count) 0 (seen names s b) ≡ gives nil (seen names r b))
-    → ws ≡ replicate count e → Keeps (2 + count) 0 (Vector ws) r t k
+    → ws ≡ replicate count e → ObjectIsStored (2 + count) 0 (Vector ws) r t k
     → Brings limit (λ names. makes_vector (replicate count (value_of_word names e))) s t (answer_of k)
 vector_brought limit count e ws s r t k given same x =
     brought limit (2 + count) 0 (Vector (replicate count e)) (λ names. makes_vector (replicate count (value_of_word names e))) s r t k
-    (λ names z. vector_form names count e z) (λ names. refl) given (let P : List Word → Type 0 = λ us. Keeps (2 + count) 0 (Vector us) r t k in subst P same x)
+    (λ names z. vector_form names count e z) (λ names. refl) given (let P : List Word → Type 0 = λ us. ObjectIsStored (2 + count) 0 (Vector us) r t k in subst P same x)
 
 pub repeated_brought : (limit : Option ℕ) (count c : ℕ) (bytes : List ℕ) (s r t : Store) (k : Result Word Halt)
     → ((names : List (List ℕ)) (b : Beside) → requested (limit_of limit) (2 + (count + 3) / 4) 0 (seen names s b) ≡ gives nil (seen names r b))
-    → bytes ≡ replicate count c → Keeps (2 + (count + 3) / 4) count (Text bytes) r t k
+    → bytes ≡ replicate count c → ObjectIsStored (2 + (count + 3) / 4) count (Text bytes) r t k
     → Brings limit (λ names. makes_string (replicate count c)) s t (answer_of k)
 repeated_brought limit count c bytes s r t k given same x =
     brought limit (2 + (count + 3) / 4) count (Text (replicate count c)) (λ names. makes_string (replicate count c)) s r t k
-    (λ names z. string_form count c z) (λ names. refl) given (let P : List ℕ → Type 0 = λ us. Keeps (2 + (count + 3) / 4) count (Text us) r t k in subst P same x)
+    (λ names z. string_form count c z) (λ names. refl) given (let P : List ℕ → Type 0 = λ us. ObjectIsStored (2 + (count + 3) / 4) count (Text us) r t k in subst P same x)
 
 pub text_brought : (limit : Option ℕ) (n : ℕ) (text bytes : List ℕ) (s r t : Store) (k : Result Word Halt) → n ≡ length text
     → ((names : List (List ℕ)) (b : Beside) → requested (limit_of limit) (2 + (n + 3) / 4) 0 (seen names s b) ≡ gives nil (seen names r b))
-    → bytes ≡ text → Keeps (2 + (n + 3) / 4) n (Text bytes) r t k
+    → bytes ≡ text → ObjectIsStored (2 + (n + 3) / 4) n (Text bytes) r t k
     → Brings limit (λ names. makes_string text) s t (answer_of k)
 text_brought limit n text bytes s r t k len given same x =
     brought limit (2 + (n + 3) / 4) n (Text text) (λ names. makes_string text) s r t k
-    (λ names z. rw len refl) (λ names. refl) given (let P : List ℕ → Type 0 = λ us. Keeps (2 + (n + 3) / 4) n (Text us) r t k in subst P same x)
+    (λ names z. rw len refl) (λ names. refl) given (let P : List ℕ → Type 0 = λ us. ObjectIsStored (2 + (n + 3) / 4) n (Text us) r t k in subst P same x)
 
 -- strings and vectors
 pub string_done : (limit : Option ℕ) (v w : Word) (n : ℤ) (c count : ℕ) (s t : Store) (x : Result Answer Halt)
     → ((names : List (List ℕ)) → as_integer (value_of_word names v) ≡ Some n) → ((names : List (List ℕ)) → as_character (value_of_word names w) ≡ Some c)
     → length_of n ≡ Some count → Brings limit (λ names. makes_string (replicate count c)) s t x
-    → IsDone limit p.MakeString (v ∷ w ∷ []) s t x
+    → IsPrimitiveDone limit p.MakeString (v ∷ w ∷ []) s t x
 string_done limit v w n c count s t x h k e brings = record { comes = λ names rows b. rw (h names, k names, e) (brings.comes names b) }
 
 pub no_string_length : (limit : Option ℕ) (v w : Word) (s : Store) → ((names : List (List ℕ)) → as_integer (value_of_word names v) ≡ None)
-    → IsDone limit p.MakeString (v ∷ w ∷ []) s s (Ok (DomainError v 13))
+    → IsPrimitiveDone limit p.MakeString (v ∷ w ∷ []) s s (Ok (DomainError v 13))
 no_string_length limit v w s h = told_done limit p.MakeString (v ∷ w ∷ []) s (DomainError v 13) (record { told = λ names rows z. rw (h names) refl })
 
 pub no_string_character : (limit : Option ℕ) (v w : Word) (n : ℤ) (s : Store) → ((names : List (List ℕ)) → as_integer (value_of_word names v) ≡ Some n)
     → ((names : List (List ℕ)) → as_character (value_of_word names w) ≡ None)
-    → IsDone limit p.MakeString (v ∷ w ∷ []) s s (Ok (DomainError w 5))
+    → IsPrimitiveDone limit p.MakeString (v ∷ w ∷ []) s s (Ok (DomainError w 5))
 no_string_character limit v w n s h k = told_done limit p.MakeString (v ∷ w ∷ []) s (DomainError w 5) (record { told = λ names rows z. rw (h names, k names) refl })
 
 pub negative_string : (limit : Option ℕ) (v w : Word) (n : ℤ) (c : ℕ) (s : Store) → ((names : List (List ℕ)) → as_integer (value_of_word names v) ≡ Some n)
     → ((names : List (List ℕ)) → as_character (value_of_word names w) ≡ Some c) → length_of n ≡ None
-    → IsDone limit p.MakeString (v ∷ w ∷ []) s s (Ok (DomainError v 13))
+    → IsPrimitiveDone limit p.MakeString (v ∷ w ∷ []) s s (Ok (DomainError v 13))
 negative_string limit v w n c s h k e = told_done limit p.MakeString (v ∷ w ∷ []) s (DomainError v 13) (record { told = λ names rows z. rw (h names, k names, e) refl })
 
 pub vector_done : (limit : Option ℕ) (v w : Word) (n : ℤ) (count : ℕ) (s t : Store) (x : Result Answer Halt)
     → ((names : List (List ℕ)) → as_integer (value_of_word names v) ≡ Some n)
     → length_of n ≡ Some count → Brings limit (λ names. makes_vector (replicate count (value_of_word names w))) s t x
-    → IsDone limit p.MakeVector (v ∷ w ∷ []) s t x
+    → IsPrimitiveDone limit p.MakeVector (v ∷ w ∷ []) s t x
 vector_done limit v w n count s t x h e brings = record { comes = λ names rows b. rw (h names, e) (brings.comes names b) }
 
 pub no_vector_length : (limit : Option ℕ) (v w : Word) (s : Store) → ((names : List (List ℕ)) → as_integer (value_of_word names v) ≡ None)
-    → IsDone limit p.MakeVector (v ∷ w ∷ []) s s (Ok (DomainError v 13))
+    → IsPrimitiveDone limit p.MakeVector (v ∷ w ∷ []) s s (Ok (DomainError v 13))
 no_vector_length limit v w s h = told_done limit p.MakeVector (v ∷ w ∷ []) s (DomainError v 13) (record { told = λ names rows z. rw (h names) refl })
 
 pub negative_vector : (limit : Option ℕ) (v w : Word) (n : ℤ) (s : Store) → ((names : List (List ℕ)) → as_integer (value_of_word names v) ≡ Some n)
     → length_of n ≡ None
-    → IsDone limit p.MakeVector (v ∷ w ∷ []) s s (Ok (DomainError v 13))
+    → IsPrimitiveDone limit p.MakeVector (v ∷ w ∷ []) s s (Ok (DomainError v 13))
 negative_vector limit v w n s h e = told_done limit p.MakeVector (v ∷ w ∷ []) s (DomainError v 13) (record { told = λ names rows z. rw (h names, e) refl })
 
 -- words for strings and vectors were not granted
@@ -245,12 +245,12 @@ text_refused v limit n text s t h len x =
 -- instances
 pub instance_brought : (limit : Option ℕ) (words class count : ℕ) (slots : List (Option Word)) (s r t : Store) (k : Result Word Halt)
     → ((names : List (List ℕ)) (b : Beside) → requested (limit_of limit) words 0 (seen names s b) ≡ gives nil (seen names r b))
-    → slots ≡ replicate count None → Keeps words 0 (made.Instance (record { class = class; slots = slots; mark = word.Nil })) r t k
+    → slots ≡ replicate count None → ObjectIsStored words 0 (made.Instance (record { class = class; slots = slots; mark = word.Nil })) r t k
     → Brings limit (λ names. makes words 0 (unbound class count)) s t (answer_of k)
 instance_brought limit words class count slots s r t k given same x =
     brought limit words 0 (made.Instance (record { class = class; slots = replicate count None; mark = word.Nil })) (λ names. makes words 0 (unbound class count)) s r t k
     (λ names z. rw (map_replicate (value_or_none names) count None) refl) (λ names. refl) given
-    (let P : List (Option Word) → Type 0 = λ us. Keeps words 0 (made.Instance (record { class = class; slots = us; mark = word.Nil })) r t k in subst P same x)
+    (let P : List (Option Word) → Type 0 = λ us. ObjectIsStored words 0 (made.Instance (record { class = class; slots = us; mark = word.Nil })) r t k in subst P same x)
 
 pub instance_refused : {T : Type 0} (v : List (List ℕ) → T → Value) (limit : Option ℕ) (words class count : ℕ) (s t : Store) (h : Halt)
     → ((names : List (List ℕ)) (b : Beside) → ComesTo (Err h) (v names) (seen names t b) (requested (limit_of limit) words 0 (seen names s b)))

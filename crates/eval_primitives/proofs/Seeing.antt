@@ -14,7 +14,7 @@ use Rattle.eval_store.specs.declared.object.Object.TheVariants.{Cons, Text, Vect
 use Rattle.eval_store.specs.declared.object.Object.TheVariants as made
 use Rattle.eval_store.specs.Words.{object_of}
 use Rattle.eval_store.specs.View.{IsFetched}
-use Rattle.eval_primitives.specs.declared.group.Kind.TheVariants as kind
+use Rattle.eval_primitives.specs.declared.group.KindTest.TheVariants as kind
 use Rattle.eval_primitives.specs.declared.words.Spelt.{Spelt as SpeltWord}
 use Rattle.eval_primitives.specs.declared.words.Spelt.TheVariants as spelt
 use Rattle.eval_primitives.specs.Objects.{HasCons, HasString, HasVector, HasClass, HasInstance, HasFresh}

@@ -63,8 +63,8 @@ state_after (to_signal class slots z) = z
 state_after (to_signal_domain v expected z) = z
 
 -- what a call comes to: its answer; Full; or counts pass 64 bits, which no run does within them. Of a lack of memory nothing is said
-abbrev pub Comes : List (List ℕ) → Result Answer Halt → FlatState → Carried → Type 0
-Comes names (Ok a) z r = r ≡ carried names a z
-Comes names (Err (Full asked left)) z r = r ≡ evaluated (record { outcome = full asked left; state = z })
-Comes names (Err Spent) z r = 2 ^ 64 ≤ (state_after r).state.peak + (state_after r).state.units + (state_after r).state.symbols + 1
-Comes names (Err NoMemory) z r = Unit {0}
+abbrev pub AnswersAs : List (List ℕ) → Result Answer Halt → FlatState → Carried → Type 0
+AnswersAs names (Ok a) z r = r ≡ carried names a z
+AnswersAs names (Err (Full asked left)) z r = r ≡ evaluated (record { outcome = full asked left; state = z })
+AnswersAs names (Err Spent) z r = 2 ^ 64 ≤ (state_after r).state.peak + (state_after r).state.units + (state_after r).state.symbols + 1
+AnswersAs names (Err NoMemory) z r = Unit {0}

@@ -16,20 +16,20 @@ use Rattle.eval_store.specs.declared.store.Halt.{Halt}
 use Rattle.eval_store.specs.Spelling.{IsSpelling}
 use Rattle.eval_store.specs.Words.{values_of}
 use Rattle.eval_store.specs.View.{Beside, state_of, seen, limit_of}
-use Rattle.eval_store.specs.Layout.{IsLayout}
+use Rattle.eval_store.specs.InitialHeap.{IsInitialHeap}
 use Rattle.eval_primitives.specs.declared.answer.Answer.{Answer}
 use Rattle.eval_primitives.specs.declared.searching.Walk.{Walk}
 use Rattle.eval_primitives.specs.declared.words.Spelt.{Spelt as SpeltWord}
 use Rattle.eval_primitives.specs.Words.{spelt_of}
 use Rattle.eval_primitives.specs.declared.primitives.Primitives.{Primitives}
-use Rattle.eval_primitives.specs.Answers.{told, Comes, carried_out}
+use Rattle.eval_primitives.specs.Answers.{told, AnswersAs, carried_out}
 
 -- primitives see these names and rows, and know which classes are below `<serious-condition>`
 pub record IsFitted (names : List (List ℕ)) (rows : ProgramRows) (p : Primitives) : Type 0 where
   pub known : p.names.now ≡ names
   pub spelling : IsSpelling names p.spellings
   pub program : tables p.program.now ≡ rows
-  pub layout : IsLayout names rows p.layout.now
+  pub layout : IsInitialHeap names rows p.layout.now
   pub serious : (c : ℕ) → slice_index_or p.serious.items c false ≡ is_below rows c serious_condition_class
 
 -- a primitive that reads the store and the program answers so
@@ -40,7 +40,7 @@ pub record IsReadBy (p : Primitives) (which : Primitive) (arguments : List Word)
 -- a primitive comes to that: what is left of its answer once it is carried out
 pub record IsComputed (p : Primitives) (limit : Option ℕ) (which : Primitive) (arguments : List Word) (old new : Store) (r : Result Answer Halt) : Type 0 where
   pub comes : (names : List (List ℕ)) (rows : ProgramRows) (b : Beside) → IsFitted names rows p
-      → Comes names r (seen names new b) (carried_out (limit_of limit) (primitive names rows which (values_of names arguments) (state_of names old b)) (seen names old b))
+      → AnswersAs names r (seen names new b) (carried_out (limit_of limit) (primitive names rows which (values_of names arguments) (state_of names old b)) (seen names old b))
 
 -- however many words there are
 pub record IsAlwaysComputed (p : Primitives) (which : Primitive) (arguments : List Word) (old new : Store) (r : Result Answer Halt) : Type 0 where
@@ -87,11 +87,11 @@ IsFirstSlot p x slots None = IsSlotMissing p x slots
 -- the place of a slot of a class is answered, and what was passed is counted
 pub record HasPlace (p : Primitives) (c : ℕ) (x : SpeltWord) (old new : Store) (r : Result Answer Halt) : Type 0 where
   pub comes : (names : List (List ℕ)) (rows : ProgramRows) (b : Beside) (limit : Option ℕ) → IsFitted names rows p
-      → Comes names r (seen names new b)
+      → AnswersAs names r (seen names new b)
       (carried_out (limit_of limit) (slot_place (slots rows c) (is_slot names (spelt_of names x)) (state_of names old b)) (seen names old b))
 
 -- whether a class is another one or below it is answered, and what was passed in its precedence list is counted
-pub record IsBelow (p : Primitives) (c d : ℕ) (old new : Store) (r : Result Answer Halt) : Type 0 where
+pub record IsSubclassTold (p : Primitives) (c d : ℕ) (old new : Store) (r : Result Answer Halt) : Type 0 where
   pub comes : (names : List (List ℕ)) (rows : ProgramRows) (b : Beside) (limit : Option ℕ) → IsFitted names rows p
-      → Comes names r (seen names new b)
+      → AnswersAs names r (seen names new b)
       (carried_out (limit_of limit) (says (is_below rows c d) (charged (passed (λ e. d == e) (precedence rows c)) (state_of names old b))) (seen names old b))

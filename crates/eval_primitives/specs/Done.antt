@@ -17,29 +17,29 @@ use Rattle.eval_store.specs.Words.{value_of_word, values_of}
 use Rattle.eval_store.specs.View.{Beside, state_of, seen, limit_of, placed}
 use Rattle.eval_primitives.specs.declared.answer.Answer.{Answer}
 use Rattle.eval_primitives.specs.declared.answer.Answer.TheVariants.{Gives}
-use Rattle.eval_primitives.specs.Answers.{Comes, carried_out}
+use Rattle.eval_primitives.specs.Answers.{AnswersAs, carried_out}
 
 -- a primitive comes to that, whatever the program is
-pub record IsDone (limit : Option ℕ) (which : Primitive) (arguments : List Word) (old new : Store) (r : Result Answer Halt) : Type 0 where
+pub record IsPrimitiveDone (limit : Option ℕ) (which : Primitive) (arguments : List Word) (old new : Store) (r : Result Answer Halt) : Type 0 where
   pub comes : (names : List (List ℕ)) (rows : ProgramRows) (b : Beside)
-      → Comes names r (seen names new b) (carried_out (limit_of limit) (primitive names rows which (values_of names arguments) (state_of names old b)) (seen names old b))
+      → AnswersAs names r (seen names new b) (carried_out (limit_of limit) (primitive names rows which (values_of names arguments) (state_of names old b)) (seen names old b))
 
 -- an answer of the meaning is carried out
 pub record Brings (limit : Option ℕ) (answer : List (List ℕ) → State → meaning.Answer) (old new : Store) (r : Result Answer Halt) : Type 0 where
   pub comes : (names : List (List ℕ)) (b : Beside)
-      → Comes names r (seen names new b) (carried_out (limit_of limit) (answer names (state_of names old b)) (seen names old b))
+      → AnswersAs names r (seen names new b) (carried_out (limit_of limit) (answer names (state_of names old b)) (seen names old b))
 
 -- an object whose words were granted stands in the store, under its number
-pub record IsKept (size besides : ℕ) (o : Object) (old new : Store) (w : Word) : Type 0 where
+pub record IsStored (size besides : ℕ) (o : Object) (old new : Store) (w : Word) : Type 0 where
   pub number : (names : List (List ℕ)) (b : Beside) → value_of_word names w ≡ object (length (seen names old b).state.store)
   pub after : (names : List (List ℕ)) (b : Beside) → seen names new b ≡ placed names o (charged (size + besides) (seen names old b))
 
 -- it is there, or there is no memory for it, or the units pass 64 bits
-abbrev pub Keeps : (size besides : ℕ) → Object → Store → Store → Result Word Halt → Type 0
-Keeps size besides o old new (Ok w) = IsKept size besides o old new w
-Keeps size besides o old new (Err (Full asked left)) = ⊥
-Keeps size besides o old new (Err Spent) = (names : List (List ℕ)) (b : Beside) → 2 ^ 64 ≤ (seen names old b).state.units + (size + besides)
-Keeps size besides o old new (Err NoMemory) = Unit {0}
+abbrev pub ObjectIsStored : (size besides : ℕ) → Object → Store → Store → Result Word Halt → Type 0
+ObjectIsStored size besides o old new (Ok w) = IsStored size besides o old new w
+ObjectIsStored size besides o old new (Err (Full asked left)) = ⊥
+ObjectIsStored size besides o old new (Err Spent) = (names : List (List ℕ)) (b : Beside) → 2 ^ 64 ≤ (seen names old b).state.units + (size + besides)
+ObjectIsStored size besides o old new (Err NoMemory) = Unit {0}
 
 -- what was kept, as an answer
 abbrev pub answer_of : Result Word Halt → Result Answer Halt

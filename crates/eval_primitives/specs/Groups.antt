@@ -6,10 +6,10 @@ use Rattle.eval_primitives.specs.declared.group.Arithmetic.{Arithmetic}
 use Rattle.eval_primitives.specs.declared.group.Arithmetic.TheVariants as arithmetic
 use Rattle.eval_primitives.specs.declared.group.Comparison.{Comparison}
 use Rattle.eval_primitives.specs.declared.group.Comparison.TheVariants as comparison
-use Rattle.eval_primitives.specs.declared.group.Kind.{Kind}
-use Rattle.eval_primitives.specs.declared.group.Kind.TheVariants as kind
-use Rattle.eval_primitives.specs.declared.group.Part.{Part}
-use Rattle.eval_primitives.specs.declared.group.Part.TheVariants as part
+use Rattle.eval_primitives.specs.declared.group.KindTest.{KindTest}
+use Rattle.eval_primitives.specs.declared.group.KindTest.TheVariants as kind
+use Rattle.eval_primitives.specs.declared.group.PartAccess.{PartAccess}
+use Rattle.eval_primitives.specs.declared.group.PartAccess.TheVariants as part
 use Rattle.eval_primitives.specs.declared.group.Length.{Length}
 use Rattle.eval_primitives.specs.declared.group.Length.TheVariants as measured
 use Rattle.eval_primitives.specs.declared.group.Element.{Element}
@@ -18,12 +18,12 @@ use Rattle.eval_primitives.specs.declared.group.ElementSet.{ElementSet}
 use Rattle.eval_primitives.specs.declared.group.ElementSet.TheVariants as element_set
 use Rattle.eval_primitives.specs.declared.group.Search.{Search}
 use Rattle.eval_primitives.specs.declared.group.Search.TheVariants as searches
-use Rattle.eval_primitives.specs.declared.group.Zero.{Zero}
-use Rattle.eval_primitives.specs.declared.group.Zero.TheVariants as zeros
-use Rattle.eval_primitives.specs.declared.group.One.{One}
-use Rattle.eval_primitives.specs.declared.group.One.TheVariants as one
-use Rattle.eval_primitives.specs.declared.group.Two.{Two}
-use Rattle.eval_primitives.specs.declared.group.Two.TheVariants as two
+use Rattle.eval_primitives.specs.declared.group.Nullary.{Nullary}
+use Rattle.eval_primitives.specs.declared.group.Nullary.TheVariants as zeros
+use Rattle.eval_primitives.specs.declared.group.Unary.{Unary}
+use Rattle.eval_primitives.specs.declared.group.Unary.TheVariants as one
+use Rattle.eval_primitives.specs.declared.group.Binary.{Binary}
+use Rattle.eval_primitives.specs.declared.group.Binary.TheVariants as two
 use Rattle.eval_primitives.specs.declared.group.Stream.{Stream}
 use Rattle.eval_primitives.specs.declared.group.Stream.TheVariants as stream
 use Rattle.eval_primitives.specs.declared.group.Group.{Group}
@@ -44,7 +44,7 @@ comparison_of comparison.AtMost = p.NumberAtMost
 comparison_of comparison.Greater = p.NumberGreater
 comparison_of comparison.AtLeast = p.NumberAtLeast
 
-abbrev pub kind_of : Kind → Primitive
+abbrev pub kind_of : KindTest → Primitive
 kind_of kind.Null = p.IsNull
 kind_of kind.Integer = p.IsInteger
 kind_of kind.Character = p.IsCharacter
@@ -55,7 +55,7 @@ kind_of kind.Vector = p.IsVector
 kind_of kind.Function = p.IsFunction
 kind_of kind.Generic = p.IsGeneric
 
-abbrev pub part_of : Part → Primitive
+abbrev pub part_of : PartAccess → Primitive
 part_of part.Car = p.Car
 part_of part.Cdr = p.Cdr
 part_of part.CharCode = p.CharCode
@@ -83,12 +83,12 @@ search_of searches.IsSubclass = p.IsSubclass
 search_of searches.IsInstance = p.IsInstance
 search_of searches.SlotPlace = p.SlotPlace
 
-abbrev pub zero_of : Zero → Primitive
+abbrev pub zero_of : Nullary → Primitive
 zero_of zeros.Gensym = p.Gensym
 zero_of zeros.StandardInput = p.StandardInput
 zero_of zeros.StandardOutput = p.StandardOutput
 
-abbrev pub one_of : One → Primitive
+abbrev pub one_of : Unary → Primitive
 one_of (one.Is k) = kind_of k
 one_of (one.Part x) = part_of x
 one_of (one.Length x) = length_primitive_of x
@@ -98,7 +98,7 @@ one_of one.Continuable = p.Continuable
 one_of one.SymbolName = p.SymbolName
 one_of one.Allocate = p.Allocate
 
-abbrev pub two_of : Two → Primitive
+abbrev pub two_of : Binary → Primitive
 two_of (two.Arithmetic x) = arithmetic_of x
 two_of (two.Comparison x) = comparison_of x
 two_of two.Same = p.Same

@@ -13,8 +13,8 @@ use Rattle.eval_store.specs.declared.object.Instance.{Instance}
 use Rattle.eval_store.specs.Words.{value_of_word, values_of}
 use Rattle.eval_store.specs.View.{Beside, state_of}
 use Rattle.eval_primitives.specs.declared.answer.Answer.{Answer}
-use Rattle.eval_primitives.specs.declared.group.Kind.{Kind}
-use Rattle.eval_primitives.specs.declared.group.Kind.TheVariants as kind
+use Rattle.eval_primitives.specs.declared.group.KindTest.{KindTest}
+use Rattle.eval_primitives.specs.declared.group.KindTest.TheVariants as kind
 use Rattle.eval_primitives.specs.Answers.{told}
 use Rattle.eval_primitives.specs.Objects.{instance_parts, HasInstance}
 
@@ -24,7 +24,7 @@ pub record IsRead (which : Primitive) (arguments : List Word) (s : Store) (a : A
       → primitive names rows which (values_of names arguments) (state_of names s b) ≡ told names a (state_of names s b)
 
 -- a value is of a kind
-abbrev pub is_kind : Kind → State → Value → Bool
+abbrev pub is_kind : KindTest → State → Value → Bool
 is_kind kind.Null z v = same v nil
 is_kind kind.Integer z v = is_some (as_integer v)
 is_kind kind.Character z v = is_some (as_character v)
@@ -36,7 +36,7 @@ is_kind kind.Function z v = is_function (fetch z v)
 is_kind kind.Generic z v = is_generic (fetch z v)
 
 -- whether a word is of a kind
-pub record IsOfKind (which : Kind) (s : Store) (w : Word) (r : Bool) : Type 0 where
+pub record IsOfKind (which : KindTest) (s : Store) (w : Word) (r : Bool) : Type 0 where
   pub seen : (names : List (List ℕ)) (b : Beside) → is_kind which (state_of names s b) (value_of_word names w) ≡ r
 
 -- an instance and a place of its slots

@@ -8,7 +8,7 @@ ghost use Rattle.lang_meaning.specs.declared.primitive.Primitive.TheVariants as 
 use crate::answer::Answer;
 use crate::classes::class_of;
 use crate::elements::{element, slot_in};
-use crate::group::{ElementSet, Group, One, Two, Zero, group_of};
+use crate::group::{Binary, ElementSet, Group, Nullary, Unary, group_of};
 use crate::kinds::is_of;
 use crate::making::{cons, gensym, make_string, make_vector};
 use crate::numbers::{arithmetic, comparison};
@@ -33,15 +33,15 @@ impl<'p> Primitives<'p> {
     {
         match group_of(which) {
             Group::Zero(zero) => match arguments {
-                [] => self.zero(store, limit, zero),
+                [] => self.nullary(store, limit, zero),
                 _ => Ok(Answer::Gives(Word::Nil)),
             },
             Group::One(one) => match arguments {
-                [word] => self.one(store, limit, one, *word),
+                [word] => self.unary(store, limit, one, *word),
                 _ => Ok(Answer::Gives(Word::Nil)),
             },
             Group::Two(two) => match arguments {
-                [word, other] => self.two(store, limit, two, *word, *other),
+                [word, other] => self.binary(store, limit, two, *word, *other),
                 _ => Ok(Answer::Gives(Word::Nil)),
             },
             Group::Three(three) => match arguments {
@@ -54,67 +54,72 @@ impl<'p> Primitives<'p> {
 
     // A primitive without arguments.
     #[tactic(auto, using(crate::proofs::Dispatching::done_computed, crate::proofs::Dispatching::input_told, crate::proofs::Dispatching::output_told))]
-    fn zero(&self, store: &mut Store<'_>, limit: Option<u64>, zero: Zero) -> Result<Answer, Halt>
+    fn nullary(
+        &self,
+        store: &mut Store<'_>,
+        limit: Option<u64>,
+        zero: Nullary,
+    ) -> Result<Answer, Halt>
         ensures { IsComputed self.now limit (zero_of zero) [] store.old store.new result }
     {
         match zero {
-            Zero::Gensym => gensym(store, limit),
-            Zero::StandardInput => Ok(Answer::Gives(self.layout.input_word())),
-            Zero::StandardOutput => Ok(Answer::Gives(self.layout.output_word())),
+            Nullary::Gensym => gensym(store, limit),
+            Nullary::StandardInput => Ok(Answer::Gives(self.layout.input_word())),
+            Nullary::StandardOutput => Ok(Answer::Gives(self.layout.output_word())),
         }
     }
 
     // A primitive of one argument.
     #[tactic(auto, using(crate::proofs::Dispatching::kind_computed, crate::proofs::Dispatching::read_done_computed, crate::proofs::Dispatching::read_by_computed, crate::proofs::Dispatching::unsaid_computed))]
-    fn one(
+    fn unary(
         &self,
         store: &mut Store<'_>,
         limit: Option<u64>,
-        one: One,
+        one: Unary,
         word: Word,
     ) -> Result<Answer, Halt>
         ensures { IsComputed self.now limit (one_of one) (word ∷ []) store.old store.new result }
     {
         match one {
-            One::Is(kind) => Ok(Answer::says(is_of(store, kind, word))),
-            One::Part(which) => Ok(part(store, which, word)),
-            One::Length(which) => match length(store, which, word) {
+            Unary::Is(kind) => Ok(Answer::says(is_of(store, kind, word))),
+            Unary::Part(which) => Ok(part(store, which, word)),
+            Unary::Length(which) => match length(store, which, word) {
                 Ok(answer) => Ok(answer),
                 Err(_unsaid) => Err(Halt::NoMemory),
             },
-            One::ClassOf => Ok(self.class_value(store, word)),
-            One::ClassName => Ok(self.class_name(store, word)),
-            One::Continuable => Ok(self.continuable(store, word)),
-            One::SymbolName => self.symbol_name(store, limit, word),
-            One::Allocate => self.allocate(store, limit, word),
+            Unary::ClassOf => Ok(self.class_value(store, word)),
+            Unary::ClassName => Ok(self.class_name(store, word)),
+            Unary::Continuable => Ok(self.continuable(store, word)),
+            Unary::SymbolName => self.symbol_name(store, limit, word),
+            Unary::Allocate => self.allocate(store, limit, word),
         }
     }
 
     // A primitive of two arguments.
     #[tactic(auto, using(crate::proofs::Dispatching::told_computed, crate::proofs::Dispatching::same_computed, crate::proofs::Dispatching::read_done_computed, crate::proofs::Dispatching::read_by_computed, crate::proofs::Dispatching::set_computed, crate::proofs::Dispatching::done_computed, crate::proofs::Dispatching::always_computed))]
-    fn two(
+    fn binary(
         &self,
         store: &mut Store<'_>,
         limit: Option<u64>,
-        two: Two,
+        two: Binary,
         word: Word,
         other: Word,
     ) -> Result<Answer, Halt>
         ensures { IsComputed self.now limit (two_of two) (word ∷ other ∷ []) store.old store.new result }
     {
         match two {
-            Two::Arithmetic(which) => Ok(arithmetic(which, word, other)),
-            Two::Comparison(which) => Ok(comparison(which, word, other)),
-            Two::Same => Ok(Answer::says(self.spellings.same(word, other))),
-            Two::Element(which) => Ok(element(store, which, word, other)),
-            Two::SlotInitargs => Ok(self.slot_initargs(store, word, other)),
-            Two::SlotInitform => Ok(self.slot_initform(store, word, other)),
-            Two::SetCar => Ok(set_car(store, word, other)),
-            Two::SetCdr => Ok(set_cdr(store, word, other)),
-            Two::Cons => cons(store, limit, word, other),
-            Two::MakeString => make_string(self.alloc, store, limit, word, other),
-            Two::MakeVector => make_vector(self.alloc, store, limit, word, other),
-            Two::Search(which) => self.search(store, which, word, other),
+            Binary::Arithmetic(which) => Ok(arithmetic(which, word, other)),
+            Binary::Comparison(which) => Ok(comparison(which, word, other)),
+            Binary::Same => Ok(Answer::says(self.spellings.same(word, other))),
+            Binary::Element(which) => Ok(element(store, which, word, other)),
+            Binary::SlotInitargs => Ok(self.slot_initargs(store, word, other)),
+            Binary::SlotInitform => Ok(self.slot_initform(store, word, other)),
+            Binary::SetCar => Ok(set_car(store, word, other)),
+            Binary::SetCdr => Ok(set_cdr(store, word, other)),
+            Binary::Cons => cons(store, limit, word, other),
+            Binary::MakeString => make_string(self.alloc, store, limit, word, other),
+            Binary::MakeVector => make_vector(self.alloc, store, limit, word, other),
+            Binary::Search(which) => self.search(store, which, word, other),
         }
     }
 

@@ -28,7 +28,7 @@ pub enum Comparison {
 
 /// What a value is.
 #[derive(Clone, Copy)]
-pub enum Kind {
+pub enum KindTest {
     Null,
     Integer,
     Character,
@@ -42,7 +42,7 @@ pub enum Kind {
 
 /// Parts of one value.
 #[derive(Clone, Copy)]
-pub enum Part {
+pub enum PartAccess {
     Car,
     Cdr,
     CharCode,
@@ -85,9 +85,9 @@ pub enum Search {
 
 /// Primitives of one argument.
 #[derive(Clone, Copy)]
-pub enum One {
-    Is(Kind),
-    Part(Part),
+pub enum Unary {
+    Is(KindTest),
+    Part(PartAccess),
     Length(Length),
     ClassOf,
     ClassName,
@@ -98,7 +98,7 @@ pub enum One {
 
 /// Primitives of two arguments.
 #[derive(Clone, Copy)]
-pub enum Two {
+pub enum Binary {
     Arithmetic(Arithmetic),
     Comparison(Comparison),
     Same,
@@ -115,7 +115,7 @@ pub enum Two {
 
 /// Primitives without an argument.
 #[derive(Clone, Copy)]
-pub enum Zero {
+pub enum Nullary {
     Gensym,
     StandardInput,
     StandardOutput,
@@ -133,9 +133,9 @@ pub enum Stream {
 /// A primitive, by its group.
 #[derive(Clone, Copy)]
 pub enum Group {
-    Zero(Zero),
-    One(One),
-    Two(Two),
+    Zero(Nullary),
+    One(Unary),
+    Two(Binary),
     Three(ElementSet),
     Stream(Stream),
 }
@@ -145,60 +145,60 @@ pub fn group_of(which: Primitive) -> Group
     ensures { primitive_of result ≡ which }
 {
     match which {
-        Primitive::Add => Group::Two(Two::Arithmetic(Arithmetic::Add)),
-        Primitive::Subtract => Group::Two(Two::Arithmetic(Arithmetic::Subtract)),
-        Primitive::Multiply => Group::Two(Two::Arithmetic(Arithmetic::Multiply)),
-        Primitive::Divide => Group::Two(Two::Arithmetic(Arithmetic::Divide)),
-        Primitive::Modulo => Group::Two(Two::Arithmetic(Arithmetic::Modulo)),
-        Primitive::NumberEqual => Group::Two(Two::Comparison(Comparison::Equal)),
-        Primitive::NumberNotEqual => Group::Two(Two::Comparison(Comparison::NotEqual)),
-        Primitive::NumberLess => Group::Two(Two::Comparison(Comparison::Less)),
-        Primitive::NumberAtMost => Group::Two(Two::Comparison(Comparison::AtMost)),
-        Primitive::NumberGreater => Group::Two(Two::Comparison(Comparison::Greater)),
-        Primitive::NumberAtLeast => Group::Two(Two::Comparison(Comparison::AtLeast)),
-        Primitive::Same => Group::Two(Two::Same),
-        Primitive::IsNull => Group::One(One::Is(Kind::Null)),
-        Primitive::IsCons => Group::One(One::Is(Kind::Cons)),
-        Primitive::IsInteger => Group::One(One::Is(Kind::Integer)),
-        Primitive::IsSymbol => Group::One(One::Is(Kind::Symbol)),
-        Primitive::IsCharacter => Group::One(One::Is(Kind::Character)),
-        Primitive::IsString => Group::One(One::Is(Kind::String)),
-        Primitive::IsVector => Group::One(One::Is(Kind::Vector)),
-        Primitive::IsFunction => Group::One(One::Is(Kind::Function)),
-        Primitive::IsGeneric => Group::One(One::Is(Kind::Generic)),
-        Primitive::Cons => Group::Two(Two::Cons),
-        Primitive::Car => Group::One(One::Part(Part::Car)),
-        Primitive::Cdr => Group::One(One::Part(Part::Cdr)),
-        Primitive::SetCar => Group::Two(Two::SetCar),
-        Primitive::SetCdr => Group::Two(Two::SetCdr),
-        Primitive::MakeString => Group::Two(Two::MakeString),
-        Primitive::MakeVector => Group::Two(Two::MakeVector),
-        Primitive::StringLength => Group::One(One::Length(Length::String)),
-        Primitive::VectorLength => Group::One(One::Length(Length::Vector)),
-        Primitive::CharAt => Group::Two(Two::Element(Element::CharAt)),
-        Primitive::VectorRef => Group::Two(Two::Element(Element::VectorRef)),
+        Primitive::Add => Group::Two(Binary::Arithmetic(Arithmetic::Add)),
+        Primitive::Subtract => Group::Two(Binary::Arithmetic(Arithmetic::Subtract)),
+        Primitive::Multiply => Group::Two(Binary::Arithmetic(Arithmetic::Multiply)),
+        Primitive::Divide => Group::Two(Binary::Arithmetic(Arithmetic::Divide)),
+        Primitive::Modulo => Group::Two(Binary::Arithmetic(Arithmetic::Modulo)),
+        Primitive::NumberEqual => Group::Two(Binary::Comparison(Comparison::Equal)),
+        Primitive::NumberNotEqual => Group::Two(Binary::Comparison(Comparison::NotEqual)),
+        Primitive::NumberLess => Group::Two(Binary::Comparison(Comparison::Less)),
+        Primitive::NumberAtMost => Group::Two(Binary::Comparison(Comparison::AtMost)),
+        Primitive::NumberGreater => Group::Two(Binary::Comparison(Comparison::Greater)),
+        Primitive::NumberAtLeast => Group::Two(Binary::Comparison(Comparison::AtLeast)),
+        Primitive::Same => Group::Two(Binary::Same),
+        Primitive::IsNull => Group::One(Unary::Is(KindTest::Null)),
+        Primitive::IsCons => Group::One(Unary::Is(KindTest::Cons)),
+        Primitive::IsInteger => Group::One(Unary::Is(KindTest::Integer)),
+        Primitive::IsSymbol => Group::One(Unary::Is(KindTest::Symbol)),
+        Primitive::IsCharacter => Group::One(Unary::Is(KindTest::Character)),
+        Primitive::IsString => Group::One(Unary::Is(KindTest::String)),
+        Primitive::IsVector => Group::One(Unary::Is(KindTest::Vector)),
+        Primitive::IsFunction => Group::One(Unary::Is(KindTest::Function)),
+        Primitive::IsGeneric => Group::One(Unary::Is(KindTest::Generic)),
+        Primitive::Cons => Group::Two(Binary::Cons),
+        Primitive::Car => Group::One(Unary::Part(PartAccess::Car)),
+        Primitive::Cdr => Group::One(Unary::Part(PartAccess::Cdr)),
+        Primitive::SetCar => Group::Two(Binary::SetCar),
+        Primitive::SetCdr => Group::Two(Binary::SetCdr),
+        Primitive::MakeString => Group::Two(Binary::MakeString),
+        Primitive::MakeVector => Group::Two(Binary::MakeVector),
+        Primitive::StringLength => Group::One(Unary::Length(Length::String)),
+        Primitive::VectorLength => Group::One(Unary::Length(Length::Vector)),
+        Primitive::CharAt => Group::Two(Binary::Element(Element::CharAt)),
+        Primitive::VectorRef => Group::Two(Binary::Element(Element::VectorRef)),
         Primitive::SetCharAt => Group::Three(ElementSet::CharAt),
         Primitive::SetVectorRef => Group::Three(ElementSet::VectorRef),
-        Primitive::CharCode => Group::One(One::Part(Part::CharCode)),
-        Primitive::CodeChar => Group::One(One::Part(Part::CodeChar)),
-        Primitive::SymbolName => Group::One(One::SymbolName),
-        Primitive::SymbolSerial => Group::One(One::Part(Part::SymbolSerial)),
-        Primitive::Gensym => Group::Zero(Zero::Gensym),
-        Primitive::ClassOf => Group::One(One::ClassOf),
-        Primitive::ClassName => Group::One(One::ClassName),
-        Primitive::IsSubclass => Group::Two(Two::Search(Search::IsSubclass)),
-        Primitive::IsInstance => Group::Two(Two::Search(Search::IsInstance)),
-        Primitive::Allocate => Group::One(One::Allocate),
-        Primitive::SlotCount => Group::One(One::Length(Length::Slots)),
-        Primitive::SlotPlace => Group::Two(Two::Search(Search::SlotPlace)),
-        Primitive::SlotRef => Group::Two(Two::Element(Element::SlotRef)),
+        Primitive::CharCode => Group::One(Unary::Part(PartAccess::CharCode)),
+        Primitive::CodeChar => Group::One(Unary::Part(PartAccess::CodeChar)),
+        Primitive::SymbolName => Group::One(Unary::SymbolName),
+        Primitive::SymbolSerial => Group::One(Unary::Part(PartAccess::SymbolSerial)),
+        Primitive::Gensym => Group::Zero(Nullary::Gensym),
+        Primitive::ClassOf => Group::One(Unary::ClassOf),
+        Primitive::ClassName => Group::One(Unary::ClassName),
+        Primitive::IsSubclass => Group::Two(Binary::Search(Search::IsSubclass)),
+        Primitive::IsInstance => Group::Two(Binary::Search(Search::IsInstance)),
+        Primitive::Allocate => Group::One(Unary::Allocate),
+        Primitive::SlotCount => Group::One(Unary::Length(Length::Slots)),
+        Primitive::SlotPlace => Group::Two(Binary::Search(Search::SlotPlace)),
+        Primitive::SlotRef => Group::Two(Binary::Element(Element::SlotRef)),
         Primitive::SlotSet => Group::Three(ElementSet::Slot),
-        Primitive::SlotBound => Group::Two(Two::Element(Element::SlotBound)),
-        Primitive::SlotInitargs => Group::Two(Two::SlotInitargs),
-        Primitive::SlotInitform => Group::Two(Two::SlotInitform),
-        Primitive::Continuable => Group::One(One::Continuable),
-        Primitive::StandardInput => Group::Zero(Zero::StandardInput),
-        Primitive::StandardOutput => Group::Zero(Zero::StandardOutput),
+        Primitive::SlotBound => Group::Two(Binary::Element(Element::SlotBound)),
+        Primitive::SlotInitargs => Group::Two(Binary::SlotInitargs),
+        Primitive::SlotInitform => Group::Two(Binary::SlotInitform),
+        Primitive::Continuable => Group::One(Unary::Continuable),
+        Primitive::StandardInput => Group::Zero(Nullary::StandardInput),
+        Primitive::StandardOutput => Group::Zero(Nullary::StandardOutput),
         Primitive::PutChar => Group::Stream(Stream::PutChar),
         Primitive::IsFreshLine => Group::Stream(Stream::IsFreshLine),
         Primitive::GetByte => Group::Stream(Stream::GetByte),

@@ -4,37 +4,37 @@ ghost use Rattle.std.specs.Prelude.{◌≡◌, ℕ, List};
 ghost use Rattle.lang_meaning.specs.Values.{same, nil};
 ghost use Rattle.eval_store.specs.Words.{value_of_word};
 ghost use Rattle.eval_primitives.specs.Reading.{IsOfKind};
-ghost use Rattle.eval_primitives.specs.declared.group.Kind.TheVariants as kind;
+ghost use Rattle.eval_primitives.specs.declared.group.KindTest.TheVariants as kind;
 
-use crate::group::Kind;
+use crate::group::KindTest;
 use crate::objects::{cons_of, string_of, vector_of};
 use crate::words::{character_of, integer_of, symbol_of};
 use eval_store::{Object, Store, Word};
 
 /// Whether a value is of that kind.
 #[tactic(auto, using(crate::proofs::Seeing::symbol_kind, crate::proofs::Seeing::cons_kind, crate::proofs::Seeing::no_cons_kind, crate::proofs::Seeing::string_kind, crate::proofs::Seeing::no_string_kind, crate::proofs::Seeing::vector_kind, crate::proofs::Seeing::no_vector_kind))]
-pub(crate) fn is_of(store: &Store<'_>, which: Kind, word: Word) -> bool
+pub(crate) fn is_of(store: &Store<'_>, which: KindTest, word: Word) -> bool
     ensures { IsOfKind which store.now word result }
 {
     match which {
-        Kind::Null => is_nil(word),
-        Kind::Integer => integer_of(word).is_some(),
-        Kind::Character => character_of(word).is_some(),
-        Kind::Symbol => symbol_of(store, word).is_some(),
-        Kind::Cons => match cons_of(store, word) {
+        KindTest::Null => is_nil(word),
+        KindTest::Integer => integer_of(word).is_some(),
+        KindTest::Character => character_of(word).is_some(),
+        KindTest::Symbol => symbol_of(store, word).is_some(),
+        KindTest::Cons => match cons_of(store, word) {
             Some(_) => true,
             None => false,
         },
-        Kind::String => match string_of(store, word) {
+        KindTest::String => match string_of(store, word) {
             Some(_) => true,
             None => false,
         },
-        Kind::Vector => match vector_of(store, word) {
+        KindTest::Vector => match vector_of(store, word) {
             Some(_) => true,
             None => false,
         },
-        Kind::Function => is_function_there(store, word),
-        Kind::Generic => is_generic_there(store, word),
+        KindTest::Function => is_function_there(store, word),
+        KindTest::Generic => is_generic_there(store, word),
     }
 }
 

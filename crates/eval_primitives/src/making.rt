@@ -4,7 +4,7 @@ ghost use Rattle.std.specs.Prelude.{◌≡◌, ◌<◌, ◌≤◌, ◌^◌, ◌+
 ghost use Rattle.lang_meaning.specs.Primitives.{makes_string, makes_vector, makes};
 ghost use Rattle.lang_meaning.specs.declared.primitive.Primitive.TheVariants as p;
 ghost use Rattle.eval_store.specs.Words.{value_of_word, values_of, captured_by};
-ghost use Rattle.eval_primitives.specs.Done.{IsDone, Brings, Keeps, answer_of, unbound};
+ghost use Rattle.eval_primitives.specs.Done.{IsPrimitiveDone, Brings, ObjectIsStored, answer_of, unbound};
 
 use crate::answer::Answer;
 use crate::expected::{CHARACTER, INTEGER};
@@ -21,14 +21,14 @@ pub(crate) fn cons(
     car: Word,
     cdr: Word,
 ) -> Result<Answer, Halt>
-    ensures { IsDone limit p.Cons (car ∷ cdr ∷ []) store.old store.new result }
+    ensures { IsPrimitiveDone limit p.Cons (car ∷ cdr ∷ []) store.old store.new result }
 {
     answered(store.make(limit, 2, 0, Object::Cons(car, cdr)))
 }
 
 /// A new symbol.
 pub(crate) fn gensym(store: &mut Store<'_>, limit: Option<u64>) -> Result<Answer, Halt>
-    ensures { IsDone limit p.Gensym [] store.old store.new result }
+    ensures { IsPrimitiveDone limit p.Gensym [] store.old store.new result }
 {
     answered(store.make_symbol(limit))
 }
@@ -53,7 +53,7 @@ pub(crate) fn make_string(
     length: Word,
     character: Word,
 ) -> Result<Answer, Halt>
-    ensures { IsDone limit p.MakeString (length ∷ character ∷ []) store.old store.new result }
+    ensures { IsPrimitiveDone limit p.MakeString (length ∷ character ∷ []) store.old store.new result }
 {
     let Some(number) = integer_of(length) else {
         return Ok(Answer::DomainError(length, INTEGER));
@@ -98,7 +98,7 @@ pub(crate) fn make_vector(
     length: Word,
     element: Word,
 ) -> Result<Answer, Halt>
-    ensures { IsDone limit p.MakeVector (length ∷ element ∷ []) store.old store.new result }
+    ensures { IsPrimitiveDone limit p.MakeVector (length ∷ element ∷ []) store.old store.new result }
 {
     let Some(number) = integer_of(length) else {
         return Ok(Answer::DomainError(length, INTEGER));
@@ -170,7 +170,7 @@ pub(crate) fn keep<'p>(
     object: Object<'p>,
 ) -> Result<Word, Halt>
     requires { size + besides < 2 ^ 64 }
-    ensures { Keeps size besides object.entry store.old store.new result }
+    ensures { ObjectIsStored size besides object.entry store.old store.new result }
 {
     match store.charge(size + besides) {
         Ok(()) => match store.add(object) {

@@ -8,7 +8,7 @@ ghost use Rattle.lang_meaning.specs.declared.primitive.Primitive.TheVariants as 
 
 use crate::answer::Answer;
 use crate::expected::{CHARACTER, CONS, INTEGER, STANDARD_OBJECT, STRING, SYMBOL, VECTOR};
-use crate::group::{Length, Part};
+use crate::group::{Length, PartAccess};
 use crate::objects::{cons_of, instance_of, string_of, vector_of};
 use crate::words::{Spelt, byte, character_of, integer_of, symbol_of};
 use base::NoMemory;
@@ -16,15 +16,15 @@ use eval_store::{Store, Word};
 
 /// A part of a value.
 #[tactic(auto, using(crate::proofs::Telling::told_read))]
-pub(crate) fn part(store: &Store<'_>, which: Part, word: Word) -> Answer
+pub(crate) fn part(store: &Store<'_>, which: PartAccess, word: Word) -> Answer
     ensures { IsRead (part_of which) (word ∷ []) store.now result }
 {
     match which {
-        Part::Car => car(store, word),
-        Part::Cdr => cdr(store, word),
-        Part::CharCode => char_code(word),
-        Part::CodeChar => code_char(word),
-        Part::SymbolSerial => symbol_serial(store, word),
+        PartAccess::Car => car(store, word),
+        PartAccess::Cdr => cdr(store, word),
+        PartAccess::CharCode => char_code(word),
+        PartAccess::CodeChar => code_char(word),
+        PartAccess::SymbolSerial => symbol_serial(store, word),
     }
 }
 

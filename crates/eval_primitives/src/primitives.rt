@@ -7,7 +7,7 @@ ghost use Rattle.lang_meaning.specs.Primitives as described;
 ghost use Rattle.eval_store.specs.Words.{value_of_word};
 ghost use Rattle.eval_store.specs.View.{Beside, state_of};
 ghost use Rattle.eval_store.specs.Spelling.{IsSpelling};
-ghost use Rattle.eval_store.specs.Layout.{IsLayout};
+ghost use Rattle.eval_store.specs.InitialHeap.{IsInitialHeap};
 ghost use Rattle.flat_language.specs.FlatNodes.{tables};
 ghost use Rattle.eval_primitives.specs.Serious.{is_serious_row};
 
@@ -15,7 +15,7 @@ use crate::classes::class_of;
 use crate::expected::SERIOUS_CONDITION;
 use crate::searching::walk_up;
 use base::{Names, NoMemory};
-use eval_store::{Layout, Spellings, Store, Word};
+use eval_store::{InitialHeap, Spellings, Store, Word};
 use flat_language::FlatProgram;
 use lang_meaning::{ClassId, ClassRows};
 use std::alloc::Global;
@@ -27,22 +27,22 @@ pub struct Primitives<'p> {
     pub(crate) names: &'p Names,
     pub(crate) spellings: Spellings,
     pub(crate) program: &'p FlatProgram,
-    pub(crate) layout: &'p Layout,
+    pub(crate) layout: &'p InitialHeap,
     pub(crate) serious: Vec<bool>,
 }
 
 impl<'p> Primitives<'p> {
     ghost use Rattle.eval_primitives.specs.Computed.{IsFitted, IsSerious};
 
-    /// What primitives see of a program with these names, whose objects stand where the layout says.
+    /// What primitives see of a program with these names, whose objects stand where the initial heap says.
     pub fn new(
         alloc: Global,
         names: &'p Names,
         spellings: Spellings,
         program: &'p FlatProgram,
-        layout: &'p Layout,
+        layout: &'p InitialHeap,
     ) -> Result<Primitives<'p>, NoMemory>
-        ensures { IfOk result (λ p. IsSpelling names.now spellings → IsLayout names.now (tables program.now) layout.now → IsFitted names.now (tables program.now) p) }
+        ensures { IfOk result (λ p. IsSpelling names.now spellings → IsInitialHeap names.now (tables program.now) layout.now → IsFitted names.now (tables program.now) p) }
     {
         let serious = serious_classes(alloc, &program.classes)?;
         Ok(Primitives {

@@ -4,8 +4,8 @@ ghost use Rattle.std.specs.Prelude.{◌+◌, ◌<◌, ◌^◌, [], ◌∷◌, Ma
 ghost use Rattle.std.specs.Str.{bytes_eq};
 ghost use Rattle.lang_meaning.specs.Lookup.{text};
 ghost use Rattle.eval_primitives.specs.Groups.{search_of};
-ghost use Rattle.eval_primitives.specs.Computed.{IsAlwaysComputed, IsBelow, HasWalk, HasPlace, IsFirstSlot, IsNamed};
-ghost use Rattle.eval_primitives.specs.Charging.{IsCharged, IsSpent, IsPlaceTold, IsNoPlaceTold};
+ghost use Rattle.eval_primitives.specs.Computed.{IsAlwaysComputed, IsSubclassTold, HasWalk, HasPlace, IsFirstSlot, IsNamed};
+ghost use Rattle.eval_primitives.specs.Charging.{IsCharged, AreUnitsSpent, IsPlaceTold, IsNoPlaceTold};
 ghost use Rattle.lang_meaning.specs.declared.primitive.Primitive.TheVariants as the;
 
 use crate::answer::Answer;
@@ -68,7 +68,7 @@ impl<'p> Primitives<'p> {
     // Whether a class is another one or below it; each class that is passed counts.
     #[tactic(auto, using(crate::proofs::Charging::below_found, crate::proofs::Charging::below_spent))]
     fn below(&self, store: &mut Store<'_>, class: ClassId, above: ClassId) -> Result<Answer, Halt>
-        ensures { IsBelow self.now class above store.old store.new result }
+        ensures { IsSubclassTold self.now class above store.old store.new result }
     {
         let walk = self.walk_from(class, above);
         match count_passed(store, walk.passed) {
@@ -179,7 +179,7 @@ fn no_place(store: &mut Store<'_>, count: usize) -> Result<Answer, Halt>
 // What was passed is counted.
 #[tactic(auto, using(crate::proofs::Charging::counted_passed))]
 fn count_passed(store: &mut Store<'_>, passed: u64) -> Result<(), Halt>
-    ensures { MatchResult result (λ _. IsCharged passed store.old store.new) (λ halt. IsSpent passed store.old halt) }
+    ensures { MatchResult result (λ _. IsCharged passed store.old store.new) (λ halt. AreUnitsSpent passed store.old halt) }
 {
     match store.charge(passed) {
         Ok(()) => Ok(()),

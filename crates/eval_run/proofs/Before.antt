@@ -8,7 +8,7 @@ use Rattle.eval_run.specs.declared.stop.Stop.{Stop}
 use Rattle.eval_run.specs.declared.stop.Stop.TheVariants as stop
 use Rattle.lang_meaning.specs.Evaluation.{Evaluation, meaning_with, Taken, Begins, WasTaken}
 use Rattle.lang_meaning.specs.Evaluates.{BreaksOff}
-use Rattle.eval_run.specs.Moments.{moment_after}
+use Rattle.eval_run.specs.Moments.{configuration_after}
 use Rattle.eval_run.specs.UnderWay.{HasBroken, StopsSo, StopTells}
 
 -- nothing was read, and nothing written
@@ -33,7 +33,7 @@ stopped_before e left given = record {
   cut_off = λ input b. record {
     count = 0;
     front = [];
-    prefix = record { rest = printed_at (moment_after e input 0); is = refl };
+    prefix = record { rest = printed_at (configuration_after e input 0); is = refl };
     printed = none_given given;
   };
 }

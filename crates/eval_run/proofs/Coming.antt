@@ -1,28 +1,28 @@
 -- An evaluation on its way comes further: after steps in which no form began, and after one that begins a form.
 use Rattle.std.proofs.Common.{◌≡◌, ℕ, zero, suc, ◌+◌, Bool, true, false, if◌then◌else◌, List, [], Option, None, refl, ap, sym, ◌∙◌, subst, arith}
 use Rattle.flat_language.specs.FlatState.{FlatState}
-use Rattle.eval_machine.specs.Moment.{Setting, Control, evaluate, signals, come_to, Frame, Moment}
+use Rattle.eval_machine.specs.Configuration.{Setting, Control, evaluate, signals, come_to, ContinuationFrame, Configuration}
 use Rattle.eval_machine.specs.Step.{control_step}
 use Rattle.eval_machine.specs.Run.{steps, next, next_or, begins, forms_begun, start}
 use Rattle.eval_store.specs.View.{Beside}
 use Rattle.eval_state.specs.declared.given.Given.{Given}
-use Rattle.eval_state.specs.View.{IsGiven, moment_of}
+use Rattle.eval_state.specs.View.{IsGiven, configuration_of}
 use Rattle.eval_state.specs.View as machine
 use Rattle.eval_step.specs.declared.evaluator.Evaluator.{Evaluator}
-use Rattle.eval_step.specs.Runs.{IsAt}
+use Rattle.eval_step.specs.Runs.{IsAtConfiguration}
 use Rattle.eval_step.specs.Stepped.{HasStepped, IsStepped}
 use Rattle.eval_step.specs.Advanced.{HasReached}
 use Rattle.lang_meaning.specs.Evaluation.{Evaluation}
-use Rattle.eval_run.specs.Moments.{setting_of, moment_after}
+use Rattle.eval_run.specs.Moments.{setting_of, configuration_after}
 use Rattle.eval_run.specs.UnderWay.{RunsFor, HasCome, UnderWay}
 use Rattle.eval_run.proofs.Counting.{steps_sum, forms_sum}
 
 -- a step more is one at the end
-steps_more : (s : Setting) (n : ℕ) (m : Moment) → steps s (suc n) m ≡ next s (steps s n m)
+steps_more : (s : Setting) (n : ℕ) (m : Configuration) → steps s (suc n) m ≡ next s (steps s n m)
 steps_more s zero m = refl
 steps_more s (suc n) m = steps_more s n (next s m)
 
-pub forms_more : (s : Setting) (n : ℕ) (m : Moment) → forms_begun s (suc n) m ≡ forms_begun s n m + (if begins (steps s n m).control then 1 else 0)
+pub forms_more : (s : Setting) (n : ℕ) (m : Configuration) → forms_begun s (suc n) m ≡ forms_begun s n m + (if begins (steps s n m).control then 1 else 0)
 forms_more s zero m = let e : (if begins m.control then 1 else 0) + 0 ≡ 0 + (if begins m.control then 1 else 0) = omega arith in e
 forms_more s (suc n) m =
     let first : ℕ = if begins m.control then 1 else 0 in
@@ -41,7 +41,7 @@ runs_as e old new is r = record {
 none_more : (a b c n : ℕ) → a ≡ b + c → c ≡ 0 → b ≡ n → a ≡ n
 none_more a b c n p q r = omega arith
 
--- it has reached another moment, and no form began
+-- it has reached another configuration, and no form began
 pub came : (e : Evaluation) (left left' given given' : Option (List ℕ)) (forms : ℕ) (old new : Evaluator) (n : ℕ) → HasReached old new n
     → UnderWay e left left' given given' forms old → UnderWay e left left' given given' forms new
 came e left left' given given' forms old new n r u = record {
@@ -54,12 +54,12 @@ came e left left' given given' forms old new n r u = record {
   count = u.count + n;
   comes = λ input b.
       let s : Setting = setting_of e in
-      let first : Moment = start s input e.levels in
+      let first : Configuration = start s input e.levels in
       let own : Setting = machine.setting_of e.names old.machine.given in
       let h : HasCome e u.taken u.written u.count forms old input b = u.comes input b in
-      let a : IsAt e.names old u.written b.rest (moment_after e input u.count) = h.is_at in
-      let there : Moment = moment_of e.names old.machine a.beside in
-      let x : IsAt e.names new u.written b.rest (steps own n there) = r.comes e.names u.written b.rest a.beside u.runs.given a.stands in
+      let a : IsAtConfiguration e.names old u.written b.rest (configuration_after e input u.count) = h.is_at in
+      let there : Configuration = configuration_of e.names old.machine a.beside in
+      let x : IsAtConfiguration e.names new u.written b.rest (steps own n there) = r.comes e.names u.written b.rest a.beside u.runs.given a.stands in
       let quiet : forms_begun own n there ≡ 0 = r.begun e.names u.written b.rest a.beside u.runs.given a.stands in
       record {
         is_at = record {
@@ -78,7 +78,7 @@ one_more a b n false p q r = absurd (cc q)
 
 -- it has stepped where a form begins
 pub began : (e : Evaluation) (left left' given given' : Option (List ℕ)) (forms : ℕ) (old new : Evaluator) → HasStepped old new
-    → ((names : List (List ℕ)) (b : Beside) → begins (moment_of names old.machine b).control ≡ true)
+    → ((names : List (List ℕ)) (b : Beside) → begins (configuration_of names old.machine b).control ≡ true)
     → UnderWay e left left' given given' forms old → UnderWay e left left' given given' (forms + 1) new
 began e left left' given given' forms old new h form u = record {
   runs = runs_as e old new h.comes.given u.runs;
@@ -90,12 +90,12 @@ began e left left' given given' forms old new h form u = record {
   count = suc u.count;
   comes = λ input b.
       let s : Setting = setting_of e in
-      let first : Moment = start s input e.levels in
+      let first : Configuration = start s input e.levels in
       let own : Setting = machine.setting_of e.names old.machine.given in
       let k : HasCome e u.taken u.written u.count forms old input b = u.comes input b in
-      let a : IsAt e.names old u.written b.rest (moment_after e input u.count) = k.is_at in
-      let there : Moment = moment_of e.names old.machine a.beside in
-      let x : IsAt e.names new u.written b.rest (h.next e.names own a.beside) = h.comes.comes e.names u.written b.rest a.beside u.runs.given a.stands in
+      let a : IsAtConfiguration e.names old u.written b.rest (configuration_after e input u.count) = k.is_at in
+      let there : Configuration = configuration_of e.names old.machine a.beside in
+      let x : IsAtConfiguration e.names new u.written b.rest (h.next e.names own a.beside) = h.comes.comes e.names u.written b.rest a.beside u.runs.given a.stands in
       record {
         is_at = record {
           beside = x.beside;
@@ -108,12 +108,12 @@ began e left left' given given' forms old new h form u = record {
               ∙ sym (steps_more s u.count first);
         };
         begun = one_more (forms_begun s (suc u.count) first) (forms_begun s u.count first) forms (begins (steps s u.count first).control)
-            (forms_more s u.count first) (ap (λ (m : Moment). begins m.control) (sym a.is) ∙ form e.names a.beside) k.begun;
+            (forms_more s u.count first) (ap (λ (m : Configuration). begins m.control) (sym a.is) ∙ form e.names a.beside) k.begun;
       };
 }
 
--- where a form begins there is a next moment
-goes_on : (s : Setting) (c : Control) (frames : List Frame) (z : FlatState) → begins c ≡ true → control_step s c frames z ≡ None → ⊥
+-- where a form begins there is a next configuration
+goes_on : (s : Setting) (c : Control) (frames : List ContinuationFrame) (z : FlatState) → begins c ≡ true → control_step s c frames z ≡ None → ⊥
 goes_on s (evaluate f at) frames z form none = absurd (cc none)
 goes_on s (signals c mark level around) frames z form none = absurd (cc form)
 goes_on s (come_to o) frames z form none = absurd (cc form)
@@ -122,9 +122,9 @@ pub nowhere : Beside
 nowhere = record { globals = []; dynamics = []; input = []; printed = []; frame = [] }
 
 pub began_so : (e : Evaluation) (left left' given given' : Option (List ℕ)) (forms : ℕ) (old new : Evaluator) (went : Bool) → IsStepped old new went
-    → ((names : List (List ℕ)) (b : Beside) → begins (moment_of names old.machine b).control ≡ true)
+    → ((names : List (List ℕ)) (b : Beside) → begins (configuration_of names old.machine b).control ≡ true)
     → UnderWay e left left' given given' forms old → UnderWay e left left' given given' (forms + 1) new
 began_so e left left' given given' forms old new true h form u = began e left left' given given' forms old new h form u
 began_so e left left' given given' forms old new false h form u =
-    let m : Moment = moment_of [] old.machine nowhere in
+    let m : Configuration = configuration_of [] old.machine nowhere in
     absurd (goes_on (setting_of e) m.control m.frames m.state (form [] nowhere) (h.is_end [] (setting_of e) nowhere))

@@ -11,7 +11,7 @@ use Rattle.flat_language.specs.FlatMeaning.{flat_meaning}
 use Rattle.flat_language.specs.Flatten.{flat_program}
 use Rattle.flat_language.specs.Law.{SameRun}
 use Rattle.base.specs.Given.{WasGiven}
-use Rattle.eval_machine.specs.Moment.{Setting, Control, evaluate, signals, come_to, Frame, Moment}
+use Rattle.eval_machine.specs.Configuration.{Setting, Control, evaluate, signals, come_to, ContinuationFrame, Configuration}
 use Rattle.eval_machine.specs.Step.{control_step}
 use Rattle.eval_machine.specs.Run.{begins, IsEnd, outcome_of, done}
 use Rattle.eval_machine.specs.Law.{LawOfMachine, Ends}
@@ -20,7 +20,7 @@ use Rattle.lang_meaning.specs.declared.evaluation.EvaluationEnd.{EvaluationEnd}
 use Rattle.lang_meaning.specs.declared.evaluation.EvaluationEnd.TheVariants as endings
 use Rattle.lang_meaning.specs.Evaluation.{Evaluation, meaning_with, end_for, end_of, Taken, Begins}
 use Rattle.lang_meaning.specs.Evaluates.{most_forms, HasEnded, IsCutOff, IsSpent, ReadsOn, EndsSo, Evaluates, BreaksOff}
-use Rattle.eval_run.specs.Moments.{setting_of, moment_after, forms_after}
+use Rattle.eval_run.specs.Moments.{setting_of, configuration_after, forms_after}
 use Rattle.eval_run.specs.UnderWay.{StopsAt, SpentAt, WantsAt, CutOffAt, ComesTo, HasRun, HasBroken}
 use Rattle.eval_run.proofs.Coming.{forms_more}
 use Rattle.eval_run.proofs.Counting.{printed_up_to_end, left_up_to_end, units_up_to_end}
@@ -39,12 +39,12 @@ pub record Known (e : Evaluation) : Type 0 where
   pub same : (input : List ℕ) → SameRun (meaning_with e input) (flat_meaning e.names (flat_program e.program) input e.levels (words e.words))
 
 -- a machine that has ended has done what the program means
-done_so : (e : Evaluation) → Known e → (input : List ℕ) (n : ℕ) → IsEnd (setting_of e) (moment_after e input n)
-    → done (moment_after e input n) ≡ flat_with e input
+done_so : (e : Evaluation) → Known e → (input : List ℕ) (n : ℕ) → IsEnd (setting_of e) (configuration_after e input n)
+    → done (configuration_after e input n) ≡ flat_with e input
 done_so e known input n h = (known.machine e.names (flat_program e.program) input e.levels (words e.words)).leads n h
 
-printed_so : (e : Evaluation) → Known e → (input : List ℕ) (n : ℕ) → IsEnd (setting_of e) (moment_after e input n)
-    → printed_at (moment_after e input n) ≡ (meaning_with e input).printed
+printed_so : (e : Evaluation) → Known e → (input : List ℕ) (n : ℕ) → IsEnd (setting_of e) (configuration_after e input n)
+    → printed_at (configuration_after e input n) ≡ (meaning_with e input).printed
 printed_so e known input n h = ap (λ (m : Meant). m.printed) (done_so e known input n h) ∙ (known.same input).printed
 
 -- the end is told alike in stores where each value is of the same class
@@ -58,17 +58,17 @@ ends_alike : (one other : Meant) → SameRun one other → end_of other ≡ end_
 ends_alike one other h =
     ap (λ x. end_for (ending_of x other.store)) h.end ∙ ap end_for (ending_alike one.end one.store other.store h.class)
 
-ends_so : (e : Evaluation) → Known e → (input : List ℕ) (n : ℕ) (end : EvaluationEnd) → IsEnd (setting_of e) (moment_after e input n)
-    → end_of (done (moment_after e input n)) ≡ end → end_of (meaning_with e input) ≡ end
+ends_so : (e : Evaluation) → Known e → (input : List ℕ) (n : ℕ) (end : EvaluationEnd) → IsEnd (setting_of e) (configuration_after e input n)
+    → end_of (done (configuration_after e input n)) ≡ end → end_of (meaning_with e input) ≡ end
 ends_so e known input n end h q =
     sym (ends_alike (meaning_with e input) (flat_with e input) (known.same input)) ∙ sym (ap end_of (done_so e known input n h)) ∙ q
 
--- what was printed up to any moment is a beginning of what the program prints
-prefix_so : (e : Evaluation) → Known e → (input : List ℕ) (n : ℕ) → IsPrefix (printed_at (moment_after e input n)) (meaning_with e input).printed
+-- what was printed up to any configuration is a beginning of what the program prints
+prefix_so : (e : Evaluation) → Known e → (input : List ℕ) (n : ℕ) → IsPrefix (printed_at (configuration_after e input n)) (meaning_with e input).printed
 prefix_so e known input n =
-    let ends : Ends (setting_of e) (moment_after e input 0) = (known.machine e.names (flat_program e.program) input e.levels (words e.words)).ends in
-    subst (IsPrefix (printed_at (moment_after e input n))) (printed_so e known input ends.count ends.is_end)
-    (printed_up_to_end known.printing (setting_of e) (moment_after e input 0) n ends.count ends.is_end)
+    let ends : Ends (setting_of e) (configuration_after e input 0) = (known.machine e.names (flat_program e.program) input e.levels (words e.words)).ends in
+    subst (IsPrefix (printed_at (configuration_after e input n))) (printed_so e known input ends.count ends.is_end)
+    (printed_up_to_end known.printing (setting_of e) (configuration_after e input 0) n ends.count ends.is_end)
 
 prefix_then : (a b c : List ℕ) → IsPrefix a b → IsPrefix b c → IsPrefix a c
 prefix_then a b c h q = record {
@@ -84,34 +84,34 @@ full_outcome (exit n v (at_segment segment)) store asked left h = absurd (cc h)
 full_outcome (full a l) store asked left h = cc h
 full_outcome more store asked left h = absurd (cc h)
 
-full_control : (s : Setting) (c : Control) (frames : List Frame) (z : FlatState) (store : List Object) (asked left : ℕ) → control_step s c frames z ≡ None
+full_control : (s : Setting) (c : Control) (frames : List ContinuationFrame) (z : FlatState) (store : List Object) (asked left : ℕ) → control_step s c frames z ≡ None
     → end_for (ending_of (meaning.end_of (outcome_of c)) store) ≡ endings.Full asked left → c ≡ come_to (full asked left)
 full_control s (evaluate f at) frames z store asked left h q = absurd (cc h)
 full_control s (signals c mark level around) frames z store asked left h q = absurd (cc q)
 full_control s (come_to o) frames z store asked left h q = ap come_to (full_outcome o store asked left q)
 
-full_so : (e : Evaluation) → Known e → (input : List ℕ) (n asked left : ℕ) → IsEnd (setting_of e) (moment_after e input n)
-    → end_of (done (moment_after e input n)) ≡ endings.Full asked left → left < asked
+full_so : (e : Evaluation) → Known e → (input : List ℕ) (n asked left : ℕ) → IsEnd (setting_of e) (configuration_after e input n)
+    → end_of (done (configuration_after e input n)) ≡ endings.Full asked left → left < asked
 full_so e known input n asked left h q =
-    let m : Moment = moment_after e input n in
+    let m : Configuration = configuration_after e input n in
     known.full (setting_of e) input e.levels n asked left
     (full_control (setting_of e) m.control m.frames m.state m.state.state.store asked left h q)
 
--- of what was left of the input at any moment the program leaves the last ones
-left_so : (e : Evaluation) → Known e → (input : List ℕ) (n : ℕ) → IsLastOf (meaning_with e input).left (left_at (moment_after e input n))
+-- of what was left of the input at any configuration the program leaves the last ones
+left_so : (e : Evaluation) → Known e → (input : List ℕ) (n : ℕ) → IsLastOf (meaning_with e input).left (left_at (configuration_after e input n))
 left_so e known input n =
-    let ends : Ends (setting_of e) (moment_after e input 0) = (known.machine e.names (flat_program e.program) input e.levels (words e.words)).ends in
-    let same : left_at (moment_after e input ends.count) ≡ (meaning_with e input).left =
+    let ends : Ends (setting_of e) (configuration_after e input 0) = (known.machine e.names (flat_program e.program) input e.levels (words e.words)).ends in
+    let same : left_at (configuration_after e input ends.count) ≡ (meaning_with e input).left =
     ap (λ (m : Meant). m.left) (done_so e known input ends.count ends.is_end) ∙ (known.same input).left in
-    subst (λ xs. IsLastOf xs (left_at (moment_after e input n))) same
-    (left_up_to_end known.reading (setting_of e) (moment_after e input 0) n ends.count ends.is_end)
+    subst (λ xs. IsLastOf xs (left_at (configuration_after e input n))) same
+    (left_up_to_end known.reading (setting_of e) (configuration_after e input 0) n ends.count ends.is_end)
 
--- the program counts as many units as forms begin up to any moment, or more
+-- the program counts as many units as forms begin up to any configuration, or more
 units_so : (e : Evaluation) → Known e → (input : List ℕ) (n : ℕ) → forms_after e input n ≤ (meaning_with e input).units
 units_so e known input n =
-    let ends : Ends (setting_of e) (moment_after e input 0) = (known.machine e.names (flat_program e.program) input e.levels (words e.words)).ends in
+    let ends : Ends (setting_of e) (configuration_after e input 0) = (known.machine e.names (flat_program e.program) input e.levels (words e.words)).ends in
     subst (λ k. forms_after e input n ≤ k) (ap (λ (m : Meant). m.units) (done_so e known input ends.count ends.is_end) ∙ (known.same input).units)
-    (units_up_to_end known.units (setting_of e) (moment_after e input 0) n ends.count ends.is_end)
+    (units_up_to_end known.units (setting_of e) (configuration_after e input 0) n ends.count ends.is_end)
 
 one_over : (c : Bool) (all some most units : ℕ) → all ≡ some + (if c then 1 else 0) → c ≡ true → some ≡ most → all ≤ units → most < units
 one_over true all some most units p q r h = omega arith
@@ -128,18 +128,18 @@ ended e known input given given' end h = record {
 cut_off : (e : Evaluation) → Known e → (input : List ℕ) (given given' : Option (List ℕ)) → CutOffAt e input given given' → IsCutOff e input given given'
 cut_off e known input given given' h = record {
   front = h.front;
-  prefix = prefix_then h.front (printed_at (moment_after e input h.count)) (meaning_with e input).printed h.prefix (prefix_so e known input h.count);
+  prefix = prefix_then h.front (printed_at (configuration_after e input h.count)) (meaning_with e input).printed h.prefix (prefix_so e known input h.count);
   printed = h.printed;
 }
 
-printed_by : (e : Evaluation) → Known e → (input : List ℕ) (given given' : Option (List ℕ)) (n : ℕ) → WasGiven given (printed_at (moment_after e input n)) given'
+printed_by : (e : Evaluation) → Known e → (input : List ℕ) (given given' : Option (List ℕ)) (n : ℕ) → WasGiven given (printed_at (configuration_after e input n)) given'
     → IsCutOff e input given given'
-printed_by e known input given given' n h = record { front = printed_at (moment_after e input n); prefix = prefix_so e known input n; printed = h }
+printed_by e known input given given' n h = record { front = printed_at (configuration_after e input n); prefix = prefix_so e known input n; printed = h }
 
 spent : (e : Evaluation) → Known e → (input : List ℕ) (given given' : Option (List ℕ)) → SpentAt e input given given' → IsSpent e input given given'
 spent e known input given given' h = record {
-  many = one_over (begins (moment_after e input h.count).control) (forms_after e input (suc h.count)) (forms_after e input h.count) most_forms (meaning_with e input).units
-      (forms_more (setting_of e) h.count (moment_after e input 0)) h.goes_on h.forms (units_so e known input (suc h.count));
+  many = one_over (begins (configuration_after e input h.count).control) (forms_after e input (suc h.count)) (forms_after e input h.count) most_forms (meaning_with e input).units
+      (forms_more (setting_of e) h.count (configuration_after e input 0)) h.goes_on h.forms (units_so e known input (suc h.count));
   cut_off = printed_by e known input given given' h.count h.printed;
 }
 

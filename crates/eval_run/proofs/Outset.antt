@@ -6,20 +6,20 @@ use Rattle.flat_language.specs.declared.program.FlatProgram.{FlatProgram}
 use Rattle.flat_language.specs.Flatten.{flat_program}
 use Rattle.lang_dispatch.specs.OfClasses.{with_classes}
 use Rattle.lang_dispatch.specs.Tables.{AreTablesOf}
-use Rattle.eval_machine.specs.Moment.{Setting}
+use Rattle.eval_machine.specs.Configuration.{Setting}
 use Rattle.eval_machine.specs.Run.{start}
 use Rattle.eval_machine.specs.Law.{setting}
 use Rattle.eval_store.specs.declared.spellings.Spellings.{Spellings}
 use Rattle.eval_store.specs.declared.store.Store.{Store}
 use Rattle.eval_store.specs.View.{limit_of}
-use Rattle.eval_store.specs.declared.layout.Layout.{Layout}
-use Rattle.eval_store.specs.Layout.{IsLaidOut}
+use Rattle.eval_store.specs.declared.initial_heap.InitialHeap.{InitialHeap}
+use Rattle.eval_store.specs.InitialHeap.{HasInitialHeap}
 use Rattle.eval_primitives.specs.declared.primitives.Primitives.{Primitives}
 use Rattle.eval_state.specs.declared.given.Given.{Given}
 use Rattle.eval_state.specs.Sizes.{AreSizes}
 use Rattle.eval_state.specs.View as machine
 use Rattle.eval_step.specs.declared.evaluator.Evaluator.{Evaluator}
-use Rattle.eval_step.specs.Runs.{IsAt}
+use Rattle.eval_step.specs.Runs.{IsAtConfiguration}
 use Rattle.eval_step.specs.Started.{IsStarted}
 use Rattle.lang_meaning.specs.Evaluation.{Evaluation}
 use Rattle.eval_run.specs.Moments.{setting_of}
@@ -35,7 +35,7 @@ same_setting names rows w program limit h q =
     ap (λ p. setting names p (limit_of limit)) h ∙ ap (λ l. setting names (flat_program rows) (limit_of l)) q
 
 pub outset : (names : List (List ℕ)) (rows : ProgramRows) (levels w : ℕ) (left given : Option (List ℕ)) (g : Given) (store : Store) (v : Evaluator)
-    → g.program.now ≡ flat_program rows → g.limit ≡ Some w → machine.IsGiven names g → IsLaidOut names g.program.now store g.layout.now → IsStarted g store levels v
+    → g.program.now ≡ flat_program rows → g.limit ≡ Some w → machine.IsGiven names g → HasInitialHeap names g.program.now store g.layout.now → IsStarted g store levels v
     → UnderWay (record { names = names; program = rows; levels = levels; words = w }) left left given given 0 v
 outset names rows levels w left given g store v made limit known laid h =
     let e : Evaluation = record { names = names; program = rows; levels = levels; words = w } in
@@ -53,8 +53,8 @@ outset names rows levels w left given g store v made limit known laid h =
       count = 0;
       comes = λ input b. record {
         is_at =
-            let P : List ℕ → Type 0 = λ unread. IsAt names v [] unread (start (setting_of e) input levels) in
-            let Q : Setting → Type 0 = λ x. IsAt names v [] input (start x input levels) in
+            let P : List ℕ → Type 0 = λ unread. IsAtConfiguration names v [] unread (start (setting_of e) input levels) in
+            let Q : Setting → Type 0 = λ x. IsAtConfiguration names v [] input (start x input levels) in
             subst P (sym b.joined) (subst Q s (h.comes names input known.spelling laid));
         begun = refl;
       };
@@ -96,7 +96,7 @@ module _ (g : Given) (store : Store) (levels w : ℕ) (v : Evaluator) (limit : g
       (outset_of names rows levels w left given g store v made limit ready sizes dispatch h)
 
 -- and so with the names that it has
-module _ (names : List (List ℕ)) (program : FlatProgram) (spellings : Spellings) (layout : Layout) (primitives : Primitives) (store : Store)
+module _ (names : List (List ℕ)) (program : FlatProgram) (spellings : Spellings) (layout : InitialHeap) (primitives : Primitives) (store : Store)
     (ready : IsReady names program spellings layout primitives store) (levels w : ℕ) (left left' given given' : Option (List ℕ)) where
   pub ends_with : (r : Result EvaluationEnd Stop)
       → IfOk r (λ end. (ns : List (List ℕ)) → IsReady ns program spellings layout primitives store → FlatRuns ns program levels w left left' given given' end)

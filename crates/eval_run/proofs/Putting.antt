@@ -7,16 +7,16 @@ use Rattle.std.proofs.Math.Seq.{drop-nil}
 use Rattle.std.proofs.Common.{◌≡◌, ◌<◌, ◌≤◌, ◌≢◌, ℕ, Bool, true, false, ◌||◌, List, [], ◌∷◌, ◌++◌, Option, Some, None, length, take, drop, refl, ap, sym, ◌∙◌, subst, ⊎_elim, append_assoc, arith}
 use Rattle.std.specs.Prelude.{Result, Ok, Err, OnOk, IfErr, IfSome, slice_get, is_some, ◌==◌}
 use Rattle.base.specs.Outside.{TakesFront}
-use Rattle.eval_machine.specs.Moment.{Moment}
+use Rattle.eval_machine.specs.Configuration.{Configuration}
 use Rattle.eval_state.specs.declared.machine.Machine.{Machine}
-use Rattle.eval_state.specs.View.{moment_of}
+use Rattle.eval_state.specs.View.{configuration_of}
 use Rattle.eval_step.specs.declared.evaluator.Evaluator.{Evaluator}
-use Rattle.eval_step.specs.Runs.{IsAt}
+use Rattle.eval_step.specs.Runs.{IsAtConfiguration}
 use Rattle.eval_step.specs.Ports.{IsGivenBytes, IsAllRead}
 use Rattle.eval_step.specs.Streams.{is_fed}
 use Rattle.eval_run.specs.declared.stop.Stop.{Stop}
 use Rattle.lang_meaning.specs.Evaluation.{Evaluation, Taken, Begins, WasTaken}
-use Rattle.eval_run.specs.Moments.{moment_after}
+use Rattle.eval_run.specs.Moments.{configuration_after}
 use Rattle.eval_run.specs.UnderWay.{HasCome, UnderWay, IsPutBehind, HasBroken, StopsSo}
 use Rattle.eval_run.proofs.Coming.{runs_as}
 use Rattle.eval_run.proofs.Stopping.{broken_at}
@@ -60,12 +60,12 @@ put e left left' left'' given given' forms old new bytes more i p u = record {
   comes = λ input b.
       let before : Begins u.taken input = begins_before u.taken bytes input (u.all_is ∙ more) b in
       let h : HasCome e u.taken u.written u.count forms old input before = u.comes input before in
-      let a : IsAt e.names old u.written (bytes ++ b.rest) (moment_after e input u.count) = h.is_at in
+      let a : IsAtConfiguration e.names old u.written (bytes ++ b.rest) (configuration_after e input u.count) = h.is_at in
       record {
         is_at = record {
           beside = a.beside;
           stands = i.stands e.names u.written b.rest a.beside a.stands;
-          is = ap (λ (m : Machine). moment_of e.names m a.beside) i.machine ∙ a.is;
+          is = ap (λ (m : Machine). configuration_of e.names m a.beside) i.machine ∙ a.is;
         };
         begun = h.begun;
       };
@@ -86,16 +86,16 @@ put_broken e left left' left'' given given' forms v bytes more p u = record {
 abbrev all_of : Taken → Taken
 all_of t = record { bytes = t.bytes; all = true }
 
-all_at : (names : List (List ℕ)) (old new : Evaluator) (written unread : List ℕ) (m : Moment) → IsAllRead old new → unread ≡ [] → IsAt names old written unread m
-    → IsAt names new written unread m
+all_at : (names : List (List ℕ)) (old new : Evaluator) (written unread : List ℕ) (m : Configuration) → IsAllRead old new → unread ≡ [] → IsAtConfiguration names old written unread m
+    → IsAtConfiguration names new written unread m
 all_at names old new written unread m i none a =
-    let x : IsAt names old written [] m = subst (λ xs. IsAt names old written xs m) none a in
-    let y : IsAt names new written [] m = record {
+    let x : IsAtConfiguration names old written [] m = subst (λ xs. IsAtConfiguration names old written xs m) none a in
+    let y : IsAtConfiguration names new written [] m = record {
       beside = x.beside;
       stands = i.stands names written x.beside x.stands;
-      is = ap (λ (k : Machine). moment_of names k x.beside) i.machine ∙ x.is;
+      is = ap (λ (k : Machine). configuration_of names k x.beside) i.machine ∙ x.is;
     } in
-    subst (λ xs. IsAt names new written xs m) (sym none) y
+    subst (λ xs. IsAtConfiguration names new written xs m) (sym none) y
 
 taken_all : (left left' left'' : Option (List ℕ)) (t : Taken) (bytes : List ℕ) → bytes ≡ [] → IsPutBehind left' bytes left'' → WasTaken left t left' → WasTaken left (all_of t) left''
 taken_all None left' left'' t bytes none p w = tt
@@ -123,7 +123,7 @@ met_end e left left' left'' given given' forms old new bytes none i p u = record
   comes = λ input b.
       let before : Begins u.taken input = record { rest = b.rest; joined = b.joined; ends = λ h. b.ends refl } in
       let h : HasCome e u.taken u.written u.count forms old input before = u.comes input before in
-      record { is_at = all_at e.names old new u.written b.rest (moment_after e input u.count) i (b.ends refl) h.is_at; begun = h.begun };
+      record { is_at = all_at e.names old new u.written b.rest (configuration_after e input u.count) i (b.ends refl) h.is_at; begun = h.begun };
 }
 
 -- whether a piece has bytes

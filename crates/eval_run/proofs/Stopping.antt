@@ -3,24 +3,24 @@ use Rattle.std.proofs.Common.{◌≡◌, ◌≤◌, ℕ, true, false, List, [], 
 use Rattle.std.specs.Prelude.{⊤, IfSome}
 use Rattle.lang_meaning.specs.Meaning.{Meant, Ending, with_value, by_class, for_words, for_levels, ending_of}
 use Rattle.base.specs.Given.{WasGiven, WasGivenFront}
-use Rattle.eval_machine.specs.Moment.{Moment}
+use Rattle.eval_machine.specs.Configuration.{Configuration}
 use Rattle.eval_machine.specs.Run.{begins, IsEnd, done}
 use Rattle.eval_machine.specs.RunLaws.{printed_at}
 use Rattle.eval_store.specs.View.{Beside}
 use Rattle.eval_state.specs.declared.machine.Machine.{Machine}
 use Rattle.eval_state.specs.declared.machine.Control.{Control}
 use Rattle.eval_state.specs.declared.machine.Control.TheVariants.{Evaluate, Again, Signals, ComeTo}
-use Rattle.eval_state.specs.View.{moment_of, control_of}
+use Rattle.eval_state.specs.View.{configuration_of, control_of}
 use Rattle.eval_step.specs.declared.evaluator.Evaluator.{Evaluator}
-use Rattle.eval_step.specs.Runs.{IsAt}
-use Rattle.eval_step.specs.Advanced.{IsStopped}
+use Rattle.eval_step.specs.Runs.{IsAtConfiguration}
+use Rattle.eval_step.specs.Advanced.{StopsBecause}
 use Rattle.eval_step.specs.Ports.{IsWritten}
 use Rattle.eval_step.specs.Streams.{control_reads}
 use Rattle.lang_meaning.specs.declared.evaluation.EvaluationEnd.{EvaluationEnd}
 use Rattle.lang_meaning.specs.declared.evaluation.EvaluationEnd.TheVariants as endings
 use Rattle.lang_meaning.specs.Evaluation.{Evaluation, end_for, end_of, Taken, Begins, WasTaken}
 use Rattle.lang_meaning.specs.Evaluates.{most_forms}
-use Rattle.eval_run.specs.Moments.{setting_of, moment_after, forms_after, wants_byte}
+use Rattle.eval_run.specs.Moments.{setting_of, configuration_after, forms_after, wants_byte}
 use Rattle.eval_run.specs.UnderWay.{HasCome, UnderWay, StopsAt, CutOffAt, ComesTo, HasRun, HasBroken, IsOwnEnd}
 use Rattle.eval_run.proofs.Coming.{runs_as, nowhere}
 
@@ -31,11 +31,11 @@ given_more given given' (Some after) front more g h =
     let p : WasGiven given front (Some h.0) = subst (λ x. WasGiven given front x) h.1 g in
     (p.0, p.1, h.2 ∙ ap (λ x. x ++ more) p.2 ∙ append_assoc p.0 front more)
 
--- what was printed by the moment
-printed_so : (names : List (List ℕ)) (v : Evaluator) (written unread : List ℕ) (m : Moment) → IsAt names v written unread m → printed_at m ≡ written ++ v.printed.items
+-- what was printed by the configuration
+printed_so : (names : List (List ℕ)) (v : Evaluator) (written unread : List ℕ) (m : Configuration) → IsAtConfiguration names v written unread m → printed_at m ≡ written ++ v.printed.items
 printed_so names v written unread m a = sym (ap printed_at a.is) ∙ a.stands.printed
 
-printed_all : (names : List (List ℕ)) (v : Evaluator) (written unread : List ℕ) (m : Moment) → v.printed.items ≡ [] → IsAt names v written unread m → written ≡ printed_at m
+printed_all : (names : List (List ℕ)) (v : Evaluator) (written unread : List ℕ) (m : Configuration) → v.printed.items ≡ [] → IsAtConfiguration names v written unread m → written ≡ printed_at m
 printed_all names v written unread m none a = sym (printed_so names v written unread m a ∙ ap (λ xs. written ++ xs) none ∙ append-nil written)
 
 -- all that was printed was written
@@ -51,12 +51,12 @@ wrote e left left' given given' given'' forms old new g w u = record {
   count = u.count;
   comes = λ input b.
       let h : HasCome e u.taken u.written u.count forms old input b = u.comes input b in
-      let a : IsAt e.names old u.written b.rest (moment_after e input u.count) = h.is_at in
+      let a : IsAtConfiguration e.names old u.written b.rest (configuration_after e input u.count) = h.is_at in
       record {
         is_at = record {
           beside = a.beside;
           stands = w.stands e.names u.written b.rest a.beside a.stands;
-          is = ap (λ (m : Machine). moment_of e.names m a.beside) w.machine ∙ a.is;
+          is = ap (λ (m : Machine). configuration_of e.names m a.beside) w.machine ∙ a.is;
         };
         begun = h.begun;
       };
@@ -69,13 +69,13 @@ cut e left left' given given' given'' forms v g u = record {
   taken = u.taken;
   was_taken = u.was_taken;
   comes = λ input b.
-      let a : IsAt e.names v u.written b.rest (moment_after e input u.count) = (u.comes input b).is_at in
+      let a : IsAtConfiguration e.names v u.written b.rest (configuration_after e input u.count) = (u.comes input b).is_at in
       record {
         count = u.count;
         front = u.written ++ g.0;
         prefix = record {
           rest = g.1;
-          is = append_assoc u.written g.0 g.1 ∙ ap (λ xs. u.written ++ xs) g.2.0 ∙ sym (printed_so e.names v u.written b.rest (moment_after e input u.count) a);
+          is = append_assoc u.written g.0 g.1 ∙ ap (λ xs. u.written ++ xs) g.2.0 ∙ sym (printed_so e.names v u.written b.rest (configuration_after e input u.count) a);
         };
         printed = given_more given given' given'' u.written g.0 u.was_given g.2.1;
       };
@@ -87,7 +87,7 @@ pub broken_at : (e : Evaluation) (input : List ℕ) (given given' : Option (List
 broken_at e input given given' forms v t written count b h g = record {
   count = count;
   front = written;
-  prefix = record { rest = v.printed.items; is = sym (printed_so e.names v written b.rest (moment_after e input count) h.is_at) };
+  prefix = record { rest = v.printed.items; is = sym (printed_so e.names v written b.rest (configuration_after e input count) h.is_at) };
   printed = g;
 }
 
@@ -99,32 +99,32 @@ broken e left left' given given' forms v u = record {
 }
 
 -- the ends that the meaning tells
-abbrev pub IsTold : EvaluationEnd → Type 0
-IsTold endings.Spent = ⊥
-IsTold endings.ReadFault = ⊥
-IsTold endings.WriteFault = ⊥
-IsTold end = ⊤
+abbrev pub MeaningTells : EvaluationEnd → Type 0
+MeaningTells endings.Spent = ⊥
+MeaningTells endings.ReadFault = ⊥
+MeaningTells endings.WriteFault = ⊥
+MeaningTells end = ⊤
 
-told : (x : Ending) → IsTold (end_for x)
+told : (x : Ending) → MeaningTells (end_for x)
 told (with_value v) = tt
 told (by_class class site) = tt
 told (for_words asked left) = tt
 told for_levels = tt
 
-told_so : (end : EvaluationEnd) (m : Meant) → end_of m ≡ end → IsTold end
-told_so end m is = subst IsTold is (told (ending_of m.end m.store))
+told_so : (end : EvaluationEnd) (m : Meant) → end_of m ≡ end → MeaningTells end
+told_so end m is = subst MeaningTells is (told (ending_of m.end m.store))
 
-is_own : (end : EvaluationEnd) → IsTold end → IsOwnEnd end
+is_own : (end : EvaluationEnd) → MeaningTells end → IsOwnEnd end
 is_own endings.Spent h = absurd h
 is_own endings.ReadFault h = absurd h
 is_own endings.WriteFault h = absurd h
 is_own w h = tt
 
 -- an evaluator tells ends that are no faults
-pub own_end : (v : Evaluator) (end : EvaluationEnd) → ((names : List (List ℕ)) (b : Beside) → end_of (done (moment_of names v.machine b)) ≡ end) → IsOwnEnd end
-own_end v end is = is_own end (told_so end (done (moment_of [] v.machine nowhere)) (is [] nowhere))
+pub own_end : (v : Evaluator) (end : EvaluationEnd) → ((names : List (List ℕ)) (b : Beside) → end_of (done (configuration_of names v.machine b)) ≡ end) → IsOwnEnd end
+own_end v end is = is_own end (told_so end (done (configuration_of [] v.machine nowhere)) (is [] nowhere))
 
-comes_to : (end : EvaluationEnd) (e : Evaluation) (t : Taken) (input : List ℕ) (b : Begins t input) (given given' : Option (List ℕ)) → IsTold end
+comes_to : (end : EvaluationEnd) (e : Evaluation) (t : Taken) (input : List ℕ) (b : Begins t input) (given given' : Option (List ℕ)) → MeaningTells end
     → StopsAt e input given given' end → ComesTo end e t input b given given'
 comes_to endings.Spent e t input b given given' h s = absurd h
 comes_to endings.ReadFault e t input b given given' h s = absurd h
@@ -136,20 +136,20 @@ few a b c e h = omega arith
 
 -- the machine has ended
 pub ended : (e : Evaluation) (left left' given given' : Option (List ℕ)) (forms : ℕ) (v : Evaluator) (end : EvaluationEnd) → forms ≤ most_forms
-    → v.printed.items ≡ [] → IsStopped v false → ((names : List (List ℕ)) (b : Beside) → end_of (done (moment_of names v.machine b)) ≡ end)
+    → v.printed.items ≡ [] → StopsBecause v false → ((names : List (List ℕ)) (b : Beside) → end_of (done (configuration_of names v.machine b)) ≡ end)
     → UnderWay e left left' given given' forms v → HasRun e left left' given given' end
 ended e left left' given given' forms v end h none stopped is u = record {
   taken = u.taken;
   was_taken = u.was_taken;
   comes = λ input b.
       let k : HasCome e u.taken u.written u.count forms v input b = u.comes input b in
-      let m : Moment = moment_after e input u.count in
-      let a : IsAt e.names v u.written b.rest m = k.is_at in
-      let there : Moment = moment_of e.names v.machine a.beside in
+      let m : Configuration = configuration_after e input u.count in
+      let a : IsAtConfiguration e.names v u.written b.rest m = k.is_at in
+      let there : Configuration = configuration_of e.names v.machine a.beside in
       comes_to end e u.taken input b given given' (told_so end (done there) (is e.names a.beside)) (record {
         count = u.count;
-        stops = subst (λ (x : Moment). IsEnd (setting_of e) x) a.is (stopped e.names (setting_of e) a.beside);
-        ends = ap (λ (x : Moment). end_of (done x)) (sym a.is) ∙ is e.names a.beside;
+        stops = subst (λ (x : Configuration). IsEnd (setting_of e) x) a.is (stopped e.names (setting_of e) a.beside);
+        ends = ap (λ (x : Configuration). end_of (done x)) (sym a.is) ∙ is e.names a.beside;
         printed = subst (λ xs. WasGiven given xs given') (printed_all e.names v u.written b.rest m none a) u.was_given;
         few = few (forms_after e input u.count) forms most_forms k.begun h;
       });
@@ -157,18 +157,18 @@ ended e left left' given given' forms v end h none stopped is u = record {
 
 -- another form is to begin, after so many
 pub spent : (e : Evaluation) (left left' given given' : Option (List ℕ)) (forms : ℕ) (v : Evaluator) → forms ≡ most_forms
-    → v.printed.items ≡ [] → IsStopped v true → UnderWay e left left' given given' forms v → HasRun e left left' given given' endings.Spent
+    → v.printed.items ≡ [] → StopsBecause v true → UnderWay e left left' given given' forms v → HasRun e left left' given given' endings.Spent
 spent e left left' given given' forms v h none stopped u = record {
   taken = u.taken;
   was_taken = u.was_taken;
   comes = λ input b.
       let k : HasCome e u.taken u.written u.count forms v input b = u.comes input b in
-      let m : Moment = moment_after e input u.count in
-      let a : IsAt e.names v u.written b.rest m = k.is_at in
+      let m : Configuration = configuration_after e input u.count in
+      let a : IsAtConfiguration e.names v u.written b.rest m = k.is_at in
       record {
         count = u.count;
         forms = k.begun ∙ h;
-        goes_on = ap (λ (x : Moment). begins x.control) (sym a.is) ∙ stopped e.names a.beside;
+        goes_on = ap (λ (x : Configuration). begins x.control) (sym a.is) ∙ stopped e.names a.beside;
         printed = subst (λ xs. WasGiven given xs given') (printed_all e.names v u.written b.rest m none a) u.was_given;
       };
 }
@@ -193,13 +193,13 @@ wants e left left' left'' given given' forms v same none reads all_taken not_met
   taken = u.taken;
   was_taken = taken_still left left' left'' u.taken same u.was_taken;
   comes = λ input b.
-      let m : Moment = moment_after e input u.count in
-      let a : IsAt e.names v u.written b.rest m = (u.comes input b).is_at in
+      let m : Configuration = configuration_after e input u.count in
+      let a : IsAtConfiguration e.names v u.written b.rest m = (u.comes input b).is_at in
       record {
         not_all = u.all_is ∙ not_met;
         count = u.count;
-        wants = ap (λ (x : Moment). wants_byte x.control) (sym a.is) ∙ wants_so e.names v.machine v.machine.control reads;
-        left = ap (λ (x : Moment). x.state.state.input) (sym a.is) ∙ a.stands.input ∙ ap (λ xs. xs ++ b.rest) all_taken;
+        wants = ap (λ (x : Configuration). wants_byte x.control) (sym a.is) ∙ wants_so e.names v.machine v.machine.control reads;
+        left = ap (λ (x : Configuration). x.state.state.input) (sym a.is) ∙ a.stands.input ∙ ap (λ xs. xs ++ b.rest) all_taken;
         printed = subst (λ xs. WasGiven given xs given') (printed_all e.names v u.written b.rest m none a) u.was_given;
       };
 }

@@ -21,8 +21,8 @@ use Rattle.eval_run.specs.UnderWay.{HasRun, StopsSo, StopTells, IsOwnEnd, end_to
 use Rattle.eval_run.proofs.Meant.{Known, evaluated, broken}
 
 -- the end that is told
-abbrev IsTold : Result EvaluationEnd Stop → Result EvaluationEnd MemoryFault → Type 0
-IsTold ended result = MatchResult result (λ end. end_told ended ≡ Some end) (λ _. end_told ended ≡ None)
+abbrev EndIsTold : Result EvaluationEnd Stop → Result EvaluationEnd MemoryFault → Type 0
+EndIsTold ended result = MatchResult result (λ end. end_told ended ≡ Some end) (λ _. end_told ended ≡ None)
 
 same_end : (end end' : EvaluationEnd) → Some end ≡ Some end' → end ≡ end'
 same_end end end' h = cc h
@@ -41,7 +41,7 @@ own_tells endings.ReadFault SourceRises SinkRises h = absurd h
 own_tells endings.WriteFault SourceRises SinkRises h = absurd h
 
 pub faults_told : (ended : Result EvaluationEnd Stop) (result : Result EvaluationEnd MemoryFault) (SourceRises SinkRises : Type 0) → IfOk ended IsOwnEnd
-    → IfErr ended (λ s. StopTells s SourceRises SinkRises) → IsTold ended result → IfOk result (λ end. Tells end SourceRises SinkRises)
+    → IfErr ended (λ s. StopTells s SourceRises SinkRises) → EndIsTold ended result → IfOk result (λ end. Tells end SourceRises SinkRises)
 faults_told ended (Err f) SourceRises SinkRises own stops h = tt
 faults_told (Ok end) (Ok end') SourceRises SinkRises own stops h =
     subst (λ x. Tells x SourceRises SinkRises) (same_end end end' h) (own_tells end SourceRises SinkRises own)
@@ -80,7 +80,7 @@ module _ (e : Evaluation) (known : Known e) (flat : FlatProgram) (made : flat �
   so_evaluated end end' run h =
       subst (λ x. Evaluates e left left' given given' x) (same_end end end' h) (evaluated e known left left' given given' end run)
 
-  pub ends_told : (ended : Result EvaluationEnd Stop) (result : Result EvaluationEnd MemoryFault) → IfOk ended EndsSo → IfErr ended Stopped → IsTold ended result
+  pub ends_told : (ended : Result EvaluationEnd Stop) (result : Result EvaluationEnd MemoryFault) → IfOk ended EndsSo → IfErr ended Stopped → EndIsTold ended result
       → IfOk result (Evaluates e left left' given given')
   ends_told ended (Err f) runs stops h = tt
   ends_told (Ok end) (Ok end') runs stops h = so_evaluated end end' (runs e.program made) h
@@ -91,7 +91,7 @@ module _ (e : Evaluation) (known : Known e) (flat : FlatProgram) (made : flat �
   so_run : (end end' : EvaluationEnd) → HasRun e left left' given given' end → Some end ≡ Some end' → HasRun e left left' given given' end'
   so_run end end' run h = subst (λ x. HasRun e left left' given given' x) (same_end end end' h) run
 
-  pub runs_told : (ended : Result EvaluationEnd Stop) (result : Result EvaluationEnd MemoryFault) → IfOk ended EndsSo → IfErr ended Stopped → IsTold ended result
+  pub runs_told : (ended : Result EvaluationEnd Stop) (result : Result EvaluationEnd MemoryFault) → IfOk ended EndsSo → IfErr ended Stopped → EndIsTold ended result
       → IfOk result (HasRun e left left' given given')
   runs_told ended (Err f) runs stops h = tt
   runs_told (Ok end) (Ok end') runs stops h = so_run end end' (runs e.program made) h
@@ -99,7 +99,7 @@ module _ (e : Evaluation) (known : Known e) (flat : FlatProgram) (made : flat �
   runs_told (Err stop.ReadFault) (Ok end') runs stops h = so_run endings.ReadFault end' (stops e.program made) h
   runs_told (Err stop.WriteFault) (Ok end') runs stops h = so_run endings.WriteFault end' (stops e.program made) h
 
-  pub breaks_told : (ended : Result EvaluationEnd Stop) (result : Result EvaluationEnd MemoryFault) → IfErr ended Stopped → IsTold ended result
+  pub breaks_told : (ended : Result EvaluationEnd Stop) (result : Result EvaluationEnd MemoryFault) → IfErr ended Stopped → EndIsTold ended result
       → OnErr result (BreaksOff e left left' given given')
   breaks_told ended (Ok end) stops h = tt
   breaks_told (Ok end) (Err f) stops h = no_end end (BreaksOff e left left' given given') h

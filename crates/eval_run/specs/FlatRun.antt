@@ -7,8 +7,8 @@ use Rattle.flat_language.specs.Flatten.{flat_program}
 use Rattle.eval_store.specs.declared.spellings.Spellings.{Spellings}
 use Rattle.eval_store.specs.declared.store.Store.{Store}
 use Rattle.eval_store.specs.Spelling.{IsSpelling}
-use Rattle.eval_store.specs.declared.layout.Layout.{Layout}
-use Rattle.eval_store.specs.Layout.{IsLaidOut}
+use Rattle.eval_store.specs.declared.initial_heap.InitialHeap.{InitialHeap}
+use Rattle.eval_store.specs.InitialHeap.{HasInitialHeap}
 use Rattle.eval_primitives.specs.declared.primitives.Primitives.{Primitives}
 use Rattle.eval_primitives.specs.Computed.{IsFitted}
 use Rattle.lang_meaning.specs.declared.evaluation.EvaluationEnd.{EvaluationEnd}
@@ -16,9 +16,9 @@ use Rattle.eval_run.specs.declared.stop.Stop.{Stop}
 use Rattle.eval_run.specs.UnderWay.{HasRun, StopsSo}
 
 -- a program with these names is ready to run: its store is laid out, and primitives see it
-pub record IsReady (names : List (List ℕ)) (program : FlatProgram) (spellings : Spellings) (layout : Layout) (primitives : Primitives) (store : Store) : Type 0 where
+pub record IsReady (names : List (List ℕ)) (program : FlatProgram) (spellings : Spellings) (layout : InitialHeap) (primitives : Primitives) (store : Store) : Type 0 where
   pub spelling : IsSpelling names spellings
-  pub laid_out : IsLaidOut names program store layout
+  pub laid_out : HasInitialHeap names program store layout
   pub fitted : IsFitted names (tables program) primitives
 
 -- it has ended so

@@ -1,4 +1,4 @@
--- An evaluation that is under way: how far the source was read and the sink written, and at which moment the evaluator is; and how a run
+-- An evaluation that is under way: how far the source was read and the sink written, and in which configuration the evaluator is; and how a run
 -- comes to its end. What the program means is not spoken of here.
 use Rattle.std.specs.Prelude.{◌≡◌, ◌≤◌, ⊤, ℕ, true, false, List, [], ◌++◌, Option, Some, None, Result, Ok, Err, IfSome}
 use Rattle.lang_meaning.specs.Prefixes.{IsPrefix}
@@ -7,23 +7,23 @@ use Rattle.eval_machine.specs.Run.{begins, IsEnd, done}
 use Rattle.eval_machine.specs.RunLaws.{printed_at}
 use Rattle.eval_state.specs.View as machine
 use Rattle.eval_step.specs.declared.evaluator.Evaluator.{Evaluator}
-use Rattle.eval_step.specs.Runs.{IsAt}
+use Rattle.eval_step.specs.Runs.{IsAtConfiguration}
 use Rattle.lang_meaning.specs.declared.evaluation.EvaluationEnd.{EvaluationEnd}
 use Rattle.lang_meaning.specs.declared.evaluation.EvaluationEnd.TheVariants as endings
 use Rattle.eval_run.specs.declared.stop.Stop.{Stop}
 use Rattle.eval_run.specs.declared.stop.Stop.TheVariants as stop
 use Rattle.lang_meaning.specs.Evaluation.{Evaluation, end_of, Taken, Begins, WasTaken}
 use Rattle.lang_meaning.specs.Evaluates.{most_forms}
-use Rattle.eval_run.specs.Moments.{setting_of, moment_after, forms_after, wants_byte}
+use Rattle.eval_run.specs.Moments.{setting_of, configuration_after, forms_after, wants_byte}
 
 -- the evaluator runs that program
 pub record RunsFor (e : Evaluation) (v : Evaluator) : Type 0 where
   pub setting : machine.setting_of e.names v.machine.given ≡ setting_of e
   pub given : machine.IsGiven e.names v.machine.given
 
--- it has come to the moment after so many steps, in which so many forms began, where these bytes were written
+-- it has come to the configuration after so many steps, in which so many forms began, where these bytes were written
 pub record HasCome (e : Evaluation) (t : Taken) (written : List ℕ) (count forms : ℕ) (v : Evaluator) (input : List ℕ) (b : Begins t input) : Type 0 where
-  pub is_at : IsAt e.names v written b.rest (moment_after e input count)
+  pub is_at : IsAtConfiguration e.names v written b.rest (configuration_after e input count)
   pub begun : forms_after e input count ≡ forms
 
 -- an evaluation on its way: so many forms began, and the evaluator knows whether the end of the source was met
@@ -41,32 +41,32 @@ pub record UnderWay (e : Evaluation) (left left' given given' : Option (List ℕ
 abbrev pub IsPutBehind : Option (List ℕ) → List ℕ → Option (List ℕ) → Type 0
 IsPutBehind left bytes left' = IfSome left (λ all. (rest : List ℕ) × ((all ≡ bytes ++ rest) × (left' ≡ Some rest) × (bytes ≡ [] → rest ≡ [])))
 
--- the ends, at a moment of the machine
+-- the ends, in a configuration of the machine
 
 pub record StopsAt (e : Evaluation) (input : List ℕ) (given given' : Option (List ℕ)) (end : EvaluationEnd) : Type 0 where
   pub count : ℕ
-  pub stops : IsEnd (setting_of e) (moment_after e input count)
-  pub ends : end_of (done (moment_after e input count)) ≡ end
-  pub printed : WasGiven given (printed_at (moment_after e input count)) given'
+  pub stops : IsEnd (setting_of e) (configuration_after e input count)
+  pub ends : end_of (done (configuration_after e input count)) ≡ end
+  pub printed : WasGiven given (printed_at (configuration_after e input count)) given'
   pub few : forms_after e input count ≤ most_forms
 
 pub record SpentAt (e : Evaluation) (input : List ℕ) (given given' : Option (List ℕ)) : Type 0 where
   pub count : ℕ
   pub forms : forms_after e input count ≡ most_forms
-  pub goes_on : begins (moment_after e input count).control ≡ true
-  pub printed : WasGiven given (printed_at (moment_after e input count)) given'
+  pub goes_on : begins (configuration_after e input count).control ≡ true
+  pub printed : WasGiven given (printed_at (configuration_after e input count)) given'
 
 pub record WantsAt (e : Evaluation) (t : Taken) (input : List ℕ) (b : Begins t input) (given given' : Option (List ℕ)) : Type 0 where
   pub not_all : t.all ≡ false
   pub count : ℕ
-  pub wants : wants_byte (moment_after e input count).control ≡ true
-  pub left : (moment_after e input count).state.state.input ≡ b.rest
-  pub printed : WasGiven given (printed_at (moment_after e input count)) given'
+  pub wants : wants_byte (configuration_after e input count).control ≡ true
+  pub left : (configuration_after e input count).state.state.input ≡ b.rest
+  pub printed : WasGiven given (printed_at (configuration_after e input count)) given'
 
 pub record CutOffAt (e : Evaluation) (input : List ℕ) (given given' : Option (List ℕ)) : Type 0 where
   pub count : ℕ
   pub front : List ℕ
-  pub prefix : IsPrefix front (printed_at (moment_after e input count))
+  pub prefix : IsPrefix front (printed_at (configuration_after e input count))
   pub printed : WasGiven given front given'
 
 abbrev pub ComesTo : (end : EvaluationEnd) (e : Evaluation) (t : Taken) (input : List ℕ) → Begins t input → (given given' : Option (List ℕ)) → Type 0

@@ -8,7 +8,7 @@ ghost use Rattle.eval_machine.specs.Run.{done};
 ghost use Rattle.eval_store.specs.View.{Beside, state_of};
 ghost use Rattle.eval_store.specs.Words.{value_of_word};
 ghost use Rattle.eval_state.specs.Frames.{landing_of};
-ghost use Rattle.eval_state.specs.View.{moment_of};
+ghost use Rattle.eval_state.specs.View.{configuration_of};
 ghost use Rattle.lang_meaning.specs.Evaluation.{end_of};
 
 use base::Place;
@@ -20,7 +20,7 @@ use lang_meaning::{ClassId, EvaluationEnd};
 
 /// The end that an evaluator has come to.
 pub(crate) fn end_at(evaluator: &Evaluator<'_>) -> EvaluationEnd
-    ensures { (names : List (List ℕ)) (b : Beside) → end_of (done (moment_of names evaluator.now.machine b)) ≡ result }
+    ensures { (names : List (List ℕ)) (b : Beside) → end_of (done (configuration_of names evaluator.now.machine b)) ≡ result }
 {
     match evaluator.outcome() {
         Outcome::Value(_word) => EvaluationEnd::Value,

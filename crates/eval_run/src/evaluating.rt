@@ -18,7 +18,7 @@ use std::alloc::Global;
 /// the source what the program reads, in pieces of at most 4,096 bytes, and gives the sink what it prints, before each read
 /// and at the end. The end and the bytes are those of the meaning. After 2^63 forms, when another one is to begin, it is `Spent`. A fault
 /// comes only where the count of the source's faults, or of the sink's, rose. After a fault, `Spent` or `NoMemory` the sink was given a
-/// beginning of what the program prints. At which moment of the machine the run stopped is a clause of its own (`runs`).
+/// beginning of what the program prints. At which configuration of the machine the run stopped is a clause of its own (`runs`).
 pub fn evaluate<S: Source, K: Sink>(
     alloc: Global,
     program: &Program,

@@ -4,8 +4,8 @@ ghost use Rattle.std.specs.Prelude.{◌≡◌, ◌≤◌, ◌+◌, true, false, 
 ghost use Rattle.base.specs.Outside.{Rose};
 ghost use Rattle.eval_machine.specs.Run.{begins};
 ghost use Rattle.eval_store.specs.View.{Beside};
-ghost use Rattle.eval_state.specs.View.{moment_of};
-ghost use Rattle.eval_step.specs.Advanced.{IsStopped};
+ghost use Rattle.eval_state.specs.View.{configuration_of};
+ghost use Rattle.eval_step.specs.Advanced.{StopsBecause};
 ghost use Rattle.eval_step.specs.Streams.{control_reads, is_fed};
 ghost use Rattle.lang_meaning.specs.Evaluation.{Evaluation};
 ghost use Rattle.lang_meaning.specs.Evaluates.{most_forms};
@@ -61,7 +61,7 @@ fn to_form(evaluator: &mut Evaluator<'_>) -> Result<bool, Stop>
     ensures under_way { IfOk result (λ more. (e : Evaluation) (left left' given given' : Option (List ℕ)) (forms : ℕ)
         → UnderWay e left left' given given' forms evaluator.old
         → UnderWay e left left' given given' forms evaluator.new) }
-    ensures stopped { IfOk result (IsStopped evaluator.new) }
+    ensures stopped { IfOk result (StopsBecause evaluator.new) }
     ensures stops { IfErr result (λ stop. (e : Evaluation) (left left' given given' : Option (List ℕ)) (forms : ℕ)
         → UnderWay e left left' given given' forms evaluator.old
         → StopsSo stop e left left' given given') }
@@ -73,7 +73,7 @@ fn to_form(evaluator: &mut Evaluator<'_>) -> Result<bool, Stop>
 
 // A form begins.
 fn begin(evaluator: &mut Evaluator<'_>) -> Result<(), Stop>
-    requires begins { (names : List (List ℕ)) (b : Beside) → begins (moment_of names evaluator.old.machine b).control ≡ true }
+    requires begins { (names : List (List ℕ)) (b : Beside) → begins (configuration_of names evaluator.old.machine b).control ≡ true }
     requires there { control_reads evaluator.old.machine.control ≡ true → is_fed evaluator.old ≡ true }
     ensures under_way { OnOk result ((e : Evaluation) (left left' given given' : Option (List ℕ)) (forms : ℕ)
         → UnderWay e left left' given given' forms evaluator.old
@@ -89,7 +89,7 @@ fn begin(evaluator: &mut Evaluator<'_>) -> Result<(), Stop>
 
 // All that was printed is written at the end; the end.
 fn finish<K: Sink>(evaluator: &mut Evaluator<'_>, sink: &mut K) -> Result<EvaluationEnd, Stop>
-    requires ended { IsStopped evaluator.old false }
+    requires ended { StopsBecause evaluator.old false }
     ensures ends { IfOk result (λ end. (e : Evaluation) (left left' given : Option (List ℕ)) (forms : ℕ) → forms ≤ most_forms
         → UnderWay e left left' given (K.given sink.old) forms evaluator.old
         → HasRun e left left' given (K.given sink.new) end) }

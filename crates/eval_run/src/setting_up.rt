@@ -8,7 +8,7 @@ ghost use Rattle.flat_language.specs.FlatNodes as flat;
 ghost use Rattle.lang_dispatch.specs.OfClasses.{with_classes};
 ghost use Rattle.lang_dispatch.specs.Tables.{AreTablesOf};
 ghost use Rattle.eval_store.specs.Spelling.{IsSpelling};
-ghost use Rattle.eval_store.specs.Layout.{IsLayout};
+ghost use Rattle.eval_store.specs.InitialHeap.{IsInitialHeap};
 ghost use Rattle.eval_state.specs.Sizes.{AreSizes};
 ghost use Rattle.eval_run.specs.UnderWay.{IsOwnEnd, StopTells};
 ghost use Rattle.eval_run.specs.FlatRun.{IsReady, FlatRuns, FlatStops};
@@ -20,7 +20,7 @@ use eval_primitives::Primitives;
 use eval_state::given::Given;
 use eval_state::sizes::Sizes;
 use eval_step::evaluator::Evaluator;
-use eval_store::{Layout, Spellings, Store, lay_out};
+use eval_store::{InitialHeap, Spellings, Store, lay_initial_heap};
 use flat_language::FlatProgram;
 use lang_dispatch::{Tables, tables};
 use lang_meaning::EvaluationEnd;
@@ -43,34 +43,34 @@ pub(crate) fn run_flat<S: Source, K: Sink>(
     ensures fault { IfErr result (λ stop. StopTells stop (Rose (S.faults source.old) (S.faults source.new)) (Rose (K.faults sink.old) (K.faults sink.new))) }
 {
     let spellings = Spellings::new(names);
-    let layout = layout_of(alloc, program, names, spellings)?;
+    let layout = initial_heap_of(alloc, program, names, spellings)?;
     run_laid_out(
         alloc, program, names, spellings, &layout, levels, words, source, sink,
     )
 }
 
 // Where the first objects of a program stand, in every store that it is laid out in.
-fn layout_of(
+fn initial_heap_of(
     alloc: Global,
     program: &FlatProgram,
     names: &Names,
     spellings: Spellings,
-) -> Result<Layout, NoMemory>
+) -> Result<InitialHeap, NoMemory>
     requires spelling { IsSpelling names.now spellings }
-    ensures { IfOk result (λ layout. IsLayout names.now (flat.tables program.now) layout) }
+    ensures { IfOk result (λ layout. IsInitialHeap names.now (flat.tables program.now) layout) }
 {
     let mut store = Store::new(alloc);
-    lay_out(alloc, names, spellings, program, &mut store)
+    lay_initial_heap(alloc, names, spellings, program, &mut store)
 }
 
-// Runs a program whose layout is there. The store of a run is made where all that the run borrows is there already, the layout too; so
-// it is laid out anew, and the layout is that of another store.
+// Runs a program whose layout is there. The store of a run is made where all that the run borrows is there already, the initial heap too; so
+// it is laid out anew, and the initial heap is that of another store.
 fn run_laid_out<'p, S: Source, K: Sink>(
     alloc: Global,
     program: &'p FlatProgram,
     names: &'p Names,
     spellings: Spellings,
-    layout: &'p Layout,
+    layout: &'p InitialHeap,
     levels: u64,
     words: u64,
     source: &mut S,
@@ -78,7 +78,7 @@ fn run_laid_out<'p, S: Source, K: Sink>(
 ) -> Result<EvaluationEnd, Stop>
     requires cells { sum_by (generic_cells (with_classes program.now.classes)) program.now.generics ≤ 262144 }
     requires spelling { IsSpelling names.now spellings }
-    requires layout { IsLayout names.now (flat.tables program.now) layout.now }
+    requires layout { IsInitialHeap names.now (flat.tables program.now) layout.now }
     ensures ends { IfOk result (FlatRuns names.now program.now levels words (S.left source.old) (S.left source.new) (K.given sink.old) (K.given sink.new)) }
     ensures own { IfOk result IsOwnEnd }
     ensures stops { IfErr result (FlatStops names.now program.now levels words (S.left source.old) (S.left source.new) (K.given sink.old) (K.given sink.new)) }
@@ -86,7 +86,7 @@ fn run_laid_out<'p, S: Source, K: Sink>(
 {
     let primitives = Primitives::new(alloc, names, spellings, program, layout)?;
     let mut store = Store::new(alloc);
-    let _ = lay_out(alloc, names, spellings, program, &mut store)?;
+    let _ = lay_initial_heap(alloc, names, spellings, program, &mut store)?;
     let sizes = Sizes::new(alloc, program)?;
     let tables = tables(alloc, &program.generics, &program.classes)?;
     run_fitted(
@@ -110,7 +110,7 @@ fn run_fitted<'p, S: Source, K: Sink>(
     alloc: Global,
     program: &'p FlatProgram,
     spellings: Spellings,
-    layout: &'p Layout,
+    layout: &'p InitialHeap,
     primitives: &'p Primitives<'p>,
     sizes: &'p Sizes,
     tables: &'p Tables,

@@ -1,27 +1,27 @@
 -- The frames below stay what they are when the slots of the activation that runs change.
 use Rattle.std.proofs.Common.{◌≡◌, ℕ, List, [], ◌∷◌, refl, ap, ◌∙◌, reverse}
 use Rattle.flat_language.specs.FlatState.{FlatState}
-use Rattle.eval_machine.specs.Moment.{Setting, Moment, restores_slots}
-use Rattle.eval_machine.specs.Moment as machine
+use Rattle.eval_machine.specs.Configuration.{Setting, Configuration, restores_slots}
+use Rattle.eval_machine.specs.Configuration as machine
 use Rattle.eval_store.specs.declared.word.Word.{Word}
 use Rattle.eval_store.specs.Words.{values_of}
 use Rattle.eval_state.specs.declared.slot.Slot.{Slot}
 use Rattle.eval_state.specs.declared.situation.Situation.{Situation}
 use Rattle.eval_state.specs.declared.situation.Activation.{Activation}
 use Rattle.eval_state.specs.declared.machine.Machine.{Machine}
-use Rattle.eval_state.specs.declared.frame.Frame.{Frame}
-use Rattle.eval_state.specs.declared.frame.Frame.TheVariants as frame
+use Rattle.eval_state.specs.declared.frame.ContinuationFrame.{ContinuationFrame}
+use Rattle.eval_state.specs.declared.frame.ContinuationFrame.TheVariants as frame
 use Rattle.eval_state.specs.Frames.{last_of, others_of, operands_of, frame_slots, frame_in, frames_in, situation_in, environment_in}
 use Rattle.eval_state.specs.Slots.{IsInPlace, IsChanged}
-use Rattle.eval_state.specs.View.{Steps, at, frames, state}
+use Rattle.eval_state.specs.View.{StepsTo, at, frames, state}
 use Rattle.eval_state.proofs.Going.{followed, from_given}
 
 -- a situation does not hang on how many slots there are
-pub situation_aside : (names : List (List ℕ)) (a : Activation) (n : ℕ) (ws : List Frame) (s : Situation) → situation_in names (record a { slots = n }) ws s ≡ situation_in names a ws s
+pub situation_aside : (names : List (List ℕ)) (a : Activation) (n : ℕ) (ws : List ContinuationFrame) (s : Situation) → situation_in names (record a { slots = n }) ws s ≡ situation_in names a ws s
 unfolding situation_in environment_in
 situation_aside names a n ws s = refl
 
-pub frames_aside : (names : List (List ℕ)) (a : Activation) (n : ℕ) (operands : List Word) (slots after : List Slot) (ws : List Frame) → others_of n after ≡ others_of a.slots slots
+pub frames_aside : (names : List (List ℕ)) (a : Activation) (n : ℕ) (operands : List Word) (slots after : List Slot) (ws : List ContinuationFrame) → others_of n after ≡ others_of a.slots slots
     → frames_in names (record a { slots = n }) operands after ws ≡ frames_in names a operands slots ws
 unfolding frames_in situation_in environment_in
 frames_aside names a n operands slots after [] h = refl
@@ -81,10 +81,10 @@ frames_place names old new n p =
     ∙ ap (λ fs. frames_in names old.current (others_of n old.operands.items) old.slots.items (reverse fs.items)) p.frames
 
 -- from a machine whose slots and store have changed
-pub after_change : (old mid new : Machine) (s : Situation) (n : ℕ) (f : List (List ℕ) → Setting → machine.Situation → List machine.Frame → FlatState → Moment) (g : List (List ℕ) → FlatState → FlatState)
+pub after_change : (old mid new : Machine) (s : Situation) (n : ℕ) (f : List (List ℕ) → Setting → machine.Situation → List machine.ContinuationFrame → FlatState → Configuration) (g : List (List ℕ) → FlatState → FlatState)
     → IsChanged old mid g
-    → Steps mid new (λ names t b. f names t (at names mid s) (frames names mid n) (state names mid b))
-    → Steps old new (λ names t b. f names t (at names old s) (frames names old n) (g names (state names old b)))
+    → StepsTo mid new (λ names t b. f names t (at names mid s) (frames names mid n) (state names mid b))
+    → StepsTo old new (λ names t b. f names t (at names old s) (frames names old n) (g names (state names old b)))
 after_change old mid new s n f g c x =
     from_given old mid new (λ names t b. f names t (at names old s) (frames names old n) (g names (state names old b))) c.in_place.given
     (followed mid new (λ names t b. f names t (at names mid s) (frames names mid n) (state names mid b)) (λ names t b. f names t (at names old s) (frames names old n) (g names (state names old b))) x

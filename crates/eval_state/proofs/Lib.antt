@@ -15,7 +15,7 @@ pub mod Captures
 pub mod BindingHomes
 pub mod MethodPlaces
 pub mod Coded
-pub mod Cells
+pub mod Boxes
 pub mod NewSlots
 pub mod Following
 pub mod Aside

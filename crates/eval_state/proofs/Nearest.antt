@@ -3,17 +3,17 @@ use Rattle.std.proofs.Common.{◌≡◌, ℕ, ◌-◌, ◌<◌, ◌≤◌, List,
 use Rattle.std.proofs.lemmas.Bool.{cases_lt}
 use Rattle.std.proofs.lemmas.Option.{slice_get_read, slice_get_past}
 use Rattle.std.specs.Prelude.{slice_get}
-use Rattle.eval_state.specs.declared.frame.Frame.{Frame}
-use Rattle.eval_state.specs.declared.links.Kind.{Kind}
+use Rattle.eval_state.specs.declared.frame.ContinuationFrame.{ContinuationFrame}
+use Rattle.eval_state.specs.declared.links.LinkKind.{LinkKind}
 use Rattle.eval_state.specs.Links.{next_of, IsNoneNearer, IsNearest}
 
 -- the frames from one on were searched
-pub record IsSearched (kind : Kind) (items : List Frame) (left link : ℕ) : Type 0 where
+pub record IsSearched (kind : LinkKind) (items : List ContinuationFrame) (left link : ℕ) : Type 0 where
   pub inside : left ≤ length items
   pub below : left ≤ link
   pub none : IsNoneNearer kind items left link
 
-pub none_yet : (kind : Kind) (items : List Frame) (count left link : ℕ) → count ≡ length items → left ≡ min link count → IsSearched kind items left link
+pub none_yet : (kind : LinkKind) (items : List ContinuationFrame) (count left link : ℕ) → count ≡ length items → left ≡ min link count → IsSearched kind items left link
 none_yet kind items count left link e m = record {
   inside = omega arith;
   below = omega arith;
@@ -21,10 +21,10 @@ none_yet kind items count left link e m = record {
 }
 
 -- the frame below those that were searched
-read : (items : List Frame) (left : ℕ) (w x : Frame) → 0 < left → left ≤ length items → x ≡ get_or items (left - 1) x → slice_get items (left - 1) ≡ Some w → w ≡ x
+read : (items : List ContinuationFrame) (left : ℕ) (w x : ContinuationFrame) → 0 < left → left ≤ length items → x ≡ get_or items (left - 1) x → slice_get items (left - 1) ≡ Some w → w ≡ x
 read items left w x pos inside is there = cc (slice_get_read items (length items) (left - 1) x refl (omega arith) is)
 
-pub found : (kind : Kind) (items : List Frame) (left link behind capped : ℕ) (x : Frame) → 0 < left → x ≡ get_or items (left - 1) x
+pub found : (kind : LinkKind) (items : List ContinuationFrame) (left link behind capped : ℕ) (x : ContinuationFrame) → 0 < left → x ≡ get_or items (left - 1) x
     → Some behind ≡ next_of kind x → capped ≡ min behind (left - 1) → IsSearched kind items left link → IsNearest kind items link x capped
 found kind items left link behind capped x pos is links cap s = record {
   place = left - 1;
@@ -36,7 +36,7 @@ found kind items left link behind capped x pos is links cap s = record {
   innermost = λ i w low high there. s.none i w (omega arith) high there;
 }
 
-pub one_more : (kind : Kind) (items : List Frame) (left link : ℕ) (x : Frame) → 0 < left → x ≡ get_or items (left - 1) x
+pub one_more : (kind : LinkKind) (items : List ContinuationFrame) (left link : ℕ) (x : ContinuationFrame) → 0 < left → x ≡ get_or items (left - 1) x
     → None ≡ next_of kind x → IsSearched kind items left link → IsSearched kind items (left - 1) link
 one_more kind items left link x pos is unlinked s = record {
   inside = let inside : left ≤ length items = s.inside in omega arith;
@@ -49,5 +49,5 @@ one_more kind items left link x pos is unlinked s = record {
       (cases_lt i left);
 }
 
-pub all_searched : (kind : Kind) (items : List Frame) (left link : ℕ) → left ≡ 0 → IsSearched kind items left link → IsNoneNearer kind items 0 link
+pub all_searched : (kind : LinkKind) (items : List ContinuationFrame) (left link : ℕ) → left ≡ 0 → IsSearched kind items left link → IsNoneNearer kind items 0 link
 all_searched kind items left link e s i w low high there = s.none i w (omega arith) high there

@@ -5,8 +5,8 @@ use Rattle.std.proofs.lemmas.List.{append-nil, drop_all, map-append, drop-append
 use Rattle.base.specs.model.DataRest.{rest_at}
 use Rattle.lang_meaning.specs.Values.{Value}
 use Rattle.flat_language.specs.declared.place.Home.{Home}
-use Rattle.flat_language.specs.declared.place.Home.TheVariants.{Slot, Cell}
-use Rattle.flat_language.specs.FlatState.{FlatState, holds_cell, with_slots, with_values}
+use Rattle.flat_language.specs.declared.place.Home.TheVariants.{Slot, Boxed}
+use Rattle.flat_language.specs.FlatState.{FlatState, holds_box, with_slots, with_values}
 use Rattle.eval_store.specs.declared.word.Word.{Word}
 use Rattle.eval_store.specs.declared.store.Store.{Store}
 use Rattle.eval_store.specs.Words.{value_of_word, values_of}
@@ -26,7 +26,7 @@ get_past (x ∷ xs) (suc k) at = let e : suc k + at ≡ suc (k + at) = omega ari
 -- the first one, and then the others
 pub slots_more : (h : Home) (hs : List Home) (v : Value) (vs : List Value) (z : FlatState) → with_slots (h ∷ hs) (v ∷ vs) z ≡ with_slots hs vs (with_slots (h ∷ []) (v ∷ []) z)
 slots_more Slot hs v vs z = simp (append-nil, append_assoc)
-slots_more Cell hs v vs z = simp (append_assoc, length-append)
+slots_more Boxed hs v vs z = simp (append_assoc, length-append)
 
 pub no_home : (vs : List Value) (z : FlatState) → with_slots [] vs z ≡ z
 no_home vs z = simp append-nil
@@ -45,32 +45,32 @@ frame_more names k n xs x e =
     ∙ ap (map (slot_of names)) (drop-append-le (length xs - k) xs (x ∷ []) (omega arith))
     ∙ map-append (slot_of names) (drop (length xs - k) xs) (x ∷ [])
 
--- a slot with a cell
-cell_slotted : (old new : Machine) (n : ℕ) (w : Word) (t : Store) → new.slots.items ≡ old.slots.items ++ slot.Cell n ∷ [] → new.current.slots ≡ old.current.slots + 1
+-- a slot with a box
+box_slotted : (old new : Machine) (n : ℕ) (w : Word) (t : Store) → new.slots.items ≡ old.slots.items ++ slot.Boxed n ∷ [] → new.current.slots ≡ old.current.slots + 1
     → new ≡ record old { slots = new.slots; current = record old.current { slots = new.current.slots }; store = t }
     → ((names : List (List ℕ)) (b : Beside) → n ≡ length (seen names old.store b).state.variables)
-    → Becomes old.store t (λ names b z. with_values (value_of_word names w ∷ []) z) → IsSlotted old new Cell w
-cell_slotted old new n w t s c e l v = record {
-  slot = slot.Cell n;
+    → Becomes old.store t (λ names b z. with_values (value_of_word names w ∷ []) z) → IsSlotted old new Boxed w
+box_slotted old new n w t s c e l v = record {
+  slot = slot.Boxed n;
   slots = s;
   count = c;
   same = e ∙ ap (λ (u : Store). record old { slots = new.slots; current = record old.current { slots = new.current.slots }; store = u }) (sym (ap (λ (m : Machine). m.store) e));
   state_is = λ names b.
       ap (λ (m : Machine). state names m b) e
       ∙ ap (λ xs. seen names t (record b { frame = xs }))
-      (ap (λ xs. map (slot_of names) (last_of new.current.slots xs)) s ∙ frame_more names old.current.slots new.current.slots old.slots.items (slot.Cell n) c)
-      ∙ v names (record b { frame = frame_slots names old.current old.slots.items ++ holds_cell n ∷ [] })
-      ∙ ap (λ m. record (with_values (value_of_word names w ∷ []) (state names old b)) { frame = frame_slots names old.current old.slots.items ++ holds_cell m ∷ [] }) (l names (record b { frame = frame_slots names old.current old.slots.items }));
+      (ap (λ xs. map (slot_of names) (last_of new.current.slots xs)) s ∙ frame_more names old.current.slots new.current.slots old.slots.items (slot.Boxed n) c)
+      ∙ v names (record b { frame = frame_slots names old.current old.slots.items ++ holds_box n ∷ [] })
+      ∙ ap (λ m. record (with_values (value_of_word names w ∷ []) (state names old b)) { frame = frame_slots names old.current old.slots.items ++ holds_box m ∷ [] }) (l names (record b { frame = frame_slots names old.current old.slots.items }));
 }
 
-pub cell_made : {E : Type 0} (old new : Machine) (h : Home) (n : ℕ) (w : Word) (t : Store) (r : Result Unit E) → h ≡ Cell
-    → OnOk r (new.slots.items ≡ old.slots.items ++ slot.Cell n ∷ []) → OnOk r (new.current.slots ≡ old.current.slots + 1)
+pub box_made : {E : Type 0} (old new : Machine) (h : Home) (n : ℕ) (w : Word) (t : Store) (r : Result Unit E) → h ≡ Boxed
+    → OnOk r (new.slots.items ≡ old.slots.items ++ slot.Boxed n ∷ []) → OnOk r (new.current.slots ≡ old.current.slots + 1)
     → OnOk r (new ≡ record old { slots = new.slots; current = record old.current { slots = new.current.slots }; store = t })
     → ((names : List (List ℕ)) (b : Beside) → n ≡ length (seen names old.store b).state.variables)
     → Becomes old.store t (λ names b z. with_values (value_of_word names w ∷ []) z) → OnOk r (IsSlotted old new h w)
-cell_made old new Cell n w t (Ok x) is s c e l v = cell_slotted old new n w t s c e l v
-cell_made old new Slot n w t (Ok x) is s c e l v = absurd (cc)
-cell_made old new h n w t (Err x) is s c e l v = tt
+box_made old new Boxed n w t (Ok x) is s c e l v = box_slotted old new n w t s c e l v
+box_made old new Slot n w t (Ok x) is s c e l v = absurd (cc)
+box_made old new h n w t (Err x) is s c e l v = tt
 
 -- one of the last operands
 pub from_last : {X : Type 0} (xs : List X) (count at i : ℕ) (x : X) → count ≤ length xs → i ≡ length xs - count + at → slice_get xs i ≡ Some x → slice_get (last_of count xs) at ≡ Some x

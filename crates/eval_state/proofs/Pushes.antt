@@ -6,13 +6,13 @@ use Rattle.std.specs.Prelude.{reverse, nat_lt, if◌then◌else◌}
 use Rattle.eval_store.specs.declared.word.Word.{Word}
 use Rattle.eval_state.specs.declared.slot.Slot.{Slot}
 use Rattle.eval_state.specs.declared.situation.Situation.{Situation}
-use Rattle.eval_state.specs.declared.situation.Around.{Around}
+use Rattle.eval_state.specs.declared.situation.DynamicLinks.{DynamicLinks}
 use Rattle.eval_state.specs.declared.situation.Activation.{Activation}
-use Rattle.eval_state.specs.declared.frame.Frame.{Frame}
-use Rattle.eval_state.specs.declared.frame.Frame.TheVariants as frame
+use Rattle.eval_state.specs.declared.frame.ContinuationFrame.{ContinuationFrame}
+use Rattle.eval_state.specs.declared.frame.ContinuationFrame.TheVariants as frame
 use Rattle.eval_state.specs.Chains.{Linking, chained}
 use Rattle.eval_state.specs.Frames.{others_of, frame_in, frames_in, situation_in, around_in, own_in, environment_in, own_link, exit_link, handler_link, binding_link}
-use Rattle.eval_state.specs.View.{IsPlain}
+use Rattle.eval_state.specs.View.{OnlyWaits}
 
 pub one_on : {X : Type 0} (ws : List X) (w : X) → reverse (ws ++ w ∷ []) ≡ w ∷ reverse ws
 one_on ws w = reverse-append ws (w ∷ [])
@@ -22,7 +22,7 @@ pub others_none : {X : Type 0} (xs : List X) → others_of 0 xs ≡ xs
 others_none xs = grind (arith, common_steps)
 
 -- a plain frame has no operands, and is what it is whatever the operands and the caller's slots
-plain_in : (names : List (List ℕ)) (a : Activation) (operands : List Word) (slots : List Slot) (ws : List Frame) (w : Frame) → IsPlain w ≡ true
+plain_in : (names : List (List ℕ)) (a : Activation) (operands : List Word) (slots : List Slot) (ws : List ContinuationFrame) (w : ContinuationFrame) → OnlyWaits w ≡ true
     → frames_in names a operands slots (w ∷ ws) ≡ frame_in names a ws [] [] w ∷ frames_in names a operands slots ws
 unfolding frames_in
 plain_in names a operands slots ws (frame.SetLocal p s) h = ap (λ os. frame_in names a ws [] [] (frame.SetLocal p s) ∷ frames_in names a os slots ws) (others_none operands)
@@ -67,7 +67,7 @@ plain_in names a operands slots ws (frame.RestoresSlots saved) h = absurd (cc)
 plain_in names a operands slots ws (frame.Handles w n) h = absurd (cc)
 plain_in names a operands slots ws (frame.Binds bs n m) h = absurd (cc)
 
-pub pushed : (names : List (List ℕ)) (a : Activation) (operands : List Word) (slots : List Slot) (items : List Frame) (w : Frame) → IsPlain w ≡ true
+pub pushed : (names : List (List ℕ)) (a : Activation) (operands : List Word) (slots : List Slot) (items : List ContinuationFrame) (w : ContinuationFrame) → OnlyWaits w ≡ true
     → frames_in names a operands slots (reverse (items ++ w ∷ [])) ≡ frame_in names a (reverse items) [] [] w ∷ frames_in names a operands slots (reverse items)
 pushed names a operands slots items w h =
     ap (frames_in names a operands slots) (one_on items w) ∙ plain_in names a operands slots (reverse items) w h
@@ -79,13 +79,13 @@ passed_over of w ws n h =
     rw h (elim (nat_lt (length ws) n) as (λ b. (if b then chained of ws n else chained of ws n) ≡ chained of ws n) [ true ↦ refl | false ↦ refl ])
 
 -- what does not link
-pub record LinksNothing (names : List (List ℕ)) (w : Frame) : Type 0 where
+pub record LinksNothing (names : List (List ℕ)) (w : ContinuationFrame) : Type 0 where
   pub own : own_link w ≡ None
   pub exit : exit_link names w ≡ None
   pub handler : handler_link names w ≡ None
   pub binding : binding_link names w ≡ None
 
-plain_links : (names : List (List ℕ)) (w : Frame) → IsPlain w ≡ true → LinksNothing names w
+plain_links : (names : List (List ℕ)) (w : ContinuationFrame) → OnlyWaits w ≡ true → LinksNothing names w
 plain_links names (frame.Binding bs n b s) h = absurd (cc)
 plain_links names (frame.Argument o fs n s) h = absurd (cc)
 plain_links names (frame.DynamicValue bs n b s) h = absurd (cc)
@@ -99,27 +99,27 @@ plain_links names (frame.Handles w n) h = absurd (cc)
 plain_links names (frame.Binds bs n m) h = absurd (cc)
 plain_links names w h = record { own = refl; exit = refl; handler = refl; binding = refl }
 
--- surroundings and situations stay under a frame that links nothing
-pub around_stays : (names : List (List ℕ)) (ws : List Frame) (w : Frame) (s : Around) → LinksNothing names w → around_in names (w ∷ ws) s ≡ around_in names ws s
+-- dynamic contexts and situations stay under a frame that links nothing
+pub around_stays : (names : List (List ℕ)) (ws : List ContinuationFrame) (w : ContinuationFrame) (s : DynamicLinks) → LinksNothing names w → around_in names (w ∷ ws) s ≡ around_in names ws s
 unfolding around_in
 around_stays names ws w s l =
     rw (passed_over (binding_link names) w ws s.bindings l.binding, passed_over (handler_link names) w ws s.handlers l.handler, passed_over (exit_link names) w ws s.exits l.exit) refl
 
-pub own_stays : (names : List (List ℕ)) (ws : List Frame) (w : Frame) (n : ℕ) → LinksNothing names w → own_in (w ∷ ws) n ≡ own_in ws n
+pub own_stays : (names : List (List ℕ)) (ws : List ContinuationFrame) (w : ContinuationFrame) (n : ℕ) → LinksNothing names w → own_in (w ∷ ws) n ≡ own_in ws n
 unfolding own_in
 own_stays names ws w n l = rw (passed_over own_link w ws n l.own) refl
 
-pub stays_below : (names : List (List ℕ)) (a : Activation) (ws : List Frame) (w : Frame) (s : Situation) → LinksNothing names w
+pub stays_below : (names : List (List ℕ)) (a : Activation) (ws : List ContinuationFrame) (w : ContinuationFrame) (s : Situation) → LinksNothing names w
     → situation_in names a (w ∷ ws) s ≡ situation_in names a ws s
 unfolding situation_in environment_in
 stays_below names a ws w s l = rw (around_stays names ws w s.around l, own_stays names ws w s.own l) refl
 
-pub stays : (names : List (List ℕ)) (a : Activation) (items : List Frame) (w : Frame) (s : Situation) → IsPlain w ≡ true
+pub stays : (names : List (List ℕ)) (a : Activation) (items : List ContinuationFrame) (w : ContinuationFrame) (s : Situation) → OnlyWaits w ≡ true
     → situation_in names a (reverse (items ++ w ∷ [])) s ≡ situation_in names a (reverse items) s
 stays names a items w s h =
     ap (λ ws. situation_in names a ws s) (one_on items w) ∙ stays_below names a (reverse items) w s (plain_links names w h)
 
-pub surroundings_stay : (names : List (List ℕ)) (items : List Frame) (w : Frame) (s : Around) → IsPlain w ≡ true
+pub surroundings_stay : (names : List (List ℕ)) (items : List ContinuationFrame) (w : ContinuationFrame) (s : DynamicLinks) → OnlyWaits w ≡ true
     → around_in names (reverse (items ++ w ∷ [])) s ≡ around_in names (reverse items) s
 surroundings_stay names items w s h =
     ap (λ ws. around_in names ws s) (one_on items w) ∙ around_stays names (reverse items) w s (plain_links names w h)

@@ -28,11 +28,11 @@ pub record Fills (old new : Machine) (f : Doing) : Type 0 where
   pub state_is : (names : List (List ℕ)) (b : Beside) → f names (state names old b) ≡ record { outcome = full asked left; state = state names new b }
 
 -- it gave a word, or words were wanting
-abbrev pub Does : Machine → Machine → Doing → Option Word → Type 0
-Does old new f (Some w) = Gives old new f w
-Does old new f None = Fills old new f
+abbrev pub GivesWord : Machine → Machine → Doing → Option Word → Type 0
+GivesWord old new f (Some w) = Gives old new f w
+GivesWord old new f None = Fills old new f
 
 -- it was done, and its value is nil; or words were wanting
-abbrev pub IsDone : Machine → Machine → Doing → Bool → Type 0
-IsDone old new f true = Gives old new f Nil
-IsDone old new f false = Fills old new f
+abbrev pub IsEffectDone : Machine → Machine → Doing → Bool → Type 0
+IsEffectDone old new f true = Gives old new f Nil
+IsEffectDone old new f false = Fills old new f

@@ -2,7 +2,7 @@
 use Rattle.std.specs.Prelude.{ℕ, suc, ◌-◌, List, [], ◌∷◌, ◌++◌, Option, Some, None, map, length, take, drop, reverse, slice_get}
 use Rattle.lang_meaning.specs.Values.{Value}
 use Rattle.lang_meaning.specs.Objects as objects
-use Rattle.lang_meaning.specs.State.{Surroundings, Exit, block_exit, tagbody_exit, catch_exit, signal_exit, end_exit}
+use Rattle.lang_meaning.specs.State.{DynamicContext, Exit, block_exit, tagbody_exit, catch_exit, signal_exit, end_exit}
 use Rattle.lang_meaning.specs.State as state
 use Rattle.lang_meaning.specs.Lookup.{numbered}
 use Rattle.flat_language.specs.declared.flat_core.FlatClause.{FlatClause}
@@ -10,22 +10,22 @@ use Rattle.flat_language.specs.declared.flat_core.FlatBinding.{FlatBinding}
 use Rattle.flat_language.specs.declared.flat_core.FlatDynBinding.{FlatDynBinding}
 use Rattle.flat_language.specs.FlatForm.{FlatForm, FlatForms, FlatClauses, FlatBindings, FlatDynamics, no_body}
 use Rattle.flat_language.specs.model.View.{forms, clauses_of, bindings_of, dynamics_of, maybe_form}
-use Rattle.flat_language.specs.FlatState.{FlatEnvironment, FrameSlot, holds, holds_cell}
+use Rattle.flat_language.specs.FlatState.{FlatEnvironment, FrameSlot, holds, holds_box}
 use Rattle.flat_language.specs.FlatMeaning.{bound_names}
-use Rattle.eval_machine.specs.Moment as machine
+use Rattle.eval_machine.specs.Configuration as machine
 use Rattle.eval_store.specs.declared.word.Word.{Word}
 use Rattle.eval_store.specs.Words.{value_of_word, values_of, captured_of, called_or_none, rest_of}
-use Rattle.eval_state.specs.declared.situation.Around.{Around}
+use Rattle.eval_state.specs.declared.situation.DynamicLinks.{DynamicLinks}
 use Rattle.eval_state.specs.declared.situation.Situation.{Situation}
 use Rattle.eval_state.specs.declared.situation.Activation.{Activation}
-use Rattle.eval_state.specs.declared.frame.Operation.{Operation}
-use Rattle.eval_state.specs.declared.frame.Operation.TheVariants.{CallName, CallFirst, Compute}
+use Rattle.eval_state.specs.declared.frame.Operator.{Operator}
+use Rattle.eval_state.specs.declared.frame.Operator.TheVariants.{CallName, CallFirst, Compute}
 use Rattle.eval_state.specs.declared.frame.Landing.{Landing}
 use Rattle.eval_state.specs.declared.frame.Landing.TheVariants.{Segment, Site}
 use Rattle.eval_state.specs.declared.frame.Outcome.{Outcome}
 use Rattle.eval_state.specs.declared.frame.Outcome.TheVariants as outcome
-use Rattle.eval_state.specs.declared.frame.Frame.{Frame}
-use Rattle.eval_state.specs.declared.frame.Frame.TheVariants as frame
+use Rattle.eval_state.specs.declared.frame.ContinuationFrame.{ContinuationFrame}
+use Rattle.eval_state.specs.declared.frame.ContinuationFrame.TheVariants as frame
 use Rattle.eval_state.specs.declared.slot.Slot.{Slot}
 use Rattle.eval_state.specs.declared.slot.Slot.TheVariants as slot
 use Rattle.eval_state.specs.Chains.{Linking, links, chained}
@@ -46,7 +46,7 @@ outcome_of names outcome.More = state.more
 
 abbrev pub slot_of : List (List ℕ) → Slot → FrameSlot
 slot_of names (slot.Value w) = holds (value_of_word names w)
-slot_of names (slot.Cell i) = holds_cell i
+slot_of names (slot.Boxed i) = holds_box i
 
 -- the last ones of a list, so many as that, and those in front of them
 abbrev pub last_of : {X : Type 0} → ℕ → List X → List X
@@ -57,7 +57,7 @@ others_of n xs = take (length xs - n) xs
 
 -- links
 
-abbrev pub exit_link : List (List ℕ) → Frame → Option (Linking Exit)
+abbrev pub exit_link : List (List ℕ) → ContinuationFrame → Option (Linking Exit)
 exit_link names (frame.Block number exits own) = links (record { number = number; kind = block_exit } ∷ []) exits
 exit_link names (frame.Catch number tag exits) = links (record { number = number; kind = catch_exit (value_of_word names tag) } ∷ []) exits
 exit_link names (frame.Signal number c mark exits) = links (record { number = number; kind = signal_exit (value_of_word names c) (value_of_word names mark) } ∷ []) exits
@@ -65,21 +65,21 @@ exit_link names (frame.Tagbody number segments outside) = links (record { number
 exit_link names (frame.MainForms level all at) = links (record { number = 0; kind = end_exit } ∷ []) 0
 exit_link names w = None
 
-abbrev pub own_link : Frame → Option (Linking ℕ)
+abbrev pub own_link : ContinuationFrame → Option (Linking ℕ)
 own_link (frame.Block number exits own) = links (number ∷ []) own
 own_link (frame.Tagbody number segments outside) = links (number ∷ []) outside.own
 own_link w = None
 
-abbrev pub handler_link : List (List ℕ) → Frame → Option (Linking Value)
+abbrev pub handler_link : List (List ℕ) → ContinuationFrame → Option (Linking Value)
 handler_link names (frame.Handles w next) = links (value_of_word names w ∷ []) next
 handler_link names w = None
 
-abbrev pub binding_link : List (List ℕ) → Frame → Option (Linking (List ℕ × ℕ))
+abbrev pub binding_link : List (List ℕ) → ContinuationFrame → Option (Linking (List ℕ × ℕ))
 binding_link names (frame.Binds bs first next) = links (numbered (bound_names names (dynamics_of bs.now)) first) next
 binding_link names w = None
 
 -- what surrounds an evaluation, by links into frames
-unfoldable pub around_in : List (List ℕ) → List Frame → Around → Surroundings
+unfoldable pub around_in : List (List ℕ) → List ContinuationFrame → DynamicLinks → DynamicContext
 around_in names ws a = record {
   bindings = chained (binding_link names) ws a.bindings;
   handlers = chained (handler_link names) ws a.handlers;
@@ -88,11 +88,11 @@ around_in names ws a = record {
 }
 
 -- the exits of its own activation, the outermost one first
-unfoldable pub own_in : List Frame → ℕ → List ℕ
+unfoldable pub own_in : List ContinuationFrame → ℕ → List ℕ
 own_in ws n = reverse (chained own_link ws n)
 
 -- the environment in an activation
-unfoldable pub environment_in : List (List ℕ) → Activation → List Frame → ℕ → FlatEnvironment
+unfoldable pub environment_in : List (List ℕ) → Activation → List ContinuationFrame → ℕ → FlatEnvironment
 environment_in names a ws own = record {
   captured = elim a.captured [ None ↦ [] | Some cs ↦ map (captured_of names) cs.value ];
   exits = own_in ws own;
@@ -100,7 +100,7 @@ environment_in names a ws own = record {
 }
 
 -- a situation
-unfoldable pub situation_in : List (List ℕ) → Activation → List Frame → Situation → machine.Situation
+unfoldable pub situation_in : List (List ℕ) → Activation → List ContinuationFrame → Situation → machine.Situation
 situation_in names a ws s = record {
   level = s.level;
   environment = environment_in names a ws s.own;
@@ -125,7 +125,7 @@ dynamics_from bs n = dynamics_of (drop n bs)
 abbrev pub clauses_from : List FlatClause → ℕ → FlatClauses
 clauses_from cs n = clauses_of (drop n cs)
 
-abbrev pub operation_of : Operation → machine.Operation
+abbrev pub operation_of : Operator → machine.Operator
 operation_of (CallName n) = machine.call_name n.0
 operation_of CallFirst = machine.call_first
 operation_of (Compute p) = machine.compute p
@@ -136,21 +136,21 @@ clause_wait None cs at = machine.clause_test no_body cs at
 clause_wait (Some c) cs at = machine.clause_test (maybe_form c.body) cs at
 
 -- the before methods of a chain, and then its first primary method
-abbrev pub before_wait : objects.Chain → List ℕ → List Value → ℕ → Surroundings → machine.Wait
+abbrev pub before_wait : objects.Chain → List ℕ → List Value → ℕ → DynamicContext → machine.Wait
 before_wait c [] vs level around = machine.before_methods c 0 [] vs level around
 before_wait c (p ∷ ps) vs level around = machine.before_methods c p ps vs level around
 
 -- frames
 
 -- how many operands a frame has
-abbrev pub operands_of : Frame → ℕ
+abbrev pub operands_of : ContinuationFrame → ℕ
 operands_of (frame.Binding bs at body s) = at
 operands_of (frame.Argument o fs at s) = at
 operands_of (frame.DynamicValue bs at body s) = at
 operands_of w = 0
 
 -- what a frame of an activation stands for, above frames: with the values of its operands, and the slots of the caller
-abbrev pub frame_in : List (List ℕ) → Activation → List Frame → List Value → (caller : List FrameSlot) → Frame → machine.Frame
+abbrev pub frame_in : List (List ℕ) → Activation → List ContinuationFrame → List Value → (caller : List FrameSlot) → ContinuationFrame → machine.ContinuationFrame
 frame_in names a ws vs caller (frame.SetLocal p s) = machine.awaits (machine.set_local_value p (situation_in names a ws s))
 frame_in names a ws vs caller (frame.SetGlobal n s) = machine.awaits (machine.set_global_value n.0 (situation_in names a ws s))
 frame_in names a ws vs caller (frame.DefGlobal n) = machine.awaits (machine.def_global_value n.0)
@@ -201,12 +201,12 @@ frame_in names a ws vs caller (frame.Handles w next) = machine.unbinds
 frame_in names a ws vs caller (frame.Binds bs first next) = machine.unbinds
 
 -- the activation below a frame
-abbrev pub activation_below : Activation → Frame → Activation
+abbrev pub activation_below : Activation → ContinuationFrame → Activation
 activation_below a (frame.RestoresSlots saved) = saved
 activation_below a w = a
 
 -- the slots of the activations below a frame, its own among them
-abbrev pub slots_below : Activation → List Slot → Frame → List Slot
+abbrev pub slots_below : Activation → List Slot → ContinuationFrame → List Slot
 slots_below a slots (frame.RestoresSlots saved) = others_of a.slots slots
 slots_below a slots w = slots
 
@@ -215,7 +215,7 @@ abbrev pub frame_slots : List (List ℕ) → Activation → List Slot → List F
 frame_slots names a slots = map (slot_of names) (last_of a.slots slots)
 
 -- what frames stand for, the innermost one first, with the operands and the slots of all of them
-unfoldable pub frames_in : List (List ℕ) → Activation → List Word → List Slot → List Frame → List machine.Frame
+unfoldable pub frames_in : List (List ℕ) → Activation → List Word → List Slot → List ContinuationFrame → List machine.ContinuationFrame
 frames_in names a operands slots [] = []
 frames_in names a operands slots (w ∷ ws) =
     frame_in names a ws (values_of names (last_of (operands_of w) operands)) (frame_slots names (activation_below a w) (slots_below a slots w)) w

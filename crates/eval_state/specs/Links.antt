@@ -1,12 +1,12 @@
 -- Which frame a link means.
 use Rattle.std.specs.Prelude.{◌≡◌, ℕ, suc, ◌<◌, ◌≤◌, min, List, Option, Some, None, slice_get}
-use Rattle.eval_state.specs.declared.frame.Frame.{Frame}
-use Rattle.eval_state.specs.declared.frame.Frame.TheVariants as frame
-use Rattle.eval_state.specs.declared.links.Kind.{Kind}
-use Rattle.eval_state.specs.declared.links.Kind.TheVariants.{Exits, Own, Handlers, Bindings}
+use Rattle.eval_state.specs.declared.frame.ContinuationFrame.{ContinuationFrame}
+use Rattle.eval_state.specs.declared.frame.ContinuationFrame.TheVariants as frame
+use Rattle.eval_state.specs.declared.links.LinkKind.{LinkKind}
+use Rattle.eval_state.specs.declared.links.LinkKind.TheVariants.{Exits, Own, Handlers, Bindings}
 
 -- the link of a frame to what comes behind it, where it links things of that kind
-abbrev pub next_of : Kind → Frame → Option ℕ
+abbrev pub next_of : LinkKind → ContinuationFrame → Option ℕ
 next_of Exits (frame.Block number exits own) = Some exits
 next_of Exits (frame.Catch number tag exits) = Some exits
 next_of Exits (frame.Signal number c mark exits) = Some exits
@@ -22,11 +22,11 @@ next_of Bindings (frame.Binds bs first next) = Some next
 next_of Bindings w = None
 
 -- no frame between two places links things of that kind
-abbrev pub IsNoneNearer : Kind → List Frame → ℕ → ℕ → Type 0
-IsNoneNearer kind items low high = (i : ℕ) (w : Frame) → low ≤ i → i < high → slice_get items i ≡ Some w → next_of kind w ≡ None
+abbrev pub IsNoneNearer : LinkKind → List ContinuationFrame → ℕ → ℕ → Type 0
+IsNoneNearer kind items low high = (i : ℕ) (w : ContinuationFrame) → low ≤ i → i < high → slice_get items i ≡ Some w → next_of kind w ≡ None
 
 -- the innermost frame, among the first so many, that links things of that kind, and its link, at most its place
-pub record IsNearest (kind : Kind) (items : List Frame) (link : ℕ) (frame : Frame) (behind : ℕ) : Type 0 where
+pub record IsNearest (kind : LinkKind) (items : List ContinuationFrame) (link : ℕ) (frame : ContinuationFrame) (behind : ℕ) : Type 0 where
   pub place : ℕ
   pub there : slice_get items place ≡ Some frame
   pub below : place < link

@@ -18,7 +18,7 @@ pub record IsGranted (old new : Machine) (heap stack : ℕ) : Type 0 where
   pub state_is : (names : List (List ℕ)) (b : Beside) → requested (limit_of old.given.limit) heap stack (state names old b) ≡ gives nil (state names new b)
 
 -- they do not fit: the outcome is what comes, which is Full, and all else is as it was
-pub record IsRefused (old new : Machine) (heap stack : ℕ) : Type 0 where
+pub record IsRequestRefused (old new : Machine) (heap stack : ℕ) : Type 0 where
   pub outcome : Outcome
   pub asked : ℕ
   pub left : ℕ
@@ -28,19 +28,19 @@ pub record IsRefused (old new : Machine) (heap stack : ℕ) : Type 0 where
 
 abbrev pub IsAsked : Machine → Machine → (heap stack : ℕ) → (granted : Bool) → Type 0
 IsAsked old new heap stack true = IsGranted old new heap stack
-IsAsked old new heap stack false = IsRefused old new heap stack
+IsAsked old new heap stack false = IsRequestRefused old new heap stack
 
 -- the same for several requests one after another, which come to that
-pub record IsDone (old new : Machine) (f : List (List ℕ) → FlatState → FlatEvaluated) : Type 0 where
+pub record AreGranted (old new : Machine) (f : List (List ℕ) → FlatState → FlatEvaluated) : Type 0 where
   pub same : new ≡ record old { store = new.store }
   pub state_is : (names : List (List ℕ)) (b : Beside) → f names (state names old b) ≡ gives nil (state names new b)
 
-pub record IsStopped (old new : Machine) (f : List (List ℕ) → FlatState → FlatEvaluated) : Type 0 where
+pub record AreRefused (old new : Machine) (f : List (List ℕ) → FlatState → FlatEvaluated) : Type 0 where
   pub asked : ℕ
   pub left : ℕ
   pub same : new ≡ record old { control = ComeTo (Full asked left); store = new.store }
   pub state_is : (names : List (List ℕ)) (b : Beside) → f names (state names old b) ≡ record { outcome = full asked left; state = state names new b }
 
 abbrev pub IsTried : Machine → Machine → (List (List ℕ) → FlatState → FlatEvaluated) → (granted : Bool) → Type 0
-IsTried old new f true = IsDone old new f
-IsTried old new f false = IsStopped old new f
+IsTried old new f true = AreGranted old new f
+IsTried old new f false = AreRefused old new f

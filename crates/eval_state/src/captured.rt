@@ -1,7 +1,7 @@
 // What the function of the activation that runs captured.
 
 ghost use Rattle.std.specs.Prelude.{◌≡◌, List, ℕ, map, slice_get, option_copied};
-ghost use Rattle.flat_language.specs.FlatState.{value_in, cell_in, exit_in, method_in};
+ghost use Rattle.flat_language.specs.FlatState.{value_in, box_in, exit_in, method_in};
 ghost use Rattle.eval_store.specs.Words.{value_of_word, captured_of, called_or_none};
 ghost use Rattle.eval_state.specs.Slots.{captured_list};
 
@@ -25,20 +25,20 @@ impl<'p> Machine<'p> {
     {
         match self.captured(number) {
             Some(Captured::Value(word)) => *word,
-            Some(Captured::Cell(_)) => Word::Nil,
+            Some(Captured::Boxed(_)) => Word::Nil,
             Some(Captured::Exit(_)) => Word::Nil,
             Some(Captured::Method(_)) => Word::Nil,
             None => Word::Nil,
         }
     }
 
-    /// A cell that was captured.
-    pub fn captured_cell(&self, number: usize) -> Option<usize>
-        ensures { (names : List (List ℕ)) → result ≡ cell_in (slice_get (map (captured_of names) (captured_list self.now.current)) number) }
+    /// A box that was captured.
+    pub fn captured_box(&self, number: usize) -> Option<usize>
+        ensures { (names : List (List ℕ)) → result ≡ box_in (slice_get (map (captured_of names) (captured_list self.now.current)) number) }
     {
         match self.captured(number) {
             Some(Captured::Value(_)) => None,
-            Some(Captured::Cell(cell)) => *cell,
+            Some(Captured::Boxed(boxed)) => *boxed,
             Some(Captured::Exit(_)) => None,
             Some(Captured::Method(_)) => None,
             None => None,
@@ -51,7 +51,7 @@ impl<'p> Machine<'p> {
     {
         match self.captured(number) {
             Some(Captured::Value(_)) => None,
-            Some(Captured::Cell(_)) => None,
+            Some(Captured::Boxed(_)) => None,
             Some(Captured::Exit(exit)) => *exit,
             Some(Captured::Method(_)) => None,
             None => None,
@@ -64,7 +64,7 @@ impl<'p> Machine<'p> {
     {
         match self.captured(number) {
             Some(Captured::Value(_)) => None,
-            Some(Captured::Cell(_)) => None,
+            Some(Captured::Boxed(_)) => None,
             Some(Captured::Exit(_)) => None,
             Some(Captured::Method(called)) => called.as_ref(),
             None => None,

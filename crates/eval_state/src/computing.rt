@@ -1,14 +1,14 @@
 // Primitives that read and write no stream compute with the last operands, which go.
 
 ghost use Rattle.std.specs.Prelude.{◌≡◌, ◌-◌, false, ℕ, length, Ok, Err, OnOk};
-ghost use Rattle.eval_state.specs.declared.situation.Around.{Around};
+ghost use Rattle.eval_state.specs.declared.situation.DynamicLinks.{DynamicLinks};
 ghost use Rattle.eval_primitives.specs.Groups.{is_streaming};
-ghost use Rattle.eval_state.specs.View.{Steps, top, frames, state, surroundings};
-ghost use Rattle.eval_state.specs.Computing.{IsAnswered, IsTold, computed};
+ghost use Rattle.eval_state.specs.View.{StepsTo, top, frames, state, dynamic_context};
+ghost use Rattle.eval_state.specs.Computing.{IsAnswered, GoesOnWithAnswer, computed};
 
 use crate::frame::Outcome;
 use crate::machine::Machine;
-use crate::situation::Around;
+use crate::situation::DynamicLinks;
 use base::NoMemory;
 use eval_primitives::Answer;
 use eval_store::Halt;
@@ -20,10 +20,10 @@ pub fn compute<'p>(
     which: Primitive,
     count: usize,
     level: u64,
-    around: Around,
+    around: DynamicLinks,
 ) -> Result<(), NoMemory>
     requires { is_streaming which ≡ false }
-    ensures { OnOk result (Steps machine.old machine.new (λ names s b. computed s which (top names machine.old count) level (surroundings names machine.old around) (frames names machine.old count) (state names machine.old b))) }
+    ensures { OnOk result (StepsTo machine.old machine.new (λ names s b. computed s which (top names machine.old count) level (dynamic_context names machine.old around) (frames names machine.old count) (state names machine.old b))) }
 {
     let answer = answer_of(machine, which, count);
     machine.drop_operands(count);
@@ -53,9 +53,9 @@ fn tell_result<'p>(
     machine: &mut Machine<'p>,
     answer: Result<Answer, Halt>,
     level: u64,
-    around: Around,
+    around: DynamicLinks,
 ) -> Result<(), NoMemory>
-    ensures { OnOk result (IsTold machine.old machine.new answer level around) }
+    ensures { OnOk result (GoesOnWithAnswer machine.old machine.new answer level around) }
 {
     match answer {
         Ok(answer) => tell(machine, answer, level, around),
@@ -68,9 +68,9 @@ pub fn tell<'p>(
     machine: &mut Machine<'p>,
     answer: Answer,
     level: u64,
-    around: Around,
+    around: DynamicLinks,
 ) -> Result<(), NoMemory>
-    ensures { OnOk result (IsTold machine.old machine.new (Ok answer) level around) }
+    ensures { OnOk result (GoesOnWithAnswer machine.old machine.new (Ok answer) level around) }
 {
     match answer {
         Answer::Gives(word) => {
@@ -84,7 +84,7 @@ pub fn tell<'p>(
 
 // There is no room, or counts pass 64 bits.
 fn tell_halt<'p>(machine: &mut Machine<'p>, halt: Halt) -> Result<(), NoMemory>
-    ensures { OnOk result ((level : ℕ) (around : Around) → IsTold machine.old machine.new (Err halt) level around) }
+    ensures { OnOk result ((level : ℕ) (around : DynamicLinks) → GoesOnWithAnswer machine.old machine.new (Err halt) level around) }
 {
     match halt {
         Halt::Full { asked, left } => {

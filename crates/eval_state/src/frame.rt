@@ -1,6 +1,6 @@
 // The frames of the machine's stack: what waits, and for what.
 
-use crate::situation::{Activation, Around, Situation};
+use crate::situation::{Activation, DynamicLinks, Situation};
 use base::{ItemList, Name, Place};
 use eval_store::{Arguments, Rest, Word};
 use flat_language::{
@@ -12,7 +12,7 @@ use std::rc::Rc;
 
 /// What is done with arguments: the function of a name is applied to them, the first to the others, or a primitive computes.
 #[derive(Clone, Copy)]
-pub enum Operation {
+pub enum Operator {
     CallName(Name),
     CallFirst,
     Compute(Primitive),
@@ -36,7 +36,7 @@ pub enum Outcome {
 
 /// A frame. Forms that wait say by a number how far a list is; the values so far are on top of the operands.
 #[derive(Drop)]
-pub enum Frame<'p> {
+pub enum ContinuationFrame<'p> {
     SetLocal(VariablePlace, Situation),
     SetGlobal(Name, Situation),
     DefGlobal(Name),
@@ -46,7 +46,7 @@ pub enum Frame<'p> {
     Clause(&'p FlatClauseList, usize, Situation),
     /// The binding, argument or dynamic binding whose value is evaluated.
     Binding(&'p FlatBindingList, usize, &'p FlatCore, Situation),
-    Argument(Operation, &'p FlatCoreList, usize, Situation),
+    Argument(Operator, &'p FlatCoreList, usize, Situation),
     DynamicValue(&'p FlatDynBindings, usize, &'p FlatCore, Situation),
     AppliedFunction(&'p FlatCore, Situation),
     AppliedList(Word, Situation),
@@ -67,12 +67,12 @@ pub enum Frame<'p> {
     /// A value is passed over, and what was there before comes again.
     Kept(Outcome),
     /// Methods one after another: those from that one on are left.
-    Methods(&'p ItemList<ProcedureId>, usize, Rc<Arguments>, u64, Around),
+    Methods(&'p ItemList<ProcedureId>, usize, Rc<Arguments>, u64, DynamicLinks),
     /// The before methods of a chain, behind which its first primary method comes.
-    BeforeMethods(Rest<'p>, Rc<Arguments>, u64, Around),
+    BeforeMethods(Rest<'p>, Rc<Arguments>, u64, DynamicLinks),
     /// The first primary method of a chain, behind which its after methods come.
-    PrimaryMethod(Rest<'p>, Rc<Arguments>, u64, Around),
-    HandlerReturn(u64, Around),
+    PrimaryMethod(Rest<'p>, Rc<Arguments>, u64, DynamicLinks),
+    HandlerReturn(u64, DynamicLinks),
     /// A main form, with the words of the stack before it.
     MainForm(u64),
     /// The main forms from that one on are left. The exit of the program's end.

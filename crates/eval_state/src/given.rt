@@ -1,7 +1,7 @@
 // What a run is given and does not change.
 
 ghost use Rattle.std.specs.Prelude.{◌≡◌, ◌+◌, ◌<◌, ◌^◌, List, ℕ};
-ghost use Rattle.lang_meaning.specs.Layout.{class_value};
+ghost use Rattle.lang_meaning.specs.InitialHeap.{class_value};
 ghost use Rattle.lang_meaning.specs.Primitives.{instance_words};
 ghost use Rattle.flat_language.specs.FlatNodes.{tables};
 ghost use Rattle.eval_store.specs.Words.{value_of_word};
@@ -9,7 +9,7 @@ ghost use Rattle.eval_state.specs.View.{IsGiven};
 
 use crate::sizes::Sizes;
 use eval_primitives::Primitives;
-use eval_store::{Layout, Spellings, Word};
+use eval_store::{InitialHeap, Spellings, Word};
 use flat_language::FlatProgram;
 use lang_dispatch::Tables;
 use lang_meaning::ClassId;
@@ -22,7 +22,7 @@ pub struct Given<'p> {
     pub alloc: Global,
     pub program: &'p FlatProgram,
     pub spellings: Spellings,
-    pub layout: &'p Layout,
+    pub layout: &'p InitialHeap,
     pub primitives: &'p Primitives<'p>,
     pub sizes: &'p Sizes,
     pub tables: &'p Tables,

@@ -3,14 +3,14 @@
 ghost use Rattle.std.specs.Prelude.{◌≡◌, OnOk, OnErr, IfOk, true, false, [], ◌∷◌, ◌-◌, length};
 ghost use Rattle.lang_meaning.specs.State.{value, full, more};
 ghost use Rattle.flat_language.specs.FlatState.{charged};
-ghost use Rattle.eval_machine.specs.Moment.{moment, evaluate, come_to, signals};
+ghost use Rattle.eval_machine.specs.Configuration.{configuration, evaluate, come_to, signals};
 ghost use Rattle.eval_store.specs.Words.{value_of_word};
 ghost use Rattle.eval_state.specs.Frames.{outcome_of};
-ghost use Rattle.eval_state.specs.View.{Steps, IsCharged, IsPlain, at, frames, state, waiting};
+ghost use Rattle.eval_state.specs.View.{StepsTo, IsCharged, OnlyWaits, at, frames, state, waiting_frame_of};
 
-use crate::frame::{Frame, Outcome};
+use crate::frame::{ContinuationFrame, Outcome};
 use crate::given::Given;
-use crate::situation::{Activation, Around, Situation};
+use crate::situation::{Activation, DynamicLinks, Situation};
 use crate::slot::Slot;
 use base::NoMemory;
 use eval_store::{Halt, Store, Word};
@@ -26,7 +26,7 @@ pub enum Control<'p> {
         condition: Word,
         mark: Word,
         level: u64,
-        around: Around,
+        around: DynamicLinks,
     },
     ComeTo(Outcome),
 }
@@ -36,7 +36,7 @@ pub enum Control<'p> {
 pub struct Machine<'p> {
     pub given: Given<'p>,
     pub control: Control<'p>,
-    pub frames: Vec<Frame<'p>>,
+    pub frames: Vec<ContinuationFrame<'p>>,
     pub operands: Vec<Word>,
     pub slots: Vec<Slot>,
     pub current: Activation<'p>,
@@ -46,21 +46,21 @@ pub struct Machine<'p> {
 impl<'p> Machine<'p> {
     /// An outcome goes into the innermost frame.
     pub fn come_to(&mut self, outcome: Outcome)
-        ensures { Steps self.old self.new (λ names s b. moment (come_to (outcome_of names outcome)) (frames names self.old 0) (state names self.old b)) }
+        ensures { StepsTo self.old self.new (λ names s b. configuration (come_to (outcome_of names outcome)) (frames names self.old 0) (state names self.old b)) }
     {
         self.control = Control::ComeTo(outcome);
     }
 
     /// A value goes into the innermost frame, and so many operands go.
     pub fn gives(&mut self, word: Word)
-        ensures { Steps self.old self.new (λ names s b. moment (come_to (value (value_of_word names word))) (frames names self.old 0) (state names self.old b)) }
+        ensures { StepsTo self.old self.new (λ names s b. configuration (come_to (value (value_of_word names word))) (frames names self.old 0) (state names self.old b)) }
     {
         self.control = Control::ComeTo(Outcome::Value(word));
     }
 
     /// A form is evaluated.
     pub fn evaluate(&mut self, form: &'p FlatCore, situation: Situation)
-        ensures { Steps self.old self.new (λ names s b. moment (evaluate form.now (at names self.old situation)) (frames names self.old 0) (state names self.old b)) }
+        ensures { StepsTo self.old self.new (λ names s b. configuration (evaluate form.now (at names self.old situation)) (frames names self.old 0) (state names self.old b)) }
     {
         self.control = Control::Evaluate(form, situation);
     }
@@ -69,12 +69,12 @@ impl<'p> Machine<'p> {
     #[tactic(auto, using(crate::proofs::Pushes::pushed, crate::proofs::Pushes::stays))]
     pub fn wait(
         &mut self,
-        frame: Frame<'p>,
+        frame: ContinuationFrame<'p>,
         form: &'p FlatCore,
         situation: Situation,
     ) -> Result<(), NoMemory>
-        requires { IsPlain frame ≡ true }
-        ensures { OnOk result (Steps self.old self.new (λ names s b. moment (evaluate form.now (at names self.old situation)) (waiting names self.old frame.entry ∷ frames names self.old 0) (state names self.old b))) }
+        requires { OnlyWaits frame ≡ true }
+        ensures { OnOk result (StepsTo self.old self.new (λ names s b. configuration (evaluate form.now (at names self.old situation)) (waiting_frame_of names self.old frame.entry ∷ frames names self.old 0) (state names self.old b))) }
     {
         self.push_frame(frame)?;
         self.control = Control::Evaluate(form, situation);

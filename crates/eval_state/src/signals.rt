@@ -4,10 +4,10 @@ ghost use Rattle.std.specs.Prelude.{◌≡◌, ◌∷◌, [], OnOk, IfOk, map, S
 ghost use Rattle.lang_meaning.specs.Lookup.{text};
 ghost use Rattle.eval_store.specs.Words.{value_of_word, values_of};
 ghost use Rattle.eval_machine.specs.Applications.{signal_class, signal_domain, signal_undefined, signal_unbound};
-ghost use Rattle.eval_state.specs.View.{Steps, frames, state, surroundings};
+ghost use Rattle.eval_state.specs.View.{StepsTo, frames, state, dynamic_context};
 
 use crate::machine::{Control, Machine};
-use crate::situation::Around;
+use crate::situation::DynamicLinks;
 use base::{ItemList, Name, NoMemory};
 use eval_store::{Instance, Object, Slots, Word};
 use lang_meaning::ClassId;
@@ -39,9 +39,9 @@ impl<'p> Machine<'p> {
         class: ClassId,
         words: &[Word],
         level: u64,
-        around: Around,
+        around: DynamicLinks,
     ) -> Result<(), NoMemory>
-        ensures { OnOk result (Steps self.old self.new (λ names s b. signal_class s class (values_of names words.now) level (surroundings names self.old around) (frames names self.old 0) (state names self.old b))) }
+        ensures { OnOk result (StepsTo self.old self.new (λ names s b. signal_class s class (values_of names words.now) level (dynamic_context names self.old around) (frames names self.old 0) (state names self.old b))) }
     {
         let slots = slots_with(self.given.alloc, words)?;
         let Ok(count) = u32::try_from(words.len()) else {
@@ -69,9 +69,9 @@ impl<'p> Machine<'p> {
         &mut self,
         class: ClassId,
         level: u64,
-        around: Around,
+        around: DynamicLinks,
     ) -> Result<(), NoMemory>
-        ensures { OnOk result (Steps self.old self.new (λ names s b. signal_class s class [] level (surroundings names self.old around) (frames names self.old 0) (state names self.old b))) }
+        ensures { OnOk result (StepsTo self.old self.new (λ names s b. signal_class s class [] level (dynamic_context names self.old around) (frames names self.old 0) (state names self.old b))) }
     {
         self.signal(class, &[], level, around)
     }
@@ -82,9 +82,9 @@ impl<'p> Machine<'p> {
         word: Word,
         expected: ClassId,
         level: u64,
-        around: Around,
+        around: DynamicLinks,
     ) -> Result<(), NoMemory>
-        ensures { OnOk result (Steps self.old self.new (λ names s b. signal_domain s (value_of_word names word) expected level (surroundings names self.old around) (frames names self.old 0) (state names self.old b))) }
+        ensures { OnOk result (StepsTo self.old self.new (λ names s b. signal_domain s (value_of_word names word) expected level (dynamic_context names self.old around) (frames names self.old 0) (state names self.old b))) }
     {
         let class = self.given.class_word(expected);
         self.signal(DOMAIN_ERROR, &[word, class], level, around)
@@ -95,16 +95,21 @@ impl<'p> Machine<'p> {
         &mut self,
         name: Name,
         level: u64,
-        around: Around,
+        around: DynamicLinks,
     ) -> Result<(), NoMemory>
-        ensures { OnOk result (Steps self.old self.new (λ names s b. signal_undefined s (text names name.0) level (surroundings names self.old around) (frames names self.old 0) (state names self.old b))) }
+        ensures { OnOk result (StepsTo self.old self.new (λ names s b. signal_undefined s (text names name.0) level (dynamic_context names self.old around) (frames names self.old 0) (state names self.old b))) }
     {
         self.signal(UNDEFINED_FUNCTION, &[Word::Symbol(name)], level, around)
     }
 
     /// A variable has no value.
-    pub fn signal_unbound(&mut self, name: Name, level: u64, around: Around) -> Result<(), NoMemory>
-        ensures { OnOk result (Steps self.old self.new (λ names s b. signal_unbound s (text names name.0) level (surroundings names self.old around) (frames names self.old 0) (state names self.old b))) }
+    pub fn signal_unbound(
+        &mut self,
+        name: Name,
+        level: u64,
+        around: DynamicLinks,
+    ) -> Result<(), NoMemory>
+        ensures { OnOk result (StepsTo self.old self.new (λ names s b. signal_unbound s (text names name.0) level (dynamic_context names self.old around) (frames names self.old 0) (state names self.old b))) }
     {
         self.signal(UNBOUND_VARIABLE, &[Word::Symbol(name)], level, around)
     }

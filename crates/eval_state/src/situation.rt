@@ -7,7 +7,7 @@ use std::rc::Rc;
 /// What surrounds an evaluation: links to the frames that make exits, handlers and dynamic bindings, and the site. A link is a
 /// number of frames: the innermost one that links among the first so many is meant.
 #[derive(Clone, Copy)]
-pub struct Around {
+pub struct DynamicLinks {
     pub exits: usize,
     pub handlers: usize,
     pub bindings: usize,
@@ -19,7 +19,7 @@ pub struct Around {
 pub struct Situation {
     pub level: u64,
     pub own: usize,
-    pub around: Around,
+    pub around: DynamicLinks,
 }
 
 /// An activation: what its function captured, what its method was called with, and how many slots it has.

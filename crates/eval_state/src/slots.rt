@@ -1,7 +1,7 @@
 // The slots of the activation that runs.
 
 ghost use Rattle.std.specs.Prelude.{◌≡◌, ◌-◌, List, ℕ, length, slice_get, slice_set};
-ghost use Rattle.flat_language.specs.FlatState.{value_held, cell_held};
+ghost use Rattle.flat_language.specs.FlatState.{value_held, box_held};
 ghost use Rattle.eval_store.specs.Words.{value_of_word};
 ghost use Rattle.eval_state.specs.Frames.{last_of, slot_of, frame_slots};
 ghost use Rattle.eval_state.specs.Slots.{IsChanged};
@@ -47,18 +47,18 @@ impl<'p> Machine<'p> {
     {
         match self.slot(number) {
             Some(Slot::Value(word)) => word,
-            Some(Slot::Cell(_)) => Word::Nil,
+            Some(Slot::Boxed(_)) => Word::Nil,
             None => Word::Nil,
         }
     }
 
-    /// The cell of a slot.
-    pub fn slot_cell(&self, number: usize) -> Option<usize>
-        ensures { (names : List (List ℕ)) → result ≡ cell_held (slice_get (frame_slots names self.now.current self.now.slots.items) number) }
+    /// The box of a slot.
+    pub fn slot_box(&self, number: usize) -> Option<usize>
+        ensures { (names : List (List ℕ)) → result ≡ box_held (slice_get (frame_slots names self.now.current self.now.slots.items) number) }
     {
         match self.slot(number) {
             Some(Slot::Value(_)) => None,
-            Some(Slot::Cell(cell)) => Some(cell),
+            Some(Slot::Boxed(boxed)) => Some(boxed),
             None => None,
         }
     }

@@ -1,13 +1,13 @@
-// New variables of the activation that runs, and the words of their cells.
+// New variables of the activation that runs, and the words of their boxes.
 
 ghost use Rattle.std.specs.Prelude.{◌≡◌, ◌≤◌, ◌+◌, ◌++◌, ◌∷◌, [], OnOk, IfOk, length, slice_get};
 ghost use Rattle.lang_meaning.specs.Values.{nil};
 ghost use Rattle.flat_language.specs.FlatMeaning.{binding_homes};
 ghost use Rattle.flat_language.specs.FlatState.{gives, charged, request};
 ghost use Rattle.flat_language.specs.model.View.{bindings_of};
-ghost use Rattle.eval_machine.specs.Applications.{celled};
+ghost use Rattle.eval_machine.specs.Applications.{boxes_requested};
 ghost use Rattle.eval_store.specs.View.{limit_of};
-ghost use Rattle.eval_state.specs.Doing.{IsDone};
+ghost use Rattle.eval_state.specs.Doing.{IsEffectDone};
 ghost use Rattle.eval_state.specs.Frames.{last_of};
 ghost use Rattle.eval_state.specs.Variables.{IsSlotted, AreSlotted};
 
@@ -18,9 +18,9 @@ use eval_store::Word;
 use flat_language::{FlatBindingList, Home};
 
 impl<'p> Machine<'p> {
-    /// A word and a unit for each variable of bindings that lives in a cell; whether they are granted.
-    pub fn take_binding_cells(&mut self, list: &FlatBindingList) -> Result<bool, NoMemory>
-        ensures { IfOk result (IsDone self.old self.new (λ names z. celled (limit_of self.old.given.limit) (binding_homes (bindings_of list.now)) z)) }
+    /// A word and a unit for each variable of bindings that lives in a box; whether they are granted.
+    pub fn take_binding_boxes(&mut self, list: &FlatBindingList) -> Result<bool, NoMemory>
+        ensures { IfOk result (IsEffectDone self.old self.new (λ names z. boxes_requested (limit_of self.old.given.limit) (binding_homes (bindings_of list.now)) z)) }
     {
         for at in 0..list.len() {
             let Some(home) = binding_home(list, at) else {
@@ -33,19 +33,19 @@ impl<'p> Machine<'p> {
         Ok(true)
     }
 
-    /// A word and a unit for a variable, where it lives in a cell; whether they are granted.
+    /// A word and a unit for a variable, where it lives in a box; whether they are granted.
     pub fn take_home(&mut self, home: Home) -> Result<bool, NoMemory>
-        ensures { IfOk result (IsDone self.old self.new (λ names z. celled (limit_of self.old.given.limit) (home ∷ []) z)) }
+        ensures { IfOk result (IsEffectDone self.old self.new (λ names z. boxes_requested (limit_of self.old.given.limit) (home ∷ []) z)) }
     {
         match home {
             Home::Slot => Ok(true),
-            Home::Cell => self.take_heap(1),
+            Home::Boxed => self.take_heap(1),
         }
     }
 
     /// So many words of the heap are asked for, and as many units counted; whether they are granted.
     pub fn take_heap(&mut self, words: u64) -> Result<bool, NoMemory>
-        ensures { IfOk result (IsDone self.old self.new (λ names z. request (limit_of self.old.given.limit) words 0 z (λ entered. gives nil (charged words entered)))) }
+        ensures { IfOk result (IsEffectDone self.old self.new (λ names z. request (limit_of self.old.given.limit) words 0 z (λ entered. gives nil (charged words entered)))) }
     {
         if !self.ask(words, 0)? {
             return Ok(false);
@@ -76,9 +76,9 @@ impl<'p> Machine<'p> {
     {
         match home {
             Home::Slot => self.add_slot(Slot::Value(word)),
-            Home::Cell => {
+            Home::Boxed => {
                 let number = self.store.add_variable(word)?;
-                self.add_slot(Slot::Cell(number))
+                self.add_slot(Slot::Boxed(number))
             }
         }
     }

@@ -6,25 +6,25 @@ use Rattle.base.specs.declared.datum.Name.{Name}
 use Rattle.flat_language.specs.FlatForm.{FlatForm}
 use Rattle.eval_store.specs.declared.called.Rest.{Rest}
 use Rattle.eval_store.specs.declared.word.Word.{Word}
-use Rattle.eval_state.specs.declared.situation.Around.{Around}
+use Rattle.eval_state.specs.declared.situation.DynamicLinks.{DynamicLinks}
 use Rattle.eval_state.specs.declared.situation.Situation.{Situation}
-use Rattle.eval_state.specs.declared.frame.Operation.{Operation}
-use Rattle.eval_state.specs.declared.frame.Frame.{Frame}
-use Rattle.eval_state.specs.declared.frame.Frame.TheVariants as frame
+use Rattle.eval_state.specs.declared.frame.Operator.{Operator}
+use Rattle.eval_state.specs.declared.frame.ContinuationFrame.{ContinuationFrame}
+use Rattle.eval_state.specs.declared.frame.ContinuationFrame.TheVariants as frame
 use Rattle.eval_control.specs.Passing.{WantsMore}
 
-pub left_alone : (w : Frame)
+pub left_alone : (w : ContinuationFrame)
     → ((a : Name) (b : Situation) → w ≡ frame.SetGlobal a b → ⊥)
     → ((a : Name) → w ≡ frame.DefGlobal a → ⊥)
-    → ((a : Operation) (b : Bor (List FlatForm)) (c : ℕ) (d : Situation) → w ≡ frame.Argument a b c d → ⊥)
+    → ((a : Operator) (b : Bor (List FlatForm)) (c : ℕ) (d : Situation) → w ≡ frame.Argument a b c d → ⊥)
     → ((a : Word) (b : Situation) → w ≡ frame.AppliedList a b → ⊥)
     → ((a : Name) (b : Situation) → w ≡ frame.SetDynamic a b → ⊥)
     → ((a : Name) → w ≡ frame.DefDynamic a → ⊥)
     → ((a : Bor FlatForm) (b : Situation) → w ≡ frame.HandlerValue a b → ⊥)
     → ((a : Word) (b : Situation) → w ≡ frame.SignalMark a b → ⊥)
-    → ((a : Bor (List ℕ)) (b : ℕ) (c : Rc (ItemList Word) Global) (d : ℕ) (e : Around) → w ≡ frame.Methods a b c d e → ⊥)
-    → ((a : Rest) (b : Rc (ItemList Word) Global) (c : ℕ) (d : Around) → w ≡ frame.BeforeMethods a b c d → ⊥)
-    → ((a : Rest) (b : Rc (ItemList Word) Global) (c : ℕ) (d : Around) → w ≡ frame.PrimaryMethod a b c d → ⊥)
+    → ((a : Bor (List ℕ)) (b : ℕ) (c : Rc (ItemList Word) Global) (d : ℕ) (e : DynamicLinks) → w ≡ frame.Methods a b c d e → ⊥)
+    → ((a : Rest) (b : Rc (ItemList Word) Global) (c : ℕ) (d : DynamicLinks) → w ≡ frame.BeforeMethods a b c d → ⊥)
+    → ((a : Rest) (b : Rc (ItemList Word) Global) (c : ℕ) (d : DynamicLinks) → w ≡ frame.PrimaryMethod a b c d → ⊥)
     → WantsMore w ≡ false
 left_alone (frame.SetGlobal n s) not_0 not_1 not_2 not_3 not_4 not_5 not_6 not_7 not_8 not_9 not_10 = absurd (not_0 n s refl)
 left_alone (frame.DefGlobal n) not_0 not_1 not_2 not_3 not_4 not_5 not_6 not_7 not_8 not_9 not_10 = absurd (not_1 n refl)

@@ -8,10 +8,10 @@ use Rattle.flat_language.specs.declared.flat_core.FlatCoreForm.{FlatCoreForm}
 use Rattle.flat_language.specs.declared.flat_core.FlatCoreForm.TheVariants as kind
 use Rattle.flat_language.specs.FlatForm.{FlatForm, FlatForms}
 use Rattle.flat_language.specs.model.View.{view_form}
-use Rattle.eval_machine.specs.Moment.{Operation}
+use Rattle.eval_machine.specs.Configuration.{Operator}
 use Rattle.eval_machine.specs.Step.{arguments_step, operation_step}
 use Rattle.eval_store.specs.Words.{values_of}
-use Rattle.eval_state.specs.declared.frame.Operation.{Operation as Doing}
+use Rattle.eval_state.specs.declared.frame.Operator.{Operator as Doing}
 use Rattle.eval_state.specs.declared.situation.Situation.{Situation}
 use Rattle.eval_state.specs.Frames.{operation_of}
 use Rattle.eval_state.specs.declared.machine.Machine.{Machine}
@@ -48,7 +48,7 @@ runs_begun r old new p f g e x = subst (λ k. OnOk r (Runs old new (λ names s b
 none_on_top : (names : List (List ℕ)) (m : Machine) → top names m 0 ≡ []
 none_on_top names m = ap (values_of names) (done m.operands.items (length m.operands.items - 0) (omega arith))
 
-pub arguments_begun : {T E : Type 0} (r : Result T E) (old new : Evaluator) (p : Situation) (o : Operation) (fs : FlatForms)
+pub arguments_begun : {T E : Type 0} (r : Result T E) (old new : Evaluator) (p : Situation) (o : Operator) (fs : FlatForms)
     → OnOk r (Runs old new (λ names s b. arguments_step s o fs (top names old.machine 0) (at names old.machine p) (frames names old.machine 0) (state names old.machine b)))
     → OnOk r (Runs old new (λ names s b. arguments_step s o fs [] (at names old.machine p) (frames names old.machine 0) (state names old.machine b)))
 arguments_begun r old new p o fs x =

@@ -1,9 +1,9 @@
 -- What the machine alone does, the evaluator does.
 use Rattle.std.proofs.Common.{◌≡◌, ℕ, List, Result, Ok, Err, OnOk, ap, sym, subst}
-use Rattle.eval_machine.specs.Moment.{Setting, Moment}
+use Rattle.eval_machine.specs.Configuration.{Setting, Configuration}
 use Rattle.eval_store.specs.View.{Beside}
 use Rattle.eval_state.specs.declared.machine.Machine.{Machine}
-use Rattle.eval_state.specs.View.{Steps}
+use Rattle.eval_state.specs.View.{StepsTo}
 use Rattle.eval_step.specs.declared.evaluator.Evaluator.{Evaluator}
 use Rattle.eval_step.specs.Runs.{Stands, Runs}
 
@@ -19,8 +19,8 @@ beside_another names e m written unread b s = record {
   ended = s.ended;
 }
 
-pub lifted : (old new : Evaluator) (f : List (List ℕ) → Setting → Beside → Moment) → new ≡ record old { machine = new.machine }
-    → Steps old.machine new.machine f → Runs old new f
+pub lifted : (old new : Evaluator) (f : List (List ℕ) → Setting → Beside → Configuration) → new ≡ record old { machine = new.machine }
+    → StepsTo old.machine new.machine f → Runs old new f
 lifted old new f same x = record {
   given = x.given;
   ended = ap (λ (e : Evaluator). e.ended) same;
@@ -31,7 +31,7 @@ lifted old new f same x = record {
   };
 }
 
-pub lifted_ok : {T E : Type 0} (r : Result T E) (old new : Evaluator) (f : List (List ℕ) → Setting → Beside → Moment) → new ≡ record old { machine = new.machine }
-    → OnOk r (Steps old.machine new.machine f) → OnOk r (Runs old new f)
+pub lifted_ok : {T E : Type 0} (r : Result T E) (old new : Evaluator) (f : List (List ℕ) → Setting → Beside → Configuration) → new ≡ record old { machine = new.machine }
+    → OnOk r (StepsTo old.machine new.machine f) → OnOk r (Runs old new f)
 lifted_ok (Ok x) old new f same s = lifted old new f same s
 lifted_ok (Err e) old new f same s = s

@@ -5,7 +5,7 @@ use Rattle.lang_meaning.specs.Lookup.{text, under_text}
 use Rattle.lang_meaning.specs.Values.{Value}
 use Rattle.flat_language.specs.FlatState.{gives, on_state}
 use Rattle.eval_machine.specs.Applications.{signal_unbound}
-use Rattle.eval_machine.specs.Moment.{Setting, Moment, Step, ended, some_or}
+use Rattle.eval_machine.specs.Configuration.{Setting, Configuration, Transition, ended, some_or}
 use Rattle.eval_machine.specs.Step.{value_step}
 use Rattle.eval_store.specs.declared.word.Word.{Word}
 use Rattle.eval_store.specs.declared.word.Word.TheVariants.{Symbol}
@@ -16,7 +16,7 @@ use Rattle.eval_store.specs.View.{Beside}
 use Rattle.eval_state.specs.declared.machine.Machine.{Machine}
 use Rattle.eval_state.specs.declared.situation.Situation.{Situation}
 use Rattle.eval_state.specs.Frames.{situation_in}
-use Rattle.eval_state.specs.View.{Steps, IsGiven, setting_of, at, frames, state, surroundings}
+use Rattle.eval_state.specs.View.{StepsTo, IsGiven, setting_of, at, frames, state, dynamic_context}
 use Rattle.eval_step.specs.declared.evaluator.Evaluator.{Evaluator}
 use Rattle.eval_step.specs.declared.named.Table.{Table}
 use Rattle.eval_step.specs.declared.named.Table.TheVariants.{Globals, Dynamics}
@@ -25,7 +25,7 @@ use Rattle.eval_step.specs.Runs.{Stands, Runs}
 use Rattle.eval_step.proofs.Lifting.{beside_another}
 
 -- the machine alone has gone on, and the tables say where
-pub went : (e : Evaluator) (m : Machine) (f g : List (List ℕ) → Setting → Beside → Moment) → Steps e.machine m f
+pub went : (e : Evaluator) (m : Machine) (f g : List (List ℕ) → Setting → Beside → Configuration) → StepsTo e.machine m f
     → ((names : List (List ℕ)) (written unread : List ℕ) (b : Beside) → IsGiven names e.machine.given → Stands names e written unread b
     → f names (setting_of names e.machine.given) b ≡ g names (setting_of names e.machine.given) b)
     → Runs e (record e { machine = m }) g
@@ -40,13 +40,13 @@ went e m f g s same = record {
 }
 
 -- a table has changed too
-pub went_put : (e mid : Evaluator) (m : Machine) (table : Table) (n : ℕ) (w : Word) (f : Machine → List (List ℕ) → Setting → Beside → Moment)
-    (g : List (List ℕ) → Setting → Beside → Moment) → IsPut table n w e mid → Steps mid.machine m (f mid.machine)
+pub went_put : (e mid : Evaluator) (m : Machine) (table : Table) (n : ℕ) (w : Word) (f : Machine → List (List ℕ) → Setting → Beside → Configuration)
+    (g : List (List ℕ) → Setting → Beside → Configuration) → IsPut table n w e mid → StepsTo mid.machine m (f mid.machine)
     → ((names : List (List ℕ)) (written unread : List ℕ) (b : Beside) → Stands names e written unread b
     → f e.machine names (setting_of names e.machine.given) (with_named table n w names b) ≡ g names (setting_of names e.machine.given) b)
     → Runs e (record mid { machine = m }) g
 went_put e mid m table n w f g put s same =
-    let there : Steps e.machine m (f e.machine) = subst (λ k. Steps k m (f k)) (ap (λ (x : Evaluator). x.machine) put.same) s in
+    let there : StepsTo e.machine m (f e.machine) = subst (λ k. StepsTo k m (f k)) (ap (λ (x : Evaluator). x.machine) put.same) s in
     record {
       given = there.given;
       ended = ap (λ (x : Evaluator). x.ended) put.same;
@@ -102,9 +102,9 @@ defined Dynamics name w names m b = refl
 
 -- a name has no value: that is signalled
 pub unbound : {T E : Type 0} (r : Result T E) (e : Evaluator) (m : Machine) (n : ℕ) (q : Situation) (pairs : List (List ℕ) → Beside → List (List ℕ × Value))
-    (next : List (List ℕ) → Setting → Value → Step)
+    (next : List (List ℕ) → Setting → Value → Transition)
     → ((names : List (List ℕ)) (written unread : List ℕ) (b : Beside) → Stands names e written unread b → under_text (text names n) (pairs names b) ≡ None)
-    → OnOk r (Steps e.machine m (λ names s b. signal_unbound s (text names n) q.level (surroundings names e.machine q.around) (frames names e.machine 0)
+    → OnOk r (StepsTo e.machine m (λ names s b. signal_unbound s (text names n) q.level (dynamic_context names e.machine q.around) (frames names e.machine 0)
     (state names e.machine b)))
     → OnOk r (Runs e (record e { machine = m }) (λ names s b.
     some_or (under_text (text s.names n) (pairs names b)) (signal_unbound s (text s.names n) (at names e.machine q).level (at names e.machine q).around)
@@ -114,6 +114,6 @@ unbound (Err x) e m n q pairs next none s = tt
 unbound (Ok x) e m n q pairs next none s =
     went e m _ _ s (λ names written unread b k st.
     sym (ap (λ (o : Option Value). some_or o
-    (signal_unbound (setting_of names e.machine.given) (text names n) q.level (surroundings names e.machine q.around))
+    (signal_unbound (setting_of names e.machine.given) (text names n) q.level (dynamic_context names e.machine q.around))
     (next names (setting_of names e.machine.given)) (frames names e.machine 0) (state names e.machine b))
     (none names written unread b st)))

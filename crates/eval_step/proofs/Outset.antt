@@ -3,14 +3,14 @@ use Rattle.std.proofs.Common.{Bor, ◌≡◌, ℕ, true, false, List, [], ◌∷
 use Rattle.lang_meaning.specs.State.{value}
 use Rattle.lang_meaning.specs.Values.{nil}
 use Rattle.flat_language.specs.FlatForm.{FlatForm}
-use Rattle.eval_machine.specs.Moment.{moment, come_to, awaits, main_forms}
+use Rattle.eval_machine.specs.Configuration.{configuration, come_to, awaits, main_forms}
 use Rattle.eval_store.specs.declared.store.Store.{Store}
 use Rattle.eval_store.specs.declared.word.Word.TheVariants.{Nil}
 use Rattle.eval_store.specs.NamedValues.{Holds}
 use Rattle.eval_store.specs.Spelling.{IsSpelling}
 use Rattle.eval_store.specs.View.{Beside, seen}
-use Rattle.eval_state.specs.declared.frame.Frame.{Frame}
-use Rattle.eval_state.specs.declared.frame.Frame.TheVariants as frame
+use Rattle.eval_state.specs.declared.frame.ContinuationFrame.{ContinuationFrame}
+use Rattle.eval_state.specs.declared.frame.ContinuationFrame.TheVariants as frame
 use Rattle.eval_state.specs.declared.frame.Outcome.TheVariants.{Value}
 use Rattle.eval_state.specs.declared.given.Given.{Given}
 use Rattle.eval_state.specs.declared.slot.Slot.{Slot}
@@ -24,7 +24,7 @@ use Rattle.eval_step.specs.Runs.{Stands}
 use Rattle.eval_step.specs.Started.{IsStarted}
 
 -- a machine whose only frame has the main forms, with nothing else in it
-pub record IsFirst (given : Given) (store : Store) (level : ℕ) (m : Machine) : Type 0 where
+pub record IsInitialMachine (given : Given) (store : Store) (level : ℕ) (m : Machine) : Type 0 where
   pub given_is : m.given ≡ given
   pub control : m.control ≡ ComeTo (Value Nil)
   pub main : Bor (List FlatForm)
@@ -33,9 +33,9 @@ pub record IsFirst (given : Given) (store : Store) (level : ℕ) (m : Machine) :
   pub slots : m.slots.items ≡ []
   pub store_is : m.store ≡ store
 
-pub first_of : (given : Given) (store : Store) (level : ℕ) (m : Machine) (main : Bor (List FlatForm)) (before : List Frame)
+pub first_of : (given : Given) (store : Store) (level : ℕ) (m : Machine) (main : Bor (List FlatForm)) (before : List ContinuationFrame)
     → m.frames.items ≡ before ++ frame.MainForms level main 0 ∷ [] → before ≡ [] → main.now ≡ given.program.now.main
-    → m.given ≡ given → m.control ≡ ComeTo (Value Nil) → m.slots.items ≡ [] → m.store ≡ store → IsFirst given store level m
+    → m.given ≡ given → m.control ≡ ComeTo (Value Nil) → m.slots.items ≡ [] → m.store ≡ store → IsInitialMachine given store level m
 first_of given store level m main before pushed none main_is given_is control slots store_is = record {
   given_is = given_is;
   control = control;
@@ -46,7 +46,7 @@ first_of given store level m main before pushed none main_is given_is control sl
   store_is = store_is;
 }
 
-only_frame : (names : List (List ℕ)) (given : Given) (store : Store) (level : ℕ) (m : Machine) → IsFirst given store level m
+only_frame : (names : List (List ℕ)) (given : Given) (store : Store) (level : ℕ) (m : Machine) → IsInitialMachine given store level m
     → frames names m 0 ≡ awaits (main_forms level given.program.now.main) ∷ []
 unfolding frames_in
 only_frame names given store level m f =
@@ -57,14 +57,14 @@ only_frame names given store level m f =
     from_first [] = refl
     from_first (x ∷ xs) = refl
 
-first_state_is : (names : List (List ℕ)) (given : Given) (store : Store) (level : ℕ) (m : Machine) (b : Beside) → IsFirst given store level m
+first_state_is : (names : List (List ℕ)) (given : Given) (store : Store) (level : ℕ) (m : Machine) (b : Beside) → IsInitialMachine given store level m
     → state names m b ≡ seen names store (record b { frame = [] })
 first_state_is names given store level m b f =
     ap (λ xs. seen names m.store (record b { frame = map (slot_of names) (last_of m.current.slots xs) })) f.slots
     ∙ ap (λ xs. seen names m.store (record b { frame = map (slot_of names) xs })) (let none : List Slot = [] in done none (length none - m.current.slots) (omega arith))
     ∙ ap (λ s. seen names s (record b { frame = [] })) f.store_is
 
-pub started : (given : Given) (store : Store) (level : ℕ) (e : Evaluator) → IsFirst given store level e.machine
+pub started : (given : Given) (store : Store) (level : ℕ) (e : Evaluator) → IsInitialMachine given store level e.machine
     → ((names : List (List ℕ)) → IsSpelling names given.spellings → Holds names e.globals []) → ((names : List (List ℕ)) → IsSpelling names given.spellings → Holds names e.dynamics [])
     → e.printed.items ≡ [] → e.at_start ≡ true → e.ahead.items ≡ [] → e.ended ≡ false → IsStarted given store level e
 started given store level e f globals dynamics printed at_start ahead not_ended = record {
@@ -84,8 +84,8 @@ started given store level e f globals dynamics printed at_start ahead not_ended 
         beside = b;
         stands = stands;
         is =
-            ap (λ k. moment (control_of names e.machine k) (frames names e.machine 0) (state names e.machine b)) f.control
-            ∙ ap (λ fs. moment (come_to (value nil)) fs (state names e.machine b)) (only_frame names given store level e.machine f)
-            ∙ ap (λ z. moment (come_to (value nil)) (awaits (main_forms level given.program.now.main) ∷ []) z) (first_state_is names given store level e.machine b f ∙ laid.objects b);
+            ap (λ k. configuration (control_of names e.machine k) (frames names e.machine 0) (state names e.machine b)) f.control
+            ∙ ap (λ fs. configuration (come_to (value nil)) fs (state names e.machine b)) (only_frame names given store level e.machine f)
+            ∙ ap (λ z. configuration (come_to (value nil)) (awaits (main_forms level given.program.now.main) ∷ []) z) (first_state_is names given store level e.machine b f ∙ laid.objects b);
       };
 }

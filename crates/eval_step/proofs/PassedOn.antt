@@ -2,14 +2,14 @@
 use Rattle.std.proofs.Common.{◌≡◌, ℕ, false, List, Some, refl, ap, ◌∙◌, ◌⊎◌, ⊎_elim}
 use Rattle.lang_meaning.specs.Values.{Value}
 use Rattle.flat_language.specs.FlatState.{FlatState}
-use Rattle.eval_machine.specs.Moment.{Setting, Moment, Frame as Above, moment, come_to, then_on_from}
+use Rattle.eval_machine.specs.Configuration.{Setting, Configuration, ContinuationFrame as Above, configuration, come_to, then_on_from}
 use Rattle.eval_machine.specs.Step.{outcome_step}
 use Rattle.eval_store.specs.declared.word.Word.{Word}
 use Rattle.eval_state.specs.declared.frame.Landing.{Landing}
 use Rattle.eval_state.specs.declared.frame.Outcome.{Outcome}
 use Rattle.eval_state.specs.declared.frame.Outcome.TheVariants as outcome
-use Rattle.eval_state.specs.declared.frame.Frame.{Frame}
-use Rattle.eval_state.specs.declared.frame.Frame.TheVariants as frame
+use Rattle.eval_state.specs.declared.frame.ContinuationFrame.{ContinuationFrame}
+use Rattle.eval_state.specs.declared.frame.ContinuationFrame.TheVariants as frame
 use Rattle.eval_state.specs.declared.machine.Machine.{Machine}
 use Rattle.eval_state.specs.Frames.{outcome_of}
 use Rattle.eval_state.specs.Tops.{taken, below}
@@ -22,8 +22,8 @@ no_value (outcome.Exit e w l) h = refl
 no_value (outcome.Full asked left) h = refl
 no_value outcome.More h = refl
 
-passed_on : (names : List (List ℕ)) (o : Outcome) (frames : List Above) (z : FlatState) (next : Value → FlatState → Moment) → IsValue o ≡ false
-    → moment (come_to (outcome_of names o)) frames z ≡ then_on_from (outcome_of names o) z frames next
+passed_on : (names : List (List ℕ)) (o : Outcome) (frames : List Above) (z : FlatState) (next : Value → FlatState → Configuration) → IsValue o ≡ false
+    → configuration (come_to (outcome_of names o)) frames z ≡ then_on_from (outcome_of names o) z frames next
 passed_on names (outcome.Value x) frames z next h = absurd (cc)
 passed_on names (outcome.Exit e x l) frames z next h = refl
 passed_on names (outcome.Full asked left) frames z next h = refl
@@ -31,11 +31,11 @@ passed_on names outcome.More frames z next h = refl
 
 -- so many operands as it has
 fewer : (names : List (List ℕ)) (m : Machine) (o : Outcome) (z : FlatState) (k n : ℕ) → Some k ≡ Some n
-    → moment (come_to (outcome_of names o)) (frames names m n) z ≡ moment (come_to (outcome_of names o)) (frames names m k) z
-fewer names m o z k n e = let same : n ≡ k = cc in ap (λ j. moment (come_to (outcome_of names o)) (frames names m j) z) same
+    → configuration (come_to (outcome_of names o)) (frames names m n) z ≡ configuration (come_to (outcome_of names o)) (frames names m k) z
+fewer names m o z k n e = let same : n ≡ k = cc in ap (λ j. configuration (come_to (outcome_of names o)) (frames names m j) z) same
 
-pub passes : (names : List (List ℕ)) (s : Setting) (m : Machine) (w : Frame) (n : ℕ) (o : Outcome) (z : FlatState) → waiting_operands w ≡ Some n → IsValue o ≡ false
-    → moment (come_to (outcome_of names o)) (frames names m n) z ≡ outcome_step s (taken names m w) (outcome_of names o) (below names m w) z
+pub passes : (names : List (List ℕ)) (s : Setting) (m : Machine) (w : ContinuationFrame) (n : ℕ) (o : Outcome) (z : FlatState) → waiting_operands w ≡ Some n → IsValue o ≡ false
+    → configuration (come_to (outcome_of names o)) (frames names m n) z ≡ outcome_step s (taken names m w) (outcome_of names o) (below names m w) z
 passes names s m (frame.Binding of_bs of_n of_b of_s) n o z e h = fewer names m o z of_n n e ∙ passed_on names o (frames names m of_n) z _ h
 passes names s m (frame.Argument of_o of_fs of_n of_s) n o z e h = fewer names m o z of_n n e ∙ passed_on names o (frames names m of_n) z _ h
 passes names s m (frame.DynamicValue of_bs of_n of_b of_s) n o z e h = fewer names m o z of_n n e ∙ passed_on names o (frames names m of_n) z _ h

@@ -4,13 +4,13 @@ use Rattle.std.proofs.lemmas.List.{map-append}
 use Rattle.lang_meaning.specs.State.{Outcome}
 use Rattle.lang_meaning.specs.Values.{Value}
 use Rattle.flat_language.specs.FlatState.{FlatState}
-use Rattle.eval_machine.specs.Moment.{Setting, Moment}
-use Rattle.eval_machine.specs.Moment as machine
+use Rattle.eval_machine.specs.Configuration.{Setting, Configuration}
+use Rattle.eval_machine.specs.Configuration as machine
 use Rattle.eval_machine.specs.Step.{outcome_step}
 use Rattle.eval_store.specs.declared.word.Word.{Word}
 use Rattle.eval_store.specs.Words.{value_of_word, values_of}
 use Rattle.eval_store.specs.View.{Beside}
-use Rattle.eval_state.specs.declared.frame.Frame.{Frame}
+use Rattle.eval_state.specs.declared.frame.ContinuationFrame.{ContinuationFrame}
 use Rattle.eval_state.specs.declared.given.Given.{Given}
 use Rattle.eval_state.specs.declared.situation.Situation.{Situation}
 use Rattle.eval_state.specs.declared.machine.Machine.{Machine}
@@ -20,22 +20,22 @@ use Rattle.eval_state.specs.Tops.{taken, below}
 use Rattle.eval_state.specs.View.{IsGiven, setting_of, at, top, frames, state}
 use Rattle.eval_state.proofs.SlotLists.{last_more, others_more}
 use Rattle.eval_step.specs.declared.evaluator.Evaluator.{Evaluator}
-use Rattle.eval_step.specs.Runs.{IsAt, Runs}
+use Rattle.eval_step.specs.Runs.{IsAtConfiguration, Runs}
 use Rattle.eval_step.proofs.Lifting.{beside_another}
 
--- the same moment, said in another way
-pub runs_on : (old new : Evaluator) (f g : List (List ℕ) → Setting → Beside → Moment) → Runs old new f
+-- the same configuration, said in another way
+pub runs_on : (old new : Evaluator) (f g : List (List ℕ) → Setting → Beside → Configuration) → Runs old new f
     → ((names : List (List ℕ)) (s : Setting) (b : Beside) → f names s b ≡ g names s b) → Runs old new g
 runs_on old new f g x h = record {
   given = x.given;
   ended = x.ended;
   comes = λ names written unread b k st.
-      let a : IsAt names new written unread (f names (setting_of names old.machine.given) b) = x.comes names written unread b k st in
+      let a : IsAtConfiguration names new written unread (f names (setting_of names old.machine.given) b) = x.comes names written unread b k st in
       record { beside = a.beside; stands = a.stands; is = a.is ∙ h names (setting_of names old.machine.given) b };
 }
 
 -- from an evaluator whose machine alone is another, which is given the same
-pub runs_from : (old : Evaluator) (mid : Machine) (new : Evaluator) (f g : List (List ℕ) → Setting → Beside → Moment) → mid.given ≡ old.machine.given
+pub runs_from : (old : Evaluator) (mid : Machine) (new : Evaluator) (f g : List (List ℕ) → Setting → Beside → Configuration) → mid.given ≡ old.machine.given
     → Runs (record old { machine = mid }) new f
     → ((names : List (List ℕ)) (s : Setting) (b : Beside) → f names s b ≡ g names s b) → Runs old new g
 runs_from old mid new f g e x h = record {
@@ -43,18 +43,18 @@ runs_from old mid new f g e x h = record {
   ended = x.ended;
   comes = λ names written unread b k st.
       let P : Given → Type 0 = λ y. IsGiven names y in
-      let a : IsAt names new written unread (f names (setting_of names mid.given) b) = x.comes names written unread b (subst P (sym e) k) (beside_another names old mid written unread b st) in
+      let a : IsAtConfiguration names new written unread (f names (setting_of names mid.given) b) = x.comes names written unread b (subst P (sym e) k) (beside_another names old mid written unread b st) in
       record { beside = a.beside; stands = a.stands; is = a.is ∙ ap (λ y. f names (setting_of names y) b) e ∙ h names (setting_of names old.machine.given) b };
 }
 
 -- the frame is that one
-pub runs_framed : {T E : Type 0} (r : Result T E) (old new : Evaluator) (o : List (List ℕ) → Outcome) (w x : Frame) → w ≡ x
+pub runs_framed : {T E : Type 0} (r : Result T E) (old new : Evaluator) (o : List (List ℕ) → Outcome) (w x : ContinuationFrame) → w ≡ x
     → OnOk r (Runs old new (λ names s b. outcome_step s (taken names old.machine x) (o names) (below names old.machine x) (state names old.machine b)))
     → OnOk r (Runs old new (λ names s b. outcome_step s (taken names old.machine w) (o names) (below names old.machine w) (state names old.machine b)))
 runs_framed r old new o w x e y = subst (λ k. OnOk r (Runs old new (λ names s b. outcome_step s (taken names old.machine k) (o names) (below names old.machine k) (state names old.machine b)))) (sym e) y
 
 -- an operand more
-pub operand_seen : (old mid : Machine) (n next : ℕ) (w : Word) (a : Situation) (f : ℕ → List Value → machine.Situation → List machine.Frame → FlatState → Moment) → next ≡ suc n → IsPushed old mid w
+pub operand_seen : (old mid : Machine) (n next : ℕ) (w : Word) (a : Situation) (f : ℕ → List Value → machine.Situation → List machine.ContinuationFrame → FlatState → Configuration) → next ≡ suc n → IsPushed old mid w
     → (names : List (List ℕ)) (b : Beside)
     → f next (top names mid next) (at names mid a) (frames names mid next) (state names mid b)
     ≡ f (suc n) (top names old n ++ value_of_word names w ∷ []) (at names old a) (frames names old n) (state names old b)

@@ -26,12 +26,12 @@ use Rattle.eval_primitives.specs.Groups.{stream_of}
 use Rattle.eval_primitives.specs.declared.group.Stream.{Stream}
 use Rattle.eval_primitives.specs.declared.group.Stream.TheVariants as group
 use Rattle.eval_state.specs.declared.given.Given.{Given}
-use Rattle.eval_state.specs.declared.situation.Around.{Around}
+use Rattle.eval_state.specs.declared.situation.DynamicLinks.{DynamicLinks}
 use Rattle.eval_state.specs.declared.machine.Machine.{Machine}
 use Rattle.eval_state.specs.Operands.{IsDropped}
 use Rattle.eval_state.specs.Frames.{last_of, others_of, frames_in}
-use Rattle.eval_state.specs.View.{IsGiven, setting_of, state, top, frames, surroundings}
-use Rattle.eval_state.specs.Computing.{computed, carry, IsTold}
+use Rattle.eval_state.specs.View.{IsGiven, setting_of, state, top, frames, dynamic_context}
+use Rattle.eval_state.specs.Computing.{computed, carry, GoesOnWithAnswer}
 use Rattle.eval_state.proofs.Pushes.{others_none}
 use Rattle.eval_state.proofs.Carrying.{carried as answered_so}
 use Rattle.eval_step.specs.declared.evaluator.Evaluator.{Evaluator}
@@ -46,10 +46,10 @@ told_left limit names m b c (Gives w) = refl
 told_left limit names m b c (Fails class) = refl
 told_left limit names m b c (DomainError w class) = refl
 
-pub streamed_told : (old mid new : Evaluator) (down : Machine) (which : Primitive) (n level : ℕ) (around : Around) (a : Told)
+pub streamed_told : (old mid new : Evaluator) (down : Machine) (which : Primitive) (n level : ℕ) (around : DynamicLinks) (a : Told)
     → IsStreamed old mid which (last_of n old.machine.operands.items) a → IsDropped mid.machine down n → new ≡ record mid { machine = new.machine }
-    → IsTold down new.machine (Ok a) level around
-    → Runs old new (λ names s b. computed s which (top names old.machine n) level (surroundings names old.machine around) (frames names old.machine n) (state names old.machine b))
+    → GoesOnWithAnswer down new.machine (Ok a) level around
+    → Runs old new (λ names s b. computed s which (top names old.machine n) level (dynamic_context names old.machine around) (frames names old.machine n) (state names old.machine b))
 streamed_told old mid new down which n level around a h d same t =
     let all : down ≡ record old.machine { operands = down.operands } = d.same ∙ ap (λ (m : Machine). record m { operands = down.operands }) h.machine in
     let operands : others_of 0 down.operands.items ≡ others_of n old.machine.operands.items =
@@ -66,21 +66,21 @@ streamed_told old mid new down which n level around a h d same t =
             stands = subst (λ e. Stands names e written unread q.beside) (sym same) (beside_another names mid new.machine written unread q.beside q.stands);
             is =
                 t.comes names q.beside (carried names a (state names down q.beside)) (let P : Given → Type 0 = λ x. IsGiven names x in subst P (sym given_is) g) refl
-                ∙ ap (λ (m : Machine). carry (setting_of names m.given) (carried names a (state names m q.beside)) level (surroundings names m around) (frames names m 0)) all
-                ∙ ap (λ os. carry (setting_of names old.machine.given) (carried names a (state names old.machine q.beside)) level (surroundings names old.machine around)
+                ∙ ap (λ (m : Machine). carry (setting_of names m.given) (carried names a (state names m q.beside)) level (dynamic_context names m around) (frames names m 0)) all
+                ∙ ap (λ os. carry (setting_of names old.machine.given) (carried names a (state names old.machine q.beside)) level (dynamic_context names old.machine around)
                 (frames_in names old.machine.current os old.machine.slots.items (reverse old.machine.frames.items))) operands
-                ∙ ap (λ r. carry (setting_of names old.machine.given) r level (surroundings names old.machine around) (frames names old.machine n))
+                ∙ ap (λ r. carry (setting_of names old.machine.given) r level (dynamic_context names old.machine around) (frames names old.machine n))
                 (sym (ap (λ x. carried_out (limit_of old.machine.given.limit) x (state names old.machine b))
                 (subst (λ (m : Machine). primitive names (tables old.machine.given.program.now) which (top names old.machine n) (state_of names m.store b) ≡ told names a (state_of names m.store q.beside)) h.machine
                 (q.told (tables old.machine.given.program.now))) ∙ told_left (limit_of old.machine.given.limit) names old.machine b q.beside a))
-                ∙ answered_so (setting_of names old.machine.given) answer level (surroundings names old.machine around) (frames names old.machine n) (state names old.machine b);
+                ∙ answered_so (setting_of names old.machine.given) answer level (dynamic_context names old.machine around) (frames names old.machine n) (state names old.machine b);
           };
     }
 
-pub streamed_told_ok : {E : Type 0} (r : Result Unit E) (old mid new : Evaluator) (down : Machine) (which : Primitive) (n level : ℕ) (around : Around) (a : Told)
+pub streamed_told_ok : {E : Type 0} (r : Result Unit E) (old mid new : Evaluator) (down : Machine) (which : Primitive) (n level : ℕ) (around : DynamicLinks) (a : Told)
     → IsStreamed old mid which (last_of n old.machine.operands.items) a → IsDropped mid.machine down n → new ≡ record mid { machine = new.machine }
-    → OnOk r (IsTold down new.machine (Ok a) level around)
-    → OnOk r (Runs old new (λ names s b. computed s which (top names old.machine n) level (surroundings names old.machine around) (frames names old.machine n) (state names old.machine b)))
+    → OnOk r (GoesOnWithAnswer down new.machine (Ok a) level around)
+    → OnOk r (Runs old new (λ names s b. computed s which (top names old.machine n) level (dynamic_context names old.machine around) (frames names old.machine n) (state names old.machine b)))
 streamed_told_ok (Ok x) old mid new down which n level around a h d same t = streamed_told old mid new down which n level around a h d same t
 streamed_told_ok (Err e) old mid new down which n level around a h d same t = t
 

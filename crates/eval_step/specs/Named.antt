@@ -5,7 +5,7 @@ use Rattle.lang_meaning.specs.State.{State}
 use Rattle.lang_meaning.specs.Values.{Value}
 use Rattle.flat_language.specs.FlatState.{gives, on_state}
 use Rattle.eval_machine.specs.Applications.{signal_unbound}
-use Rattle.eval_machine.specs.Moment.{Setting, Situation, Wait, Step, ended, some_or, def_global_value, def_dynamic_value}
+use Rattle.eval_machine.specs.Configuration.{Setting, Situation, Wait, Transition, ended, some_or, def_global_value, def_dynamic_value}
 use Rattle.eval_store.specs.declared.word.Word.{Word}
 use Rattle.eval_store.specs.Words.{value_of_word}
 use Rattle.eval_store.specs.View.{Beside}
@@ -24,11 +24,11 @@ with_pair Globals name v x = record x { globals = (name, v) ∷ x.globals }
 with_pair Dynamics name v x = record x { dynamics = (name, v) ∷ x.dynamics }
 
 -- a variable's value, and a variable that is set
-abbrev pub named_step : Table → Setting → List ℕ → Situation → Step
+abbrev pub named_step : Table → Setting → List ℕ → Situation → Transition
 named_step table s name at frames z =
     some_or (under_text name (pairs_in table z.state)) (signal_unbound s name at.level at.around) (λ v rest y. ended (gives v y) rest) frames z
 
-abbrev pub set_named_step : Table → Setting → List ℕ → Value → Situation → Step
+abbrev pub set_named_step : Table → Setting → List ℕ → Value → Situation → Transition
 set_named_step table s name v at frames z =
     some_or (under_text name (pairs_in table z.state)) (signal_unbound s name at.level at.around)
     (λ old rest y. ended (gives v (on_state (with_pair table name v) y)) rest) frames z

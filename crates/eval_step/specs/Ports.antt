@@ -1,4 +1,4 @@
--- What was read is given to the evaluator, and what was printed is taken from it: it is at the same moment, and other bytes stand beside it.
+-- What was read is given to the evaluator, and what was printed is taken from it: it is in the same configuration, and other bytes stand beside it.
 use Rattle.std.specs.Prelude.{◌≡◌, ℕ, true, List, [], ◌++◌}
 use Rattle.eval_store.specs.View.{Beside}
 use Rattle.eval_step.specs.declared.evaluator.Evaluator.{Evaluator}

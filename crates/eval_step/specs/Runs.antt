@@ -1,11 +1,11 @@
--- **The evaluator at a moment**: its machine is that of the definitions beside what the evaluator has for variables and streams; and
+-- **The evaluator in a configuration**: its machine is that of the definitions beside what the evaluator has for variables and streams; and
 -- what an operation makes of it.
 use Rattle.std.specs.Prelude.{◌≡◌, ℕ, true, List, [], ◌++◌, drop}
 use Rattle.lang_meaning.specs.Primitives.{is_fresh_line}
-use Rattle.eval_machine.specs.Moment.{Setting, Moment}
+use Rattle.eval_machine.specs.Configuration.{Setting, Configuration}
 use Rattle.eval_store.specs.NamedValues.{Holds}
 use Rattle.eval_store.specs.View.{Beside}
-use Rattle.eval_state.specs.View.{IsGiven, setting_of, moment_of}
+use Rattle.eval_state.specs.View.{IsGiven, setting_of, configuration_of}
 use Rattle.eval_step.specs.declared.evaluator.Evaluator.{Evaluator}
 
 -- what stands beside the machine, where these bytes were written before, and these are left to read
@@ -17,15 +17,15 @@ pub record Stands (names : List (List ℕ)) (e : Evaluator) (written unread : Li
   pub input : b.input ≡ drop e.taken e.ahead.items ++ unread
   pub ended : e.ended ≡ true → unread ≡ []
 
--- the evaluator has come to a moment
-pub record IsAt (names : List (List ℕ)) (e : Evaluator) (written unread : List ℕ) (m : Moment) : Type 0 where
+-- the evaluator has come to a configuration
+pub record IsAtConfiguration (names : List (List ℕ)) (e : Evaluator) (written unread : List ℕ) (m : Configuration) : Type 0 where
   pub beside : Beside
   pub stands : Stands names e written unread beside
-  pub is : moment_of names e.machine beside ≡ m
+  pub is : configuration_of names e.machine beside ≡ m
 
--- it has come to that moment, whatever stood beside it; whether all was read is as it was
-pub record Runs (old new : Evaluator) (f : List (List ℕ) → Setting → Beside → Moment) : Type 0 where
+-- it has come to that configuration, whatever stood beside it; whether all was read is as it was
+pub record Runs (old new : Evaluator) (f : List (List ℕ) → Setting → Beside → Configuration) : Type 0 where
   pub given : new.machine.given ≡ old.machine.given
   pub ended : new.ended ≡ old.ended
   pub comes : (names : List (List ℕ)) (written unread : List ℕ) (b : Beside) → IsGiven names old.machine.given → Stands names old written unread b
-      → IsAt names new written unread (f names (setting_of names old.machine.given) b)
+      → IsAtConfiguration names new written unread (f names (setting_of names old.machine.given) b)

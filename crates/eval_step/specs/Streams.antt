@@ -11,8 +11,8 @@ use Rattle.eval_store.specs.Words.{value_of_word, values_of}
 use Rattle.eval_store.specs.View.{Beside, state_of}
 use Rattle.eval_primitives.specs.declared.answer.Answer.{Answer}
 use Rattle.eval_primitives.specs.Answers.{told}
-use Rattle.eval_state.specs.declared.frame.Operation.{Operation}
-use Rattle.eval_state.specs.declared.frame.Operation.TheVariants.{Compute}
+use Rattle.eval_state.specs.declared.frame.Operator.{Operator}
+use Rattle.eval_state.specs.declared.frame.Operator.TheVariants.{Compute}
 use Rattle.eval_state.specs.declared.machine.Control.{Control}
 use Rattle.eval_state.specs.declared.machine.Control.TheVariants.{Evaluate}
 use Rattle.eval_state.specs.declared.machine.Machine.{Machine}
@@ -29,7 +29,7 @@ abbrev pub reads : Primitive → List Word → Bool
 reads which [] = is_reading which
 reads which (w ∷ ws) = false
 
-abbrev pub operation_reads : Operation → List Word → Bool
+abbrev pub operation_reads : Operator → List Word → Bool
 operation_reads (Compute which) ws = reads which ws
 operation_reads o ws = false
 

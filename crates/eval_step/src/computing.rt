@@ -1,7 +1,7 @@
 // Primitives compute with arguments, which are the last operands.
 
 ghost use Rattle.std.specs.Prelude.{◌≡◌, true, false, MatchOption, OnOk};
-ghost use Rattle.eval_machine.specs.Moment.{compute};
+ghost use Rattle.eval_machine.specs.Configuration.{compute};
 ghost use Rattle.eval_machine.specs.Step.{operation_step};
 ghost use Rattle.eval_primitives.specs.Groups.{is_streaming, stream_of};
 ghost use Rattle.eval_state.specs.Frames.{last_of};

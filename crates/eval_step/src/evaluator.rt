@@ -3,7 +3,7 @@
 use eval_state::machine::Machine;
 use eval_store::NamedValues;
 
-/// The evaluator at a moment: the machine; the global variables and the outermost dynamic ones; what was printed and is not
+/// The evaluator in a configuration: the machine; the global variables and the outermost dynamic ones; what was printed and is not
 /// written yet, and whether the last byte printed ended a line; what was read, of which the first bytes were taken, and whether
 /// nothing is left to read behind it.
 #[derive(Drop)]

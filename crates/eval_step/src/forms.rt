@@ -14,8 +14,8 @@ use crate::evaluator::Evaluator;
 use crate::named::Table;
 use base::NoMemory;
 use eval_application::calls::next_method_at;
-use eval_control::forms::{begin_kind, turn};
-use eval_state::frame::{Frame, Operation};
+use eval_control::forms::{begin_kind, loop_turn};
+use eval_state::frame::{ContinuationFrame, Operator};
 use eval_state::nodes::own_nodes;
 use eval_state::situation::Situation;
 use flat_language::{FlatCore, FlatCoreForm, FlatCoreList};
@@ -41,7 +41,7 @@ impl<'p> Evaluator<'p> {
         ensures { OnOk result (Runs self.old self.new (λ names s b. form_step s (while_form test.now body.now) (at names self.old.machine situation) (frames names self.old.machine 0) (state names self.old.machine b))) }
     {
         self.machine.charge(1)?;
-        turn(&mut self.machine, test, body, situation)
+        loop_turn(&mut self.machine, test, body, situation)
     }
 
     // What a form does, once it is charged.
@@ -53,19 +53,19 @@ impl<'p> Evaluator<'p> {
             FlatCoreForm::Global(name) => self.named(Table::Globals, *name, situation),
             FlatCoreForm::Dynamic(name) => self.dynamic(*name, situation),
             FlatCoreForm::Call(name, list) => self.arguments(
-                Operation::CallName(*name),
+                Operator::CallName(*name),
                 list,
                 0,
                 situation,
             ),
             FlatCoreForm::CallValue(list) => self.arguments(
-                Operation::CallFirst,
+                Operator::CallFirst,
                 list,
                 0,
                 situation,
             ),
             FlatCoreForm::Prim(which, list) => self.arguments(
-                Operation::Compute(*which),
+                Operator::Compute(*which),
                 list,
                 0,
                 situation,
@@ -78,7 +78,7 @@ impl<'p> Evaluator<'p> {
     /// Arguments from one of them on, of which those in front are operands.
     pub fn arguments(
         &mut self,
-        operation: Operation,
+        operation: Operator,
         list: &'p FlatCoreList,
         count: usize,
         situation: Situation,
@@ -88,7 +88,7 @@ impl<'p> Evaluator<'p> {
     {
         match list.get(count) {
             Some(form) => self.machine.hold(
-                Frame::Argument(operation, list, count, situation),
+                ContinuationFrame::Argument(operation, list, count, situation),
                 form,
                 situation,
             ),

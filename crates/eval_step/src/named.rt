@@ -44,12 +44,7 @@ impl<'p> Evaluator<'p> {
     }
 
     /// The value of a variable.
-    pub fn named(
-        &mut self,
-        table: Table,
-        name: Name,
-        situation: Situation,
-    ) -> Result<(), NoMemory>
+    pub fn named(&mut self, table: Table, name: Name, situation: Situation) -> Result<(), NoMemory>
         ensures { OnOk result (Runs self.old self.new (λ names s b. named_step table s (text s.names name.0) (at names self.old.machine situation) (frames names self.old.machine 0) (state names self.old.machine b))) }
     {
         match self.value_under(table, name) {

@@ -6,7 +6,7 @@ ghost use Rattle.eval_machine.specs.Run.{form_begins, begins, outcome_of as outc
 ghost use Rattle.eval_primitives.specs.Groups.{stream_of};
 ghost use Rattle.eval_store.specs.View.{Beside};
 ghost use Rattle.eval_state.specs.Frames.{outcome_of};
-ghost use Rattle.eval_state.specs.View.{moment_of};
+ghost use Rattle.eval_state.specs.View.{configuration_of};
 ghost use Rattle.eval_step.specs.Streams.{is_reading, form_reads, control_reads, is_fed};
 
 use crate::computing::stream_among;
@@ -46,7 +46,7 @@ impl<'p> Evaluator<'p> {
 
     /// Whether a form begins in the next step.
     pub fn begins_form(&self) -> bool
-        ensures { (names : List (List ℕ)) (b : Beside) → result ≡ begins (moment_of names self.now.machine b).control }
+        ensures { (names : List (List ℕ)) (b : Beside) → result ≡ begins (configuration_of names self.now.machine b).control }
     {
         match self.machine.control {
             Control::Evaluate(form, _situation) => begins(&form.form),
@@ -58,7 +58,7 @@ impl<'p> Evaluator<'p> {
 
     /// The outcome that was come to; where there is none, More.
     pub fn outcome(&self) -> Outcome
-        ensures { (names : List (List ℕ)) (b : Beside) → outcome_of names result ≡ outcome_come_to (moment_of names self.now.machine b).control }
+        ensures { (names : List (List ℕ)) (b : Beside) → outcome_of names result ≡ outcome_come_to (configuration_of names self.now.machine b).control }
     {
         match self.machine.control {
             Control::ComeTo(outcome) => outcome,

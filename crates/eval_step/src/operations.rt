@@ -11,14 +11,14 @@ use crate::evaluator::Evaluator;
 use base::NoMemory;
 use eval_application::calls::call_named;
 use eval_application::values::call_first;
-use eval_state::frame::Operation;
+use eval_state::frame::Operator;
 use eval_state::situation::Situation;
 
 impl<'p> Evaluator<'p> {
     /// What is done with arguments, which are the last operands. What a primitive reads is there.
     pub fn operate(
         &mut self,
-        operation: Operation,
+        operation: Operator,
         count: usize,
         situation: Situation,
     ) -> Result<(), NoMemory>
@@ -26,9 +26,9 @@ impl<'p> Evaluator<'p> {
         ensures { OnOk result (Runs self.old self.new (λ names s b. operation_step s (operation_of operation) (top names self.old.machine count) (at names self.old.machine situation) (frames names self.old.machine count) (state names self.old.machine b))) }
     {
         match operation {
-            Operation::CallName(name) => call_named(&mut self.machine, name, count, situation),
-            Operation::CallFirst => call_first(&mut self.machine, count, situation),
-            Operation::Compute(which) => self.compute(which, count, situation),
+            Operator::CallName(name) => call_named(&mut self.machine, name, count, situation),
+            Operator::CallFirst => call_first(&mut self.machine, count, situation),
+            Operator::Compute(which) => self.compute(which, count, situation),
         }
     }
 }

@@ -5,7 +5,7 @@ ghost use Rattle.eval_step.specs.Started.{IsStarted};
 
 use crate::evaluator::Evaluator;
 use base::NoMemory;
-use eval_state::frame::{Frame, Outcome};
+use eval_state::frame::{ContinuationFrame, Outcome};
 use eval_state::given::Given;
 use eval_state::machine::{Control, Machine};
 use eval_state::situation::Activation;
@@ -18,7 +18,7 @@ impl<'p> Evaluator<'p> {
         ensures { IfOk result (λ evaluator. IsStarted given.entry store.entry level evaluator) }
     {
         let mut frames = Vec::new(given.alloc);
-        frames.push(Frame::MainForms(level, &given.program.main, 0))?;
+        frames.push(ContinuationFrame::MainForms(level, &given.program.main, 0))?;
         let machine = Machine {
             given,
             control: Control::ComeTo(Outcome::Value(Word::Nil)),

@@ -15,8 +15,8 @@ use crate::evaluator::Evaluator;
 use base::NoMemory;
 use eval_application::signalling::signal_under;
 use eval_control::outcomes::pass;
-use eval_control::passing::{take, waiting_operands};
-use eval_state::frame::{Frame, Outcome};
+use eval_control::passing::{take_outcome, waiting_operands};
+use eval_state::frame::{ContinuationFrame, Outcome};
 use eval_state::machine::Control;
 
 impl<'p> Evaluator<'p> {
@@ -60,26 +60,26 @@ impl<'p> Evaluator<'p> {
     }
 
     // The frame on top, which goes.
-    fn take_top(&mut self) -> Option<Frame<'p>>
+    fn take_top(&mut self) -> Option<ContinuationFrame<'p>>
         ensures { IsTopTaken self.old self.new result }
     {
         self.machine.frames.pop()
     }
 
     // An outcome comes to the frame that was on top.
-    fn come_out(&mut self, frame: Frame<'p>, outcome: Outcome) -> Result<(), NoMemory>
+    fn come_out(&mut self, frame: ContinuationFrame<'p>, outcome: Outcome) -> Result<(), NoMemory>
         ensures { OnOk result (Runs self.old self.new (λ names s b. outcome_step s (taken names self.old.machine frame.entry) (outcome_of names outcome) (below names self.old.machine frame.entry) (state names self.old.machine b))) }
     {
         match waiting_operands(&frame) {
             Some(operands) => self.come_to_place(frame, operands, outcome),
-            None => take(&mut self.machine, frame, outcome),
+            None => take_outcome(&mut self.machine, frame, outcome),
         }
     }
 
     // An outcome comes to a place that waits for a value; it passes any other on.
     fn come_to_place(
         &mut self,
-        frame: Frame<'p>,
+        frame: ContinuationFrame<'p>,
         operands: usize,
         outcome: Outcome,
     ) -> Result<(), NoMemory>

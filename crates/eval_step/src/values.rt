@@ -16,9 +16,9 @@ use base::NoMemory;
 use eval_application::lists::apply_list;
 use eval_application::methods::{after_before, after_primary, apply_each};
 use eval_application::signalling::{signal_condition, with_handler};
-use eval_control::values::value;
-use eval_state::frame::{Frame, Operation};
-use eval_state::places::after;
+use eval_control::values::value_at_frame;
+use eval_state::frame::{ContinuationFrame, Operator};
+use eval_state::places::place_behind;
 use eval_state::situation::Situation;
 use eval_store::Word;
 use flat_language::FlatCoreList;
@@ -27,7 +27,7 @@ impl<'p> Evaluator<'p> {
     // An argument has its value, which is an operand more.
     fn argument_value(
         &mut self,
-        operation: Operation,
+        operation: Operator,
         list: &'p FlatCoreList,
         count: usize,
         word: Word,
@@ -35,45 +35,47 @@ impl<'p> Evaluator<'p> {
     ) -> Result<(), NoMemory>
         ensures { OnOk result (Runs self.old self.new (λ names s b. arguments_step s (operation_of operation) (forms_from list.now (suc count)) (top names self.old.machine count ++ value_of_word names word ∷ []) (at names self.old.machine situation) (frames names self.old.machine count) (state names self.old.machine b))) }
     {
-        let next = after(count)?;
+        let next = place_behind(count)?;
         self.machine.push_operand(word)?;
         self.arguments(operation, list, next, situation)
     }
 
     /// A value comes to a place that waits for it, whose frame was on top.
-    pub fn value(&mut self, frame: Frame<'p>, word: Word) -> Result<(), NoMemory>
+    pub fn value(&mut self, frame: ContinuationFrame<'p>, word: Word) -> Result<(), NoMemory>
         requires { is_some (waiting_operands frame) ≡ true }
         ensures { OnOk result (Runs self.old self.new (λ names s b. outcome_step s (taken names self.old.machine frame.entry) (value (value_of_word names word)) (below names self.old.machine frame.entry) (state names self.old.machine b))) }
     {
         match frame {
-            Frame::SetGlobal(name, situation) => {
+            ContinuationFrame::SetGlobal(name, situation) => {
                 self.set_named(Table::Globals, name, word, situation)
             }
-            Frame::DefGlobal(name) => self.define_named(Table::Globals, name, word),
-            Frame::Argument(operation, list, count, situation) => self.argument_value(
+            ContinuationFrame::DefGlobal(name) => self.define_named(Table::Globals, name, word),
+            ContinuationFrame::Argument(operation, list, count, situation) => self.argument_value(
                 operation, list, count, word, situation,
             ),
-            Frame::AppliedList(function, situation) => apply_list(
+            ContinuationFrame::AppliedList(function, situation) => apply_list(
                 &mut self.machine,
                 function,
                 word,
                 situation,
             ),
-            Frame::SetDynamic(name, situation) => self.set_dynamic(name, word, situation),
-            Frame::DefDynamic(name) => self.define_named(Table::Dynamics, name, word),
-            Frame::HandlerValue(body, situation) => with_handler(
+            ContinuationFrame::SetDynamic(name, situation) => self.set_dynamic(
+                name, word, situation,
+            ),
+            ContinuationFrame::DefDynamic(name) => self.define_named(Table::Dynamics, name, word),
+            ContinuationFrame::HandlerValue(body, situation) => with_handler(
                 &mut self.machine,
                 word,
                 body,
                 situation,
             ),
-            Frame::SignalMark(condition, situation) => signal_condition(
+            ContinuationFrame::SignalMark(condition, situation) => signal_condition(
                 &mut self.machine,
                 condition,
                 word,
                 situation,
             ),
-            Frame::Methods(list, place, arguments, level, around) => apply_each(
+            ContinuationFrame::Methods(list, place, arguments, level, around) => apply_each(
                 &mut self.machine,
                 list,
                 place,
@@ -81,14 +83,14 @@ impl<'p> Evaluator<'p> {
                 level,
                 around,
             ),
-            Frame::BeforeMethods(rest, arguments, level, around) => after_before(
+            ContinuationFrame::BeforeMethods(rest, arguments, level, around) => after_before(
                 &mut self.machine,
                 rest,
                 arguments,
                 level,
                 around,
             ),
-            Frame::PrimaryMethod(rest, arguments, level, around) => after_primary(
+            ContinuationFrame::PrimaryMethod(rest, arguments, level, around) => after_primary(
                 &mut self.machine,
                 rest,
                 arguments,
@@ -96,7 +98,7 @@ impl<'p> Evaluator<'p> {
                 level,
                 around,
             ),
-            other => value(&mut self.machine, other, word),
+            other => value_at_frame(&mut self.machine, other, word),
         }
     }
 }

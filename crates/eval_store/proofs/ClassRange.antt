@@ -8,7 +8,7 @@ use Rattle.eval_store.specs.declared.store.Store.{Store}
 use Rattle.eval_store.specs.declared.word.Word.{Word}
 use Rattle.eval_store.specs.Words.{value_of_word, values_of}
 use Rattle.lang_meaning.specs.Recipes.{Recipe, in_turn, single, class_recipe, classes_recipe}
-use Rattle.eval_store.specs.Recipes.{IsMade, IsMaking}
+use Rattle.eval_store.specs.Recipes.{IsMadeBy, IsMaking}
 use Rattle.eval_store.specs.Tables.{first_values}
 use Rattle.eval_store.proofs.Turns.{one_made, all_made}
 use Rattle.eval_store.proofs.Made.{both_made, made_as}
@@ -25,24 +25,24 @@ range_done a b h =
 
 pub one_class : (class to : ℕ) {all : List ℕ} {old mid new : Store} {ws : List Word} {w : Word} → class < to
     → IsMaking value_of_word (λ names. class_recipe) old mid all (range_with_len class (to - class)) ws
-    → IsMade value_of_word (λ names. class_recipe class) mid new w
+    → IsMadeBy value_of_word (λ names. class_recipe class) mid new w
     → IsMaking value_of_word (λ names. class_recipe) old new all (range_with_len (class + 1) (to - (class + 1))) (ws ++ w ∷ [])
 one_class class to {all} {old} {mid} {new} {ws} {w} h p q =
     one_made (subst (λ left. IsMaking value_of_word (λ names. class_recipe) old mid all left ws) (range_first class to h) p) q
 
 pub all_classes : (class to : ℕ) {all : List ℕ} {old new : Store} {ws : List Word} → to ≤ class
     → IsMaking value_of_word (λ names. class_recipe) old new all (range_with_len class (to - class)) ws
-    → IsMade values_of (λ names. in_turn class_recipe all) old new ws
+    → IsMadeBy values_of (λ names. in_turn class_recipe all) old new ws
 all_classes class to {all} {old} {new} {ws} h p =
     all_made (subst (λ left. IsMaking value_of_word (λ names. class_recipe) old new all left ws) (range_done class to h) p)
 
 -- the classes, the streams behind those that are built in
 pub first_made : (built_in classes : ℕ) {one two three four five : Store} {ws os : List Word} {i o : Word}
-    → IsMade values_of (λ names. in_turn class_recipe (range_with_len 0 built_in)) one two ws
-    → IsMade value_of_word (λ names. single input_stream) two three i
-    → IsMade value_of_word (λ names. single output_stream) three four o
-    → IsMade values_of (λ names. in_turn class_recipe (range_with_len built_in (classes - built_in))) four five os
-    → IsMade first_values (λ names. classes_recipe built_in classes) one five (record { classes = ws ++ os; input = i; output = o })
+    → IsMadeBy values_of (λ names. in_turn class_recipe (range_with_len 0 built_in)) one two ws
+    → IsMadeBy value_of_word (λ names. single input_stream) two three i
+    → IsMadeBy value_of_word (λ names. single output_stream) three four o
+    → IsMadeBy values_of (λ names. in_turn class_recipe (range_with_len built_in (classes - built_in))) four five os
+    → IsMadeBy first_values (λ names. classes_recipe built_in classes) one five (record { classes = ws ++ os; input = i; output = o })
 first_made built_in classes {one} {two} {three} {four} {five} {ws} {os} {i} {o} p q r s =
     made_as
     (record {

@@ -15,7 +15,7 @@ use Rattle.eval_store.specs.declared.store.Store.{Store}
 use Rattle.eval_store.specs.declared.word.Word.{Word}
 use Rattle.eval_store.specs.Words.{value_of_word, values_of}
 use Rattle.lang_meaning.specs.Recipes.{Recipe, in_turn, single, laid, both}
-use Rattle.eval_store.specs.Recipes.{linked, IsMade}
+use Rattle.eval_store.specs.Recipes.{linked, IsMadeBy}
 use Rattle.eval_store.specs.Parts.{symbols_of}
 use Rattle.eval_store.proofs.Made.{both_made, made_as}
 
@@ -27,16 +27,16 @@ items_in_turn names (d ∷ ds) n =
     ap (λ (o : List Object × List Value). (first.objects ++ o.0, first.value ∷ o.1)) (items_in_turn names ds (n + length first.objects))
 
 -- a string has no parts
-pub text_made : (bytes : List ℕ) {old new : Store} {w : Word} → IsMade value_of_word (λ names. single (objects.string bytes)) old new w
-    → IsMade value_of_word (λ names. laid (lay_content names (datum.string bytes))) old new w
+pub text_made : (bytes : List ℕ) {old new : Store} {w : Word} → IsMadeBy value_of_word (λ names. single (objects.string bytes)) old new w
+    → IsMadeBy value_of_word (λ names. laid (lay_content names (datum.string bytes))) old new w
 text_made bytes {old} {new} {w} p =
     made_as (record { objects = λ names n same. refl; stands = λ names n same. same ∙ ap object (sym (add-zero n)) }) p
 
 -- a vector is made after its elements
 pub vector_made : (ds : List Item) {old mid new : Store} {ws : List Word} {w : Word}
-    → IsMade values_of (λ names. in_turn (λ d. laid (lay names d)) ds) old mid ws
-    → IsMade value_of_word (λ names. single (objects.vector (values_of names ws))) mid new w
-    → IsMade value_of_word (λ names. laid (lay_content names (vector (items_of ds)))) old new w
+    → IsMadeBy values_of (λ names. in_turn (λ d. laid (lay names d)) ds) old mid ws
+    → IsMadeBy value_of_word (λ names. single (objects.vector (values_of names ws))) mid new w
+    → IsMadeBy value_of_word (λ names. laid (lay_content names (vector (items_of ds)))) old new w
 vector_made ds {old} {mid} {new} {ws} {w} p q =
     made_as
     (record {
@@ -101,10 +101,10 @@ list_in_line names (d ∷ ds) end n =
 
 -- a list is made of its items, its end, and conses of their words
 pub list_made : (ds : List Item) (t : Tail) {old mid next new : Store} {ws : List Word} {e w : Word}
-    → IsMade values_of (λ names. in_turn (λ d. laid (lay names d)) ds) old mid ws
-    → IsMade value_of_word (λ names. laid (lay_tail names t)) mid next e
-    → IsMade value_of_word (λ names. linked (values_of names ws) (value_of_word names e)) next new w
-    → IsMade value_of_word (λ names. laid (lay_content names (list (items_of ds) t))) old new w
+    → IsMadeBy values_of (λ names. in_turn (λ d. laid (lay names d)) ds) old mid ws
+    → IsMadeBy value_of_word (λ names. laid (lay_tail names t)) mid next e
+    → IsMadeBy value_of_word (λ names. linked (values_of names ws) (value_of_word names e)) next new w
+    → IsMadeBy value_of_word (λ names. laid (lay_content names (list (items_of ds) t))) old new w
 list_made ds t {old} {mid} {next} {new} {ws} {e} {w} p q r =
     made_as
     (record {

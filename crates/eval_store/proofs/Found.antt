@@ -6,7 +6,7 @@ use Rattle.lang_meaning.specs.declared.program.FunctionRow.{FunctionRow}
 use Rattle.lang_meaning.specs.Values.{object}
 use Rattle.lang_meaning.specs.Lookup.{text}
 use Rattle.lang_meaning.specs.Literals.{function_row}
-use Rattle.lang_meaning.specs.Layout.{function_of, laid_out, under_key, function_things}
+use Rattle.lang_meaning.specs.InitialHeap.{function_of, laid_out, under_key, function_things}
 use Rattle.eval_store.specs.declared.word.Word.{Word}
 use Rattle.eval_store.specs.Words.{value_of_word, values_of}
 use Rattle.lang_meaning.specs.Recipes.{in_turn, function_recipe}

@@ -16,9 +16,9 @@ use Rattle.eval_store.specs.bridge.Told.{told}
 use Rattle.eval_store.specs.bridge.Places.{none_more, looked_up}
 use Rattle.eval_store.specs.declared.functions.NamedFunction.{NamedFunction}
 use Rattle.eval_store.specs.declared.functions.NamedFunctions.{NamedFunctions}
-use Rattle.eval_store.specs.Recipes.{IsMade}
+use Rattle.eval_store.specs.Recipes.{IsMadeBy}
 use Rattle.lang_meaning.specs.Recipes.{single, function_recipe}
-use Rattle.eval_store.specs.Tables.{first_of_text, IsAlike, IsSet, IsFunction, IsNoting}
+use Rattle.eval_store.specs.Tables.{first_of_text, IsAlike, IsSet, IsFunctionObject, IsNoting}
 use Rattle.eval_store.proofs.Made.{same_recipe}
 
 -- a table with more room
@@ -79,6 +79,6 @@ no_word by rows words at t h p = record {
 }
 
 -- the object of a function is the one that its row says
-pub function_added : {old new : Store} (row : FunctionRow) (o : Object) (w : Word) → IsFunction row.callee o
-    → IsMade value_of_word (λ names. single (object_of names o)) old new w → IsMade value_of_word (λ names. function_recipe row) old new w
+pub function_added : {old new : Store} (row : FunctionRow) (o : Object) (w : Word) → IsFunctionObject row.callee o
+    → IsMadeBy value_of_word (λ names. single (object_of names o)) old new w → IsMadeBy value_of_word (λ names. function_recipe row) old new w
 function_added {old} {new} row o w f p = same_recipe (λ names. ap single (f.object names)) p

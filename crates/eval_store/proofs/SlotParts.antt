@@ -8,12 +8,12 @@ use Rattle.lang_meaning.specs.declared.program.SlotRow.{SlotRow}
 use Rattle.lang_meaning.specs.Values.{Value, nil, object}
 use Rattle.lang_meaning.specs.Objects as objects
 use Rattle.lang_meaning.specs.Literals.{lay_content}
-use Rattle.lang_meaning.specs.Layout.{initargs_list}
+use Rattle.lang_meaning.specs.InitialHeap.{initargs_list}
 use Rattle.eval_store.specs.declared.store.Store.{Store}
 use Rattle.eval_store.specs.declared.word.Word.{Word}
 use Rattle.eval_store.specs.declared.word.Word.TheVariants.{Symbol}
 use Rattle.eval_store.specs.Words.{value_of_word, values_of}
-use Rattle.eval_store.specs.Recipes.{linked, IsMade}
+use Rattle.eval_store.specs.Recipes.{linked, IsMadeBy}
 use Rattle.lang_meaning.specs.Recipes.{single, laid, initform_recipe}
 use Rattle.eval_store.specs.Parts.{symbols_of, slot_recipe}
 use Rattle.eval_store.specs.Tables.{slot_values}
@@ -31,8 +31,8 @@ one_symbol list ws at a h p names =
     ∙ sym (ap (symbols_of names) (take_at list at a h))
 
 -- the function of an initform
-pub initform_added : {old new : Store} {w : Word} (procedure : ℕ) → IsMade value_of_word (λ names. single (objects.function procedure)) old new w
-    → IsMade value_of_word (λ names. initform_recipe (Some procedure)) old new w
+pub initform_added : {old new : Store} {w : Word} (procedure : ℕ) → IsMadeBy value_of_word (λ names. single (objects.function procedure)) old new w
+    → IsMadeBy value_of_word (λ names. initform_recipe (Some procedure)) old new w
 initform_added {old} {new} {w} procedure p =
     made_as
     (record { objects = λ names n same. refl; stands = λ names n same. same ∙ ap object (sym (add-zero n)) })
@@ -41,9 +41,9 @@ initform_added {old} {new} {w} procedure p =
 -- a slot
 pub slot_made : (s : SlotRow) (ws : List Word) {old mid new : Store} {w u : Word}
     → ((names : List (List ℕ)) → values_of names ws ≡ symbols_of names s.initargs)
-    → IsMade value_of_word (λ names. linked (values_of names ws) nil) old mid w
-    → IsMade value_of_word (λ names. initform_recipe s.initform) mid new u
-    → IsMade slot_values (λ names. slot_recipe names s) old new (record { initargs = w; initform = u })
+    → IsMadeBy value_of_word (λ names. linked (values_of names ws) nil) old mid w
+    → IsMadeBy value_of_word (λ names. initform_recipe s.initform) mid new u
+    → IsMadeBy slot_values (λ names. slot_recipe names s) old new (record { initargs = w; initform = u })
 slot_made s ws {old} {mid} {new} {w} {u} symbols p q =
     made_as
     (record {

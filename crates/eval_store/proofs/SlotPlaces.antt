@@ -3,17 +3,17 @@ use Rattle.std.proofs.Common.{◌≡◌, ℕ, zero, suc, List, [], ◌∷◌, ma
 use Rattle.std.specs.Prelude.{slice_get}
 use Rattle.lang_meaning.specs.declared.program.ClassRow.{ClassRow}
 use Rattle.lang_meaning.specs.Values.{Value}
-use Rattle.lang_meaning.specs.Layout.{initargs, initform, laid_out, under_key}
+use Rattle.lang_meaning.specs.InitialHeap.{initargs, initform, laid_out, under_key}
 use Rattle.eval_store.specs.Words.{value_of_word}
 use Rattle.lang_meaning.specs.Recipes.{in_turn}
 use Rattle.lang_meaning.proofs.RecipeSegments.{all_slots_of}
-use Rattle.lang_meaning.proofs.SlotPlaces.{Part, args, form, Reading, value_at, value_in_class, slot_under}
+use Rattle.lang_meaning.proofs.SlotPlaces.{SlotPart, args, form, Reading, value_at, value_in_class, slot_under}
 use Rattle.eval_store.specs.declared.slots.SlotWords.{SlotWords}
 use Rattle.eval_store.specs.Parts.{of_slot, slots_recipe}
 use Rattle.eval_store.specs.Tables.{slots_values, slot_at, initargs_or_nil, initform_or_nil}
 
 -- what is read of the pair that stands for a slot
-abbrev read_of : Part → Value × Value → Value
+abbrev read_of : SlotPart → Value × Value → Value
 read_of args v = v.0
 read_of form v = v.1
 

@@ -8,7 +8,7 @@ use Rattle.flat_language.specs.FlatState.{FlatState}
 use Rattle.eval_store.specs.declared.store.Store.{Store}
 use Rattle.eval_store.specs.View.{Beside, seen}
 use Rattle.lang_meaning.specs.Recipes.{Recipe, in_turn}
-use Rattle.eval_store.specs.Recipes.{count, with_objects, with_made, IsMade, IsMaking}
+use Rattle.eval_store.specs.Recipes.{count, with_objects, with_made, IsMadeBy, IsMaking}
 
 -- objects more
 
@@ -23,7 +23,7 @@ count_after xs z = length-append z.state.store xs
 
 -- where one has been made, what is made next begins behind it
 pub count_made : {V W : Type 0} {meant : List (List ℕ) → W → V} {recipe : List (List ℕ) → Recipe V} {old new : Store} {w : W}
-    → IsMade meant recipe old new w → (names : List (List ℕ)) (b : Beside)
+    → IsMadeBy meant recipe old new w → (names : List (List ℕ)) (b : Beside)
     → count (seen names new b) ≡ count (seen names old b) + length (recipe names (count (seen names old b))).0
 count_made {V} {W} {meant} {recipe} {old} x names b =
     ap count (x.store names b) ∙ count_after (recipe names (count (seen names old b))).0 (seen names old b)
@@ -42,7 +42,7 @@ pub none_made : {X V W : Type 0} (meant : List (List ℕ) → W → V) (recipe :
 none_made meant recipe s xs = record { store = λ names b. refl; stands = λ names b. refl }
 
 pub one_made : {X V W : Type 0} {meant : List (List ℕ) → W → V} {recipe : List (List ℕ) → X → Recipe V} {old mid new : Store} {all left : List X} {x : X} {ws : List W} {w : W}
-    → IsMaking meant recipe old mid all (x ∷ left) ws → IsMade meant (λ names. recipe names x) mid new w
+    → IsMaking meant recipe old mid all (x ∷ left) ws → IsMadeBy meant (λ names. recipe names x) mid new w
     → IsMaking meant recipe old new all left (ws ++ w ∷ [])
 one_made {X} {V} {W} {meant} {recipe} {old} {mid} {new} {all} {left} {x} {ws} {w} p q = record {
   store = λ names b.
@@ -59,7 +59,7 @@ one_made {X} {V} {W} {meant} {recipe} {old} {mid} {new} {all} {left} {x} {ws} {w
 
 pub all_made : {X V W : Type 0} {meant : List (List ℕ) → W → V} {recipe : List (List ℕ) → X → Recipe V} {old new : Store} {all : List X} {ws : List W}
     → IsMaking meant recipe old new all [] ws
-    → IsMade (λ names. map (meant names)) (λ names. in_turn (recipe names) all) old new ws
+    → IsMadeBy (λ names. map (meant names)) (λ names. in_turn (recipe names) all) old new ws
 all_made {X} {V} {W} {meant} {recipe} {old} {new} {all} {ws} p = record {
   store = λ names b. sym (none_more (seen names new b)) ∙ p.store names b;
   stands = λ names b. sym (append-nil (map (meant names) ws)) ∙ p.stands names b;
@@ -67,7 +67,7 @@ all_made {X} {V} {W} {meant} {recipe} {old} {new} {all} {ws} p = record {
 
 -- the same, by the place to which the loop has come
 pub one_made_at : {X V W : Type 0} {meant : List (List ℕ) → W → V} {recipe : List (List ℕ) → X → Recipe V} {old mid new : Store} {all : List X} {x : X} {ws us : List W} {w : W}
-    (at : ℕ) → slice_get all at ≡ Some x → us ≡ ws ++ w ∷ [] → IsMaking meant recipe old mid all (drop at all) ws → IsMade meant (λ names. recipe names x) mid new w
+    (at : ℕ) → slice_get all at ≡ Some x → us ≡ ws ++ w ∷ [] → IsMaking meant recipe old mid all (drop at all) ws → IsMadeBy meant (λ names. recipe names x) mid new w
     → IsMaking meant recipe old new all (drop (at + 1) all) us
 one_made_at {X} {V} {W} {meant} {recipe} {old} {mid} {new} {all} {x} {ws} {us} {w} at h e p q =
     subst (λ vs. IsMaking meant recipe old new all (drop (at + 1) all) vs) (sym e)
@@ -75,6 +75,6 @@ one_made_at {X} {V} {W} {meant} {recipe} {old} {mid} {new} {all} {x} {ws} {us} {
 
 pub all_made_at : {X V W : Type 0} {meant : List (List ℕ) → W → V} {recipe : List (List ℕ) → X → Recipe V} {old new : Store} {all : List X} {ws : List W}
     (at : ℕ) → length all ≤ at → IsMaking meant recipe old new all (drop at all) ws
-    → IsMade (λ names. map (meant names)) (λ names. in_turn (recipe names) all) old new ws
+    → IsMadeBy (λ names. map (meant names)) (λ names. in_turn (recipe names) all) old new ws
 all_made_at {X} {V} {W} {meant} {recipe} {old} {new} {all} {ws} at h p =
     all_made (subst (λ xs. IsMaking meant recipe old new all xs ws) (drop_all at all h) p)

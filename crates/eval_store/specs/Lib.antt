@@ -7,4 +7,4 @@ pub mod bridge
 pub mod Recipes
 pub mod Parts
 pub mod Tables
-pub mod Layout
+pub mod InitialHeap

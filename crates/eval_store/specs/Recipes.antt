@@ -28,7 +28,7 @@ abbrev pub with_made : {V : Type 0} → Recipe V → FlatState → FlatState
 with_made r z = with_objects (r (count z)).0 z
 
 -- the store has what the recipe makes, and this stands for it
-pub record IsMade {V W : Type 0} (meant : List (List ℕ) → W → V) (recipe : List (List ℕ) → Recipe V) (old new : Store) (w : W) : Type 0 where
+pub record IsMadeBy {V W : Type 0} (meant : List (List ℕ) → W → V) (recipe : List (List ℕ) → Recipe V) (old new : Store) (w : W) : Type 0 where
   pub store : (names : List (List ℕ)) (b : Beside) → seen names new b ≡ with_made (recipe names) (seen names old b)
   pub stands : (names : List (List ℕ)) (b : Beside) → meant names w ≡ (recipe names (count (seen names old b))).1
 

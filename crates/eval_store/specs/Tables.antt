@@ -1,11 +1,11 @@
--- What stands in the tables of a layout.
+-- What stands in the tables of an initial heap.
 use Rattle.std.specs.Prelude.{◌≡◌, ℕ, List, [], ◌∷◌, Option, Some, None, slice_get, map, if◌then◌else◌}
 use Rattle.std.specs.Str.{bytes_eq}
 use Rattle.lang_meaning.specs.declared.program.FunctionRow.{FunctionRow}
 use Rattle.lang_meaning.specs.declared.program.Callee.{Callee}
 use Rattle.lang_meaning.specs.Values.{Value}
 use Rattle.lang_meaning.specs.Lookup.{text}
-use Rattle.lang_meaning.specs.Layout.{function_object}
+use Rattle.lang_meaning.specs.InitialHeap.{function_object}
 use Rattle.eval_store.specs.declared.object.Object.{Object}
 use Rattle.eval_store.specs.declared.spellings.Spellings.{Spellings}
 use Rattle.eval_store.specs.declared.store.Store.{Store}
@@ -19,7 +19,7 @@ use Rattle.eval_store.specs.declared.functions.NamedFunctions.{NamedFunctions}
 use Rattle.eval_store.specs.declared.classes.FirstWords.{FirstWords}
 use Rattle.eval_store.specs.declared.slots.SlotWords.{SlotWords}
 use Rattle.lang_meaning.specs.Recipes.{in_turn, function_recipe}
-use Rattle.eval_store.specs.Recipes.{IsMade}
+use Rattle.eval_store.specs.Recipes.{IsMadeBy}
 
 abbrev pub or_nil : Option Word → Word
 or_nil None = Nil
@@ -69,14 +69,14 @@ pub record IsNoting (by : Spellings) (rows : List FunctionRow) (words : List Wor
   pub spellings : t.spellings ≡ by
 
 -- the object of a function that no form made
-pub record IsFunction (callee : Callee) (o : Object) : Type 0 where
+pub record IsFunctionObject (callee : Callee) (o : Object) : Type 0 where
   pub object : (names : List (List ℕ)) → object_of names o ≡ function_object callee
   pub captured : (names : List (List ℕ)) → captured_by names o ≡ None
 
 -- the functions of all rows are in the store, each with its word, and the table has them by their names
 pub record AreNamed (by : Spellings) (rows : List FunctionRow) (old new : Store) (t : NamedFunctions) : Type 0 where
   pub words : List Word
-  pub made : IsMade values_of (λ names. in_turn function_recipe rows) old new words
+  pub made : IsMadeBy values_of (λ names. in_turn function_recipe rows) old new words
   pub found : IsNoting by rows words t
 
 -- the words of a slot as values

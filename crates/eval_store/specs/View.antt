@@ -57,8 +57,8 @@ abbrev pub Becomes : Store → Store → (List (List ℕ) → Beside → FlatSta
 Becomes old new f = (names : List (List ℕ)) (b : Beside) → seen names new b ≡ f names b (seen names old b)
 
 -- it is as it was
-abbrev pub Stays : Store → Store → Type 0
-Stays old new = (names : List (List ℕ)) (b : Beside) → seen names new b ≡ seen names old b
+abbrev pub StoreStays : Store → Store → Type 0
+StoreStays old new = (names : List (List ℕ)) (b : Beside) → seen names new b ≡ seen names old b
 
 abbrev pub limit_of : Option ℕ → Limit
 limit_of None = unlimited

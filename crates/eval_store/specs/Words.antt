@@ -65,7 +65,7 @@ called_or_none names (Some c) = Some (called_of names c)
 -- what was captured
 abbrev pub captured_of : List (List ℕ) → Captured → flat.Captured
 captured_of names (captured.Value w) = flat.of_value (value_of_word names w)
-captured_of names (captured.Cell i) = flat.of_cell i
+captured_of names (captured.Boxed i) = flat.of_box i
 captured_of names (captured.Exit e) = flat.of_exit e
 captured_of names (captured.Method m) = flat.of_method (called_or_none names m)
 

@@ -4,7 +4,7 @@ ghost use Rattle.std.specs.Prelude.{◌≡◌, ◌-◌, ℕ, List, IfOk};
 ghost use Rattle.std.specs.List.{range_with_len};
 ghost use Rattle.eval_store.specs.Words.{value_of_word, values_of};
 ghost use Rattle.lang_meaning.specs.Recipes.{in_turn, class_recipe};
-ghost use Rattle.eval_store.specs.Recipes.{IsMade};
+ghost use Rattle.eval_store.specs.Recipes.{IsMadeBy};
 ghost use Rattle.eval_store.specs.Parts.{first_recipe};
 ghost use Rattle.eval_store.specs.Tables.{first_values};
 
@@ -24,7 +24,7 @@ pub struct FirstWords {
 
 /// The objects of so many classes and of the streams are made: the streams stand behind the built-in classes.
 pub fn lay_first(alloc: Global, classes: usize, store: &mut Store) -> Result<FirstWords, NoMemory>
-    ensures { IfOk result (λ first. IsMade first_values (λ names. first_recipe classes) store.old store.new first) }
+    ensures { IfOk result (λ first. IsMadeBy first_values (λ names. first_recipe classes) store.old store.new first) }
 {
     let mut words = lay_classes(alloc, 0, BUILT_IN_CLASSES, store)?;
     let input = add_object(store, Object::InputStream)?;
@@ -46,7 +46,7 @@ fn lay_classes(
     to: ClassId,
     store: &mut Store,
 ) -> Result<ItemList<Word>, NoMemory>
-    ensures { IfOk result (λ ws. IsMade values_of (λ names. in_turn class_recipe (range_with_len from (to - from))) store.old store.new ws) }
+    ensures { IfOk result (λ ws. IsMadeBy values_of (λ names. in_turn class_recipe (range_with_len from (to - from))) store.old store.new ws) }
 {
     let mut words = ItemList::new(alloc);
     for class in from..to {

@@ -8,7 +8,7 @@ ghost use Rattle.lang_meaning.specs.Literals.{lay, lay_content, lay_tail, symbol
 ghost use Rattle.lang_meaning.specs.Values as values;
 ghost use Rattle.eval_store.specs.Words.{value_of_word, values_of};
 ghost use Rattle.lang_meaning.specs.Recipes.{in_turn, single, laid};
-ghost use Rattle.eval_store.specs.Recipes.{IsMade};
+ghost use Rattle.eval_store.specs.Recipes.{IsMadeBy};
 
 use crate::making::{add_list, add_object};
 use crate::{Elements, Object, Store, Word};
@@ -18,7 +18,7 @@ use std::alloc::Global;
 /// The objects of a datum are made; its word.
 #[cycle(lay)]
 pub fn lay_datum(alloc: Global, datum: &Datum, store: &mut Store) -> Result<Word, NoMemory>
-    ensures { IfOk result (λ w. IsMade value_of_word (λ names. laid (lay names datum.now)) store.old store.new w) }
+    ensures { IfOk result (λ w. IsMadeBy value_of_word (λ names. laid (lay names datum.now)) store.old store.new w) }
 {
     lay_kind(alloc, &datum.kind, store)
 }
@@ -26,7 +26,7 @@ pub fn lay_datum(alloc: Global, datum: &Datum, store: &mut Store) -> Result<Word
 #[cycle(lay)]
 #[tactic(auto, using(crate::proofs::Made::atom_made))]
 fn lay_kind(alloc: Global, kind: &Kind, store: &mut Store) -> Result<Word, NoMemory>
-    ensures { IfOk result (λ w. IsMade value_of_word (λ names. laid (lay_content names (view_content kind.now))) store.old store.new w) }
+    ensures { IfOk result (λ w. IsMadeBy value_of_word (λ names. laid (lay_content names (view_content kind.now))) store.old store.new w) }
 {
     match kind {
         Kind::Int(number) => Ok(Word::Integer(*number)),
@@ -49,7 +49,7 @@ fn symbol_word(symbol: Symbol) -> Word
 }
 
 fn lay_text(alloc: Global, bytes: &Bytes, store: &mut Store) -> Result<Word, NoMemory>
-    ensures { IfOk result (λ w. IsMade value_of_word (λ names. single (string bytes.now)) store.old store.new w) }
+    ensures { IfOk result (λ w. IsMadeBy value_of_word (λ names. single (string bytes.now)) store.old store.new w) }
 {
     let copy = Bytes::from_slice(alloc, bytes.as_slice())?;
     add_object(store, Object::Text(copy))
@@ -57,7 +57,7 @@ fn lay_text(alloc: Global, bytes: &Bytes, store: &mut Store) -> Result<Word, NoM
 
 #[cycle(lay)]
 fn lay_vector(alloc: Global, items: &DatumList, store: &mut Store) -> Result<Word, NoMemory>
-    ensures { IfOk result (λ w. IsMade value_of_word (λ names. laid (lay_content names (vector (items_of items.now)))) store.old store.new w) }
+    ensures { IfOk result (λ w. IsMadeBy value_of_word (λ names. laid (lay_content names (vector (items_of items.now)))) store.old store.new w) }
 {
     let words = lay_items(alloc, items, store)?;
     add_object(store, Object::Vector(words))
@@ -66,7 +66,7 @@ fn lay_vector(alloc: Global, items: &DatumList, store: &mut Store) -> Result<Wor
 #[cycle(lay)]
 #[tactic(auto, using(base::specs::model::DataSizes::item_in_smaller, crate::proofs::Turns::none_made))]
 fn lay_items(alloc: Global, items: &DatumList, store: &mut Store) -> Result<Elements, NoMemory>
-    ensures { IfOk result (λ ws. IsMade values_of (λ names. in_turn (λ d. laid (lay names d)) items.now) store.old store.new ws) }
+    ensures { IfOk result (λ ws. IsMadeBy values_of (λ names. in_turn (λ d. laid (lay names d)) items.now) store.old store.new ws) }
 {
     let mut words = Elements::new(alloc);
     for at in 0..items.len() {
@@ -86,7 +86,7 @@ fn lay_list(
     tail: &Option<Box<Datum>>,
     store: &mut Store,
 ) -> Result<Word, NoMemory>
-    ensures { IfOk result (λ w. IsMade value_of_word (λ names. laid (lay_content names (list (items_of items.now) (tail_of tail.now)))) store.old store.new w) }
+    ensures { IfOk result (λ w. IsMadeBy value_of_word (λ names. laid (lay_content names (list (items_of items.now) (tail_of tail.now)))) store.old store.new w) }
 {
     let words = lay_items(alloc, items, store)?;
     let end = lay_tail(alloc, tail, store)?;
@@ -96,7 +96,7 @@ fn lay_list(
 #[cycle(lay)]
 #[tactic(auto, using(crate::proofs::Made::atom_made))]
 fn lay_tail(alloc: Global, tail: &Option<Box<Datum>>, store: &mut Store) -> Result<Word, NoMemory>
-    ensures { IfOk result (λ w. IsMade value_of_word (λ names. laid (lay_tail names (tail_of tail.now))) store.old store.new w) }
+    ensures { IfOk result (λ w. IsMadeBy value_of_word (λ names. laid (lay_tail names (tail_of tail.now))) store.old store.new w) }
 {
     match tail {
         None => Ok(Word::Nil),

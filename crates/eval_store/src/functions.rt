@@ -3,8 +3,8 @@
 ghost use Rattle.std.specs.Prelude.{◌≡◌, ◌<◌, [], IfOk, OnOk, length};
 ghost use Rattle.eval_store.specs.Words.{values_of};
 ghost use Rattle.lang_meaning.specs.Recipes.{in_turn, function_recipe};
-ghost use Rattle.eval_store.specs.Recipes.{IsMade};
-ghost use Rattle.eval_store.specs.Tables.{entry_of, IsAlike, IsSet, IsFunction, IsNoting, AreNamed};
+ghost use Rattle.eval_store.specs.Recipes.{IsMadeBy};
+ghost use Rattle.eval_store.specs.Tables.{entry_of, IsAlike, IsSet, IsFunctionObject, IsNoting, AreNamed};
 
 use crate::making::add_object;
 use crate::{Object, Spellings, Store, Word};
@@ -90,7 +90,7 @@ fn add_functions(
     rows: &FunctionRows,
     store: &mut Store,
 ) -> Result<ItemList<Word>, NoMemory>
-    ensures { IfOk result (λ ws. IsMade values_of (λ names. in_turn function_recipe rows.now) store.old store.new ws) }
+    ensures { IfOk result (λ ws. IsMadeBy values_of (λ names. in_turn function_recipe rows.now) store.old store.new ws) }
 {
     let mut words = ItemList::new(alloc);
     for at in 0..rows.len() {
@@ -104,7 +104,7 @@ fn add_functions(
 }
 
 fn function_object<'p>(callee: Callee) -> Object<'p>
-    ensures { IsFunction callee result }
+    ensures { IsFunctionObject callee result }
 {
     match callee {
         Callee::Procedure(procedure) => Object::Function(procedure),

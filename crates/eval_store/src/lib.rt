@@ -5,7 +5,7 @@ pub mod called;
 mod classes;
 mod datum;
 pub mod functions;
-pub mod layout;
+pub mod initial_heap;
 mod literals;
 mod making;
 pub mod named_values;
@@ -16,7 +16,7 @@ pub mod store;
 pub mod word;
 
 pub use called::{Arguments, Called, Rest};
-pub use layout::{Layout, lay_out};
+pub use initial_heap::{InitialHeap, lay_initial_heap};
 pub use named_values::NamedValues;
 pub use object::{Captured, CapturedList, Elements, Instance, Object, Slots};
 pub use spellings::Spellings;

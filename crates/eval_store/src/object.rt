@@ -15,12 +15,12 @@ pub type Slots = ItemList<Option<Word>>;
 /// What a function captured, in the order of its procedure.
 pub type CapturedList<'p> = ItemList<Captured<'p>>;
 
-/// What a function captured: a value; a cell, by its number among the variables; an exit, by its number; or the arguments
+/// What a function captured: a value; a box, by its number among the variables; an exit, by its number; or the arguments
 /// and the other methods of a method.
 #[derive(Drop)]
 pub enum Captured<'p> {
     Value(Word),
-    Cell(Option<usize>),
+    Boxed(Option<usize>),
     Exit(Option<u64>),
     Method(Option<Called<'p>>),
 }

@@ -1,10 +1,10 @@
 // What slots make: the lists of their initargs, and the functions of their initforms.
 
 ghost use Rattle.std.specs.Prelude.{◌≡◌, ℕ, List, IfOk, map};
-ghost use Rattle.lang_meaning.specs.Layout.{initform_objects};
+ghost use Rattle.lang_meaning.specs.InitialHeap.{initform_objects};
 ghost use Rattle.eval_store.specs.Words.{value_of_word, values_of};
 ghost use Rattle.lang_meaning.specs.Recipes.{in_turn, last_of, initform_recipe};
-ghost use Rattle.eval_store.specs.Recipes.{IsMade};
+ghost use Rattle.eval_store.specs.Recipes.{IsMadeBy};
 ghost use Rattle.eval_store.specs.Parts.{slot_recipe, slots_recipe, symbols_of};
 ghost use Rattle.eval_store.specs.Tables.{slot_values, slots_values};
 
@@ -31,7 +31,7 @@ pub fn lay_slots(
     classes: &ClassRows,
     store: &mut Store,
 ) -> Result<ItemList<SlotWordsList>, NoMemory>
-    ensures { IfOk result (λ wss. IsMade (λ names. map (slots_values names)) (λ names. in_turn (slots_recipe names) classes.now) store.old store.new wss) }
+    ensures { IfOk result (λ wss. IsMadeBy (λ names. map (slots_values names)) (λ names. in_turn (slots_recipe names) classes.now) store.old store.new wss) }
 {
     let mut slots = ItemList::new(alloc);
     for at in 0..classes.len() {
@@ -51,7 +51,7 @@ fn lay_slots_of(
     slots: &SlotRows,
     store: &mut Store,
 ) -> Result<SlotWordsList, NoMemory>
-    ensures { IfOk result (λ ws. IsMade slots_values (λ names. in_turn (slot_recipe names) slots.now) store.old store.new ws) }
+    ensures { IfOk result (λ ws. IsMadeBy slots_values (λ names. in_turn (slot_recipe names) slots.now) store.old store.new ws) }
 {
     let mut words = SlotWordsList::new(alloc);
     for at in 0..slots.len() {
@@ -66,7 +66,7 @@ fn lay_slots_of(
 
 // The objects of a slot.
 fn lay_slot(alloc: Global, slot: &SlotRow, store: &mut Store) -> Result<SlotWords, NoMemory>
-    ensures { IfOk result (λ w. IsMade slot_values (λ names. slot_recipe names slot.now) store.old store.new w) }
+    ensures { IfOk result (λ w. IsMadeBy slot_values (λ names. slot_recipe names slot.now) store.old store.new w) }
 {
     let names = symbols(alloc, &slot.initargs)?;
     let initargs = add_list(store, &names, Word::Nil)?;
@@ -92,7 +92,7 @@ fn symbols(alloc: Global, list: &NameList) -> Result<ItemList<Word>, NoMemory>
 // The function of an initform, if there is one.
 #[tactic(auto, using(crate::proofs::Made::atom_made))]
 fn lay_initform(initform: Option<ProcedureId>, store: &mut Store) -> Result<Word, NoMemory>
-    ensures { IfOk result (λ w. IsMade value_of_word (λ names. initform_recipe initform) store.old store.new w) }
+    ensures { IfOk result (λ w. IsMadeBy value_of_word (λ names. initform_recipe initform) store.old store.new w) }
 {
     match initform {
         Some(procedure) => add_object(store, Object::Function(procedure)),

@@ -11,7 +11,7 @@ ghost use Rattle.lang_meaning.specs.Signals.{marked};
 ghost use Rattle.flat_language.specs.FlatState.{gives, on_state, charged, exit_made, with_values};
 ghost use Rattle.flat_language.specs.FlatState as flat;
 ghost use Rattle.eval_store.specs.Words.{value_of_word, object_of, captured_by};
-ghost use Rattle.eval_store.specs.View.{Beside, seen, nothing_seen, Becomes, Stays, Answers, limit_of, requested, placed, built, symbol_built, IsFetched};
+ghost use Rattle.eval_store.specs.View.{Beside, seen, nothing_seen, Becomes, StoreStays, Answers, limit_of, requested, placed, built, symbol_built, IsFetched};
 ghost use Rattle.eval_store.specs.Requests.{IsAdmitted, IsPlaced, IsSame};
 ghost use Rattle.eval_store.specs.declared.store.Halt.TheVariants as halt;
 
@@ -80,7 +80,7 @@ impl<'p> Store<'p> {
     /// Units are counted; `Spent`, where 64 bits do not hold as many.
     pub fn charge(&mut self, units: u64) -> Result<(), Halt>
         ensures answer { Answers result (λ names _. nil) self.old self.new (λ names b z. gives nil (charged units z)) }
-        ensures err { OnErr result (Stays self.old self.new) }
+        ensures err { OnErr result (StoreStays self.old self.new) }
         ensures spent { OnErr result ((names : List (List ℕ)) (b : Beside) → 2 ^ 64 ≤ (seen names self.old b).state.units + units) }
         ensures why { IfErr result (λ h. h ≡ halt.Spent) }
     {
@@ -95,7 +95,7 @@ impl<'p> Store<'p> {
     pub fn request(&mut self, limit: Option<u64>, heap: u64, stack: u64) -> Result<(), Halt>
         requires { heap + stack < 2 ^ 64 }
         ensures answer { Answers result (λ names _. nil) self.old self.new (λ names b z. requested (limit_of limit) heap stack z) }
-        ensures err { OnErr result (Stays self.old self.new) }
+        ensures err { OnErr result (StoreStays self.old self.new) }
     {
         let peak = self.admitted(limit, heap, stack)?;
         self.enter(heap, stack, peak);
@@ -125,7 +125,7 @@ impl<'p> Store<'p> {
         object: Object<'p>,
     ) -> Result<Word, Halt>
         ensures answer { Answers result value_of_word self.old self.new (λ names b z. built names (limit_of limit) size besides object.entry z) }
-        ensures err { OnErr result (Stays self.old self.new) }
+        ensures err { OnErr result (StoreStays self.old self.new) }
     {
         let peak = match self.admitted(limit, size, 0) {
             Ok(peak) => peak,
@@ -151,7 +151,7 @@ impl<'p> Store<'p> {
     pub fn add(&mut self, object: Object<'p>) -> Result<usize, NoMemory>
         ensures number { IfOk result (λ n. (names : List (List ℕ)) (b : Beside) → n ≡ length (seen names self.old b).state.store) }
         ensures ok { OnOk result (Becomes self.old self.new (λ names b. placed names object.entry)) }
-        ensures err { OnErr result (Stays self.old self.new) }
+        ensures err { OnErr result (StoreStays self.old self.new) }
     {
         let number = self.place(object)?;
         Ok(number)
@@ -207,7 +207,7 @@ impl<'p> Store<'p> {
     pub fn add_variable(&mut self, word: Word) -> Result<usize, NoMemory>
         ensures number { IfOk result (λ n. (names : List (List ℕ)) (b : Beside) → n ≡ length (seen names self.old b).state.variables) }
         ensures ok { OnOk result (Becomes self.old self.new (λ names b z. with_values (value_of_word names word ∷ []) z)) }
-        ensures err { OnErr result (Stays self.old self.new) }
+        ensures err { OnErr result (StoreStays self.old self.new) }
     {
         let number = self.variables.len();
         self.variables.push(word)?;
@@ -218,7 +218,7 @@ impl<'p> Store<'p> {
     pub fn make_exit(&mut self) -> Result<u64, Halt>
         ensures number { IfOk result (λ n. n ≡ self.old.exits) }
         ensures ok { OnOk result (Becomes self.old self.new (λ names b z. exit_made z)) }
-        ensures err { OnErr result (Stays self.old self.new × (2 ^ 64 ≤ self.old.exits + 1)) }
+        ensures err { OnErr result (StoreStays self.old self.new × (2 ^ 64 ≤ self.old.exits + 1)) }
         ensures why { IfErr result (λ h. h ≡ halt.Spent) }
     {
         let number = self.exits;
@@ -232,7 +232,7 @@ impl<'p> Store<'p> {
     /// A symbol is made, with the next serial.
     pub fn make_symbol(&mut self, limit: Option<u64>) -> Result<Word, Halt>
         ensures answer { Answers result value_of_word self.old self.new (λ names b z. symbol_built names (limit_of limit) z) }
-        ensures err { OnErr result (Stays self.old self.new) }
+        ensures err { OnErr result (StoreStays self.old self.new) }
     {
         let serial = self.symbols;
         let Some(next) = serial.checked_add(1) else {

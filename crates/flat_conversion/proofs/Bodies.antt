@@ -13,7 +13,7 @@ use Rattle.flat_language.specs.Flatten.{home_of_rest}
 use Rattle.flat_conversion.specs.declared.places.Places.{Places}
 use Rattle.flat_conversion.specs.declared.variables.NewVariable.{NewVariable}
 use Rattle.flat_conversion.specs.NewVariables.{new_variable, new_variables, known_in_slot, homes_of_new, slots_of, with_new}
-use Rattle.lang_meaning.specs.declared.part.Part.{Part}
+use Rattle.lang_meaning.specs.declared.capture.Capture.{Capture}
 use Rattle.lang_meaning.specs.Form.{BindingForms, let_form}
 use Rattle.flat_language.specs.declared.place.CapturedKind.{CapturedKind}
 use Rattle.flat_language.specs.declared.place.Home.{Home}
@@ -181,7 +181,7 @@ procedure_made captured required rest body table p q before next after own count
 }
 
 -- a function, whose procedure is put in the place that was reserved for it
-pub function_made : (kinds : List CapturedKind) (required : List ℕ) (rest : Option ℕ) (body : Form) (parts : List Part) (table : List Binder) (p q r : Places) (before between after : Progress) (reserved made : FlatProcedure) (pushed all : List FlatProcedure) (number : ℕ)
+pub function_made : (kinds : List CapturedKind) (required : List ℕ) (rest : Option ℕ) (body : Form) (parts : List Capture) (table : List Binder) (p q r : Places) (before between after : Progress) (reserved made : FlatProcedure) (pushed all : List FlatProcedure) (number : ℕ)
     → number ≡ length before.lambdas → pushed ≡ before.lambdas ++ reserved ∷ [] → kinds ≡ kinds_of (scope_of p) parts → scope_of q ≡ seen (scope_of p) parts
     → between ≡ (let b : Progress = record before { lambdas = pushed } in b)
     → MakesProcedure kinds required rest body table q r between after made → all ≡ slice_set after.lambdas number made

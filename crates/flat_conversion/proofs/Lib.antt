@@ -1,4 +1,4 @@
-pub mod CellWalks
+pub mod BoxWalks
 pub mod Turns
 pub mod Names
 pub mod Captured

@@ -5,8 +5,8 @@ use Rattle.std.specs.List.{list_any}
 use Rattle.std.proofs.lemmas.List.{append-nil}
 use Rattle.std.proofs.Math.Seq.{drop-append_seam, set-append_seam}
 use Rattle.base.specs.model.DataRest.{rest_at}
-use Rattle.lang_meaning.specs.declared.part.Part.{Part}
-use Rattle.lang_meaning.specs.declared.part.Part.TheVariants.{Variable, Method}
+use Rattle.lang_meaning.specs.declared.capture.Capture.{Capture}
+use Rattle.lang_meaning.specs.declared.capture.Capture.TheVariants.{Variable, Method}
 use Rattle.lang_meaning.specs.Captured.{captures, sets, sets_itself}
 use Rattle.lang_meaning.specs.Form.{Form, BindingForms, let_form, lambda, parameters}
 use Rattle.lang_meaning.specs.Meaning.{bound_variables}
@@ -18,7 +18,7 @@ use Rattle.lang_meaning.specs.bridge.Walks.{folded}
 use Rattle.flat_conversion.specs.declared.marks.Marks.{Marks}
 use Rattle.flat_conversion.specs.declared.variables.Binder.{Binder}
 use Rattle.flat_conversion.specs.Binders.{binder, own_binders, all_before, binders_step, binders, binders_of_procedures, binders_of_mains}
-use Rattle.flat_conversion.specs.Listing.{IsPlain, Lists, ListsAll, ListsBody}
+use Rattle.flat_conversion.specs.Listing.{BindsNothing, Lists, ListsAll, ListsBody}
 use Rattle.flat_conversion.specs.Marks.{Adds, is_set, is_captured}
 use Rattle.flat_conversion.proofs.Marking.{or_assoc, or_false, plain_marked, let_marked, function_marked}
 
@@ -58,7 +58,7 @@ binders_folded : (f : Form) (rest : List Binder) → own_binders f ++ all_before
 binders_folded f rest = sym (ap (λ (g : List Binder → List Binder). g rest) (folded binders_step f))
 
 -- a form that binds no variables
-pub plain_listed : (f : Form) → IsPlain f → (outs ins : List Form) → outs ≡ outer f → ins ≡ inner f → (before between after : List Binder) (a b d e : Marks)
+pub plain_listed : (f : Form) → BindsNothing f → (outs ins : List Form) → outs ≡ outer f → ins ≡ inner f → (before between after : List Binder) (a b d e : Marks)
     → Adds a b (λ v. sets_itself v f) (λ v. false) false → ListsAll outs before between b d → ListsAll ins between after d e → Lists f before after a e
 plain_listed f plain outs ins o i before between after a b d e first second third = record {
   put = λ rest.
@@ -112,7 +112,7 @@ let_listed bs body f same vs are outs o before pushed valued after reserved numb
       marked = let_marked bs body outs o2 a b d inside values.marked g.marked joined;
     })
 
-pub function_listed : (required : List ℕ) (rest : Option ℕ) (body : Form) (parts : List Part) (vs : List ℕ) → vs ≡ parameters required rest → (before pushed after : List Binder) (reserved : Binder) (number : ℕ) (a b d inside : Marks)
+pub function_listed : (required : List ℕ) (rest : Option ℕ) (body : Form) (parts : List Capture) (vs : List ℕ) → vs ≡ parameters required rest → (before pushed after : List Binder) (reserved : Binder) (number : ℕ) (a b d inside : Marks)
     → number ≡ length before → pushed ≡ before ++ reserved ∷ [] → ListsBody vs body number pushed after inside
     → Adds a b (is_set inside) (λ v. false) false → Adds b d (λ v. false) (λ v. list_any (same_part (Variable v)) parts) (list_any (same_part Method) parts)
     → Lists (lambda required rest body parts) before after a d

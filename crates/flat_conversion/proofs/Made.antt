@@ -15,7 +15,7 @@ use Rattle.lang_meaning.specs.Form.{Form}
 use Rattle.flat_language.specs.Flatten.{flat, inner_procedures}
 use Rattle.flat_language.specs.declared.flat_core.FlatCoreForm.{FlatCoreForm}
 use Rattle.flat_language.specs.model.View.{view_form}
-use Rattle.flat_conversion.specs.Shapes.{IsMade}
+use Rattle.flat_conversion.specs.Shapes.{IsFlattened}
 use Rattle.flat_conversion.specs.Makes.{MakesSo, Makes, MakesForm}
 
 -- seen as something else
@@ -115,7 +115,7 @@ passed one inside table before between after made rest e g = record {
 -- a form, of what is made of its parts
 pub formed : {X : Type 0} (f : Form) (make : X → FlatForm) (one : Scope → ℕ → X) (inside : Scope → ℕ → List FlatProcedure) (front : List Binder → List Binder) (table : List Binder) (p q : Places) (before after : Progress) (part : X) (made : FlatForm)
     → Makes one inside front table p q before after part → made ≡ make part
-    → IsMade f (scope_of p) (λ n. make (one (scope_of p) n)) (inside (scope_of p)) front → MakesForm f table p q before after made
+    → IsFlattened f (scope_of p) (λ n. make (one (scope_of p) n)) (inside (scope_of p)) front → MakesForm f table p q before after made
 formed f make one inside front table p q before after part made g is so = record {
   same = g.same;
   longer = g.longer;

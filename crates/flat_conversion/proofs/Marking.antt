@@ -8,8 +8,8 @@ use Rattle.std.proofs.lemmas.Bool.{eq-eqb, ne_eqb, lt-ltb, le-ltb, cases_eq, cas
 use Rattle.std.proofs.lemmas.List.{take_all}
 use Rattle.base.specs.model.DataRest.{take_at}
 use Rattle.std.specs.List.{list_any}
-use Rattle.lang_meaning.specs.declared.part.Part.{Part}
-use Rattle.lang_meaning.specs.declared.part.Part.TheVariants.{Variable, Method}
+use Rattle.lang_meaning.specs.declared.capture.Capture.{Capture}
+use Rattle.lang_meaning.specs.declared.capture.Capture.TheVariants.{Variable, Method}
 use Rattle.lang_meaning.specs.Captured.{captures, sets, sets_itself}
 use Rattle.lang_meaning.specs.Form.{Form, BindingForms, no_binding, binding_and, let_form, lambda, parameters}
 use Rattle.lang_meaning.specs.Meaning.{bound_variables}
@@ -18,10 +18,10 @@ use Rattle.lang_meaning.specs.Subforms.{outer, inner}
 use Rattle.flat_conversion.specs.declared.marks.Marks.{Marks}
 use Rattle.flat_conversion.specs.Binders.{binder}
 use Rattle.flat_conversion.specs.Found.{has_variable}
-use Rattle.flat_conversion.specs.Listing.{IsPlain}
+use Rattle.flat_conversion.specs.Listing.{BindsNothing}
 use Rattle.flat_conversion.specs.Marks.{AreMarks, Adds, Forgets, IsUnion, is_set, is_captured, marked_variables, marked_binder}
 use Rattle.flat_conversion.specs.NewVariables.{new_variables}
-use Rattle.flat_conversion.proofs.CellWalks.{captures_folded, sets_folded, any_of_both}
+use Rattle.flat_conversion.proofs.BoxWalks.{captures_folded, sets_folded, any_of_both}
 
 pub or_assoc : (a b c : Bool) → ((a || b) || c) ≡ (a || (b || c))
 or_assoc true b c = refl
@@ -52,7 +52,7 @@ pub unmarked : (a : Marks) → Adds a a (λ v. false) (λ v. false) false
 unmarked a = record { set_so = λ v. sym (or_false (is_set a v)); captured_so = λ v. sym (or_false (is_captured a v)); method_so = sym (or_false a.method) }
 
 -- a form that binds no variables
-pub plain_marked : (f : Form) → IsPlain f → (outs ins : List Form) → outs ≡ outer f → ins ≡ inner f → (a b d e : Marks)
+pub plain_marked : (f : Form) → BindsNothing f → (outs ins : List Form) → outs ≡ outer f → ins ≡ inner f → (a b d e : Marks)
     → Adds a b (λ v. sets_itself v f) (λ v. false) false
     → Adds b d (λ v. list_any (sets v) outs) (λ v. list_any (captures (Variable v)) outs) (list_any (captures Method) outs)
     → Adds d e (λ v. list_any (sets v) ins) (λ v. list_any (captures (Variable v)) ins) (list_any (captures Method) ins)
@@ -101,7 +101,7 @@ let_marked bs body outs o a b d inside first marks second =
     ∙ sym (captures_folded Method f))
     (added a b d (λ v. list_any (sets v) outs) (is_set inside) (λ v. list_any (captures (Variable v)) outs) (is_captured inside) (list_any (captures Method) outs) inside.method first second)
 
-pub function_marked : (required : List ℕ) (rest : Option ℕ) (body : Form) (parts : List Part) (a b d inside : Marks)
+pub function_marked : (required : List ℕ) (rest : Option ℕ) (body : Form) (parts : List Capture) (a b d inside : Marks)
     → AreMarks inside (λ v. not (has_variable v (parameters required rest)) && sets v body) (λ v. not (has_variable v (parameters required rest)) && captures (Variable v) body) (captures Method body)
     → Adds a b (is_set inside) (λ v. false) false
     → Adds b d (λ v. false) (λ v. list_any (same_part (Variable v)) parts) (list_any (same_part Method) parts)
@@ -170,7 +170,7 @@ any_more p xs at x h =
     ap (λ b. list_any p (take at xs) || b) (sym (or_false (p x))) ∙ sym (any_of_both p (take at xs) (x ∷ [])) ∙ ap (list_any p) (sym (take_at xs at x h))
 
 -- one part more
-pub part_captured : (ps : List Part) (at : ℕ) (p : Part) (a b d : Marks) → slice_get ps at ≡ Some p
+pub part_captured : (ps : List Capture) (at : ℕ) (p : Capture) (a b d : Marks) → slice_get ps at ≡ Some p
     → Adds a b (λ v. false) (λ v. list_any (same_part (Variable v)) (take at ps)) (list_any (same_part Method) (take at ps))
     → Adds b d (λ v. false) (λ v. same_part (Variable v) p) (same_part Method p)
     → Adds a d (λ v. false) (λ v. list_any (same_part (Variable v)) (take (at + 1) ps)) (list_any (same_part Method) (take (at + 1) ps))
@@ -221,10 +221,10 @@ from_none body a b none found = record {
 }
 
 -- all parts, and all variables, when a loop is at its end
-pub all_captured : (ps : List Part) (at : ℕ) (a b : Marks) → length ps ≤ at → Adds a b (λ v. false) (λ v. list_any (same_part (Variable v)) (take at ps)) (list_any (same_part Method) (take at ps))
+pub all_captured : (ps : List Capture) (at : ℕ) (a b : Marks) → length ps ≤ at → Adds a b (λ v. false) (λ v. list_any (same_part (Variable v)) (take at ps)) (list_any (same_part Method) (take at ps))
     → Adds a b (λ v. false) (λ v. list_any (same_part (Variable v)) ps) (list_any (same_part Method) ps)
 all_captured ps at a b h g =
-    let P : List Part → Type 0 = λ qs. Adds a b (λ v. false) (λ v. list_any (same_part (Variable v)) qs) (list_any (same_part Method) qs) in subst P (take_all at ps h) g
+    let P : List Capture → Type 0 = λ qs. Adds a b (λ v. false) (λ v. list_any (same_part (Variable v)) qs) (list_any (same_part Method) qs) in subst P (take_all at ps h) g
 
 pub all_forgotten : (vs : List ℕ) (at : ℕ) (a b : Marks) → length vs ≤ at → Forgets (take at vs) a b → Forgets vs a b
 all_forgotten vs at a b h g = let P : List ℕ → Type 0 = λ us. Forgets us a b in subst P (take_all at vs h) g

@@ -1,6 +1,6 @@
 -- The binders of a form: what each form that binds variables binds, in the order in which the walk meets them.
 use Rattle.std.specs.Prelude.{ℕ, List, [], ◌∷◌, ◌++◌, Option}
-use Rattle.lang_meaning.specs.declared.part.Part.TheVariants.{Method}
+use Rattle.lang_meaning.specs.declared.capture.Capture.TheVariants.{Method}
 use Rattle.lang_meaning.specs.declared.program.Procedure.{Procedure}
 use Rattle.lang_meaning.specs.Captured.{captures}
 use Rattle.lang_meaning.specs.Form.{Form, Forms, ClauseForms, MaybeForm, BindingForms, DynamicForms, let_form, lambda, parameters}

@@ -1,7 +1,7 @@
 -- What the walk that lists binders makes of a form: its binders, and its marks.
 use Rattle.std.specs.Prelude.{◌≡◌, ℕ, Bool, false, not, ◌&&◌, List, [], ◌++◌, map, slice_set}
 use Rattle.std.specs.List.{list_any}
-use Rattle.lang_meaning.specs.declared.part.Part.TheVariants.{Variable, Method}
+use Rattle.lang_meaning.specs.declared.capture.Capture.TheVariants.{Variable, Method}
 use Rattle.lang_meaning.specs.Captured.{captures, captures_inside, sets}
 use Rattle.lang_meaning.specs.Form.{Form, let_form, lambda}
 use Rattle.lang_meaning.specs.Mentions.{binds}
@@ -15,14 +15,14 @@ use Rattle.flat_conversion.specs.Found.{has_variable}
 use Rattle.flat_conversion.specs.Marks.{AreMarks, Adds}
 
 -- a form that binds no variables
-pub record IsPlain (f : Form) : Type 0 where
+pub record BindsNothing (f : Form) : Type 0 where
   pub own : own_binders f ≡ []
   pub free : (v : ℕ) → binds (Variable v) f ≡ false
   pub inside : (v : ℕ) (b : Bool) → captures_inside (Variable v) f b ≡ b
   pub method : (b : Bool) → captures_inside Method f b ≡ b
 
 abbrev pub IsBinding : Form → Binding → Type 0
-IsBinding f Nothing = IsPlain f
+IsBinding f Nothing = BindsNothing f
 IsBinding f (Variables list body) = f ≡ let_form (bindings_of list.now) body.now
 IsBinding f (Function required rest body parts) = f ≡ lambda required.now rest body.now parts.now
 

@@ -2,7 +2,7 @@
 use Rattle.std.specs.Prelude.{◌≡◌, ◌≤◌, ℕ, ◌+◌, List, ◌∷◌, ◌++◌, Option, length, drop, option_map}
 use Rattle.lang_meaning.specs.Form.{Form, Forms, ClauseForms, BindingForms, DynamicForms}
 use Rattle.lang_meaning.specs.Meaning.{bound_variables}
-use Rattle.lang_meaning.specs.declared.part.Part.{Part}
+use Rattle.lang_meaning.specs.declared.capture.Capture.{Capture}
 use Rattle.lang_meaning.specs.model.View.{maybe_form}
 use Rattle.flat_language.specs.declared.place.CapturedKind.{CapturedKind}
 use Rattle.flat_language.specs.declared.program.FlatProcedure.{FlatProcedure}
@@ -72,7 +72,7 @@ abbrev pub MakesDynamics : DynamicForms → List Binder → Places → Places �
 MakesDynamics ds = Makes (λ s n. flat_dynamics s n ds) (λ s n. procedures_of_dynamics s n ds) (binders_of_dynamics ds)
 
 -- a function: its number; its procedure comes before those of the functions inside it
-abbrev pub MakesFunction : List ℕ → Option ℕ → Form → List Part → List Binder → Places → Places → Progress → Progress → ℕ → Type 0
+abbrev pub MakesFunction : List ℕ → Option ℕ → Form → List Capture → List Binder → Places → Places → Progress → Progress → ℕ → Type 0
 MakesFunction required rest body parts =
     Makes (λ s n. n)
     (λ s n. flat_procedure (seen s parts) (n + 1) (kinds_of s parts) required rest body ∷ inner_procedures (body_scope required rest body (seen s parts)) (n + 1) body)

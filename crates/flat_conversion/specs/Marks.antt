@@ -2,7 +2,7 @@
 use Rattle.std.specs.Prelude.{◌≡◌, ℕ, Bool, not, ◌&&◌, ◌||◌, List, [], ◌∷◌, if◌then◌else◌}
 use Rattle.std.specs.Ordering.{nat_cmp}
 use Rattle.std.specs.BTreeSet.{BTreeSet, contains}
-use Rattle.flat_language.specs.declared.place.Home.TheVariants.{Slot, Cell}
+use Rattle.flat_language.specs.declared.place.Home.TheVariants.{Slot, Boxed}
 use Rattle.flat_conversion.specs.declared.marks.Marks.{Marks}
 use Rattle.flat_conversion.specs.declared.variables.Binder.{Binder}
 use Rattle.flat_conversion.specs.declared.variables.NewVariable.{NewVariable}
@@ -36,7 +36,7 @@ Forgets vs before after =
 
 -- variables of a body with these marks
 abbrev pub marked_variable : Marks → ℕ → NewVariable
-marked_variable m v = record { var = v; home = if is_captured m v && is_set m v then Cell else Slot; fixed = not (is_set m v) }
+marked_variable m v = record { var = v; home = if is_captured m v && is_set m v then Boxed else Slot; fixed = not (is_set m v) }
 
 abbrev pub marked_variables : Marks → List ℕ → List NewVariable
 marked_variables m [] = []

@@ -56,23 +56,23 @@ over_forms many.CallValue fs = call_value fs
 over_forms (many.Prim which) fs = prim which fs
 
 -- in that scope the translation has this form, these procedures of the functions inside, and these binders before the rest
-pub record IsMade (f : Form) (s : Scope) (made : ℕ → FlatForm) (inside : ℕ → List FlatProcedure) (front : List Binder → List Binder) : Type 0 where
+pub record IsFlattened (f : Form) (s : Scope) (made : ℕ → FlatForm) (inside : ℕ → List FlatProcedure) (front : List Binder → List Binder) : Type 0 where
   pub same : (n : ℕ) → made n ≡ flat s n f
   pub alike : (n : ℕ) → inside n ≡ inner_procedures s n f
   pub ahead : (rest : List Binder) → binders f rest ≡ front rest
 
 abbrev pub IsShape : Form → Scope → Shape → Type 0
-IsShape f s (shape.Alone l) = IsMade f s (λ n. leaf_form l) (λ n. []) (λ rest. rest)
+IsShape f s (shape.Alone l) = IsFlattened f s (λ n. leaf_form l) (λ n. []) (λ rest. rest)
 IsShape f s (shape.OverForm kind inner) =
     (form_size f ≡ form_size inner.now + 1)
-    × IsMade f s (λ n. over_form kind (flat s n inner.now)) (λ n. inner_procedures s n inner.now) (binders inner.now)
+    × IsFlattened f s (λ n. over_form kind (flat s n inner.now)) (λ n. inner_procedures s n inner.now) (binders inner.now)
 IsShape f s (shape.OverTwo kind first second) =
     (form_size f ≡ form_size first.now + form_size second.now + 1)
-    × IsMade f s (λ n. over_two kind (flat s n first.now) (flat s (n + functions first.now) second.now))
+    × IsFlattened f s (λ n. over_two kind (flat s n first.now) (flat s (n + functions first.now) second.now))
     (λ n. inner_procedures s n first.now ++ inner_procedures s (n + functions first.now) second.now) (λ rest. binders first.now (binders second.now rest))
 IsShape f s (shape.OverForms kind list) =
     (form_size f ≡ forms_size (forms list.now) + 1)
-    × IsMade f s (λ n. over_forms kind (flat_forms s n (forms list.now))) (λ n. procedures_of_forms s n (forms list.now)) (binders_of_forms (forms list.now))
+    × IsFlattened f s (λ n. over_forms kind (flat_forms s n (forms list.now))) (λ n. procedures_of_forms s n (forms list.now)) (binders_of_forms (forms list.now))
 IsShape f s (shape.Clauses list) = f ≡ core.clauses (clauses_of list.now)
 IsShape f s (shape.Let list body) = f ≡ core.let_form (bindings_of list.now) body.now
 IsShape f s (shape.Lambda required rest body parts) = f ≡ core.lambda required.now rest body.now parts.now

@@ -7,13 +7,13 @@ ghost use Rattle.lang_meaning.specs.model.View.{bindings_of};
 ghost use Rattle.flat_conversion.specs.Marks.{Adds};
 ghost use Rattle.flat_conversion.specs.declared.variables.Binder.{Binder as ABinder};
 ghost use Rattle.flat_conversion.specs.Binders.{binders_of_procedures, binders_of_mains};
-ghost use Rattle.flat_conversion.specs.Listing.{IsPlain, IsBinding, Lists, ListsAll, ListsBody};
+ghost use Rattle.flat_conversion.specs.Listing.{BindsNothing, IsBinding, Lists, ListsAll, ListsBody};
 
 use crate::marks::Marks;
 use crate::variables::{Binder, BinderList, NewVariables, bound, parameters};
 use base::NoMemory;
 use lang_meaning::{
-    BindingList, Core, CoreForm, CoreList, PartList, ProcedureList, ProgramRows, Subforms, Var,
+    BindingList, CaptureList, Core, CoreForm, CoreList, ProcedureList, ProgramRows, Subforms, Var,
     VarList,
 };
 use std::alloc::Global;
@@ -103,7 +103,7 @@ fn list_plain(
     marks: &mut Marks,
     form: &Core,
 ) -> Result<(), NoMemory>
-    requires { IsPlain form.now }
+    requires { BindsNothing form.now }
     ensures { OnOk result (Lists form.now made.old made.new marks.old marks.new) }
 {
     set_itself(marks, form)?;
@@ -155,7 +155,7 @@ fn list_function(
     required: &VarList,
     rest: Option<Var>,
     body: &Core,
-    parts: &PartList,
+    parts: &CaptureList,
 ) -> Result<(), NoMemory>
     ensures { OnOk result (Lists (lambda required.now rest body.now parts.now) made.old made.new marks.old marks.new) }
 {
@@ -200,7 +200,7 @@ fn reserved(alloc: Global) -> Binder {
 enum Binding<'a> {
     Nothing,
     Variables(&'a BindingList, &'a Core),
-    Function(&'a VarList, Option<Var>, &'a Core, &'a PartList),
+    Function(&'a VarList, Option<Var>, &'a Core, &'a CaptureList),
 }
 
 fn binding_of(form: &Core) -> Binding<'_>

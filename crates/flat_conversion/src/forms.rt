@@ -13,12 +13,12 @@ use crate::shapes::{Shape, over_two, shape_of};
 use crate::variables::{BinderList, NewVariables, first_homes, home_at, home_of_binding};
 use base::NoMemory;
 use flat_language::{
-    CapturedKinds, FlatBinding, FlatBindingList, FlatClause, FlatClauseList, FlatCore,
-    FlatCoreForm, FlatCoreList, FlatDynBinding, FlatDynBindings, FlatPartList, FlatProcedure,
+    CapturedKinds, FlatBinding, FlatBindingList, FlatCaptureList, FlatClause, FlatClauseList,
+    FlatCore, FlatCoreForm, FlatCoreList, FlatDynBinding, FlatDynBindings, FlatProcedure,
     FlatProcedureList, HomeList,
 };
 use lang_meaning::{
-    BindingList, ClauseList, Core, CoreForm, CoreList, DynBindings, PartList, Var, VarList,
+    BindingList, CaptureList, ClauseList, Core, CoreForm, CoreList, DynBindings, Var, VarList,
 };
 use std::alloc::Global;
 
@@ -325,7 +325,7 @@ fn function(
     required: &VarList,
     rest: Option<Var>,
     body: &Core,
-    parts: &PartList,
+    parts: &CaptureList,
 ) -> Result<FlatCoreForm, NoMemory>
     ensures { IfOk result (λ made. MakesForm (lambda required.now rest body.now parts.now) binders.now places.now places.now progress.old progress.new (flat_view.view_form made)) }
 {

@@ -2,14 +2,14 @@
 
 ghost use Rattle.std.specs.Prelude.{◌≡◌, ◌==◌, Bool, ℕ, false, OnOk, IfOk};
 ghost use Rattle.std.specs.List.{list_any};
-ghost use Rattle.lang_meaning.specs.declared.part.Part.TheVariants.{Variable as AVariable, Method as AMethod};
+ghost use Rattle.lang_meaning.specs.declared.capture.Capture.TheVariants.{Variable as AVariable, Method as AMethod};
 ghost use Rattle.lang_meaning.specs.Mentions.{same_part};
 ghost use Rattle.flat_conversion.specs.Marks.{AreMarks, Adds, Forgets, IsUnion, is_set, is_captured, marked_binder, marked_variable};
 
 use crate::variables::{Binder, NewVariable, NewVariables};
 use base::NoMemory;
 use flat_language::Home;
-use lang_meaning::{Part, PartList, Var, VarList};
+use lang_meaning::{Capture, CaptureList, Var, VarList};
 use std::alloc::Global;
 use std::collections::BTreeSet;
 use std::mem;
@@ -43,7 +43,7 @@ impl Marks {
     }
 
     // A function captures these parts.
-    pub(crate) fn capture(&mut self, parts: &PartList) -> Result<(), NoMemory>
+    pub(crate) fn capture(&mut self, parts: &CaptureList) -> Result<(), NoMemory>
         ensures { OnOk result (Adds self.old self.new (λ v. false) (λ v. list_any (same_part (AVariable v)) parts.now) (list_any (same_part AMethod) parts.now)) }
     {
         for at in 0..parts.len() {
@@ -55,16 +55,16 @@ impl Marks {
         Ok(())
     }
 
-    fn capture_one(&mut self, part: Part) -> Result<(), NoMemory>
+    fn capture_one(&mut self, part: Capture) -> Result<(), NoMemory>
         ensures { OnOk result (Adds self.old self.new (λ v. false) (λ v. same_part (AVariable v) part) (same_part AMethod part)) }
     {
         match part {
-            Part::Variable(var) => {
+            Capture::Variable(var) => {
                 self.captured.insert(var)?;
                 Ok(())
             }
-            Part::Exit(_) => Ok(()),
-            Part::Method => {
+            Capture::Exit(_) => Ok(()),
+            Capture::Method => {
                 self.method = true;
                 Ok(())
             }
@@ -101,13 +101,13 @@ impl Marks {
         })
     }
 
-    // A variable with these marks has a cell where it is both set and captured.
+    // A variable with these marks has a box where it is both set and captured.
     fn variable(&self, var: Var) -> NewVariable
         ensures { result ≡ marked_variable self.now var }
     {
         let is_set = self.set.contains(&var);
         let home = if self.captured.contains(&var) && is_set {
-            Home::Cell
+            Home::Boxed
         } else {
             Home::Slot
         };

@@ -9,10 +9,10 @@ ghost use Rattle.flat_conversion.specs.Places.{scope_of, places_with, places_aro
 use crate::variables::{NewVariable, NewVariables};
 use base::{NameMap, NoMemory};
 use flat_language::{
-    CapturedKind, CapturedKinds, ExitPlace, FlatPart, FlatPartList, Home, Known, MethodPlace,
+    CapturedKind, CapturedKinds, ExitPlace, FlatCapture, FlatCaptureList, Home, Known, MethodPlace,
     VariablePlace,
 };
-use lang_meaning::{ExitVar, Part, PartList, Var};
+use lang_meaning::{Capture, CaptureList, ExitVar, Var};
 use std::alloc::Global;
 
 /// The variables and exits around, the innermost first, and the method around; and how many slots and exits of the same
@@ -83,21 +83,25 @@ impl Places {
     }
 
     // A captured part, by its place here.
-    fn part(&self, part: Part) -> FlatPart
+    fn part(&self, part: Capture) -> FlatCapture
         ensures { result ≡ flat_part (scope_of self.now) part }
     {
         match part {
-            Part::Variable(var) => FlatPart::Variable(self.variable(var)),
-            Part::Exit(exit) => FlatPart::Exit(self.exit(exit)),
-            Part::Method => FlatPart::Method(self.method()),
+            Capture::Variable(var) => FlatCapture::Variable(self.variable(var)),
+            Capture::Exit(exit) => FlatCapture::Exit(self.exit(exit)),
+            Capture::Method => FlatCapture::Method(self.method()),
         }
     }
 
     // Captured parts, by their places here.
-    pub(crate) fn parts(&self, alloc: Global, parts: &PartList) -> Result<FlatPartList, NoMemory>
+    pub(crate) fn parts(
+        &self,
+        alloc: Global,
+        parts: &CaptureList,
+    ) -> Result<FlatCaptureList, NoMemory>
         ensures { IfOk result (λ made. made ≡ flat_parts (scope_of self.now) parts.now) }
     {
-        let mut made = FlatPartList::new(alloc);
+        let mut made = FlatCaptureList::new(alloc);
         for at in 0..parts.len() {
             let Some(part) = parts.get(at) else {
                 unreachable!()
@@ -108,18 +112,22 @@ impl Places {
     }
 
     // What a captured part is.
-    fn kind(&self, part: Part) -> CapturedKind
+    fn kind(&self, part: Capture) -> CapturedKind
         ensures { result ≡ kind_of (scope_of self.now) part }
     {
         match part {
-            Part::Variable(var) => kind_of_place(self.variable(var)),
-            Part::Exit(_) => CapturedKind::Exit,
-            Part::Method => CapturedKind::Method,
+            Capture::Variable(var) => kind_of_place(self.variable(var)),
+            Capture::Exit(_) => CapturedKind::Exit,
+            Capture::Method => CapturedKind::Method,
         }
     }
 
     // What captured parts are.
-    pub(crate) fn kinds(&self, alloc: Global, parts: &PartList) -> Result<CapturedKinds, NoMemory>
+    pub(crate) fn kinds(
+        &self,
+        alloc: Global,
+        parts: &CaptureList,
+    ) -> Result<CapturedKinds, NoMemory>
         ensures { IfOk result (λ kinds. kinds ≡ kinds_of (scope_of self.now) parts.now) }
     {
         let mut kinds = CapturedKinds::new(alloc);
@@ -133,7 +141,7 @@ impl Places {
     }
 
     // What a function sees of where it is made: just what it captures.
-    pub(crate) fn seen(&self, alloc: Global, parts: &PartList) -> Result<Places, NoMemory>
+    pub(crate) fn seen(&self, alloc: Global, parts: &CaptureList) -> Result<Places, NoMemory>
         ensures { IfOk result (λ inner. scope_of inner ≡ seen (scope_of self.now) parts.now) }
     {
         let variables = self.captured_variables(alloc, parts)?;
@@ -151,7 +159,7 @@ impl Places {
     fn captured_variables(
         &self,
         alloc: Global,
-        parts: &PartList,
+        parts: &CaptureList,
     ) -> Result<NameMap<Var, Known>, NoMemory>
         ensures { IfOk result (λ made. made ≡ captured_variables (scope_of self.now) parts.now 0) }
     {
@@ -169,14 +177,14 @@ impl Places {
     fn captured_variable(
         &self,
         made: &mut NameMap<Var, Known>,
-        part: Part,
+        part: Capture,
         at: usize,
     ) -> Result<(), NoMemory>
         ensures { OnOk result (made.new ≡ captured_variables (scope_of self.now) (part ∷ []) at ++ made.old) }
     {
         match part {
-            Part::Variable(var) => made.bind(var, captured_known(self.known(var), at)),
-            Part::Exit(_) | Part::Method => Ok(()),
+            Capture::Variable(var) => made.bind(var, captured_known(self.known(var), at)),
+            Capture::Exit(_) | Capture::Method => Ok(()),
         }
     }
 
@@ -229,7 +237,7 @@ fn kind_of_place(place: VariablePlace) -> CapturedKind
 {
     match place {
         VariablePlace::Slot(_) | VariablePlace::CapturedValue(_) => CapturedKind::Value,
-        VariablePlace::SlotCell(_) | VariablePlace::CapturedCell(_) => CapturedKind::Cell,
+        VariablePlace::SlotBox(_) | VariablePlace::CapturedBox(_) => CapturedKind::Boxed,
     }
 }
 
@@ -241,8 +249,8 @@ fn captured_known(known: Known, at: usize) -> Known
         VariablePlace::Slot(_) | VariablePlace::CapturedValue(_) => {
             VariablePlace::CapturedValue(at)
         }
-        VariablePlace::SlotCell(_) | VariablePlace::CapturedCell(_) => {
-            VariablePlace::CapturedCell(at)
+        VariablePlace::SlotBox(_) | VariablePlace::CapturedBox(_) => {
+            VariablePlace::CapturedBox(at)
         }
     };
     Known {
@@ -257,7 +265,7 @@ fn in_slot(new: NewVariable, slot: usize) -> Known
 {
     let place = match new.home {
         Home::Slot => VariablePlace::Slot(slot),
-        Home::Cell => VariablePlace::SlotCell(slot),
+        Home::Boxed => VariablePlace::SlotBox(slot),
     };
     Known {
         place,
@@ -286,7 +294,10 @@ fn bind_new(
 }
 
 // Captured exits, by their places inside.
-fn captured_exits(alloc: Global, parts: &PartList) -> Result<NameMap<ExitVar, ExitPlace>, NoMemory>
+fn captured_exits(
+    alloc: Global,
+    parts: &CaptureList,
+) -> Result<NameMap<ExitVar, ExitPlace>, NoMemory>
     ensures { IfOk result (λ made. made ≡ captured_exits parts.now 0) }
 {
     let mut made = NameMap::new(alloc);
@@ -300,17 +311,21 @@ fn captured_exits(alloc: Global, parts: &PartList) -> Result<NameMap<ExitVar, Ex
 }
 
 // A captured exit, by its number inside; nothing where the part is none.
-fn captured_exit(made: &mut NameMap<ExitVar, ExitPlace>, part: Part, at: usize) -> Result<(), NoMemory>
+fn captured_exit(
+    made: &mut NameMap<ExitVar, ExitPlace>,
+    part: Capture,
+    at: usize,
+) -> Result<(), NoMemory>
     ensures { OnOk result (made.new ≡ captured_exits (part ∷ []) at ++ made.old) }
 {
     match part {
-        Part::Exit(exit) => made.bind(exit, ExitPlace::Captured(at)),
-        Part::Variable(_) | Part::Method => Ok(()),
+        Capture::Exit(exit) => made.bind(exit, ExitPlace::Captured(at)),
+        Capture::Variable(_) | Capture::Method => Ok(()),
     }
 }
 
 // The captured method, by its place inside: the first one.
-fn captured_method(parts: &PartList) -> Option<MethodPlace>
+fn captured_method(parts: &CaptureList) -> Option<MethodPlace>
     ensures { result ≡ captured_method parts.now 0 }
 {
     for at in 0..parts.len() {
@@ -324,11 +339,11 @@ fn captured_method(parts: &PartList) -> Option<MethodPlace>
     None
 }
 
-fn method_at(part: Part, at: usize) -> Option<MethodPlace>
+fn method_at(part: Capture, at: usize) -> Option<MethodPlace>
     ensures { result ≡ captured_method (part ∷ []) at }
 {
     match part {
-        Part::Method => Some(MethodPlace::Captured(at)),
-        Part::Variable(_) | Part::Exit(_) => None,
+        Capture::Method => Some(MethodPlace::Captured(at)),
+        Capture::Variable(_) | Capture::Exit(_) => None,
     }
 }

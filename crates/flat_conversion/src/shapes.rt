@@ -10,8 +10,8 @@ use crate::places::Places;
 use base::Name;
 use flat_language::{ExitPlace, FlatCore, FlatCoreForm, FlatCoreList, MethodPlace, VariablePlace};
 use lang_meaning::{
-    BindingList, ClauseList, Core, CoreForm, CoreList, DynBindings, ExitVar, LiteralId, OverTwo,
-    PartList, Primitive, SiteId, Var, VarList,
+    BindingList, CaptureList, ClauseList, Core, CoreForm, CoreList, DynBindings, ExitVar,
+    LiteralId, OverTwo, Primitive, SiteId, Var, VarList,
 };
 
 /// A form as the walk goes into it.
@@ -23,7 +23,7 @@ pub(crate) enum Shape<'a> {
     OverForms(OverForms, &'a CoreList),
     Clauses(&'a ClauseList),
     Let(&'a BindingList, &'a Core),
-    Lambda(&'a VarList, Option<Var>, &'a Core, &'a PartList),
+    Lambda(&'a VarList, Option<Var>, &'a Core, &'a CaptureList),
     Block(ExitVar, &'a Core),
     Tagbody(ExitVar, &'a CoreList),
     DynamicLet(&'a DynBindings, &'a Core),
@@ -138,11 +138,7 @@ impl OverForm {
 }
 
 // The flat form of that kind.
-pub(crate) fn over_two(
-    kind: OverTwo,
-    first: Box<FlatCore>,
-    second: Box<FlatCore>,
-) -> FlatCoreForm
+pub(crate) fn over_two(kind: OverTwo, first: Box<FlatCore>, second: Box<FlatCore>) -> FlatCoreForm
     ensures { flat_view.view_form result ≡ over_two kind first.value second.value }
 {
     match kind {

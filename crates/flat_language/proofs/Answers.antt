@@ -12,7 +12,7 @@ use Rattle.lang_meaning.specs.Objects.{Object, Environment, cons, string, vector
 use Rattle.lang_meaning.specs.State.{State, charged, changed}
 use Rattle.lang_meaning.specs.Lookup.{passed}
 use Rattle.lang_meaning.specs.Classes.{fetch, class_of, class_of_object, precedence, slots, is_below, is_condition}
-use Rattle.lang_meaning.specs.Layout.{class_value}
+use Rattle.lang_meaning.specs.InitialHeap.{class_value}
 use Rattle.lang_meaning.specs.Primitives.{Answer, result, makes, makes_symbol, fails, domain_error, needs, as_integer, as_character, as_cons, as_string, as_vector, as_class, as_instance, as_stream, as_symbol, fresh_in, is_function, is_generic, integer_result, floor_quotient, floor_remainder, division, index_of, length_of, byte_of, change, other_bytes, first_byte, is_fresh_line, can_be_made, is_slot, slot_place, slot_value, a_slot, of_none, of_one, of_two, of_three, of_integers, primitive}
 use Rattle.flat_language.specs.declared.program.FlatProcedure.{FlatProcedure}
 use Rattle.flat_language.specs.FlatState.{FrameSlot, Captured}
@@ -68,9 +68,9 @@ module _ (ps : List FlatProcedure) (w : World) (frame : List FrameSlot) (cs : Li
   -- two states with variables and stores that are alike, and else the same
   pub record Twins (z y : State) : Type 0 where
     pub store : List Object
-    pub cells : List Value
-    pub is : y ≡ record z { store = store; variables = cells }
-    pub related : Related ps w z.variables cells frame z.store store cs
+    pub boxes : List Value
+    pub is : y ≡ record z { store = store; variables = boxes }
+    pub related : Related ps w z.variables boxes frame z.store store cs
 
   pub record AnswersAlike (a a' : Answer) : Type 0 where
     pub twins : Twins (state_of a) (state_of a')
@@ -85,7 +85,7 @@ module _ (ps : List FlatProcedure) (w : World) (frame : List FrameSlot) (cs : Li
     observed h e v =
         subst (λ (x : State). h (fetch x v) ≡ h (fetch z v)) (sym t.is) (by v)
       where
-        by : (v : Value) → h (fetch (record z { store = t.store; variables = t.cells }) v) ≡ h (fetch z v)
+        by : (v : Value) → h (fetch (record z { store = t.store; variables = t.boxes }) v) ≡ h (fetch z v)
         by (object i) = ⊎_elim
             (λ (s : SameObject ps (slice_get z.store i) (slice_get t.store i) _). ap h s.same)
             (λ (f : SameFunction ps w.kinds (slice_get z.store i) (slice_get t.store i) _).
@@ -155,12 +155,12 @@ module _ (ps : List FlatProcedure) (w : World) (frame : List FrameSlot) (cs : Li
     making size besides o d = record { twins = t; same = refl; datum = d }
 
     pub charge : (n : ℕ) → Twins (charged n z) (charged n y)
-    charge n = record { store = t.store; cells = t.cells; is = ap (λ (x : State). charged n x) t.is; related = t.related }
+    charge n = record { store = t.store; boxes = t.boxes; is = ap (λ (x : State). charged n x) t.is; related = t.related }
 
     changes : (v : Value) (o : Object) → IsDatum o → Twins (change v o z) (change v o y)
     changes (object i) o d = record {
       store = slice_set t.store i o;
-      cells = t.cells;
+      boxes = t.boxes;
       is = ap (λ (x : State). changed i o x) t.is;
       related = changed_related i o d t.related;
     }
@@ -325,14 +325,14 @@ module _ (ps : List FlatProcedure) (w : World) (frame : List FrameSlot) (cs : Li
       needed (as_stream (fetch z v)) _ (stream_same t v) (wrong t _ _) (λ is_output. needed (as_character u) _ refl (wrong t _ _) (λ c.
       either is_output
       (record {
-        twins = record { store = t.store; cells = t.cells; is = ap (λ (x : State). record x { printed = x.printed ++ c ∷ [] }) t.is; related = t.related };
+        twins = record { store = t.store; boxes = t.boxes; is = ap (λ (x : State). record x { printed = x.printed ++ c ∷ [] }) t.is; related = t.related };
         same = refl;
         datum = tt;
       })
       (wrong t _ _))))
   row names program IsFreshLine = none_alike (λ z y t. valued t _ _ (ap (λ (x : State). truth (is_fresh_line x.printed)) t.is))
   row names program GetByte = none_alike (λ z y t. record {
-    twins = record { store = t.store; cells = t.cells; is = ap (λ (x : State). record x { input = other_bytes x.input }) t.is; related = t.related };
+    twins = record { store = t.store; boxes = t.boxes; is = ap (λ (x : State). record x { input = other_bytes x.input }) t.is; related = t.related };
     same = ap (λ (x : State). result (first_byte x.input) (record y { input = other_bytes y.input })) t.is;
     datum = tt;
   })

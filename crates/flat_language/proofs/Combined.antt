@@ -5,37 +5,37 @@ use Rattle.std.specs.Prelude.{slice_get, slice_set, if◌then◌else◌}
 use Rattle.lang_meaning.specs.Form.{Form}
 use Rattle.lang_meaning.specs.Values.{Value, object}
 use Rattle.lang_meaning.specs.Objects.{Object, Environment, function, closure}
-use Rattle.lang_meaning.specs.State.{State, Surroundings, Landing, Outcome, value, exit, full, more, Evaluated, gives, Act, go_on, go_on_from, landed, landed_from, caught, cleaned, cleaned_from, exits_from, Limit, exit_made, has_room, room_left, request, with_words, charged, make, stored, changed, with_stack, in_frame}
+use Rattle.lang_meaning.specs.State.{State, DynamicContext, Landing, Outcome, value, exit, full, more, Evaluated, gives, Act, go_on, go_on_from, landed, landed_from, caught, cleaned, cleaned_from, exits_from, Limit, exit_made, has_room, room_left, request, with_words, charged, make, stored, changed, with_stack, in_frame}
 use Rattle.lang_meaning.specs.Lookup.{under_number, with_values}
 use Rattle.lang_meaning.specs.Signals.{with_some, search}
 use Rattle.flat_language.specs.declared.place.Home.{Home}
 use Rattle.flat_language.specs.declared.place.VariablePlace.{VariablePlace}
-use Rattle.flat_language.specs.declared.place.VariablePlace.TheVariants.{Slot, SlotCell, CapturedValue, CapturedCell}
+use Rattle.flat_language.specs.declared.place.VariablePlace.TheVariants.{Slot, SlotBox, CapturedValue, CapturedBox}
 use Rattle.flat_language.specs.declared.program.FlatProcedure.{FlatProcedure}
 use Rattle.flat_language.specs.FlatState.{FrameSlot, Captured, FlatEnvironment, FlatState, FlatEvaluated, FlatAct, under}
 use Rattle.flat_language.specs.FlatState as flat
 use Rattle.flat_language.specs.FlatSignals as flat_signals
 use Rattle.flat_language.specs.declared.place.Known.{Known}
 use Rattle.flat_language.specs.Scope.{Scope}
-use Rattle.flat_language.proofs.Alike.{Kind, constant, cell, slot, World, Kept, Later, SameBindings, BindingsAlike, Bound, flat_around, InSlot, PlaceAt, VariableAt, Matches, SameObject, ObjectsAlike, Related, Beside, twin, Sim, Continues, Follows, Acts, Lands}
+use Rattle.flat_language.proofs.Alike.{VariableKind, constant, boxed, slot, World, StandsIn, Later, SameBindings, BindingsAlike, BindingsMatch, flat_around, InSlot, PlaceAt, VariableAt, Matches, SameObject, ObjectsAlike, Related, Beside, twin, Sim, Continues, Follows, Acts, Lands}
 use Rattle.flat_language.proofs.Lists.{pushed, changed_both, length-changed, in_front}
 use Rattle.flat_language.proofs.Frames.{fewer_slots, begun, ended}
-use Rattle.flat_language.proofs.NewSlots.{kinds_at, with_new_slots, new_variables, cells_from, with_new_dynamics, new_dynamics}
+use Rattle.flat_language.proofs.NewSlots.{kinds_at, with_new_slots, new_variables, boxes_from, with_new_dynamics, new_dynamics}
 
 -- what stands in a list stands in itself
-pub kept_itself : {X : Type 0} (xs : List X) → Kept xs xs
+pub kept_itself : {X : Type 0} (xs : List X) → StandsIn xs xs
 kept_itself xs = record { kept = λ i x h. h }
 
 -- and in a list after another one
-pub kept_after : {X : Type 0} {xs ys zs : List X} → Kept xs ys → Kept ys zs → Kept xs zs
+pub kept_after : {X : Type 0} {xs ys zs : List X} → StandsIn xs ys → StandsIn ys zs → StandsIn xs zs
 kept_after a b = record { kept = λ i x h. b.kept i x (a.kept i x h) }
 
 -- and in front of more
-pub kept_more : {X : Type 0} (xs ys : List X) → Kept xs (xs ++ ys)
+pub kept_more : {X : Type 0} (xs ys : List X) → StandsIn xs (xs ++ ys)
 kept_more xs ys = record { kept = λ i x h. in_front xs ys i x h }
 
 -- and in a list that is the same
-pub same_kept : {X : Type 0} {xs ys : List X} → ys ≡ xs → Kept xs ys
+pub same_kept : {X : Type 0} {xs ys : List X} → ys ≡ xs → StandsIn xs ys
 same_kept e = record { kept = λ i x h. ap (λ zs. slice_get zs i) e ∙ h }
 
 -- a world is later than itself
@@ -47,33 +47,33 @@ pub after_that : {w u x : World} → Later w u → Later u x → Later w x
 after_that a b = record { kinds = kept_after a.kinds b.kinds; own = b.own ∙ a.own; start = b.start ∙ a.start }
 
 -- dynamic bindings in a later world
-pub same_later : {ks ls : List Kind} → Kept ks ls → (bs cs : List (List ℕ × ℕ)) → SameBindings ks bs cs → SameBindings ls bs cs
+pub same_later : {ks ls : List VariableKind} → StandsIn ks ls → (bs cs : List (List ℕ × ℕ)) → SameBindings ks bs cs → SameBindings ls bs cs
 same_later l [] [] e = e
 same_later l [] (c ∷ cs) e = e
 same_later l (b ∷ bs) [] e = e
-same_later l (b ∷ bs) (c ∷ cs) e = (e.0, l.kept b.1 (cell c.1) e.1, same_later l bs cs e.2)
+same_later l (b ∷ bs) (c ∷ cs) e = (e.0, l.kept b.1 (boxed c.1) e.1, same_later l bs cs e.2)
 
-abbrev pub bound_later : {ks ls : List Kind} (bs : List (List ℕ × ℕ)) → Kept ks ls → BindingsAlike ks bs → BindingsAlike ls bs
+abbrev pub bound_later : {ks ls : List VariableKind} (bs : List (List ℕ × ℕ)) → StandsIn ks ls → BindingsAlike ks bs → BindingsAlike ls bs
 bound_later bs l b = record { bindings = b.bindings; same = same_later l bs b.bindings b.same }
 
 -- a place stays that of its variable where more is known
-in_slot_kept : (w u : World) → Kept w.kinds u.kinds → (n : ℕ) (fixed : Bool) (i : ℕ) → InSlot w n fixed i → InSlot u n fixed i
+in_slot_kept : (w u : World) → StandsIn w.kinds u.kinds → (n : ℕ) (fixed : Bool) (i : ℕ) → InSlot w n fixed i → InSlot u n fixed i
 in_slot_kept w u l n true i h = (h.0, l.kept i (constant h.0) h.1)
 in_slot_kept w u l n false i h = l.kept i (slot n) h
 
-pub place_kept : (w u : World) (e : FlatEnvironment) → Kept w.kinds u.kinds → Kept w.own u.own → (p : VariablePlace) (fixed : Bool) (i : ℕ) → PlaceAt w e p fixed i → PlaceAt u e p fixed i
+pub place_kept : (w u : World) (e : FlatEnvironment) → StandsIn w.kinds u.kinds → StandsIn w.own u.own → (p : VariablePlace) (fixed : Bool) (i : ℕ) → PlaceAt w e p fixed i → PlaceAt u e p fixed i
 place_kept w u e l o (Slot n) fixed i h = (o.kept n i h.0, in_slot_kept w u l n fixed i h.1)
-place_kept w u e l o (SlotCell n) fixed i h = (o.kept n i h.0, (h.1.0, l.kept i (cell h.1.0) h.1.1))
+place_kept w u e l o (SlotBox n) fixed i h = (o.kept n i h.0, (h.1.0, l.kept i (boxed h.1.0) h.1.1))
 place_kept w u e l o (CapturedValue n) fixed i h = (h.0, (h.1.0, l.kept i (constant h.0) h.1.1, h.1.2))
-place_kept w u e l o (CapturedCell n) fixed i h = (h.0, (h.1.0, l.kept i (cell h.0) h.1.1))
+place_kept w u e l o (CapturedBox n) fixed i h = (h.0, (h.1.0, l.kept i (boxed h.0) h.1.1))
 
 -- so does that of a name
-pub variable_kept : (w u : World) (e : FlatEnvironment) → Kept w.kinds u.kinds → Kept w.own u.own → (k : Known) (o : Option ℕ) → VariableAt w e k o → VariableAt u e k o
+pub variable_kept : (w u : World) (e : FlatEnvironment) → StandsIn w.kinds u.kinds → StandsIn w.own u.own → (k : Known) (o : Option ℕ) → VariableAt w e k o → VariableAt u e k o
 variable_kept w u e l o k None h = h
 variable_kept w u e l o k (Some i) h = place_kept w u e l o k.place k.fixed i h
 
 -- environments match where more is known, and in a later world
-pub matches_kept : {w u : World} {s : Scope} {env : Environment} {e : FlatEnvironment} → Kept w.kinds u.kinds → u.own ≡ w.own → Matches w s env e → Matches u s env e
+pub matches_kept : {w u : World} {s : Scope} {env : Environment} {e : FlatEnvironment} → StandsIn w.kinds u.kinds → u.own ≡ w.own → Matches w s env e → Matches u s env e
 matches_kept {w} {u} {s} {env} {e} l same m = record {
   variables = λ v k h. variable_kept w u e l (same_kept same) k (under_number v env.variables) (m.variables v k h);
   exits = m.exits;
@@ -91,7 +91,7 @@ pub record IsDatum (o : Object) : Type 0 where
   pub no_function : (p : ℕ) → o ≡ function p → ⊥
 
 module _ {ps : List FlatProcedure} where
-  pub objects_later : {ks ls : List Kind} {o o' : Option Object} {t : Option (List Captured)} → Kept ks ls → ObjectsAlike ps ks o o' t → ObjectsAlike ps ls o o' t
+  pub objects_later : {ks ls : List VariableKind} {o o' : Option Object} {t : Option (List Captured)} → StandsIn ks ls → ObjectsAlike ps ks o o' t → ObjectsAlike ps ls o o' t
   objects_later l x = ⊎_elim (λ s. inl s) (λ f. inr (record {
     required = f.required;
     rest = f.rest;
@@ -114,12 +114,12 @@ module _ {ps : List FlatProcedure} where
 
   -- it is enough to look at the twin of a state
   pub at_twin : {w : World} {z : State} {y : FlatState} (P : FlatState → Type 0) (b : Beside ps w z y)
-      → (Beside ps w z (twin ps z b.store b.cells b.frame b.captured) → P (twin ps z b.store b.cells b.frame b.captured)) → P y
+      → (Beside ps w z (twin ps z b.store b.boxes b.frame b.captured) → P (twin ps z b.store b.boxes b.frame b.captured)) → P y
   at_twin P b h = subst P (sym b.is) (h (record {
     world = b.world;
     later = b.later;
     store = b.store;
-    cells = b.cells;
+    boxes = b.boxes;
     frame = b.frame;
     captured = b.captured;
     related = b.related;
@@ -135,12 +135,12 @@ module _ {ps : List FlatProcedure} where
     world = b.world;
     later = b.later;
     store = b.store;
-    cells = b.cells;
+    boxes = b.boxes;
     frame = b.frame;
     captured = b.captured;
-    related = subst (λ vs. Related ps b.world vs b.cells b.frame (g z).store b.store b.captured) (sym (v z))
-        (subst (λ os. Related ps b.world z.variables b.cells b.frame os b.store b.captured) (sym (s z)) b.related);
-    is = ap (λ (x : FlatState). flat.on_state g x) b.is ∙ ap (λ (x : State). record { state = x; frame = b.frame; captured = b.captured }) (h z b.store b.cells);
+    related = subst (λ vs. Related ps b.world vs b.boxes b.frame (g z).store b.store b.captured) (sym (v z))
+        (subst (λ os. Related ps b.world z.variables b.boxes b.frame os b.store b.captured) (sym (s z)) b.related);
+    is = ap (λ (x : FlatState). flat.on_state g x) b.is ∙ ap (λ (x : State). record { state = x; frame = b.frame; captured = b.captured }) (h z b.store b.boxes);
   }
 
   pub charges : {w : World} {z : State} {y : FlatState} (n : ℕ) → Beside ps w z y → Beside ps w (charged n z) (flat.charged n y)
@@ -156,7 +156,7 @@ module _ {ps : List FlatProcedure} where
       world = x.beside.world;
       later = after_that l x.beside.later;
       store = x.beside.store;
-      cells = x.beside.cells;
+      boxes = x.beside.boxes;
       frame = x.beside.frame;
       captured = x.beside.captured;
       related = x.beside.related;
@@ -166,7 +166,7 @@ module _ {ps : List FlatProcedure} where
   }
 
   pub now : {w : World} {z : State} {y : FlatState} (b : Beside ps w z y) → Beside ps b.world z y
-  now b = record { world = b.world; later = itself b.world; store = b.store; cells = b.cells; frame = b.frame; captured = b.captured; related = b.related; is = b.is }
+  now b = record { world = b.world; later = itself b.world; store = b.store; boxes = b.boxes; frame = b.frame; captured = b.captured; related = b.related; is = b.is }
 
   -- ends
   pub ends : {w : World} {z : State} {y : FlatState} (o : Outcome) → Beside ps w z y
@@ -217,7 +217,7 @@ module _ {ps : List FlatProcedure} where
   pub catches : {w : World} {r : Evaluated} {q : FlatEvaluated} (e : ℕ) → Sim ps w r q → Sim ps w (caught e r) (flat.caught e q)
   catches e x = lands_on e (λ v landing z y b. given v b) x
 
-  pub cleans : {w : World} {r : Evaluated} {q : FlatEvaluated} (around : Surroundings) (bound : Bound w around) {cleanup : Act} (cleanup' : FlatAct) → Acts ps w cleanup cleanup'
+  pub cleans : {w : World} {r : Evaluated} {q : FlatEvaluated} (around : DynamicContext) (bound : BindingsMatch w around) {cleanup : Act} (cleanup' : FlatAct) → Acts ps w cleanup cleanup'
       → Sim ps w r q → Sim ps w (cleaned cleanup around r) (flat.cleaned cleanup' (flat_around around bound) q)
   cleans {w} {r} {q} around bound {cleanup} cleanup' c x = used (cleaned_from cleanup around) (flat.cleaned_from cleanup' (flat_around around bound)) at x
     where
@@ -266,7 +266,7 @@ module _ {ps : List FlatProcedure} where
     world = b.world;
     later = b.later;
     store = b.store ++ o ∷ [];
-    cells = b.cells;
+    boxes = b.boxes;
     frame = b.frame;
     captured = b.captured;
     related = stored_related o d b.related;
@@ -289,7 +289,7 @@ module _ {ps : List FlatProcedure} where
     world = b.world;
     later = b.later;
     store = slice_set b.store i o;
-    cells = b.cells;
+    boxes = b.boxes;
     frame = b.frame;
     captured = b.captured;
     related = changed_related i o d b.related;
@@ -334,25 +334,25 @@ module _ {ps : List FlatProcedure} where
 
   -- new variables, with new slots
   pub slots_made : {w : World} {z : State} {y : FlatState} (hs : List Home) (ss : List Bool) (vs : List Value) → length hs ≡ length vs → length ss ≡ length vs
-      → (b : Beside ps w z y) → Beside ps (with_new_slots b.world hs ss vs (length z.variables) (length b.cells)) (with_values vs z) (flat.with_slots hs vs y)
+      → (b : Beside ps w z y) → Beside ps (with_new_slots b.world hs ss vs (length z.variables) (length b.boxes)) (with_values vs z) (flat.with_slots hs vs y)
   slots_made {w} {z} {y} hs ss vs e f b = record {
-    world = with_new_slots b.world hs ss vs (length z.variables) (length b.cells);
-    later = itself (with_new_slots b.world hs ss vs (length z.variables) (length b.cells));
+    world = with_new_slots b.world hs ss vs (length z.variables) (length b.boxes);
+    later = itself (with_new_slots b.world hs ss vs (length z.variables) (length b.boxes));
     store = b.store;
-    cells = b.cells ++ flat.new_cells hs vs;
-    frame = b.frame ++ flat.new_slots hs vs (length b.cells);
+    boxes = b.boxes ++ flat.new_boxes hs vs;
+    frame = b.frame ++ flat.new_slots hs vs (length b.boxes);
     captured = b.captured;
     related = record {
       values = new_variables b.related.values hs ss vs e f;
       lengths = b.related.lengths;
-      objects = λ i. objects_later (kept_more b.world.kinds (kinds_at hs ss vs (length b.world.own) (length b.cells))) (b.related.objects i);
+      objects = λ i. objects_later (kept_more b.world.kinds (kinds_at hs ss vs (length b.world.own) (length b.boxes))) (b.related.objects i);
     };
     is = ap (λ (x : FlatState). flat.with_slots hs vs x) b.is;
   }
 
   -- and when they are gone
   pub slots_gone : {w : World} {z : State} {y : FlatState} (hs : List Home) (ss : List Bool) (vs : List Value)
-      → (b : Beside ps w z y) → {r : Evaluated} {q : FlatEvaluated} → Sim ps (with_new_slots b.world hs ss vs (length z.variables) (length b.cells)) r q
+      → (b : Beside ps w z y) → {r : Evaluated} {q : FlatEvaluated} → Sim ps (with_new_slots b.world hs ss vs (length z.variables) (length b.boxes)) r q
       → Sim ps w r (flat.without_slots_from (length y.frame) q)
   slots_gone {w} {z} {y} hs ss vs b {r} {q} x =
       let many : length b.world.own ≡ length y.frame = sym (ap (λ (s : FlatState). length s.frame) b.is ∙ b.related.values.slot_count) in
@@ -360,12 +360,12 @@ module _ {ps : List FlatProcedure} where
         beside = record {
           world = record x.beside.world { own = b.world.own };
           later = record {
-            kinds = kept_after b.later.kinds (kept_after (kept_more b.world.kinds (kinds_at hs ss vs (length b.world.own) (length b.cells))) x.beside.later.kinds);
+            kinds = kept_after b.later.kinds (kept_after (kept_more b.world.kinds (kinds_at hs ss vs (length b.world.own) (length b.boxes))) x.beside.later.kinds);
             own = b.later.own;
             start = x.beside.later.start ∙ b.later.start;
           };
           store = x.beside.store;
-          cells = x.beside.cells;
+          boxes = x.beside.boxes;
           frame = take (length b.world.own) x.beside.frame;
           captured = x.beside.captured;
           related = record {
@@ -385,7 +385,7 @@ module _ {ps : List FlatProcedure} where
     world = record b.world { own = []; start = z.variables };
     later = itself (record b.world { own = []; start = z.variables });
     store = b.store;
-    cells = b.cells;
+    boxes = b.boxes;
     frame = [];
     captured = b.captured;
     related = record { values = begun b.related.values; lengths = b.related.lengths; objects = b.related.objects };
@@ -393,7 +393,7 @@ module _ {ps : List FlatProcedure} where
   }
 
   -- and when it is left
-  pub frame_left : {w u : World} {z : State} {y : FlatState} (b : Beside ps w z y) → Kept b.world.kinds u.kinds → u.start ≡ z.variables
+  pub frame_left : {w u : World} {z : State} {y : FlatState} (b : Beside ps w z y) → StandsIn b.world.kinds u.kinds → u.start ≡ z.variables
       → {r : Evaluated} {q : FlatEvaluated} → Sim ps u r q → Sim ps w r (flat.with_frame y.frame q)
   frame_left {w} {u} {z} {y} b l began {r} {q} x =
       subst (λ frame. Sim ps w r (flat.with_frame frame q)) (sym (ap (λ (s : FlatState). s.frame) b.is)) (record {
@@ -401,7 +401,7 @@ module _ {ps : List FlatProcedure} where
           world = record x.beside.world { own = b.world.own; start = b.world.start };
           later = record { kinds = kept_after b.later.kinds (kept_after l x.beside.later.kinds); own = b.later.own; start = b.later.start };
           store = x.beside.store;
-          cells = x.beside.cells;
+          boxes = x.beside.boxes;
           frame = b.frame;
           captured = x.beside.captured;
           related = record {
@@ -416,18 +416,18 @@ module _ {ps : List FlatProcedure} where
 
   -- new dynamic bindings
   pub dynamics_made : {w : World} {z : State} {y : FlatState} (vs : List Value)
-      → (b : Beside ps w z y) → Beside ps (with_new_dynamics b.world vs (length z.variables) (length b.cells)) (with_values vs z) (flat.with_values vs y)
+      → (b : Beside ps w z y) → Beside ps (with_new_dynamics b.world vs (length z.variables) (length b.boxes)) (with_values vs z) (flat.with_values vs y)
   dynamics_made {w} {z} {y} vs b = record {
-    world = with_new_dynamics b.world vs (length z.variables) (length b.cells);
-    later = itself (with_new_dynamics b.world vs (length z.variables) (length b.cells));
+    world = with_new_dynamics b.world vs (length z.variables) (length b.boxes);
+    later = itself (with_new_dynamics b.world vs (length z.variables) (length b.boxes));
     store = b.store;
-    cells = b.cells ++ vs;
+    boxes = b.boxes ++ vs;
     frame = b.frame;
     captured = b.captured;
     related = record {
       values = new_dynamics b.related.values vs;
       lengths = b.related.lengths;
-      objects = λ i. objects_later (kept_more b.world.kinds (cells_from (length b.cells) vs)) (b.related.objects i);
+      objects = λ i. objects_later (kept_more b.world.kinds (boxes_from (length b.boxes) vs)) (b.related.objects i);
     };
     is = ap (λ (x : FlatState). flat.with_values vs x) b.is;
   }

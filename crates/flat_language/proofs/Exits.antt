@@ -3,13 +3,13 @@ use Rattle.std.proofs.Common.{◌≡◌, ℕ, ◌+◌, ◌==◌, Bool, true, fal
 use Rattle.std.specs.Prelude.{slice_get, filter, if◌then◌else◌}
 use Rattle.std.specs.List.{list_all, list_any}
 use Rattle.base.specs.AllOf.{AllOf}
-use Rattle.lang_meaning.specs.declared.part.Part.{Part}
-use Rattle.lang_meaning.specs.declared.part.Part.TheVariants.{Variable, Exit, Method}
+use Rattle.lang_meaning.specs.declared.capture.Capture.{Capture}
+use Rattle.lang_meaning.specs.declared.capture.Capture.TheVariants.{Variable, Exit, Method}
 use Rattle.lang_meaning.specs.declared.program.Procedure.{Procedure}
 use Rattle.lang_meaning.specs.declared.program.ProgramRows.{ProgramRows}
-use Rattle.lang_meaning.specs.declared.scope.Around.{Around}
-use Rattle.lang_meaning.specs.declared.scope.Around.TheVariants.{Block, Tagbody}
-use Rattle.lang_meaning.specs.declared.scope.ExitAround.{ExitAround}
+use Rattle.lang_meaning.specs.declared.scope.ExitForm.{ExitForm}
+use Rattle.lang_meaning.specs.declared.scope.ExitForm.TheVariants.{Block, Tagbody}
+use Rattle.lang_meaning.specs.declared.scope.NamedExit.{NamedExit}
 use Rattle.lang_meaning.specs.declared.scope.LexicalScope.{LexicalScope}
 use Rattle.lang_meaning.specs.BoundNames.{BodyIsBound, IsBoundIn, NamesAreBound, LawOfNames}
 use Rattle.lang_meaning.specs.Counts as core_counts
@@ -36,15 +36,15 @@ use Rattle.flat_language.proofs.Numbers.{Placed, placed_left, placed_right, plac
 
 -- what makes the exits of a scope of the program makes, at their places, those of a flat form
 pub record ExitsAgree (e : FlatExits) (l : LexicalScope) (s : Scope) : Type 0 where
-  pub around : (x : ℕ) (a : Around) → exit_around x l.exits ≡ Some a → made_by e (exit_place_of s x) ≡ Some a
+  pub around : (x : ℕ) (a : ExitForm) → exit_around x l.exits ≡ Some a → made_by e (exit_place_of s x) ≡ Some a
   pub own : length e.own ≡ s.own_exits
 
 -- the first of exits is that of a name, or not
-exit_first : (x : ℕ) (e : ExitAround) (es : List ExitAround) → (x == e.exit) ≡ true → exit_around x (e ∷ es) ≡ Some e.around
+exit_first : (x : ℕ) (e : NamedExit) (es : List NamedExit) → (x == e.exit) ≡ true → exit_around x (e ∷ es) ≡ Some e.around
 exit_first x e es h = ap (λ b. if b then Some e.around else exit_around x es) h
 
 -- the exits behind the first one
-exit_after : (x : ℕ) (e : ExitAround) (es : List ExitAround) → (x == e.exit) ≡ false → exit_around x (e ∷ es) ≡ exit_around x es
+exit_after : (x : ℕ) (e : NamedExit) (es : List NamedExit) → (x == e.exit) ≡ false → exit_around x (e ∷ es) ≡ exit_around x es
 exit_after x e es h = ap (λ b. if b then Some e.around else exit_around x es) h
 
 -- variables are no exits
@@ -53,12 +53,12 @@ agree_bound : (e : FlatExits) (l : LexicalScope) (s : Scope) → ExitsAgree e l 
 agree_bound e l s c vs ws body = record { around = c.around; own = c.own }
 
 -- an exit more
-made_more : (e : FlatExits) (a : Around) (p : ExitPlace) (b : Around) → made_by e p ≡ Some b → made_by (with_own a e) p ≡ Some b
+made_more : (e : FlatExits) (a : ExitForm) (p : ExitPlace) (b : ExitForm) → made_by e p ≡ Some b → made_by (with_own a e) p ≡ Some b
 made_more e a (Own n) b h = in_front e.own (a ∷ []) n b h
 made_more e a (Captured n) b h = h
 
 -- and the scope inside
-agree_around : (e : FlatExits) (l : LexicalScope) (s : Scope) → ExitsAgree e l s → (x : ℕ) (a : Around)
+agree_around : (e : FlatExits) (l : LexicalScope) (s : Scope) → ExitsAgree e l s → (x : ℕ) (a : ExitForm)
     → ExitsAgree (with_own a e) (standing.with_around x a l) (with_around x s)
 agree_around e l s c x a = record {
   around = λ y b h. equal_or_not y x
@@ -74,16 +74,16 @@ agree_around e l s c x a = record {
 }
 
 -- an exit that a function sees is one that it captured, and is around where the function is made
-record IsSeen (parts : List Part) (x : ℕ) (a : Around) (es : List ExitAround) : Type 0 where
+record IsSeen (parts : List Capture) (x : ℕ) (a : ExitForm) (es : List NamedExit) : Type 0 where
   captured : list_any (same_part (Exit x)) parts ≡ true
   there : exit_around x es ≡ Some a
 
 -- whether a function captured that exit
-abbrev is_captured : List Part → ExitAround → Bool
+abbrev is_captured : List Capture → NamedExit → Bool
 is_captured parts e = list_any (same_part (Exit e.exit)) parts
 
 -- the first of the exits around, and those behind it
-seen_first : (parts : List Part) (x : ℕ) (a : Around) (e : ExitAround) (es : List ExitAround)
+seen_first : (parts : List Capture) (x : ℕ) (a : ExitForm) (e : NamedExit) (es : List NamedExit)
     → (exit_around x (filter (is_captured parts) es) ≡ Some a → IsSeen parts x a es)
     → (b : Bool) → is_captured parts e ≡ b
     → exit_around x (if b then e ∷ filter (is_captured parts) es else filter (is_captured parts) es) ≡ Some a → IsSeen parts x a (e ∷ es)
@@ -101,12 +101,12 @@ seen_first parts x a e es rest false q h =
     (λ f. record { captured = r.captured; there = exit_after x e es f ∙ r.there })
 
 -- an exit that is seen, of all
-is_seen : (parts : List Part) (x : ℕ) (a : Around) (es : List ExitAround) → exit_around x (filter (is_captured parts) es) ≡ Some a → IsSeen parts x a es
+is_seen : (parts : List Capture) (x : ℕ) (a : ExitForm) (es : List NamedExit) → exit_around x (filter (is_captured parts) es) ≡ Some a → IsSeen parts x a es
 is_seen parts x a [] h = absurd (cc h)
 is_seen parts x a (e ∷ es) h = seen_first parts x a e es (λ g. is_seen parts x a es g) (is_captured parts e) refl h
 
 -- and what made it is what is said of the place where it was captured
-captured_made : (e : FlatExits) (s : Scope) (x : ℕ) (parts : List Part) (n : ℕ) (all : List (Option Around)) → list_any (same_part (Exit x)) parts ≡ true
+captured_made : (e : FlatExits) (s : Scope) (x : ℕ) (parts : List Capture) (n : ℕ) (all : List (Option ExitForm)) → list_any (same_part (Exit x)) parts ≡ true
     → Placed all n (exits_of_parts e (flat_parts s parts))
     → made_by (of_function all) (exit_or (under x (captured_exits parts n))) ≡ made_by e (exit_place_of s x)
 captured_made e s x [] n all h p = absurd (cc h)
@@ -124,10 +124,10 @@ captured_made e s x (Exit y ∷ ps) n all h p = equal_or_not x y
     (placed_rest (made_by e (exit_place_of s y)) (exits_of_parts e (flat_parts s ps)) p)))
 
 -- a function's scope
-agree_seen : (e : FlatExits) (l : LexicalScope) (s : Scope) → ExitsAgree e l s → (parts : List Part)
+agree_seen : (e : FlatExits) (l : LexicalScope) (s : Scope) → ExitsAgree e l s → (parts : List Capture)
     → ExitsAgree (of_function (exits_of_parts e (flat_parts s parts))) (standing.seen parts l) (seen s parts)
 agree_seen e l s c parts =
-    let all : List (Option Around) = exits_of_parts e (flat_parts s parts) in
+    let all : List (Option ExitForm) = exits_of_parts e (flat_parts s parts) in
     record {
       around = λ x a h.
           let r : IsSeen parts x a l.exits = is_seen parts x a l.exits h in
@@ -137,27 +137,27 @@ agree_seen e l s c parts =
     }
 
 -- what a test says of an exit around it says of that of its place
-passes : (test : Option Around → Bool) → test None ≡ false → (o o' : Option Around) → ((a : Around) → o ≡ Some a → o' ≡ Some a)
+passes : (test : Option ExitForm → Bool) → test None ≡ false → (o o' : Option ExitForm) → ((a : ExitForm) → o ≡ Some a → o' ≡ Some a)
     → test o ≡ true → test o' ≡ true
 passes test none None o' f h = absurd (let z : true ≡ false = sym h ∙ none in cc z)
 passes test none (Some a) o' f h = subst (λ q. test q ≡ true) (sym (f a refl)) h
 
 -- what the functions of a part of the program captured, from the n-th on, such that the exits of the part and of its functions lead
-pub record Led (n k : ℕ) (A : List (List (Option Around)) → Type 0) (qs : List FlatProcedure) : Type 0 where
-  pub captured : List (List (Option Around))
+pub record Led (n k : ℕ) (A : List (List (Option ExitForm)) → Type 0) (qs : List FlatProcedure) : Type 0 where
+  pub captured : List (List (Option ExitForm))
   pub count : length captured ≡ k
-  pub lead : (all : List (List (Option Around))) → Placed all n captured → A all × FunctionsLead all qs captured
+  pub lead : (all : List (List (Option ExitForm))) → Placed all n captured → A all × FunctionsLead all qs captured
 
 -- a part without functions
-none : {n : ℕ} {A : List (List (Option Around)) → Type 0} → ((all : List (List (Option Around))) → A all) → Led n 0 A []
+none : {n : ℕ} {A : List (List (Option ExitForm)) → Type 0} → ((all : List (List (Option ExitForm))) → A all) → Led n 0 A []
 none h = record { captured = []; count = refl; lead = λ all p. (h all, tt) }
 
 -- the same functions
-changed : {n k : ℕ} {A B : List (List (Option Around)) → Type 0} {qs : List FlatProcedure} → ((all : List (List (Option Around))) → A all → B all) → Led n k A qs → Led n k B qs
+changed : {n k : ℕ} {A B : List (List (Option ExitForm)) → Type 0} {qs : List FlatProcedure} → ((all : List (List (Option ExitForm))) → A all → B all) → Led n k A qs → Led n k B qs
 changed f x = record { captured = x.captured; count = x.count; lead = λ all p. (f all (x.lead all p).0, (x.lead all p).1) }
 
 -- one part after another
-both_lead : (all : List (List (Option Around))) (xs ys : List FlatProcedure) (cs ds : List (List (Option Around)))
+both_lead : (all : List (List (Option ExitForm))) (xs ys : List FlatProcedure) (cs ds : List (List (Option ExitForm)))
     → FunctionsLead all xs cs → FunctionsLead all ys ds → FunctionsLead all (xs ++ ys) (cs ++ ds)
 both_lead all [] ys [] ds x y = y
 both_lead all [] ys (c ∷ cs) ds x y = absurd x
@@ -165,7 +165,7 @@ both_lead all (q ∷ xs) ys [] ds x y = absurd x
 both_lead all (q ∷ xs) ys (c ∷ cs) ds x y = (x.0, both_lead all xs ys cs ds x.1 y)
 
 -- two parts beside one another
-two : {n k m : ℕ} {A B : List (List (Option Around)) → Type 0} {xs ys : List FlatProcedure} → Led n k A xs → Led (n + k) m B ys
+two : {n k m : ℕ} {A B : List (List (Option ExitForm)) → Type 0} {xs ys : List FlatProcedure} → Led n k A xs → Led (n + k) m B ys
     → Led n (k + m) (λ all. A all × B all) (xs ++ ys)
 two {n} {k} {m} {A} {B} {xs} {ys} x y = record {
   captured = x.captured ++ y.captured;
@@ -177,7 +177,7 @@ two {n} {k} {m} {A} {B} {xs} {ys} x y = record {
 }
 
 -- a function, with those in its body after it
-one_function : {n k : ℕ} {qs : List FlatProcedure} (captured : List (Option Around)) (q : FlatProcedure)
+one_function : {n k : ℕ} {qs : List FlatProcedure} (captured : List (Option ExitForm)) (q : FlatProcedure)
     → Led (n + 1) k (λ all. Leads all (of_function captured) q.body) qs → Led n (k + 1) (λ all. slice_get all n ≡ Some captured) (q ∷ qs)
 one_function {n} {k} {qs} captured q x = record {
   captured = captured ∷ x.captured;
@@ -211,7 +211,7 @@ mutual
       changed (λ all t. (passes is_block refl (exit_around x l.exits) (made_by e (exit_place_of s x)) (c.around x) (itself_true l (core.return_from x f) h), t))
       (leads e l s c n f (head_stands l f [] (outer_true l (core.return_from x f) h)))
   leads e l s c n (core.lambda required rest body parts) h =
-      let captured : List (Option Around) = exits_of_parts e (flat_parts s parts) in
+      let captured : List (Option ExitForm) = exits_of_parts e (flat_parts s parts) in
       one_function captured (flat_procedure (seen s parts) (n + 1) (kinds_of s parts) required rest body)
       (leads (of_function captured) (standing.with_bound (parameters required rest) (standing.seen parts l)) (body_scope required rest body (seen s parts))
       (agree_bound (of_function captured) (standing.seen parts l) (seen s parts) (agree_seen e l s c parts) (parameters required rest) (parameters required rest) body)

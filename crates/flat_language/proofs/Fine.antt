@@ -6,10 +6,10 @@ use Rattle.std.specs.List.{list_all, list_any}
 use Rattle.std.proofs.lemmas.Bool.{eqb-true}
 use Rattle.std.proofs.lemmas.Map.Views.{any-filter_same}
 use Rattle.base.specs.AllOf.{AllOf, all_map}
-use Rattle.lang_meaning.specs.declared.part.Part.{Part}
-use Rattle.lang_meaning.specs.declared.part.Part.TheVariants.{Variable, Exit, Method}
-use Rattle.lang_meaning.specs.declared.scope.Around.{Around}
-use Rattle.lang_meaning.specs.declared.scope.ExitAround.{ExitAround}
+use Rattle.lang_meaning.specs.declared.capture.Capture.{Capture}
+use Rattle.lang_meaning.specs.declared.capture.Capture.TheVariants.{Variable, Exit, Method}
+use Rattle.lang_meaning.specs.declared.scope.ExitForm.{ExitForm}
+use Rattle.lang_meaning.specs.declared.scope.NamedExit.{NamedExit}
 use Rattle.lang_meaning.specs.declared.scope.LexicalScope.{LexicalScope}
 use Rattle.lang_meaning.specs.Form.{Form, BindingForms, parameters}
 use Rattle.lang_meaning.specs.Form as core
@@ -23,7 +23,7 @@ use Rattle.lang_meaning.specs.Standing as standing
 use Rattle.lang_meaning.specs.Standing.{is_variable, exit_around, is_block, is_segment, is_bound, is_free, around_inner, stands_itself, stands}
 use Rattle.flat_language.specs.declared.place.Home.TheVariants as home
 use Rattle.flat_language.specs.declared.place.VariablePlace.{VariablePlace}
-use Rattle.flat_language.specs.declared.place.VariablePlace.TheVariants.{Slot, SlotCell, CapturedValue, CapturedCell}
+use Rattle.flat_language.specs.declared.place.VariablePlace.TheVariants.{Slot, SlotBox, CapturedValue, CapturedBox}
 use Rattle.flat_language.specs.declared.place.ExitPlace.{ExitPlace}
 use Rattle.flat_language.specs.declared.place.MethodPlace.{MethodPlace}
 use Rattle.flat_language.specs.FlatState.{under}
@@ -79,7 +79,7 @@ members (g ∷ gs) = (
 sets_folded : (v : ℕ) (f : Form) → sets v f ≡ (sets_itself v f || some (map (sets v) (outer f)) || (not (binds (Variable v) f) && some (map (sets v) (inner f))))
 sets_folded v f = folded (λ g outer inner. sets_itself v g || some outer || (not (binds (Variable v) g) && some inner)) f
 
-captures_folded : (p : Part) (f : Form) → captures p f ≡ (some (map (captures p) (outer f)) || captures_inside p f (some (map (captures p) (inner f))))
+captures_folded : (p : Capture) (f : Form) → captures p f ≡ (some (map (captures p) (outer f)) || captures_inside p f (some (map (captures p) (inner f))))
 captures_folded p f = folded (λ g outer inner. some outer || captures_inside p g (some inner)) f
 
 -- a scope as forms stand in it, and as they are made flat in it
@@ -88,7 +88,7 @@ pub record ScopesFit (l : LexicalScope) (s : Scope) : Type 0 where
   pub exits : (x : ℕ) → is_bound l (Exit x) ≡ true → IsAround s x
   pub method : l.in_method ≡ true → IsInMethod s
 
--- a form that stands there; what it sets does not keep its value, and what it captures has a cell or keeps it
+-- a form that stands there; what it sets does not keep its value, and what it captures has a box or keeps it
 pub record Fine (l : LexicalScope) (s : Scope) (f : Form) : Type 0 where
   pub standing : stands l f ≡ true
   pub kept : (v : ℕ) (k : Known) → under v s.variables ≡ Some k → sets v f ≡ true → k.fixed ≡ false
@@ -118,10 +118,10 @@ sets_inner v f b h =
     sets_folded v f
     ∙ or_second (sets_itself v f || some (map (sets v) (outer f))) _ (and_not (binds (Variable v) f) (some (map (sets v) (inner f))) b h)
 
-captures_outer : (p : Part) (f : Form) → some (map (captures p) (outer f)) ≡ true → captures p f ≡ true
+captures_outer : (p : Capture) (f : Form) → some (map (captures p) (outer f)) ≡ true → captures p f ≡ true
 captures_outer p f h = captures_folded p f ∙ or_first (some (map (captures p) (outer f))) _ h
 
-captures_inner : (p : Part) (f : Form) → captures_inside p f (some (map (captures p) (inner f))) ≡ true → captures p f ≡ true
+captures_inner : (p : Capture) (f : Form) → captures_inside p f (some (map (captures p) (inner f))) ≡ true → captures p f ≡ true
 captures_inner p f h = captures_folded p f ∙ or_second (some (map (captures p) (outer f))) _ h
 
 pub outer_fine : (l : LexicalScope) (s : Scope) (f : Form) → Fine l s f → AllOf (Fine l s) (outer f)
@@ -158,7 +158,7 @@ bound_kept body known (x ∷ vs) n v k rest u e =
     (λ o. rest (ap (λ b. b || owns vs (Variable v)) f ∙ o))
     (sym (under_after v x _ (in_slots vs body (n + 1) ++ known) f) ∙ u) e)
 
-held_at : (c t : Bool) (n : ℕ) → c ≡ true → KeepsValue (slot_at (if c && t then home.Cell else home.Slot) n) (not t)
+held_at : (c t : Bool) (n : ℕ) → c ≡ true → KeepsValue (slot_at (if c && t then home.Boxed else home.Slot) n) (not t)
 held_at true true n h = tt
 held_at true false n h = refl
 held_at false t n h = absurd (cc h)
@@ -191,7 +191,7 @@ bound_known body known ws v rest (x ∷ vs) n h =
 
 -- captured parts
 
-captured_known_there : (s : Scope) (v : ℕ) (parts : List Part) (n : ℕ) → list_any (same_part (Variable v)) parts ≡ true → KnownIn v (captured_variables s parts n)
+captured_known_there : (s : Scope) (v : ℕ) (parts : List Capture) (n : ℕ) → list_any (same_part (Variable v)) parts ≡ true → KnownIn v (captured_variables s parts n)
 captured_known_there s v [] n h = absurd (cc h)
 captured_known_there s v (Exit x ∷ ps) n h = captured_known_there s v ps (n + 1) h
 captured_known_there s v (Method ∷ ps) n h = captured_known_there s v ps (n + 1) h
@@ -204,7 +204,7 @@ captured_known_there s v (Variable u ∷ ps) n h =
 abbrev ExitKnownIn : ℕ → List (ℕ × ExitPlace) → Type 0
 ExitKnownIn x known = (p : ExitPlace) × (under x known ≡ Some p)
 
-captured_exit_there : (x : ℕ) (parts : List Part) (n : ℕ) → list_any (same_part (Exit x)) parts ≡ true → ExitKnownIn x (captured_exits parts n)
+captured_exit_there : (x : ℕ) (parts : List Capture) (n : ℕ) → list_any (same_part (Exit x)) parts ≡ true → ExitKnownIn x (captured_exits parts n)
 captured_exit_there x [] n h = absurd (cc h)
 captured_exit_there x (Variable u ∷ ps) n h = captured_exit_there x ps (n + 1) h
 captured_exit_there x (Method ∷ ps) n h = captured_exit_there x ps (n + 1) h
@@ -214,7 +214,7 @@ captured_exit_there x (Exit u ∷ ps) n h =
     (λ f g. let r : ExitKnownIn x (captured_exits ps (n + 1)) = captured_exit_there x ps (n + 1) g in
     (r.0, under_after x u _ (captured_exits ps (n + 1)) f ∙ r.1))
 
-captured_method_there : (parts : List Part) (n : ℕ) → list_any (same_part Method) parts ≡ true → (p : MethodPlace) × (captured_method parts n ≡ Some p)
+captured_method_there : (parts : List Capture) (n : ℕ) → list_any (same_part Method) parts ≡ true → (p : MethodPlace) × (captured_method parts n ≡ Some p)
 captured_method_there [] n h = absurd (cc h)
 captured_method_there (Variable u ∷ ps) n h = captured_method_there ps (n + 1) h
 captured_method_there (Exit u ∷ ps) n h = captured_method_there ps (n + 1) h
@@ -227,7 +227,7 @@ record WasKnown (s : Scope) (v : ℕ) (k : Known) : Type 0 where
   there : under v s.variables ≡ Some known
   is : k ≡ captured_known known number
 
-was_known : (s : Scope) (v : ℕ) (k : Known) (parts : List Part) → AllOf (PartIsThere s) parts → (n : ℕ) → under v (captured_variables s parts n) ≡ Some k → WasKnown s v k
+was_known : (s : Scope) (v : ℕ) (k : Known) (parts : List Capture) → AllOf (PartIsThere s) parts → (n : ℕ) → under v (captured_variables s parts n) ≡ Some k → WasKnown s v k
 was_known s v k [] t n h = absurd (cc h)
 was_known s v k (Exit x ∷ ps) t n h = was_known s v k ps t.1 (n + 1) h
 was_known s v k (Method ∷ ps) t n h = was_known s v k ps t.1 (n + 1) h
@@ -245,16 +245,16 @@ was_known s v k (Variable u ∷ ps) t n h =
 
 captured_holds : (p : VariablePlace) (n : ℕ) (fixed : Bool) → KeepsValue (captured_place p n) fixed
 captured_holds (Slot m) n fixed = tt
-captured_holds (SlotCell m) n fixed = tt
+captured_holds (SlotBox m) n fixed = tt
 captured_holds (CapturedValue m) n fixed = tt
-captured_holds (CapturedCell m) n fixed = tt
+captured_holds (CapturedBox m) n fixed = tt
 
 -- the parts of a function stand where it is made
 
 same_number : (n : ℕ) → (n == n) ≡ true
 same_number n = equal_or_not n n (λ is t. t) (λ f. absurd (unequal n n f refl))
 
-parts_there : (l : LexicalScope) (s : Scope) → ScopesFit l s → (parts : List Part) → list_all (is_bound l) parts ≡ true
+parts_there : (l : LexicalScope) (s : Scope) → ScopesFit l s → (parts : List Capture) → list_all (is_bound l) parts ≡ true
     → ((v : ℕ) (k : Known) → under v s.variables ≡ Some k → list_any (same_part (Variable v)) parts ≡ true → KeepsValue k.place k.fixed)
     → AllOf (PartIsThere s) parts
 parts_there l s fit [] h held = tt
@@ -274,13 +274,13 @@ parts_there l s fit (Method ∷ ps) h held = (
 )
 
 -- exits that are around are bound
-around_bound : (test : Option Around → Bool) → test None ≡ false → (x : ℕ) (es : List ExitAround) → test (exit_around x es) ≡ true
-    → list_any (λ (e : ExitAround). x == e.exit) es ≡ true
+around_bound : (test : Option ExitForm → Bool) → test None ≡ false → (x : ℕ) (es : List NamedExit) → test (exit_around x es) ≡ true
+    → list_any (λ (e : NamedExit). x == e.exit) es ≡ true
 around_bound test none x [] h = absurd (let q : true ≡ false = sym h ∙ none in cc q)
 around_bound test none x (e ∷ es) h = by (x == e.exit) (λ g. around_bound test none x es g) h
   where
-    by : (b : Bool) → (test (exit_around x es) ≡ true → list_any (λ (e : ExitAround). x == e.exit) es ≡ true)
-        → test (if b then Some e.around else exit_around x es) ≡ true → (b || list_any (λ (e : ExitAround). x == e.exit) es) ≡ true
+    by : (b : Bool) → (test (exit_around x es) ≡ true → list_any (λ (e : NamedExit). x == e.exit) es ≡ true)
+        → test (if b then Some e.around else exit_around x es) ≡ true → (b || list_any (λ (e : NamedExit). x == e.exit) es) ≡ true
     by true others g = refl
     by false others g = others g
 
@@ -306,10 +306,10 @@ fit_bound l s fit vs body = record {
   method = λ h. record { place = (fit.method h).place; there = (fit.method h).there };
 }
 
-pub fit_around : (l : LexicalScope) (s : Scope) → ScopesFit l s → (x : ℕ) (a : Around) → ScopesFit (standing.with_around x a l) (with_around x s)
+pub fit_around : (l : LexicalScope) (s : Scope) → ScopesFit l s → (x : ℕ) (a : ExitForm) → ScopesFit (standing.with_around x a l) (with_around x s)
 fit_around l s fit x a = record {
   variables = λ v h. record { known = (fit.variables v h).known; there = (fit.variables v h).there };
-  exits = λ y h. of_or (y == x) (list_any (λ (e : ExitAround). y == e.exit) l.exits) h
+  exits = λ y h. of_or (y == x) (list_any (λ (e : NamedExit). y == e.exit) l.exits) h
       (λ t. record { place = _; there = under_first y x _ s.exits t })
       (λ f g. record { place = (fit.exits y g).place; there = under_after y x _ s.exits f ∙ (fit.exits y g).there });
   method = λ h. record { place = (fit.method h).place; there = (fit.method h).there };
@@ -318,7 +318,7 @@ fit_around l s fit x a = record {
 filtered : {X : Type 0} (test p : X → Bool) (b : Bool) (xs : List X) → ((x : X) → test x ≡ true → p x ≡ b) → list_any test (filter p xs) ≡ true → b ≡ true
 filtered test p b xs h e = first_true b (list_any test xs) (sym (any-filter_same test p b h xs) ∙ e)
 
-pub fit_seen : (l : LexicalScope) (s : Scope) → ScopesFit l s → (parts : List Part) → ScopesFit (standing.seen parts l) (seen s parts)
+pub fit_seen : (l : LexicalScope) (s : Scope) → ScopesFit l s → (parts : List Capture) → ScopesFit (standing.seen parts l) (seen s parts)
 fit_seen l s fit parts = record {
   variables = λ v h.
       let r : KnownIn v (captured_variables s parts 0) =
@@ -329,7 +329,7 @@ fit_seen l s fit parts = record {
   exits = λ x h.
       let r : ExitKnownIn x (captured_exits parts 0) =
       captured_exit_there x parts 0
-      (filtered (λ (e : ExitAround). x == e.exit) (λ (e : ExitAround). list_any (same_part (Exit e.exit)) parts) (list_any (same_part (Exit x)) parts) l.exits
+      (filtered (λ (e : NamedExit). x == e.exit) (λ (e : NamedExit). list_any (same_part (Exit e.exit)) parts) (list_any (same_part (Exit x)) parts) l.exits
       (λ w e. ap (λ y. list_any (same_part (Exit y)) parts) (sym (eqb-true x w.exit e))) h) in
       record { place = r.0; there = r.1 };
   method = λ h.
@@ -350,7 +350,7 @@ let_fine l s bs body h = record {
       (and_not (owns (variables_bound bs) (Variable v)) _ (ap (λ vs. owns vs (Variable v)) (variables_same bs) ∙ o) (or_first (captures (Variable v) body) false e)))) u e;
 }
 
-pub lambda_parts : (l : LexicalScope) (s : Scope) → ScopesFit l s → (required : List ℕ) (rest : Option ℕ) (body : Form) (parts : List Part)
+pub lambda_parts : (l : LexicalScope) (s : Scope) → ScopesFit l s → (required : List ℕ) (rest : Option ℕ) (body : Form) (parts : List Capture)
     → Fine l s (core.lambda required rest body parts) → AllOf (PartIsThere s) parts
 lambda_parts l s fit required rest body parts h =
     parts_there l s fit parts
@@ -359,7 +359,7 @@ lambda_parts l s fit required rest body parts h =
     (itself_true l (core.lambda required rest body parts) h.standing)))
     (λ v k g e. h.held v k g (captures_inner (Variable v) (core.lambda required rest body parts) e))
 
-pub lambda_fine : (l : LexicalScope) (s : Scope) (required : List ℕ) (rest : Option ℕ) (body : Form) (parts : List Part) → AllOf (PartIsThere s) parts
+pub lambda_fine : (l : LexicalScope) (s : Scope) (required : List ℕ) (rest : Option ℕ) (body : Form) (parts : List Capture) → AllOf (PartIsThere s) parts
     → Fine l s (core.lambda required rest body parts)
     → Fine (standing.with_bound (parameters required rest) (standing.seen parts l)) (with_bound (parameters required rest) body (seen s parts)) body
 lambda_fine l s required rest body parts there h = record {

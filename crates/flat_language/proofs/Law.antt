@@ -7,7 +7,7 @@ use Rattle.lang_meaning.specs.declared.program.ProgramRows.{ProgramRows}
 use Rattle.lang_meaning.specs.BoundNames.{BodyIsBound, IsBoundIn, NamesAreBound, LawOfNames}
 use Rattle.lang_meaning.specs.Facts.{is_whole}
 use Rattle.lang_meaning.specs.Form.{Form, parameters}
-use Rattle.lang_meaning.specs.Layout.{objects_at_start}
+use Rattle.lang_meaning.specs.InitialHeap.{objects_at_start}
 use Rattle.lang_meaning.specs.Classes.{class_of_object}
 use Rattle.lang_meaning.specs.Meaning.{class_in, meaning, end_of, meant}
 use Rattle.lang_meaning.specs.Objects.{Object}
@@ -22,7 +22,7 @@ use Rattle.flat_language.specs.Flatten.{functions, functions_of_procedures, flat
 use Rattle.flat_language.specs.Law.{SameRun, LawOfClosures, LawOfFlatPrograms}
 use Rattle.flat_language.specs.FlatStanding.{FlatScope, with_homes, ProgramStands, ProcedureStands, MainStands, LambdasStand}
 use Rattle.flat_language.specs.Scope.{no_scope, homes_of}
-use Rattle.flat_language.proofs.Alike.{Kind, World, alone, ObjectsAlike, Beside, Sound, Sim}
+use Rattle.flat_language.proofs.Alike.{VariableKind, World, alone, ObjectsAlike, Beside, Sound, Sim}
 use Rattle.flat_language.proofs.Applied.{ProceduresMatch}
 use Rattle.flat_language.proofs.Combined.{itself}
 use Rattle.flat_language.proofs.Exits.{whole_leads}
@@ -51,7 +51,7 @@ procedures_counted n (q ∷ qs) =
     (all_counted (body_scope q.required q.rest q.body no_scope) n q.body) (procedures_counted (n + functions q.body) qs)
 
 -- an object and the one beside it have one class, and so have values
-object_class : {lambdas : List FlatProcedure} {ks : List Kind} {o o' : Option Object} {t : Option (List Captured)} → ObjectsAlike lambdas ks o o' t → class_of_object o' ≡ class_of_object o
+object_class : {lambdas : List FlatProcedure} {ks : List VariableKind} {o o' : Option Object} {t : Option (List Captured)} → ObjectsAlike lambdas ks o o' t → class_of_object o' ≡ class_of_object o
 object_class (inl x) = ap class_of_object x.same
 object_class (inr x) = ap class_of_object x.other ∙ sym (ap class_of_object x.one)
 
@@ -165,7 +165,7 @@ law_of_closures law names program whole input k limit =
       world = alone [];
       later = itself (alone []);
       store = objects_at_start names program;
-      cells = [];
+      boxes = [];
       frame = [];
       captured = [];
       related = first_related lambdas names program;

@@ -7,7 +7,7 @@ use Rattle.lang_meaning.specs.Counts as core_counts
 use Rattle.lang_meaning.specs.Counts.{application_words}
 use Rattle.lang_meaning.specs.Values.{Value}
 use Rattle.lang_meaning.specs.Objects.{no_environment}
-use Rattle.lang_meaning.specs.State.{State, first_state, main_surroundings, more, Evaluated, Limit}
+use Rattle.lang_meaning.specs.State.{State, first_state, main_context, more, Evaluated, Limit}
 use Rattle.lang_meaning.specs.Signals.{Task, Evaluation}
 use Rattle.lang_meaning.specs.Meaning.{none_below, meaning_at, mean_main, mean_mains}
 use Rattle.flat_language.specs.FlatForm.{FlatForm}
@@ -79,14 +79,14 @@ module _ (names : List (List ℕ)) (program : ProgramRows) (procedures lambdas :
       subst (λ c. Sim lambdas w (mean_main names program limit k f z)
       (flat_state.request limit 0 (application_words c) y (λ entered.
       flat_state.go_on (flat_state.in_own_frame (λ inner.
-      flat_meaning_at names rows_of limit k (flat_signals.form (flat no_scope n f)) flat_state.no_environment main_surroundings inner) entered) (λ v after.
+      flat_meaning_at names rows_of limit k (flat_signals.form (flat no_scope n f)) flat_state.no_environment main_context inner) entered) (λ v after.
       flat_state.gives v (flat_state.on_state (λ (q : State). record q { stack = y.state.stack }) after)))))
       (sym (nodes_same no_scope n f))
       (requests limit 0 (application_words (core_counts.nodes f)) z y x (λ entered later a.
       let alone_now : World = record a.world { own = []; start = entered.variables } in
       on (frame_left a (kept_itself a.world.kinds) refl
       ((levels_alike k).forms_alike no_scope n f t alone_now no_environment flat_state.no_environment
-      (matches_kept (kept_itself a.world.kinds) refl (no_scope_matches a.world.kinds None)) main_surroundings (record { bindings = []; same = tt })
+      (matches_kept (kept_itself a.world.kinds) refl (no_scope_matches a.world.kinds None)) main_context (record { bindings = []; same = tt })
       entered _ (frame_made a))) (λ v after after' b.
       subst (λ c. Sim lambdas w (record { outcome = Rattle.lang_meaning.specs.State.value v; state = record after { stack = z.stack } }) (flat_state.gives v (flat_state.on_state (λ (q : State). record q { stack = c }) after')))
       (sym (ap (λ (q : FlatState). q.state.stack) x.is))

@@ -2,7 +2,7 @@
 use Rattle.std.proofs.Common.{◌≡◌, ℕ, suc, ◌+◌, ◌-◌, List, [], ◌∷◌, ◌++◌, refl, ap, ◌∙◌, length}
 use Rattle.std.specs.List.{sum}
 use Rattle.std.specs.Prelude.{if◌then◌else◌}
-use Rattle.lang_meaning.specs.declared.part.Part.{Part}
+use Rattle.lang_meaning.specs.declared.capture.Capture.{Capture}
 use Rattle.lang_meaning.specs.Form.{Form, Forms, ClauseForms, MaybeForm, BindingForms, DynamicForms}
 use Rattle.lang_meaning.specs.Form as core
 use Rattle.lang_meaning.specs.Subforms.{fold_forms, fold_clauses, fold_body, fold_values, fold_dynamics}
@@ -12,7 +12,7 @@ use Rattle.flat_language.specs.FlatNodes.{count_forms, count_clauses, count_bind
 use Rattle.flat_language.specs.Scope.{Scope, with_bound, with_around, flat_parts}
 use Rattle.flat_language.specs.Flatten.{functions, functions_of_values, functions_of_body, functions_of_dynamics, flat, flat_forms, flat_clauses, flat_body, flat_bindings, flat_dynamics}
 
-pub length-parts : (s : Scope) (ps : List Part) → length (flat_parts s ps) ≡ length ps
+pub length-parts : (s : Scope) (ps : List Capture) → length (flat_parts s ps) ≡ length ps
 length-parts s [] = refl
 length-parts s (p ∷ ps) = ap suc (length-parts s ps)
 

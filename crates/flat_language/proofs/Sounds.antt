@@ -1,7 +1,7 @@
 -- Each form of a program can be made flat in its scope.
 use Rattle.std.proofs.Common.{ℕ, ◌+◌, List, [], ◌++◌, refl}
 use Rattle.base.specs.AllOf.{AllOf}
-use Rattle.lang_meaning.specs.declared.scope.Around.TheVariants as around
+use Rattle.lang_meaning.specs.declared.scope.ExitForm.TheVariants as around
 use Rattle.lang_meaning.specs.declared.scope.LexicalScope.{LexicalScope}
 use Rattle.lang_meaning.specs.Counts as core_counts
 use Rattle.lang_meaning.specs.Form.{Form, Forms, ClauseForms, MaybeForm, BindingForms, DynamicForms, parameters}

@@ -2,8 +2,8 @@
 use Rattle.std.proofs.Common.{◌≡◌, ◌≤◌, ℕ, suc, ◌+◌, Bool, true, false, List, [], ◌∷◌, ◌++◌, refl, sym, ap, subst, ◌∙◌, Option, Some, length, arith, length-append, le_refl}
 use Rattle.std.specs.Prelude.{slice_get}
 use Rattle.base.specs.AllOf.{AllOf}
-use Rattle.lang_meaning.specs.declared.part.Part.{Part}
-use Rattle.lang_meaning.specs.declared.part.Part.TheVariants.{Variable, Exit, Method}
+use Rattle.lang_meaning.specs.declared.capture.Capture.{Capture}
+use Rattle.lang_meaning.specs.declared.capture.Capture.TheVariants.{Variable, Exit, Method}
 use Rattle.lang_meaning.specs.Form.{Form, Forms, ClauseForms, MaybeForm, BindingForms, DynamicForms, parameters}
 use Rattle.lang_meaning.specs.Form as core
 use Rattle.lang_meaning.specs.Meaning.{bound_variables}
@@ -11,7 +11,7 @@ use Rattle.flat_language.specs.declared.place.CapturedKind.{CapturedKind}
 use Rattle.flat_language.specs.declared.place.Home.{Home}
 use Rattle.flat_language.specs.declared.place.Home.TheVariants as home
 use Rattle.flat_language.specs.declared.place.VariablePlace.{VariablePlace}
-use Rattle.flat_language.specs.declared.place.VariablePlace.TheVariants.{Slot, SlotCell, CapturedValue, CapturedCell}
+use Rattle.flat_language.specs.declared.place.VariablePlace.TheVariants.{Slot, SlotBox, CapturedValue, CapturedBox}
 use Rattle.flat_language.specs.declared.place.ExitPlace.{ExitPlace}
 use Rattle.flat_language.specs.declared.place.ExitPlace.TheVariants as exit_place
 use Rattle.flat_language.specs.declared.place.MethodPlace.{MethodPlace}
@@ -44,15 +44,15 @@ pub record ScopeStands (t : FlatScope) (s : Scope) : Type 0 where
 
 variable_more : (t : FlatScope) (hs : List Home) (p : VariablePlace) → VariableStands t p → VariableStands (with_homes hs t) p
 variable_more t hs (Slot n) h = in_front t.homes hs n home.Slot h
-variable_more t hs (SlotCell n) h = in_front t.homes hs n home.Cell h
+variable_more t hs (SlotBox n) h = in_front t.homes hs n home.Boxed h
 variable_more t hs (CapturedValue n) h = h
-variable_more t hs (CapturedCell n) h = h
+variable_more t hs (CapturedBox n) h = h
 
 variable_exit : (t : FlatScope) (p : VariablePlace) → VariableStands t p → VariableStands (with_exit t) p
 variable_exit t (Slot n) h = h
-variable_exit t (SlotCell n) h = h
+variable_exit t (SlotBox n) h = h
 variable_exit t (CapturedValue n) h = h
-variable_exit t (CapturedCell n) h = h
+variable_exit t (CapturedBox n) h = h
 
 exit_homes : (t : FlatScope) (hs : List Home) (p : ExitPlace) → ExitStands t p → ExitStands (with_homes hs t) p
 exit_homes t hs (exit_place.Own n) h = h
@@ -72,11 +72,11 @@ method_exit t (method_place.Captured n) h = h
 
 at_home : (t : FlatScope) (h : Home) (n : ℕ) → slice_get t.homes n ≡ Some h → VariableStands t (slot_at h n)
 at_home t home.Slot n g = g
-at_home t home.Cell n g = g
+at_home t home.Boxed n g = g
 
 no_captured : (h : Home) (n : ℕ) → IsNoCapturedValue (slot_at h n)
 no_captured home.Slot n = tt
-no_captured home.Cell n = tt
+no_captured home.Boxed n = tt
 
 new_stands : (t : FlatScope) (known : List (ℕ × Known)) (body : Form) → ((v : ℕ) (k : Known) → under v known ≡ Some k → KnownStands t k)
     → (vs : List ℕ) (n : ℕ) → ((j : ℕ) (h : Home) → slice_get (homes_of vs body) j ≡ Some h → slice_get t.homes (n + j) ≡ Some h)
@@ -121,30 +121,30 @@ around_stands t s c x = record {
 -- a function's scope
 captured_stands : (inside : FlatScope) (p : VariablePlace) (n : ℕ) → slice_get inside.captured n ≡ Some (kind_of_place p) → VariableStands inside (captured_place p n)
 captured_stands inside (Slot m) n h = h
-captured_stands inside (SlotCell m) n h = h
+captured_stands inside (SlotBox m) n h = h
 captured_stands inside (CapturedValue m) n h = h
-captured_stands inside (CapturedCell m) n h = h
+captured_stands inside (CapturedBox m) n h = h
 
 -- a captured value is no variable that is set
 captured_settable : (p : VariablePlace) (n : ℕ) (fixed : Bool) → KeepsValue p fixed → (fixed ≡ false → IsNoCapturedValue p) → fixed ≡ false → IsNoCapturedValue (captured_place p n)
 captured_settable (Slot m) n fixed h g f = absurd (let q : true ≡ false = sym h ∙ f in cc q)
-captured_settable (SlotCell m) n fixed h g f = tt
+captured_settable (SlotBox m) n fixed h g f = tt
 captured_settable (CapturedValue m) n fixed h g f = g f
-captured_settable (CapturedCell m) n fixed h g f = tt
+captured_settable (CapturedBox m) n fixed h g f = tt
 
 -- the kinds of these parts stand from the n-th on
-abbrev From : FlatScope → Scope → ℕ → List Part → Type 0
+abbrev From : FlatScope → Scope → ℕ → List Capture → Type 0
 From inside s n parts = (j : ℕ) (k : CapturedKind) → slice_get (kinds_of s parts) j ≡ Some k → slice_get inside.captured (n + j) ≡ Some k
 
-first_kind : (inside : FlatScope) (s : Scope) (n : ℕ) (p : Part) (ps : List Part) → From inside s n (p ∷ ps) → slice_get inside.captured n ≡ Some (kind_of s p)
+first_kind : (inside : FlatScope) (s : Scope) (n : ℕ) (p : Capture) (ps : List Capture) → From inside s n (p ∷ ps) → slice_get inside.captured n ≡ Some (kind_of s p)
 first_kind inside s n p ps f =
     let q : n + 0 ≡ n = omega arith in subst (λ l. slice_get inside.captured l ≡ Some (kind_of s p)) q (f 0 (kind_of s p) refl)
 
-after_first : (inside : FlatScope) (s : Scope) (n : ℕ) (p : Part) (ps : List Part) → From inside s n (p ∷ ps) → From inside s (n + 1) ps
+after_first : (inside : FlatScope) (s : Scope) (n : ℕ) (p : Capture) (ps : List Capture) → From inside s n (p ∷ ps) → From inside s (n + 1) ps
 after_first inside s n p ps f j k h =
     let q : n + suc j ≡ (n + 1) + j = omega arith in subst (λ l. slice_get inside.captured l ≡ Some k) q (f (suc j) k h)
 
-variables_stand : (t inside : FlatScope) (s : Scope) → ScopeStands t s → (parts : List Part) → AllOf (PartIsThere s) parts → (n : ℕ) → From inside s n parts
+variables_stand : (t inside : FlatScope) (s : Scope) → ScopeStands t s → (parts : List Capture) → AllOf (PartIsThere s) parts → (n : ℕ) → From inside s n parts
     → (v : ℕ) (k : Known) → under v (captured_variables s parts n) ≡ Some k → KnownStands inside k
 variables_stand t inside s c [] e n f v k u = absurd (cc u)
 variables_stand t inside s c (Exit x ∷ ps) e n f v k u = variables_stand t inside s c ps e.1 (n + 1) (after_first inside s n (Exit x) ps f) v k u
@@ -163,7 +163,7 @@ variables_stand t inside s c (Variable x ∷ ps) e n f v k u =
     (λ b. variables_stand t inside s c ps e.1 (n + 1) (after_first inside s n (Variable x) ps f) v k
     (sym (under_after v x _ (captured_variables s ps (n + 1)) b) ∙ u))
 
-exits_stand : (inside : FlatScope) (s : Scope) (parts : List Part) (n : ℕ) → From inside s n parts
+exits_stand : (inside : FlatScope) (s : Scope) (parts : List Capture) (n : ℕ) → From inside s n parts
     → (x : ℕ) (p : ExitPlace) → under x (captured_exits parts n) ≡ Some p → ExitStands inside p
 exits_stand inside s [] n f x p u = absurd (cc u)
 exits_stand inside s (Variable y ∷ ps) n f x p u = exits_stand inside s ps (n + 1) (after_first inside s n (Variable y) ps f) x p u
@@ -173,14 +173,14 @@ exits_stand inside s (Exit y ∷ ps) n f x p u =
     (λ is b. subst (λ q. ExitStands inside q) (some_same (sym (under_first x y _ (captured_exits ps (n + 1)) b) ∙ u)) (first_kind inside s n (Exit y) ps f))
     (λ b. exits_stand inside s ps (n + 1) (after_first inside s n (Exit y) ps f) x p (sym (under_after x y _ (captured_exits ps (n + 1)) b) ∙ u))
 
-method_stands : (inside : FlatScope) (s : Scope) (parts : List Part) (n : ℕ) → From inside s n parts
+method_stands : (inside : FlatScope) (s : Scope) (parts : List Capture) (n : ℕ) → From inside s n parts
     → (p : MethodPlace) → captured_method parts n ≡ Some p → MethodStands inside p
 method_stands inside s [] n f p u = absurd (cc u)
 method_stands inside s (Variable y ∷ ps) n f p u = method_stands inside s ps (n + 1) (after_first inside s n (Variable y) ps f) p u
 method_stands inside s (Exit y ∷ ps) n f p u = method_stands inside s ps (n + 1) (after_first inside s n (Exit y) ps f) p u
 method_stands inside s (Method ∷ ps) n f p u = subst (λ q. MethodStands inside q) (some_same u) (first_kind inside s n Method ps f)
 
-seen_stands : (t : FlatScope) (s : Scope) → ScopeStands t s → (parts : List Part) → AllOf (PartIsThere s) parts
+seen_stands : (t : FlatScope) (s : Scope) → ScopeStands t s → (parts : List Capture) → AllOf (PartIsThere s) parts
     → ScopeStands (record { homes = []; captured = kinds_of s parts; exits = 0; in_procedure = false }) (seen s parts)
 seen_stands t s c parts e =
     let inside : FlatScope = record { homes = []; captured = kinds_of s parts; exits = 0; in_procedure = false } in
@@ -194,7 +194,7 @@ seen_stands t s c parts e =
     }
 
 -- what is captured stands where the function is made
-parts_stand : (t : FlatScope) (s : Scope) → ScopeStands t s → (parts : List Part) → AllOf (PartIsThere s) parts → PartsStand t (flat_parts s parts) (kinds_of s parts)
+parts_stand : (t : FlatScope) (s : Scope) → ScopeStands t s → (parts : List Capture) → AllOf (PartIsThere s) parts → PartsStand t (flat_parts s parts) (kinds_of s parts)
 parts_stand t s c [] e = tt
 parts_stand t s c (Variable v ∷ ps) e = (
   (

@@ -15,7 +15,7 @@ use Rattle.lang_meaning.specs.Form.{Form}
 use Rattle.lang_meaning.specs.declared.program.ClassRow.{ClassRow}
 use Rattle.lang_meaning.specs.Lookup.{text, numbered}
 use Rattle.lang_meaning.specs.Literals.{Laid, lay, lay_content, lay_items, lay_list, lay_tail}
-use Rattle.lang_meaning.specs.Layout.{Key, class, function_of, literal, input, output, single, Keyed, Thing, keyed, laid_out, layout, things, objects_at_start, class_things, function_things, function_object, literal_things, literal_objects, initargs_list, initform_objects, slot_things}
+use Rattle.lang_meaning.specs.InitialHeap.{Key, class, function_of, literal, input, output, single, Keyed, Thing, keyed, laid_out, layout, things, objects_at_start, class_things, function_things, function_object, literal_things, literal_objects, initargs_list, initform_objects, slot_things}
 use Rattle.lang_meaning.specs.Objects.{Object, Environment, closure, class_object, input_stream, output_stream, built_in_classes}
 use Rattle.flat_language.specs.declared.program.FlatProcedure.{FlatProcedure}
 use Rattle.flat_language.proofs.Alike.{alone, Related}
@@ -142,7 +142,7 @@ pub first_related : (lambdas : List FlatProcedure) (names : List (List ℕ)) (pr
 first_related lambdas names program = record {
   values = record {
     count = refl;
-    cell_count = refl;
+    box_count = refl;
     slot_count = refl;
     since = omega arith;
     known = λ i k h. absurd (cc h);

@@ -2,13 +2,13 @@
 -- its tagbody has. An exit that a function captured is what it was where the function was made.
 use Rattle.std.specs.Prelude.{◌≡◌, ⊤, true, List, [], ◌∷◌, ◌++◌, Option, Some, None, slice_get}
 use Rattle.base.specs.AllOf.{AllOf}
-use Rattle.lang_meaning.specs.declared.scope.Around.{Around}
-use Rattle.lang_meaning.specs.declared.scope.Around.TheVariants.{Block, Tagbody}
+use Rattle.lang_meaning.specs.declared.scope.ExitForm.{ExitForm}
+use Rattle.lang_meaning.specs.declared.scope.ExitForm.TheVariants.{Block, Tagbody}
 use Rattle.lang_meaning.specs.Standing.{is_block, is_segment}
 use Rattle.flat_language.specs.declared.place.ExitPlace.{ExitPlace}
 use Rattle.flat_language.specs.declared.place.ExitPlace.TheVariants.{Own, Captured}
-use Rattle.flat_language.specs.declared.place.FlatPart.{FlatPart}
-use Rattle.flat_language.specs.declared.place.FlatPart.TheVariants as part
+use Rattle.flat_language.specs.declared.place.FlatCapture.{FlatCapture}
+use Rattle.flat_language.specs.declared.place.FlatCapture.TheVariants as part
 use Rattle.flat_language.specs.declared.program.FlatProcedure.{FlatProcedure}
 use Rattle.flat_language.specs.declared.program.FlatProgram.{FlatProgram}
 use Rattle.flat_language.specs.FlatForm.{FlatForm, literal, local, set_local, global, set_global, def_global, clauses, sequence, let_form, make_function, call, call_value, apply, prim, while_form, block, return_from, tagbody, go, catch_form, throw, unwind, dynamic_let, dynamic, set_dynamic, def_dynamic, with_handler, signal_form, continue_form, next_method, has_next, sited}
@@ -19,41 +19,41 @@ use Rattle.flat_language.specs.FlatNodes.{count_forms}
 -- the forms that make the exits which a flat form sees: those around it in its procedure, the outermost one first; and for each
 -- thing that the function captured the form that made it, if it is an exit
 pub record FlatExits : Type 0 where
-  pub own : List Around
-  pub captured : List (Option Around)
+  pub own : List ExitForm
+  pub captured : List (Option ExitForm)
 
 abbrev pub no_exits : FlatExits
 no_exits = record { own = []; captured = [] }
 
 -- the exits of a function's body
-abbrev pub of_function : List (Option Around) → FlatExits
+abbrev pub of_function : List (Option ExitForm) → FlatExits
 of_function captured = record { own = []; captured = captured }
 
 -- an exit more
-abbrev pub with_own : Around → FlatExits → FlatExits
+abbrev pub with_own : ExitForm → FlatExits → FlatExits
 with_own a e = record e { own = e.own ++ a ∷ [] }
 
-abbrev pub some_exit : Option (Option Around) → Option Around
+abbrev pub some_exit : Option (Option ExitForm) → Option ExitForm
 some_exit None = None
 some_exit (Some a) = a
 
 -- the form that made the exit of a place
-abbrev pub made_by : FlatExits → ExitPlace → Option Around
+abbrev pub made_by : FlatExits → ExitPlace → Option ExitForm
 made_by e (Own n) = slice_get e.own n
 made_by e (Captured n) = some_exit (slice_get e.captured n)
 
 -- what a function captures, by the places where it is made
-abbrev pub exit_of_part : FlatExits → FlatPart → Option Around
+abbrev pub exit_of_part : FlatExits → FlatCapture → Option ExitForm
 exit_of_part e (part.Variable p) = None
 exit_of_part e (part.Exit p) = made_by e p
 exit_of_part e (part.Method p) = None
 
-abbrev pub exits_of_parts : FlatExits → List FlatPart → List (Option Around)
+abbrev pub exits_of_parts : FlatExits → List FlatCapture → List (Option ExitForm)
 exits_of_parts e [] = []
 exits_of_parts e (p ∷ ps) = exit_of_part e p ∷ exits_of_parts e ps
 
 -- forms in a program in which each function captured these exits
-module _ (functions : List (List (Option Around))) where
+module _ (functions : List (List (Option ExitForm))) where
   abbrev mutual
     pub Leads : FlatExits → FlatForm → Type 0
     Leads e (literal i) = ⊤
@@ -110,7 +110,7 @@ module _ (functions : List (List (Option Around))) where
     LeadDynamics e (dynamic_and name f ds) = Leads e f × LeadDynamics e ds
 
   -- functions, each with what it captured
-  abbrev pub FunctionsLead : List FlatProcedure → List (List (Option Around)) → Type 0
+  abbrev pub FunctionsLead : List FlatProcedure → List (List (Option ExitForm)) → Type 0
   FunctionsLead [] [] = ⊤
   FunctionsLead [] (c ∷ cs) = ⊥
   FunctionsLead (q ∷ qs) [] = ⊥
@@ -118,7 +118,7 @@ module _ (functions : List (List (Option Around))) where
 
 -- all bodies of a program: each function captured the same exits wherever it is made
 pub record ProgramLeads (program : FlatProgram) : Type 0 where
-  pub functions : List (List (Option Around))
+  pub functions : List (List (Option ExitForm))
   pub procedures : AllOf (λ p. Leads functions no_exits p.body) program.procedures
   pub lambdas : FunctionsLead functions program.lambdas functions
   pub main : AllOf (Leads functions no_exits) program.main

@@ -5,7 +5,7 @@ use Rattle.lang_meaning.specs.declared.primitive.Primitive.{Primitive}
 use Rattle.flat_language.specs.declared.place.Home.{Home}
 use Rattle.flat_language.specs.declared.place.VariablePlace.{VariablePlace}
 use Rattle.flat_language.specs.declared.place.ExitPlace.{ExitPlace}
-use Rattle.flat_language.specs.declared.place.FlatPart.{FlatPart}
+use Rattle.flat_language.specs.declared.place.FlatCapture.{FlatCapture}
 use Rattle.flat_language.specs.declared.place.MethodPlace.{MethodPlace}
 
 mutual
@@ -20,7 +20,7 @@ mutual
     sequence : FlatForms → FlatForm
     let_form : FlatBindings → FlatForm → FlatForm
     -- the function of a procedure, and what it captures
-    make_function : (procedure : ℕ) → List FlatPart → FlatForm
+    make_function : (procedure : ℕ) → List FlatCapture → FlatForm
     call : ℕ → FlatForms → FlatForm
     call_value : FlatForms → FlatForm
     apply : FlatForm → FlatForm → FlatForm

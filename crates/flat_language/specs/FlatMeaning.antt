@@ -7,11 +7,11 @@ use Rattle.lang_meaning.specs.declared.program.LiteralRow.TheVariants as row
 use Rattle.lang_meaning.specs.Counts.{application_words}
 use Rattle.lang_meaning.specs.Values.{Value, symbol, named, nil, truth, is_true}
 use Rattle.lang_meaning.specs.Objects.{Called, function_class, list_class, serious_condition_class, control_error_class}
-use Rattle.lang_meaning.specs.State.{State, first_state, Surroundings, main_surroundings, block_exit, catch_exit, at_segment, more, Limit}
+use Rattle.lang_meaning.specs.State.{State, first_state, DynamicContext, main_context, block_exit, catch_exit, at_segment, more, Limit}
 use Rattle.lang_meaning.specs.Lookup.{text, under_text, value_at, set_at, numbered}
 use Rattle.lang_meaning.specs.Classes.{fetch, is_condition}
 use Rattle.lang_meaning.specs.Literals.{function_row}
-use Rattle.lang_meaning.specs.Layout.{class_value, function_value, literal_value, objects_at_start}
+use Rattle.lang_meaning.specs.InitialHeap.{class_value, function_value, literal_value, objects_at_start}
 use Rattle.lang_meaning.specs.Primitives.{primitive, is_function}
 use Rattle.lang_meaning.specs.Meaning.{place_of_site, segment_of, with_turns, spread, is_next, Meant, end_of}
 use Rattle.flat_language.specs.declared.place.Home.{Home}
@@ -21,7 +21,7 @@ use Rattle.flat_language.specs.FlatForm.{FlatBindings, no_binding, binding_and, 
 use Rattle.flat_language.specs.declared.program.FlatProgram.{FlatProgram}
 use Rattle.flat_language.specs.FlatNodes.{tables, own_nodes, nodes}
 use Rattle.flat_language.specs.FlatState.{FlatEnvironment, no_environment, FlatState, FlatEvaluated, FlatAct, on_state, value_of, set_to, exit_of, method_of, captured_part, gives, go_on, landed, caught, cleaned, charged, exit_made, with_values, request, make_closure, in_new_slots, in_own_frame}
-use Rattle.flat_language.specs.FlatSignals.{FlatContext, FlatTask, nothing, form, turn, methods, FlatEvaluation, with_some, inside, run_chain, apply_value, apply_row, undefined_function, unbound_variable, signal_domain_error, signal_under, signal, answered, search, transfer, throw_to, continue_with, with_cells}
+use Rattle.flat_language.specs.FlatSignals.{FlatContext, FlatTask, nothing, form, turn, methods, FlatEvaluation, with_some, inside, run_chain, apply_value, apply_row, undefined_function, unbound_variable, signal_domain_error, signal_under, signal, answered, search, transfer, throw_to, continue_with, with_boxes}
 
 -- a form is charged what it counts by itself when its evaluation begins
 abbrev pub charged_for : FlatForm → FlatState → FlatState
@@ -123,7 +123,7 @@ module _ (context : FlatContext) where
 
   -- the segments of a tagbody, whose exit is the innermost one while they run: a transfer to it goes on from a segment,
   -- one level below
-  abbrev pub turned : ℕ → FlatForms → FlatEnvironment → Surroundings → FlatEvaluated → FlatEvaluated
+  abbrev pub turned : ℕ → FlatForms → FlatEnvironment → DynamicContext → FlatEvaluated → FlatEvaluated
   turned e all env around r =
       landed e (λ v landing z. context.below (turn e (from_segment (segment_of landing) all) all) env around z)
       (go_on r (λ v after. gives nil after))
@@ -145,7 +145,7 @@ module _ (context : FlatContext) where
     mean (sequence fs) env around z = mean_sequence nil fs env around (charged_for (sequence fs) z)
     mean (let_form bs body) env around z =
         mean_bindings bs [] env around (charged_for (let_form bs body) z) (λ vs after.
-        with_cells context.limit (binding_homes bs) after (λ ready.
+        with_boxes context.limit (binding_homes bs) after (λ ready.
         in_new_slots (binding_homes bs) vs (λ inner. mean body env around inner) ready))
     mean (make_function p parts) env around z =
         make_closure context.limit p (map (captured_part env z) parts) (charged_for (make_function p parts) z) (λ v after. gives v after)
@@ -216,7 +216,7 @@ module _ (context : FlatContext) where
         go_on (mean f env around z) (λ v after. mean_sequence v fs env around after)
 
     -- arguments from left to right, after those already evaluated
-    pub mean_arguments : FlatForms → List Value → FlatEnvironment → Surroundings → FlatState → (List Value → FlatState → FlatEvaluated) → FlatEvaluated
+    pub mean_arguments : FlatForms → List Value → FlatEnvironment → DynamicContext → FlatState → (List Value → FlatState → FlatEvaluated) → FlatEvaluated
     mean_arguments no_form vs env around z next = next vs z
     mean_arguments (form_and f fs) vs env around z next =
         go_on (mean f env around z) (λ v after. mean_arguments fs (vs ++ v ∷ []) env around after next)
@@ -233,12 +233,12 @@ module _ (context : FlatContext) where
     mean_body v (with_body f) env around z = mean f env around z
 
     -- the values of bindings, after those already evaluated
-    pub mean_bindings : FlatBindings → List Value → FlatEnvironment → Surroundings → FlatState → (List Value → FlatState → FlatEvaluated) → FlatEvaluated
+    pub mean_bindings : FlatBindings → List Value → FlatEnvironment → DynamicContext → FlatState → (List Value → FlatState → FlatEvaluated) → FlatEvaluated
     mean_bindings no_binding vs env around z next = next vs z
     mean_bindings (binding_and x f bs) vs env around z next =
         go_on (mean f env around z) (λ v after. mean_bindings bs (vs ++ v ∷ []) env around after next)
 
-    pub mean_dynamics : FlatDynamics → List Value → FlatEnvironment → Surroundings → FlatState → (List Value → FlatState → FlatEvaluated) → FlatEvaluated
+    pub mean_dynamics : FlatDynamics → List Value → FlatEnvironment → DynamicContext → FlatState → (List Value → FlatState → FlatEvaluated) → FlatEvaluated
     mean_dynamics no_dynamic vs env around z next = next vs z
     mean_dynamics (dynamic_and n f bs) vs env around z next =
         go_on (mean f env around z) (λ v after. mean_dynamics bs (vs ++ v ∷ []) env around after next)
@@ -267,7 +267,7 @@ flat_meaning_at names program limit (suc k) = mean_task (context_of names progra
 abbrev pub mean_main : List (List ℕ) → FlatProgram → Limit → ℕ → FlatForm → FlatState → FlatEvaluated
 mean_main names program limit k f z =
     request limit 0 (application_words (nodes f)) z (λ entered.
-    go_on (in_own_frame (λ inner. flat_meaning_at names program limit k (form f) no_environment main_surroundings inner) entered) (λ v after.
+    go_on (in_own_frame (λ inner. flat_meaning_at names program limit k (form f) no_environment main_context inner) entered) (λ v after.
     gives v (on_state (λ (y : State). record y { stack = z.state.stack }) after)))
 
 -- the main forms in order, after a last value

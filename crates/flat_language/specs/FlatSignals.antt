@@ -8,16 +8,16 @@ use Rattle.lang_meaning.specs.declared.program.Callee.TheVariants as callee
 use Rattle.lang_meaning.specs.Counts.{application_words}
 use Rattle.lang_meaning.specs.Values.{Value, named, symbol, nil}
 use Rattle.lang_meaning.specs.Objects.{Chain, Called, Object, cons, instance, function, generic_function, fresh_symbol, function_class, control_error_class, program_error_class, domain_error_class, unbound_variable_class, undefined_function_class}
-use Rattle.lang_meaning.specs.State.{State, Surroundings, Exit, ExitKind, signal_exit, Landing, at_segment, at_site, Limit}
+use Rattle.lang_meaning.specs.State.{State, DynamicContext, Exit, ExitKind, signal_exit, Landing, at_segment, at_site, Limit}
 use Rattle.lang_meaning.specs.State as base
 use Rattle.lang_meaning.specs.Lookup.{text}
 use Rattle.lang_meaning.specs.Classes.{class_of, fetch, chain}
-use Rattle.lang_meaning.specs.Layout.{class_value}
+use Rattle.lang_meaning.specs.InitialHeap.{class_value}
 use Rattle.lang_meaning.specs.Primitives.{Answer, result, makes, makes_symbol, fails, domain_error, instance_words}
 use Rattle.lang_meaning.specs.Signals as signals
 use Rattle.lang_meaning.specs.Signals.{takes, is_catch, is_signal, is_continuable}
 use Rattle.flat_language.specs.declared.place.Home.{Home}
-use Rattle.flat_language.specs.declared.place.Home.TheVariants.{Slot, Cell}
+use Rattle.flat_language.specs.declared.place.Home.TheVariants.{Slot, Boxed}
 use Rattle.flat_language.specs.FlatForm.{FlatForm, FlatForms}
 use Rattle.flat_language.specs.declared.program.FlatProcedure.{FlatProcedure}
 use Rattle.flat_language.specs.declared.program.FlatProgram.{FlatProgram}
@@ -32,7 +32,7 @@ pub data FlatTask : Type 0 where
   turn : (exit : ℕ) → FlatForms → FlatForms → FlatTask
   methods : Chain → List Value → FlatTask
 
--- an evaluation from an environment, surroundings and a state
+-- an evaluation from an environment, a dynamic context and a state
 abbrev pub FlatEvaluation : Type 0
 FlatEvaluation = FlatEnvironment → FlatAct
 
@@ -68,11 +68,11 @@ gathered limit required false vs z next = next vs z
 gathered limit required true vs z next =
     make_list limit (drop required vs) z (λ tail after. next (take required vs ++ tail ∷ []) after)
 
--- a word for each cell
-abbrev pub with_cells : Limit → List Home → FlatState → (FlatState → FlatEvaluated) → FlatEvaluated
-with_cells limit [] z next = next z
-with_cells limit (Slot ∷ hs) z next = with_cells limit hs z next
-with_cells limit (Cell ∷ hs) z next = request limit 1 0 z (λ entered. with_cells limit hs (charged 1 entered) next)
+-- a word for each box
+abbrev pub with_boxes : Limit → List Home → FlatState → (FlatState → FlatEvaluated) → FlatEvaluated
+with_boxes limit [] z next = next z
+with_boxes limit (Slot ∷ hs) z next = with_boxes limit hs z next
+with_boxes limit (Boxed ∷ hs) z next = request limit 1 0 z (λ entered. with_boxes limit hs (charged 1 entered) next)
 
 -- the words of the arguments and the chain of a method, where a function in it captures them
 abbrev pub with_record : Limit → Option Called → Bool → FlatState → (FlatState → FlatEvaluated) → FlatEvaluated
@@ -83,7 +83,7 @@ with_record limit (Some called) keeps z next =
     else next z
 
 -- a fresh exit, innermost
-abbrev pub inside : ExitKind → Surroundings → FlatState → Surroundings
+abbrev pub inside : ExitKind → DynamicContext → FlatState → DynamicContext
 inside kind around z = base.inside kind around z.state
 
 -- the mark of a condition is set
@@ -119,7 +119,7 @@ module _ (context : FlatContext) where
       in_frame context.limit (application_words (nodes p.body) + length vs)
       (λ entered. gathered context.limit (length p.required) (is_some p.rest) vs (charged (length vs) entered) (λ ws gone.
       with_record context.limit called p.keeps_method gone (λ recorded.
-      with_cells context.limit (homes p) recorded (λ ready.
+      with_boxes context.limit (homes p) recorded (λ ready.
       in_own_frame (λ inner.
       context.below (form p.body) (record no_environment { captured = captured; method = called }) around (with_slots (homes p) ws inner))
       ready))))
@@ -231,7 +231,7 @@ module _ (context : FlatContext) where
       new_condition class slots z (λ c made. signal_under around.handlers c nil around made)
 
   -- the answer of a primitive
-  abbrev pub answered : Answer → Surroundings → FlatState → FlatEvaluated
+  abbrev pub answered : Answer → DynamicContext → FlatState → FlatEvaluated
   answered (result v z) around y = gives v (record y { state = z })
   answered (makes size besides made z) around y =
       make context.limit size besides made (record y { state = z }) (λ v after. gives v after)

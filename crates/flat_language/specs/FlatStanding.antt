@@ -7,13 +7,13 @@ use Rattle.flat_language.specs.declared.place.CapturedKind.TheVariants as kind
 use Rattle.flat_language.specs.declared.place.Home.{Home}
 use Rattle.flat_language.specs.declared.place.Home.TheVariants as home
 use Rattle.flat_language.specs.declared.place.VariablePlace.{VariablePlace}
-use Rattle.flat_language.specs.declared.place.VariablePlace.TheVariants.{Slot, SlotCell, CapturedValue, CapturedCell}
+use Rattle.flat_language.specs.declared.place.VariablePlace.TheVariants.{Slot, SlotBox, CapturedValue, CapturedBox}
 use Rattle.flat_language.specs.declared.place.ExitPlace.{ExitPlace}
 use Rattle.flat_language.specs.declared.place.ExitPlace.TheVariants as exit_place
 use Rattle.flat_language.specs.declared.place.MethodPlace.{MethodPlace}
 use Rattle.flat_language.specs.declared.place.MethodPlace.TheVariants as method_place
-use Rattle.flat_language.specs.declared.place.FlatPart.{FlatPart}
-use Rattle.flat_language.specs.declared.place.FlatPart.TheVariants as part
+use Rattle.flat_language.specs.declared.place.FlatCapture.{FlatCapture}
+use Rattle.flat_language.specs.declared.place.FlatCapture.TheVariants as part
 use Rattle.flat_language.specs.declared.program.FlatProcedure.{FlatProcedure}
 use Rattle.flat_language.specs.declared.program.FlatProgram.{FlatProgram}
 use Rattle.flat_language.specs.FlatForm.{FlatForm, literal, local, set_local, global, set_global, def_global, clauses, sequence, let_form, make_function, call, call_value, apply, prim, while_form, block, return_from, tagbody, go, catch_form, throw, unwind, dynamic_let, dynamic, set_dynamic, def_dynamic, with_handler, signal_form, continue_form, next_method, has_next, sited}
@@ -40,15 +40,15 @@ with_exit s = record s { exits = s.exits + 1 }
 -- places
 abbrev pub VariableStands : FlatScope → VariablePlace → Type 0
 VariableStands s (Slot n) = slice_get s.homes n ≡ Some home.Slot
-VariableStands s (SlotCell n) = slice_get s.homes n ≡ Some home.Cell
+VariableStands s (SlotBox n) = slice_get s.homes n ≡ Some home.Boxed
 VariableStands s (CapturedValue n) = slice_get s.captured n ≡ Some kind.Value
-VariableStands s (CapturedCell n) = slice_get s.captured n ≡ Some kind.Cell
+VariableStands s (CapturedBox n) = slice_get s.captured n ≡ Some kind.Boxed
 
 abbrev pub IsNoCapturedValue : VariablePlace → Type 0
 IsNoCapturedValue (Slot n) = ⊤
-IsNoCapturedValue (SlotCell n) = ⊤
+IsNoCapturedValue (SlotBox n) = ⊤
 IsNoCapturedValue (CapturedValue n) = ⊥
-IsNoCapturedValue (CapturedCell n) = ⊤
+IsNoCapturedValue (CapturedBox n) = ⊤
 
 abbrev pub ExitStands : FlatScope → ExitPlace → Type 0
 ExitStands s (exit_place.Own n) = n < s.exits
@@ -59,19 +59,19 @@ MethodStands s method_place.Own = s.in_procedure ≡ true
 MethodStands s (method_place.Captured n) = slice_get s.captured n ≡ Some kind.Method
 
 -- what a function captures, by the kinds that its procedure says
-abbrev pub PartStands : FlatScope → FlatPart → CapturedKind → Type 0
+abbrev pub PartStands : FlatScope → FlatCapture → CapturedKind → Type 0
 PartStands s (part.Variable p) k = VariableStands s p × k ≡ kind_of_place p
 PartStands s (part.Exit p) k = ExitStands s p × k ≡ kind.Exit
 PartStands s (part.Method p) k = MethodStands s p × k ≡ kind.Method
 
-abbrev pub PartsStand : FlatScope → List FlatPart → List CapturedKind → Type 0
+abbrev pub PartsStand : FlatScope → List FlatCapture → List CapturedKind → Type 0
 PartsStand s [] [] = ⊤
 PartsStand s [] (k ∷ ks) = ⊥
 PartsStand s (p ∷ ps) [] = ⊥
 PartsStand s (p ∷ ps) (k ∷ ks) = PartStands s p k × PartsStand s ps ks
 
 -- a function of the program, with a number from one on
-pub record FunctionStands (lambdas : List FlatProcedure) (s : FlatScope) (first number : ℕ) (parts : List FlatPart) : Type 0 where
+pub record FunctionStands (lambdas : List FlatProcedure) (s : FlatScope) (first number : ℕ) (parts : List FlatCapture) : Type 0 where
   pub procedure : FlatProcedure
   pub there : slice_get lambdas number ≡ Some procedure
   pub above : first ≤ number

@@ -1,10 +1,10 @@
 -- What an evaluation of flat forms changes and comes to. An activation has a frame of slots of its own, which is gone when it ends;
--- a cell is a variable of the state, which functions share. A function is a number in the store, and what it captured stands
+-- a box is a variable of the state, which functions share. A function is a number in the store, and what it captured stands
 -- beside the state: so it is known which functions a form made. The combinators are those of the meaning.
 use Rattle.std.specs.Prelude.{ℕ, ◌+◌, ◌==◌, List, [], ◌∷◌, ◌++◌, Option, Some, None, length, slice_get, slice_set, take, if◌then◌else◌}
 use Rattle.lang_meaning.specs.Values.{Value, nil, object}
 use Rattle.lang_meaning.specs.Objects.{Called, Object, function}
-use Rattle.lang_meaning.specs.State.{State, Surroundings, Exit, ExitKind, Landing, Outcome, value, exit, full, more, Limit, exits_from, has_room, room_left, with_words, stored}
+use Rattle.lang_meaning.specs.State.{State, DynamicContext, Exit, ExitKind, Landing, Outcome, value, exit, full, more, Limit, exits_from, has_room, room_left, with_words, stored}
 use Rattle.lang_meaning.specs.State as base
 use Rattle.lang_meaning.specs.Lookup.{value_at, set_at}
 use Rattle.lang_meaning.specs.Lookup as lookup
@@ -13,23 +13,23 @@ use Rattle.flat_language.specs.declared.place.CapturedKind.TheVariants as kind
 use Rattle.flat_language.specs.declared.place.Home.{Home}
 use Rattle.flat_language.specs.declared.place.Home.TheVariants as home
 use Rattle.flat_language.specs.declared.place.VariablePlace.{VariablePlace}
-use Rattle.flat_language.specs.declared.place.VariablePlace.TheVariants.{Slot, SlotCell, CapturedValue, CapturedCell}
+use Rattle.flat_language.specs.declared.place.VariablePlace.TheVariants.{Slot, SlotBox, CapturedValue, CapturedBox}
 use Rattle.flat_language.specs.declared.place.ExitPlace.{ExitPlace}
 use Rattle.flat_language.specs.declared.place.ExitPlace.TheVariants as exit_place
 use Rattle.flat_language.specs.declared.place.MethodPlace.{MethodPlace}
 use Rattle.flat_language.specs.declared.place.MethodPlace.TheVariants as method_place
-use Rattle.flat_language.specs.declared.place.FlatPart.{FlatPart}
-use Rattle.flat_language.specs.declared.place.FlatPart.TheVariants as part
+use Rattle.flat_language.specs.declared.place.FlatCapture.{FlatCapture}
+use Rattle.flat_language.specs.declared.place.FlatCapture.TheVariants as part
 
--- a slot of a frame has the value of its variable, or the number of its variable's cell
+-- a slot of a frame has the value of its variable, or the number of its variable's box
 pub data FrameSlot : Type 0 where
   holds : Value → FrameSlot
-  holds_cell : ℕ → FrameSlot
+  holds_box : ℕ → FrameSlot
 
--- what a function captured: a value; a cell, by its number; an exit; or the arguments and the chain of a method
+-- what a function captured: a value; a box, by its number; an exit; or the arguments and the chain of a method
 pub data Captured : Type 0 where
   of_value : Value → Captured
-  of_cell : Option ℕ → Captured
+  of_box : Option ℕ → Captured
   of_exit : Option ℕ → Captured
   of_method : Option Called → Captured
 
@@ -43,7 +43,7 @@ pub record FlatEnvironment : Type 0 where
 abbrev pub no_environment : FlatEnvironment
 no_environment = record { captured = []; exits = []; method = None }
 
--- the state, whose variables are the cells and the variables of dynamic bindings; the frame of the activation that runs, its
+-- the state, whose variables are the boxes and the variables of dynamic bindings; the frame of the activation that runs, its
 -- outermost slot first; and what functions captured, by the numbers of their objects
 pub record FlatState : Type 0 where
   pub state : State
@@ -78,24 +78,24 @@ captured_by v z = None
 
 -- frames
 
--- the slots of new variables with these homes and values, where the next cell has that number
+-- the slots of new variables with these homes and values, where the next box has that number
 abbrev pub new_slots : List Home → List Value → ℕ → List FrameSlot
 new_slots [] vs n = []
 new_slots (h ∷ hs) [] n = []
 new_slots (home.Slot ∷ hs) (v ∷ vs) n = holds v ∷ new_slots hs vs n
-new_slots (home.Cell ∷ hs) (v ∷ vs) n = holds_cell n ∷ new_slots hs vs (n + 1)
+new_slots (home.Boxed ∷ hs) (v ∷ vs) n = holds_box n ∷ new_slots hs vs (n + 1)
 
--- the values of those among them that have cells
-abbrev pub new_cells : List Home → List Value → List Value
-new_cells [] vs = []
-new_cells (h ∷ hs) [] = []
-new_cells (home.Slot ∷ hs) (v ∷ vs) = new_cells hs vs
-new_cells (home.Cell ∷ hs) (v ∷ vs) = v ∷ new_cells hs vs
+-- the values of those among them that have boxes
+abbrev pub new_boxes : List Home → List Value → List Value
+new_boxes [] vs = []
+new_boxes (h ∷ hs) [] = []
+new_boxes (home.Slot ∷ hs) (v ∷ vs) = new_boxes hs vs
+new_boxes (home.Boxed ∷ hs) (v ∷ vs) = v ∷ new_boxes hs vs
 
--- new variables: their slots stand behind those of the frame, and each that has a cell has a new one
+-- new variables: their slots stand behind those of the frame, and each that has a box has a new one
 abbrev pub with_slots : List Home → List Value → FlatState → FlatState
 with_slots hs vs z =
-    record (with_values (new_cells hs vs) z) { frame = z.frame ++ new_slots hs vs (length z.state.variables) }
+    record (with_values (new_boxes hs vs) z) { frame = z.frame ++ new_slots hs vs (length z.state.variables) }
 
 -- places
 
@@ -104,17 +104,17 @@ abbrev pub value_held : Option FrameSlot → Value
 value_held (Some (holds v)) = v
 value_held s = nil
 
-abbrev pub cell_held : Option FrameSlot → Option ℕ
-cell_held (Some (holds_cell i)) = Some i
-cell_held s = None
+abbrev pub box_held : Option FrameSlot → Option ℕ
+box_held (Some (holds_box i)) = Some i
+box_held s = None
 
 abbrev pub value_in : Option Captured → Value
 value_in (Some (of_value v)) = v
 value_in c = nil
 
-abbrev pub cell_in : Option Captured → Option ℕ
-cell_in (Some (of_cell i)) = i
-cell_in c = None
+abbrev pub box_in : Option Captured → Option ℕ
+box_in (Some (of_box i)) = i
+box_in c = None
 
 abbrev pub exit_in : Option Captured → Option ℕ
 exit_in (Some (of_exit e)) = e
@@ -127,16 +127,16 @@ method_in c = None
 -- the value of a variable
 abbrev pub value_of : VariablePlace → FlatEnvironment → FlatState → Value
 value_of (Slot n) env z = value_held (slice_get z.frame n)
-value_of (SlotCell n) env z = value_at (cell_held (slice_get z.frame n)) z.state
+value_of (SlotBox n) env z = value_at (box_held (slice_get z.frame n)) z.state
 value_of (CapturedValue n) env z = value_in (slice_get env.captured n)
-value_of (CapturedCell n) env z = value_at (cell_in (slice_get env.captured n)) z.state
+value_of (CapturedBox n) env z = value_at (box_in (slice_get env.captured n)) z.state
 
--- a variable is set, in the frame or in its cell; a captured value is never set
+-- a variable is set, in the frame or in its box; a captured value is never set
 abbrev pub set_to : VariablePlace → Value → FlatEnvironment → FlatState → FlatState
 set_to (Slot n) v env z = record z { frame = slice_set z.frame n (holds v) }
-set_to (SlotCell n) v env z = on_state (λ y. set_at (cell_held (slice_get z.frame n)) v y) z
+set_to (SlotBox n) v env z = on_state (λ y. set_at (box_held (slice_get z.frame n)) v y) z
 set_to (CapturedValue n) v env z = z
-set_to (CapturedCell n) v env z = on_state (λ y. set_at (cell_in (slice_get env.captured n)) v y) z
+set_to (CapturedBox n) v env z = on_state (λ y. set_at (box_in (slice_get env.captured n)) v y) z
 
 abbrev pub exit_of : ExitPlace → FlatEnvironment → Option ℕ
 exit_of (exit_place.Own n) env = slice_get env.exits n
@@ -146,14 +146,14 @@ abbrev pub method_of : MethodPlace → FlatEnvironment → Option Called
 method_of method_place.Own env = env.method
 method_of (method_place.Captured n) env = method_in (slice_get env.captured n)
 
--- what is captured of a variable: its cell where it has one, else its value
+-- what is captured of a variable: its box where it has one, else its value
 abbrev pub captured_variable : VariablePlace → FlatEnvironment → FlatState → Captured
 captured_variable (Slot n) env z = of_value (value_held (slice_get z.frame n))
-captured_variable (SlotCell n) env z = of_cell (cell_held (slice_get z.frame n))
+captured_variable (SlotBox n) env z = of_box (box_held (slice_get z.frame n))
 captured_variable (CapturedValue n) env z = of_value (value_in (slice_get env.captured n))
-captured_variable (CapturedCell n) env z = of_cell (cell_in (slice_get env.captured n))
+captured_variable (CapturedBox n) env z = of_box (box_in (slice_get env.captured n))
 
-abbrev pub captured_part : FlatEnvironment → FlatState → FlatPart → Captured
+abbrev pub captured_part : FlatEnvironment → FlatState → FlatCapture → Captured
 captured_part env z (part.Variable p) = captured_variable p env z
 captured_part env z (part.Exit p) = of_exit (exit_of p env)
 captured_part env z (part.Method p) = of_method (method_of p env)
@@ -161,9 +161,9 @@ captured_part env z (part.Method p) = of_method (method_of p env)
 -- the kind of what is captured of a variable
 abbrev pub kind_of_place : VariablePlace → CapturedKind
 kind_of_place (Slot n) = kind.Value
-kind_of_place (SlotCell n) = kind.Cell
+kind_of_place (SlotBox n) = kind.Boxed
 kind_of_place (CapturedValue n) = kind.Value
-kind_of_place (CapturedCell n) = kind.Cell
+kind_of_place (CapturedBox n) = kind.Boxed
 
 -- the combinators
 
@@ -174,7 +174,7 @@ abbrev pub leaves : ℕ → Value → Landing → FlatState → FlatEvaluated
 leaves e v landing z = record { outcome = exit e v landing; state = z }
 
 abbrev pub FlatAct : Type 0
-FlatAct = Surroundings → FlatState → FlatEvaluated
+FlatAct = DynamicContext → FlatState → FlatEvaluated
 
 abbrev pub go_on_from : Outcome → FlatState → (Value → FlatState → FlatEvaluated) → FlatEvaluated
 go_on_from (value v) z next = next v z
@@ -198,14 +198,14 @@ landed e land r = landed_from e land r.outcome r.state
 abbrev pub caught : ℕ → FlatEvaluated → FlatEvaluated
 caught e r = landed e (λ v landing z. gives v z) r
 
-abbrev pub cleaned_from : FlatAct → Surroundings → Outcome → FlatState → FlatEvaluated
+abbrev pub cleaned_from : FlatAct → DynamicContext → Outcome → FlatState → FlatEvaluated
 cleaned_from cleanup around (value v) z = go_on (cleanup around z) (λ w after. gives v after)
 cleaned_from cleanup around (exit e v landing) z =
     go_on (cleanup (record around { exits = exits_from e around.exits }) z) (λ w after. leaves e v landing after)
 cleaned_from cleanup around (full asked left) z = record { outcome = full asked left; state = z }
 cleaned_from cleanup around more z = record { outcome = more; state = z }
 
-abbrev pub cleaned : FlatAct → Surroundings → FlatEvaluated → FlatEvaluated
+abbrev pub cleaned : FlatAct → DynamicContext → FlatEvaluated → FlatEvaluated
 cleaned cleanup around r = cleaned_from cleanup around r.outcome r.state
 
 -- a request of words: Full where heap and stack would pass the limit

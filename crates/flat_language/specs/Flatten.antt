@@ -1,7 +1,7 @@
 -- Closure conversion: a form made flat in a scope, and the procedures of the functions inside it, which have the numbers
 -- from a first one on, each before those inside it.
 use Rattle.std.specs.Prelude.{ℕ, ◌+◌, List, [], ◌∷◌, ◌++◌, Option, Some, None}
-use Rattle.lang_meaning.specs.declared.part.Part.TheVariants as meant
+use Rattle.lang_meaning.specs.declared.capture.Capture.TheVariants as meant
 use Rattle.lang_meaning.specs.declared.program.Procedure.{Procedure}
 use Rattle.lang_meaning.specs.declared.program.ProgramRows.{ProgramRows}
 use Rattle.lang_meaning.specs.Captured.{captures}

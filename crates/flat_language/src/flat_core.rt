@@ -3,7 +3,7 @@
 ghost use Rattle.std.specs.Prelude.{◌≡◌};
 ghost use Rattle.flat_language.specs.model.View.{view_form};
 
-use crate::place::{ExitPlace, FlatPart, Home, MethodPlace, VariablePlace};
+use crate::place::{ExitPlace, FlatCapture, Home, MethodPlace, VariablePlace};
 use base::{ItemList, Name};
 use lang_meaning::{LiteralId, Primitive, SiteId};
 use std::marker::Model;
@@ -31,7 +31,7 @@ pub enum FlatCoreForm {
     /// New variables, in the slots after those that are there.
     Let(FlatBindingList, Box<FlatCore>),
     /// The function of a procedure, by the procedure's number among the program's functions, and what it captures.
-    MakeFunction(usize, FlatPartList),
+    MakeFunction(usize, FlatCaptureList),
     Call(Name, FlatCoreList),
     CallValue(FlatCoreList),
     Apply(Box<FlatCore>, Box<FlatCore>),
@@ -93,7 +93,7 @@ pub type FlatBindingList = ItemList<FlatBinding>;
 pub type FlatDynBindings = ItemList<FlatDynBinding>;
 
 /// What functions capture, by its places.
-pub type FlatPartList = ItemList<FlatPart>;
+pub type FlatCaptureList = ItemList<FlatCapture>;
 
 impl Model for FlatCore {
     ghost use Rattle.flat_language.specs.FlatForm.{FlatForm, form_size};

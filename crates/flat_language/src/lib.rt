@@ -7,8 +7,8 @@ pub mod place;
 pub mod program;
 
 pub use flat_core::{
-    FlatBinding, FlatBindingList, FlatClause, FlatClauseList, FlatCore, FlatCoreForm, FlatCoreList,
-    FlatDynBinding, FlatDynBindings, FlatPartList,
+    FlatBinding, FlatBindingList, FlatCaptureList, FlatClause, FlatClauseList, FlatCore,
+    FlatCoreForm, FlatCoreList, FlatDynBinding, FlatDynBindings,
 };
-pub use place::{CapturedKind, ExitPlace, FlatPart, Home, Known, MethodPlace, VariablePlace};
+pub use place::{CapturedKind, ExitPlace, FlatCapture, Home, Known, MethodPlace, VariablePlace};
 pub use program::{CapturedKinds, FlatProcedure, FlatProcedureList, FlatProgram, HomeList};

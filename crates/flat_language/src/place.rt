@@ -1,20 +1,20 @@
 // Where the code of a procedure finds what it names: in its own frame, or among what its function captured.
 
-/// Where a variable lives: in a slot of a frame, or, where a function captures it and a form sets it, in a cell.
+/// Where a variable lives: in a slot of a frame, or, where a function captures it and a form sets it, in a box.
 #[derive(Clone, Copy)]
 pub enum Home {
     Slot,
-    Cell,
+    Boxed,
 }
 
-/// The place of a variable: a slot of the frame, a slot whose variable has a cell, a captured value, or a
-/// captured cell, each by its number from 0.
+/// The place of a variable: a slot of the frame, a slot whose variable has a box, a captured value, or a
+/// captured box, each by its number from 0.
 #[derive(Clone, Copy)]
 pub enum VariablePlace {
     Slot(usize),
-    SlotCell(usize),
+    SlotBox(usize),
     CapturedValue(usize),
-    CapturedCell(usize),
+    CapturedBox(usize),
 }
 
 /// The place of an exit: one of the blocks and tagbodies around in the same procedure, the outermost one first, or a
@@ -40,19 +40,19 @@ pub struct Known {
     pub fixed: bool,
 }
 
-/// What a captured thing is: the value of a variable, its cell, an exit, or the arguments and the other methods of a
+/// What a captured thing is: the value of a variable, its box, an exit, or the arguments and the other methods of a
 /// method.
 #[derive(Clone, Copy)]
 pub enum CapturedKind {
     Value,
-    Cell,
+    Boxed,
     Exit,
     Method,
 }
 
 /// What a function captures, by its place where the function is made.
 #[derive(Clone, Copy)]
-pub enum FlatPart {
+pub enum FlatCapture {
     Variable(VariablePlace),
     Exit(ExitPlace),
     Method(MethodPlace),

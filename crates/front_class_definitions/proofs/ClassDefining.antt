@@ -7,7 +7,7 @@ use Rattle.base.specs.declared.reason.Reason.{Reason}
 use Rattle.base.specs.declared.reason.Reason.TheVariants.{BadSupers, BadSlot, BadMethod}
 use Rattle.base.specs.Data.{Item}
 use Rattle.front_profile.specs.declared.tables.Tables.{Tables}
-use Rattle.front_profile.specs.Nodes.{Around, Node, offends}
+use Rattle.front_profile.specs.Nodes.{StaticContext, Node, offends}
 use Rattle.front_profile.specs.RowWords.{bad_shape}
 use Rattle.front_profile.specs.ClassShapes.{WrittenSuper, WrittenSlot, ClassOption, are_options}
 use Rattle.front_profile.specs.ClassRows.{Use, are_supers, few_inherited, fits_generic, names_differ, class_of, class_shaped}
@@ -38,7 +38,7 @@ written_by : (b : Bool) (w v : ClassWritten) (f : ClassWritten → Node) (y : No
 written_by true w v f y h = let same : w ≡ v = cc in ap f same
 written_by false w v f y h = absurd (cc)
 
-pub shaped : (names : List (List ℕ)) (a : Around) (s : Tables) (p : Place) (d : Item) (n : Name) (w : ClassWritten)
+pub shaped : (names : List (List ℕ)) (a : StaticContext) (s : Tables) (p : Place) (d : Item) (n : Name) (w : ClassWritten)
     (cs : Option (List WrittenSuper)) (xs : Option (List WrittenSlot)) (os : List ClassOption) → Some w ≡ written_as cs xs os
     → class_of names a s p d n w.supers w.slots w.options ≡ class_shaped names a s p d (Some n) cs xs os
 shaped names a s p d n w None xs os h = absurd (cc)

@@ -17,7 +17,7 @@ use crate::slots::{class_parts, slot_specs};
 use crate::supers::{are_supers, few_inherited, known_supers};
 use base::{Datum, Name, Names, NoMemory, Reason};
 use front_drafts::draft::{DefinedClass, Draft, offence};
-use front_drafts::here::{Setting, fits_depth};
+use front_drafts::here::{FormContext, fits_depth};
 use front_drafts::taken::{
     defining_offence, generic_named, generic_row, has_function, has_name, is_truth,
 };
@@ -38,7 +38,7 @@ pub(crate) struct WrittenClass<'a> {
 }
 
 // Whether a function that is none of the prelude and no generic function has the name.
-fn is_of_function(here: Setting, one: Use) -> bool
+fn is_of_function(here: FormContext, one: Use) -> bool
     ensures { result ≡ row.is_of_function (around here.entry) here.entry.tables.now (view_use one) }
 {
     has_function(here.tables, one.name)
@@ -47,7 +47,7 @@ fn is_of_function(here: Setting, one: Use) -> bool
 }
 
 // Whether the language or the prelude keeps the name.
-fn is_kept_name(here: Setting, names: &Names, one: Use) -> bool
+fn is_kept_name(here: FormContext, names: &Names, one: Use) -> bool
     ensures { result ≡ row.is_kept_name names.now (around here.entry) here.entry.tables.now (view_use one) }
 {
     is_truth(here, one.name)
@@ -67,7 +67,7 @@ fn fits_generic(tables: &Tables, one: Use) -> bool
     }
 }
 
-fn some_of_function(here: Setting, uses: &Uses) -> bool
+fn some_of_function(here: FormContext, uses: &Uses) -> bool
     ensures { result ≡ list_any (row.is_of_function (around here.entry) here.entry.tables.now) (view_uses uses.now) }
 {
     for one in uses.as_slice() {
@@ -78,7 +78,7 @@ fn some_of_function(here: Setting, uses: &Uses) -> bool
     false
 }
 
-fn some_kept_name(here: Setting, names: &Names, uses: &Uses) -> bool
+fn some_kept_name(here: FormContext, names: &Names, uses: &Uses) -> bool
     ensures { result ≡ list_any (row.is_kept_name names.now (around here.entry) here.entry.tables.now) (view_uses uses.now) }
 {
     for one in uses.as_slice() {
@@ -122,7 +122,7 @@ fn names_differ(uses: &[Use]) -> bool
 }
 
 // Whether the same text defined a class of the name.
-fn is_taken_class(here: Setting, name: Name) -> bool
+fn is_taken_class(here: FormContext, name: Name) -> bool
     ensures { result ≡ row.is_taken_class (around here.entry) here.entry.tables.now name }
 {
     match here.tables.classes.find(name) {
@@ -131,7 +131,7 @@ fn is_taken_class(here: Setting, name: Name) -> bool
     }
 }
 
-fn is_of_prelude(here: Setting, name: Name) -> bool
+fn is_of_prelude(here: FormContext, name: Name) -> bool
     ensures { result ≡ row.class_of_prelude here.entry.tables.now.prelude_classes (class_named here.entry.tables.now.classes.rows name) }
 {
     match here.tables.classes.find(name) {
@@ -141,14 +141,14 @@ fn is_of_prelude(here: Setting, name: Name) -> bool
 }
 
 // Whether the name is `t`, or that of a class of the language or of the prelude, which no file defines anew.
-fn is_reserved_class(here: Setting, name: Name) -> bool
+fn is_reserved_class(here: FormContext, name: Name) -> bool
     ensures { result ≡ row.is_reserved_class (around here.entry) here.entry.tables.now name }
 {
     is_truth(here, name) || (here.spot.sited && is_of_prelude(here, name))
 }
 
 // Whether the class or a method of it stands in the way of what was defined before.
-fn is_taken(here: Setting, name: Name, uses: &Uses) -> bool
+fn is_taken(here: FormContext, name: Name, uses: &Uses) -> bool
     ensures { result ≡ (row.is_taken_class (around here.entry) here.entry.tables.now name
         || list_any (row.is_of_function (around here.entry) here.entry.tables.now) (view_uses uses.now)) }
 {
@@ -156,7 +156,7 @@ fn is_taken(here: Setting, name: Name, uses: &Uses) -> bool
 }
 
 // Whether the name of the class or of a method of it is kept.
-fn is_reserved(here: Setting, names: &Names, name: Name, uses: &Uses) -> bool
+fn is_reserved(here: FormContext, names: &Names, name: Name, uses: &Uses) -> bool
     ensures { result ≡ (row.is_reserved_class (around here.entry) here.entry.tables.now name
         || list_any (row.is_kept_name names.now (around here.entry) here.entry.tables.now) (view_uses uses.now)) }
 {
@@ -165,7 +165,7 @@ fn is_reserved(here: Setting, names: &Names, name: Name, uses: &Uses) -> bool
 
 // What is defined.
 fn new_class(
-    here: Setting,
+    here: FormContext,
     name: Name,
     written: &WrittenClass,
     functions: &Functions,
@@ -190,7 +190,7 @@ fn new_class(
 
 // The definition, where nothing stands in its way.
 fn class_made<'a>(
-    here: Setting,
+    here: FormContext,
     datum: &'a Datum,
     name: Name,
     written: &WrittenClass<'a>,
@@ -211,7 +211,7 @@ fn class_made<'a>(
 
 // The lowest reason that the definition shares with none of its parts, behind that of options that are left out.
 fn class_offence(
-    here: Setting,
+    here: FormContext,
     written: &WrittenClass,
     uses: &Uses,
 ) -> Result<Option<Reason>, NoMemory>
@@ -232,7 +232,7 @@ fn class_offence(
 
 // The definition, behind what all definitions share.
 fn class_checked<'a>(
-    here: Setting,
+    here: FormContext,
     datum: &'a Datum,
     name: Name,
     written: &WrittenClass<'a>,
@@ -258,7 +258,7 @@ fn class_checked<'a>(
 
 // The definition, whose slots ask for these functions.
 fn class_with<'a>(
-    here: Setting,
+    here: FormContext,
     names: &Names,
     datum: &'a Datum,
     name: Name,
@@ -284,7 +284,7 @@ fn class_with<'a>(
 
 // The definition of a class of that name.
 fn class_of<'a>(
-    here: Setting,
+    here: FormContext,
     names: &Names,
     datum: &'a Datum,
     name: Name,
@@ -321,7 +321,7 @@ fn written_with<'a>(
 
 // What stands behind the name; none where a list is not allowed.
 fn written_in<'a>(
-    here: Setting,
+    here: FormContext,
     names: &Names,
     supers: &'a Datum,
     slots: &'a Datum,
@@ -338,7 +338,7 @@ fn written_in<'a>(
 
 // The definition of a class of that name, with what stands behind it.
 fn class_shaped<'a>(
-    here: Setting,
+    here: FormContext,
     names: &Names,
     datum: &'a Datum,
     name: Name,
@@ -359,7 +359,7 @@ fn class_shaped<'a>(
 
 /// `(defclass name (super*) (slot*) option*)`
 pub fn defclass_draft<'a>(
-    here: Setting,
+    here: FormContext,
     names: &Names,
     items: &'a [Datum],
 ) -> Result<Draft<'a>, NoMemory>

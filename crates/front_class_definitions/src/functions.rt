@@ -3,7 +3,7 @@
 ghost use Rattle.std.specs.Prelude.{◌≡◌, ◌+◌, ◌<◌, ◌++◌, ◌∷◌, [], Some, None, not, ◌&&◌, length, flat_map, IfOk, OnOk};
 ghost use Rattle.std.specs.List.{list_any, filter_map};
 ghost use Rattle.front_profile.specs.ClassRows as row;
-ghost use Rattle.front_profile.specs.Makings.{arguments_of};
+ghost use Rattle.front_profile.specs.Elaborations.{arguments_of};
 ghost use Rattle.front_syntax.specs.ClassDefinitions.{view_slot_option, view_slot, view_slots};
 ghost use Rattle.front_class_definitions.specs.Functions.{view_read, view_functions, maybe_use, view_uses};
 ghost use Rattle.front_drafts.specs.Views.{view_parts};

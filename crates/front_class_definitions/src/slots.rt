@@ -14,7 +14,7 @@ ghost use Rattle.front_drafts.specs.Views.{view_parts};
 use crate::functions::{functions_of, initform_from, push_parts};
 use crate::supers::{first_unknown, has_name, inherited};
 use base::{Name, NameList, NoMemory, Reason};
-use front_drafts::here::Setting;
+use front_drafts::here::FormContext;
 use front_drafts::plan::{Part, Parts};
 use front_syntax::slots::{SlotOption, SlotOptions, WrittenSlot, WrittenSlots, WrittenSupers};
 use lang_classes::{SlotSpec, SlotSpecs};
@@ -83,7 +83,7 @@ fn push_new(names: &mut NameList, name: Name) -> Result<(), NoMemory>
 
 // Appends the parts that the functions of a slot are.
 fn push_slot<'a>(
-    here: Setting,
+    here: FormContext,
     parts: &mut Parts<'a>,
     slot: &WrittenSlot<'a>,
 ) -> Result<(), NoMemory>
@@ -103,7 +103,7 @@ fn is_wrong(names: &NameList, earlier: &NameList, slot: &WrittenSlot) -> bool
 
 // The parts that a slot is, which stands behind these.
 fn push_right_slot<'a>(
-    here: Setting,
+    here: FormContext,
     parts: &mut Parts<'a>,
     names: &mut NameList,
     earlier: &mut NameList,
@@ -122,7 +122,7 @@ fn push_right_slot<'a>(
 // The parts that slots are, up to the first that is wrong, of a class that has the slots of these superclasses.
 #[tactic(auto, using(crate::proofs::ClassSlots::name_seen))]
 fn slot_parts<'a>(
-    here: Setting,
+    here: FormContext,
     supers: &WrittenSupers,
     slots: &WrittenSlots<'a>,
 ) -> Result<Parts<'a>, NoMemory>
@@ -144,7 +144,7 @@ fn slot_parts<'a>(
 
 /// The parts of a class definition: the offence of the first superclass that is not known, or those that its slots are.
 pub(crate) fn class_parts<'a>(
-    here: Setting,
+    here: FormContext,
     supers: &WrittenSupers,
     slots: &WrittenSlots<'a>,
 ) -> Result<Parts<'a>, NoMemory>
@@ -162,7 +162,7 @@ pub(crate) fn class_parts<'a>(
 }
 
 // The initargs among options.
-fn initargs(here: Setting, options: &SlotOptions) -> Result<NameList, NoMemory>
+fn initargs(here: FormContext, options: &SlotOptions) -> Result<NameList, NoMemory>
     ensures { IfOk result (λ names. names ≡ filter_map row.initarg_in (view_slot_options options.now)) }
 {
     let mut names = NameList::new(here.alloc);
@@ -176,7 +176,7 @@ fn initargs(here: Setting, options: &SlotOptions) -> Result<NameList, NoMemory>
 
 // Appends what a class has of a slot whose functions are numbered from that one on, and gives the number behind them.
 fn push_spec(
-    here: Setting,
+    here: FormContext,
     specs: &mut SlotSpecs,
     slot: &WrittenSlot,
     first: usize,
@@ -200,7 +200,7 @@ fn push_spec(
 }
 
 /// What a class has of its slots, whose functions take the next numbers of procedures.
-pub(crate) fn slot_specs(here: Setting, slots: &WrittenSlots) -> Result<SlotSpecs, NoMemory>
+pub(crate) fn slot_specs(here: FormContext, slots: &WrittenSlots) -> Result<SlotSpecs, NoMemory>
     ensures { IfOk result (λ specs. specs ≡ row.slot_specs (length here.entry.tables.now.procedures) (view_slots slots.now)) }
 {
     let mut specs = SlotSpecs::new(here.alloc);

@@ -9,7 +9,7 @@ ghost use Rattle.front_profile.specs.ClassRows as row;
 ghost use Rattle.front_syntax.specs.ClassDefinitions.{view_super, view_supers};
 
 use base::{Name, NameList, NoMemory, Place};
-use front_drafts::here::Setting;
+use front_drafts::here::FormContext;
 use front_syntax::slots::{WrittenSuper, WrittenSupers};
 use lang_classes::Classes;
 use lang_meaning::ClassIds;
@@ -18,7 +18,7 @@ use lang_meaning::ClassIds;
 const SLOT_LIMIT: usize = 64;
 
 /// The superclasses that are known.
-pub(crate) fn known_supers(here: Setting, supers: &WrittenSupers) -> Result<ClassIds, NoMemory>
+pub(crate) fn known_supers(here: FormContext, supers: &WrittenSupers) -> Result<ClassIds, NoMemory>
     ensures { IfOk result (λ known. known ≡ row.known_supers here.entry.tables.now.classes.rows (view_supers supers.now)) }
 {
     let mut known = ClassIds::new(here.alloc);
@@ -31,7 +31,7 @@ pub(crate) fn known_supers(here: Setting, supers: &WrittenSupers) -> Result<Clas
 }
 
 // The names of those that are not.
-fn unknown_names(here: Setting, supers: &WrittenSupers) -> Result<NameList, NoMemory>
+fn unknown_names(here: FormContext, supers: &WrittenSupers) -> Result<NameList, NoMemory>
     ensures { IfOk result (λ names. names ≡ row.unknown_names here.entry.tables.now.classes.rows (view_supers supers.now)) }
 {
     let mut names = NameList::new(here.alloc);
@@ -67,7 +67,7 @@ fn some_twice(names: &[Name]) -> bool
 
 // Whether those that are known go together.
 #[tactic(auto, using(crate::proofs::KnownSupers::known_there))]
-fn known_fit(here: Setting, supers: &WrittenSupers) -> Result<bool, NoMemory>
+fn known_fit(here: FormContext, supers: &WrittenSupers) -> Result<bool, NoMemory>
     ensures { IfOk result (λ fit. fit ≡ supers_fit here.entry.tables.now.classes.rows
         (row.known_supers here.entry.tables.now.classes.rows (view_supers supers.now))) }
 {
@@ -76,7 +76,7 @@ fn known_fit(here: Setting, supers: &WrittenSupers) -> Result<bool, NoMemory>
 }
 
 // Whether none of those that are not known stands twice.
-fn unknown_differ(here: Setting, supers: &WrittenSupers) -> Result<bool, NoMemory>
+fn unknown_differ(here: FormContext, supers: &WrittenSupers) -> Result<bool, NoMemory>
     ensures { IfOk result (λ differ. differ ≡ not (row.some_twice
         (row.unknown_names here.entry.tables.now.classes.rows (view_supers supers.now)))) }
 {
@@ -85,7 +85,7 @@ fn unknown_differ(here: Setting, supers: &WrittenSupers) -> Result<bool, NoMemor
 }
 
 /// Whether these may be the superclasses of one class, by what is known of them.
-pub(crate) fn are_supers(here: Setting, supers: &WrittenSupers) -> Result<bool, NoMemory>
+pub(crate) fn are_supers(here: FormContext, supers: &WrittenSupers) -> Result<bool, NoMemory>
     ensures { IfOk result (λ fit. fit ≡ row.are_supers here.entry.tables.now (view_supers supers.now)) }
 {
     if known_fit(here, supers)? {
@@ -96,7 +96,7 @@ pub(crate) fn are_supers(here: Setting, supers: &WrittenSupers) -> Result<bool, 
 }
 
 /// The names of the slots that they have.
-pub(crate) fn inherited(here: Setting, supers: &WrittenSupers) -> Result<NameList, NoMemory>
+pub(crate) fn inherited(here: FormContext, supers: &WrittenSupers) -> Result<NameList, NoMemory>
     ensures { IfOk result (λ names. names ≡ each_first (inherited_names here.entry.tables.now.classes
         (row.known_supers here.entry.tables.now.classes.rows (view_supers supers.now)))) }
 {
@@ -105,7 +105,7 @@ pub(crate) fn inherited(here: Setting, supers: &WrittenSupers) -> Result<NameLis
 }
 
 /// Whether they have at most as many slots as a class may have.
-pub(crate) fn few_inherited(here: Setting, supers: &WrittenSupers) -> Result<bool, NoMemory>
+pub(crate) fn few_inherited(here: FormContext, supers: &WrittenSupers) -> Result<bool, NoMemory>
     ensures { IfOk result (λ few. few ≡ row.few_inherited here.entry.tables.now (view_supers supers.now)) }
 {
     let names = inherited(here, supers)?;

@@ -63,7 +63,11 @@ pub(crate) fn bind_all(spaces: &mut Spaces, more: &[Bound]) -> Result<(), NoMemo
 }
 
 // Tags with the segments behind them; the first of a name is the one that counts.
-fn bind_tags(names: &mut NameMap<Symbol, Target>, tags: &[Symbol], exit: ExitVar) -> Result<(), NoMemory>
+fn bind_tags(
+    names: &mut NameMap<Symbol, Target>,
+    tags: &[Symbol],
+    exit: ExitVar,
+) -> Result<(), NoMemory>
     ensures { OnOk result (names.new ≡ targets exit 1 tags.now ++ names.old) }
 {
     for later in 0..tags.len() {

@@ -7,7 +7,7 @@ ghost use Rattle.front_drafts.specs.Drafts.{around, Draws};
 
 use base::{Datum, Name, NoMemory, Reason};
 use front_drafts::draft::{Defined, Draft, offence, one_part};
-use front_drafts::here::{Setting, fits_depth};
+use front_drafts::here::{FormContext, fits_depth};
 use front_drafts::plan::{inner_forms, parameter_parts};
 use front_drafts::taken::{
     defining_offence, has_dynamic, has_global, has_name, is_reserved, is_taken, is_truth,
@@ -17,7 +17,7 @@ use front_syntax::shapes::{named, parameters_in};
 
 /// `(defglobal name x)` and `(defconstant name x)`: a constant is not set before.
 pub fn global_draft<'a>(
-    here: Setting,
+    here: FormContext,
     constant: bool,
     items: &'a [Datum],
 ) -> Result<Draft<'a>, NoMemory>
@@ -47,7 +47,7 @@ pub fn global_draft<'a>(
 }
 
 /// `(defdynamic name x)`
-pub fn defdynamic_draft<'a>(here: Setting, items: &'a [Datum]) -> Result<Draft<'a>, NoMemory>
+pub fn defdynamic_draft<'a>(here: FormContext, items: &'a [Datum]) -> Result<Draft<'a>, NoMemory>
     ensures { Draws here.entry
         (row.defdynamic_row (around here.entry) here.entry.tables.now here.entry.place items.now) result }
 {
@@ -71,7 +71,7 @@ pub fn defdynamic_draft<'a>(here: Setting, items: &'a [Datum]) -> Result<Draft<'
 
 // The definition, with what its body binds and has.
 fn defun_of<'a>(
-    here: Setting,
+    here: FormContext,
     name: Name,
     datum: &'a Datum,
     parameters: &Parameters,
@@ -94,7 +94,7 @@ fn defun_of<'a>(
 
 // The definition, where the lambda list is one.
 fn defun_with<'a>(
-    here: Setting,
+    here: FormContext,
     name: Name,
     datum: &'a Datum,
     list: &Datum,
@@ -110,7 +110,11 @@ fn defun_with<'a>(
 }
 
 /// `(defun name lambda-list f*)`. The language keeps the name or not.
-pub fn defun_draft<'a>(here: Setting, kept: bool, items: &'a [Datum]) -> Result<Draft<'a>, NoMemory>
+pub fn defun_draft<'a>(
+    here: FormContext,
+    kept: bool,
+    items: &'a [Datum],
+) -> Result<Draft<'a>, NoMemory>
     ensures { Draws here.entry
         (row.defun_row kept (around here.entry) here.entry.tables.now here.entry.place items.now) result }
 {

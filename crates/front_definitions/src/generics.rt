@@ -14,10 +14,10 @@ ghost use Rattle.front_drafts.specs.Views.{view_parts};
 use crate::methods::{fits, push_head, push_method, written_head};
 use base::{Datum, ItemList, Name, Names, NoMemory, Reason};
 use front_drafts::draft::{DefinedMethods, Draft, offence};
-use front_drafts::here::{Setting, fits_depth};
+use front_drafts::here::{FormContext, fits_depth};
 use front_drafts::plan::Parts;
 use front_drafts::taken::{defining_offence, is_reserved, is_taken};
-use front_profile::{Heads, Parameters, Taker};
+use front_profile::{MethodHeads, Parameters, Taker};
 use front_syntax::methods::{WrittenMethod, method_in, some_fresh_class};
 use front_syntax::naming::{GivenName, given_name};
 use front_syntax::shapes::parameters_in;
@@ -121,7 +121,7 @@ fn some_left_out(names: &Names, items: &[Datum]) -> bool
 
 // The methods among options.
 fn methods_among<'a>(
-    here: Setting,
+    here: FormContext,
     names: &Names,
     items: &'a [Datum],
 ) -> Result<WrittenMethods<'a>, NoMemory>
@@ -147,7 +147,11 @@ fn argument_count(parameters: &Parameters) -> Result<u32, NoMemory>
 }
 
 // The generic function that is defined, without methods.
-fn new_generic(here: Setting, name: Name, parameters: &Parameters) -> Result<GenericRow, NoMemory>
+fn new_generic(
+    here: FormContext,
+    name: Name,
+    parameters: &Parameters,
+) -> Result<GenericRow, NoMemory>
     ensures { IfOk result (λ generic. Some generic ≡ row.generic_row name (Some parameters.now)) }
 {
     Ok(GenericRow {
@@ -160,7 +164,7 @@ fn new_generic(here: Setting, name: Name, parameters: &Parameters) -> Result<Gen
 
 // Adds a method, by its head where all of it is known.
 fn add_method(
-    here: Setting,
+    here: FormContext,
     generic: &mut GenericRow,
     method: &WrittenMethod,
 ) -> Result<(), NoMemory>
@@ -179,7 +183,7 @@ fn add_method(
 
 // Whether the generic function takes all methods, one after another.
 fn all_fit_generic(
-    here: Setting,
+    here: FormContext,
     generic: &mut GenericRow,
     methods: &WrittenMethods,
 ) -> Result<bool, NoMemory>
@@ -195,7 +199,7 @@ fn all_fit_generic(
 }
 
 // Whether all methods have a qualifier that there is.
-fn all_qualified(here: Setting, methods: &WrittenMethods) -> bool
+fn all_qualified(here: FormContext, methods: &WrittenMethods) -> bool
     ensures { result ≡ row.all_fit here.entry.tables.now None (view_methods methods.now) }
 {
     for method in methods.as_slice() {
@@ -208,7 +212,7 @@ fn all_qualified(here: Setting, methods: &WrittenMethods) -> bool
 
 // Whether all methods fit, where the generic function has these parameters.
 fn all_fit(
-    here: Setting,
+    here: FormContext,
     name: Name,
     parameters: &Option<Parameters>,
     methods: &WrittenMethods,
@@ -228,7 +232,7 @@ fn all_fit(
 
 // The parts of all methods.
 fn each_method<'a>(
-    here: Setting,
+    here: FormContext,
     name: Name,
     methods: &WrittenMethods<'a>,
 ) -> Result<Parts<'a>, NoMemory>
@@ -242,10 +246,10 @@ fn each_method<'a>(
 }
 
 // The heads of all methods.
-fn all_heads(here: Setting, methods: &WrittenMethods) -> Result<Heads, NoMemory>
+fn all_heads(here: FormContext, methods: &WrittenMethods) -> Result<MethodHeads, NoMemory>
     ensures { IfOk result (λ heads. heads ≡ row.all_heads here.entry.tables.now (view_methods methods.now)) }
 {
-    let mut heads = Heads::new(here.alloc);
+    let mut heads = MethodHeads::new(here.alloc);
     for method in methods.as_slice() {
         push_head(here, &mut heads, method)?;
     }
@@ -254,7 +258,7 @@ fn all_heads(here: Setting, methods: &WrittenMethods) -> Result<Heads, NoMemory>
 
 // The definition, with these parameters and methods.
 fn generic_with<'a>(
-    here: Setting,
+    here: FormContext,
     datum: &Datum,
     list: &Datum,
     name: Name,
@@ -277,7 +281,7 @@ fn generic_with<'a>(
 
 // The definition, where all methods fit.
 fn generic_judged<'a>(
-    here: Setting,
+    here: FormContext,
     datum: &Datum,
     list: &Datum,
     name: Name,
@@ -300,7 +304,7 @@ fn generic_judged<'a>(
 
 // The definition, behind what all definitions share.
 fn generic_checked<'a>(
-    here: Setting,
+    here: FormContext,
     names: &Names,
     datum: &Datum,
     list: &Datum,
@@ -317,7 +321,7 @@ fn generic_checked<'a>(
 
 // The definition of a generic function of that name.
 fn generic_of<'a>(
-    here: Setting,
+    here: FormContext,
     names: &Names,
     datum: &Datum,
     list: &Datum,
@@ -343,7 +347,7 @@ fn generic_of<'a>(
 
 /// `(defgeneric name lambda-list option*)`
 pub fn defgeneric_draft<'a>(
-    here: Setting,
+    here: FormContext,
     names: &Names,
     items: &'a [Datum],
 ) -> Result<Draft<'a>, NoMemory>

@@ -6,7 +6,7 @@ ghost use Rattle.std.specs.Str.{bytes_eq};
 ghost use Rattle.lang_meaning.specs.Classes.{is_qualifier};
 ghost use Rattle.lang_dispatch.specs.Methods.{is_same};
 ghost use Rattle.front_profile.specs.GenericRows as row;
-ghost use Rattle.front_profile.specs.Makings.{generic_named};
+ghost use Rattle.front_profile.specs.Elaborations.{generic_named};
 ghost use Rattle.front_profile.specs.MethodShapes.{specialised_in};
 ghost use Rattle.front_syntax.specs.Definitions.{maybe_specialised, view_specialised, view_method};
 ghost use Rattle.front_drafts.specs.Drafts.{around, Draws};
@@ -14,10 +14,10 @@ ghost use Rattle.front_drafts.specs.Views.{view_parts};
 
 use base::{Datum, Name, Names, NoMemory, Reason};
 use front_drafts::draft::{DefinedMethods, Draft, offence};
-use front_drafts::here::{Setting, fits_depth};
+use front_drafts::here::{FormContext, fits_depth};
 use front_drafts::plan::{Part, Parts, Written};
 use front_drafts::taken::{generic_named, generic_row, is_reserved};
-use front_profile::{Head, Heads, Taker};
+use front_profile::{MethodHead, MethodHeads, Taker};
 use front_syntax::methods::{
     Specialised, WrittenMethod, classes_asked, first_unknown, may_have_next, method_in,
     some_fresh_class, specialised_in,
@@ -29,10 +29,10 @@ use lang_meaning::{ClassIds, GenericId, GenericRow, MethodRow, Qualifier};
 
 // The head of a method, where all of it is known.
 fn head_of(
-    here: Setting,
+    here: FormContext,
     qualifier: Option<Qualifier>,
     specialised: &Option<Specialised>,
-) -> Result<Option<Head>, NoMemory>
+) -> Result<Option<MethodHead>, NoMemory>
     ensures { IfOk result (λ head. head ≡ row.head_of here.entry.tables.now qualifier (maybe_specialised specialised.now)) }
 {
     let Some(qualifier) = qualifier else {
@@ -42,13 +42,16 @@ fn head_of(
         return Ok(None);
     };
     match classes_asked(here.alloc, &here.tables.classes, &specialised.classes)? {
-        Some(classes) => Ok(Some(Head { qualifier, classes })),
+        Some(classes) => Ok(Some(MethodHead { qualifier, classes })),
         None => Ok(None),
     }
 }
 
 /// The same of a method as it is written.
-pub(crate) fn written_head(here: Setting, method: &WrittenMethod) -> Result<Option<Head>, NoMemory>
+pub(crate) fn written_head(
+    here: FormContext,
+    method: &WrittenMethod,
+) -> Result<Option<MethodHead>, NoMemory>
     ensures { IfOk result (λ head. head ≡ row.written_head here.entry.tables.now (view_method method.now)) }
 {
     let specialised = specialised_in(here.alloc, here.tables.words, method.list)?;
@@ -74,13 +77,13 @@ fn same_classes(classes: &ClassIds, others: &ClassIds) -> bool
 }
 
 // Whether a method has that head.
-fn has_head(head: &Head, method: &MethodRow) -> bool
+fn has_head(head: &MethodHead, method: &MethodRow) -> bool
     ensures { result ≡ is_same (record { qualifier = head.now.qualifier; classes = head.now.classes; procedure = 0 }) method.now }
 {
     same_qualifier(head.qualifier, method.qualifier) && same_classes(&head.classes, &method.classes)
 }
 
-fn some_has_head(generic: &GenericRow, head: &Head) -> bool
+fn some_has_head(generic: &GenericRow, head: &MethodHead) -> bool
     ensures { result ≡ row.is_there generic.now (Some head.now) }
 {
     for method in generic.methods.as_slice() {
@@ -92,7 +95,7 @@ fn some_has_head(generic: &GenericRow, head: &Head) -> bool
 }
 
 // Whether a method of the generic function has the same qualifier and classes.
-fn is_there(generic: &GenericRow, head: &Option<Head>) -> bool
+fn is_there(generic: &GenericRow, head: &Option<MethodHead>) -> bool
     ensures { result ≡ row.is_there generic.now head.now }
 {
     match head {
@@ -116,7 +119,7 @@ fn fits_by_number(generic: &GenericRow, specialised: &Option<Specialised>) -> bo
 
 // Whether the generic function takes a method that has these parameters, by what is known of it.
 fn fits_generic(
-    here: Setting,
+    here: FormContext,
     generic: &GenericRow,
     method: &WrittenMethod,
     specialised: &Option<Specialised>,
@@ -133,7 +136,7 @@ fn fits_generic(
 
 /// Whether a generic function takes a method, by what is known of both.
 pub(crate) fn fits(
-    here: Setting,
+    here: FormContext,
     generic: &GenericRow,
     method: &WrittenMethod,
 ) -> Result<bool, NoMemory>
@@ -147,7 +150,11 @@ pub(crate) fn fits(
 }
 
 // The same of the generic function of that number.
-fn fits_number(here: Setting, generic: GenericId, method: &WrittenMethod) -> Result<bool, NoMemory>
+fn fits_number(
+    here: FormContext,
+    generic: GenericId,
+    method: &WrittenMethod,
+) -> Result<bool, NoMemory>
     ensures { IfOk result (λ fit. fit ≡ row.fits here.entry.tables.now (slice_get here.entry.tables.now.generics generic) (view_method method.now)) }
 {
     match generic_row(here.tables, generic) {
@@ -158,7 +165,7 @@ fn fits_number(here: Setting, generic: GenericId, method: &WrittenMethod) -> Res
 
 // Appends the function of a method that has these parameters, or the offence of its first class that is not known.
 fn push_function<'a>(
-    here: Setting,
+    here: FormContext,
     parts: &mut Parts<'a>,
     name: Name,
     method: &WrittenMethod<'a>,
@@ -189,7 +196,7 @@ fn push_function<'a>(
 /// Appends the parts of a method: its function, or the offence of its list of parameters or of its first class that is not
 /// known.
 pub(crate) fn push_method<'a>(
-    here: Setting,
+    here: FormContext,
     parts: &mut Parts<'a>,
     name: Name,
     method: &WrittenMethod<'a>,
@@ -206,8 +213,8 @@ pub(crate) fn push_method<'a>(
 
 /// Appends the head of a method all of which is known.
 pub(crate) fn push_head(
-    here: Setting,
-    heads: &mut Heads,
+    here: FormContext,
+    heads: &mut MethodHeads,
     method: &WrittenMethod,
 ) -> Result<(), NoMemory>
     ensures { OnOk result (heads.new ≡ heads.old ++ row.written_heads here.entry.tables.now (view_method method.now)) }
@@ -225,7 +232,7 @@ fn takes_methods(names: &Names, datum: &Datum) -> bool
     is_word(names, b"initialize-object", datum) || is_word(names, b"report-condition", datum)
 }
 
-fn is_closed(here: Setting, names: &Names, datum: &Datum, name: Name) -> bool
+fn is_closed(here: FormContext, names: &Names, datum: &Datum, name: Name) -> bool
     ensures { result ≡ row.is_closed names.now (around here.entry) here.entry.tables.now datum.now name }
 {
     is_reserved(here, keeps(names, name), name) && !takes_methods(names, datum)
@@ -233,7 +240,7 @@ fn is_closed(here: Setting, names: &Names, datum: &Datum, name: Name) -> bool
 
 // A method of that generic function, which takes it.
 fn one_method<'a>(
-    here: Setting,
+    here: FormContext,
     datum: &Datum,
     name: Name,
     method: &WrittenMethod<'a>,
@@ -244,7 +251,7 @@ fn one_method<'a>(
 {
     let mut parts = Parts::new(here.alloc);
     push_method(here, &mut parts, name, method)?;
-    let mut heads = Heads::new(here.alloc);
+    let mut heads = MethodHeads::new(here.alloc);
     push_head(here, &mut heads, method)?;
     Ok(Draft::DefinesMethods(DefinedMethods {
         place: datum.place,
@@ -257,7 +264,7 @@ fn one_method<'a>(
 
 // A method of the generic function of that name, where there is one.
 fn method_for<'a>(
-    here: Setting,
+    here: FormContext,
     datum: &Datum,
     name: Name,
     method: &WrittenMethod<'a>,
@@ -277,7 +284,7 @@ fn method_for<'a>(
 
 // The definition of a method under that name.
 fn method_of<'a>(
-    here: Setting,
+    here: FormContext,
     names: &Names,
     datum: &Datum,
     method: &WrittenMethod<'a>,
@@ -300,7 +307,7 @@ fn method_of<'a>(
 
 /// `(defmethod name [qualifier] parameters f*)`
 pub fn defmethod_draft<'a>(
-    here: Setting,
+    here: FormContext,
     names: &Names,
     items: &'a [Datum],
 ) -> Result<Draft<'a>, NoMemory>

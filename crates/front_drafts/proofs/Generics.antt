@@ -6,7 +6,7 @@ use Rattle.base.specs.declared.datum.Name.{Name}
 use Rattle.lang_meaning.specs.Lookup.{is_in}
 use Rattle.lang_meaning.specs.declared.program.GenericRow.{GenericRow}
 use Rattle.lang_dispatch.specs.Methods.{names_of, HaveOwnNames}
-use Rattle.front_profile.specs.Makings.{generic_named}
+use Rattle.front_profile.specs.Elaborations.{generic_named}
 
 none_by : (b c : Bool) (o : Option ℕ) → (b || c) ≡ false → (c ≡ false → o ≡ None) → (if b then Some 0 else option_map (λ i. i + 1) o) ≡ None
 none_by true c o h f = absurd (cc)

@@ -5,11 +5,11 @@ use Rattle.front_drafts.specs.declared.draft.Draft.{Draft}
 use Rattle.front_drafts.specs.declared.draft.Draft.TheVariants.{Offends, Unnamed, Literal, Unsited, Sited, Defines, DefinesMethods, DefinesClass}
 use Rattle.front_drafts.specs.declared.draft.Note.{Note}
 use Rattle.front_drafts.specs.declared.draft.Note.TheVariants.{Nothing, Set, Exit}
-use Rattle.front_drafts.specs.declared.here.Setting.{Setting}
+use Rattle.front_drafts.specs.declared.here.FormContext.{FormContext}
 use Rattle.front_drafts.specs.Views.{at, view_parts, view_inner}
-use Rattle.front_profile.specs.declared.making.Making.TheVariants.{OfFunctionNamed, OfMethods, OfClass}
+use Rattle.front_profile.specs.declared.elaboration.Elaboration.TheVariants.{OfFunctionNamed, OfMethods, OfClass}
 use Rattle.front_profile.specs.declared.tables.Tables.{Tables}
-use Rattle.front_profile.specs.Nodes.{Around, Node, offends, unnamed, steps, whole}
+use Rattle.front_profile.specs.Nodes.{StaticContext, Node, offends, unnamed, steps, whole}
 use Rattle.front_profile.specs.RowWords.{alone, literal_node, unsited, with_site, next_site}
 use Rattle.front_profile.specs.ValueRows.{with_set}
 use Rattle.front_profile.specs.ExitRows.{with_exit}
@@ -19,7 +19,7 @@ use Rattle.base.specs.declared.datum.Symbol.TheVariants.{Named}
 use Rattle.base.specs.Data.{item, symbol}
 
 -- what is around a form that stands there
-abbrev pub around : Setting → Around
+abbrev pub around : FormContext → StaticContext
 around x = at x.bound.now x.spot
 
 -- the tables with such a note
@@ -29,7 +29,7 @@ noting (Set n) s = with_set n s
 noting Exit s = with_exit s
 
 -- the node that a draft is for
-abbrev pub drawn : Around → Place → Tables → Draft → Node
+abbrev pub drawn : StaticContext → Place → Tables → Draft → Node
 drawn a p s (Offends q r) = offends q r
 drawn a p s Unnamed = unnamed
 drawn a p s (Literal row) = literal_node a p s row
@@ -48,11 +48,11 @@ drawn a p s (DefinesClass c) =
     (record { site = None; making = OfClass c.class (length s.procedures) a.spot.sited (named_form a.spot.sited s) })
 
 -- the same where a form stands
-abbrev pub shows : Setting → Draft → Node
+abbrev pub shows : FormContext → Draft → Node
 shows x d = drawn (around x) x.place x.tables.now d
 
 -- a draft, where there is one, for that node
-abbrev pub Draws : Setting → Node → Result Draft NoMemory → Type 0
+abbrev pub Draws : FormContext → Node → Result Draft NoMemory → Type 0
 Draws x node result = IfOk result (λ draft. shows x draft ≡ node)
 
 -- whether a node asks for a name that is lacking

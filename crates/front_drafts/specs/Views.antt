@@ -13,8 +13,8 @@ use Rattle.front_drafts.specs.declared.plan.Part.{Part as WrittenPart}
 use Rattle.front_drafts.specs.declared.plan.Part.TheVariants as written
 use Rattle.front_drafts.specs.declared.plan.Plan.{Plan}
 use Rattle.front_drafts.specs.declared.plan.Plan.TheVariants.{Offends, Whole}
-use Rattle.front_profile.specs.Marks.{Grows}
-use Rattle.front_profile.specs.Nodes.{Around, Part, form, below, inner, bind, parameter, wrong, function, Written as Defined, initform, accessor, method, Node, offends, whole}
+use Rattle.front_profile.specs.Marks.{TablesGrow}
+use Rattle.front_profile.specs.Nodes.{StaticContext, Part, form, below, inner, bind, parameter, wrong, function, Written as Defined, initform, accessor, method, Node, offends, whole}
 
 -- parts; a slot's name is a datum where the slot stands
 
@@ -38,7 +38,7 @@ abbrev pub view_inner : List (Bor Item) → List Part
 view_inner ds = map (λ d. inner d.now) ds
 
 -- where a form stands
-abbrev pub at : List Bound → Spot → Around
+abbrev pub at : List Bound → Spot → StaticContext
 at bound spot = record { bound = bound; spot = spot }
 
 -- what a plan is for a node, with these things bound around and these tables
@@ -50,4 +50,4 @@ shown bound s (Whole w) =
 -- a plan for a node, where these things are bound: with the tables then it shows the node; the tables have grown from those before, where
 -- memory was wanting too
 abbrev pub IsPlan : List Bound → Tables → Tables → Node → Result Plan NoMemory → Type 0
-IsPlan bound old new node result = IfOk result (λ plan. shown bound new plan ≡ node) × Grows old new
+IsPlan bound old new node result = IfOk result (λ plan. shown bound new plan ≡ node) × TablesGrow old new

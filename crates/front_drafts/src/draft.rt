@@ -6,10 +6,10 @@ ghost use Rattle.front_drafts.specs.Views.{at, view_parts, view_inner};
 ghost use Rattle.front_profile.specs.RowWords as word;
 ghost use Rattle.front_profile.specs.ValueRows as row;
 
-use crate::here::{Setting, deeper, fits_depth};
+use crate::here::{FormContext, deeper, fits_depth};
 use crate::plan::{Inner, Parts, one_form};
 use base::{Datum, Name, NoMemory, Place, Reason};
-use front_profile::{BoundList, Heads, Leaf, Making, NewClass, One, Spot, Taker};
+use front_profile::{BoundList, Elaboration, Leaf, MethodHeads, NewClass, One, Spot, Taker};
 use lang_meaning::LiteralRow;
 
 /// What the tables note of a form before its parts are judged.
@@ -31,7 +31,7 @@ pub struct Sketch<'a> {
     pub binds: BoundList,
     pub parts: Parts<'a>,
     pub inner: Inner<'a>,
-    pub making: Making,
+    pub making: Elaboration,
 }
 
 /// The definition of a function of that name, which the datum is: its parameters, so many of them required and one behind
@@ -54,7 +54,7 @@ pub struct DefinedMethods<'a> {
     pub name: Name,
     pub taker: Taker,
     pub parts: Parts<'a>,
-    pub heads: Heads,
+    pub heads: MethodHeads,
 }
 
 /// The definition of a class, whose name the datum is: the functions of its slots, and what is defined.
@@ -96,7 +96,12 @@ pub struct Bindings<'a> {
 }
 
 /// A core form that binds these things inside.
-pub fn made_of<'a>(here: Setting, note: Note, work: Bindings<'a>, making: Making) -> Draft<'a>
+pub fn made_of<'a>(
+    here: FormContext,
+    note: Note,
+    work: Bindings<'a>,
+    making: Elaboration,
+) -> Draft<'a>
     requires { here.spot.depth + 1 < 4294967296 }
     ensures { shows here.entry result
         ≡ word.made_of (around here.entry) (at (here.entry.bound.now ++ work.entry.binds) work.entry.inside)
@@ -116,12 +121,12 @@ pub fn made_of<'a>(here: Setting, note: Note, work: Bindings<'a>, making: Making
 /// A core form that binds nothing but the variables among its parts.
 #[tactic(auto, using(crate::proofs::Lists::nothing_bound))]
 pub fn made_plain<'a>(
-    here: Setting,
+    here: FormContext,
     note: Note,
     inside: Spot,
     parts: Parts<'a>,
     inner: Inner<'a>,
-    making: Making,
+    making: Elaboration,
 ) -> Draft<'a>
     requires { here.spot.depth + 1 < 4294967296 }
     ensures { shows here.entry result
@@ -140,11 +145,11 @@ pub fn made_plain<'a>(
 /// A core form all of whose parts stand where it stands, with so many core forms of its own.
 #[tactic(auto, using(crate::proofs::Lists::nothing_inside))]
 pub fn made_within<'a>(
-    here: Setting,
+    here: FormContext,
     note: Note,
     own: u32,
     parts: Parts<'a>,
-    making: Making,
+    making: Elaboration,
 ) -> Draft<'a>
     ensures { shows here.entry result
         ≡ word.within_depth own (around here.entry) here.entry.place
@@ -162,7 +167,7 @@ pub fn made_within<'a>(
 }
 
 /// A core form that has no parts.
-pub fn made_at_once<'a>(here: Setting, leaf: Leaf) -> Draft<'a>
+pub fn made_at_once<'a>(here: FormContext, leaf: Leaf) -> Draft<'a>
     ensures { shows here.entry result
         ≡ word.made_at_once (around here.entry) here.entry.place here.entry.tables.now leaf }
 {
@@ -171,15 +176,15 @@ pub fn made_at_once<'a>(here: Setting, leaf: Leaf) -> Draft<'a>
         Note::Nothing,
         1,
         Parts::new(here.alloc),
-        Making::Ready(leaf),
+        Elaboration::Ready(leaf),
     )
 }
 
 /// A form with one part.
-pub fn one_part<'a>(here: Setting, kind: One, datum: &'a Datum) -> Result<Draft<'a>, NoMemory>
+pub fn one_part<'a>(here: FormContext, kind: One, datum: &'a Datum) -> Result<Draft<'a>, NoMemory>
     ensures { Draws here.entry
         (row.one_part (around here.entry) here.entry.place here.entry.tables.now kind datum.now) result }
 {
     let parts = one_form(here.alloc, datum)?;
-    Ok(made_within(here, Note::Nothing, 1, parts, Making::OfOne(kind)))
+    Ok(made_within(here, Note::Nothing, 1, parts, Elaboration::OfOne(kind)))
 }

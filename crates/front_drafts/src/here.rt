@@ -19,7 +19,7 @@ pub struct Here<'b> {
 
 /// Where a form stands, and what the forms judged so far gave.
 #[derive(Clone, Copy)]
-pub struct Setting<'b> {
+pub struct FormContext<'b> {
     pub alloc: Global,
     pub bound: &'b Bindings,
     pub spot: Spot,

@@ -8,20 +8,20 @@ ghost use Rattle.front_drafts.specs.Views.{at, shown, view_parts, IsPlan};
 ghost use Rattle.front_profile.specs.RowWords as word;
 ghost use Rattle.front_profile.specs.DefiningRows as row;
 ghost use Rattle.front_profile.specs.Nodes.{whole};
-ghost use Rattle.front_profile.specs.Marks.{Grows};
+ghost use Rattle.front_profile.specs.Marks.{TablesGrow};
 
 use crate::draft::{Defined, DefinedClass, DefinedMethods, Draft, Note, Sketch};
 use crate::here::{Here, fits_depth};
 use crate::plan::{Inner, Parts, Plan, Work};
 use base::{Datum, Kind, Name, NoMemory, Place, Reason, Symbol};
-use front_profile::{BoundList, Leaf, Made, Making, Spot, Tables};
+use front_profile::{BoundList, Elaboration, Leaf, Made, Spot, Tables};
 use lang_meaning::{LiteralRow, SiteId};
 
 // The next site, where forms have sites; its place is kept.
 fn take_site(here: Here, tables: &mut Tables) -> Result<Option<SiteId>, NoMemory>
     ensures site { IfOk result (λ site. site ≡ word.next_site (at here.entry.bound.now here.entry.spot) tables.old) }
     ensures ok { OnOk result (tables.new ≡ word.with_site (at here.entry.bound.now here.entry.spot) here.entry.place tables.old) }
-    ensures grows { Grows tables.old tables.new }
+    ensures grows { TablesGrow tables.old tables.new }
 {
     if !here.spot.sited {
         return Ok(None);
@@ -33,7 +33,7 @@ fn take_site(here: Here, tables: &mut Tables) -> Result<Option<SiteId>, NoMemory
 // What a form makes known before its parts are judged.
 fn take_note(tables: &mut Tables, note: Note) -> Result<(), NoMemory>
     ensures ok { OnOk result (tables.new ≡ noting note tables.old) }
-    ensures grows { Grows tables.old tables.new }
+    ensures grows { TablesGrow tables.old tables.new }
 {
     match note {
         Note::Nothing => Ok(()),
@@ -49,7 +49,7 @@ fn take_note(tables: &mut Tables, note: Note) -> Result<(), NoMemory>
 }
 
 // A note, and then the site.
-#[tactic(auto, using(front_profile::specs::bridge::Growing::grows_then))]
+#[tactic(auto, using(front_profile::specs::bridge::Growing::tables_grow_transitive))]
 fn take_note_and_site(
     here: Here,
     tables: &mut Tables,
@@ -57,7 +57,7 @@ fn take_note_and_site(
 ) -> Result<Option<SiteId>, NoMemory>
     ensures site { IfOk result (λ site. site ≡ word.next_site (at here.entry.bound.now here.entry.spot) (noting note tables.old)) }
     ensures ok { OnOk result (tables.new ≡ word.with_site (at here.entry.bound.now here.entry.spot) here.entry.place (noting note tables.old)) }
-    ensures grows { Grows tables.old tables.new }
+    ensures grows { TablesGrow tables.old tables.new }
 {
     take_note(tables, note)?;
     take_site(here, tables)
@@ -106,7 +106,7 @@ fn unsited<'a>(here: Here, tables: &Tables, leaf: Leaf) -> Plan<'a>
         inner: Inner::new(here.alloc),
         made: Made {
             site: None,
-            making: Making::Ready(leaf),
+            making: Elaboration::Ready(leaf),
         },
     })
 }
@@ -115,7 +115,7 @@ fn unsited<'a>(here: Here, tables: &Tables, leaf: Leaf) -> Plan<'a>
 fn push_literal(tables: &mut Tables, row: LiteralRow) -> Result<Leaf, NoMemory>
     ensures leaf { IfOk result (λ leaf. leaf ≡ Leaf.Literal (length tables.old.literals)) }
     ensures ok { OnOk result (tables.new ≡ word.with_literal row tables.old) }
-    ensures grows { Grows tables.old tables.new }
+    ensures grows { TablesGrow tables.old tables.new }
 {
     let id = tables.literals.len();
     tables.literals.push(row)?;
@@ -135,7 +135,7 @@ fn take_literal<'a>(here: Here, tables: &mut Tables, row: LiteralRow) -> Result<
 fn named_form(here: Here, tables: &mut Tables, datum: &Datum) -> Result<Leaf, NoMemory>
     ensures form { IfOk result (λ form. form ≡ row.named_form here.entry.spot.sited tables.old) }
     ensures ok { OnOk result (tables.new ≡ row.with_name here.entry.spot.sited datum.now tables.old) }
-    ensures grows { Grows tables.old tables.new }
+    ensures grows { TablesGrow tables.old tables.new }
 {
     if !here.spot.sited {
         return Ok(Leaf::Nothing);
@@ -178,7 +178,7 @@ fn take_definition<'a>(
         inner: defined.inner,
         made: Made {
             site: None,
-            making: Making::OfFunctionNamed(
+            making: Elaboration::OfFunctionNamed(
                 defined.name,
                 defined.required,
                 defined.rest,
@@ -193,7 +193,7 @@ fn take_definition<'a>(
 fn symbol_form(here: Here, tables: &mut Tables, place: Place, name: Name) -> Result<Leaf, NoMemory>
     ensures form { IfOk result (λ form. form ≡ row.named_form here.entry.spot.sited tables.old) }
     ensures ok { OnOk result (tables.new ≡ row.with_name here.entry.spot.sited (item place (symbol (Symbol.Named name))) tables.old) }
-    ensures grows { Grows tables.old tables.new }
+    ensures grows { TablesGrow tables.old tables.new }
 {
     if !here.spot.sited {
         return Ok(Leaf::Nothing);
@@ -204,7 +204,7 @@ fn symbol_form(here: Here, tables: &mut Tables, place: Place, name: Name) -> Res
 
 // A definition whose parts stand where it stands.
 #[tactic(auto, using(crate::proofs::Lists::nothing_bound, crate::proofs::Lists::nothing_inside))]
-fn definition<'a>(here: Here, tables: &Tables, parts: Parts<'a>, making: Making) -> Plan<'a>
+fn definition<'a>(here: Here, tables: &Tables, parts: Parts<'a>, making: Elaboration) -> Plan<'a>
     ensures { shown here.entry.bound.now tables.now result
         ≡ whole (at here.entry.bound.now here.entry.spot) (at here.entry.bound.now here.entry.spot) tables.now
         (view_parts parts.entry) (record { site = None; making = making }) }
@@ -233,7 +233,7 @@ fn take_methods<'a>(
         return Err(NoMemory);
     };
     let first = tables.procedures.len();
-    let making = Making::OfMethods(defined.taker, defined.heads, first, here.spot.sited, leaf);
+    let making = Elaboration::OfMethods(defined.taker, defined.heads, first, here.spot.sited, leaf);
     Ok(definition(here, tables, defined.parts, making))
 }
 
@@ -251,7 +251,7 @@ fn take_class<'a>(
         return Err(NoMemory);
     };
     let first = tables.procedures.len();
-    let making = Making::OfClass(defined.class, first, here.spot.sited, leaf);
+    let making = Elaboration::OfClass(defined.class, first, here.spot.sited, leaf);
     Ok(definition(here, tables, defined.parts, making))
 }
 

@@ -3,10 +3,10 @@
 ghost use Rattle.std.specs.Prelude.{◌≡◌, Some, None, slice_get, MatchOption};
 ghost use Rattle.std.specs.List.{list_any};
 ghost use Rattle.front_profile.specs.DefiningRows as row;
-ghost use Rattle.front_profile.specs.Makings.{generic_named};
+ghost use Rattle.front_profile.specs.Elaborations.{generic_named};
 ghost use Rattle.front_drafts.specs.Drafts.{around};
 
-use crate::here::Setting;
+use crate::here::FormContext;
 use base::{Name, NameList, Reason};
 use front_profile::Tables;
 use lang_meaning::{GenericId, GenericRow};
@@ -74,21 +74,21 @@ pub fn is_taken(of_file: bool, tables: &Tables, name: Name) -> bool
 }
 
 /// Nothing of a file is defined under the name `t`.
-pub fn is_truth(here: Setting, name: Name) -> bool
+pub fn is_truth(here: FormContext, name: Name) -> bool
     ensures { result ≡ row.is_truth (around here.entry) here.entry.tables.now name }
 {
     here.spot.sited && name.0 == here.tables.words.truth.0
 }
 
 /// A name is reserved where the language keeps it, where it is `t`, and where the prelude has a function of it.
-pub fn is_reserved(here: Setting, kept: bool, name: Name) -> bool
+pub fn is_reserved(here: FormContext, kept: bool, name: Name) -> bool
     ensures { result ≡ row.is_reserved kept (around here.entry) here.entry.tables.now name }
 {
     is_truth(here, name) || (here.spot.sited && (kept || has_name(&here.tables.prelude, name)))
 }
 
 /// The lowest of the reasons that all definitions share, where the name is taken, and where it is reserved.
-pub fn defining_offence(here: Setting, taken: bool, reserved: bool) -> Option<Reason>
+pub fn defining_offence(here: FormContext, taken: bool, reserved: bool) -> Option<Reason>
     ensures { result ≡ row.defining_offence here.entry.spot.top taken reserved }
 {
     if taken {

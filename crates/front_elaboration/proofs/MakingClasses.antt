@@ -5,23 +5,23 @@ use Rattle.base.specs.declared.datum.Name.{Name}
 use Rattle.lang_classes.specs.Given.{given}
 use Rattle.lang_classes.specs.InheritedClasses.{Hierarchy, GivenSlot, with_class}
 use Rattle.front_profile.specs.declared.tables.Tables.{Tables}
-use Rattle.front_profile.specs.declared.making.NewClass.{NewClass}
-use Rattle.front_profile.specs.declared.making.SlotFunction.{SlotFunction}
-use Rattle.front_profile.specs.Makings.{prelude_count, with_slot_function, with_slot_functions, with_new_class}
-use Rattle.front_profile.specs.Marks.{Grows}
+use Rattle.front_profile.specs.declared.elaboration.NewClass.{NewClass}
+use Rattle.front_profile.specs.declared.elaboration.SlotFunction.{SlotFunction}
+use Rattle.front_profile.specs.Elaborations.{prelude_count, with_slot_function, with_slot_functions, with_new_class}
+use Rattle.front_profile.specs.Marks.{TablesGrow}
 use Rattle.front_profile.specs.Suits.{SuitsFunction, SuitsFunctions}
-use Rattle.front_profile.specs.bridge.Growing.{grows_same, grows_then, slot_function_grows, class_grows}
+use Rattle.front_profile.specs.bridge.Growing.{tables_grow_reflexive, tables_grow_transitive, slot_function_grows, class_grows}
 
 -- of the functions xs on s, those in front of ys were added, which led to t
 pub record FunctionsAdded (c : ℕ) (of_file : Bool) (xs : List SlotFunction) (p : ℕ) (s : Tables) (ys : List SlotFunction) (q : ℕ) (t : Tables) : Type 0 where
   pub same : with_slot_functions ys c q of_file t ≡ with_slot_functions xs c p of_file s
   pub suits : SuitsFunctions ys c q of_file t
-  pub grows : Grows s t
+  pub grows : TablesGrow s t
 
 -- none at first
 pub no_functions : (c : ℕ) (of_file : Bool) (xs : List SlotFunction) (p : ℕ) (s : Tables) → SuitsFunctions xs c p of_file s
     → FunctionsAdded c of_file xs p s xs p s
-no_functions c of_file xs p s w = record { same = refl; suits = w; grows = grows_same s }
+no_functions c of_file xs p s w = record { same = refl; suits = w; grows = tables_grow_reflexive s }
 
 suits_first : (c : ℕ) (of_file : Bool) (x : SlotFunction) (ys zs : List SlotFunction) (q : ℕ) (t : Tables) → ys ≡ x ∷ zs
     → SuitsFunctions ys c q of_file t → SuitsFunctions (x ∷ zs) c q of_file t
@@ -34,8 +34,8 @@ next_function c of_file xs p s ys q t x zs a e = (suits_first c of_file x ys zs 
 
 -- one more, before memory is wanting
 pub grown : (c : ℕ) (of_file : Bool) (xs : List SlotFunction) (p : ℕ) (s : Tables) (ys : List SlotFunction) (q : ℕ) (t : Tables) (x : SlotFunction) (u : Tables)
-    → FunctionsAdded c of_file xs p s ys q t → u ≡ with_slot_function x c q of_file t → Grows s u
-grown c of_file xs p s ys q t x u a f = subst (λ (v : Tables). Grows s v) (sym f) (slot_function_grows s t x c q of_file a.grows)
+    → FunctionsAdded c of_file xs p s ys q t → u ≡ with_slot_function x c q of_file t → TablesGrow s u
+grown c of_file xs p s ys q t x u a f = subst (λ (v : Tables). TablesGrow s v) (sym f) (slot_function_grows s t x c q of_file a.grows)
 
 -- one more
 pub one_function : (c : ℕ) (of_file : Bool) (xs : List SlotFunction) (p : ℕ) (s : Tables) (ys : List SlotFunction) (q : ℕ) (t : Tables) (x : SlotFunction) (zs : List SlotFunction) (r : ℕ) (u : Tables)
@@ -73,6 +73,6 @@ class_counted s u c of_file h e f =
     (one_row_more s.classes c.name c.supers (given c.slots) c.abstract_class)
 
 -- tables that have grown by a class, and then by more
-pub class_then : (s t u : Tables) (c : NewClass) (of_file : Bool) → t ≡ with_new_class c of_file s → Grows t u → Grows s u
+pub class_then : (s t u : Tables) (c : NewClass) (of_file : Bool) → t ≡ with_new_class c of_file s → TablesGrow t u → TablesGrow s u
 class_then s t u c of_file e w =
-    grows_then s t u (subst (λ (v : Tables). Grows s v) (sym e) (class_grows s s c of_file (grows_same s))) w
+    tables_grow_transitive s t u (subst (λ (v : Tables). TablesGrow s v) (sym e) (class_grows s s c of_file (tables_grow_reflexive s))) w

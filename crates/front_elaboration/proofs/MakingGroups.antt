@@ -6,7 +6,7 @@ use Rattle.lang_meaning.specs.Form.{Form, Forms, no_form, form_and, ClauseForms,
 use Rattle.lang_meaning.specs.declared.core_form.Clause.{Clause}
 use Rattle.lang_meaning.specs.declared.core_form.DynBinding.{DynBinding}
 use Rattle.lang_meaning.specs.model.View.{forms, maybe_form, clauses_of, dynamics_of}
-use Rattle.front_profile.specs.Makings.{body_of, clause_body, behind_clause, make_clauses, make_segments, make_dynamics, behind_dynamics}
+use Rattle.front_profile.specs.Elaborations.{body_of, clause_body, behind_clause, make_clauses, make_segments, make_dynamics, behind_dynamics}
 
 -- an item in front of those behind it
 front : {X : Type 0} (xs ys : List X) (i : ℕ) (d : X) → ys ≡ xs → i < length ys → drop i xs ≡ get_or ys i d ∷ drop (i + 1) xs

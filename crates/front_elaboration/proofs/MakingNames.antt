@@ -6,7 +6,7 @@ use Rattle.lang_meaning.specs.declared.program.GenericRow.{GenericRow}
 use Rattle.lang_meaning.specs.Lookup.{is_in}
 use Rattle.lang_classes.specs.InheritedSlots.{same_name}
 use Rattle.lang_dispatch.specs.Methods.{names_of, HaveOwnNames}
-use Rattle.front_profile.specs.Makings.{generic_named}
+use Rattle.front_profile.specs.Elaborations.{generic_named}
 
 -- the first generic function of a name
 record FirstNamed (gs : List GenericRow) (n : Name) : Type 0 where

@@ -8,7 +8,7 @@ use Rattle.lang_meaning.specs.declared.program.GenericRow.{GenericRow}
 use Rattle.lang_meaning.specs.declared.program.MethodRow.{MethodRow}
 use Rattle.lang_classes.specs.Given.{StopsBy}
 use Rattle.lang_dispatch.specs.Methods.{takes_at, taken_by, IsRefusal}
-use Rattle.front_profile.specs.declared.making.Head.{Head}
+use Rattle.front_profile.specs.declared.elaboration.MethodHead.{MethodHead}
 use Rattle.front_profile.specs.Suits.{takes_head}
 use Rattle.front_elaboration.specs.Stopping.{IsWant, rest_of}
 
@@ -17,16 +17,16 @@ pub class_wants : (o : Option Refusal) (stop : Stop) → StopsBy o stop → o �
 class_wants o (Refused r) h e = absurd (cc (e, h))
 class_wants o NoMemory h e = tt
 
-abbrev method_with : Head → ℕ → MethodRow
+abbrev method_with : MethodHead → ℕ → MethodRow
 method_with h p = record { qualifier = h.qualifier; classes = h.classes; procedure = p }
 
 -- a method that is taken: it has a rest argument where its generic function has one
 
-taken_there : (h : Head) (p : ℕ) (o : Option GenericRow) → taken_by o (rest_of o) (method_with h p) ≡ takes_head h p o
+taken_there : (h : MethodHead) (p : ℕ) (o : Option GenericRow) → taken_by o (rest_of o) (method_with h p) ≡ takes_head h p o
 taken_there h p None = refl
 taken_there h p (Some g) = refl
 
-pub method_wants : (place : Place) (gs : List GenericRow) (g : ℕ) (h : Head) (p : ℕ) (rest : Bool) (stop : Stop)
+pub method_wants : (place : Place) (gs : List GenericRow) (g : ℕ) (h : MethodHead) (p : ℕ) (rest : Bool) (stop : Stop)
     → rest ≡ rest_of (slice_get gs g) → takes_head h p (slice_get gs g) ≡ true
     → IsRefusal place (takes_at gs g rest (record { qualifier = h.qualifier; classes = h.classes; procedure = p })) stop → IsWant stop
 method_wants place gs g h p rest (Refused r) e k w =

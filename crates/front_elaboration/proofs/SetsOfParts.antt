@@ -7,7 +7,7 @@ use Rattle.std.specs.List.{list_any}
 use Rattle.std.proofs.lemmas.Option.{slice_get_read}
 use Rattle.std.proofs.lemmas.List.Folds.{list_any-append}
 use Rattle.base.specs.model.DataRest.{take_at}
-use Rattle.lang_meaning.specs.declared.part.Part.{Part}
+use Rattle.lang_meaning.specs.declared.capture.Capture.{Capture}
 use Rattle.front_elaboration.specs.declared.mentioned.Mentioned.{Mentioned}
 use Rattle.front_elaboration.specs.Mentioned.{IsUnion, AreParts}
 
@@ -16,7 +16,7 @@ or_false true = refl
 or_false false = refl
 
 -- the same parts by another test
-pub same_parts : (m : Mentioned) (s t : Part → Bool) → ((p : Part) → s p ≡ t p) → AreParts m s → AreParts m t
+pub same_parts : (m : Mentioned) (s t : Capture → Bool) → ((p : Capture) → s p ≡ t p) → AreParts m s → AreParts m t
 same_parts m s t e h = record { so = λ p. h.so p ∙ e p }
 
 -- what a loop reads is there

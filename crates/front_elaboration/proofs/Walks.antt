@@ -2,9 +2,9 @@
 use Rattle.std.proofs.Common.{◌≡◌, ◌≤◌, ◌+◌, ℕ, Bool, true, false, not, ◌&&◌, ◌||◌, List, [], ◌∷◌, Some, take, refl, sym, ap, ◌∙◌, arith}
 use Rattle.std.specs.Prelude.{Result, Ok, Err, IfOk, slice_get}
 use Rattle.std.specs.List.{list_any}
-use Rattle.lang_meaning.specs.declared.part.Part.{Part}
+use Rattle.lang_meaning.specs.declared.capture.Capture.{Capture}
 use Rattle.lang_meaning.specs.Form.{Form}
-use Rattle.lang_meaning.specs.declared.part.Part.TheVariants.{Variable}
+use Rattle.lang_meaning.specs.declared.capture.Capture.TheVariants.{Variable}
 use Rattle.lang_meaning.specs.declared.core_form.Binding.{Binding as Bound}
 use Rattle.lang_meaning.specs.model.View.{bindings_of}
 use Rattle.lang_meaning.specs.Mentions.{same_part, owns, variables_bound, names_part, binds, mentions}
@@ -18,7 +18,7 @@ use Rattle.front_elaboration.proofs.SetsOfParts.{or_false, not_more, one_more}
 -- what they mention is there, besides what those that are left do
 pub record Gathered (all : Mentioned) (fs left : List Form) : Type 0 where
   pub smaller : sizes left ≤ sizes fs
-  pub parts : (p : Part) → (has all p || list_any (mentions p) left) ≡ list_any (mentions p) fs
+  pub parts : (p : Capture) → (has all p || list_any (mentions p) left) ≡ list_any (mentions p) fs
 
 pub none_gathered : (m : Mentioned) (fs : List Form) → AreParts m (λ p. false) → Gathered m fs fs
 none_gathered m fs h = record { smaller = omega arith; parts = λ p. ap (λ b. b || list_any (mentions p) fs) (h.so p) }
@@ -62,7 +62,7 @@ walked (Err x) f o i outs ins e d h g k = tt
 
 -- bindings of which the first are bound
 
-bound_owns : (p : Part) (bs : List Bound) → owns (variables_bound (bindings_of bs)) p ≡ list_any (λ (b : Bound). same_part p (Variable b.var)) bs
+bound_owns : (p : Capture) (bs : List Bound) → owns (variables_bound (bindings_of bs)) p ≡ list_any (λ (b : Bound). same_part p (Variable b.var)) bs
 bound_owns p [] = refl
 bound_owns p (b ∷ bs) = ap (λ x. same_part p (Variable b.var) || x) (bound_owns p bs)
 

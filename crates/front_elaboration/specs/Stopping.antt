@@ -4,15 +4,15 @@ use Rattle.base.specs.declared.reason.Stop.{Stop}
 use Rattle.base.specs.declared.reason.Stop.TheVariants.{Refused, NoMemory}
 use Rattle.lang_meaning.specs.declared.program.GenericRow.{GenericRow}
 use Rattle.front_profile.specs.declared.tables.Tables.{Tables}
-use Rattle.front_profile.specs.declared.making.Making.{Making}
-use Rattle.front_profile.specs.declared.making.Making.TheVariants.{OfMethods, OfClass}
-use Rattle.front_profile.specs.Marks.{Grows}
+use Rattle.front_profile.specs.declared.elaboration.Elaboration.{Elaboration}
+use Rattle.front_profile.specs.declared.elaboration.Elaboration.TheVariants.{OfMethods, OfClass}
+use Rattle.front_profile.specs.Marks.{TablesGrow}
 
 -- classes, generic functions and methods may have been added to the tables; any other form leaves them as they were
-abbrev pub Leaves : Making → Tables → Tables → Type 0
-Leaves (OfMethods t hs p of_file l) s u = Grows s u
-Leaves (OfClass c p of_file l) s u = Grows s u
-Leaves m s u = u ≡ s
+abbrev pub LeavesTables : Elaboration → Tables → Tables → Type 0
+LeavesTables (OfMethods t hs p of_file l) s u = TablesGrow s u
+LeavesTables (OfClass c p of_file l) s u = TablesGrow s u
+LeavesTables m s u = u ≡ s
 
 -- nothing was refused
 abbrev pub IsWant : Stop → Type 0

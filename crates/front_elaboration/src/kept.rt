@@ -3,13 +3,13 @@
 
 ghost use Rattle.std.specs.Prelude.{◌≡◌, Bool, false, [], ◌∷◌, ◌++◌, ◌||◌, IfOk, OnOk, OnErr};
 ghost use Rattle.lang_meaning.specs.Mentions.{mentions};
-ghost use Rattle.front_profile.specs.declared.making.Found.TheVariants.{Value, Binding, Parameter};
-ghost use Rattle.front_profile.specs.Makings.{at_site};
+ghost use Rattle.front_profile.specs.declared.elaboration.ElaboratedPart.TheVariants.{Value, Binding, Parameter};
+ghost use Rattle.front_profile.specs.Elaborations.{at_site};
 ghost use Rattle.front_elaboration.specs.Mentioned.{has, AreParts};
 
 use crate::mentioned::Mentioned;
 use base::NoMemory;
-use front_profile::{Found, FoundList};
+use front_profile::{ElaboratedPart, ElaboratedParts};
 use lang_meaning::{Core, SiteId, Var};
 use std::alloc::Global;
 use std::marker::Model;
@@ -73,35 +73,35 @@ fn at_site(alloc: Global, site: Option<SiteId>, form: Core) -> Result<Core, NoMe
 
 /// What was found of the parts of a form, in their order. Contracts see the list of it.
 #[derive(Drop)]
-pub struct Kept {
-    pub(crate) found: FoundList,
+pub struct FoundParts {
+    pub(crate) found: ElaboratedParts,
     pub(crate) values: Mentioned,
     pub(crate) bindings: Mentioned,
 }
 
-impl Model for Kept {
+impl Model for FoundParts {
     ghost use Rattle.std.specs.Prelude.{List};
-    ghost use Rattle.front_profile.specs.declared.making.Found.{Found};
+    ghost use Rattle.front_profile.specs.declared.elaboration.ElaboratedPart.{ElaboratedPart};
 
-    ghost Value = { List Found };
+    ghost Value = { List ElaboratedPart };
 
     ghost use Rattle.lang_meaning.specs.contracts.core_form.Core as core;
     ghost use Rattle.std.specs.Coded.{codes};
 
     ghost coded = { Prim.hlevel (codes, core.the_row.coded) };
 
-    ghost use Rattle.front_elaboration.specs.Kept.{IsKept};
+    ghost use Rattle.front_elaboration.specs.Kept.{AreFoundParts};
 
     ghost view = { λ k. k.found };
 
-    ghost invariant = { λ k. IsKept k.found k.values k.bindings };
+    ghost invariant = { λ k. AreFoundParts k.found k.values k.bindings };
 }
 
 // A part is put behind the others, and what it mentions to what they mention.
 fn push(
-    found: &mut FoundList,
+    found: &mut ElaboratedParts,
     all: &mut Mentioned,
-    part: Found,
+    part: ElaboratedPart,
     mentioned: Mentioned,
 ) -> Result<(), NoMemory>
     ensures found { OnOk result (found.new ≡ found.old ++ part ∷ []) }
@@ -115,7 +115,7 @@ fn push(
 }
 
 // Nothing is kept any more. Takes no memory.
-fn forget(found: &mut FoundList, values: &mut Mentioned, bindings: &mut Mentioned)
+fn forget(found: &mut ElaboratedParts, values: &mut Mentioned, bindings: &mut Mentioned)
     ensures found { found.new ≡ [] }
     ensures values { AreParts values.new (λ p. false) }
     ensures bindings { AreParts bindings.new (λ p. false) }
@@ -125,13 +125,13 @@ fn forget(found: &mut FoundList, values: &mut Mentioned, bindings: &mut Mentione
     bindings.clear();
 }
 
-impl Kept {
+impl FoundParts {
     /// Nothing. Takes no memory.
-    pub fn new(alloc: Global) -> Kept
+    pub fn new(alloc: Global) -> FoundParts
         ensures { result ≡ [] }
     {
-        Kept {
-            found: FoundList::new(alloc),
+        FoundParts {
+            found: ElaboratedParts::new(alloc),
             values: Mentioned::new(alloc),
             bindings: Mentioned::new(alloc),
         }
@@ -146,7 +146,7 @@ impl Kept {
         match push(
             &mut self.found,
             &mut self.values,
-            Found::Value(core),
+            ElaboratedPart::Value(core),
             mentioned,
         ) {
             Ok(()) => Ok(()),
@@ -163,7 +163,7 @@ impl Kept {
         ensures err { OnErr result (self.new ≡ []) }
     {
         let Formed { core, mentioned } = form;
-        let part = Found::Binding(var, core);
+        let part = ElaboratedPart::Binding(var, core);
         match push(&mut self.found, &mut self.bindings, part, mentioned) {
             Ok(()) => Ok(()),
             Err(_) => {
@@ -178,11 +178,11 @@ impl Kept {
         ensures ok { OnOk result (self.new ≡ self.old ++ Parameter var ∷ []) }
         ensures err { OnErr result (self.new ≡ self.old) }
     {
-        self.found.push(Found::Parameter(var))
+        self.found.push(ElaboratedPart::Parameter(var))
     }
 
     /// The list of it alone.
-    pub(crate) fn into_found(self) -> FoundList
+    pub(crate) fn into_found(self) -> ElaboratedParts
         ensures { result ≡ self }
     {
         self.found

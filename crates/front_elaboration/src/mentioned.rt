@@ -5,7 +5,7 @@ ghost use Rattle.lang_meaning.specs.Mentions.{same_part, owns};
 ghost use Rattle.front_elaboration.specs.Mentioned.{has, is_part, AreParts, IsUnion};
 
 use base::NoMemory;
-use lang_meaning::{Part, Var};
+use lang_meaning::{Capture, Var};
 use std::alloc::Global;
 use std::collections::BTreeSet;
 use std::mem;
@@ -31,13 +31,13 @@ impl Mentioned {
     }
 
     /// Whether the part is among them. Takes no memory.
-    pub(crate) fn has(&self, part: Part) -> bool
+    pub(crate) fn has(&self, part: Capture) -> bool
         ensures { result ≡ has self.now part }
     {
         match part {
-            Part::Variable(var) => self.variables.contains(&var),
-            Part::Exit(exit) => self.exits.contains(&exit),
-            Part::Method => self.method,
+            Capture::Variable(var) => self.variables.contains(&var),
+            Capture::Exit(exit) => self.exits.contains(&exit),
+            Capture::Method => self.method,
         }
     }
 
@@ -49,19 +49,19 @@ impl Mentioned {
     }
 
     /// The part is one of them.
-    pub(crate) fn add(&mut self, part: Part) -> Result<(), NoMemory>
+    pub(crate) fn add(&mut self, part: Capture) -> Result<(), NoMemory>
         ensures { OnOk result (AreParts self.new (λ p. has self.old p || same_part p part)) }
     {
         match part {
-            Part::Variable(var) => {
+            Capture::Variable(var) => {
                 self.variables.insert(var)?;
                 Ok(())
             }
-            Part::Exit(exit) => {
+            Capture::Exit(exit) => {
                 self.exits.insert(exit)?;
                 Ok(())
             }
-            Part::Method => {
+            Capture::Method => {
                 self.method = true;
                 Ok(())
             }
@@ -69,7 +69,7 @@ impl Mentioned {
     }
 
     /// The part is one of them, if there is one.
-    pub(crate) fn add_some(&mut self, part: Option<Part>) -> Result<(), NoMemory>
+    pub(crate) fn add_some(&mut self, part: Option<Capture>) -> Result<(), NoMemory>
         ensures { OnOk result (AreParts self.new (λ p. has self.old p || is_part p part)) }
     {
         match part {
@@ -79,17 +79,17 @@ impl Mentioned {
     }
 
     /// The part is none of them. Takes no memory.
-    pub(crate) fn remove(&mut self, part: Part)
+    pub(crate) fn remove(&mut self, part: Capture)
         ensures { AreParts self.new (λ p. not (same_part p part) && has self.old p) }
     {
         match part {
-            Part::Variable(var) => {
+            Capture::Variable(var) => {
                 self.variables.remove(&var);
             }
-            Part::Exit(exit) => {
+            Capture::Exit(exit) => {
                 self.exits.remove(&exit);
             }
-            Part::Method => self.method = false,
+            Capture::Method => self.method = false,
         }
     }
 
@@ -98,7 +98,7 @@ impl Mentioned {
         ensures { AreParts self.new (λ p. not (owns variables.now p) && has self.old p) }
     {
         for var in variables {
-            self.remove(Part::Variable(*var));
+            self.remove(Capture::Variable(*var));
         }
     }
 

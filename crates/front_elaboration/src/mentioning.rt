@@ -2,7 +2,7 @@
 
 ghost use Rattle.std.specs.Prelude.{◌≡◌, Bool, not, ◌&&◌, ◌||◌, OnOk, IfOk, MatchOption};
 ghost use Rattle.std.specs.List.{list_any};
-ghost use Rattle.lang_meaning.specs.declared.part.Part.{Part as APart};
+ghost use Rattle.lang_meaning.specs.declared.capture.Capture.{Capture as APart};
 ghost use Rattle.lang_meaning.specs.model.View.{bindings_of};
 ghost use Rattle.lang_meaning.specs.Form.{parameters};
 ghost use Rattle.lang_meaning.specs.Mentions.{owns, variables_bound, binds, names_part, mentions};
@@ -10,17 +10,17 @@ ghost use Rattle.front_elaboration.specs.Mentioned.{has, AreParts, own_part};
 
 use crate::mentioned::Mentioned;
 use base::NoMemory;
-use lang_meaning::{BindingList, Core, CoreForm, Part, Subforms, Var, VarList};
+use lang_meaning::{BindingList, Capture, Core, CoreForm, Subforms, Var, VarList};
 use std::alloc::Global;
 
 // The part that the form itself names.
-fn own_part(form: &Core) -> Option<Part>
+fn own_part(form: &Core) -> Option<Capture>
     ensures { result ≡ own_part form.now }
 {
     match &form.form {
-        CoreForm::Local(var) | CoreForm::SetLocal(var, _) => Some(Part::Variable(*var)),
-        CoreForm::Return(exit, _) | CoreForm::Go(exit, _) => Some(Part::Exit(*exit)),
-        CoreForm::NextMethod | CoreForm::HasNext => Some(Part::Method),
+        CoreForm::Local(var) | CoreForm::SetLocal(var, _) => Some(Capture::Variable(*var)),
+        CoreForm::Return(exit, _) | CoreForm::Go(exit, _) => Some(Capture::Exit(*exit)),
+        CoreForm::NextMethod | CoreForm::HasNext => Some(Capture::Method),
         _ => None,
     }
 }
@@ -30,7 +30,7 @@ fn unbind_variables(list: &BindingList, inner: &mut Mentioned)
     ensures { AreParts inner.new (λ p. not (owns (variables_bound (bindings_of list.now)) p) && has inner.old p) }
 {
     for binding in list.as_slice() {
-        inner.remove(Part::Variable(binding.var));
+        inner.remove(Capture::Variable(binding.var));
     }
 }
 
@@ -40,7 +40,7 @@ fn unbind_parameters(required: &VarList, rest: Option<Var>, inner: &mut Mentione
 {
     inner.remove_variables(required.as_slice());
     if let Some(var) = rest {
-        inner.remove(Part::Variable(var));
+        inner.remove(Capture::Variable(var));
     }
 }
 
@@ -51,7 +51,7 @@ fn unbind(form: &Core, inner: &mut Mentioned)
     match &form.form {
         CoreForm::Let(list, _) => unbind_variables(list, inner),
         CoreForm::Lambda(required, rest, _, _) => unbind_parameters(required, *rest, inner),
-        CoreForm::Block(exit, _) | CoreForm::Tagbody(exit, _) => inner.remove(Part::Exit(*exit)),
+        CoreForm::Block(exit, _) | CoreForm::Tagbody(exit, _) => inner.remove(Capture::Exit(*exit)),
         _ => {}
     }
 }

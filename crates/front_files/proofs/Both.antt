@@ -8,7 +8,7 @@ use Rattle.base.specs.Names.{IsTable, Extends}
 use Rattle.lang_meaning.specs.declared.program.ProgramRows.{ProgramRows}
 use Rattle.front_profile.specs.declared.tables.Tables.{Tables}
 use Rattle.front_reader.specs.Readers.{first_place}
-use Rattle.front_scope.specs.Scopes.{rows_of, IsFirst}
+use Rattle.front_scope.specs.Scopes.{rows_of, AreInitialTables}
 use Rattle.front_files.specs.declared.mode.Mode.{Mode}
 use Rattle.front_files.specs.declared.mode.Mode.TheVariants.{Run}
 use Rattle.front_files.specs.Verdicts.{all_taken, JudgesText, accepted, too_long, Verdict, source_too_long, prelude_refused, file_refused, file_accepted, Refuses, IsNoProgram}
@@ -36,13 +36,13 @@ file_stops names more prelude text mode s t (Refused r) e h k =
     in_file t (judges_later names more Prelude Run s prelude (first_place Prelude) (all_taken t) e h) k
 
 pub whole_accepted : (names more : List (List ℕ)) (prelude text : List ℕ) (mode : Mode) (s u : Tables) (program : ProgramRows) → Extends names more → length text ≤ longest_text →
-    IsFirst names s → BothTaken more prelude text mode s u → program ≡ rows_of u → Verdict more prelude text mode (accepted program)
+    AreInitialTables names s → BothTaken more prelude text mode s u → program ≡ rows_of u → Verdict more prelude text mode (accepted program)
 whole_accepted names more prelude text mode s u program e short first b same =
     subst (λ x. Verdict more prelude text mode (accepted x)) (sym same)
     (file_accepted b.between u short (record { first = s; is_first = first_later names more s e first; judges = b.in_prelude }) b.in_file)
 
 pub whole_stops : (names more : List (List ℕ)) (prelude text : List ℕ) (mode : Mode) (s : Tables) (stop : Stop) → Extends names more → length text ≤ longest_text →
-    IsFirst names s → BothStop more prelude text mode s stop → VerdictStops more prelude text mode stop
+    AreInitialTables names s → BothStop more prelude text mode s stop → VerdictStops more prelude text mode stop
 whole_stops names more prelude text mode s NoMemory e short first h = tt
 whole_stops names more prelude text mode s (Refused r) e short first (in_prelude h) =
     prelude_refused r short (record { first = s; is_first = first_later names more s e first; judges = h })

@@ -5,7 +5,7 @@ use Rattle.base.specs.declared.place.Place.{Place}
 use Rattle.base.specs.declared.datum.Name.{Name}
 use Rattle.base.specs.Data.{Item, item, string, place_of}
 use Rattle.base.specs.DataMeasures.{Formed, NamesBelow}
-use Rattle.base.specs.GoodData.{Good}
+use Rattle.base.specs.WellFormedData.{WellFormed}
 use Rattle.base.specs.Names.{Extends, Extends-with_text, with_text}
 use Rattle.front_files.specs.Shown.{named_at, list_at, printing_at, IsPrinting}
 use Rattle.front_files.specs.bridge.First.{below_length}
@@ -25,15 +25,15 @@ pub put_together : (d e : Item) (p : Place) (format standard_output : Name) (fro
 put_together d e p format standard_output front items place f i h =
     h ∙ ap (list_at p) (i ∙ ap (λ x. x ++ d ∷ []) f) ∙ ap (λ q. printing_at q format standard_output d) (sym place)
 
-good_at : (n : ℕ) (p : Place) (f o : Name) (d : Item) → f.0 < n → o.0 < n → Good n d → Good n (printing_at p f o d)
+good_at : (n : ℕ) (p : Place) (f o : Name) (d : Item) → f.0 < n → o.0 < n → WellFormed n d → WellFormed n (printing_at p f o d)
 unfolding Formed NamesBelow
 good_at n p f o d h k g = record {
   formed = (λ e. absurd (cc), (tt, ((λ e. absurd (cc), (tt, tt), tt), (tt, (g.formed, tt)))), tt);
   named = ((h, (((k, tt), tt), (tt, (g.named, tt)))), tt);
 }
 
-pub good_printing : (names : List (List ℕ)) (d e : Item) → Good (length names) d → IsPrinting names d e → Good (length names) e
+pub good_printing : (names : List (List ℕ)) (d e : Item) → WellFormed (length names) d → IsPrinting names d e → WellFormed (length names) e
 good_printing names d e g p =
-    subst (Good (length names)) (sym p.is)
+    subst (WellFormed (length names)) (sym p.is)
     (good_at (length names) (place_of d) p.format p.standard_output d
     (below_length names p.format.0 _ p.is_format) (below_length names p.standard_output.0 _ p.is_standard_output) g)

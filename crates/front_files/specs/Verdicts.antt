@@ -18,7 +18,7 @@ use Rattle.front_reader.specs.Gaps.{Gap}
 use Rattle.front_reader.specs.Reads.{ReadsNext}
 use Rattle.front_reader.specs.Readers.{first_place}
 use Rattle.front_reader.specs.Stops.{StopsFirst}
-use Rattle.front_scope.specs.Scopes.{rows_of, IsFirst, IsTaken, IsStopped}
+use Rattle.front_scope.specs.Scopes.{rows_of, AreInitialTables, IsTaken, IsFormStopped}
 use Rattle.front_files.specs.declared.mode.Mode.{Mode}
 use Rattle.front_files.specs.declared.mode.Mode.TheVariants.{Run}
 use Rattle.front_files.specs.Shown.{IsForm}
@@ -33,7 +33,7 @@ pub record FormTaken (names : List (List ℕ)) (origin : Origin) (mode : Mode) (
 pub record FormRefused (names : List (List ℕ)) (origin : Origin) (mode : Mode) (s : Tables) (d : Item) (after : List ℕ) (r : Refusal) : Type 0 where
   pub form : Item
   pub is_form : IsForm names mode d after form
-  pub refused : IsStopped names origin s form (Refused r)
+  pub refused : IsFormStopped names origin s form (Refused r)
 
 -- what the forms of a text come to: all are taken and give these tables, or one is refused, or the text stops
 pub data Judgement : Type 0 where
@@ -62,9 +62,9 @@ abbrev pub JudgesText : List (List ℕ) → Origin → Mode → Tables → List 
 JudgesText names origin mode s text j = Judges names origin mode s text (first_place origin) j
 
 -- what is said to a file: it is this program, or it is refused
-pub data Outcome : Type 0 where
-  accepted : ProgramRows → Outcome
-  refused : Refusal → Outcome
+pub data FileVerdict : Type 0 where
+  accepted : ProgramRows → FileVerdict
+  refused : Refusal → FileVerdict
 
 abbrev pub too_long : Refusal
 too_long = record { place = first_place File; reason = SourceTooLong }
@@ -72,12 +72,12 @@ too_long = record { place = first_place File; reason = SourceTooLong }
 -- the tables behind the prelude, whose forms are never shown
 pub record BehindPrelude (names : List (List ℕ)) (prelude : List ℕ) (j : Judgement) : Type 0 where
   pub first : Tables
-  pub is_first : IsFirst names first
+  pub is_first : AreInitialTables names first
   pub judges : JudgesText names Prelude Run first prelude j
 
 -- `Verdict names prelude text mode v`: where symbols are numbered by the table of names, v is said to the file with this text, which
 -- stands behind the prelude
-pub data Verdict (names : List (List ℕ)) (prelude text : List ℕ) (mode : Mode) : Outcome → Type 0 where
+pub data Verdict (names : List (List ℕ)) (prelude text : List ℕ) (mode : Mode) : FileVerdict → Type 0 where
   source_too_long : longest_text < length text → Verdict names prelude text mode (refused too_long)
   prelude_refused : (r : Refusal) → length text ≤ longest_text → BehindPrelude names prelude (one_refused r)
       → Verdict names prelude text mode (refused r)

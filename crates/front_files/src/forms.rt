@@ -1,7 +1,7 @@
 // The forms of a text, judged one after another.
 
 ghost use Rattle.std.specs.Prelude.{◌≡◌, length, None, OnOk, IfErr};
-ghost use Rattle.base.specs.GoodData.{Good};
+ghost use Rattle.base.specs.WellFormedData.{WellFormed};
 ghost use Rattle.base.specs.Names.{Extends};
 ghost use Rattle.front_files.specs.Verdicts.{FormTaken, JudgesText, all_taken, Judges};
 ghost use Rattle.front_reader.specs.Readers.{first_place, MayBeRead};
@@ -24,7 +24,7 @@ fn judge_form(
     origin: Origin,
     mode: Mode,
 ) -> Result<(), Stop>
-    requires good { Good (length names.old) datum }
+    requires good { WellFormed (length names.old) datum }
     ensures taken { OnOk result (FormTaken names.new origin mode scope.old datum reader.now.rest scope.new) }
     ensures stops { IfErr result (FormStops names.new origin mode scope.old datum reader.now.rest) }
     ensures names { Extends names.old names.new }

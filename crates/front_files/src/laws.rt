@@ -6,14 +6,14 @@ ghost use Rattle.base.specs.Names.{IsTable, Extends};
 ghost use Rattle.lang_meaning.specs.declared.program.ProgramRows.{ProgramRows as program_rows};
 ghost use Rattle.front_files.specs.declared.mode.Mode.{Mode as mode_of};
 ghost use Rattle.front_files.specs.declared.mode.Mode.TheVariants.{Run};
-ghost use Rattle.front_files.specs.Verdicts.{Outcome, accepted, refused, Verdict, IsOfFile};
+ghost use Rattle.front_files.specs.Verdicts.{FileVerdict, accepted, refused, Verdict, IsOfFile};
 
 use front_profile::laws::law_one_verdict as law_one_verdict_of_a_form;
 use front_reader::laws::{law_end, law_next_or_stops, law_one_datum, law_one_stop};
 
 /// A prelude and a text have at most one verdict in each mode, where names are numbered by one table.
 pub fn law_one_verdict()
-    ensures { (names : List (List ℕ)) (prelude text : List ℕ) (mode : mode_of) (v w : Outcome) → IsTable names →
+    ensures { (names : List (List ℕ)) (prelude text : List ℕ) (mode : mode_of) (v w : FileVerdict) → IsTable names →
         Verdict names prelude text mode v → Verdict names prelude text mode w → v ≡ w }
 {
     law_one_verdict_of_a_form();
@@ -39,6 +39,6 @@ pub fn law_prelude()
 /// A verdict stays under every later table of names. So two verdicts whose tables are the beginnings of
 /// one table are one verdict.
 pub fn law_names_apart()
-    ensures { (old new : List (List ℕ)) (prelude text : List ℕ) (mode : mode_of) (v : Outcome) → Extends old new →
+    ensures { (old new : List (List ℕ)) (prelude text : List ℕ) (mode : mode_of) (v : FileVerdict) → Extends old new →
         Verdict old prelude text mode v → Verdict new prelude text mode v }
 {}

@@ -4,7 +4,7 @@ ghost use Rattle.std.specs.Prelude.{◌≡◌, [], ◌∷◌, length, Some, None
 ghost use Rattle.std.specs.List.{list_any};
 ghost use Rattle.std.specs.Str.{bytes_eq};
 ghost use Rattle.base.specs.Data.{item, string, items_of};
-ghost use Rattle.base.specs.GoodData.{Good};
+ghost use Rattle.base.specs.WellFormedData.{WellFormed};
 ghost use Rattle.base.specs.Names.{Extends};
 ghost use Rattle.front_files.specs.Shown.{first_text, head_text, not_shown, stays, named_at, list_at, IsPrinting, IsForm};
 
@@ -113,9 +113,9 @@ fn front_at(
 
 // The form that prints the value of a form, at its place.
 fn printing(alloc: Global, names: &mut Names, form: Datum) -> Result<Datum, NoMemory>
-    requires good { Good (length names.old) form }
+    requires good { WellFormed (length names.old) form }
     ensures printing { IfOk result (IsPrinting names.new form) }
-    ensures good { IfOk result (Good (length names.new)) }
+    ensures good { IfOk result (WellFormed (length names.new)) }
     ensures names { Extends names.old names.new }
 {
     let place = form.place;
@@ -143,9 +143,9 @@ pub(crate) fn form_of(
     datum: Datum,
     mode: Mode,
 ) -> Result<Datum, NoMemory>
-    requires good { Good (length names.old) datum }
+    requires good { WellFormed (length names.old) datum }
     ensures form { IfOk result (IsForm names.new mode datum reader.now.rest) }
-    ensures good { IfOk result (Good (length names.new)) }
+    ensures good { IfOk result (WellFormed (length names.new)) }
     ensures names { Extends names.old names.new }
 {
     match mode {

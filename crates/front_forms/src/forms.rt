@@ -5,7 +5,7 @@ ghost use Rattle.std.specs.List.{list_any};
 ghost use Rattle.base.specs.model.DataView.{tail_of};
 ghost use Rattle.base.specs.DataNames.{symbol_text};
 ghost use Rattle.base.specs.Data.{place_of};
-ghost use Rattle.base.specs.GoodData.{Good};
+ghost use Rattle.base.specs.WellFormedData.{WellFormed};
 ghost use Rattle.base.specs.Names.{Extends};
 ghost use Rattle.lang_derived.specs.Asked.{list_items};
 ghost use Rattle.lang_meaning.specs.declared.program.LiteralRow.TheVariants as literal;
@@ -15,7 +15,7 @@ ghost use Rattle.front_profile.specs.Rows as row;
 ghost use Rattle.front_profile.specs.Shapes.{symbol_of};
 ghost use Rattle.front_drafts.specs.Drafts.{around, drawn, Draws};
 ghost use Rattle.front_drafts.specs.Views.{at, shown};
-ghost use Rattle.front_profile.specs.Marks.{Grows};
+ghost use Rattle.front_profile.specs.Marks.{TablesGrow};
 
 use base::{Datum, Kind, Name, Names, NoMemory, Reason, Symbol, symbol_text, text_of};
 use front_class_definitions::classes::defclass_draft;
@@ -23,7 +23,7 @@ use front_definitions::defining::{defdynamic_draft, defun_draft, global_draft};
 use front_definitions::generics::defgeneric_draft;
 use front_definitions::methods::defmethod_draft;
 use front_drafts::draft::{Draft, offence};
-use front_drafts::here::{Here, Setting};
+use front_drafts::here::{FormContext, Here};
 use front_drafts::plan::Plan;
 use front_drafts::take::take;
 use front_profile::{Leaf, Special, Tables, special_named};
@@ -94,7 +94,7 @@ fn functions_kept(names: &Names, items: &[Datum]) -> bool
 
 // The row of a special or defining form, by what stands behind its name.
 fn special_draft<'a>(
-    here: Setting,
+    here: FormContext,
     names: &Names,
     special: Special,
     items: &'a [Datum],
@@ -142,7 +142,7 @@ fn special_draft<'a>(
 
 // A call by a name that is no local function's.
 fn call_named<'a>(
-    here: Setting,
+    here: FormContext,
     name: Name,
     text: &[u8],
     items: &'a [Datum],
@@ -158,7 +158,7 @@ fn call_named<'a>(
 
 // A call by a symbol that is no local function's.
 fn call_symbol<'a>(
-    here: Setting,
+    here: FormContext,
     names: &Names,
     symbol: Symbol,
     items: &'a [Datum],
@@ -181,7 +181,7 @@ fn special_of(names: &Names, symbol: Symbol) -> Option<Special>
 
 // A list with that symbol in front.
 fn headed_draft<'a>(
-    here: Setting,
+    here: FormContext,
     names: &Names,
     symbol: Symbol,
     items: &'a [Datum],
@@ -242,7 +242,7 @@ fn is_lambda_items(names: &Names, items: &[Datum]) -> bool
 
 // A list whose head is no symbol.
 fn form_headed_draft<'a>(
-    here: Setting,
+    here: FormContext,
     names: &Names,
     head: &'a Datum,
     items: &'a [Datum],
@@ -259,7 +259,7 @@ fn form_headed_draft<'a>(
 
 // A list of these items, with that tail.
 fn list_draft<'a>(
-    here: Setting,
+    here: FormContext,
     names: &Names,
     items: &'a [Datum],
     tail: &Option<Box<Datum>>,
@@ -278,7 +278,11 @@ fn list_draft<'a>(
 
 // What a datum at that place that is no derived form is there.
 #[tactic(auto, using(crate::proofs::Lists::shown_items))]
-fn datum_draft<'a>(here: Setting, names: &Names, datum: &'a Datum) -> Result<Draft<'a>, NoMemory>
+fn datum_draft<'a>(
+    here: FormContext,
+    names: &Names,
+    datum: &'a Datum,
+) -> Result<Draft<'a>, NoMemory>
     requires { here.place ≡ place_of datum.now }
     ensures { Draws here.entry (row.plain_node names.now (around here.entry) here.entry.tables.now datum.now) result }
 {
@@ -304,7 +308,7 @@ fn plain_draft<'a>(
     ensures { IfOk result (λ draft. drawn (at here.entry.bound.now here.entry.spot) here.entry.place tables.now draft
         ≡ row.plain_node names.now (at here.entry.bound.now here.entry.spot) tables.now datum.now) }
 {
-    let setting = Setting {
+    let setting = FormContext {
         alloc: here.alloc,
         bound: here.bound,
         spot: here.spot,
@@ -323,11 +327,11 @@ pub fn plain_plan<'a>(
     datum: &'a Datum,
 ) -> Result<Plan<'a>, NoMemory>
     requires place { here.place ≡ place_of datum.now }
-    requires good { Good (length names.old) datum.now }
+    requires good { WellFormed (length names.old) datum.now }
     ensures plan { IfOk result (λ plan. shown here.entry.bound.now tables.new plan
         ≡ row.plain_node names.new (at here.entry.bound.now here.entry.spot) tables.old datum.now) }
     ensures names { Extends names.old names.new }
-    ensures grows { Grows tables.old tables.new }
+    ensures grows { TablesGrow tables.old tables.new }
 {
     add_setters(here.alloc, names, datum)?;
     let draft = plain_draft(here, tables, names, datum)?;
@@ -335,7 +339,7 @@ pub fn plain_plan<'a>(
 }
 
 // A datum that evaluates to itself.
-fn self_draft<'a>(here: Setting, datum: &Datum) -> Result<Draft<'a>, NoMemory>
+fn self_draft<'a>(here: FormContext, datum: &Datum) -> Result<Draft<'a>, NoMemory>
     ensures { Draws here.entry
         (word.literal_node (around here.entry) here.entry.place here.entry.tables.now (literal.Datum datum.now)) result }
 {

@@ -1,11 +1,11 @@
 // Derived forms: the steps that are taken before a form is judged.
 
 ghost use Rattle.std.specs.Prelude.{◌≡◌, length, IfOk, IfErr};
-ghost use Rattle.base.specs.GoodData.{Good};
+ghost use Rattle.base.specs.WellFormedData.{WellFormed};
 ghost use Rattle.base.specs.Names.{Extends};
 ghost use Rattle.lang_derived.specs.Asked.{list_items};
 ghost use Rattle.front_forms.specs.Settled.{with_symbols};
-ghost use Rattle.front_profile.specs.Marks.{Grows};
+ghost use Rattle.front_profile.specs.Marks.{TablesGrow};
 ghost use Rattle.front_profile.specs.Rows as row;
 ghost use Rattle.front_profile.specs.Promises.{Settles, StepsStop, settled_datum};
 
@@ -66,13 +66,13 @@ pub fn settle(
     tables: &mut Tables,
     datum: &Datum,
 ) -> Result<Option<Datum>, Stop>
-    requires good { Good (length names.old) datum.now }
+    requires good { WellFormed (length names.old) datum.now }
     ensures settles { IfOk result (λ found. Settles names.new tables.old datum.now tables.new (settled_datum found datum.now)) }
-    ensures good { IfOk result (λ found. Good (length names.new) (settled_datum found datum.now)) }
+    ensures good { IfOk result (λ found. WellFormed (length names.new) (settled_datum found datum.now)) }
     ensures stops { IfErr result (StepsStop names.new tables.old datum.now) }
     ensures names { Extends names.old names.new }
     ensures kept { tables.new ≡ with_symbols tables.new.fresh tables.old }
-    ensures grows { Grows tables.old tables.new }
+    ensures grows { TablesGrow tables.old tables.new }
 {
     let mut found = None;
     loop {

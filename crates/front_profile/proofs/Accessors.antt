@@ -17,10 +17,10 @@ use Rattle.lang_meaning.specs.Facts.{is_congruent, method_fits, same_method, is_
 use Rattle.lang_classes.specs.InheritedClasses.{Hierarchy}
 use Rattle.lang_classes.specs.InheritedSlots.{same_name}
 use Rattle.front_profile.specs.declared.tables.Tables.{Tables}
-use Rattle.front_profile.specs.declared.making.Accessor.{Accessor}
-use Rattle.front_profile.specs.declared.making.Accessor.TheVariants.{Reads, Writes, Asks}
-use Rattle.front_profile.specs.declared.making.Head.{Head}
-use Rattle.front_profile.specs.Makings.{arguments_of, classes_of, accessor_head, generic_named, with_generic, with_method_at, with_accessor_in, with_slot_functions}
+use Rattle.front_profile.specs.declared.elaboration.Accessor.{Accessor}
+use Rattle.front_profile.specs.declared.elaboration.Accessor.TheVariants.{Reads, Writes, Asks}
+use Rattle.front_profile.specs.declared.elaboration.MethodHead.{MethodHead}
+use Rattle.front_profile.specs.Elaborations.{arguments_of, classes_of, accessor_head, generic_named, with_generic, with_method_at, with_accessor_in, with_slot_functions}
 use Rattle.front_profile.specs.DefiningRows.{is_that, has_function}
 use Rattle.front_profile.specs.GivenNames.{no_name, unfit, lacking, given}
 use Rattle.front_profile.specs.ClassRows.{Function, for_initform, for_method, Use, use_of, names_differ, slot_function}
@@ -201,7 +201,7 @@ pub record Accessed (c : ℕ) (n : Name) (t u : Tables) : Type 0 where
   pub stands : (q : ℕ) → StandsBelow q (defined t) → StandsBelow q (defined u)
 
 -- what is ready stays so beside a method of another name
-pub ready_with : (c : ℕ) (t : Tables) (j : ℕ) (h : Head) (p : ℕ) (n : Name) → ((x : GenericRow) → slice_get t.generics j ≡ Some x → same_name n x.name ≡ true) → (w : Use)
+pub ready_with : (c : ℕ) (t : Tables) (j : ℕ) (h : MethodHead) (p : ℕ) (n : Name) → ((x : GenericRow) → slice_get t.generics j ≡ Some x → same_name n x.name ≡ true) → (w : Use)
     → same_name n w.name ≡ false → IsReady c t w → IsReady c (with_method_at j h p t) w
 ready_with c t j h p n f w d r =
     let same : found w.name (with_method_at j h p t).generics ≡ found w.name t.generics =
@@ -227,7 +227,7 @@ accessed_there : (c : ℕ) (n : Name) (k : Accessor) (t : Tables) (i p : ℕ) (x
     → same_name n x.name ≡ true → RowReady c (record { name = n; arguments = arguments_of k }) x → c < length t.classes.rows → TakenAt k t.procedures p
     → Accessed c n t (with_method_at i (accessor_head k c) p t)
 accessed_there c n k t i p x w e same r l a =
-    let h : Head = accessor_head k c in
+    let h : MethodHead = accessor_head k c in
     let takes : TakesMethod (defined t) i (method_of h p) = record {
       takes = λ z q.
           let one : x ≡ z = cc (e, q) in

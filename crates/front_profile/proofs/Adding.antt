@@ -13,8 +13,8 @@ use Rattle.lang_meaning.specs.Lookup.{all_differ}
 use Rattle.lang_meaning.specs.Standing.{is_alone}
 use Rattle.lang_meaning.specs.Facts.{callee_fits, method_fits, same_method, generic_fits, is_of_method}
 use Rattle.front_profile.specs.declared.tables.Tables.{Tables}
-use Rattle.front_profile.specs.declared.making.Head.{Head}
-use Rattle.front_profile.specs.Makings.{with_method_at}
+use Rattle.front_profile.specs.declared.elaboration.MethodHead.{MethodHead}
+use Rattle.front_profile.specs.Elaborations.{with_method_at}
 use Rattle.front_profile.specs.DefiningRows.{is_that}
 use Rattle.front_profile.specs.Definitions.{Definitions, rows_of, Later, has_function, same_generic, SoundDefinitions, EachStands}
 use Rattle.front_profile.proofs.Definitions.{literals_later, procedures_later, own_later, generics_later, functions_later, mains_later, all_push}
@@ -121,11 +121,11 @@ with_method [] i m = []
 with_method (x ∷ gs) zero m = plus_method x m ∷ gs
 with_method (x ∷ gs) (suc i) m = x ∷ with_method gs i m
 
-abbrev pub method_of : Head → ℕ → MethodRow
+abbrev pub method_of : MethodHead → ℕ → MethodRow
 method_of h p = record { qualifier = h.qualifier; classes = h.classes; procedure = p }
 
 -- that is what the tables have then
-pub tables_with : (t : Tables) (gs : List GenericRow) (i : ℕ) (h : Head) (p : ℕ) → (with_method_at i h p (record t { generics = gs })).generics ≡ with_method gs i (method_of h p)
+pub tables_with : (t : Tables) (gs : List GenericRow) (i : ℕ) (h : MethodHead) (p : ℕ) → (with_method_at i h p (record t { generics = gs })).generics ≡ with_method gs i (method_of h p)
 tables_with t [] i h p = refl
 tables_with t (x ∷ gs) zero h p = refl
 tables_with t (x ∷ gs) (suc i) h p = ap (λ xs. x ∷ xs) (tables_with t gs i h p)

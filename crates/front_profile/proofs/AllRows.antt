@@ -9,22 +9,22 @@ use Rattle.base.specs.Data.{Item, item, integer, character, symbol, string, vect
 use Rattle.base.specs.DataFormed.{formed_tells}
 use Rattle.base.specs.DataNames.{symbol_text}
 use Rattle.base.specs.AllOf.{AllOf}
-use Rattle.base.specs.GoodData.{Good}
+use Rattle.base.specs.WellFormedData.{WellFormed}
 use Rattle.lang_meaning.specs.declared.program.LiteralRow.TheVariants as row
 use Rattle.lang_derived.specs.Asked.{list_items}
 use Rattle.lang_derived.specs.Derived.{Derivation, plain, unfit, becomes, derivation}
-use Rattle.front_profile.specs.declared.making.Leaf.TheVariants.{NextMethod, HasNext}
+use Rattle.front_profile.specs.declared.elaboration.Leaf.TheVariants.{NextMethod, HasNext}
 use Rattle.lang_meaning.specs.declared.kinds.OverTwo.TheVariants.{Apply, While, Catch, Throw, Unwind, WithHandler}
-use Rattle.front_profile.specs.declared.making.Making.TheVariants.{CallOfValue}
+use Rattle.front_profile.specs.declared.elaboration.Elaboration.TheVariants.{CallOfValue}
 use Rattle.front_profile.specs.declared.special.Special.{Special}
 use Rattle.front_profile.specs.declared.special.Special.TheVariants as name
 use Rattle.front_profile.specs.declared.tables.Tables.{Tables}
 use Rattle.front_profile.specs.Words.{is_left_out}
 use Rattle.front_profile.specs.Names.{function_of}
-use Rattle.front_profile.specs.Nodes.{Around, Node}
+use Rattle.front_profile.specs.Nodes.{StaticContext, Node}
 use Rattle.front_profile.specs.Shapes.{symbol_of}
 use Rattle.front_profile.specs.Rows.{first_reserved, functions_kept, special_row, special_node, without_dot, call_symbol, call_as, special_of, headed_as, is_lambda, headed_by_form, headed_by, list_node, plain_node, class_in_front, unless_refused, derived_as, node}
-use Rattle.front_profile.specs.bridge.GoodParts.{good_list}
+use Rattle.front_profile.specs.bridge.WellFormedParts.{good_list}
 use Rattle.front_profile.specs.Definitions.{defined}
 use Rattle.front_profile.specs.Places.{scope_of}
 use Rattle.front_profile.proofs.Places.{function_there}
@@ -43,7 +43,7 @@ use Rattle.front_profile.proofs.DefiningRows.{apt_global, apt_defdynamic, apt_de
 -- special and defining forms
 
 module _ (rules : ClassRules) where
-  apt_special : (names : List (List ℕ)) (n : ℕ) (x : Special) (a : Around) (s : Tables) (p : Place) (ds : List Item) → Stage a s → AllOf (Good n) ds →
+  apt_special : (names : List (List ℕ)) (n : ℕ) (x : Special) (a : StaticContext) (s : Tables) (p : Place) (ds : List Item) → Stage a s → AllOf (WellFormed n) ds →
       AptAt n a s (special_row names x a s p ds)
   apt_special names n name.Quote a s p ds b g = apt_quote n a s p ds b g
   apt_special names n name.Setq a s p ds b g = apt_setq n a s p ds b g
@@ -78,18 +78,18 @@ module _ (rules : ClassRules) where
   apt_special names n name.Defgeneric a s p ds b g = apt_defgeneric names n a s p ds b g
   apt_special names n name.Defmethod a s p ds b g = apt_defmethod names n a s p ds b g
 
-  apt_special_node : (names : List (List ℕ)) (n : ℕ) (x : Special) (a : Around) (s : Tables) (p : Place) (ds : List Item) (t : Tail) → Stage a s → AllOf (Good n) ds →
+  apt_special_node : (names : List (List ℕ)) (n : ℕ) (x : Special) (a : StaticContext) (s : Tables) (p : Place) (ds : List Item) (t : Tail) → Stage a s → AllOf (WellFormed n) ds →
       AptAt n a s (special_node names x a s p ds t)
   apt_special_node names n x a s p ds no_tail b g = apt_special names n x a s p ds b g
   apt_special_node names n x a s p ds (dotted d) b g = tt
 
   -- calls
 
-  apt_without_dot : (n : ℕ) (a : Around) (s : Tables) (p : Place) (t : Tail) (x : Node) → AptAt n a s x → AptAt n a s (without_dot p t x)
+  apt_without_dot : (n : ℕ) (a : StaticContext) (s : Tables) (p : Place) (t : Tail) (x : Node) → AptAt n a s x → AptAt n a s (without_dot p t x)
   apt_without_dot n a s p no_tail x g = g
   apt_without_dot n a s p (dotted d) x g = tt
 
-  apt_call_symbol : (n : ℕ) (x : Symbol) (text : Option (List ℕ)) (a : Around) (s : Tables) (p : Place) (ds : List Item) → Stage a s → AllOf (Good n) ds →
+  apt_call_symbol : (n : ℕ) (x : Symbol) (text : Option (List ℕ)) (a : StaticContext) (s : Tables) (p : Place) (ds : List Item) → Stage a s → AllOf (WellFormed n) ds →
       AptAt n a s (call_symbol x text a s p ds)
   apt_call_symbol n (Named name) None a s p ds b g = tt
   apt_call_symbol n (Fresh e serial) None a s p ds b g = tt
@@ -97,37 +97,37 @@ module _ (rules : ClassRules) where
       apt_if n a s (is_left_out text) _ _ tt (apt_named_call n name text a s p ds b g)
   apt_call_symbol n (Fresh e serial) (Some text) a s p ds b g = tt
 
-  apt_call : (n : ℕ) (x : Symbol) (text : Option (List ℕ)) (v : Option ℕ) (a : Around) (s : Tables) (p : Place) (ds : List Item) → Stage a s →
-      function_of a.bound x ≡ v → AllOf (Good n) ds → AptAt n a s (call_as x text v a s p ds)
+  apt_call : (n : ℕ) (x : Symbol) (text : Option (List ℕ)) (v : Option ℕ) (a : StaticContext) (s : Tables) (p : Place) (ds : List Item) → Stage a s →
+      function_of a.bound x ≡ v → AllOf (WellFormed n) ds → AptAt n a s (call_as x text v a s p ds)
   apt_call n x text (Some v) a s p ds b e g = apt_local_call n v a s p ds b (function_there x (scope_of a).variables a.bound v b.good.functions e) g
   apt_call n x text None a s p ds b e g = apt_call_symbol n x text a s p ds b g
 
   -- lists, by what stands in front
 
-  apt_headed : (names : List (List ℕ)) (n : ℕ) (x : Symbol) (special : Option Special) (a : Around) (s : Tables) (p : Place) (ds : List Item) (t : Tail) → Stage a s →
-      AllOf (Good n) ds → AptAt n a s (headed_as names x special a s p ds t)
+  apt_headed : (names : List (List ℕ)) (n : ℕ) (x : Symbol) (special : Option Special) (a : StaticContext) (s : Tables) (p : Place) (ds : List Item) (t : Tail) → Stage a s →
+      AllOf (WellFormed n) ds → AptAt n a s (headed_as names x special a s p ds t)
   apt_headed names n x (Some special) a s p ds t b g = apt_special_node names n special a s p ds t b g
   apt_headed names n x None a s p ds t b g =
       apt_without_dot n a s p t _ (apt_call n x (symbol_text names x) (function_of a.bound x) a s p ds b refl g)
 
-  apt_by_form : (names : List (List ℕ)) (n : ℕ) (h : Item) (a : Around) (s : Tables) (p : Place) (ds : List Item) (t : Tail) → Stage a s → Good n h →
-      AllOf (Good n) ds → AptAt n a s (headed_by_form names h a s p ds t)
+  apt_by_form : (names : List (List ℕ)) (n : ℕ) (h : Item) (a : StaticContext) (s : Tables) (p : Place) (ds : List Item) (t : Tail) → Stage a s → WellFormed n h →
+      AllOf (WellFormed n) ds → AptAt n a s (headed_by_form names h a s p ds t)
   apt_by_form names n h a s p ds t b f g =
       apt_if n a s (is_lambda names h) _ _
       (apt_without_dot n a s p t _ (apt_all_parts n CallOfValue a s p (h ∷ ds) b (f, g) (of_value (length (h ∷ ds)) (omega arith))))
       tt
 
-  apt_headed_by : (names : List (List ℕ)) (n : ℕ) (h : Item) (x : Option Symbol) (a : Around) (s : Tables) (p : Place) (ds : List Item) (t : Tail) → Stage a s →
-      Good n h → AllOf (Good n) ds → AptAt n a s (headed_by names h x a s p ds t)
+  apt_headed_by : (names : List (List ℕ)) (n : ℕ) (h : Item) (x : Option Symbol) (a : StaticContext) (s : Tables) (p : Place) (ds : List Item) (t : Tail) → Stage a s →
+      WellFormed n h → AllOf (WellFormed n) ds → AptAt n a s (headed_by names h x a s p ds t)
   apt_headed_by names n h (Some x) a s p ds t b f g = apt_headed names n x (special_of (symbol_text names x)) a s p ds t b g
   apt_headed_by names n h None a s p ds t b f g = apt_by_form names n h a s p ds t b f g
 
-  apt_list : (names : List (List ℕ)) (n : ℕ) (a : Around) (s : Tables) (p : Place) (ds : List Item) (t : Tail) → Stage a s → AllOf (Good n) ds →
+  apt_list : (names : List (List ℕ)) (n : ℕ) (a : StaticContext) (s : Tables) (p : Place) (ds : List Item) (t : Tail) → Stage a s → AllOf (WellFormed n) ds →
       AptAt n a s (list_node names a s p ds t)
   apt_list names n a s p [] t b g = tt
   apt_list names n a s p (h ∷ ds) t b g = apt_headed_by names n h (symbol_of h) a s p ds t b g.0 g.1
 
-  apt_plain : (names : List (List ℕ)) (n : ℕ) (a : Around) (s : Tables) (d : Item) → Stage a s → Good n d → AptAt n a s (plain_node names a s d)
+  apt_plain : (names : List (List ℕ)) (n : ℕ) (a : StaticContext) (s : Tables) (d : Item) → Stage a s → WellFormed n d → AptAt n a s (plain_node names a s d)
   apt_plain names n a s (item p (list ds t)) b g = apt_list names n a s p (items_list ds) t b (good_list n p ds t g)
   apt_plain names n a s (item p (symbol x)) b g = apt_symbol n a p s x b
   apt_plain names n a s (item p (integer z)) b g = apt_literal n a s p (row.Datum (item p (integer z))) b (formed_tells (item p (integer z)) g.formed)
@@ -138,7 +138,7 @@ module _ (rules : ClassRules) where
 
   -- derived forms
 
-  apt_derived : (names : List (List ℕ)) (n : ℕ) (x : Derivation) (a : Around) (s : Tables) (d : Item) → Stage a s → Good n d → AptAt n a s (derived_as names x a s d)
+  apt_derived : (names : List (List ℕ)) (n : ℕ) (x : Derivation) (a : StaticContext) (s : Tables) (d : Item) → Stage a s → WellFormed n d → AptAt n a s (derived_as names x a s d)
   apt_derived names n plain a s d b g = apt_plain names n a s d b g
   apt_derived names n unfit a s d b g = tt
   apt_derived names n (becomes r) a s d b g = record {
@@ -150,11 +150,11 @@ module _ (rules : ClassRules) where
     start = counted_same a.spot.sited (defined s);
   }
 
-  apt_unless : (n : ℕ) (a : Around) (s : Tables) (r : Option Refusal) (x : Node) → AptAt n a s x → AptAt n a s (unless_refused r x)
+  apt_unless : (n : ℕ) (a : StaticContext) (s : Tables) (r : Option Refusal) (x : Node) → AptAt n a s x → AptAt n a s (unless_refused r x)
   apt_unless n a s None x h = h
   apt_unless n a s (Some r) x h = tt
 
-  pub apt_node : (names : List (List ℕ)) (n : ℕ) (a : Around) (s : Tables) (d : Item) → Stage a s → Good n d → AptAt n a s (node names a s d)
+  pub apt_node : (names : List (List ℕ)) (n : ℕ) (a : StaticContext) (s : Tables) (d : Item) → Stage a s → WellFormed n d → AptAt n a s (node names a s d)
   unfolding node
   apt_node names n a s d b g =
       apt_unless n a s (class_in_front names s (list_items d)) _ (apt_derived names n (derivation names (length s.fresh) d) a s d b g)

@@ -8,21 +8,21 @@ use Rattle.base.specs.declared.place.Place.{Place}
 use Rattle.base.specs.declared.datum.Name.{Name}
 use Rattle.base.specs.Data.{Item}
 use Rattle.base.specs.AllOf.{AllOf}
-use Rattle.base.specs.GoodData.{Good}
+use Rattle.base.specs.WellFormedData.{WellFormed}
 use Rattle.lang_meaning.specs.declared.primitive.Primitive.{Primitive}
 use Rattle.lang_meaning.specs.Arity.{arity}
 use Rattle.lang_meaning.specs.Form.{Form}
 use Rattle.lang_meaning.specs.Standing.{is_variable}
 use Rattle.lang_meaning.specs.Counts.{all_nodes}
 use Rattle.front_profile.specs.declared.tables.Tables.{Tables}
-use Rattle.front_profile.specs.declared.making.Found.{Found}
+use Rattle.front_profile.specs.declared.elaboration.ElaboratedPart.{ElaboratedPart}
 use Rattle.lang_meaning.specs.declared.kinds.OverTwo.{OverTwo}
 use Rattle.lang_meaning.specs.declared.kinds.OverTwo.TheVariants.{Signal, Continue}
-use Rattle.front_profile.specs.declared.making.Making.{Making}
-use Rattle.front_profile.specs.declared.making.Making.TheVariants.{OfTwo, CallOf, CallOfValue, CallOfLocal, CallOfPrimitive}
+use Rattle.front_profile.specs.declared.elaboration.Elaboration.{Elaboration}
+use Rattle.front_profile.specs.declared.elaboration.Elaboration.TheVariants.{OfTwo, CallOf, CallOfValue, CallOfLocal, CallOfPrimitive}
 use Rattle.front_profile.specs.Primitives.{primitive_named, taking, primitive_called}
-use Rattle.front_profile.specs.Nodes.{Around}
-use Rattle.front_profile.specs.Makings.{forms_found, make_two, make, finish}
+use Rattle.front_profile.specs.Nodes.{StaticContext}
+use Rattle.front_profile.specs.Elaborations.{forms_found, make_two, elaborate, finish}
 use Rattle.front_profile.specs.RowWords.{deeper, each_form}
 use Rattle.front_profile.specs.CallRows.{all_parts, local_call, named_making, is_value_call, is_pair_call, call_making, named_call}
 use Rattle.front_profile.specs.Definitions.{Definitions, defined}
@@ -37,33 +37,33 @@ use Rattle.front_profile.proofs.Wanted.{spots, AptAt, Stage}
 use Rattle.front_profile.proofs.Apt.{apt_within, apt_made, plain_parts, forms_apt}
 
 -- a call of so many parts, as it is made
-pub data IsCall : Making → ℕ → Type 0 where
+pub data IsCall : Elaboration → ℕ → Type 0 where
   of_name : (n : Name) (count : ℕ) → IsCall (CallOf n) count
   of_value : (count : ℕ) → 1 ≤ count → IsCall CallOfValue count
   of_two : (k : OverTwo) (count : ℕ) → count ≡ 2 → IsCall (OfTwo k) count
   of_primitive : (p : Primitive) (count : ℕ) → count ≡ arity p → IsCall (CallOfPrimitive p) count
 
-made_of_two : (g : Definitions) (a : Around) (k : OverTwo) (fs : List Form) → a.spot.depth + 1 ≤ 1000 → length fs ≡ 2 → AllOf (RightIn g (scope_of a) (a.spot.depth + 1)) fs
+made_of_two : (g : Definitions) (a : StaticContext) (k : OverTwo) (fs : List Form) → a.spot.depth + 1 ≤ 1000 → length fs ≡ 2 → AllOf (RightIn g (scope_of a) (a.spot.depth + 1)) fs
     → RightAt g a (make_two k fs)
 made_of_two g a k [] l e r = absurd (omega (arith, e))
 made_of_two g a k (f ∷ []) l e r = absurd (omega (arith, e))
 made_of_two g a k (f ∷ h ∷ fs) l e r = made_two g (scope_of a) a.spot.depth k f h l r.0 r.1.0
 
-found_call : (g : Definitions) (a i : Around) (m : Making) (ds : List Item) (rs : List Found) → IsCall m (length ds) → a.spot.depth + 1 ≤ 1000
-    → AllMatch (spots g (deeper 1 a) i rs) (each_form ds) rs → RightAt g a (make m rs)
+found_call : (g : Definitions) (a i : StaticContext) (m : Elaboration) (ds : List Item) (rs : List ElaboratedPart) → IsCall m (length ds) → a.spot.depth + 1 ≤ 1000
+    → AllMatch (spots g (deeper 1 a) i rs) (each_form ds) rs → RightAt g a (elaborate m rs)
 found_call g a i m ds rs c l x =
     let right : AllOf (RightIn g (scope_of a) (a.spot.depth + 1)) (forms_found rs) = forms_match (spots g (deeper 1 a) i rs) ds rs x in
     let many : length (forms_found rs) ≡ length ds = forms_as_many (spots g (deeper 1 a) i rs) ds rs x in
     by_call m (length ds) c right many
   where
-    by_call : (m : Making) (count : ℕ) → IsCall m count → AllOf (RightIn g (scope_of a) (a.spot.depth + 1)) (forms_found rs) → length (forms_found rs) ≡ count
-        → RightAt g a (make m rs)
+    by_call : (m : Elaboration) (count : ℕ) → IsCall m count → AllOf (RightIn g (scope_of a) (a.spot.depth + 1)) (forms_found rs) → length (forms_found rs) ≡ count
+        → RightAt g a (elaborate m rs)
     by_call m count (of_name n k) r e = made_call g (scope_of a) a.spot.depth n.0 (forms_found rs) l r
     by_call m count (of_value k h) r e = made_call_value g (scope_of a) a.spot.depth (forms_found rs) l (omega (arith, e, h)) r
     by_call m count (of_two t k h) r e = made_of_two g a t (forms_found rs) l (e ∙ h) r
     by_call m count (of_primitive p k h) r e = made_prim g (scope_of a) a.spot.depth p (forms_found rs) l (e ∙ h) r
 
-call_ends : (m : Making) (count : ℕ) → IsCall m count → (u : Tables) (rs : List Found) → defined (finish m rs u) ≡ defined u
+call_ends : (m : Elaboration) (count : ℕ) → IsCall m count → (u : Tables) (rs : List ElaboratedPart) → defined (finish m rs u) ≡ defined u
 call_ends m count (of_name n k) u rs = refl
 call_ends m count (of_value k h) u rs = refl
 call_ends m count (of_two t k h) u rs = refl
@@ -78,22 +78,22 @@ two_counted k (f ∷ h ∷ []) e = two_more (all_nodes f) (all_nodes h) _ (two_n
     two_more n m k h = omega (arith, h)
 two_counted k (f ∷ h ∷ g ∷ fs) e = absurd (omega (arith, e))
 
-counted_call : (m : Making) (count : ℕ) (rs : List Found) → IsCall m count → length (forms_found rs) ≡ count → nodes_in (forms_found rs) + 1 ≤ all_nodes (make m rs)
+counted_call : (m : Elaboration) (count : ℕ) (rs : List ElaboratedPart) → IsCall m count → length (forms_found rs) ≡ count → nodes_in (forms_found rs) + 1 ≤ all_nodes (elaborate m rs)
 counted_call m count rs (of_name n k) e = call_nodes n.0 (forms_found rs)
 counted_call m count rs (of_value k h) e = call_value_nodes (forms_found rs)
 counted_call m count rs (of_two t k h) e = two_counted t (forms_found rs) (e ∙ h)
 counted_call m count rs (of_primitive p k h) e = prim_nodes p (forms_found rs)
 
-call_counted : (p : Spots) (m : Making) (ds : List Item) (rs : List Found) → IsCall m (length ds) → AllMatch p (each_form ds) rs → found_nodes rs + 1 ≤ all_nodes (make m rs)
+call_counted : (p : Spots) (m : Elaboration) (ds : List Item) (rs : List ElaboratedPart) → IsCall m (length ds) → AllMatch p (each_form ds) rs → found_nodes rs + 1 ≤ all_nodes (elaborate m rs)
 call_counted p m ds rs c x = enough_nodes _ _ _ (forms_counted p (each_form ds) rs x (forms_plain ds)) (counted_call m (length ds) rs c (forms_as_many p ds rs x))
 
-call_own : (g h : Definitions) (m : Making) (count : ℕ) (rs : List Found) → IsCall m count → OwnNumbers g h m rs
+call_own : (g h : Definitions) (m : Elaboration) (count : ℕ) (rs : List ElaboratedPart) → IsCall m count → OwnNumbers g h m rs
 call_own g h m count rs (of_name n k) = tt
 call_own g h m count rs (of_value k l) = tt
 call_own g h m count rs (of_two t k l) = tt
 call_own g h m count rs (of_primitive p k l) = tt
 
-pub apt_all_parts : (n : ℕ) (m : Making) (a : Around) (s : Tables) (p : Place) (ds : List Item) → Stage a s → AllOf (Good n) ds → IsCall m (length ds)
+pub apt_all_parts : (n : ℕ) (m : Elaboration) (a : StaticContext) (s : Tables) (p : Place) (ds : List Item) → Stage a s → AllOf (WellFormed n) ds → IsCall m (length ds)
     → AptAt n a s (all_parts m a s p ds)
 apt_all_parts n m a s p ds b g c =
     apt_within n a s 1 p _ (λ l. apt_made n a s (deeper 1 a) p s (each_form ds) m b
@@ -116,7 +116,7 @@ named_is_call : (n : Name) (count : ℕ) (o : Option Primitive) → ((p : Primit
 named_is_call n count None h = of_name n count
 named_is_call n count (Some p) h = of_primitive p count (h p refl)
 
-one_of_two : (b : Bool) (count : ℕ) (x y : Making) → (b ≡ true → IsCall x count) → IsCall y count → IsCall (if b then x else y) count
+one_of_two : (b : Bool) (count : ℕ) (x y : Elaboration) → (b ≡ true → IsCall x count) → IsCall y count → IsCall (if b then x else y) count
 one_of_two true count x y f h = f refl
 one_of_two false count x y f h = h
 
@@ -129,13 +129,13 @@ call_is n text count =
     (λ e. of_two Continue count (eqb-true count 2 (and_parts (bytes_eq text (codes "continue-condition")) (nat_eq count 2) e).1))
     (named_is_call n count (primitive_called text count) (primitive_taken (primitive_named text) count))))
 
-pub apt_named_call : (n : ℕ) (name : Name) (text : List ℕ) (a : Around) (s : Tables) (p : Place) (ds : List Item) → Stage a s → AllOf (Good n) ds
+pub apt_named_call : (n : ℕ) (name : Name) (text : List ℕ) (a : StaticContext) (s : Tables) (p : Place) (ds : List Item) → Stage a s → AllOf (WellFormed n) ds
     → AptAt n a s (named_call name text a s p ds)
 apt_named_call n name text a s p ds b g = apt_all_parts n (call_making name text (length ds)) a s p ds b g (call_is name text (length ds))
 
 -- the call of a local function
 
-pub apt_local_call : (n v : ℕ) (a : Around) (s : Tables) (p : Place) (ds : List Item) → Stage a s → is_variable (scope_of a) v ≡ true → AllOf (Good n) ds
+pub apt_local_call : (n v : ℕ) (a : StaticContext) (s : Tables) (p : Place) (ds : List Item) → Stage a s → is_variable (scope_of a) v ≡ true → AllOf (WellFormed n) ds
     → AptAt n a s (local_call v a s p ds)
 apt_local_call n v a s p ds b e g =
     apt_within n a s 2 p _ (λ l. apt_made n a s (deeper 1 a) p s (each_form ds) (CallOfLocal v) b

@@ -7,8 +7,8 @@ use Rattle.std.proofs.lemmas.List.Folds.{list_any-append}
 use Rattle.std.proofs.lemmas.Map.Views.{any-filter_same}
 use Rattle.std.proofs.lemmas.Bool.{and_parts, and_from, or_left, or_right, or_cases}
 use Rattle.base.specs.AllOf.{AllOf, all_both}
-use Rattle.lang_meaning.specs.declared.part.Part.{Part}
-use Rattle.lang_meaning.specs.declared.part.Part.TheVariants as part
+use Rattle.lang_meaning.specs.declared.capture.Capture.{Capture}
+use Rattle.lang_meaning.specs.declared.capture.Capture.TheVariants as part
 use Rattle.lang_meaning.specs.declared.scope.LexicalScope.{LexicalScope}
 use Rattle.lang_meaning.specs.Form.{Form}
 use Rattle.lang_meaning.specs.Mentions.{same_part, comes_before, is_next, in_order, owns, mentions}
@@ -16,28 +16,28 @@ use Rattle.lang_meaning.specs.Standing.{with_bound, is_variable, is_bound, seen,
 use Rattle.front_profile.specs.declared.bound.Bound.{Bound}
 use Rattle.front_profile.specs.declared.bound.Bound.TheVariants.{Variable, Function, Block, Tags}
 use Rattle.front_profile.specs.Names.{variable_part, exit_part, method_part, parts_around}
-use Rattle.front_profile.specs.Nodes.{Around}
+use Rattle.front_profile.specs.Nodes.{StaticContext}
 use Rattle.front_profile.specs.Scopes.{Provides, MentionsWithin}
 use Rattle.front_profile.specs.Definitions.{Definitions}
-use Rattle.front_profile.specs.Places.{variables_around, exit_at, exit_numbers, exit_of, exits_around, scope_of, Rises, GoodAround}
+use Rattle.front_profile.specs.Places.{variables_around, exit_at, exit_numbers, exit_of, exits_around, scope_of, Rises, WellFormedContext}
 use Rattle.front_profile.proofs.Tests.{all_more}
 use Rattle.front_profile.proofs.Enough.{enough, seen_variables, exit_some, exit_kept, no_exit, no_method}
 use Rattle.front_profile.proofs.Places.{any_front, any_behind}
 
 -- parts in their order
 
-abbrev After : Part → List Part → Type 0
+abbrev After : Capture → List Capture → Type 0
 After p ps = AllOf (λ q. comes_before p q ≡ true) ps
 
-abbrev Ordered : List Part → Type 0
+abbrev Ordered : List Capture → Type 0
 Ordered [] = Unit {0}
 Ordered (p ∷ ps) = After p ps × Ordered ps
 
-next_after : (p : Part) (ps : List Part) → After p ps → is_next p ps ≡ true
+next_after : (p : Capture) (ps : List Capture) → After p ps → is_next p ps ≡ true
 next_after p [] h = refl
 next_after p (q ∷ qs) h = h.0
 
-ordered_in_order : (ps : List Part) → Ordered ps → in_order ps ≡ true
+ordered_in_order : (ps : List Capture) → Ordered ps → in_order ps ≡ true
 ordered_in_order [] h = refl
 ordered_in_order (p ∷ ps) h = and_from _ _ (next_after p ps h.0) (ordered_in_order ps h.1)
 
@@ -51,15 +51,15 @@ pub each_kept : {X : Type 0} (P : X → Type 0) (q : X → Bool) (xs : List X) �
 each_kept P q [] e = tt
 each_kept P q (x ∷ xs) e = each_if P (q x) x (filter q xs) e.0 (each_kept P q xs e.1)
 
-ordered_if : (b : Bool) (p : Part) (ps : List Part) → After p ps → Ordered ps → Ordered (if b then p ∷ ps else ps)
+ordered_if : (b : Bool) (p : Capture) (ps : List Capture) → After p ps → Ordered ps → Ordered (if b then p ∷ ps else ps)
 ordered_if true p ps h o = (h, o)
 ordered_if false p ps h o = o
 
-ordered_kept : (q : Part → Bool) (ps : List Part) → Ordered ps → Ordered (filter q ps)
+ordered_kept : (q : Capture → Bool) (ps : List Capture) → Ordered ps → Ordered (filter q ps)
 ordered_kept q [] o = tt
 ordered_kept q (p ∷ ps) o = ordered_if (q p) p (filter q ps) (each_kept _ q ps o.0) (ordered_kept q ps o.1)
 
-ordered_both : (ps qs : List Part) → Ordered ps → Ordered qs → AllOf (λ p. After p qs) ps → Ordered (ps ++ qs)
+ordered_both : (ps qs : List Capture) → Ordered ps → Ordered qs → AllOf (λ p. After p qs) ps → Ordered (ps ++ qs)
 ordered_both [] qs o r a = r
 ordered_both (p ∷ ps) qs o r a = (all_both _ ps qs o.0 a.0, ordered_both ps qs o.1 r a.1)
 
@@ -79,7 +79,7 @@ exit_parts (Function x v ∷ bs) = exit_parts bs
 exit_parts (Block x e ∷ bs) = ap (λ ps. part.Exit e ∷ ps) (exit_parts bs)
 exit_parts (Tags xs e ∷ bs) = ap (λ ps. part.Exit e ∷ ps) (exit_parts bs)
 
-abbrev parts_of : List ℕ → List ℕ → Bool → List Part
+abbrev parts_of : List ℕ → List ℕ → Bool → List Capture
 parts_of vs es m = map part.Variable vs ++ (map part.Exit es ++ method_part m)
 
 pub parts_numbered : (bs : List Bound) (m : Bool) → parts_around bs m ≡ parts_of (variables_around bs) (exit_numbers bs) m
@@ -132,7 +132,7 @@ parts_ordered vs es m a b h k =
 
 -- they are bound there
 
-abbrev captured : Form → Around → List Part
+abbrev captured : Form → StaticContext → List Capture
 captured body a = filter (λ p. mentions p body) (parts_around a.bound a.spot.in_method)
 
 all_variables_bound : (s : LexicalScope) (vs : List ℕ) → ((v : ℕ) → list_any (λ w. v == w) vs ≡ true → is_variable s v ≡ true)
@@ -182,7 +182,7 @@ number_of_exit e (b ∷ bs) h =
     (λ k. any_front (λ w. e == w) (exit_at b) (exit_numbers bs) (exit_number_at e b k))
     (any_cases (λ x. e == x.exit) (exits_around bs) (exit_of b) h)
 
-parts_bound : (a : Around) → list_all (is_bound (scope_of a)) (parts_around a.bound a.spot.in_method) ≡ true
+parts_bound : (a : StaticContext) → list_all (is_bound (scope_of a)) (parts_around a.bound a.spot.in_method) ≡ true
 parts_bound a =
     rw (parts_numbered a.bound a.spot.in_method)
     (all_append (is_bound (scope_of a)) (map part.Variable (variables_around a.bound)) _
@@ -207,28 +207,28 @@ method_among : (m : Bool) → m ≡ true → list_any (same_part part.Method) (m
 method_among true e = refl
 method_among false e = absurd (cc e)
 
-abbrev around_parts : Around → List Part
+abbrev around_parts : StaticContext → List Capture
 around_parts a = parts_around a.bound a.spot.in_method
 
-numbered_among : (a : Around) (p : Part) → list_any (same_part p) (parts_of (variables_around a.bound) (exit_numbers a.bound) a.spot.in_method) ≡ true
+numbered_among : (a : StaticContext) (p : Capture) → list_any (same_part p) (parts_of (variables_around a.bound) (exit_numbers a.bound) a.spot.in_method) ≡ true
     → list_any (same_part p) (around_parts a) ≡ true
 numbered_among a p h = ap (list_any (same_part p)) (parts_numbered a.bound a.spot.in_method) ∙ h
 
-variable_around : (a : Around) (v : ℕ) → is_variable (scope_of a) v ≡ true → list_any (same_part (part.Variable v)) (around_parts a) ≡ true
+variable_around : (a : StaticContext) (v : ℕ) → is_variable (scope_of a) v ≡ true → list_any (same_part (part.Variable v)) (around_parts a) ≡ true
 variable_around a v h =
     numbered_among a (part.Variable v) (any_front _ (map part.Variable (variables_around a.bound)) _ (variable_among v (variables_around a.bound) h))
 
-exit_around_part : (a : Around) (e : ℕ) → list_any (λ x. e == x.exit) (exits_around a.bound) ≡ true → list_any (same_part (part.Exit e)) (around_parts a) ≡ true
+exit_around_part : (a : StaticContext) (e : ℕ) → list_any (λ x. e == x.exit) (exits_around a.bound) ≡ true → list_any (same_part (part.Exit e)) (around_parts a) ≡ true
 exit_around_part a e h =
     numbered_among a (part.Exit e) (any_behind _ (map part.Variable (variables_around a.bound)) _
     (any_front _ (map part.Exit (exit_numbers a.bound)) (method_part a.spot.in_method) (exit_among e (exit_numbers a.bound) (number_of_exit e a.bound h))))
 
-method_around : (a : Around) → a.spot.in_method ≡ true → list_any (same_part part.Method) (around_parts a) ≡ true
+method_around : (a : StaticContext) → a.spot.in_method ≡ true → list_any (same_part part.Method) (around_parts a) ≡ true
 method_around a h =
     numbered_among a part.Method (any_behind _ (map part.Variable (variables_around a.bound)) _
     (any_behind _ (map part.Exit (exit_numbers a.bound)) (method_part a.spot.in_method) (method_among a.spot.in_method h)))
 
-equal_parts : (p q : Part) → same_part p q ≡ true → p ≡ q
+equal_parts : (p q : Capture) → same_part p q ≡ true → p ≡ q
 equal_parts (part.Variable v) (part.Variable w) h = ap part.Variable (eqb-true v w h)
 equal_parts (part.Variable v) (part.Exit x) h = absurd (cc h)
 equal_parts (part.Variable v) part.Method h = absurd (cc h)
@@ -240,7 +240,7 @@ equal_parts part.Method (part.Exit x) h = absurd (cc h)
 equal_parts part.Method part.Method h = refl
 
 -- what is mentioned of it is captured
-captured_among : (body : Form) (a : Around) (p : Part) → mentions p body ≡ true → list_any (same_part p) (around_parts a) ≡ true
+captured_among : (body : Form) (a : StaticContext) (p : Capture) → mentions p body ≡ true → list_any (same_part p) (around_parts a) ≡ true
     → list_any (same_part p) (captured body a) ≡ true
 captured_among body a p m h =
     any-filter_same (same_part p) (λ q. mentions q body) (mentions p body)
@@ -254,10 +254,10 @@ kept_variable : (v : ℕ) (vs ws us : List ℕ) → (list_any (λ w. v == w) ws 
 kept_variable v vs ws us f h =
     ⊎_elim (λ k. any_front (λ w. v == w) vs us k) (λ k. any_behind (λ w. v == w) vs us (f k)) (any_cases (λ w. v == w) vs ws h)
 
-seen_enough : (body : Form) (a : Around) (vs : List ℕ) → MentionsWithin body (with_bound vs (scope_of a)) (with_bound vs (seen (captured body a) (scope_of a)))
+seen_enough : (body : Form) (a : StaticContext) (vs : List ℕ) → MentionsWithin body (with_bound vs (scope_of a)) (with_bound vs (seen (captured body a) (scope_of a)))
 seen_enough body a vs = record { provides = provides }
   where
-    provides : (p : Part) → mentions p body ≡ true → Provides (with_bound vs (scope_of a)) (with_bound vs (seen (captured body a) (scope_of a))) p
+    provides : (p : Capture) → mentions p body ≡ true → Provides (with_bound vs (scope_of a)) (with_bound vs (seen (captured body a) (scope_of a))) p
     provides (part.Variable v) m =
         kept_variable v vs (variables_around a.bound) (seen (captured body a) (scope_of a)).variables
         (λ h. seen_variables (captured body a) (scope_of a) v ∙ and_from _ _ (captured_among body a (part.Variable v) m (variable_around a v h)) h)
@@ -289,7 +289,7 @@ no_method_owned : (vs : List ℕ) (m : Bool) → list_all (λ p. not (owns vs p)
 no_method_owned vs true = and_from _ _ (ap not (no_method vs)) refl
 no_method_owned vs false = refl
 
-none_owned : (g : Definitions) (a : Around) (vs : List ℕ) → GoodAround g a → AllOf (λ v. g.variables ≤ v) vs → list_all (λ p. not (owns vs p)) (around_parts a) ≡ true
+none_owned : (g : Definitions) (a : StaticContext) (vs : List ℕ) → WellFormedContext g a → AllOf (λ v. g.variables ≤ v) vs → list_all (λ p. not (owns vs p)) (around_parts a) ≡ true
 none_owned g a vs o e =
     ap (list_all (λ p. not (owns vs p))) (parts_numbered a.bound a.spot.in_method)
     ∙ all_append _ (map part.Variable (variables_around a.bound)) _ (not_owned vs (variables_around a.bound) 0 g.variables e o.variables)
@@ -309,11 +309,11 @@ also_kept : {X : Type 0} (r q : X → Bool) (xs : List X) → list_all r xs ≡ 
 also_kept r q xs h = all_more (λ y. r y && q y) r (λ y e. (and_parts (r y) (q y) e).0) (filter q xs) (all_kept r q xs h)
 
 -- a function captures what it has to
-pub record IsCaptured (s : LexicalScope) (vs : List ℕ) (body : Form) (parts : List Part) : Type 0 where
+pub record IsCaptured (s : LexicalScope) (vs : List ℕ) (body : Form) (parts : List Capture) : Type 0 where
   pub captured : are_captured s vs body parts ≡ true
   pub stands : stands (with_bound vs (seen parts s)) body ≡ true
 
-pub is_captured : (g : Definitions) (a : Around) (vs : List ℕ) (body : Form) → GoodAround g a → AllOf (λ v. g.variables ≤ v) vs
+pub is_captured : (g : Definitions) (a : StaticContext) (vs : List ℕ) (body : Form) → WellFormedContext g a → AllOf (λ v. g.variables ≤ v) vs
     → stands (with_bound vs (scope_of a)) body ≡ true → IsCaptured (scope_of a) vs body (filter (λ p. mentions p body) (parts_around a.bound a.spot.in_method))
 is_captured g a vs body o e h = record {
   captured = and_from _ _

@@ -10,7 +10,7 @@ use Rattle.base.specs.declared.datum.Name.{Name}
 use Rattle.base.specs.Data.{Item}
 use Rattle.base.specs.DataFormed.{formed_tells}
 use Rattle.base.specs.AllOf.{AllOf, all_both}
-use Rattle.base.specs.GoodData.{Good}
+use Rattle.base.specs.WellFormedData.{WellFormed}
 use Rattle.lang_meaning.specs.declared.program.ClassRow.{ClassRow}
 use Rattle.lang_meaning.specs.declared.program.GenericRow.{GenericRow}
 use Rattle.lang_meaning.specs.declared.program.FunctionRow.{FunctionRow}
@@ -20,10 +20,10 @@ use Rattle.lang_classes.specs.InheritedSlots.{same_name, each_first}
 use Rattle.lang_classes.specs.InheritedClasses.{Hierarchy, IsHierarchy, GivenSlot, slots_given, class_named, inherited_names, slot_limit, with_class}
 use Rattle.lang_derived.specs.Asked.{list_items}
 use Rattle.front_profile.specs.declared.tables.Tables.{Tables}
-use Rattle.front_profile.specs.declared.making.NewClass.{NewClass}
-use Rattle.front_profile.specs.Nodes.{Around, Part}
+use Rattle.front_profile.specs.declared.elaboration.NewClass.{NewClass}
+use Rattle.front_profile.specs.Nodes.{StaticContext, Part}
 use Rattle.front_profile.specs.Shapes.{symbol_of}
-use Rattle.front_profile.specs.Makings.{generic_named, with_new_class, with_slot_functions, finish_class}
+use Rattle.front_profile.specs.Elaborations.{generic_named, with_new_class, with_slot_functions, finish_class}
 use Rattle.front_profile.specs.DefiningRows.{named, has_function, is_of_prelude, is_truth}
 use Rattle.front_profile.specs.GivenNames.{no_name, unfit, lacking, given}
 use Rattle.front_profile.specs.ClassShapes.{WrittenSlot, slots_in, WrittenSuper, supers_in, ClassOption, class_options, are_options, is_of_left_out, is_abstract}
@@ -38,7 +38,7 @@ use Rattle.front_profile.proofs.ValueRows.{class_there}
 use Rattle.front_profile.proofs.MethodViews.{AllRight}
 use Rattle.front_profile.proofs.Methods.{Joined, joined_then}
 use Rattle.front_profile.proofs.GenericRows.{unless_functions}
-use Rattle.front_profile.proofs.Joining.{IsFunction, AllFunctions, Joins, FunctionsCame, WhereSound, where_test, where_within, where_defining, apt_joining}
+use Rattle.front_profile.proofs.Joining.{IsFunctionPart, AllFunctions, Joins, FunctionsCame, WhereSound, where_test, where_within, where_defining, apt_joining}
 use Rattle.front_profile.proofs.Slots.{MaybeSlots, named_slots, AllGiven, all_given, RightSlots, right_slots, names_of_specs, FunctionsMade, functions_made, slots_fit}
 use Rattle.front_profile.proofs.Accessors.{found, found_named, found_none, found_some, MaybeReady, IsReady, functions_joined}
 use Rattle.front_profile.specs.Known.{methods_there, KnownTables}
@@ -56,7 +56,7 @@ part_functions x (for_method (given n) k) = (refl, tt)
 
 all_part_functions : (x : WrittenSlot) (fs : List Function) → AllFunctions (flat_map (part_of x) fs)
 all_part_functions x [] = tt
-all_part_functions x (f ∷ fs) = all_both IsFunction (part_of x f) (flat_map (part_of x) fs) (part_functions x f) (all_part_functions x fs)
+all_part_functions x (f ∷ fs) = all_both IsFunctionPart (part_of x f) (flat_map (part_of x) fs) (part_functions x f) (all_part_functions x fs)
 
 chosen_functions : (b : Bool) (xs ys : List Part) → AllFunctions xs → AllFunctions ys → AllFunctions (if b then xs else ys)
 chosen_functions true xs ys f g = f
@@ -66,7 +66,7 @@ slot_part_functions : (inherited earlier : List Name) (xs : List WrittenSlot) �
 slot_part_functions inherited earlier [] = tt
 slot_part_functions inherited earlier (x ∷ xs) =
     chosen_functions (has_wrong_options x || is_wrong x.name earlier (each_first (inherited ++ earlier))) _ _ (tt, tt)
-    (all_both IsFunction (flat_map (part_of x) (functions_of x)) (slot_parts inherited (earlier ++ x.name ∷ []) xs)
+    (all_both IsFunctionPart (flat_map (part_of x) (functions_of x)) (slot_parts inherited (earlier ++ x.name ∷ []) xs)
     (all_part_functions x (functions_of x)) (slot_part_functions inherited (earlier ++ x.name ∷ []) xs))
 
 pub class_functions : (s : Tables) (cs : List WrittenSuper) (xs : List WrittenSlot) → AllFunctions (class_parts s cs xs)
@@ -127,7 +127,7 @@ found_there k n (y ∷ gs) x h e =
     by_test true more h e = let same : y ≡ x = cc e in ap (methods_there k) (sym same) ∙ h
     by_test false more h e = more e
 
-use_ready : (names : List (List ℕ)) (a : Around) (s : Tables) (u : Use) (o : Option ℕ) → KnownTables s → generic_named s.generics u.name ≡ o
+use_ready : (names : List (List ℕ)) (a : StaticContext) (s : Tables) (u : Use) (o : Option ℕ) → KnownTables s → generic_named s.generics u.name ≡ o
     → is_of_function a s u ≡ false → is_kept_name names a s u ≡ false → fits_generic s u ≡ true → IsReady (length s.classes.rows) s u
 use_ready names a s u None w e f k t =
     let free : has_function s u.name ≡ false =
@@ -147,7 +147,7 @@ use_ready names a s u (Some i) w e f k t = by_found (found u.name s.generics) re
           below = found_there (length s.classes.rows) u.name s.generics x w.there q;
         }
 
-uses_ready : (names : List (List ℕ)) (a : Around) (s : Tables) (us : List Use) → KnownTables s → list_any (is_of_function a s) us ≡ false
+uses_ready : (names : List (List ℕ)) (a : StaticContext) (s : Tables) (us : List Use) → KnownTables s → list_any (is_of_function a s) us ≡ false
     → list_any (is_kept_name names a s) us ≡ false → list_all (fits_generic s) us ≡ true → AllOf (IsReady (length s.classes.rows) s) us
 uses_ready names a s [] w f k t = tt
 uses_ready names a s (u ∷ us) w f k t =
@@ -213,7 +213,7 @@ pub record Judged (s : Tables) (n : Name) (cs : List WrittenSuper) (xs : List Wr
   pub differ : names_differ (uses xs) ≡ true
 
 -- what its tests say of it, one after another
-pub judged : (names : List (List ℕ)) (a : Around) (s : Tables) (n : Name) (cs : List WrittenSuper) (xs : List WrittenSlot) → KnownTables s → MaybeSlots (Some xs)
+pub judged : (names : List (List ℕ)) (a : StaticContext) (s : Tables) (n : Name) (cs : List WrittenSuper) (xs : List WrittenSlot) → KnownTables s → MaybeSlots (Some xs)
     → list_any is_lacking (all_functions xs) ≡ false → (is_taken_class a s n || list_any (is_of_function a s) (uses xs)) ≡ false
     → (is_reserved_class a s n || list_any (is_kept_name names a s) (uses xs)) ≡ false → not (are_supers s cs) ≡ false → not (few_inherited s cs) ≡ false
     → (list_all (fits_generic s) (uses xs) && names_differ (uses xs)) ≡ true → Judged s n cs xs
@@ -281,14 +281,14 @@ class_finished rules s n cs xs b of_file u w j c =
 
 -- the row
 
-class_made_apt : (rules : ClassRules) (n : ℕ) (a : Around) (s : Tables) (d : Item) (name : Name) (cs : List WrittenSuper) (xs : List WrittenSlot) (os : List ClassOption) → Stage a s
-    → Good n d → a.spot.top ≡ true → a.spot.depth + 1 ≤ 1000 → Judged s name cs xs → WhereSound n a s (class_made a s d name cs xs os)
+class_made_apt : (rules : ClassRules) (n : ℕ) (a : StaticContext) (s : Tables) (d : Item) (name : Name) (cs : List WrittenSuper) (xs : List WrittenSlot) (os : List ClassOption) → Stage a s
+    → WellFormed n d → a.spot.top ≡ true → a.spot.depth + 1 ≤ 1000 → Judged s name cs xs → WhereSound n a s (class_made a s d name cs xs os)
 class_made_apt rules n a s d name cs xs os b g top l j =
     apt_joining n a s d (class_parts s cs xs) _ b (formed_tells d g.formed) top l (class_functions s cs xs) (λ rs. refl)
     (λ u rs c. class_finished rules s name cs xs (is_abstract os) a.spot.sited u b.whole j c)
 
-class_of_apt : (rules : ClassRules) (names : List (List ℕ)) (n : ℕ) (a : Around) (s : Tables) (p : Place) (d : Item) (name : Name) (cs : List WrittenSuper) (xs : List WrittenSlot) (os : List ClassOption)
-    → Stage a s → Good n d → MaybeSlots (Some xs) → WhereSound n a s (class_of names a s p d name cs xs os)
+class_of_apt : (rules : ClassRules) (names : List (List ℕ)) (n : ℕ) (a : StaticContext) (s : Tables) (p : Place) (d : Item) (name : Name) (cs : List WrittenSuper) (xs : List WrittenSlot) (os : List ClassOption)
+    → Stage a s → WellFormed n d → MaybeSlots (Some xs) → WhereSound n a s (class_of names a s p d name cs xs os)
 class_of_apt rules names n a s p d name cs xs os b g named =
     where_test n a s (list_any is_lacking (all_functions xs)) _ _ (λ e q. tt) (λ given.
     where_defining n a s p a.spot.top (is_taken_class a s name || list_any (is_of_function a s) (uses xs))
@@ -300,15 +300,15 @@ class_of_apt rules names n a s p d name cs xs os b g named =
     where_test n a s (list_all (fits_generic s) (uses xs) && names_differ (uses xs)) _ _ (λ fit.
     class_made_apt rules n a s d name cs xs os b g top l (judged names a s name cs xs (sound_known s b.whole) named given taken reserved supers few fit)) (λ f q. tt)))))))
 
-class_shaped_apt : (rules : ClassRules) (names : List (List ℕ)) (n : ℕ) (a : Around) (s : Tables) (p : Place) (d : Item) (name : Option Name) (cs : Option (List WrittenSuper)) (xs : Option (List WrittenSlot)) (os : List ClassOption)
-    → Stage a s → Good n d → MaybeSlots xs → WhereSound n a s (class_shaped names a s p d name cs xs os)
+class_shaped_apt : (rules : ClassRules) (names : List (List ℕ)) (n : ℕ) (a : StaticContext) (s : Tables) (p : Place) (d : Item) (name : Option Name) (cs : Option (List WrittenSuper)) (xs : Option (List WrittenSlot)) (os : List ClassOption)
+    → Stage a s → WellFormed n d → MaybeSlots xs → WhereSound n a s (class_shaped names a s p d name cs xs os)
 class_shaped_apt rules names n a s p d None cs xs os b g m = λ q. tt
 class_shaped_apt rules names n a s p d (Some name) None xs os b g m = λ q. tt
 class_shaped_apt rules names n a s p d (Some name) (Some cs) None os b g m = λ q. tt
 class_shaped_apt rules names n a s p d (Some name) (Some cs) (Some xs) os b g m =
     where_test n a s (are_options os) _ _ (λ e. class_of_apt rules names n a s p d name cs xs os b g m) (λ e q. tt)
 
-defclass_apt : (rules : ClassRules) (names : List (List ℕ)) (n : ℕ) (a : Around) (s : Tables) (p : Place) (ds : List Item) → Stage a s → AllOf (Good n) ds
+defclass_apt : (rules : ClassRules) (names : List (List ℕ)) (n : ℕ) (a : StaticContext) (s : Tables) (p : Place) (ds : List Item) → Stage a s → AllOf (WellFormed n) ds
     → WhereSound n a s (defclass_row names a s p ds)
 defclass_apt rules names n a s p [] b g = λ q. tt
 defclass_apt rules names n a s p (d ∷ []) b g = λ q. tt
@@ -317,6 +317,6 @@ defclass_apt rules names n a s p (d ∷ cs ∷ xs ∷ os) b g =
     class_shaped_apt rules names n a s p d (named (symbol_of d)) (supers_in (list_items cs)) (slots_in names (list_items xs)) (class_options names os) b g.0
     (named_slots names (list_items xs))
 
-pub apt_defclass : (rules : ClassRules) (names : List (List ℕ)) (n : ℕ) (a : Around) (s : Tables) (p : Place) (ds : List Item) → Stage a s → AllOf (Good n) ds
+pub apt_defclass : (rules : ClassRules) (names : List (List ℕ)) (n : ℕ) (a : StaticContext) (s : Tables) (p : Place) (ds : List Item) → Stage a s → AllOf (WellFormed n) ds
     → AptAt n a s (defclass_row names a s p ds)
 apt_defclass rules names n a s p ds b g = defclass_apt rules names n a s p ds b g (sound_defclass names n a s p ds g)

@@ -9,7 +9,7 @@ use Rattle.base.specs.declared.datum.Name.{Name}
 use Rattle.base.specs.Data.{Item}
 use Rattle.base.specs.DataFormed.{is_formed, formed_tells}
 use Rattle.base.specs.AllOf.{AllOf}
-use Rattle.base.specs.GoodData.{Good}
+use Rattle.base.specs.WellFormedData.{WellFormed}
 use Rattle.base.specs.Names.{slice_get-behind, slice_get-push}
 use Rattle.lang_meaning.specs.declared.program.GenericRow.{GenericRow}
 use Rattle.lang_meaning.specs.declared.program.FunctionRow.{FunctionRow}
@@ -24,16 +24,16 @@ use Rattle.lang_meaning.specs.Facts.{same_name, callee_fits}
 use Rattle.lang_meaning.specs.ProgramCounts.{procedure_nodes}
 use Rattle.front_profile.specs.declared.tables.Tables.{Tables}
 use Rattle.front_profile.specs.declared.parameters.Parameters.{Parameters}
-use Rattle.front_profile.specs.declared.making.One.TheVariants.{DefineGlobal, DefineDynamic}
-use Rattle.front_profile.specs.Nodes.{Around, Part, Node}
-use Rattle.front_profile.specs.Makings.{leaf_form, forms_found, procedure_found}
+use Rattle.front_profile.specs.declared.elaboration.One.TheVariants.{DefineGlobal, DefineDynamic}
+use Rattle.front_profile.specs.Nodes.{StaticContext, Part, Node}
+use Rattle.front_profile.specs.Elaborations.{leaf_form, forms_found, procedure_found}
 use Rattle.front_profile.specs.Shapes.{symbol_of, parameters_in, all_symbols}
 use Rattle.front_profile.specs.RowWords.{each_parameter, each_inner, alone}
 use Rattle.front_profile.specs.FunctionNodes.{function_parts}
 use Rattle.front_profile.specs.DefiningRows.{named, is_that, has_global, has_dynamic, global_variable, dynamic_variable, is_set, is_of_prelude, has_function, is_taken, is_truth, is_reserved, defining_offence, unless_offending, global_as, global_row, defdynamic_as, defdynamic_row, with_name, named_form, defun_of, defun_with, defun_as, defun_row}
 use Rattle.front_profile.specs.Definitions.{Definitions, defined, rows_of, Later, Undefined, has_function as has_row, SoundDefinitions, EachStands}
 use Rattle.front_profile.specs.Places.{scope_of}
-use Rattle.front_profile.specs.Right.{RightIn, Counted}
+use Rattle.front_profile.specs.Right.{RightIn, NodesCounted}
 use Rattle.front_profile.proofs.Tests.{all_more}
 use Rattle.front_profile.proofs.Definitions.{Entered, entered_same, entered_literal, later_then, literals_later, procedures_later, own_later, generics_later, functions_later, callee_fits_later, mains_later, each_stands_same, all_push, counted_same, counted_then}
 use Rattle.front_profile.proofs.Procedures.{all_low}
@@ -52,7 +52,7 @@ use Rattle.front_profile.proofs.BinderRows.{found_parameters, function_apt}
 
 -- where nothing offends
 
-pub where_no_offence : (n : ℕ) (a : Around) (s : Tables) (p : Place) (top taken reserved : Bool) (x : Node) → (top ≡ true → taken ≡ false → reserved ≡ false → AptAt n a s x)
+pub where_no_offence : (n : ℕ) (a : StaticContext) (s : Tables) (p : Place) (top taken reserved : Bool) (x : Node) → (top ≡ true → taken ≡ false → reserved ≡ false → AptAt n a s x)
     → AptAt n a s (unless_offending p (defining_offence top taken reserved) x)
 where_no_offence n a s p top true reserved x h = tt
 where_no_offence n a s p false false reserved x h = tt
@@ -61,25 +61,25 @@ where_no_offence n a s p true false false x h = h refl refl refl
 
 -- variables
 
-apt_global_as : (n : ℕ) (constant : Bool) (a : Around) (s : Tables) (p : Place) (name : Option Name) (x : Item) → Stage a s → Good n x
+apt_global_as : (n : ℕ) (constant : Bool) (a : StaticContext) (s : Tables) (p : Place) (name : Option Name) (x : Item) → Stage a s → WellFormed n x
     → AptAt n a s (global_as constant a s p name x)
 apt_global_as n constant a s p None x b g = tt
 apt_global_as n constant a s p (Some name) x b g =
     where_no_offence n a s p a.spot.top (has_global a.spot.sited s name) (is_truth a s name) _
     (λ t k r. apt_if n a s (constant && is_set s name) _ _ tt (apt_one n a p s (DefineGlobal (global_variable a name constant)) x b tt g))
 
-pub apt_global : (n : ℕ) (constant : Bool) (a : Around) (s : Tables) (p : Place) (ds : List Item) → Stage a s → AllOf (Good n) ds → AptAt n a s (global_row constant a s p ds)
+pub apt_global : (n : ℕ) (constant : Bool) (a : StaticContext) (s : Tables) (p : Place) (ds : List Item) → Stage a s → AllOf (WellFormed n) ds → AptAt n a s (global_row constant a s p ds)
 apt_global n constant a s p (d ∷ x ∷ []) b g = apt_global_as n constant a s p (named (symbol_of d)) x b g.1.0
 apt_global n constant a s p [] b g = tt
 apt_global n constant a s p (d ∷ []) b g = tt
 apt_global n constant a s p (d ∷ x ∷ e ∷ ds) b g = tt
 
-apt_defdynamic_as : (n : ℕ) (a : Around) (s : Tables) (p : Place) (name : Option Name) (x : Item) → Stage a s → Good n x → AptAt n a s (defdynamic_as a s p name x)
+apt_defdynamic_as : (n : ℕ) (a : StaticContext) (s : Tables) (p : Place) (name : Option Name) (x : Item) → Stage a s → WellFormed n x → AptAt n a s (defdynamic_as a s p name x)
 apt_defdynamic_as n a s p None x b g = tt
 apt_defdynamic_as n a s p (Some name) x b g =
     where_no_offence n a s p a.spot.top (has_dynamic a.spot.sited s name) (is_truth a s name) _ (λ t k r. apt_one n a p s (DefineDynamic (dynamic_variable a name)) x b tt g)
 
-pub apt_defdynamic : (n : ℕ) (a : Around) (s : Tables) (p : Place) (ds : List Item) → Stage a s → AllOf (Good n) ds → AptAt n a s (defdynamic_row a s p ds)
+pub apt_defdynamic : (n : ℕ) (a : StaticContext) (s : Tables) (p : Place) (ds : List Item) → Stage a s → AllOf (WellFormed n) ds → AptAt n a s (defdynamic_row a s p ds)
 apt_defdynamic n a s p (d ∷ x ∷ []) b g = apt_defdynamic_as n a s p (named (symbol_of d)) x b g.1.0
 apt_defdynamic n a s p [] b g = tt
 apt_defdynamic n a s p (d ∷ []) b g = tt
@@ -188,10 +188,10 @@ name_right true d s h t k l e = made_literal h t k (length s.literals) l (omega 
 name_right false d s h t k l e = made_body h t k [] l tt
 
 -- the sites of a body are counted by its procedure
-function_counted : (b : Bool) (x g : Definitions) (name : Name) (p : Procedure) (n k : ℕ) → n ≤ procedure_nodes p → Counted b x g n → Counted b x (with_both g name p) k
-function_counted b x g name p n k l c = let r : Counted b x (one_more g p) k = procedure_counted b x g p n k l c in record { sites = r.sites }
+function_counted : (b : Bool) (x g : Definitions) (name : Name) (p : Procedure) (n k : ℕ) → n ≤ procedure_nodes p → NodesCounted b x g n → NodesCounted b x (with_both g name p) k
+function_counted b x g name p n k l c = let r : NodesCounted b x (one_more g p) k = procedure_counted b x g p n k l c in record { sites = r.sites }
 
-pub name_counted : (b sited : Bool) (d : Item) (s : Tables) → Counted b (defined s) (defined (with_name sited d s)) 0
+pub name_counted : (b sited : Bool) (d : Item) (s : Tables) → NodesCounted b (defined s) (defined (with_name sited d s)) 0
 name_counted b true d s = record { sites = (counted_same b (defined s)).sites }
 name_counted b false d s = record { sites = (counted_same b (defined s)).sites }
 
@@ -199,10 +199,10 @@ pub name_numbered : (sited : Bool) (s : Tables) (h k : Definitions) → Numbered
 name_numbered true s h k = record { numbers = refl }
 name_numbered false s h k = record { numbers = refl }
 
-apt_defun_of : (n : ℕ) (a : Around) (s : Tables) (name : Name) (d : Item) (fs : List Item) (ps : Parameters) → Stage a s → Good n d → AllOf (Good n) fs
+apt_defun_of : (n : ℕ) (a : StaticContext) (s : Tables) (name : Name) (d : Item) (fs : List Item) (ps : Parameters) → Stage a s → WellFormed n d → AllOf (WellFormed n) fs
     → a.spot.top ≡ true → has_function s name ≡ false → a.spot.depth + 1 ≤ 1000 → AptAt n a s (defun_of a s name d fs ps)
 apt_defun_of n a s name d fs ps b h g top fresh l =
-    let i : Around = alone false a in
+    let i : StaticContext = alone false a in
     let t : Tables = with_name a.spot.sited d s in
     let xs : List Part = function_parts ps fs in
     let e : Entered (defined s) (defined t) = name_entered a.spot.sited d s b.whole (formed_tells d h.formed) in
@@ -239,12 +239,12 @@ apt_defun_of n a s name d fs ps b h g top fresh l =
       numbered = λ u rs c m. name_numbered a.spot.sited s _ _;
     }
 
-apt_defun_with : (n : ℕ) (a : Around) (s : Tables) (name : Name) (d l : Item) (fs : List Item) (ps : Option Parameters) → Stage a s → Good n d → AllOf (Good n) fs
+apt_defun_with : (n : ℕ) (a : StaticContext) (s : Tables) (name : Name) (d l : Item) (fs : List Item) (ps : Option Parameters) → Stage a s → WellFormed n d → AllOf (WellFormed n) fs
     → a.spot.top ≡ true → has_function s name ≡ false → a.spot.depth + 1 ≤ 1000 → AptAt n a s (defun_with a s name d l fs ps)
 apt_defun_with n a s name d l fs None b h g top fresh k = tt
 apt_defun_with n a s name d l fs (Some ps) b h g top fresh k = apt_defun_of n a s name d fs ps b h g top fresh k
 
-apt_defun_as : (n : ℕ) (kept : Bool) (a : Around) (s : Tables) (p : Place) (d l : Item) (fs : List Item) (name : Option Name) → Stage a s → Good n d → AllOf (Good n) fs
+apt_defun_as : (n : ℕ) (kept : Bool) (a : StaticContext) (s : Tables) (p : Place) (d l : Item) (fs : List Item) (name : Option Name) → Stage a s → WellFormed n d → AllOf (WellFormed n) fs
     → AptAt n a s (defun_as kept a s p d l fs name)
 apt_defun_as n kept a s p d l fs None b h g = tt
 apt_defun_as n kept a s p d l fs (Some name) b h g =
@@ -252,7 +252,7 @@ apt_defun_as n kept a s p d l fs (Some name) b h g =
     (λ t k r. apt_within n a s 1 p _ (apt_defun_with n a s name d l fs (parameters_in s.words l) b h g t
     (fresh_name a.spot.sited (has_function s name) (is_of_prelude s name) (is_truth a s name) kept k r)))
 
-pub apt_defun : (n : ℕ) (kept : Bool) (a : Around) (s : Tables) (p : Place) (ds : List Item) → Stage a s → AllOf (Good n) ds → AptAt n a s (defun_row kept a s p ds)
+pub apt_defun : (n : ℕ) (kept : Bool) (a : StaticContext) (s : Tables) (p : Place) (ds : List Item) → Stage a s → AllOf (WellFormed n) ds → AptAt n a s (defun_row kept a s p ds)
 apt_defun n kept a s p [] b g = tt
 apt_defun n kept a s p (d ∷ []) b g = tt
 apt_defun n kept a s p (d ∷ l ∷ fs) b g = apt_defun_as n kept a s p d l fs (named (symbol_of d)) b g.0 g.1.1

@@ -22,7 +22,7 @@ use Rattle.lang_meaning.specs.Standing.{stands_alone, is_alone}
 use Rattle.lang_meaning.specs.Facts.{body_fits, literal_fits, initform_fits, is_congruent, knows_next, method_fits, same_method, generic_fits, callee_fits, same_name}
 use Rattle.lang_classes.specs.InheritedClasses.{Hierarchy, IsHierarchy}
 use Rattle.front_profile.specs.Definitions.{Definitions, rows_of, Later, Undefined, procedure_fits, takes_nothing, initform_takes_nothing, slot_fits, has_function, same_generic, main_fits, WholeClasses, WholeGenerics, SoundDefinitions, EachStands}
-use Rattle.front_profile.specs.Right.{Behind, Counted}
+use Rattle.front_profile.specs.Right.{Behind, NodesCounted}
 use Rattle.front_profile.proofs.Tests.{all_more}
 use Rattle.front_profile.proofs.Forms.{fits_later}
 
@@ -301,14 +301,14 @@ behind_entered top g h k e b = record {
 
 -- sites and nodes
 
-pub counted_same : (b : Bool) (g : Definitions) → Counted b g g 0
+pub counted_same : (b : Bool) (g : Definitions) → NodesCounted b g g 0
 counted_same true g = record { sites = omega arith }
 counted_same false g = record { sites = omega arith }
 
-pub counted_then : (b : Bool) (g h k : Definitions) (m n : ℕ) → Counted b g h m → Counted b h k n → Counted b g k (m + n)
+pub counted_then : (b : Bool) (g h k : Definitions) (m n : ℕ) → NodesCounted b g h m → NodesCounted b h k n → NodesCounted b g k (m + n)
 counted_then true g h k m n c d = record { sites = omega (arith, c.sites, d.sites) }
 counted_then false g h k m n c d = record { sites = omega (arith, c.sites, d.sites) }
 
-pub counted_more : (b : Bool) (g h : Definitions) (m n : ℕ) → m ≤ n → Counted b g h m → Counted b g h n
+pub counted_more : (b : Bool) (g h : Definitions) (m n : ℕ) → m ≤ n → NodesCounted b g h m → NodesCounted b g h n
 counted_more true g h m n l c = record { sites = omega (arith, l, c.sites) }
 counted_more false g h m n l c = record { sites = c.sites }

@@ -6,24 +6,24 @@ use Rattle.base.specs.declared.datum.Symbol.{Symbol}
 use Rattle.base.specs.declared.reason.Reason.{Reason}
 use Rattle.base.specs.Data.{Item}
 use Rattle.base.specs.AllOf.{AllOf}
-use Rattle.base.specs.GoodData.{Good}
+use Rattle.base.specs.WellFormedData.{WellFormed}
 use Rattle.lang_meaning.specs.declared.scope.LexicalScope.{LexicalScope}
-use Rattle.lang_meaning.specs.declared.scope.Around.TheVariants as exit
+use Rattle.lang_meaning.specs.declared.scope.ExitForm.TheVariants as exit
 use Rattle.lang_meaning.specs.Form.{Form}
 use Rattle.lang_meaning.specs.Standing.{with_around}
 use Rattle.front_profile.specs.declared.tables.Tables.{Tables}
 use Rattle.front_profile.specs.declared.bound.Target.{Target}
 use Rattle.front_profile.specs.declared.bound.Bound.TheVariants.{Block, Tags}
-use Rattle.front_profile.specs.declared.making.Leaf.TheVariants.{Go}
-use Rattle.front_profile.specs.declared.making.One.TheVariants.{ReturnTo}
-use Rattle.front_profile.specs.declared.making.Making.TheVariants.{OfBlock, OfSegments}
+use Rattle.front_profile.specs.declared.elaboration.Leaf.TheVariants.{Go}
+use Rattle.front_profile.specs.declared.elaboration.One.TheVariants.{ReturnTo}
+use Rattle.front_profile.specs.declared.elaboration.Elaboration.TheVariants.{OfBlock, OfSegments}
 use Rattle.front_profile.specs.Names.{block_of, tag_of}
-use Rattle.front_profile.specs.Nodes.{Around, with_bound}
-use Rattle.front_profile.specs.Makings.{forms_found}
+use Rattle.front_profile.specs.Nodes.{StaticContext, with_bound}
+use Rattle.front_profile.specs.Elaborations.{forms_found}
 use Rattle.front_profile.specs.Shapes.{symbol_of, name_of, all_differ, tags_in, forms_in, symbols_of_rest, before, one_longer, lengths_in}
 use Rattle.front_profile.specs.RowWords.{deeper, no_such, each_inner}
 use Rattle.front_profile.specs.ExitRows.{with_exit, block_as, block_row, return_to_exit, return_as, return_from_row, tagbody_row, go_to, go_as, go_row}
-use Rattle.front_profile.specs.bridge.GoodParts.{good_forms}
+use Rattle.front_profile.specs.bridge.WellFormedParts.{good_forms}
 use Rattle.front_profile.specs.Definitions.{Definitions, defined}
 use Rattle.front_profile.specs.Places.{scope_of}
 use Rattle.front_profile.specs.Right.{RightIn}
@@ -40,7 +40,7 @@ use Rattle.front_profile.proofs.Procedures.{inner_ordinary}
 use Rattle.front_profile.proofs.PartsFound.{found_inner}
 use Rattle.front_profile.proofs.ValueRows.{apt_one}
 
-apt_no_such : (n : ℕ) (a : Around) (s : Tables) (p : Place) (r : Reason) (name : Option Name) → AptAt n a s (no_such p r name)
+apt_no_such : (n : ℕ) (a : StaticContext) (s : Tables) (p : Place) (r : Reason) (name : Option Name) → AptAt n a s (no_such p r name)
 apt_no_such n a s p r None = tt
 apt_no_such n a s p r (Some name) = tt
 
@@ -53,10 +53,10 @@ in_scope g s t n fs e r = subst (λ (u : LexicalScope). AllOf (RightIn g u n) fs
 
 -- block and return-from
 
-apt_block_as : (n : ℕ) (a : Around) (s : Tables) (p : Place) (x : Option Symbol) (fs : List Item) → Stage a s → AllOf (Good n) fs → AptAt n a s (block_as a s p x fs)
+apt_block_as : (n : ℕ) (a : StaticContext) (s : Tables) (p : Place) (x : Option Symbol) (fs : List Item) → Stage a s → AllOf (WellFormed n) fs → AptAt n a s (block_as a s p x fs)
 apt_block_as n a s p None fs b g = tt
 apt_block_as n a s p (Some x) fs b g =
-    let i : Around = with_bound (Block x s.exits) (deeper 2 a) in
+    let i : StaticContext = with_bound (Block x s.exits) (deeper 2 a) in
     apt_within n a s 2 p _ (λ l. apt_made n a s i p (with_exit s) (each_inner fs) (OfBlock s.exits) b (record {
       entered = entered_numbers (defined s) s.variables (s.exits + 1) (omega arith) (omega arith) b.whole;
       inside = good_block (defined s) x (deeper 2 a) refl (good_deeper (defined s) 2 a b.good);
@@ -77,20 +77,20 @@ apt_block_as n a s p (Some x) fs b g =
           next_number s.exits u.exits s.exits (omega arith) (omega (arith, c.later.exits));
     }))
 
-pub apt_block : (n : ℕ) (a : Around) (s : Tables) (p : Place) (ds : List Item) → Stage a s → AllOf (Good n) ds → AptAt n a s (block_row a s p ds)
+pub apt_block : (n : ℕ) (a : StaticContext) (s : Tables) (p : Place) (ds : List Item) → Stage a s → AllOf (WellFormed n) ds → AptAt n a s (block_row a s p ds)
 apt_block n a s p [] b g = tt
 apt_block n a s p (d ∷ fs) b g = apt_block_as n a s p (symbol_of d) fs b g.1
 
-apt_return_to : (n : ℕ) (a : Around) (s : Tables) (p : Place) (x : Symbol) (e : Option ℕ) (d : Item) → Stage a s → block_of a.bound x ≡ e → Good n d
+apt_return_to : (n : ℕ) (a : StaticContext) (s : Tables) (p : Place) (x : Symbol) (e : Option ℕ) (d : Item) → Stage a s → block_of a.bound x ≡ e → WellFormed n d
     → AptAt n a s (return_to_exit a s p x e d)
 apt_return_to n a s p x None d b h g = apt_no_such n a s p _ (name_of x)
 apt_return_to n a s p x (Some e) d b h g = apt_one n a p s (ReturnTo e) d b (block_there x a.bound 0 s.exits e b.good.exits h) g
 
-apt_return_as : (n : ℕ) (a : Around) (s : Tables) (p : Place) (x : Option Symbol) (d : Item) → Stage a s → Good n d → AptAt n a s (return_as a s p x d)
+apt_return_as : (n : ℕ) (a : StaticContext) (s : Tables) (p : Place) (x : Option Symbol) (d : Item) → Stage a s → WellFormed n d → AptAt n a s (return_as a s p x d)
 apt_return_as n a s p None d b g = tt
 apt_return_as n a s p (Some x) d b g = apt_return_to n a s p x (block_of a.bound x) d b refl g
 
-pub apt_return_from : (n : ℕ) (a : Around) (s : Tables) (p : Place) (ds : List Item) → Stage a s → AllOf (Good n) ds → AptAt n a s (return_from_row a s p ds)
+pub apt_return_from : (n : ℕ) (a : StaticContext) (s : Tables) (p : Place) (ds : List Item) → Stage a s → AllOf (WellFormed n) ds → AptAt n a s (return_from_row a s p ds)
 apt_return_from n a s p (x ∷ d ∷ []) b g = apt_return_as n a s p (symbol_of x) d b g.1.0
 apt_return_from n a s p [] b g = tt
 apt_return_from n a s p (x ∷ []) b g = tt
@@ -111,9 +111,9 @@ lengths_counted : (ds : List Item) → length (lengths_in ds) ≡ length (tags_i
 lengths_counted [] = refl
 lengths_counted (d ∷ ds) = before_counted (symbol_of d) (lengths_in ds) (tags_in ds) (lengths_counted ds)
 
-pub apt_tagbody : (n : ℕ) (a : Around) (s : Tables) (p : Place) (ds : List Item) → Stage a s → AllOf (Good n) ds → AptAt n a s (tagbody_row a s p ds)
+pub apt_tagbody : (n : ℕ) (a : StaticContext) (s : Tables) (p : Place) (ds : List Item) → Stage a s → AllOf (WellFormed n) ds → AptAt n a s (tagbody_row a s p ds)
 apt_tagbody n a s p ds b g =
-    let i : Around = with_bound (Tags (tags_in ds) s.exits) (deeper 2 a) in
+    let i : StaticContext = with_bound (Tags (tags_in ds) s.exits) (deeper 2 a) in
     let t : LexicalScope = with_around s.exits (exit.Tagbody (length (tags_in ds) + 1)) (scope_of a) in
     apt_if n a s (all_differ (tags_in ds)) _ _
     (apt_within n a s 2 p _ (λ l. apt_made n a s i p (with_exit s) (each_inner (forms_in ds)) (OfSegments s.exits (lengths_in ds)) b (record {
@@ -139,16 +139,16 @@ apt_tagbody n a s p ds b g =
     })))
     tt
 
-apt_go_to : (n : ℕ) (a : Around) (s : Tables) (p : Place) (x : Symbol) (target : Option Target) → Stage a s → tag_of a.bound x ≡ target → AptAt n a s (go_to a s p x target)
+apt_go_to : (n : ℕ) (a : StaticContext) (s : Tables) (p : Place) (x : Symbol) (target : Option Target) → Stage a s → tag_of a.bound x ≡ target → AptAt n a s (go_to a s p x target)
 apt_go_to n a s p x None b h = apt_no_such n a s p _ (name_of x)
 apt_go_to n a s p x (Some t) b h =
     apt_at_once n a s p (Go t.exit t.segment) b (omega arith) (λ h k. record { numbers = refl }) (λ k l. made_go k (scope_of a) a.spot.depth t.exit t.segment l (tag_there x a.bound 0 s.exits t b.good.exits h))
 
-apt_go_as : (n : ℕ) (a : Around) (s : Tables) (p : Place) (x : Option Symbol) → Stage a s → AptAt n a s (go_as a s p x)
+apt_go_as : (n : ℕ) (a : StaticContext) (s : Tables) (p : Place) (x : Option Symbol) → Stage a s → AptAt n a s (go_as a s p x)
 apt_go_as n a s p None b = tt
 apt_go_as n a s p (Some x) b = apt_go_to n a s p x (tag_of a.bound x) b refl
 
-pub apt_go : (n : ℕ) (a : Around) (s : Tables) (p : Place) (ds : List Item) → Stage a s → AptAt n a s (go_row a s p ds)
+pub apt_go : (n : ℕ) (a : StaticContext) (s : Tables) (p : Place) (ds : List Item) → Stage a s → AptAt n a s (go_row a s p ds)
 apt_go n a s p (d ∷ []) b = apt_go_as n a s p (symbol_of d) b
 apt_go n a s p [] b = tt
 apt_go n a s p (d ∷ e ∷ ds) b = tt

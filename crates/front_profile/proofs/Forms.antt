@@ -14,7 +14,7 @@ use Rattle.lang_meaning.specs.Fits.{fits_itself, fits}
 use Rattle.lang_meaning.specs.Standing.{around_inner, stands_itself, stands}
 use Rattle.lang_meaning.specs.bridge.Walks.{folded}
 use Rattle.lang_meaning.specs.bridge.Judged.{fits_folded, stands_folded}
-use Rattle.front_profile.specs.Scopes.{Within}
+use Rattle.front_profile.specs.Scopes.{ScopeWithin}
 use Rattle.front_profile.specs.Definitions.{Definitions, rows_of, Later}
 use Rattle.front_profile.specs.Right.{RightIn}
 use Rattle.front_profile.proofs.Tests.{all_more}
@@ -47,7 +47,7 @@ right_later g h s n f l r = record {
   deep = r.deep;
 }
 
-pub right_within : (g : Definitions) (s t : LexicalScope) (n : ℕ) (f : Form) → Within s t → RightIn g s n f → RightIn g t n f
+pub right_within : (g : Definitions) (s t : LexicalScope) (n : ℕ) (f : Form) → ScopeWithin s t → RightIn g s n f → RightIn g t n f
 right_within g s t n f w r = record { stands = stands_within s t f w r.stands; fits = r.fits; deep = r.deep }
 
 pub right_less : (g : Definitions) (s : LexicalScope) (m n : ℕ) (f : Form) → m ≤ n → RightIn g s n f → RightIn g s m f

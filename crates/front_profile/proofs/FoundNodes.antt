@@ -6,12 +6,12 @@ use Rattle.base.specs.AllOf.{AllOf, all_both}
 use Rattle.lang_meaning.specs.Form.{Form}
 use Rattle.lang_meaning.specs.Subforms.{clause_list}
 use Rattle.lang_meaning.specs.Counts.{all_nodes}
-use Rattle.front_profile.specs.declared.making.Found.{Found}
-use Rattle.front_profile.specs.declared.making.Found.TheVariants.{Value, Binding, Parameter}
-use Rattle.front_profile.specs.declared.making.One.{One}
+use Rattle.front_profile.specs.declared.elaboration.ElaboratedPart.{ElaboratedPart}
+use Rattle.front_profile.specs.declared.elaboration.ElaboratedPart.TheVariants.{Value, Binding, Parameter}
+use Rattle.front_profile.specs.declared.elaboration.One.{One}
 use Rattle.lang_meaning.specs.declared.kinds.OverTwo.{OverTwo}
 use Rattle.front_profile.specs.Nodes.{Part, form, below, inner, bind, parameter, wrong, function}
-use Rattle.front_profile.specs.Makings.{forms_found, make_one, make_two, make_with_body, make_clauses}
+use Rattle.front_profile.specs.Elaborations.{forms_found, make_one, make_two, make_with_body, make_clauses}
 use Rattle.front_profile.specs.Shapes.{Pair, ClauseParts, symbol_of, forms_in, form_unless, lengths_in, one_longer, before}
 use Rattle.front_profile.specs.RowWords.{each_form, each_below, each_inner, each_parameter}
 use Rattle.front_profile.specs.ValueRows.{length_if, clause_lengths, clause_parts}
@@ -21,19 +21,19 @@ use Rattle.front_profile.proofs.Nodes.{nodes_in, added, found_nodes, body_nodes,
 
 -- parts that bind no variable with a value
 
-abbrev pub IsPlain : Part → Type 0
-IsPlain (bind x d) = ⊥
-IsPlain (wrong p r) = ⊥
-IsPlain (function w) = ⊥
-IsPlain other = Unit {0}
+abbrev pub IsValuePart : Part → Type 0
+IsValuePart (bind x d) = ⊥
+IsValuePart (wrong p r) = ⊥
+IsValuePart (function w) = ⊥
+IsValuePart other = Unit {0}
 
 abbrev pub AllPlain : List Part → Type 0
-AllPlain xs = AllOf IsPlain xs
+AllPlain xs = AllOf IsValuePart xs
 
 pub both_plain : (xs ys : List Part) → AllPlain xs → AllPlain ys → AllPlain (xs ++ ys)
-both_plain xs ys a b = all_both IsPlain xs ys a b
+both_plain xs ys a b = all_both IsValuePart xs ys a b
 
-made_plain : {X : Type 0} (f : X → Part) → ((x : X) → IsPlain (f x)) → (xs : List X) → AllPlain (map f xs)
+made_plain : {X : Type 0} (f : X → Part) → ((x : X) → IsValuePart (f x)) → (xs : List X) → AllPlain (map f xs)
 made_plain f h [] = tt
 made_plain f h (x ∷ xs) = (h x, made_plain f h xs)
 
@@ -57,7 +57,7 @@ clauses_plain [] = tt
 clauses_plain (c ∷ cs) = (tt, both_plain (each_below c.body) (clause_parts cs) (below_plain c.body) (clauses_plain cs))
 
 -- of such parts only forms are counted
-pub forms_counted : (p : Spots) (xs : List Part) (rs : List Found) → AllMatch p xs rs → AllPlain xs → found_nodes rs ≡ nodes_in (forms_found rs)
+pub forms_counted : (p : Spots) (xs : List Part) (rs : List ElaboratedPart) → AllMatch p xs rs → AllPlain xs → found_nodes rs ≡ nodes_in (forms_found rs)
 forms_counted p [] [] m a = refl
 forms_counted p [] (r ∷ rs) m a = absurd m
 forms_counted p (x ∷ xs) [] m a = absurd m
@@ -76,11 +76,11 @@ forms_counted p (function w ∷ xs) (Binding v f ∷ rs) m a = absurd m.0
 
 -- no part, one, two, and one with a body
 
-pub none_found : (p : Spots) (rs : List Found) → AllMatch p [] rs → found_nodes rs ≡ 0
+pub none_found : (p : Spots) (rs : List ElaboratedPart) → AllMatch p [] rs → found_nodes rs ≡ 0
 none_found p [] m = refl
 none_found p (r ∷ rs) m = absurd m
 
-pub found_one_nodes : (p : Spots) (k : One) (d : Item) (rs : List Found) → AllMatch p (form d ∷ []) rs → found_nodes rs + 1 ≤ all_nodes (make_one k (forms_found rs))
+pub found_one_nodes : (p : Spots) (k : One) (d : Item) (rs : List ElaboratedPart) → AllMatch p (form d ∷ []) rs → found_nodes rs + 1 ≤ all_nodes (make_one k (forms_found rs))
 found_one_nodes p k d [] m = absurd m
 found_one_nodes p k d (Value f ∷ []) m = one_more (all_nodes f) _ (one_nodes k f)
   where
@@ -90,7 +90,7 @@ found_one_nodes p k d (Value f ∷ r ∷ rs) m = absurd m.1
 found_one_nodes p k d (Binding v f ∷ rs) m = absurd m.0
 found_one_nodes p k d (Parameter v ∷ rs) m = absurd m.0
 
-pub found_two_nodes : (p : Spots) (k : OverTwo) (d e : Item) (rs : List Found) → AllMatch p (form d ∷ form e ∷ []) rs → found_nodes rs + 1 ≤ all_nodes (make_two k (forms_found rs))
+pub found_two_nodes : (p : Spots) (k : OverTwo) (d e : Item) (rs : List ElaboratedPart) → AllMatch p (form d ∷ form e ∷ []) rs → found_nodes rs + 1 ≤ all_nodes (make_two k (forms_found rs))
 found_two_nodes p k d e [] m = absurd m
 found_two_nodes p k d e (Value f ∷ []) m = absurd m.1
 found_two_nodes p k d e (Value f ∷ Value g ∷ []) m = two_more (all_nodes f) (all_nodes g) _ (two_nodes k f g)
@@ -103,7 +103,7 @@ found_two_nodes p k d e (Value f ∷ Parameter v ∷ rs) m = absurd m.1.0
 found_two_nodes p k d e (Binding v f ∷ rs) m = absurd m.0
 found_two_nodes p k d e (Parameter v ∷ rs) m = absurd m.0
 
-pub found_with_body_nodes : (p : Spots) (k : OverTwo) (d : Item) (ds : List Item) (rs : List Found) → AllMatch p (form d ∷ each_below ds) rs
+pub found_with_body_nodes : (p : Spots) (k : OverTwo) (d : Item) (ds : List Item) (rs : List ElaboratedPart) → AllMatch p (form d ∷ each_below ds) rs
     → found_nodes rs + 1 ≤ all_nodes (make_with_body k (forms_found rs))
 found_with_body_nodes p k d ds [] m = absurd m
 found_with_body_nodes p k d ds (Value f ∷ rs) m =
@@ -126,7 +126,7 @@ joined_nodes (f ∷ fs) gs = joined_more (all_nodes f) (nodes_in (fs ++ gs)) (no
 abbrev ClauseNodes : List (Option ℕ) → List Form → Type 0
 ClauseNodes ns fs = nodes_in fs ≤ nodes_in (clause_list (make_clauses ns fs))
 
-behind_test_nodes : (p : Spots) (f : Form) (ds : List Item) (cs : List ClauseParts) (rs : List Found) → (b : BodyThen p (length ds) (clause_parts cs) rs)
+behind_test_nodes : (p : Spots) (f : Form) (ds : List Item) (cs : List ClauseParts) (rs : List ElaboratedPart) → (b : BodyThen p (length ds) (clause_parts cs) rs)
     → ClauseNodes (clause_lengths cs) (forms_found b.rest) → ClauseNodes (length_if ds ∷ clause_lengths cs) (f ∷ forms_found rs)
 behind_test_nodes p f [] cs rs b more =
     let same : forms_found rs ≡ forms_found b.rest = b.found ∙ dropped_front 0 b.body (forms_found b.rest) b.count in
@@ -144,7 +144,7 @@ behind_test_nodes p f (d ∷ ds) cs rs b more =
     body_more : (a n t r b k : ℕ) → n ≡ t + r → b ≡ t + 1 → r ≤ k → a + n ≤ a + (b + k)
     body_more a n t r b k e f h = omega (arith, e, f, h)
 
-pub found_clauses_nodes : (p : Spots) (cs : List ClauseParts) (rs : List Found) → AllMatch p (clause_parts cs) rs → ClauseNodes (clause_lengths cs) (forms_found rs)
+pub found_clauses_nodes : (p : Spots) (cs : List ClauseParts) (rs : List ElaboratedPart) → AllMatch p (clause_parts cs) rs → ClauseNodes (clause_lengths cs) (forms_found rs)
 found_clauses_nodes p [] [] m = omega arith
 found_clauses_nodes p [] (r ∷ rs) m = absurd m
 found_clauses_nodes p (c ∷ cs) [] m = absurd m
@@ -174,7 +174,7 @@ pub lengths_added : (ds : List Item) → added (lengths_in ds) ≡ length (forms
 lengths_added [] = refl
 lengths_added (d ∷ ds) = before_added (symbol_of d) d (lengths_in ds) (forms_in ds) (lengths_added ds)
 
-pub inner_as_many : (p : Spots) (ds : List Item) (rs : List Found) → AllMatch p (each_inner ds) rs → length (forms_found rs) ≡ length ds
+pub inner_as_many : (p : Spots) (ds : List Item) (rs : List ElaboratedPart) → AllMatch p (each_inner ds) rs → length (forms_found rs) ≡ length ds
 inner_as_many p [] [] h = refl
 inner_as_many p [] (r ∷ rs) h = absurd h
 inner_as_many p (d ∷ ds) [] h = absurd h

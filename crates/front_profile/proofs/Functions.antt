@@ -8,13 +8,13 @@ use Rattle.base.specs.declared.datum.Name.{Name}
 use Rattle.base.specs.Data.{Item}
 use Rattle.base.specs.DataFormed.{is_formed}
 use Rattle.base.specs.AllOf.{AllOf}
-use Rattle.base.specs.GoodData.{Good}
+use Rattle.base.specs.WellFormedData.{WellFormed}
 use Rattle.base.specs.Names.{slice_get-front}
 use Rattle.lang_meaning.specs.declared.program.LiteralRow.TheVariants as row
 use Rattle.lang_meaning.specs.declared.program.Procedure.{Procedure}
 use Rattle.lang_meaning.specs.declared.scope.LexicalScope.{LexicalScope}
-use Rattle.lang_meaning.specs.declared.part.Part.{Part as Captured}
-use Rattle.lang_meaning.specs.declared.part.Part.TheVariants as part
+use Rattle.lang_meaning.specs.declared.capture.Capture.{Capture as Captured}
+use Rattle.lang_meaning.specs.declared.capture.Capture.TheVariants as part
 use Rattle.lang_meaning.specs.Form.{Form, form_and, no_form, sequence, parameters}
 use Rattle.lang_meaning.specs.Counts.{depth}
 use Rattle.lang_meaning.specs.ProgramCounts.{procedure_nodes}
@@ -23,19 +23,19 @@ use Rattle.lang_meaning.specs.Signals.{variables}
 use Rattle.lang_meaning.specs.Standing.{alone as alone_in, with_bound, stands, is_variable, is_alone}
 use Rattle.front_profile.specs.declared.tables.Tables.{Tables}
 use Rattle.front_profile.specs.declared.parameters.Parameters.{Parameters}
-use Rattle.front_profile.specs.declared.making.Accessor.{Accessor}
-use Rattle.front_profile.specs.declared.making.Accessor.TheVariants.{Reads, Writes, Asks}
-use Rattle.front_profile.specs.declared.making.Found.{Found}
-use Rattle.front_profile.specs.declared.making.Making.TheVariants.{OfProcedure}
-use Rattle.front_profile.specs.Nodes.{Around, Part, Written, initform, accessor, method}
-use Rattle.front_profile.specs.Makings.{forms_found, variables_found, body_of, rest_found, procedure_found, accessor_procedure, accessor_form, accessor_variables, place_form, arguments_of}
+use Rattle.front_profile.specs.declared.elaboration.Accessor.{Accessor}
+use Rattle.front_profile.specs.declared.elaboration.Accessor.TheVariants.{Reads, Writes, Asks}
+use Rattle.front_profile.specs.declared.elaboration.ElaboratedPart.{ElaboratedPart}
+use Rattle.front_profile.specs.declared.elaboration.Elaboration.TheVariants.{OfProcedure}
+use Rattle.front_profile.specs.Nodes.{StaticContext, Part, Written, initform, accessor, method}
+use Rattle.front_profile.specs.Elaborations.{forms_found, variables_found, body_of, rest_found, procedure_found, accessor_procedure, accessor_form, accessor_variables, place_form, arguments_of}
 use Rattle.front_profile.specs.Shapes.{all_symbols}
 use Rattle.front_profile.specs.RowWords.{each_parameter, each_inner, alone}
 use Rattle.front_profile.specs.FunctionNodes.{function_parts, variables_of, with_accessor, function_node, body_alone}
-use Rattle.front_profile.specs.Scopes.{Provides, Within}
+use Rattle.front_profile.specs.Scopes.{Provides, ScopeWithin}
 use Rattle.front_profile.specs.Definitions.{Definitions, defined, rows_of, Later, Undefined, procedure_fits, SoundDefinitions}
-use Rattle.front_profile.specs.Places.{variables_around, exits_around, scope_of, NothingAround, GoodAround}
-use Rattle.front_profile.specs.Right.{RightIn, Counted}
+use Rattle.front_profile.specs.Places.{variables_around, exits_around, scope_of, EmptyContext, WellFormedContext}
+use Rattle.front_profile.specs.Right.{RightIn, NodesCounted}
 use Rattle.front_profile.proofs.Enough.{stands_within}
 use Rattle.front_profile.proofs.Forms.{right_whole}
 use Rattle.front_profile.proofs.Definitions.{later_then, sound_later, all_push, Entered, entered_same, entered_then, entered_literal, entered_numbers, counted_same, counted_then}
@@ -50,7 +50,7 @@ use Rattle.front_profile.proofs.BinderRows.{found_parameters, function_apt}
 use Rattle.front_profile.proofs.Procedures.{Takes, IsFor, all_low}
 
 -- a form that stands alone in no method stands in a method
-method_within : (vs : List ℕ) (b : Bool) → Within (alone_in vs b) (alone_in vs true)
+method_within : (vs : List ℕ) (b : Bool) → ScopeWithin (alone_in vs b) (alone_in vs true)
 method_within vs b = record { provides = provides }
   where
     provides : (p : Captured) → Provides (alone_in vs b) (alone_in vs true) p
@@ -94,14 +94,14 @@ pub procedures_then : (ps : List Procedure) (p : Procedure) → sum_by procedure
 procedures_then ps p = sum_by_push procedure_nodes ps p
 
 -- the sites of a body are counted by its procedure
-pub procedure_counted : (b : Bool) (x g : Definitions) (p : Procedure) (n k : ℕ) → n ≤ procedure_nodes p → Counted b x g n → Counted b x (one_more g p) k
+pub procedure_counted : (b : Bool) (x g : Definitions) (p : Procedure) (n k : ℕ) → n ≤ procedure_nodes p → NodesCounted b x g n → NodesCounted b x (one_more g p) k
 procedure_counted true x g p n k l c = record { sites = omega (arith, c.sites, l, procedures_then g.procedures p) }
 procedure_counted false x g p n k l c = record { sites = omega (arith, c.sites, procedures_then g.procedures p) }
 
 -- the procedure that was found
 
 -- a body alone leaves such a procedure
-pub found_procedure : (h : Definitions) (a : Around) (has_next : Bool) (name : Option Name) (ps : Parameters) (rs : List Found) → NothingAround a
+pub found_procedure : (h : Definitions) (a : StaticContext) (has_next : Bool) (name : Option Name) (ps : Parameters) (rs : List ElaboratedPart) → EmptyContext a
     → ParametersMatch (spots h (alone has_next a) (alone has_next a) rs) (length (all_symbols ps)) rs
     → parameters (take (length ps.required) (variables_found rs)) (rest_found (is_some ps.rest) (drop (length ps.required) (variables_found rs))) ≡ new_variables rs
     → FitsAlone h has_next (procedure_found name (length ps.required) (is_some ps.rest) rs)
@@ -126,7 +126,7 @@ rest_is required rest b vs e f = by_rest b (drop required vs) (omega (arith, len
     by_rest true [] l f = absurd (let k : 1 ≤ rest = f refl in omega (arith, l, k))
     by_rest true (w ∷ ws) l f = refl
 
-pub found_takes : (name : Option Name) (has_next : Bool) (ps : Parameters) (rs : List Found) → length (variables_found rs) ≡ length (all_symbols ps)
+pub found_takes : (name : Option Name) (has_next : Bool) (ps : Parameters) (rs : List ElaboratedPart) → length (variables_found rs) ≡ length (all_symbols ps)
     → is_alone has_next (Some (procedure_found name (length ps.required) (is_some ps.rest) rs)) ≡ true
     → Takes (length ps.required) (is_some ps.rest) has_next (procedure_found name (length ps.required) (is_some ps.rest) rs)
 found_takes name has_next ps rs e h = record {
@@ -140,11 +140,11 @@ found_takes name has_next ps rs e h = record {
     one false k = absurd (cc k)
 
 -- a function whose body stands alone
-apt_alone : (n : ℕ) (o : Around) (s : Tables) (w : Written) (has_next : Bool) (name : Option Name) (ps : Parameters) (fs : List Item) → SoundDefinitions (defined s)
-    → GoodAround (defined s) o → NothingAround o → AllOf (Good n) fs → ((p : Procedure) → Takes (length ps.required) (is_some ps.rest) has_next p → IsFor w p)
+apt_alone : (n : ℕ) (o : StaticContext) (s : Tables) (w : Written) (has_next : Bool) (name : Option Name) (ps : Parameters) (fs : List Item) → SoundDefinitions (defined s)
+    → WellFormedContext (defined s) o → EmptyContext o → AllOf (WellFormed n) fs → ((p : Procedure) → Takes (length ps.required) (is_some ps.rest) has_next p → IsFor w p)
     → Apt (one_procedure w) o.spot n (defined s) (body_alone has_next o s (function_parts ps fs) (OfProcedure name (length ps.required) (is_some ps.rest)))
 apt_alone n o s w has_next name ps fs b g nothing good is =
-    let i : Around = alone has_next o in
+    let i : StaticContext = alone has_next o in
     let xs : List Part = function_parts ps fs in
     let parts : AllApt n i xs = function_apt n i ps fs refl good in
     record {
@@ -229,7 +229,7 @@ accessor_takes name Reads v l a = record { count = refl; more = refl; alone = a 
 accessor_takes name Writes v l a = record { count = refl; more = refl; alone = a }
 accessor_takes name Asks v l a = record { count = refl; more = refl; alone = a }
 
-apt_accessor : (n : ℕ) (o : Around) (s : Tables) (name : Name) (k : Accessor) (d : Item) → SoundDefinitions (defined s) → GoodAround (defined s) o → NothingAround o
+apt_accessor : (n : ℕ) (o : StaticContext) (s : Tables) (name : Name) (k : Accessor) (d : Item) → SoundDefinitions (defined s) → WellFormedContext (defined s) o → EmptyContext o
     → is_formed d ≡ true → Apt (one_procedure (accessor name k d)) o.spot n (defined s) (function_node o s (accessor name k d))
 apt_accessor n o s name k d b g nothing formed =
     let numbers : Tables = record s { variables = s.variables + variables_of k } in
@@ -259,7 +259,7 @@ apt_accessor n o s name k d b g nothing formed =
             is = accessor_takes name k s.variables (length s.literals) fits.alone;
           };
       counted = λ u rs c m.
-          let here : Counted o.spot.sited (defined s) (defined t) 0 = record { sites = (counted_same o.spot.sited (defined s)).sites } in
+          let here : NodesCounted o.spot.sited (defined s) (defined t) 0 = record { sites = (counted_same o.spot.sited (defined s)).sites } in
           procedure_counted o.spot.sited (defined s) (defined u) p (0 + 0) 0 (omega arith)
           (counted_then o.spot.sited (defined s) (defined t) (defined u) 0 0 here m);
       numbered = λ u rs c m. record { numbers = refl };
@@ -269,7 +269,7 @@ apt_accessor n o s name k d b g nothing formed =
 initform_is_for : (d : Item) (p : Procedure) → Takes 0 false false p → IsFor (initform d) p
 initform_is_for d p t = t
 
-pub apt_function_node : (n : ℕ) (o : Around) (s : Tables) (w : Written) → SoundDefinitions (defined s) → GoodAround (defined s) o → NothingAround o → AptFunction n w
+pub apt_function_node : (n : ℕ) (o : StaticContext) (s : Tables) (w : Written) → SoundDefinitions (defined s) → WellFormedContext (defined s) o → EmptyContext o → AptFunction n w
     → Apt (one_procedure w) o.spot n (defined s) (function_node o s w)
 apt_function_node n o s (initform d) b g nothing a =
     apt_alone n o s (initform d) false None (record { required = []; rest = None }) (d ∷ []) b g nothing (a, tt) (initform_is_for d)

@@ -8,7 +8,7 @@ use Rattle.base.specs.declared.datum.Name.{Name}
 use Rattle.base.specs.declared.reason.Reason.TheVariants.{NotTopLevel}
 use Rattle.base.specs.Data.{Item}
 use Rattle.base.specs.AllOf.{AllOf, all_both}
-use Rattle.base.specs.GoodData.{Good}
+use Rattle.base.specs.WellFormedData.{WellFormed}
 use Rattle.base.specs.Names.{slice_get-behind}
 use Rattle.lang_meaning.specs.declared.program.GenericRow.{GenericRow}
 use Rattle.lang_meaning.specs.declared.program.FunctionRow.{FunctionRow}
@@ -16,12 +16,12 @@ use Rattle.lang_meaning.specs.declared.program.Qualifier.{Qualifier}
 use Rattle.lang_derived.specs.Asked.{list_items}
 use Rattle.front_profile.specs.declared.tables.Tables.{Tables}
 use Rattle.front_profile.specs.declared.parameters.Parameters.{Parameters}
-use Rattle.front_profile.specs.declared.making.Head.{Head}
-use Rattle.front_profile.specs.declared.making.Taker.TheVariants.{New, There}
-use Rattle.front_profile.specs.declared.making.Making.TheVariants.{OfMethods}
-use Rattle.front_profile.specs.Nodes.{Around, Part, method, Node, offends}
+use Rattle.front_profile.specs.declared.elaboration.MethodHead.{MethodHead}
+use Rattle.front_profile.specs.declared.elaboration.Taker.TheVariants.{New, There}
+use Rattle.front_profile.specs.declared.elaboration.Elaboration.TheVariants.{OfMethods}
+use Rattle.front_profile.specs.Nodes.{StaticContext, Part, method, Node, offends}
 use Rattle.front_profile.specs.Shapes.{parameters_in}
-use Rattle.front_profile.specs.Makings.{with_generic, with_method_at, with_methods, generic_named}
+use Rattle.front_profile.specs.Elaborations.{with_generic, with_method_at, with_methods, generic_named}
 use Rattle.front_profile.specs.DefiningRows.{is_that, has_function, is_taken, is_of_prelude, is_truth, is_reserved, named_form}
 use Rattle.front_profile.specs.GivenNames.{GivenName, no_name, unfit, lacking, given, given_name}
 use Rattle.front_profile.specs.MethodShapes.{Specialised, specialised_in, some_fresh_class, first_unknown, WrittenMethod, method_in, may_have_next}
@@ -31,13 +31,13 @@ use Rattle.lang_meaning.specs.Facts.{method_fits, same_method}
 use Rattle.lang_classes.specs.InheritedClasses.{Hierarchy}
 use Rattle.lang_classes.specs.InheritedSlots.{same_name}
 use Rattle.front_profile.specs.Definitions.{Definitions, defined, rows_of, SoundDefinitions}
-use Rattle.front_profile.proofs.Procedures.{IsAt, MadeFrom}
+use Rattle.front_profile.proofs.Procedures.{IsProcedureOf, MadeFrom}
 use Rattle.front_profile.proofs.Wanted.{AptAt, Stage}
 use Rattle.front_profile.proofs.DefiningRows.{fresh_name}
 use Rattle.front_profile.proofs.Adding.{new_row, plus_method, method_of, tables_with, get_with, later_generic, sound_generic, TakesMethod, StandsBelow, stands_generic, stands_next, all_stand_below}
 use Rattle.front_profile.proofs.MethodViews.{AllRight, each_front, each_behind, MethodView, method_view}
-use Rattle.front_profile.proofs.Methods.{none_alike, Alike, alike_same, alike_more, FitsRow, fits_row, method_fits_there, Joined, joined_same, joined_then, method_defined, joined_method}
-use Rattle.front_profile.proofs.Joining.{IsFunction, AllFunctions, Joins, FunctionsCame, WhereSound, where_test, where_within, where_defining, apt_joining}
+use Rattle.front_profile.proofs.Methods.{none_alike, SameGeneric, alike_same, alike_more, FitsRow, fits_row, method_fits_there, Joined, joined_same, joined_then, method_defined, joined_method}
+use Rattle.front_profile.proofs.Joining.{IsFunctionPart, AllFunctions, Joins, FunctionsCame, WhereSound, where_test, where_within, where_defining, apt_joining}
 
 -- methods have functions alone
 
@@ -59,7 +59,7 @@ method_functions s n m = specialised_functions s n m (specialised_in s.words m.l
 
 pub each_functions : (s : Tables) (n : Name) (ms : List WrittenMethod) → AllFunctions (each_method s n ms)
 each_functions s n [] = tt
-each_functions s n (m ∷ ms) = all_both IsFunction (method_parts s n m) (each_method s n ms) (method_functions s n m) (each_functions s n ms)
+each_functions s n (m ∷ ms) = all_both IsFunctionPart (method_parts s n m) (each_method s n ms) (method_functions s n m) (each_functions s n ms)
 
 -- a method that fits has a qualifier
 pub some_qualifier : (x : GenericRow) (s : Tables) (m : WrittenMethod) → fits s (Some x) m ≡ true → is_some m.qualifier ≡ true
@@ -70,15 +70,15 @@ some_qualifier x s m f =
 
 -- the generic function of that number takes the methods one after another
 methods_joined : (s : Tables) (n : Name) (i : ℕ) (ms : List WrittenMethod) (x y : GenericRow) (t : Tables) (p : ℕ) → 0 < length s.classes.rows
-    → SoundDefinitions (defined t) → t.classes ≡ s.classes → slice_get t.generics i ≡ Some y → Alike x y → all_fit s (Some x) ms ≡ true
+    → SoundDefinitions (defined t) → t.classes ≡ s.classes → slice_get t.generics i ≡ Some y → SameGeneric x y → all_fit s (Some x) ms ≡ true
     → AllRight (each_method s n ms) → MadeFrom p (each_method s n ms) t.procedures → Joins p (defined t) (defined (with_methods i (all_heads s ms) p t))
 methods_joined s n i [] x y t p l w c g a f r m = record { joined = joined_same (defined t) w; stand = all_stand_below p (defined t) m }
 methods_joined s n i (m ∷ ms) x y t p l w c g a f r made =
     let e : (fits s (Some x) m ≡ true) × (all_fit s (with_head (Some x) (written_head s m)) ms ≡ true) = and_parts _ _ f in
     let v : MethodView s n m = method_view s n m (some_qualifier x s m e.0) l (each_front _ (method_parts s n m) (each_method s n ms) r) in
-    let h : Head = record { qualifier = v.qualifier; classes = v.classes } in
+    let h : MethodHead = record { qualifier = v.qualifier; classes = v.classes } in
     let k : FitsRow x s n m v = fits_row x s n m v e.0 in
-    let here : IsAt (method n (may_have_next v.qualifier) v.takes.parameters m.body) t.procedures p × MadeFrom (p + 1) (each_method s n ms) t.procedures =
+    let here : IsProcedureOf (method n (may_have_next v.qualifier) v.takes.parameters m.body) t.procedures p × MadeFrom (p + 1) (each_method s n ms) t.procedures =
     subst (λ (xs : List Part). MadeFrom p (xs ++ each_method s n ms) t.procedures) v.parts made in
     let takes : TakesMethod (defined t) i (method_of h p) = record {
       takes = λ z q.
@@ -95,7 +95,7 @@ methods_joined s n i (m ∷ ms) x y t p l w c g a f r made =
     let rest : Joins (p + 1) (defined u) (defined (with_methods i (all_heads s ms) (p + 1) u)) =
     methods_joined s n i ms (plus_method x (method_of h 0)) (plus_method y (method_of h p)) u (p + 1) l one.sound c there (alike_more x y h p a)
     (ap (λ o. all_fit s (with_head (Some x) o) ms) (sym v.head) ∙ e.1) (each_behind _ (method_parts s n m) (each_method s n ms) r) here.1 in
-    subst (λ (hs : List Head). Joins p (defined t) (defined (with_methods i (hs ++ all_heads s ms) p t))) (sym (ap heads_of v.head)) (record {
+    subst (λ (hs : List MethodHead). Joins p (defined t) (defined (with_methods i (hs ++ all_heads s ms) p t))) (sym (ap heads_of v.head)) (record {
       joined = joined_then (defined t) (defined u) _ one rest.joined;
       stand = λ b.
           rest.stand (subst (λ (g : Definitions). StandsBelow (p + 1) g) (method_defined t i h p)
@@ -131,7 +131,7 @@ some_class s w = omega (arith, w.classes.hierarchy.enough)
 
 -- defgeneric
 
-generic_apt : (n : ℕ) (a : Around) (s : Tables) (d : Item) (name : Name) (l : Item) (ms : List WrittenMethod) (ps : Option Parameters) → Stage a s → a.spot.top ≡ true
+generic_apt : (n : ℕ) (a : StaticContext) (s : Tables) (d : Item) (name : Name) (l : Item) (ms : List WrittenMethod) (ps : Option Parameters) → Stage a s → a.spot.top ≡ true
     → has_function s name ≡ false → a.spot.depth + 1 ≤ 1000 → all_fit s (generic_row name ps) ms ≡ true → WhereSound n a s (generic_with a s d name l ms ps)
 generic_apt n a s d name l ms None b top fresh k f = λ q. tt
 generic_apt n a s d name l ms (Some ps) b top fresh k f =
@@ -139,7 +139,7 @@ generic_apt n a s d name l ms (Some ps) b top fresh k f =
     (OfMethods (New name (length ps.required) (is_some ps.rest)) (all_heads s ms) (length s.procedures) a.spot.sited (named_form a.spot.sited s)) b refl top k
     (each_functions s name ms) (λ rs. refl) (λ u rs c. new_joined s name ps ms a.spot.sited u (some_class s b.whole) fresh f c)
 
-generic_named_apt : (names : List (List ℕ)) (n : ℕ) (a : Around) (s : Tables) (p : Place) (d l : Item) (os : List GenericOption) (name : GivenName) → Stage a s
+generic_named_apt : (names : List (List ℕ)) (n : ℕ) (a : StaticContext) (s : Tables) (p : Place) (d l : Item) (os : List GenericOption) (name : GivenName) → Stage a s
     → WhereSound n a s (generic_named_as names a s p d l os name)
 generic_named_apt names n a s p d l os no_name b = λ q. tt
 generic_named_apt names n a s p d l os unfit b = λ q. tt
@@ -152,13 +152,13 @@ generic_named_apt names n a s p d l os (given name) b =
     generic_apt n a s d name l (methods_among os) (parameters_in s.words l) b top
     (fresh_name a.spot.sited (has_function s name) (is_of_prelude s name) (is_truth a s name) (keeps names name) taken reserved) k f) (λ f q. tt))))
 
-defgeneric_apt : (names : List (List ℕ)) (n : ℕ) (a : Around) (s : Tables) (p : Place) (ds : List Item) → Stage a s → WhereSound n a s (defgeneric_row names a s p ds)
+defgeneric_apt : (names : List (List ℕ)) (n : ℕ) (a : StaticContext) (s : Tables) (p : Place) (ds : List Item) → Stage a s → WhereSound n a s (defgeneric_row names a s p ds)
 defgeneric_apt names n a s p [] b = λ q. tt
 defgeneric_apt names n a s p (d ∷ []) b = λ q. tt
 defgeneric_apt names n a s p (d ∷ l ∷ ds) b =
     where_test n a s (list_any is_no_option (options_of names ds)) _ _ (λ e q. tt) (λ e. generic_named_apt names n a s p d l (options_of names ds) (given_name names d) b)
 
-pub apt_defgeneric : (names : List (List ℕ)) (n : ℕ) (a : Around) (s : Tables) (p : Place) (ds : List Item) → Stage a s → AllOf (Good n) ds → AptAt n a s (defgeneric_row names a s p ds)
+pub apt_defgeneric : (names : List (List ℕ)) (n : ℕ) (a : StaticContext) (s : Tables) (p : Place) (ds : List Item) → Stage a s → AllOf (WellFormed n) ds → AptAt n a s (defgeneric_row names a s p ds)
 apt_defgeneric names n a s p ds b g = defgeneric_apt names n a s p ds b (sound_defgeneric names n a s p ds g)
 
 -- defmethod
@@ -172,7 +172,7 @@ there_joined s n i m x u l e f c =
     let all : Joins (length s.procedures) (defined u) (defined (with_methods i (all_heads s (m ∷ [])) (length s.procedures) u)) =
     methods_joined s n i (m ∷ []) x x u (length s.procedures) l c.sound c.same.classes (ap (λ gs. slice_get gs i) c.same.generics ∙ e) (alike_same x) (and_from _ _ f refl)
     (subst AllRight (sym alone) c.right) (subst (λ (xs : List Part). MadeFrom (length s.procedures) xs u.procedures) (sym alone) c.made) in
-    subst (λ (hs : List Head). Joins (length s.procedures) (defined u) (defined (with_methods i hs (length s.procedures) u))) (append-nil (written_heads s m)) all
+    subst (λ (hs : List MethodHead). Joins (length s.procedures) (defined u) (defined (with_methods i hs (length s.procedures) u))) (append-nil (written_heads s m)) all
 
 -- a generic function that is named is there
 pub named_there : (gs : List GenericRow) (n : Name) (i : ℕ) → generic_named gs n ≡ Some i → (x : GenericRow) × (slice_get gs i ≡ Some x)
@@ -188,7 +188,7 @@ named_there (g ∷ gs) n i e = by_test (same_name n g.name) (generic_named gs n)
         let r : (x : GenericRow) × (slice_get gs j ≡ Some x) = more j refl in
         (r.0, ap (slice_get (g ∷ gs)) (sym k ∙ add-one j) ∙ r.1)
 
-method_for_apt : (n : ℕ) (a : Around) (s : Tables) (p : Place) (d : Item) (name : Name) (m : WrittenMethod) (i : Option ℕ) → Stage a s → a.spot.top ≡ true
+method_for_apt : (n : ℕ) (a : StaticContext) (s : Tables) (p : Place) (d : Item) (name : Name) (m : WrittenMethod) (i : Option ℕ) → Stage a s → a.spot.top ≡ true
     → a.spot.depth + 1 ≤ 1000 → generic_named s.generics name ≡ i → WhereSound n a s (method_for a s p d name m i)
 method_for_apt n a s p d name m None b top k e = λ q. tt
 method_for_apt n a s p d name m (Some i) b top k e =
@@ -198,11 +198,11 @@ method_for_apt n a s p d name m (Some i) b top k e =
     (OfMethods (There i) (written_heads s m) (length s.procedures) a.spot.sited (named_form a.spot.sited s)) b refl top k (method_functions s name m) (λ rs. refl)
     (λ u rs c. there_joined s name i m there.0 u (some_class s b.whole) there.1 (ap (λ o. fits s o m) (sym there.1) ∙ f) c)) (λ f q. tt)
 
-where_top : (n : ℕ) (a : Around) (s : Tables) (top : Bool) (p : Place) (x : Node) → (top ≡ true → WhereSound n a s x) → WhereSound n a s (if not top then offends p NotTopLevel else x)
+where_top : (n : ℕ) (a : StaticContext) (s : Tables) (top : Bool) (p : Place) (x : Node) → (top ≡ true → WhereSound n a s x) → WhereSound n a s (if not top then offends p NotTopLevel else x)
 where_top n a s true p x h = h refl
 where_top n a s false p x h = λ q. tt
 
-method_named_apt : (names : List (List ℕ)) (n : ℕ) (a : Around) (s : Tables) (p : Place) (d : Item) (m : WrittenMethod) (name : GivenName) → Stage a s
+method_named_apt : (names : List (List ℕ)) (n : ℕ) (a : StaticContext) (s : Tables) (p : Place) (d : Item) (m : WrittenMethod) (name : GivenName) → Stage a s
     → WhereSound n a s (method_named_as names a s p d m name)
 method_named_apt names n a s p d m no_name b = λ q. tt
 method_named_apt names n a s p d m unfit b = λ q. tt
@@ -212,15 +212,15 @@ method_named_apt names n a s p d m (given name) b =
     where_test n a s (is_closed names a s d name) _ _ (λ e q. tt) (λ e.
     where_within n a s p _ (λ k. method_for_apt n a s p d name m (generic_named s.generics name) b top k refl)))
 
-method_as_apt : (names : List (List ℕ)) (n : ℕ) (a : Around) (s : Tables) (p : Place) (d : Item) (m : Option WrittenMethod) → Stage a s
+method_as_apt : (names : List (List ℕ)) (n : ℕ) (a : StaticContext) (s : Tables) (p : Place) (d : Item) (m : Option WrittenMethod) → Stage a s
     → WhereSound n a s (method_as names a s p d m)
 method_as_apt names n a s p d None b = λ q. tt
 method_as_apt names n a s p d (Some m) b =
     where_test n a s (some_fresh_class (list_items m.list)) _ _ (λ e q. tt) (λ e. method_named_apt names n a s p d m (given_name names d) b)
 
-defmethod_apt : (names : List (List ℕ)) (n : ℕ) (a : Around) (s : Tables) (p : Place) (ds : List Item) → Stage a s → WhereSound n a s (defmethod_row names a s p ds)
+defmethod_apt : (names : List (List ℕ)) (n : ℕ) (a : StaticContext) (s : Tables) (p : Place) (ds : List Item) → Stage a s → WhereSound n a s (defmethod_row names a s p ds)
 defmethod_apt names n a s p [] b = λ q. tt
 defmethod_apt names n a s p (d ∷ ds) b = method_as_apt names n a s p d (method_in names ds) b
 
-pub apt_defmethod : (names : List (List ℕ)) (n : ℕ) (a : Around) (s : Tables) (p : Place) (ds : List Item) → Stage a s → AllOf (Good n) ds → AptAt n a s (defmethod_row names a s p ds)
+pub apt_defmethod : (names : List (List ℕ)) (n : ℕ) (a : StaticContext) (s : Tables) (p : Place) (ds : List Item) → Stage a s → AllOf (WellFormed n) ds → AptAt n a s (defmethod_row names a s p ds)
 apt_defmethod names n a s p ds b g = defmethod_apt names n a s p ds b (sound_defmethod names n a s p ds g)

@@ -13,17 +13,17 @@ use Rattle.lang_meaning.specs.Form.{Form}
 use Rattle.lang_meaning.specs.ProgramCounts.{procedure_nodes}
 use Rattle.lang_meaning.specs.Standing.{is_alone}
 use Rattle.front_profile.specs.declared.tables.Tables.{Tables}
-use Rattle.front_profile.specs.declared.making.Found.{Found}
-use Rattle.front_profile.specs.declared.making.Making.{Making}
-use Rattle.front_profile.specs.Nodes.{Around, Part, form, below, inner, bind, parameter, wrong, function, initform, accessor, method, Node, whole}
-use Rattle.front_profile.specs.Makings.{leaf_form, made_form, finish}
+use Rattle.front_profile.specs.declared.elaboration.ElaboratedPart.{ElaboratedPart}
+use Rattle.front_profile.specs.declared.elaboration.Elaboration.{Elaboration}
+use Rattle.front_profile.specs.Nodes.{StaticContext, Part, form, below, inner, bind, parameter, wrong, function, initform, accessor, method, Node, whole}
+use Rattle.front_profile.specs.Elaborations.{leaf_form, made_form, finish}
 use Rattle.front_profile.specs.RowWords.{within_depth}
 use Rattle.front_profile.specs.DefiningRows.{defining_offence, unless_offending, with_name, named_form}
 use Rattle.front_profile.specs.Sound.{weight, SoundPart, AllSound, SoundNode}
 use Rattle.front_profile.specs.Definitions.{Definitions, defined, Later, SoundDefinitions, EachStands, procedure_count}
 use Rattle.front_profile.specs.Places.{scope_of}
 use Rattle.front_profile.specs.Numbers.{Numbered}
-use Rattle.front_profile.specs.Right.{RightIn, Counted}
+use Rattle.front_profile.specs.Right.{RightIn, NodesCounted}
 use Rattle.front_profile.proofs.Definitions.{later_then, Entered, counted_then, counted_more}
 use Rattle.front_profile.proofs.Good.{good_later}
 use Rattle.front_profile.proofs.Procedures.{MadeFrom, Same, IsLow, AllLow}
@@ -35,28 +35,28 @@ use Rattle.front_profile.proofs.Methods.{Joined}
 
 -- parts that are functions, or are wrong
 
-abbrev pub IsFunction : Part → Type 0
-IsFunction (wrong p r) = Unit {0}
-IsFunction (function (initform d)) = Unit {0}
-IsFunction (function (accessor n k d)) = is_formed d ≡ true
-IsFunction (function (method n has_next ps fs)) = Unit {0}
-IsFunction other = ⊥
+abbrev pub IsFunctionPart : Part → Type 0
+IsFunctionPart (wrong p r) = Unit {0}
+IsFunctionPart (function (initform d)) = Unit {0}
+IsFunctionPart (function (accessor n k d)) = is_formed d ≡ true
+IsFunctionPart (function (method n has_next ps fs)) = Unit {0}
+IsFunctionPart other = ⊥
 
 abbrev pub AllFunctions : List Part → Type 0
-AllFunctions xs = AllOf IsFunction xs
+AllFunctions xs = AllOf IsFunctionPart xs
 
-apt_function : (n w : ℕ) (o i a : Around) (x : Part) → a.spot.top ≡ true → SoundPart n w o i x → IsFunction x → AptPart n a x
+apt_function : (n w : ℕ) (o i a : StaticContext) (x : Part) → a.spot.top ≡ true → SoundPart n w o i x → IsFunctionPart x → AptPart n a x
 apt_function n w o i a (wrong p r) e s f = tt
 apt_function n w o i a (function (initform d)) e s f = (s.0, e)
 apt_function n w o i a (function (accessor m k d)) e s f = (f, e)
 apt_function n w o i a (function (method m has_next ps fs)) e s f = (s.0, e)
 apt_function n w o i a other e s f = absurd f
 
-apt_functions : (n w : ℕ) (o i a : Around) (xs : List Part) → a.spot.top ≡ true → AllSound n w o i xs → AllFunctions xs → AllApt n a xs
+apt_functions : (n w : ℕ) (o i a : StaticContext) (xs : List Part) → a.spot.top ≡ true → AllSound n w o i xs → AllFunctions xs → AllApt n a xs
 apt_functions n w o i a [] e s f = tt
 apt_functions n w o i a (x ∷ xs) e s f = (apt_function n w o i a x e s.0 f.0, apt_functions n w o i a xs e s.1 f.1)
 
-low_function : (o i : Bool) (x : Part) → IsFunction x → IsLow o i x
+low_function : (o i : Bool) (x : Part) → IsFunctionPart x → IsLow o i x
 low_function o i (wrong p r) f = tt
 low_function o i (function w) f = tt
 low_function o i other f = absurd f
@@ -66,7 +66,7 @@ low_functions o i [] f = tt
 low_functions o i (x ∷ xs) f = (low_function o i x f.0, low_functions o i xs f.1)
 
 -- their nodes are counted by their procedures
-none_counted : (xs : List Part) (rs : List Found) → AllFunctions xs → AllRight xs → counted_nodes xs rs ≡ 0
+none_counted : (xs : List Part) (rs : List ElaboratedPart) → AllFunctions xs → AllRight xs → counted_nodes xs rs ≡ 0
 none_counted [] rs f r = refl
 none_counted (x ∷ xs) [] f r = refl
 none_counted (form d ∷ xs) (y ∷ rs) f r = absurd f.0
@@ -90,7 +90,7 @@ stands_before g h l e s = record {
       ap (λ gs. list_any (λ (x : GenericRow). list_any (λ m. i == m.procedure) x.methods) gs || is_alone false (Some p)) e ∙ s.stands i p mine;
 }
 
-joined_counted : (b : Bool) (x g h : Definitions) (n : ℕ) → Joined g h → Counted b x g n → Counted b x h n
+joined_counted : (b : Bool) (x g h : Definitions) (n : ℕ) → Joined g h → NodesCounted b x g n → NodesCounted b x h n
 joined_counted b x g h n j c =
     let sites : length h.sites ≡ length g.sites = ap length j.sites in
     let count : procedure_count h ≡ procedure_count g = ap (λ ps. sum_by procedure_nodes ps) j.procedures in
@@ -109,19 +109,19 @@ pub record FunctionsCame (s : Tables) (xs : List Part) (u : Tables) : Type 0 whe
   pub made : MadeFrom (length s.procedures) xs u.procedures
 
 -- a node, where it is sound
-abbrev pub WhereSound : ℕ → Around → Tables → Node → Type 0
+abbrev pub WhereSound : ℕ → StaticContext → Tables → Node → Type 0
 WhereSound n a s x = SoundNode n (weight a.spot) x → AptAt n a s x
 
-pub where_test : (n : ℕ) (a : Around) (s : Tables) (b : Bool) (x y : Node) → (b ≡ true → WhereSound n a s x) → (b ≡ false → WhereSound n a s y)
+pub where_test : (n : ℕ) (a : StaticContext) (s : Tables) (b : Bool) (x y : Node) → (b ≡ true → WhereSound n a s x) → (b ≡ false → WhereSound n a s y)
     → WhereSound n a s (if b then x else y)
 where_test n a s true x y g h = g refl
 where_test n a s false x y g h = h refl
 
-pub where_within : (n : ℕ) (a : Around) (s : Tables) (p : Place) (x : Node) → (a.spot.depth + 1 ≤ 1000 → WhereSound n a s x) → WhereSound n a s (within_depth 1 a p x)
+pub where_within : (n : ℕ) (a : StaticContext) (s : Tables) (p : Place) (x : Node) → (a.spot.depth + 1 ≤ 1000 → WhereSound n a s x) → WhereSound n a s (within_depth 1 a p x)
 where_within n a s p x g =
     where_test n a s (nat_le (a.spot.depth + 1) 1000) x _ (λ e. g (leb-true (a.spot.depth + 1) 1000 e)) (λ e k. tt)
 
-pub where_defining : (n : ℕ) (a : Around) (s : Tables) (p : Place) (top taken reserved : Bool) (x : Node)
+pub where_defining : (n : ℕ) (a : StaticContext) (s : Tables) (p : Place) (top taken reserved : Bool) (x : Node)
     → (top ≡ true → taken ≡ false → reserved ≡ false → WhereSound n a s x) → WhereSound n a s (unless_offending p (defining_offence top taken reserved) x)
 where_defining n a s p top true reserved x h = λ k. tt
 where_defining n a s p false false reserved x h = λ k. tt
@@ -129,15 +129,15 @@ where_defining n a s p true false true x h = λ k. tt
 where_defining n a s p true false false x h = h refl refl refl
 
 -- a definition at top level, whose name is a literal in a file
-pub apt_joining : (n : ℕ) (a : Around) (s : Tables) (d : Item) (xs : List Part) (k : Making) → Stage a s → is_formed d ≡ true → a.spot.top ≡ true → a.spot.depth + 1 ≤ 1000
-    → AllFunctions xs → ((rs : List Found) → made_form (record { site = None; making = k }) rs ≡ leaf_form (named_form a.spot.sited s))
-    → ((u : Tables) (rs : List Found) → FunctionsCame s xs u → Joins (length s.procedures) (defined u) (defined (finish k rs u)))
+pub apt_joining : (n : ℕ) (a : StaticContext) (s : Tables) (d : Item) (xs : List Part) (k : Elaboration) → Stage a s → is_formed d ≡ true → a.spot.top ≡ true → a.spot.depth + 1 ≤ 1000
+    → AllFunctions xs → ((rs : List ElaboratedPart) → made_form (record { site = None; making = k }) rs ≡ leaf_form (named_form a.spot.sited s))
+    → ((u : Tables) (rs : List ElaboratedPart) → FunctionsCame s xs u → Joins (length s.procedures) (defined u) (defined (finish k rs u)))
     → WhereSound n a s (whole a a (with_name a.spot.sited d s) xs (record { site = None; making = k }))
 apt_joining n a s d xs k b formed top l f is join sound =
     let t : Tables = with_name a.spot.sited d s in
     let e : Entered (defined s) (defined t) = name_entered a.spot.sited d s b.whole formed in
     let parts : AllApt n a xs = apt_functions n (weight a.spot) a a a xs top sound f in
-    let came : (u : Tables) (rs : List Found) → AllCame a a (defined t) xs rs (defined u) → FunctionsCame s xs u =
+    let came : (u : Tables) (rs : List ElaboratedPart) → AllCame a a (defined t) xs rs (defined u) → FunctionsCame s xs u =
     λ u rs c.
     let low : AllLow a.spot.top a.spot.top xs = low_functions a.spot.top a.spot.top xs f in
     let same : Same (defined t) (defined u) = c.same low in
@@ -147,7 +147,7 @@ apt_joining n a s d xs k b formed top l f is join sound =
       right = all_right (spots (defined u) a a rs) xs rs c.match;
       made = subst (λ (m : ℕ). MadeFrom m xs u.procedures) (ap length e.same.procedures) (c.made low);
     } in
-    let joins : (u : Tables) (rs : List Found) → AllCame a a (defined t) xs rs (defined u) → Joins (length s.procedures) (defined u) (defined (finish k rs u)) =
+    let joins : (u : Tables) (rs : List ElaboratedPart) → AllCame a a (defined t) xs rs (defined u) → Joins (length s.procedures) (defined u) (defined (finish k rs u)) =
     λ u rs c. join u rs (came u rs c) in
     record {
       entered = e;

@@ -11,8 +11,8 @@ use Rattle.lang_meaning.specs.Lookup.{all_differ, is_in}
 use Rattle.lang_classes.specs.InheritedClasses.{Hierarchy}
 use Rattle.lang_dispatch.specs.Methods.{names_of}
 use Rattle.front_profile.specs.declared.tables.Tables.{Tables}
-use Rattle.front_profile.specs.declared.making.Head.{Head}
-use Rattle.front_profile.specs.Makings.{with_generic, with_method_at}
+use Rattle.front_profile.specs.declared.elaboration.MethodHead.{MethodHead}
+use Rattle.front_profile.specs.Elaborations.{with_generic, with_method_at}
 use Rattle.front_profile.specs.DefiningRows.{has_function as has_name}
 use Rattle.front_profile.specs.Suits.{SuitsName}
 use Rattle.front_profile.specs.Below.{SameNames}
@@ -77,7 +77,7 @@ known_generic s n required rest of_file w =
     }
 
 -- with a method more
-pub known_method : (s : Tables) (i : ℕ) (h : Head) (p : ℕ) → KnownTables s → list_all (λ c. nat_lt c (length s.classes.rows)) h.classes ≡ true
+pub known_method : (s : Tables) (i : ℕ) (h : MethodHead) (p : ℕ) → KnownTables s → list_all (λ c. nat_lt c (length s.classes.rows)) h.classes ≡ true
     → KnownTables (with_method_at i h p s)
 known_method s i h p w l =
     let n : ℕ = length s.classes.rows in

@@ -32,7 +32,7 @@ pub mod SuitedClasses
 pub mod AllRows
 pub mod Parts
 pub mod PartsBehind
-pub mod Comes
+pub mod Elaborated
 pub mod Programs
 pub mod Classes
 pub mod Nodes

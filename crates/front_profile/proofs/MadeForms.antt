@@ -4,8 +4,8 @@ use Rattle.std.proofs.lemmas.Bool.{le-leb, lt-ltb, eq-eqb}
 use Rattle.std.proofs.lemmas.Bool.{and_from}
 use Rattle.base.specs.AllOf.{AllOf, all_take, all_drop}
 use Rattle.lang_meaning.specs.declared.primitive.Primitive.{Primitive}
-use Rattle.lang_meaning.specs.declared.part.Part.{Part as Captured}
-use Rattle.lang_meaning.specs.declared.scope.Around.TheVariants as exit
+use Rattle.lang_meaning.specs.declared.capture.Capture.{Capture as Captured}
+use Rattle.lang_meaning.specs.declared.scope.ExitForm.TheVariants as exit
 use Rattle.lang_meaning.specs.declared.scope.LexicalScope.{LexicalScope}
 use Rattle.lang_meaning.specs.Form.{Form, form_and, ClauseForms, BindingForms, DynamicForms, literal, local, let_form, lambda, call, call_value, prim, clauses, block, tagbody, dynamic_let, go, parameters}
 use Rattle.lang_meaning.specs.Arity.{arity}
@@ -16,11 +16,11 @@ use Rattle.lang_meaning.specs.Standing.{with_bound, with_around, is_variable, ex
 use Rattle.lang_meaning.specs.model.View.{forms, forms_back}
 use Rattle.lang_meaning.specs.bridge.Lengths.{forms_counted}
 use Rattle.lang_meaning.specs.bridge.Judged.{fits_folded, stands_folded}
-use Rattle.front_profile.specs.declared.making.One.{One}
-use Rattle.front_profile.specs.declared.making.One.TheVariants.{SetVariable, ReturnTo}
+use Rattle.front_profile.specs.declared.elaboration.One.{One}
+use Rattle.front_profile.specs.declared.elaboration.One.TheVariants.{SetVariable, ReturnTo}
 use Rattle.lang_meaning.specs.declared.kinds.OverTwo.{OverTwo}
 use Rattle.lang_meaning.specs.declared.kinds.OverTwo.TheVariants.{Apply, While, Catch, Throw, Unwind, WithHandler, Signal, Continue}
-use Rattle.front_profile.specs.Makings.{body_of, one_of, two_of, make_segments}
+use Rattle.front_profile.specs.Elaborations.{body_of, one_of, two_of, make_segments}
 use Rattle.front_profile.specs.Definitions.{Definitions, rows_of}
 use Rattle.front_profile.specs.Right.{RightIn}
 use Rattle.front_profile.proofs.Forms.{right_whole, depth_folded}

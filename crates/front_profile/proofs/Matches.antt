@@ -8,25 +8,25 @@ use Rattle.lang_meaning.specs.declared.scope.LexicalScope.{LexicalScope}
 use Rattle.lang_meaning.specs.Form.{Form}
 use Rattle.lang_meaning.specs.Subforms.{value_list, dynamic_value_list}
 use Rattle.lang_meaning.specs.Mentions.{variables_bound}
-use Rattle.front_profile.specs.declared.making.Found.{Found}
-use Rattle.front_profile.specs.declared.making.Found.TheVariants.{Value, Binding, Parameter}
+use Rattle.front_profile.specs.declared.elaboration.ElaboratedPart.{ElaboratedPart}
+use Rattle.front_profile.specs.declared.elaboration.ElaboratedPart.TheVariants.{Value, Binding, Parameter}
 use Rattle.front_profile.specs.Nodes.{Part, form, below, inner, bind, parameter, wrong, function}
-use Rattle.front_profile.specs.Makings.{forms_found, variables_found, bindings_found, make_dynamics, behind_dynamics}
+use Rattle.front_profile.specs.Elaborations.{forms_found, variables_found, bindings_found, make_dynamics, behind_dynamics}
 use Rattle.front_profile.specs.Shapes.{Pair}
 use Rattle.front_profile.specs.RowWords.{each_form, each_below, each_inner, each_bound, each_parameter}
 use Rattle.front_profile.specs.BindingRows.{values_of}
-use Rattle.front_profile.specs.Scopes.{Within}
+use Rattle.front_profile.specs.Scopes.{ScopeWithin}
 use Rattle.front_profile.specs.Definitions.{Definitions}
 use Rattle.front_profile.specs.Right.{RightIn}
 use Rattle.front_profile.proofs.Forms.{right_within}
 
 -- the variables that were found
-abbrev pub new_variable : Found → List ℕ
+abbrev pub new_variable : ElaboratedPart → List ℕ
 new_variable (Value f) = []
 new_variable (Binding v f) = v ∷ []
 new_variable (Parameter v) = v ∷ []
 
-abbrev pub new_variables : List Found → List ℕ
+abbrev pub new_variables : List ElaboratedPart → List ℕ
 new_variables [] = []
 new_variables (r ∷ rs) = new_variable r ++ new_variables rs
 
@@ -47,7 +47,7 @@ RightBelow p f = RightIn p.defined p.outside (p.depth + 1) f
 abbrev pub RightInside : Spots → Form → Type 0
 RightInside p f = RightIn p.defined p.inside p.inner_depth f
 
-abbrev pub Matches : Spots → Part → Found → Type 0
+abbrev pub Matches : Spots → Part → ElaboratedPart → Type 0
 Matches p (form d) (Value f) = RightOutside p f
 Matches p (form d) (Binding v f) = ⊥
 Matches p (form d) (Parameter v) = ⊥
@@ -68,7 +68,7 @@ Matches p (function w) (Value f) = Unit {0}
 Matches p (function w) (Binding v f) = ⊥
 Matches p (function w) (Parameter v) = ⊥
 
-abbrev pub AllMatch : Spots → List Part → List Found → Type 0
+abbrev pub AllMatch : Spots → List Part → List ElaboratedPart → Type 0
 AllMatch p [] [] = Unit {0}
 AllMatch p [] (r ∷ rs) = ⊥
 AllMatch p (x ∷ xs) [] = ⊥
@@ -76,7 +76,7 @@ AllMatch p (x ∷ xs) (r ∷ rs) = Matches p x r × AllMatch p xs rs
 
 -- a larger scope inside
 
-match_within : (p : Spots) (s : LexicalScope) (x : Part) (r : Found) → Within p.inside s → Matches p x r → Matches (record p { inside = s }) x r
+match_within : (p : Spots) (s : LexicalScope) (x : Part) (r : ElaboratedPart) → ScopeWithin p.inside s → Matches p x r → Matches (record p { inside = s }) x r
 match_within p s (form d) (Value f) w h = h
 match_within p s (form d) (Binding v f) w h = h
 match_within p s (form d) (Parameter v) w h = h
@@ -97,7 +97,7 @@ match_within p s (function x) (Value f) w h = h
 match_within p s (function x) (Binding v f) w h = h
 match_within p s (function x) (Parameter v) w h = h
 
-pub all_match_within : (p : Spots) (s : LexicalScope) (xs : List Part) (rs : List Found) → Within p.inside s → AllMatch p xs rs → AllMatch (record p { inside = s }) xs rs
+pub all_match_within : (p : Spots) (s : LexicalScope) (xs : List Part) (rs : List ElaboratedPart) → ScopeWithin p.inside s → AllMatch p xs rs → AllMatch (record p { inside = s }) xs rs
 all_match_within p s [] [] w h = tt
 all_match_within p s [] (r ∷ rs) w h = h
 all_match_within p s (x ∷ xs) [] w h = h
@@ -105,7 +105,7 @@ all_match_within p s (x ∷ xs) (r ∷ rs) w h = (match_within p s x r w h.0, al
 
 -- forms outside, forms of bodies there, and forms inside
 
-pub forms_match : (p : Spots) (ds : List Item) (rs : List Found) → AllMatch p (each_form ds) rs → AllOf (RightOutside p) (forms_found rs)
+pub forms_match : (p : Spots) (ds : List Item) (rs : List ElaboratedPart) → AllMatch p (each_form ds) rs → AllOf (RightOutside p) (forms_found rs)
 forms_match p [] [] h = tt
 forms_match p [] (r ∷ rs) h = absurd h
 forms_match p (d ∷ ds) [] h = absurd h
@@ -114,7 +114,7 @@ forms_match p (d ∷ ds) (Binding v f ∷ rs) h = absurd h.0
 forms_match p (d ∷ ds) (Parameter v ∷ rs) h = absurd h.0
 
 -- as many forms as parts
-pub forms_as_many : (p : Spots) (ds : List Item) (rs : List Found) → AllMatch p (each_form ds) rs → length (forms_found rs) ≡ length ds
+pub forms_as_many : (p : Spots) (ds : List Item) (rs : List ElaboratedPart) → AllMatch p (each_form ds) rs → length (forms_found rs) ≡ length ds
 forms_as_many p [] [] h = refl
 forms_as_many p [] (r ∷ rs) h = absurd h
 forms_as_many p (d ∷ ds) [] h = absurd h
@@ -122,7 +122,7 @@ forms_as_many p (d ∷ ds) (Value f ∷ rs) h = omega (arith, forms_as_many p ds
 forms_as_many p (d ∷ ds) (Binding v f ∷ rs) h = absurd h.0
 forms_as_many p (d ∷ ds) (Parameter v ∷ rs) h = absurd h.0
 
-pub below_match : (p : Spots) (ds : List Item) (rs : List Found) → AllMatch p (each_below ds) rs → AllOf (RightBelow p) (forms_found rs)
+pub below_match : (p : Spots) (ds : List Item) (rs : List ElaboratedPart) → AllMatch p (each_below ds) rs → AllOf (RightBelow p) (forms_found rs)
 below_match p [] [] h = tt
 below_match p [] (r ∷ rs) h = absurd h
 below_match p (d ∷ ds) [] h = absurd h
@@ -130,7 +130,7 @@ below_match p (d ∷ ds) (Value f ∷ rs) h = (h.0, below_match p ds rs h.1)
 below_match p (d ∷ ds) (Binding v f ∷ rs) h = absurd h.0
 below_match p (d ∷ ds) (Parameter v ∷ rs) h = absurd h.0
 
-pub inner_match : (p : Spots) (ds : List Item) (rs : List Found) → AllMatch p (each_inner ds) rs → AllOf (RightInside p) (forms_found rs)
+pub inner_match : (p : Spots) (ds : List Item) (rs : List ElaboratedPart) → AllMatch p (each_inner ds) rs → AllOf (RightInside p) (forms_found rs)
 inner_match p [] [] h = tt
 inner_match p [] (r ∷ rs) h = absurd h
 inner_match p (d ∷ ds) [] h = absurd h
@@ -140,12 +140,12 @@ inner_match p (d ∷ ds) (Parameter v ∷ rs) h = absurd h.0
 
 -- variables with their values, and a body
 
-pub record BoundMatch (p : Spots) (rs : List Found) : Type 0 where
+pub record BoundMatch (p : Spots) (rs : List ElaboratedPart) : Type 0 where
   pub values : AllOf (RightOutside p) (value_list (bindings_found rs))
   pub forms : AllOf (RightInside p) (forms_found rs)
   pub variables : variables_bound (bindings_found rs) ≡ new_variables rs
 
-body_match : (p : Spots) (ds : List Item) (rs : List Found) → AllMatch p (each_inner ds) rs → BoundMatch p rs
+body_match : (p : Spots) (ds : List Item) (rs : List ElaboratedPart) → AllMatch p (each_inner ds) rs → BoundMatch p rs
 body_match p [] [] h = record { values = tt; forms = tt; variables = refl }
 body_match p [] (r ∷ rs) h = absurd h
 body_match p (d ∷ ds) [] h = absurd h
@@ -155,7 +155,7 @@ body_match p (d ∷ ds) (Value f ∷ rs) h =
 body_match p (d ∷ ds) (Binding v f ∷ rs) h = absurd h.0
 body_match p (d ∷ ds) (Parameter v ∷ rs) h = absurd h.0
 
-pub bound_match : (p : Spots) (qs : List Pair) (ds : List Item) (rs : List Found) → AllMatch p (each_bound qs ++ each_inner ds) rs → BoundMatch p rs
+pub bound_match : (p : Spots) (qs : List Pair) (ds : List Item) (rs : List ElaboratedPart) → AllMatch p (each_bound qs ++ each_inner ds) rs → BoundMatch p rs
 bound_match p [] ds rs h = body_match p ds rs h
 bound_match p (q ∷ qs) ds [] h = absurd h
 bound_match p (q ∷ qs) ds (Value f ∷ rs) h = absurd h.0
@@ -166,12 +166,12 @@ bound_match p (q ∷ qs) ds (Parameter v ∷ rs) h = absurd h.0
 
 -- parameters, and a body
 
-pub record ParametersMatch (p : Spots) (many : ℕ) (rs : List Found) : Type 0 where
+pub record ParametersMatch (p : Spots) (many : ℕ) (rs : List ElaboratedPart) : Type 0 where
   pub forms : AllOf (RightInside p) (forms_found rs)
   pub variables : variables_found rs ≡ new_variables rs
   pub count : length (variables_found rs) ≡ many
 
-no_parameter_match : (p : Spots) (ds : List Item) (rs : List Found) → AllMatch p (each_inner ds) rs → ParametersMatch p 0 rs
+no_parameter_match : (p : Spots) (ds : List Item) (rs : List ElaboratedPart) → AllMatch p (each_inner ds) rs → ParametersMatch p 0 rs
 no_parameter_match p [] [] h = record { forms = tt; variables = refl; count = refl }
 no_parameter_match p [] (r ∷ rs) h = absurd h
 no_parameter_match p (d ∷ ds) [] h = absurd h
@@ -181,7 +181,7 @@ no_parameter_match p (d ∷ ds) (Value f ∷ rs) h =
 no_parameter_match p (d ∷ ds) (Binding v f ∷ rs) h = absurd h.0
 no_parameter_match p (d ∷ ds) (Parameter v ∷ rs) h = absurd h.0
 
-pub parameters_match : (p : Spots) (xs : List Symbol) (ds : List Item) (rs : List Found) → AllMatch p (each_parameter xs ++ each_inner ds) rs
+pub parameters_match : (p : Spots) (xs : List Symbol) (ds : List Item) (rs : List ElaboratedPart) → AllMatch p (each_parameter xs ++ each_inner ds) rs
     → ParametersMatch p (length xs) rs
 parameters_match p [] ds rs h = no_parameter_match p ds rs h
 parameters_match p (x ∷ xs) ds [] h = absurd h
@@ -193,11 +193,11 @@ parameters_match p (x ∷ xs) ds (Parameter v ∷ rs) h =
 
 -- dynamic variables with their values, and a body
 
-pub record DynamicsMatch (p : Spots) (ns : List Name) (rs : List Found) : Type 0 where
+pub record DynamicsMatch (p : Spots) (ns : List Name) (rs : List ElaboratedPart) : Type 0 where
   pub values : AllOf (RightOutside p) (dynamic_value_list (make_dynamics ns (forms_found rs)))
   pub forms : AllOf (RightBelow p) (behind_dynamics ns (forms_found rs))
 
-pub dynamics_match : (p : Spots) (ns : List Name) (qs : List Pair) (ds : List Item) (rs : List Found) → length ns ≡ length qs
+pub dynamics_match : (p : Spots) (ns : List Name) (qs : List Pair) (ds : List Item) (rs : List ElaboratedPart) → length ns ≡ length qs
     → AllMatch p (values_of qs ++ each_below ds) rs → DynamicsMatch p ns rs
 dynamics_match p [] [] ds rs e h = record { values = tt; forms = below_match p ds rs h }
 dynamics_match p [] (q ∷ qs) ds rs e h = absurd (omega (arith, e))
@@ -211,15 +211,15 @@ dynamics_match p (n ∷ ns) (q ∷ qs) ds (Parameter v ∷ rs) e h = absurd h.0
 
 -- bodies of clauses, and what stands behind them
 
-pub record BodyThen (p : Spots) (many : ℕ) (ys : List Part) (rs : List Found) : Type 0 where
+pub record BodyThen (p : Spots) (many : ℕ) (ys : List Part) (rs : List ElaboratedPart) : Type 0 where
   pub body : List Form
-  pub rest : List Found
+  pub rest : List ElaboratedPart
   pub right : AllOf (RightBelow p) body
   pub count : length body ≡ many
   pub found : forms_found rs ≡ body ++ forms_found rest
   pub behind : AllMatch p ys rest
 
-pub body_then : (p : Spots) (ds : List Item) (ys : List Part) (rs : List Found) → AllMatch p (each_below ds ++ ys) rs → BodyThen p (length ds) ys rs
+pub body_then : (p : Spots) (ds : List Item) (ys : List Part) (rs : List ElaboratedPart) → AllMatch p (each_below ds ++ ys) rs → BodyThen p (length ds) ys rs
 body_then p [] ys rs h = record { body = []; rest = rs; right = tt; count = refl; found = refl; behind = h }
 body_then p (d ∷ ds) ys [] h = absurd h
 body_then p (d ∷ ds) ys (Value f ∷ rs) h =

@@ -14,7 +14,7 @@ use Rattle.lang_derived.specs.Asked.{list_items}
 use Rattle.front_profile.specs.declared.tables.Tables.{Tables}
 use Rattle.front_profile.specs.declared.tables.ReservedWords.{ReservedWords}
 use Rattle.front_profile.specs.declared.parameters.Parameters.{Parameters}
-use Rattle.front_profile.specs.declared.making.Found.{Found}
+use Rattle.front_profile.specs.declared.elaboration.ElaboratedPart.{ElaboratedPart}
 use Rattle.front_profile.specs.Nodes.{Part, form, below, inner, bind, parameter, wrong, function, method}
 use Rattle.front_profile.specs.Shapes.{parameter_in, symbol_of, is_rest_word, behind_rest, rest_alone, all_symbols, all_differ, only_if}
 use Rattle.front_profile.specs.MethodShapes.{Asked, any_object, of_class, Specialised, Taken, taken_by, without_classes, with_taken, specialised_of, where_they_differ, specialised_in, specialised_of_items, number_and, class_asked, classes_asked, unless_known, first_unknown, WrittenMethod, may_have_next}
@@ -32,7 +32,7 @@ abbrev pub AllRight : List Part → Type 0
 AllRight xs = AllOf IsRight xs
 
 -- what stands is right
-pub all_right : (p : Spots) (xs : List Part) (rs : List Found) → AllMatch p xs rs → AllRight xs
+pub all_right : (p : Spots) (xs : List Part) (rs : List ElaboratedPart) → AllMatch p xs rs → AllRight xs
 all_right p [] rs m = tt
 all_right p (x ∷ xs) [] m = absurd m
 all_right p (form d ∷ xs) (r ∷ rs) m = (tt, all_right p xs rs m.1)

@@ -15,14 +15,14 @@ use Rattle.lang_meaning.specs.Classes.{is_qualifier}
 use Rattle.lang_meaning.specs.Standing.{is_alone}
 use Rattle.lang_meaning.specs.Facts.{is_congruent, knows_next, method_fits, same_method}
 use Rattle.front_profile.specs.declared.tables.Tables.{Tables}
-use Rattle.front_profile.specs.declared.making.Head.{Head}
+use Rattle.front_profile.specs.declared.elaboration.MethodHead.{MethodHead}
 use Rattle.front_profile.specs.Nodes.{method}
-use Rattle.front_profile.specs.Makings.{with_method_at}
+use Rattle.front_profile.specs.Elaborations.{with_method_at}
 use Rattle.front_profile.specs.MethodShapes.{Asked, specialised_in, WrittenMethod, may_have_next}
 use Rattle.front_profile.specs.GenericRows.{as_many, fits_by_number, is_there, fits, written_head}
 use Rattle.front_profile.specs.Definitions.{Definitions, defined, Later, SoundDefinitions}
 use Rattle.front_profile.proofs.Definitions.{method_from, later_same, later_then}
-use Rattle.front_profile.proofs.Procedures.{Takes, IsAt}
+use Rattle.front_profile.proofs.Procedures.{Takes, IsProcedureOf}
 use Rattle.front_profile.proofs.Adding.{none_of_less, method_of, method_then, plus_method, tables_with, later_method, TakesMethod, sound_method}
 use Rattle.front_profile.proofs.MethodViews.{MethodView}
 
@@ -72,15 +72,15 @@ none_turned m ms h = none_of_less (λ k. same_method k m) (same_method m) (λ k 
 
 -- a generic function as it is judged, and as it is
 
-pub record Alike (x y : GenericRow) : Type 0 where
+pub record SameGeneric (x y : GenericRow) : Type 0 where
   pub required : y.required ≡ x.required
   pub rest : y.rest ≡ x.rest
   pub same : (k : MethodRow) → list_any (same_method k) y.methods ≡ list_any (same_method k) x.methods
 
-pub alike_same : (x : GenericRow) → Alike x x
+pub alike_same : (x : GenericRow) → SameGeneric x x
 alike_same x = record { required = refl; rest = refl; same = λ k. refl }
 
-pub alike_more : (x y : GenericRow) (h : Head) (p : ℕ) → Alike x y → Alike (plus_method x (method_of h 0)) (plus_method y (method_of h p))
+pub alike_more : (x y : GenericRow) (h : MethodHead) (p : ℕ) → SameGeneric x y → SameGeneric (plus_method x (method_of h 0)) (plus_method y (method_of h p))
 alike_more x y h p a = record {
   required = a.required;
   rest = a.rest;
@@ -130,8 +130,8 @@ congruent_rest true b e = subst (λ (c : Bool). (if c then true else not true) �
 congruent_rest false b e = subst (λ (c : Bool). (if c then false else not false) ≡ true) e refl
 
 -- the method with that procedure fits
-pub method_fits_there : (r : ProgramRows) (s : Tables) (n : Name) (m : WrittenMethod) (x y : GenericRow) (p : ℕ) (v : MethodView s n m) → FitsRow x s n m v → Alike x y
-    → length r.classes ≡ length s.classes.rows → IsAt (method n (may_have_next v.qualifier) v.takes.parameters m.body) r.procedures p
+pub method_fits_there : (r : ProgramRows) (s : Tables) (n : Name) (m : WrittenMethod) (x y : GenericRow) (p : ℕ) (v : MethodView s n m) → FitsRow x s n m v → SameGeneric x y
+    → length r.classes ≡ length s.classes.rows → IsProcedureOf (method n (may_have_next v.qualifier) v.takes.parameters m.body) r.procedures p
     → method_fits r y (method_of (record { qualifier = v.qualifier; classes = v.classes }) p) ≡ true
 method_fits_there r s n m x y p v f a c at =
     let t : Takes (length v.takes.parameters.required) (is_some v.takes.parameters.rest) (may_have_next v.qualifier) at.procedure = at.is in
@@ -168,10 +168,10 @@ pub joined_same : (g : Definitions) → SoundDefinitions g → Joined g g
 joined_same g w = record { sound = w; later = later_same g; literals = refl; procedures = refl; main = refl; sites = refl }
 
 -- the tables with a method are those definitions with it
-pub method_defined : (t : Tables) (i : ℕ) (h : Head) (p : ℕ) → method_then (defined t) i (method_of h p) ≡ defined (with_method_at i h p t)
+pub method_defined : (t : Tables) (i : ℕ) (h : MethodHead) (p : ℕ) → method_then (defined t) i (method_of h p) ≡ defined (with_method_at i h p t)
 method_defined t i h p = ap (λ gs. let g : Definitions = record (defined t) { generics = gs } in g) (sym (tables_with t t.generics i h p))
 
-pub joined_method : (t : Tables) (i : ℕ) (h : Head) (p : ℕ) → SoundDefinitions (defined t) → TakesMethod (defined t) i (method_of h p)
+pub joined_method : (t : Tables) (i : ℕ) (h : MethodHead) (p : ℕ) → SoundDefinitions (defined t) → TakesMethod (defined t) i (method_of h p)
     → Joined (defined t) (defined (with_method_at i h p t))
 joined_method t i h p w k =
     subst (λ (g : Definitions). Joined (defined t) g) (method_defined t i h p) (record {

@@ -3,19 +3,19 @@ use Rattle.std.proofs.Common.{◌≡◌, ◌+◌, ◌≤◌, ℕ, zero, suc, if�
 use Rattle.std.specs.List.{sum, fold}
 use Rattle.base.specs.declared.datum.Name.{Name}
 use Rattle.lang_meaning.specs.declared.primitive.Primitive.{Primitive}
-use Rattle.lang_meaning.specs.declared.part.Part.{Part as Captured}
+use Rattle.lang_meaning.specs.declared.capture.Capture.{Capture as Captured}
 use Rattle.lang_meaning.specs.Form.{Form, form_and, ClauseForms, local, clauses, let_form, lambda, call, call_value, prim, block, tagbody, dynamic_let, sited}
 use Rattle.lang_meaning.specs.Subforms.{forms_list, clause_list, value_list, dynamic_value_list, outer, inner}
 use Rattle.lang_meaning.specs.Counts.{own_nodes, is_function, all_nodes}
 use Rattle.lang_meaning.specs.model.View.{forms, forms_back}
 use Rattle.lang_meaning.specs.bridge.Walks.{folded}
-use Rattle.front_profile.specs.declared.making.Found.{Found}
-use Rattle.front_profile.specs.declared.making.Found.TheVariants.{Value, Binding, Parameter}
-use Rattle.front_profile.specs.declared.making.One.{One}
-use Rattle.front_profile.specs.declared.making.One.TheVariants.{SetVariable}
+use Rattle.front_profile.specs.declared.elaboration.ElaboratedPart.{ElaboratedPart}
+use Rattle.front_profile.specs.declared.elaboration.ElaboratedPart.TheVariants.{Value, Binding, Parameter}
+use Rattle.front_profile.specs.declared.elaboration.One.{One}
+use Rattle.front_profile.specs.declared.elaboration.One.TheVariants.{SetVariable}
 use Rattle.lang_meaning.specs.declared.kinds.OverTwo.{OverTwo}
 use Rattle.lang_meaning.specs.declared.kinds.OverTwo.TheVariants.{Apply, While, Catch, Throw, Unwind, WithHandler, Signal, Continue}
-use Rattle.front_profile.specs.Makings.{forms_found, bindings_found, body_of, one_of, two_of, make_segments, make_dynamics, behind_dynamics}
+use Rattle.front_profile.specs.Elaborations.{forms_found, bindings_found, body_of, one_of, two_of, make_segments, make_dynamics, behind_dynamics}
 
 abbrev pub nodes_in : List Form → ℕ
 nodes_in [] = 0
@@ -40,12 +40,12 @@ added [] = 0
 added (n ∷ ns) = n + added ns
 
 -- the nodes of what was found
-abbrev pub nodes_of : Found → ℕ
+abbrev pub nodes_of : ElaboratedPart → ℕ
 nodes_of (Value f) = all_nodes f
 nodes_of (Binding v f) = all_nodes f
 nodes_of (Parameter v) = 0
 
-abbrev pub found_nodes : List Found → ℕ
+abbrev pub found_nodes : List ElaboratedPart → ℕ
 found_nodes [] = 0
 found_nodes (r ∷ rs) = nodes_of r + found_nodes rs
 
@@ -58,7 +58,7 @@ more_bindings a n f v e = omega (arith, e)
 no_more : (n f v : ℕ) → n ≡ f + v → 0 + n ≡ f + v
 no_more n f v e = omega (arith, e)
 
-pub found_counted : (rs : List Found) → found_nodes rs ≡ nodes_in (forms_found rs) + nodes_in (value_list (bindings_found rs))
+pub found_counted : (rs : List ElaboratedPart) → found_nodes rs ≡ nodes_in (forms_found rs) + nodes_in (value_list (bindings_found rs))
 found_counted [] = refl
 found_counted (Value f ∷ rs) = more_values (all_nodes f) (found_nodes rs) (nodes_in (forms_found rs)) (nodes_in (value_list (bindings_found rs))) (found_counted rs)
 found_counted (Binding v f ∷ rs) = more_bindings (all_nodes f) (found_nodes rs) (nodes_in (forms_found rs)) (nodes_in (value_list (bindings_found rs))) (found_counted rs)
@@ -115,7 +115,7 @@ local_call_nodes v fs =
     local_more : (a n m own all : ℕ) → all ≡ 1 + own + (a + n) + 0 → n ≡ m → m + 1 ≤ all
     local_more a n m own all e f = omega (arith, e, f)
 
-pub let_nodes : (rs : List Found) → found_nodes rs + 1 ≤ all_nodes (let_form (bindings_found rs) (body_of (forms_found rs)))
+pub let_nodes : (rs : List ElaboratedPart) → found_nodes rs + 1 ≤ all_nodes (let_form (bindings_found rs) (body_of (forms_found rs)))
 let_nodes rs = omega (arith, nodes_folded (let_form (bindings_found rs) (body_of (forms_found rs))), body_nodes (forms_found rs), found_counted rs)
 
 pub lambda_nodes : (required : List ℕ) (rest : Option ℕ) (fs : List Form) (parts : List Captured) → nodes_in fs + 1 ≤ all_nodes (lambda required rest (body_of fs) parts)

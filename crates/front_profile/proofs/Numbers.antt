@@ -9,14 +9,14 @@ use Rattle.lang_meaning.specs.Subforms.{forms_list, clause_list, value_list, dyn
 use Rattle.lang_meaning.specs.Inside.{inside_form}
 use Rattle.lang_meaning.specs.Mentions.{variables_bound}
 use Rattle.lang_meaning.specs.bridge.Judged.{all_inside}
-use Rattle.front_profile.specs.declared.making.Found.{Found}
-use Rattle.front_profile.specs.declared.making.One.{One}
-use Rattle.front_profile.specs.declared.making.One.TheVariants.{SetVariable, SetGlobal, DefineGlobal, SetDynamic, DefineDynamic, ReturnTo}
+use Rattle.front_profile.specs.declared.elaboration.ElaboratedPart.{ElaboratedPart}
+use Rattle.front_profile.specs.declared.elaboration.One.{One}
+use Rattle.front_profile.specs.declared.elaboration.One.TheVariants.{SetVariable, SetGlobal, DefineGlobal, SetDynamic, DefineDynamic, ReturnTo}
 use Rattle.lang_meaning.specs.declared.kinds.OverTwo.{OverTwo}
 use Rattle.lang_meaning.specs.declared.kinds.OverTwo.TheVariants.{Apply, While, Catch, Throw, Unwind, WithHandler, Signal, Continue}
-use Rattle.front_profile.specs.declared.making.Making.{Making}
-use Rattle.front_profile.specs.declared.making.Making.TheVariants.{Ready, OfOne, OfTwo, OfBody, InSequence, CallOf, CallOfValue, CallOfLocal, CallOfPrimitive, OfClauses, OfVariables, OfDynamics, OfFunction, OfBlock, OfSegments, OfFunctionNamed, OfProcedure, OfAccessor, OfMethods, OfClass}
-use Rattle.front_profile.specs.Makings.{leaf_form, forms_found, variables_found, bindings_found, body_of, make_one, make_two, make_with_body, make_clauses, make_segments, make_dynamics, behind_dynamics, rest_found, make, at_site}
+use Rattle.front_profile.specs.declared.elaboration.Elaboration.{Elaboration}
+use Rattle.front_profile.specs.declared.elaboration.Elaboration.TheVariants.{Ready, OfOne, OfTwo, OfBody, InSequence, CallOf, CallOfValue, CallOfLocal, CallOfPrimitive, OfClauses, OfVariables, OfDynamics, OfFunction, OfBlock, OfSegments, OfFunctionNamed, OfProcedure, OfAccessor, OfMethods, OfClass}
+use Rattle.front_profile.specs.Elaborations.{leaf_form, forms_found, variables_found, bindings_found, body_of, make_one, make_two, make_with_body, make_clauses, make_segments, make_dynamics, behind_dynamics, rest_found, elaborate, at_site}
 use Rattle.front_profile.specs.Definitions.{Definitions, Later}
 use Rattle.front_profile.specs.Numbers.{is_from, numbers_fit, Numbered}
 use Rattle.front_profile.proofs.Tests.{all_more}
@@ -58,13 +58,13 @@ numbered_whole g h f t os is = record {
 
 -- what was found of parts
 
-pub record AllNumbered (g h : Definitions) (rs : List Found) : Type 0 where
+pub record AllNumbered (g h : Definitions) (rs : List ElaboratedPart) : Type 0 where
   pub forms : AllOf (Numbered g h) (forms_found rs)
   pub values : AllOf (Numbered g h) (value_list (bindings_found rs))
   pub variables : list_all (is_from g.variables h.variables) (new_variables rs) ≡ true
 
 -- what a making itself binds, or the form that it has
-abbrev pub OwnNumbers : Definitions → Definitions → Making → List Found → Type 0
+abbrev pub OwnNumbers : Definitions → Definitions → Elaboration → List ElaboratedPart → Type 0
 OwnNumbers g h (Ready l) rs = Numbered g h (leaf_form l)
 OwnNumbers g h (OfFunctionNamed name n rest of_file l) rs = Numbered g h (leaf_form l)
 OwnNumbers g h (OfMethods t hs p of_file l) rs = Numbered g h (leaf_form l)
@@ -123,7 +123,7 @@ segments_numbered : (g h : Definitions) (ns : List ℕ) (fs : List Form) → All
 segments_numbered g h [] fs e = tt
 segments_numbered g h (n ∷ ns) fs e = (body_numbered g h (take n fs) (all_take _ n fs e), segments_numbered g h ns (drop n fs) (all_drop _ n fs e))
 
-pub make_numbered : (g h : Definitions) (k : Making) (rs : List Found) → AllNumbered g h rs → OwnNumbers g h k rs → Numbered g h (make k rs)
+pub make_numbered : (g h : Definitions) (k : Elaboration) (rs : List ElaboratedPart) → AllNumbered g h rs → OwnNumbers g h k rs → Numbered g h (elaborate k rs)
 make_numbered g h (OfOne k) rs a o = one_numbered g h k (forms_found rs) a.forms
 make_numbered g h (OfTwo k) rs a o = two_numbered g h k (forms_found rs) a.forms
 make_numbered g h (OfBody k) rs a o = with_body_numbered g h k (forms_found rs) a.forms
@@ -155,7 +155,7 @@ site_numbered g h (Some site) f n = numbered_whole g h (sited site f) refl (n, t
 pub next_number : (low high n : ℕ) → low ≤ n → n < high → is_from low high n ≡ true
 next_number low high n l k = and_from _ _ (le-leb low n l) (lt-ltb n high k)
 
-pub all_numbered_wider : (g g2 h h2 : Definitions) (rs : List Found) → Later g2 g → Later h h2 → AllNumbered g h rs → AllNumbered g2 h2 rs
+pub all_numbered_wider : (g g2 h h2 : Definitions) (rs : List ElaboratedPart) → Later g2 g → Later h h2 → AllNumbered g h rs → AllNumbered g2 h2 rs
 all_numbered_wider g g2 h h2 rs l k a = record {
   forms = all_map (Numbered g h) (Numbered g2 h2) (λ f n. numbered_wider g g2 h h2 f l k n) (forms_found rs) a.forms;
   values = all_map (Numbered g h) (Numbered g2 h2) (λ f n. numbered_wider g g2 h h2 f l k n) (value_list (bindings_found rs)) a.values;

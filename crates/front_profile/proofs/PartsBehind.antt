@@ -4,19 +4,19 @@ use Rattle.std.specs.List.{list_any}
 use Rattle.std.proofs.lemmas.Bool.{or_left, or_right, and_from}
 use Rattle.base.specs.declared.datum.Symbol.{Symbol}
 use Rattle.lang_meaning.specs.declared.scope.LexicalScope.{LexicalScope}
-use Rattle.lang_meaning.specs.declared.part.Part.{Part as Captured}
-use Rattle.lang_meaning.specs.declared.part.Part.TheVariants as part
+use Rattle.lang_meaning.specs.declared.capture.Capture.{Capture as Captured}
+use Rattle.lang_meaning.specs.declared.capture.Capture.TheVariants as part
 use Rattle.lang_meaning.specs.Standing.{with_bound, exit_around}
 use Rattle.lang_meaning.specs.Counts.{all_nodes}
 use Rattle.front_profile.specs.declared.tables.Tables.{Tables}
 use Rattle.front_profile.specs.declared.bound.Bound.TheVariants.{Variable}
-use Rattle.front_profile.specs.Nodes.{Around, with_bound as bind_in, Part, form, below, inner, bind, parameter, wrong, function, Standing, behind, recorded}
+use Rattle.front_profile.specs.Nodes.{StaticContext, with_bound as bind_in, Part, form, below, inner, bind, parameter, wrong, function, Standing, behind, recorded}
 use Rattle.front_profile.specs.declared.spot.Spot.{Spot}
 use Rattle.front_profile.specs.Judged.{with_variable, AllFound, Verdicts, all_stand, one_ended, in_front}
-use Rattle.front_profile.specs.Scopes.{Provides, Within}
+use Rattle.front_profile.specs.Scopes.{Provides, ScopeWithin}
 use Rattle.front_profile.specs.Definitions.{Definitions, defined, Later, Undefined, SoundDefinitions, EachStands}
-use Rattle.front_profile.specs.Places.{variables_around, scope_of, GoodAround}
-use Rattle.front_profile.specs.Right.{Counted}
+use Rattle.front_profile.specs.Places.{variables_around, scope_of, WellFormedContext}
+use Rattle.front_profile.specs.Right.{NodesCounted}
 use Rattle.front_profile.proofs.Forms.{right_later, right_within}
 use Rattle.front_profile.proofs.Definitions.{later_same, later_then, undefined_then, each_stands_same, Entered, counted_then, counted_more}
 use Rattle.front_profile.specs.Numbers.{Numbered}
@@ -29,7 +29,7 @@ use Rattle.front_profile.proofs.Wanted.{spots, AllCame, AptPart, AllApt, part_no
 use Rattle.base.specs.Names.{slice_get-behind}
 use Rattle.base.specs.AllOf.{AllOf, all_map}
 use Rattle.front_profile.specs.Nodes.{Written}
-use Rattle.front_profile.proofs.Procedures.{MadeFrom, Same, IsAt, OneMore}
+use Rattle.front_profile.proofs.Procedures.{MadeFrom, Same, IsProcedureOf, OneProcedureMore}
 use Rattle.front_profile.proofs.Parts.{CameAs, AllCameTo, part_place, part_spot, part_tables, variable_entered}
 
 -- a variable of a part is one of the variables that were found
@@ -46,8 +46,8 @@ variable_moved w v vs us ks e h =
     alone true k = refl
     alone false k = k
 
-variable_within : (x : Symbol) (v : ℕ) (vs : List ℕ) (i : Around)
-    → Within (with_bound vs (scope_of (bind_in (Variable x v) i))) (with_bound (v ∷ vs) (scope_of i))
+variable_within : (x : Symbol) (v : ℕ) (vs : List ℕ) (i : StaticContext)
+    → ScopeWithin (with_bound vs (scope_of (bind_in (Variable x v) i))) (with_bound (v ∷ vs) (scope_of i))
 variable_within x v vs i = record { provides = provides }
   where
     provides : (p : Captured) → Provides (with_bound vs (scope_of (bind_in (Variable x v) i))) (with_bound (v ∷ vs) (scope_of i)) p
@@ -56,7 +56,7 @@ variable_within x v vs i = record { provides = provides }
     provides (part.Exit e) = λ a h. ap (exit_around e) (sym (exits_append i.bound (Variable x v ∷ []))) ∙ h
     provides part.Method = λ h. h
 
-wider : (vs : List ℕ) (s : LexicalScope) → Within s (with_bound vs s)
+wider : (vs : List ℕ) (s : LexicalScope) → ScopeWithin s (with_bound vs s)
 wider vs s = record { provides = provides }
   where
     provides : (p : Captured) → Provides s (with_bound vs s) p
@@ -70,7 +70,7 @@ newer_from : (m n : ℕ) (vs : List ℕ) → m ≤ n → AllOf (λ v. n ≤ v) v
 newer_from m n vs l e = all_map (λ v. n ≤ v) (λ v. m ≤ v) (λ v k. omega (arith, k, l)) vs e
 
 -- those behind a variable that is bound match beside it too
-bound_match : (o i : Around) (s : Tables) (x : Symbol) (xs : List Part) (m : Standing) (r : AllFound)
+bound_match : (o i : StaticContext) (s : Tables) (x : Symbol) (xs : List Part) (m : Standing) (r : AllFound)
     → AllCame o (bind_in (Variable x s.variables) i) (defined m.tables) xs r.found (defined r.tables)
     → AllMatch (record (spots (defined r.tables) o (bind_in (Variable x s.variables) i) r.found) { inside = with_bound (s.variables ∷ new_variables r.found) (scope_of i) }) xs r.found
 bound_match o i s x xs m r a =
@@ -94,14 +94,14 @@ undefined_variable s h u = record { procedures = u.procedures; classes = u.class
 stand_variable : (s : Tables) → EachStands (defined s) → EachStands (defined (with_variable s))
 stand_variable s e = each_stands_same (defined s) (defined (with_variable s)) (record { procedures = refl; classes = refl; generics = refl; functions = refl }) e
 
-function_at : (w : Written) (g h k : Definitions) → OneMore w g h → Later h k → IsAt w k.procedures (length g.procedures)
+function_at : (w : Written) (g h k : Definitions) → OneProcedureMore w g h → Later h k → IsProcedureOf w k.procedures (length g.procedures)
 function_at w g h k o l = record {
   procedure = o.procedure;
   at = l.kept (length g.procedures) o.procedure (ap (λ ps. slice_get ps (length g.procedures)) o.procedures ∙ slice_get-behind g.procedures o.procedure);
   is = o.is;
 }
 
-part_more : (o i : Around) (s : Tables) (x : Part) (xs : List Part) (m : Standing) (r : AllFound) (n : ℕ) → SoundDefinitions (defined s) → AptPart n i x
+part_more : (o i : StaticContext) (s : Tables) (x : Part) (xs : List Part) (m : Standing) (r : AllFound) (n : ℕ) → SoundDefinitions (defined s) → AptPart n i x
     → CameAs (part_place o i x) (part_spot o i x) (defined (part_tables s x)) m → AllCame o (behind i s x) (defined m.tables) xs r.found (defined r.tables)
     → AllCame o i (defined s) (x ∷ xs) (recorded s x m.form ∷ r.found) (defined r.tables)
 part_more o i s (form d) xs m r n w x c a = record {
@@ -186,19 +186,19 @@ part_more o i s (function f) xs m r n w k c a = record {
 }
 
 -- the sites of a part, and of those behind it
-part_counted : (o i : Around) (s : Tables) (x : Part) (m : Standing) (k : Definitions) (n : ℕ) → i.spot.sited ≡ o.spot.sited
-    → Counted (part_spot o i x).sited (defined (part_tables s x)) (defined m.tables) (wanted_nodes (part_place o i x) m.form)
-    → Counted o.spot.sited (defined m.tables) k n → Counted o.spot.sited (defined s) k (part_nodes x (recorded s x m.form) + n)
+part_counted : (o i : StaticContext) (s : Tables) (x : Part) (m : Standing) (k : Definitions) (n : ℕ) → i.spot.sited ≡ o.spot.sited
+    → NodesCounted (part_spot o i x).sited (defined (part_tables s x)) (defined m.tables) (wanted_nodes (part_place o i x) m.form)
+    → NodesCounted o.spot.sited (defined m.tables) k n → NodesCounted o.spot.sited (defined s) k (part_nodes x (recorded s x m.form) + n)
 part_counted o i s (form d) m k n e c t = counted_then o.spot.sited (defined s) (defined m.tables) k (all_nodes m.form) n c t
 part_counted o i s (below d) m k n e c t = counted_then o.spot.sited (defined s) (defined m.tables) k (all_nodes m.form) n c t
 part_counted o i s (inner d) m k n e c t =
     counted_then o.spot.sited (defined s) (defined m.tables) k (all_nodes m.form) n
-    (subst (λ (b : Bool). Counted b (defined s) (defined m.tables) (all_nodes m.form)) e c) t
+    (subst (λ (b : Bool). NodesCounted b (defined s) (defined m.tables) (all_nodes m.form)) e c) t
 part_counted o i s (bind x d) m k n e c t =
-    let here : Counted o.spot.sited (defined s) (defined m.tables) (all_nodes m.form) = record { sites = c.sites } in
+    let here : NodesCounted o.spot.sited (defined s) (defined m.tables) (all_nodes m.form) = record { sites = c.sites } in
     counted_then o.spot.sited (defined s) (defined m.tables) k (all_nodes m.form) n here t
 part_counted o i s (parameter x) m k n e c t =
-    let here : Counted o.spot.sited (defined s) (defined m.tables) 0 = record { sites = c.sites } in
+    let here : NodesCounted o.spot.sited (defined s) (defined m.tables) 0 = record { sites = c.sites } in
     counted_then o.spot.sited (defined s) (defined m.tables) k 0 n here t
 part_counted o i s (wrong p q) m k n e c t =
     counted_more o.spot.sited (defined s) k (0 + n) _ (omega arith) (counted_then o.spot.sited (defined s) (defined m.tables) k 0 n c t)
@@ -247,7 +247,7 @@ part_numbered s (parameter x) m r l k e n a = record {
 part_numbered s (wrong p q) m r l k e n a = record { forms = (n, a.forms); values = a.values; variables = a.variables }
 part_numbered s (function w) m r l k e n a = record { forms = (n, a.forms); values = a.values; variables = a.variables }
 
-pub one_more_came : (o i : Around) (s : Tables) (x : Part) (xs : List Part) (m : Standing) (w : Verdicts) (n : ℕ) → SoundDefinitions (defined s) → i.spot.sited ≡ o.spot.sited
+pub one_more_came : (o i : StaticContext) (s : Tables) (x : Part) (xs : List Part) (m : Standing) (w : Verdicts) (n : ℕ) → SoundDefinitions (defined s) → i.spot.sited ≡ o.spot.sited
     → AptPart n i x → CameAs (part_place o i x) (part_spot o i x) (defined (part_tables s x)) m → AllCameTo o (behind i s x) (defined m.tables) xs w
     → AllCameTo o i (defined s) (x ∷ xs) (in_front (recorded s x m.form) w)
 one_more_came o i s x xs m (all_stand r) n w e a c b =
@@ -263,24 +263,24 @@ one_more_came o i s x xs m (all_stand r) n w e a c b =
     )
 one_more_came o i s x xs m (one_ended y) n w e a c b = tt
 
-pub good_behind : (i : Around) (s : Tables) (x : Part) (n : ℕ) (h : Definitions) → AptPart n i x → GoodAround (defined s) i → Later (defined (part_tables s x)) h
-    → GoodAround h (behind i s x)
+pub good_behind : (i : StaticContext) (s : Tables) (x : Part) (n : ℕ) (h : Definitions) → AptPart n i x → WellFormedContext (defined s) i → Later (defined (part_tables s x)) h
+    → WellFormedContext h (behind i s x)
 good_behind i s (bind x d) n h a g l =
     good_later (defined (with_variable s)) h (bind_in (Variable x s.variables) i) l (good_variable (defined s) x i a.1 g)
 good_behind i s (parameter x) n h a g l =
     good_later (defined (with_variable s)) h (bind_in (Variable x s.variables) i) l (good_variable (defined s) x i a g)
 good_behind i s other n h a g l = good_later (defined s) h i l g
 
-part_elsewhere : (n : ℕ) (i j : Around) (x : Part) → i.spot ≡ j.spot → AptPart n i x → AptPart n j x
+part_elsewhere : (n : ℕ) (i j : StaticContext) (x : Part) → i.spot ≡ j.spot → AptPart n i x → AptPart n j x
 part_elsewhere n i j (bind x d) e a = (a.0, ap (λ (t : Spot). t.top) (sym e) ∙ a.1)
 part_elsewhere n i j (parameter x) e a = ap (λ (t : Spot). t.top) (sym e) ∙ a
 part_elsewhere n i j (function w) e a = (a.0, ap (λ (t : Spot). t.top) (sym e) ∙ a.1)
 part_elsewhere n i j other e a = a
 
-pub elsewhere : (n : ℕ) (i j : Around) (xs : List Part) → i.spot ≡ j.spot → AllApt n i xs → AllApt n j xs
+pub elsewhere : (n : ℕ) (i j : StaticContext) (xs : List Part) → i.spot ≡ j.spot → AllApt n i xs → AllApt n j xs
 elsewhere n i j [] e a = tt
 elsewhere n i j (x ∷ xs) e a = (part_elsewhere n i j x e a.0, elsewhere n i j xs e a.1)
 
-pub same_spot : (i : Around) (s : Tables) (x : Part) → i.spot ≡ (behind i s x).spot
+pub same_spot : (i : StaticContext) (s : Tables) (x : Part) → i.spot ≡ (behind i s x).spot
 same_spot i s (form d) = refl
 same_spot i s other = refl

@@ -8,13 +8,13 @@ use Rattle.lang_meaning.specs.Form.{Form, parameters}
 use Rattle.lang_meaning.specs.Subforms.{clause_list}
 use Rattle.lang_meaning.specs.Standing.{with_bound}
 use Rattle.front_profile.specs.declared.tables.Tables.{Tables}
-use Rattle.front_profile.specs.declared.making.Found.{Found}
-use Rattle.front_profile.specs.declared.making.Found.TheVariants.{Value, Binding, Parameter}
-use Rattle.front_profile.specs.declared.making.One.{One}
-use Rattle.front_profile.specs.declared.making.One.TheVariants.{SetVariable}
+use Rattle.front_profile.specs.declared.elaboration.ElaboratedPart.{ElaboratedPart}
+use Rattle.front_profile.specs.declared.elaboration.ElaboratedPart.TheVariants.{Value, Binding, Parameter}
+use Rattle.front_profile.specs.declared.elaboration.One.{One}
+use Rattle.front_profile.specs.declared.elaboration.One.TheVariants.{SetVariable}
 use Rattle.lang_meaning.specs.declared.kinds.OverTwo.{OverTwo}
-use Rattle.front_profile.specs.Nodes.{Around, form}
-use Rattle.front_profile.specs.Makings.{forms_found, make_one, make_two, make_with_body, make_clauses, rest_found, finish_one}
+use Rattle.front_profile.specs.Nodes.{StaticContext, form}
+use Rattle.front_profile.specs.Elaborations.{forms_found, make_one, make_two, make_with_body, make_clauses, rest_found, finish_one}
 use Rattle.front_profile.specs.Shapes.{ClauseParts, all_symbols, symbols_of_rest}
 use Rattle.front_profile.specs.declared.parameters.Parameters.{Parameters}
 use Rattle.front_profile.specs.RowWords.{deeper, each_below, each_inner}
@@ -28,7 +28,7 @@ use Rattle.front_profile.proofs.Wanted.{spots}
 
 -- one form, two, and a form with a body
 
-pub found_one : (h : Definitions) (a i : Around) (k : One) (d : Item) (rs : List Found) → a.spot.depth + 1 ≤ 1000 → OneStands (scope_of a) k
+pub found_one : (h : Definitions) (a i : StaticContext) (k : One) (d : Item) (rs : List ElaboratedPart) → a.spot.depth + 1 ≤ 1000 → OneStands (scope_of a) k
     → AllMatch (spots h (deeper 1 a) i rs) (form d ∷ []) rs → RightAt h a (make_one k (forms_found rs))
 found_one h a i k d [] l o m = absurd m
 found_one h a i k d (Value f ∷ rs) l o m = made_one h (scope_of a) a.spot.depth k f l o m.0
@@ -39,7 +39,7 @@ pub one_ends : (k : One) (t : Tables) → defined (finish_one k t) ≡ defined t
 one_ends (SetVariable v) t = refl
 one_ends other t = refl
 
-pub found_two : (h : Definitions) (a i : Around) (k : OverTwo) (d e : Item) (rs : List Found) → a.spot.depth + 1 ≤ 1000
+pub found_two : (h : Definitions) (a i : StaticContext) (k : OverTwo) (d e : Item) (rs : List ElaboratedPart) → a.spot.depth + 1 ≤ 1000
     → AllMatch (spots h (deeper 1 a) i rs) (form d ∷ form e ∷ []) rs → RightAt h a (make_two k (forms_found rs))
 found_two h a i k d e [] l m = absurd m
 found_two h a i k d e (Value f ∷ []) l m = absurd m.1
@@ -49,7 +49,7 @@ found_two h a i k d e (Value f ∷ Parameter v ∷ rs) l m = absurd m.1.0
 found_two h a i k d e (Binding v f ∷ rs) l m = absurd m.0
 found_two h a i k d e (Parameter v ∷ rs) l m = absurd m.0
 
-pub found_with_body : (h : Definitions) (a i : Around) (k : OverTwo) (d : Item) (ds : List Item) (rs : List Found) → a.spot.depth + 2 ≤ 1000
+pub found_with_body : (h : Definitions) (a i : StaticContext) (k : OverTwo) (d : Item) (ds : List Item) (rs : List ElaboratedPart) → a.spot.depth + 2 ≤ 1000
     → AllMatch (spots h (deeper 1 a) i rs) (form d ∷ each_below ds) rs → RightAt h a (make_with_body k (forms_found rs))
 found_with_body h a i k d ds [] l m = absurd m
 found_with_body h a i k d ds (Value f ∷ rs) l m =
@@ -60,7 +60,7 @@ found_with_body h a i k d ds (Parameter v ∷ rs) l m = absurd m.0
 
 -- forms inside that bind nothing
 
-no_new : (p : Spots) (ds : List Item) (rs : List Found) → AllMatch p (each_inner ds) rs → new_variables rs ≡ []
+no_new : (p : Spots) (ds : List Item) (rs : List ElaboratedPart) → AllMatch p (each_inner ds) rs → new_variables rs ≡ []
 no_new p [] [] m = refl
 no_new p [] (r ∷ rs) m = absurd m
 no_new p (d ∷ ds) [] m = absurd m
@@ -68,7 +68,7 @@ no_new p (d ∷ ds) (Value f ∷ rs) m = no_new p ds rs m.1
 no_new p (d ∷ ds) (Binding v f ∷ rs) m = absurd m.0
 no_new p (d ∷ ds) (Parameter v ∷ rs) m = absurd m.0
 
-pub found_inner : (h : Definitions) (o i : Around) (ds : List Item) (rs : List Found) → AllMatch (spots h o i rs) (each_inner ds) rs
+pub found_inner : (h : Definitions) (o i : StaticContext) (ds : List Item) (rs : List ElaboratedPart) → AllMatch (spots h o i rs) (each_inner ds) rs
     → AllOf (RightIn h (scope_of i) i.spot.depth) (forms_found rs)
 found_inner h o i ds rs m =
     subst (λ (vs : List ℕ). AllOf (RightIn h (with_bound vs (scope_of i)) i.spot.depth) (forms_found rs)) (no_new (spots h o i rs) ds rs m)
@@ -83,7 +83,7 @@ some_deep g s n (f ∷ fs) e l = omega (arith, e.0.deep)
 abbrev pub ClausesRight : Spots → List (Option ℕ) → List Form → Type 0
 ClausesRight p ns fs = AllOf (RightOutside p) (clause_list (make_clauses ns fs))
 
-behind_test : (p : Spots) (f : Form) (ds : List Item) (cs : List ClauseParts) (rs : List Found) → RightOutside p f → (b : BodyThen p (length ds) (clause_parts cs) rs)
+behind_test : (p : Spots) (f : Form) (ds : List Item) (cs : List ClauseParts) (rs : List ElaboratedPart) → RightOutside p f → (b : BodyThen p (length ds) (clause_parts cs) rs)
     → ClausesRight p (clause_lengths cs) (forms_found b.rest) → ClausesRight p (length_if ds ∷ clause_lengths cs) (f ∷ forms_found rs)
 behind_test p f [] cs rs r b more =
     let same : forms_found rs ≡ forms_found b.rest = b.found ∙ dropped_front 0 b.body (forms_found b.rest) b.count in
@@ -103,7 +103,7 @@ behind_test p f (d ∷ ds) cs rs r b more =
       ),
     )
 
-pub found_clauses : (p : Spots) (cs : List ClauseParts) (rs : List Found) → AllMatch p (clause_parts cs) rs → ClausesRight p (clause_lengths cs) (forms_found rs)
+pub found_clauses : (p : Spots) (cs : List ClauseParts) (rs : List ElaboratedPart) → AllMatch p (clause_parts cs) rs → ClausesRight p (clause_lengths cs) (forms_found rs)
 found_clauses p [] rs m = tt
 found_clauses p (c ∷ cs) [] m = absurd m
 found_clauses p (c ∷ cs) (Binding v f ∷ rs) m = absurd m.0

@@ -5,9 +5,9 @@ use Rattle.std.proofs.lemmas.Bool.{eq-eqb, ne_eqb, lt-ltb}
 use Rattle.std.proofs.lemmas.Bool.{or_left, or_right}
 use Rattle.base.specs.declared.datum.Symbol.{Symbol}
 use Rattle.base.specs.AllOf.{AllOf}
-use Rattle.lang_meaning.specs.declared.scope.Around.{Around as Kind}
-use Rattle.lang_meaning.specs.declared.scope.Around.TheVariants as exit
-use Rattle.lang_meaning.specs.declared.scope.ExitAround.{ExitAround}
+use Rattle.lang_meaning.specs.declared.scope.ExitForm.{ExitForm as Kind}
+use Rattle.lang_meaning.specs.declared.scope.ExitForm.TheVariants as exit
+use Rattle.lang_meaning.specs.declared.scope.NamedExit.{NamedExit}
 use Rattle.lang_meaning.specs.Standing.{exit_around, is_segment}
 use Rattle.front_profile.specs.declared.bound.Bound.{Bound}
 use Rattle.front_profile.specs.declared.bound.Bound.TheVariants.{Variable, Function, Block, Tags}
@@ -64,7 +64,7 @@ function_there_more vs ws f (Tags x v) h = tt
 
 -- exits behind exits
 
-exit_front : (x : ℕ) (es fs : List ExitAround) (a : Kind) → exit_around x es ≡ Some a → exit_around x (es ++ fs) ≡ Some a
+exit_front : (x : ℕ) (es fs : List NamedExit) (a : Kind) → exit_around x es ≡ Some a → exit_around x (es ++ fs) ≡ Some a
 exit_front x [] fs a h = absurd (cc h)
 exit_front x (e ∷ es) fs a h = front (x == e.exit) e.around (exit_around x es) (exit_around x (es ++ fs)) (exit_front x es fs a) h
   where
@@ -72,7 +72,7 @@ exit_front x (e ∷ es) fs a h = front (x == e.exit) e.around (exit_around x es)
     front true k o u f h = h
     front false k o u f h = f h
 
-exit_behind : (x : ℕ) (es fs : List ExitAround) → exit_around x es ≡ None → exit_around x (es ++ fs) ≡ exit_around x fs
+exit_behind : (x : ℕ) (es fs : List NamedExit) → exit_around x es ≡ None → exit_around x (es ++ fs) ≡ exit_around x fs
 exit_behind x [] fs h = refl
 exit_behind x (e ∷ es) fs h = front (x == e.exit) e.around (exit_around x es) (exit_around x (es ++ fs)) (exit_behind x es fs) h
   where
@@ -192,7 +192,7 @@ tag_given x (Block y n) bs low high t h r = absurd (cc h)
 tag_given x (Variable y n) bs low high t h r = absurd (cc h)
 tag_given x (Function y n) bs low high t h r = absurd (cc h)
 
-segment_front : (n x : ℕ) (es fs : List ExitAround) → is_segment n (exit_around x es) ≡ true → is_segment n (exit_around x (es ++ fs)) ≡ true
+segment_front : (n x : ℕ) (es fs : List NamedExit) → is_segment n (exit_around x es) ≡ true → is_segment n (exit_around x (es ++ fs)) ≡ true
 segment_front n x es fs h = by_kind (exit_around x es) refl
   where
     by_kind : (o : Option Kind) → exit_around x es ≡ o → is_segment n (exit_around x (es ++ fs)) ≡ true

@@ -5,7 +5,7 @@ use Rattle.lang_meaning.specs.Standing.{is_alone}
 use Rattle.front_profile.specs.Nodes.{Part, form, below, inner, bind, parameter, wrong, function, Written, initform, accessor, method}
 use Rattle.base.specs.Data.{Item}
 use Rattle.base.specs.AllOf.{AllOf}
-use Rattle.front_profile.specs.Makings.{arguments_of}
+use Rattle.front_profile.specs.Elaborations.{arguments_of}
 use Rattle.front_profile.specs.RowWords.{each_inner}
 use Rattle.front_profile.specs.Definitions.{Definitions, Later, SoundDefinitions}
 
@@ -21,7 +21,7 @@ IsFor (accessor n k d) p = Takes (arguments_of k) false false p
 IsFor (method n has_next ps fs) p = Takes (length ps.required) (is_some ps.rest) has_next p
 
 -- the procedure of that number is one of that function
-pub record IsAt (w : Written) (ps : List Procedure) (n : ℕ) : Type 0 where
+pub record IsProcedureOf (w : Written) (ps : List Procedure) (n : ℕ) : Type 0 where
   pub procedure : Procedure
   pub at : slice_get ps n ≡ Some procedure
   pub is : IsFor w procedure
@@ -35,7 +35,7 @@ MadeFrom n (inner d ∷ xs) ps = MadeFrom n xs ps
 MadeFrom n (bind x d ∷ xs) ps = MadeFrom n xs ps
 MadeFrom n (parameter x ∷ xs) ps = MadeFrom n xs ps
 MadeFrom n (wrong p r ∷ xs) ps = MadeFrom n xs ps
-MadeFrom n (function w ∷ xs) ps = IsAt w ps n × MadeFrom (n + 1) xs ps
+MadeFrom n (function w ∷ xs) ps = IsProcedureOf w ps n × MadeFrom (n + 1) xs ps
 
 -- nothing but procedures more
 pub record Same (g h : Definitions) : Type 0 where
@@ -44,7 +44,7 @@ pub record Same (g h : Definitions) : Type 0 where
   pub functions : h.functions ≡ g.functions
 
 -- one procedure more, that of the function
-pub record OneMore (w : Written) (g h : Definitions) : Type 0 where
+pub record OneProcedureMore (w : Written) (g h : Definitions) : Type 0 where
   pub later : Later g h
   pub whole : SoundDefinitions h
   pub main : h.main ≡ g.main

@@ -5,7 +5,7 @@ use Rattle.std.proofs.lemmas.List.Sums.{sum_by_push}
 use Rattle.std.proofs.lemmas.Bool.{le-leb}
 use Rattle.std.proofs.lemmas.Bool.{and_parts, and_from}
 use Rattle.base.specs.Data.{Item}
-use Rattle.base.specs.GoodData.{Good}
+use Rattle.base.specs.WellFormedData.{WellFormed}
 use Rattle.base.specs.AllOf.{AllOf}
 use Rattle.lang_meaning.specs.declared.program.Procedure.{Procedure}
 use Rattle.lang_meaning.specs.declared.program.ProgramRows.{ProgramRows}
@@ -21,14 +21,14 @@ use Rattle.lang_meaning.specs.Facts.{body_fits, literal_fits, same_name, generic
 use Rattle.lang_classes.specs.InheritedBuiltIn.{AreBuiltIn}
 use Rattle.front_profile.specs.declared.tables.Tables.{Tables}
 use Rattle.front_profile.specs.declared.bound.Bound.{Bound}
-use Rattle.front_profile.specs.Nodes.{Around, Standing, stands as comes_to}
+use Rattle.front_profile.specs.Nodes.{StaticContext, Standing, stands as comes_to}
 use Rattle.front_profile.specs.Rows.{node}
-use Rattle.lang_derived.specs.GoodSteps.{StepsAreGood}
-use Rattle.front_profile.specs.Judged.{Comes}
+use Rattle.lang_derived.specs.WellFormedSteps.{StepsAreWellFormed}
+use Rattle.front_profile.specs.Judged.{Elaborates}
 use Rattle.front_profile.specs.Definitions.{Definitions, defined, rows_of, Later, procedure_fits, has_function, same_generic, main_fits, EachStands, WholeDefinitions, SoundTables, WholeTables, FewSites}
-use Rattle.front_profile.specs.Between.{WholeBetween, HasNoForm}
-use Rattle.front_profile.specs.Places.{variables_around, exit_numbers, exits_around, scope_of, Rises, FunctionThere, NothingAround, GoodAround}
-use Rattle.front_profile.specs.Right.{RightAt, Behind, Came, with_main, Counted}
+use Rattle.front_profile.specs.Between.{TopLevelTables, HasNoForm}
+use Rattle.front_profile.specs.Places.{variables_around, exit_numbers, exits_around, scope_of, Rises, FunctionThere, EmptyContext, WellFormedContext}
+use Rattle.front_profile.specs.Right.{RightAt, Behind, Came, with_main, NodesCounted}
 use Rattle.front_profile.specs.Classes.{BeginsBuiltIn}
 use Rattle.front_profile.proofs.Classes.{built_in_begin, begins_later, built_in_slots_fit, classes_fit}
 use Rattle.front_profile.proofs.Tests.{all_more}
@@ -40,11 +40,11 @@ use Rattle.front_profile.proofs.AllRows.{apt_node}
 use Rattle.front_profile.proofs.Growing.{begins_node}
 use Rattle.front_profile.proofs.Grown.{node_grows}
 use Rattle.front_profile.proofs.Parts.{CameAs}
-use Rattle.front_profile.proofs.Comes.{node_came}
+use Rattle.front_profile.proofs.Elaborated.{node_came}
 
 -- a datum at a good place beside sound tables
-pub form_came : StepsAreGood → ClassRules → (names : List (List ℕ)) (a : Around) (s : Tables) (d : Item) (m : Standing) → Good (length names) d → GoodAround (defined s) a
-    → SoundTables s → Comes names (node names a s d) (comes_to m) → Came a s m
+pub form_came : StepsAreWellFormed → ClassRules → (names : List (List ℕ)) (a : StaticContext) (s : Tables) (d : Item) (m : Standing) → WellFormed (length names) d → WellFormedContext (defined s) a
+    → SoundTables s → Elaborates names (node names a s d) (comes_to m) → Came a s m
 form_came keep rules names a s d m g o w c =
     let r : CameAs (right_at a) a.spot (defined s) m =
     node_came keep rules names (node names a s d) (comes_to m) c (right_at a) a.spot (defined s) (apt_node rules names (length names) a s d (record { good = o; whole = w }) g) in
@@ -61,7 +61,7 @@ whole_behind : (top : Bool) (s t : Tables) → Behind top (defined s) (defined t
 whole_behind top s t b w = record { sound = b.sound; procedures = b.stand w.procedures }
 
 -- where nothing is bound, all is good
-pub nothing_good : (g : Definitions) (a : Around) → NothingAround a → GoodAround g a
+pub nothing_good : (g : Definitions) (a : StaticContext) → EmptyContext a → WellFormedContext g a
 nothing_good g a n = record {
   variables = subst (λ (bs : List Bound). Rises 0 (variables_around bs) g.variables) (sym n.bound) (omega arith);
   exits = subst (λ (bs : List Bound). Rises 0 (exit_numbers bs) g.exits) (sym n.bound) (omega arith);
@@ -71,11 +71,11 @@ nothing_good g a n = record {
 
 -- a form that stands alone is a main form
 
-alone_there : (a : Around) → NothingAround a → scope_of a ≡ alone_in [] false
+alone_there : (a : StaticContext) → EmptyContext a → scope_of a ≡ alone_in [] false
 alone_there a n =
     ap (λ bs. scope_with (variables_around bs) (exits_around bs) a.spot.in_method) n.bound ∙ ap (λ b. scope_with [] [] b) n.method
 
-fits_as_main : (g : Definitions) (a : Around) (f : Form) → NothingAround a → RightAt g a f → main_fits g f ≡ true
+fits_as_main : (g : Definitions) (a : StaticContext) (f : Form) → EmptyContext a → RightAt g a f → main_fits g f ≡ true
 fits_as_main g a f n r =
     and_from _ _ (and_from _ _ r.fits (le-leb (depth f) 1000 (omega (arith, r.deep))))
     (subst (λ (s : LexicalScope). stands s f ≡ true) (alone_there a n) r.stands)
@@ -92,7 +92,7 @@ later_main g fs = record {
   exits = omega arith;
 }
 
-pub main_whole : (a : Around) (t : Tables) (f : Form) → NothingAround a → RightAt (defined t) a f → WholeTables t → WholeTables (with_main f t)
+pub main_whole : (a : StaticContext) (t : Tables) (f : Form) → EmptyContext a → RightAt (defined t) a f → WholeTables t → WholeTables (with_main f t)
 main_whole a t f n r w =
     let g : Definitions = defined t in
     let h : Definitions = defined (with_main f t) in
@@ -129,7 +129,7 @@ first_whole texts t b n = record {
   procedures = record { stands = λ i p e. let none : None ≡ Some p = ap (λ ps. slice_get ps i) (sym n.procedures) ∙ e in absurd (cc none) };
 }
 
-pub first_between : (texts : List (List ℕ)) (t : Tables) → AreBuiltIn texts t.classes → HasNoForm t → WholeBetween t
+pub first_between : (texts : List (List ℕ)) (t : Tables) → AreBuiltIn texts t.classes → HasNoForm t → TopLevelTables t
 first_between texts t b n =
     let none : length t.sites ≡ 0 = ap (λ ps. length ps) n.sites in
     record {
@@ -143,7 +143,7 @@ first_between texts t b n =
 main_then : (fs : List Form) (f : Form) → sum_by all_nodes (fs ++ f ∷ []) ≡ sum_by all_nodes fs + all_nodes f
 main_then fs f = sum_by_push all_nodes fs f
 
-sites_of_file : (b : Bool) (g h : Definitions) (f : Form) → h.main ≡ g.main → Counted b g h (all_nodes f) → FewSites g → FewSites (record h { main = h.main ++ f ∷ [] })
+sites_of_file : (b : Bool) (g h : Definitions) (f : Form) → h.main ≡ g.main → NodesCounted b g h (all_nodes f) → FewSites g → FewSites (record h { main = h.main ++ f ∷ [] })
 sites_of_file true g h f e c s =
     let same : sum_by all_nodes h.main ≡ sum_by all_nodes g.main = ap (sum_by all_nodes) e in
     record { few = omega (arith, c.sites, s.few, same, main_then h.main f) }
@@ -151,23 +151,23 @@ sites_of_file false g h f e c s =
     let same : sum_by all_nodes h.main ≡ sum_by all_nodes g.main = ap (sum_by all_nodes) e in
     record { few = omega (arith, c.sites, s.few, same, main_then h.main f) }
 
-sites_of_prelude : (b : Bool) (g h : Definitions) (f : Form) → b ≡ false → h.main ≡ g.main → Counted b g h (all_nodes f) → FewSites g → FewSites h
+sites_of_prelude : (b : Bool) (g h : Definitions) (f : Form) → b ≡ false → h.main ≡ g.main → NodesCounted b g h (all_nodes f) → FewSites g → FewSites h
 sites_of_prelude true g h f u e c s = absurd (cc u)
 sites_of_prelude false g h f u e c s =
     let same : sum_by all_nodes h.main ≡ sum_by all_nodes g.main = ap (sum_by all_nodes) e in
     record { few = omega (arith, c.sites, s.few, same) }
 
-same_classes : (a : Around) (s : Tables) (m : Standing) → Came a s m → BeginsBuiltIn s.classes.rows → BeginsBuiltIn m.tables.classes.rows
+same_classes : (a : StaticContext) (s : Tables) (m : Standing) → Came a s m → BeginsBuiltIn s.classes.rows → BeginsBuiltIn m.tables.classes.rows
 same_classes a s m r c = begins_later s.classes.rows m.tables.classes.rows r.grown.classes c
 
-pub file_between : (a : Around) (s : Tables) (m : Standing) → NothingAround a → Came a s m → WholeBetween s → WholeBetween (with_main m.form m.tables)
+pub file_between : (a : StaticContext) (s : Tables) (m : Standing) → EmptyContext a → Came a s m → TopLevelTables s → TopLevelTables (with_main m.form m.tables)
 file_between a s m n r b = record {
   whole = main_whole a m.tables m.form n r.right (whole_behind a.spot.top s m.tables r.behind b.whole);
   classes = same_classes a s m r b.classes;
   sites = sites_of_file a.spot.sited (defined s) (defined m.tables) m.form r.behind.main r.counted b.sites;
 }
 
-pub prelude_between : (a : Around) (s : Tables) (m : Standing) → a.spot.sited ≡ false → Came a s m → WholeBetween s → WholeBetween m.tables
+pub prelude_between : (a : StaticContext) (s : Tables) (m : Standing) → a.spot.sited ≡ false → Came a s m → TopLevelTables s → TopLevelTables m.tables
 prelude_between a s m u r b = record {
   whole = whole_behind a.spot.top s m.tables r.behind b.whole;
   classes = same_classes a s m r b.classes;
@@ -207,6 +207,6 @@ rows_whole g w c s n k =
 sites_within : (g : Definitions) → FewSites g → program_nodes (rows_of g) ≤ 100000 → length g.sites ≤ 100000
 sites_within g s n = omega (arith, s.few, n)
 
-pub program_whole : (t : Tables) → WholeBetween t → program_nodes (rows_of (defined t)) ≤ 100000 → program_cells (rows_of (defined t)) ≤ 262144
+pub program_whole : (t : Tables) → TopLevelTables t → program_nodes (rows_of (defined t)) ≤ 100000 → program_cells (rows_of (defined t)) ≤ 262144
     → is_whole (rows_of (defined t)) ≡ true
 program_whole t b n k = rows_whole (defined t) b.whole b.classes (sites_within (defined t) b.sites n) n k

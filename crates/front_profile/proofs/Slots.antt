@@ -18,10 +18,10 @@ use Rattle.lang_classes.specs.InheritedClasses.{slots_given, slot_limit, first_w
 use Rattle.lang_classes.specs.InheritedSlots.{has_name, each_first, with_name}
 use Rattle.lang_classes.specs.Keeping.{KeepsNames}
 use Rattle.lang_derived.specs.Asked.{list_items, is_word}
-use Rattle.front_profile.specs.declared.making.Accessor.{Accessor}
-use Rattle.front_profile.specs.declared.making.Accessor.TheVariants.{Reads, Writes, Asks}
+use Rattle.front_profile.specs.declared.elaboration.Accessor.{Accessor}
+use Rattle.front_profile.specs.declared.elaboration.Accessor.TheVariants.{Reads, Writes, Asks}
 use Rattle.front_profile.specs.Nodes.{Part, wrong}
-use Rattle.front_profile.specs.Makings.{arguments_of}
+use Rattle.front_profile.specs.Elaborations.{arguments_of}
 use Rattle.front_profile.specs.Shapes.{symbol_of, name_of}
 use Rattle.front_profile.specs.GivenNames.{GivenName, no_name, unfit, lacking, given, given_name, setter_of_text}
 use Rattle.front_profile.specs.ClassShapes.{SlotOption, wrong_option, initform_of, initarg_by, method_by, accessor_with, accessor_by, slot_option, option_and, slot_options, WrittenSlot, slot_with, name_in, slot_in_list, slot_by, slot_and, each_slot, slots_in}

@@ -8,58 +8,58 @@ use Rattle.base.specs.AllOf.{all_map}
 use Rattle.lang_meaning.specs.declared.program.LiteralRow.{LiteralRow}
 use Rattle.lang_derived.specs.Derived.{new_symbols}
 use Rattle.front_profile.specs.declared.tables.Tables.{Tables}
-use Rattle.front_profile.specs.declared.making.Leaf.{Leaf}
-use Rattle.front_profile.specs.declared.making.Found.{Found}
-use Rattle.front_profile.specs.declared.making.One.{One}
-use Rattle.front_profile.specs.declared.making.One.TheVariants.{DefineGlobal, DefineDynamic}
-use Rattle.front_profile.specs.declared.making.Making.{Making}
-use Rattle.front_profile.specs.declared.making.Making.TheVariants.{Ready, OfOne, OfMethods, OfClass}
-use Rattle.front_profile.specs.Nodes.{Around, Part, function, Node, offends, unnamed, steps, whole}
+use Rattle.front_profile.specs.declared.elaboration.Leaf.{Leaf}
+use Rattle.front_profile.specs.declared.elaboration.ElaboratedPart.{ElaboratedPart}
+use Rattle.front_profile.specs.declared.elaboration.One.{One}
+use Rattle.front_profile.specs.declared.elaboration.One.TheVariants.{DefineGlobal, DefineDynamic}
+use Rattle.front_profile.specs.declared.elaboration.Elaboration.{Elaboration}
+use Rattle.front_profile.specs.declared.elaboration.Elaboration.TheVariants.{Ready, OfOne, OfMethods, OfClass}
+use Rattle.front_profile.specs.Nodes.{StaticContext, Part, function, Node, offends, unnamed, steps, whole}
 use Rattle.front_profile.specs.Shapes.{Pair}
 use Rattle.front_profile.specs.RowWords.{deeper, with_site_if, within_depth, made_of, made_at_once, unsited, with_literal, literal_node, each_bound}
 use Rattle.front_profile.specs.ValueRows.{with_set}
 use Rattle.front_profile.specs.DefiningRows.{with_name}
-use Rattle.front_profile.specs.Makings.{finish}
+use Rattle.front_profile.specs.Elaborations.{finish}
 use Rattle.front_profile.specs.Judged.{with_fresh}
-use Rattle.front_profile.specs.Marks.{Grows}
+use Rattle.front_profile.specs.Marks.{TablesGrow}
 use Rattle.front_profile.specs.Suits.{Suits}
 use Rattle.lang_classes.specs.Keeping.{KeepsNames}
-use Rattle.front_profile.specs.bridge.Growing.{grows_then, grows_same, nothing_added, grows_with, grows_by}
+use Rattle.front_profile.specs.bridge.Growing.{tables_grow_transitive, tables_grow_reflexive, nothing_added, grows_with, grows_by}
 use Rattle.front_profile.specs.Below.{SameNames, NothingDefined}
 use Rattle.front_profile.specs.Known.{KnownTables}
 use Rattle.front_profile.proofs.MethodViews.{AllRight}
 use Rattle.front_profile.proofs.Joining.{AllFunctions}
-use Rattle.front_profile.proofs.FoundNodes.{IsPlain, AllPlain}
+use Rattle.front_profile.proofs.FoundNodes.{IsValuePart, AllPlain}
 use Rattle.front_profile.proofs.Procedures.{IsOrdinary, AllOrdinary, AllLow, all_low}
 
 -- tables that grow by one thing
 
-pub grows_literal : (s : Tables) (row : LiteralRow) → Grows s (with_literal row s)
-grows_literal s row = grows_by s s (record nothing_added { literals = Some (row ∷ []) }) (grows_same s)
+pub grows_literal : (s : Tables) (row : LiteralRow) → TablesGrow s (with_literal row s)
+grows_literal s row = grows_by s s (record nothing_added { literals = Some (row ∷ []) }) (tables_grow_reflexive s)
 
-pub grows_set : (s : Tables) (n : Name) → Grows s (with_set n s)
-grows_set s n = grows_by s s (record nothing_added { set = Some (n ∷ []) }) (grows_same s)
+pub grows_set : (s : Tables) (n : Name) → TablesGrow s (with_set n s)
+grows_set s n = grows_by s s (record nothing_added { set = Some (n ∷ []) }) (tables_grow_reflexive s)
 
-pub grows_fresh : (s : Tables) (n : ℕ) → Grows s (with_fresh n s)
-grows_fresh s n = grows_by s s (record nothing_added { fresh = Some (new_symbols (length s.fresh) n) }) (grows_same s)
+pub grows_fresh : (s : Tables) (n : ℕ) → TablesGrow s (with_fresh n s)
+grows_fresh s n = grows_by s s (record nothing_added { fresh = Some (new_symbols (length s.fresh) n) }) (tables_grow_reflexive s)
 
-pub grows_numbers : (s : Tables) (v e : ℕ) → s.variables ≤ v → s.exits ≤ e → Grows s (record s { variables = v; exits = e })
-grows_numbers s v e l k = grows_with s s nothing_added v e l k (grows_same s)
+pub grows_numbers : (s : Tables) (v e : ℕ) → s.variables ≤ v → s.exits ≤ e → TablesGrow s (record s { variables = v; exits = e })
+grows_numbers s v e l k = grows_with s s nothing_added v e l k (tables_grow_reflexive s)
 
-grows_site : (b : Bool) (p : Place) (s : Tables) → Grows s (with_site_if b p s)
-grows_site true p s = grows_by s s (record nothing_added { sites = Some (p ∷ []) }) (grows_same s)
-grows_site false p s = grows_same s
+grows_site : (b : Bool) (p : Place) (s : Tables) → TablesGrow s (with_site_if b p s)
+grows_site true p s = grows_by s s (record nothing_added { sites = Some (p ∷ []) }) (tables_grow_reflexive s)
+grows_site false p s = tables_grow_reflexive s
 
-pub grows_name : (b : Bool) (d : Item) (s : Tables) → Grows s (with_name b d s)
+pub grows_name : (b : Bool) (d : Item) (s : Tables) → TablesGrow s (with_name b d s)
 grows_name true d s = grows_literal s _
-grows_name false d s = grows_same s
+grows_name false d s = tables_grow_reflexive s
 
 -- the tables that a node begins with
-abbrev pub Begins : Tables → Node → Type 0
-Begins s (offends p r) = Unit {0}
-Begins s unnamed = Unit {0}
-Begins s (steps a t d) = Grows s t
-Begins s (whole o i t xs m) = Grows s t
+abbrev pub NodeBegins : Tables → Node → Type 0
+NodeBegins s (offends p r) = Unit {0}
+NodeBegins s unnamed = Unit {0}
+NodeBegins s (steps a t d) = TablesGrow s t
+NodeBegins s (whole o i t xs m) = TablesGrow s t
 
 -- between these tables nothing is defined
 
@@ -114,38 +114,38 @@ none_name true d s = none_literal s _
 none_name false d s = none_defined s
 
 -- what is made defines nothing
-abbrev pub MakesNothing : Making → Type 0
-MakesNothing k = (rs : List Found) (u : Tables) → NothingDefined u (finish k rs u)
+abbrev pub MakesNothing : Elaboration → Type 0
+MakesNothing k = (rs : List ElaboratedPart) (u : Tables) → NothingDefined u (finish k rs u)
 
 -- what is made suits the tables behind its parts, and leaves known tables: at once, or where its parts are functions and the tables that it
 -- was judged by are known
 
-abbrev pub IsSimple : Making → Type 0
+abbrev pub IsSimple : Elaboration → Type 0
 IsSimple (OfMethods t hs p of_file l) = ⊥
 IsSimple (OfClass c p of_file l) = ⊥
 IsSimple other = Unit {0}
 
-pub record JoinsSuited (s t : Tables) (xs : List Part) (k : Making) : Type 0 where
+pub record JoinsSuited (s t : Tables) (xs : List Part) (k : Elaboration) : Type 0 where
   pub functions : AllFunctions xs
-  pub suits : KeepsNames → KnownTables s → (u : Tables) (rs : List Found) → SameNames t u → AllRight xs → Suits k u × KnownTables (finish k rs u)
+  pub suits : KeepsNames → KnownTables s → (u : Tables) (rs : List ElaboratedPart) → SameNames t u → AllRight xs → Suits k u × KnownTables (finish k rs u)
 
-abbrev pub Suited : Tables → Tables → List Part → Making → Type 0
+abbrev pub Suited : Tables → Tables → List Part → Elaboration → Type 0
 Suited s t xs k = IsSimple k ⊎ JoinsSuited s t xs k
 
 -- a node and the tables that it begins with; below top level nothing is defined there
-pub record StartsStep (s : Tables) (top : Bool) (a : Around) (t : Tables) : Type 0 where
-  pub grows : Grows s t
+pub record StartsStep (s : Tables) (top : Bool) (a : StaticContext) (t : Tables) : Type 0 where
+  pub grows : TablesGrow s t
   pub names : SameNames s t
   pub low : top ≡ false → (a.spot.top ≡ false) × NothingDefined s t
 
-pub record LowWhole (s : Tables) (o i : Around) (t : Tables) (xs : List Part) (k : Making) : Type 0 where
+pub record LowWhole (s : Tables) (o i : StaticContext) (t : Tables) (xs : List Part) (k : Elaboration) : Type 0 where
   pub defined : NothingDefined s t
   pub parts : AllLow o.spot.top i.spot.top xs
   pub ordinary : AllOrdinary xs
   pub makes : MakesNothing k
 
-pub record StartsWhole (s : Tables) (top : Bool) (o i : Around) (t : Tables) (xs : List Part) (k : Making) : Type 0 where
-  pub grows : Grows s t
+pub record StartsWhole (s : Tables) (top : Bool) (o i : StaticContext) (t : Tables) (xs : List Part) (k : Elaboration) : Type 0 where
+  pub grows : TablesGrow s t
   pub names : SameNames s t
   pub suited : Suited s t xs k
   pub low : top ≡ false → LowWhole s o i t xs k
@@ -156,7 +156,7 @@ Starts s top unnamed = Unit {0}
 Starts s top (steps a t d) = StartsStep s top a t
 Starts s top (whole o i t xs m) = StartsWhole s top o i t xs m.making
 
-pub begins_so : (s : Tables) (top : Bool) (x : Node) → Starts s top x → Begins s x
+pub begins_so : (s : Tables) (top : Bool) (x : Node) → Starts s top x → NodeBegins s x
 begins_so s top (offends p r) h = tt
 begins_so s top unnamed h = tt
 begins_so s top (steps a t d) h = h.grows
@@ -166,15 +166,15 @@ pub starts_if : (s : Tables) (top b : Bool) (x y : Node) → Starts s top x → 
 starts_if s top true x y g h = g
 starts_if s top false x y g h = h
 
-pub starts_within : (s : Tables) (k : ℕ) (a : Around) (p : Place) (x : Node) → Starts s a.spot.top x → Starts s a.spot.top (within_depth k a p x)
+pub starts_within : (s : Tables) (k : ℕ) (a : StaticContext) (p : Place) (x : Node) → Starts s a.spot.top x → Starts s a.spot.top (within_depth k a p x)
 starts_within s k a p x h = starts_if s a.spot.top (nat_le (a.spot.depth + k) 1000) x _ h tt
 
-pub starts_made : (s : Tables) (a i : Around) (p : Place) (t : Tables) (xs : List Part) (k : Making) → IsSimple k → Grows s t → NothingDefined s t
+pub starts_made : (s : Tables) (a i : StaticContext) (p : Place) (t : Tables) (xs : List Part) (k : Elaboration) → IsSimple k → TablesGrow s t → NothingDefined s t
     → (a.spot.top ≡ false → i.spot.top ≡ false) → AllOrdinary xs → (a.spot.top ≡ false → MakesNothing k) → Starts s a.spot.top (made_of a i p t xs k)
 starts_made s a i p t xs k e g d low o m = record {
   names = (none_then s t (with_site_if a.spot.sited p t) d (none_site a.spot.sited p t)).names;
   suited = inl e;
-  grows = grows_then s t (with_site_if a.spot.sited p t) g (grows_site a.spot.sited p t);
+  grows = tables_grow_transitive s t (with_site_if a.spot.sited p t) g (grows_site a.spot.sited p t);
   low = λ e. record {
     defined = none_then s t (with_site_if a.spot.sited p t) d (none_site a.spot.sited p t);
     parts = all_low false i.spot.top xs refl (low e);
@@ -184,17 +184,17 @@ starts_made s a i p t xs k e g d low o m = record {
 }
 
 -- nothing is added first, and the parts stand a form deeper
-pub starts_plain : (s : Tables) (a : Around) (p : Place) (xs : List Part) (k : Making) → IsSimple k → AllOrdinary xs → MakesNothing k → Starts s a.spot.top (made_of a (deeper 1 a) p s xs k)
-starts_plain s a p xs k e o m = starts_made s a (deeper 1 a) p s xs k e (grows_same s) (none_defined s) (λ e. refl) o (λ e. m)
+pub starts_plain : (s : Tables) (a : StaticContext) (p : Place) (xs : List Part) (k : Elaboration) → IsSimple k → AllOrdinary xs → MakesNothing k → Starts s a.spot.top (made_of a (deeper 1 a) p s xs k)
+starts_plain s a p xs k e o m = starts_made s a (deeper 1 a) p s xs k e (tables_grow_reflexive s) (none_defined s) (λ e. refl) o (λ e. m)
 
-pub starts_at_once : (s : Tables) (a : Around) (p : Place) (l : Leaf) → Starts s a.spot.top (made_at_once a p s l)
+pub starts_at_once : (s : Tables) (a : StaticContext) (p : Place) (l : Leaf) → Starts s a.spot.top (made_at_once a p s l)
 starts_at_once s a p l = starts_within s 1 a p _ (starts_plain s a p [] (Ready l) tt tt (λ rs u. none_defined u))
 
-pub starts_unsited : (s : Tables) (a : Around) (p : Place) (t : Tables) (l : Leaf) → Grows s t → NothingDefined s t → Starts s a.spot.top (unsited a p t l)
+pub starts_unsited : (s : Tables) (a : StaticContext) (p : Place) (t : Tables) (l : Leaf) → TablesGrow s t → NothingDefined s t → Starts s a.spot.top (unsited a p t l)
 starts_unsited s a p t l g d =
     starts_within s 1 a p _ (record { grows = g; names = d.names; suited = inl tt; low = λ e. record { defined = d; parts = tt; ordinary = tt; makes = λ rs u. none_defined u } })
 
-pub starts_literal : (s : Tables) (a : Around) (p : Place) (row : LiteralRow) → Starts s a.spot.top (literal_node a p s row)
+pub starts_literal : (s : Tables) (a : StaticContext) (p : Place) (row : LiteralRow) → Starts s a.spot.top (literal_node a p s row)
 starts_literal s a p row = starts_unsited s a p (with_literal row s) _ (grows_literal s row) (none_literal s row)
 
 -- what sets defines nothing
@@ -210,12 +210,12 @@ sets_nothing other h = λ rs u. none_defined u
 
 -- parts that leave no procedure
 
-plain_part : (x : Part) → IsPlain x → IsOrdinary x
+plain_part : (x : Part) → IsValuePart x → IsOrdinary x
 plain_part (function w) h = absurd h
 plain_part other h = tt
 
 pub plain_ordinary : (xs : List Part) → AllPlain xs → AllOrdinary xs
-plain_ordinary xs h = all_map IsPlain IsOrdinary plain_part xs h
+plain_ordinary xs h = all_map IsValuePart IsOrdinary plain_part xs h
 
 pub bound_ordinary : (qs : List Pair) → AllOrdinary (each_bound qs)
 bound_ordinary [] = tt

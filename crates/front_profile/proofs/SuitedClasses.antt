@@ -17,10 +17,10 @@ use Rattle.lang_classes.specs.InheritedSlots.{same_name, each_first}
 use Rattle.lang_classes.specs.InheritedClasses.{Hierarchy, GivenSlot, class_named, inherited_names, slot_limit, bad_slot, first_wrong, slots_refusal, refusal}
 use Rattle.lang_classes.specs.Keeping.{KeepsNames}
 use Rattle.front_profile.specs.declared.tables.Tables.{Tables}
-use Rattle.front_profile.specs.declared.making.Accessor.{Accessor}
-use Rattle.front_profile.specs.declared.making.Head.{Head}
-use Rattle.front_profile.specs.declared.making.NewClass.{NewClass}
-use Rattle.front_profile.specs.Makings.{generic_named, arguments_of, accessor_head, classes_of, with_generic, with_accessor_in, with_slot_functions, with_new_class, finish_class}
+use Rattle.front_profile.specs.declared.elaboration.Accessor.{Accessor}
+use Rattle.front_profile.specs.declared.elaboration.MethodHead.{MethodHead}
+use Rattle.front_profile.specs.declared.elaboration.NewClass.{NewClass}
+use Rattle.front_profile.specs.Elaborations.{generic_named, arguments_of, accessor_head, classes_of, with_generic, with_accessor_in, with_slot_functions, with_new_class, finish_class}
 use Rattle.front_profile.specs.DefiningRows.{is_that}
 use Rattle.front_profile.specs.GivenNames.{no_name, unfit, lacking, given}
 use Rattle.front_profile.specs.ClassShapes.{WrittenSlot, WrittenSuper}
@@ -50,7 +50,7 @@ record AccessorSuited (o : Option ℕ) (n : Name) (k : Accessor) (c p : ℕ) (of
 suited_there : (i : ℕ) (n : Name) (k : Accessor) (c p : ℕ) (of_file : Bool) (t : Tables) (x : GenericRow) → KnownTables t → slice_get t.generics i ≡ Some x
     → same_name n x.name ≡ true → RowReady c (record { name = n; arguments = arguments_of k }) x → c < length t.classes.rows → AccessorSuited (Some i) n k c p of_file t
 suited_there i n k c p of_file t x w e same r l =
-    let h : Head = accessor_head k c in
+    let h : MethodHead = accessor_head k c in
     record {
       suits = record {
         there = slice_get_within t.generics i x e;

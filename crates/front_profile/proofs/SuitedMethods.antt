@@ -11,9 +11,9 @@ use Rattle.lang_classes.specs.InheritedClasses.{Hierarchy}
 use Rattle.lang_dispatch.specs.Methods.{same_truth}
 use Rattle.front_profile.specs.declared.tables.Tables.{Tables}
 use Rattle.front_profile.specs.declared.parameters.Parameters.{Parameters}
-use Rattle.front_profile.specs.declared.making.Head.{Head}
-use Rattle.front_profile.specs.declared.making.Taker.TheVariants.{New, There}
-use Rattle.front_profile.specs.Makings.{with_generic, with_method_at, with_methods}
+use Rattle.front_profile.specs.declared.elaboration.MethodHead.{MethodHead}
+use Rattle.front_profile.specs.declared.elaboration.Taker.TheVariants.{New, There}
+use Rattle.front_profile.specs.Elaborations.{with_generic, with_method_at, with_methods}
 use Rattle.front_profile.specs.DefiningRows.{is_that, has_function}
 use Rattle.front_profile.specs.MethodShapes.{WrittenMethod}
 use Rattle.front_profile.specs.GenericRows.{fits, heads_of, method_parts, written_head, written_heads, with_head, all_fit, generic_row, each_method, all_heads}
@@ -22,7 +22,7 @@ use Rattle.front_profile.specs.Below.{SameNames}
 use Rattle.front_profile.specs.Known.{KnownTables}
 use Rattle.front_profile.proofs.Adding.{new_row, plus_method, method_of, tables_with, get_with}
 use Rattle.front_profile.proofs.MethodViews.{AllRight, each_front, each_behind, MethodView, method_view}
-use Rattle.front_profile.proofs.Methods.{Alike, alike_same, alike_more, FitsRow, fits_row}
+use Rattle.front_profile.proofs.Methods.{SameGeneric, alike_same, alike_more, FitsRow, fits_row}
 use Rattle.front_profile.proofs.GenericRows.{some_qualifier}
 use Rattle.front_profile.proofs.Known.{known_same, name_suits, known_generic, known_method}
 
@@ -33,13 +33,13 @@ same_as_itself false = refl
 
 -- the generic function of that number takes the methods one after another, and what is known stays so
 heads_suit : (s : Tables) (n : Name) (i : ℕ) (ms : List WrittenMethod) (x y : GenericRow) (t : Tables) (p : ℕ) → 0 < length s.classes.rows → KnownTables t → t.classes ≡ s.classes
-    → slice_get t.generics i ≡ Some y → Alike x y → all_fit s (Some x) ms ≡ true → AllRight (each_method s n ms)
+    → slice_get t.generics i ≡ Some y → SameGeneric x y → all_fit s (Some x) ms ≡ true → AllRight (each_method s n ms)
     → SuitsHeads i (all_heads s ms) p t × KnownTables (with_methods i (all_heads s ms) p t)
 heads_suit s n i [] x y t p l w c g a f r = (tt, w)
 heads_suit s n i (m ∷ ms) x y t p l w c g a f r =
     let e : (fits s (Some x) m ≡ true) × (all_fit s (with_head (Some x) (written_head s m)) ms ≡ true) = and_parts _ _ f in
     let v : MethodView s n m = method_view s n m (some_qualifier x s m e.0) l (each_front _ (method_parts s n m) (each_method s n ms) r) in
-    let h : Head = record { qualifier = v.qualifier; classes = v.classes } in
+    let h : MethodHead = record { qualifier = v.qualifier; classes = v.classes } in
     let k : FitsRow x s n m v = fits_row x s n m v e.0 in
     let one : SuitsHead i h p t = record {
       there = slice_get_within t.generics i y g;
@@ -54,7 +54,7 @@ heads_suit s n i (m ∷ ms) x y t p l w c g a f r =
     let rest : SuitsHeads i (all_heads s ms) (p + 1) u × KnownTables (with_methods i (all_heads s ms) (p + 1) u) =
     heads_suit s n i ms (plus_method x (method_of h 0)) (plus_method y (method_of h p)) u (p + 1) l known c there (alike_more x y h p a)
     (ap (λ o. all_fit s (with_head (Some x) o) ms) (sym v.head) ∙ e.1) (each_behind _ (method_parts s n m) (each_method s n ms) r) in
-    subst (λ (hs : List Head). SuitsHeads i (hs ++ all_heads s ms) p t × KnownTables (with_methods i (hs ++ all_heads s ms) p t)) (sym (ap heads_of v.head))
+    subst (λ (hs : List MethodHead). SuitsHeads i (hs ++ all_heads s ms) p t × KnownTables (with_methods i (hs ++ all_heads s ms) p t)) (sym (ap heads_of v.head))
     ((one, rest.0), rest.1)
 
 -- a new generic function with its methods
@@ -81,5 +81,5 @@ there_suits s n i m x p of_file u w e g f r =
     let all : SuitsHeads i (all_heads s (m ∷ [])) p u × KnownTables (with_methods i (all_heads s (m ∷ [])) p u) =
     heads_suit s n i (m ∷ []) x x u p w.some (known_same s u e w) e.classes here (alike_same x) (and_from _ _ f refl) (subst AllRight (sym (append-nil (method_parts s n m))) r) in
     let alone : SuitsHeads i (written_heads s m) p u × KnownTables (with_methods i (written_heads s m) p u) =
-    subst (λ (hs : List Head). SuitsHeads i hs p u × KnownTables (with_methods i hs p u)) (append-nil (written_heads s m)) all in
+    subst (λ (hs : List MethodHead). SuitsHeads i hs p u × KnownTables (with_methods i hs p u)) (append-nil (written_heads s m)) all in
     ((slice_get_within u.generics i x here, alone.0), alone.1)

@@ -4,7 +4,7 @@ use Rattle.front_profile.specs.declared.tables.Tables.{Tables}
 use Rattle.front_profile.specs.Definitions.{defined, WholeTables, FewSites}
 use Rattle.front_profile.specs.Classes.{BeginsBuiltIn}
 
-pub record WholeBetween (t : Tables) : Type 0 where
+pub record TopLevelTables (t : Tables) : Type 0 where
   pub whole : WholeTables t
   pub classes : BeginsBuiltIn t.classes.rows
   pub sites : FewSites (defined t)

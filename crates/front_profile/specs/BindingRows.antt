@@ -11,18 +11,18 @@ use Rattle.front_profile.specs.declared.bound.Bound.TheVariants.{Function}
 use Rattle.front_profile.specs.declared.tables.Tables.{Tables}
 use Rattle.front_profile.specs.declared.parameters.Parameters.{Parameters}
 use Rattle.front_profile.specs.Names.{variable_of, parts_around}
-use Rattle.front_profile.specs.declared.making.Making.TheVariants.{OfVariables, OfDynamics, OfFunction, InSequence}
-use Rattle.front_profile.specs.Nodes.{Around, Node, offends, Part, form}
+use Rattle.front_profile.specs.declared.elaboration.Elaboration.TheVariants.{OfVariables, OfDynamics, OfFunction, InSequence}
+use Rattle.front_profile.specs.Nodes.{StaticContext, Node, offends, Part, form}
 use Rattle.front_profile.specs.Shapes.{Pair, pairs_in, parameters_in, all_symbols, symbol_of, name_of}
 use Rattle.front_profile.specs.RowWords.{deeper, with_all, within_depth, made_of, each_below, each_inner, each_bound, each_parameter, bad_shape, bad_binding}
 
 -- (let ((v x)*) f*)
 
-abbrev pub let_as : Around → Tables → Place → Item → List Item → Option (List Pair) → Node
+abbrev pub let_as : StaticContext → Tables → Place → Item → List Item → Option (List Pair) → Node
 let_as a s p bs fs None = bad_binding bs
 let_as a s p bs fs (Some ps) = made_of a (deeper 2 a) p s (each_bound ps ++ each_inner fs) OfVariables
 
-abbrev pub let_row : Around → Tables → Place → List Item → Node
+abbrev pub let_row : StaticContext → Tables → Place → List Item → Node
 let_row a s p [] = bad_shape p
 let_row a s p (bs ∷ fs) = within_depth 2 a p (let_as a s p bs fs (pairs_in s.words bs))
 
@@ -40,28 +40,28 @@ names_of (q ∷ qs) = name_and (name_of q.name) (names_of qs)
 abbrev pub values_of : List Pair → List Part
 values_of ps = map (λ q. form q.datum) ps
 
-abbrev pub dynamics_as : Around → Tables → Place → List Item → List Pair → Option (List Name) → Node
+abbrev pub dynamics_as : StaticContext → Tables → Place → List Item → List Pair → Option (List Name) → Node
 dynamics_as a s p fs ps None = bad_shape p
 dynamics_as a s p fs ps (Some ns) =
     within_depth 2 a p (made_of a (deeper 1 a) p s (values_of ps ++ each_below fs) (OfDynamics ns))
 
-abbrev pub dynamic_let_as : Around → Tables → Place → Item → List Item → Option (List Pair) → Node
+abbrev pub dynamic_let_as : StaticContext → Tables → Place → Item → List Item → Option (List Pair) → Node
 dynamic_let_as a s p bs fs None = within_depth 2 a p (bad_binding bs)
 dynamic_let_as a s p bs fs (Some ps) = dynamics_as a s p fs ps (names_of ps)
 
-abbrev pub dynamic_let_row : Around → Tables → Place → List Item → Node
+abbrev pub dynamic_let_row : StaticContext → Tables → Place → List Item → Node
 dynamic_let_row a s p [] = bad_shape p
 dynamic_let_row a s p (bs ∷ fs) = dynamic_let_as a s p bs fs (pairs_in s.words bs)
 
 -- (lambda lambda-list f*)
 
-abbrev pub lambda_as : Around → Tables → Place → Item → List Item → Option Parameters → Node
+abbrev pub lambda_as : StaticContext → Tables → Place → Item → List Item → Option Parameters → Node
 lambda_as a s p l fs None = bad_binding l
 lambda_as a s p l fs (Some ps) =
     made_of a (deeper 2 a) p s (each_parameter (all_symbols ps) ++ each_inner fs)
     (OfFunction (length ps.required) (is_some ps.rest) (parts_around a.bound a.spot.in_method))
 
-abbrev pub lambda_row : Around → Tables → Place → List Item → Node
+abbrev pub lambda_row : StaticContext → Tables → Place → List Item → Node
 lambda_row a s p [] = bad_shape p
 lambda_row a s p (l ∷ fs) = within_depth 2 a p (lambda_as a s p l fs (parameters_in s.words l))
 
@@ -72,25 +72,25 @@ function_and g None bs = None
 function_and g (Some v) None = None
 function_and g (Some v) (Some bs) = Some (Function g v ∷ bs)
 
-abbrev pub variable_that_is : Around → Option Symbol → Option ℕ
+abbrev pub variable_that_is : StaticContext → Option Symbol → Option ℕ
 variable_that_is a None = None
 variable_that_is a (Some x) = variable_of a.bound x
 
-abbrev pub functions_of : Around → List Pair → Option (List Bound)
+abbrev pub functions_of : StaticContext → List Pair → Option (List Bound)
 functions_of a [] = Some []
 functions_of a (q ∷ qs) = function_and q.name (variable_that_is a (symbol_of q.datum)) (functions_of a qs)
 
-abbrev pub functions_as : Around → Tables → Place → List Item → Bool → Option (List Bound) → Node
+abbrev pub functions_as : StaticContext → Tables → Place → List Item → Bool → Option (List Bound) → Node
 functions_as a s p fs kept None = bad_shape p
 functions_as a s p fs true (Some bs) = offends p ReservedName
 functions_as a s p fs false (Some bs) =
     within_depth 1 a p (made_of a (with_all bs (deeper 1 a)) p s (each_inner fs) InSequence)
 
-abbrev pub with_functions_as : Bool → Around → Tables → Place → Item → List Item → Option (List Pair) → Node
+abbrev pub with_functions_as : Bool → StaticContext → Tables → Place → Item → List Item → Option (List Pair) → Node
 with_functions_as kept a s p bs fs None = within_depth 1 a p (bad_binding bs)
 with_functions_as kept a s p bs fs (Some ps) = functions_as a s p fs kept (functions_of a ps)
 
 -- where one of these names is kept by the language or not
-abbrev pub with_functions_row : Bool → Around → Tables → Place → List Item → Node
+abbrev pub with_functions_row : Bool → StaticContext → Tables → Place → List Item → Node
 with_functions_row kept a s p [] = bad_shape p
 with_functions_row kept a s p (bs ∷ fs) = with_functions_as kept a s p bs fs (pairs_in s.words bs)

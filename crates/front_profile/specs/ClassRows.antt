@@ -16,15 +16,15 @@ use Rattle.lang_classes.specs.InheritedPrecedence.{supers_fit}
 use Rattle.lang_classes.specs.InheritedSlots.{same_name, each_first}
 use Rattle.lang_derived.specs.Asked.{list_items}
 use Rattle.front_profile.specs.declared.tables.Tables.{Tables}
-use Rattle.front_profile.specs.declared.making.Accessor.{Accessor}
-use Rattle.front_profile.specs.declared.making.Accessor.TheVariants.{Reads, Writes}
-use Rattle.front_profile.specs.declared.making.SlotFunction.{SlotFunction}
-use Rattle.front_profile.specs.declared.making.SlotFunction.TheVariants.{Initform, Method}
-use Rattle.front_profile.specs.declared.making.Making.TheVariants.{OfClass}
-use Rattle.front_profile.specs.Nodes.{Around, Part, wrong, function, initform, accessor, Node, offends, unnamed, whole}
+use Rattle.front_profile.specs.declared.elaboration.Accessor.{Accessor}
+use Rattle.front_profile.specs.declared.elaboration.Accessor.TheVariants.{Reads, Writes}
+use Rattle.front_profile.specs.declared.elaboration.SlotFunction.{SlotFunction}
+use Rattle.front_profile.specs.declared.elaboration.SlotFunction.TheVariants.{Initform, Method}
+use Rattle.front_profile.specs.declared.elaboration.Elaboration.TheVariants.{OfClass}
+use Rattle.front_profile.specs.Nodes.{StaticContext, Part, wrong, function, initform, accessor, Node, offends, unnamed, whole}
 use Rattle.front_profile.specs.Shapes.{symbol_of}
 use Rattle.front_profile.specs.RowWords.{within_depth, bad_shape}
-use Rattle.front_profile.specs.Makings.{generic_named, arguments_of}
+use Rattle.front_profile.specs.Elaborations.{generic_named, arguments_of}
 use Rattle.front_profile.specs.DefiningRows.{named, defining, has_function, is_of_prelude, is_truth, with_name, named_form}
 use Rattle.front_profile.specs.GivenNames.{GivenName, no_name, unfit, lacking, given}
 use Rattle.front_profile.specs.ClassShapes.{SlotOption, wrong_option, initform_of, initarg_of, method_of, accessor_of, WrittenSlot, slots_in, WrittenSuper, supers_in, ClassOption, class_options, are_options, is_of_left_out, is_abstract}
@@ -75,11 +75,11 @@ is_lacking (for_initform d) = false
 -- what stands in the way of a name: a function that is none of the prelude and no generic function; a name that the language or the prelude
 -- keeps; a generic function of another number of arguments; or another method of the class under that name
 
-abbrev pub is_of_function : Around → Tables → Use → Bool
+abbrev pub is_of_function : StaticContext → Tables → Use → Bool
 is_of_function a s u =
     has_function s u.name && not (is_some (generic_named s.generics u.name)) && not (a.spot.sited && is_of_prelude s u.name)
 
-abbrev pub is_kept_name : List (List ℕ) → Around → Tables → Use → Bool
+abbrev pub is_kept_name : List (List ℕ) → StaticContext → Tables → Use → Bool
 is_kept_name names a s u =
     is_truth a s u.name || (a.spot.sited && (keeps names u.name || is_of_prelude s u.name))
 
@@ -208,7 +208,7 @@ slot_functions xs = flat_map slot_function (all_functions xs)
 
 -- (defclass name (super*) (slot*) option*)
 
-abbrev pub class_made : Around → Tables → Item → Name → List WrittenSuper → List WrittenSlot → List ClassOption → Node
+abbrev pub class_made : StaticContext → Tables → Item → Name → List WrittenSuper → List WrittenSlot → List ClassOption → Node
 class_made a s d n cs xs os =
     whole a a (with_name a.spot.sited d s) (class_parts s cs xs)
     (record {
@@ -232,15 +232,15 @@ abbrev pub class_of_prelude : ℕ → Option ℕ → Bool
 class_of_prelude prelude None = false
 class_of_prelude prelude (Some c) = nat_lt c prelude
 
-abbrev pub is_taken_class : Around → Tables → Name → Bool
+abbrev pub is_taken_class : StaticContext → Tables → Name → Bool
 is_taken_class a s n = class_in_text a.spot.sited s.prelude_classes (class_named s.classes.rows n)
 
-abbrev pub is_reserved_class : Around → Tables → Name → Bool
+abbrev pub is_reserved_class : StaticContext → Tables → Name → Bool
 is_reserved_class a s n =
     is_truth a s n || (a.spot.sited && class_of_prelude s.prelude_classes (class_named s.classes.rows n))
 
 -- the lowest reason that the definition shares with none of its parts
-abbrev pub class_checked : Around → Tables → Place → Item → Name → List WrittenSuper → List WrittenSlot → List ClassOption → Node
+abbrev pub class_checked : StaticContext → Tables → Place → Item → Name → List WrittenSuper → List WrittenSlot → List ClassOption → Node
 class_checked a s p d n cs xs os =
     if list_any is_of_left_out os then offends p LeftOut
     else within_depth 1 a p
@@ -249,7 +249,7 @@ class_checked a s p d n cs xs os =
     else if list_all (fits_generic s) (uses xs) && names_differ (uses xs) then class_made a s d n cs xs os
     else offends p BadMethod)
 
-abbrev pub class_of : List (List ℕ) → Around → Tables → Place → Item → Name → List WrittenSuper → List WrittenSlot → List ClassOption → Node
+abbrev pub class_of : List (List ℕ) → StaticContext → Tables → Place → Item → Name → List WrittenSuper → List WrittenSlot → List ClassOption → Node
 class_of names a s p d n cs xs os =
     if list_any is_lacking (all_functions xs) then unnamed
     else defining a p
@@ -257,14 +257,14 @@ class_of names a s p d n cs xs os =
     (is_reserved_class a s n || list_any (is_kept_name names a s) (uses xs))
     (class_checked a s p d n cs xs os)
 
-abbrev pub class_shaped : List (List ℕ) → Around → Tables → Place → Item → Option Name → Option (List WrittenSuper) → Option (List WrittenSlot) → List ClassOption → Node
+abbrev pub class_shaped : List (List ℕ) → StaticContext → Tables → Place → Item → Option Name → Option (List WrittenSuper) → Option (List WrittenSlot) → List ClassOption → Node
 class_shaped names a s p d None cs xs os = bad_shape p
 class_shaped names a s p d (Some n) None xs os = bad_shape p
 class_shaped names a s p d (Some n) (Some cs) None os = bad_shape p
 class_shaped names a s p d (Some n) (Some cs) (Some xs) os =
     if are_options os then class_of names a s p d n cs xs os else bad_shape p
 
-abbrev pub defclass_row : List (List ℕ) → Around → Tables → Place → List Item → Node
+abbrev pub defclass_row : List (List ℕ) → StaticContext → Tables → Place → List Item → Node
 defclass_row names a s p [] = bad_shape p
 defclass_row names a s p (d ∷ []) = bad_shape p
 defclass_row names a s p (d ∷ cs ∷ []) = bad_shape p

@@ -8,8 +8,8 @@ use Rattle.base.specs.declared.datum.Symbol.TheVariants.{Named, Fresh}
 use Rattle.base.specs.Data.{Item, item, Content, integer, character, symbol, string, vector, nil, list, place_of}
 use Rattle.base.specs.DataNames.{symbol_text}
 use Rattle.lang_derived.specs.Asked.{list_items, is_word}
-use Rattle.front_profile.specs.declared.making.Accessor.{Accessor}
-use Rattle.front_profile.specs.declared.making.Accessor.TheVariants.{Reads, Writes, Asks}
+use Rattle.front_profile.specs.declared.elaboration.Accessor.{Accessor}
+use Rattle.front_profile.specs.declared.elaboration.Accessor.TheVariants.{Reads, Writes, Asks}
 use Rattle.front_profile.specs.GivenNames.{GivenName, no_name, unfit, lacking, given, given_name, setter_of_text}
 use Rattle.front_profile.specs.Shapes.{symbol_of, name_of}
 

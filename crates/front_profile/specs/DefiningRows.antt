@@ -12,12 +12,12 @@ use Rattle.lang_meaning.specs.declared.program.LiteralRow.TheVariants as row
 use Rattle.front_profile.specs.declared.tables.Tables.{Tables}
 use Rattle.front_profile.specs.declared.tables.GlobalRow.{GlobalRow}
 use Rattle.front_profile.specs.declared.tables.DynamicRow.{DynamicRow}
-use Rattle.front_profile.specs.declared.making.Leaf.{Leaf}
-use Rattle.front_profile.specs.declared.making.Leaf.TheVariants.{Literal, Nothing}
-use Rattle.front_profile.specs.declared.making.One.TheVariants.{DefineGlobal, DefineDynamic}
-use Rattle.front_profile.specs.declared.making.Making.TheVariants.{OfFunctionNamed}
+use Rattle.front_profile.specs.declared.elaboration.Leaf.{Leaf}
+use Rattle.front_profile.specs.declared.elaboration.Leaf.TheVariants.{Literal, Nothing}
+use Rattle.front_profile.specs.declared.elaboration.One.TheVariants.{DefineGlobal, DefineDynamic}
+use Rattle.front_profile.specs.declared.elaboration.Elaboration.TheVariants.{OfFunctionNamed}
 use Rattle.front_profile.specs.declared.parameters.Parameters.{Parameters}
-use Rattle.front_profile.specs.Nodes.{Around, Node, offends}
+use Rattle.front_profile.specs.Nodes.{StaticContext, Node, offends}
 use Rattle.front_profile.specs.Shapes.{symbol_of, name_of, parameters_in}
 use Rattle.front_profile.specs.RowWords.{within_depth, with_literal, bad_shape, bad_binding}
 use Rattle.front_profile.specs.FunctionNodes.{body_alone, function_parts}
@@ -68,25 +68,25 @@ abbrev pub unless_offending : Place → Option Reason → Node → Node
 unless_offending p None x = x
 unless_offending p (Some r) x = offends p r
 
-abbrev pub defining : Around → Place → Bool → Bool → Node → Node
+abbrev pub defining : StaticContext → Place → Bool → Bool → Node → Node
 defining a p taken reserved x = unless_offending p (defining_offence a.spot.top taken reserved) x
 
 -- nothing of a file is defined under the name `t`
-abbrev pub is_truth : Around → Tables → Name → Bool
+abbrev pub is_truth : StaticContext → Tables → Name → Bool
 is_truth a s n = a.spot.sited && is_that n s.words.truth
 
 -- (defglobal name x) and (defconstant name x): a constant is not set before
 
-abbrev pub global_variable : Around → Name → Bool → GlobalRow
+abbrev pub global_variable : StaticContext → Name → Bool → GlobalRow
 global_variable a n constant = record { name = n; constant = constant; of_file = a.spot.sited }
 
-abbrev pub global_as : Bool → Around → Tables → Place → Option Name → Item → Node
+abbrev pub global_as : Bool → StaticContext → Tables → Place → Option Name → Item → Node
 global_as constant a s p None x = bad_shape p
 global_as constant a s p (Some n) x =
     defining a p (has_global a.spot.sited s n) (is_truth a s n)
     (if constant && is_set s n then offends p ConstantSet else one_part a p s (DefineGlobal (global_variable a n constant)) x)
 
-abbrev pub global_row : Bool → Around → Tables → Place → List Item → Node
+abbrev pub global_row : Bool → StaticContext → Tables → Place → List Item → Node
 global_row constant a s p (d ∷ x ∷ []) = global_as constant a s p (named (symbol_of d)) x
 global_row constant a s p [] = bad_shape p
 global_row constant a s p (d ∷ []) = bad_shape p
@@ -94,15 +94,15 @@ global_row constant a s p (d ∷ x ∷ e ∷ ds) = bad_shape p
 
 -- (defdynamic name x)
 
-abbrev pub dynamic_variable : Around → Name → DynamicRow
+abbrev pub dynamic_variable : StaticContext → Name → DynamicRow
 dynamic_variable a n = record { name = n; of_file = a.spot.sited }
 
-abbrev pub defdynamic_as : Around → Tables → Place → Option Name → Item → Node
+abbrev pub defdynamic_as : StaticContext → Tables → Place → Option Name → Item → Node
 defdynamic_as a s p None x = bad_shape p
 defdynamic_as a s p (Some n) x =
     defining a p (has_dynamic a.spot.sited s n) (is_truth a s n) (one_part a p s (DefineDynamic (dynamic_variable a n)) x)
 
-abbrev pub defdynamic_row : Around → Tables → Place → List Item → Node
+abbrev pub defdynamic_row : StaticContext → Tables → Place → List Item → Node
 defdynamic_row a s p (d ∷ x ∷ []) = defdynamic_as a s p (named (symbol_of d)) x
 defdynamic_row a s p [] = bad_shape p
 defdynamic_row a s p (d ∷ []) = bad_shape p
@@ -118,27 +118,27 @@ abbrev pub named_form : Bool → Tables → Leaf
 named_form true s = Literal (length s.literals)
 named_form false s = Nothing
 
-abbrev pub defun_of : Around → Tables → Name → Item → List Item → Parameters → Node
+abbrev pub defun_of : StaticContext → Tables → Name → Item → List Item → Parameters → Node
 defun_of a s n d fs ps =
     body_alone false a (with_name a.spot.sited d s) (function_parts ps fs)
     (OfFunctionNamed n (length ps.required) (is_some ps.rest) a.spot.sited (named_form a.spot.sited s))
 
-abbrev pub defun_with : Around → Tables → Name → Item → Item → List Item → Option Parameters → Node
+abbrev pub defun_with : StaticContext → Tables → Name → Item → Item → List Item → Option Parameters → Node
 defun_with a s n d l fs None = bad_binding l
 defun_with a s n d l fs (Some ps) = defun_of a s n d fs ps
 
 -- a name is reserved where the language keeps it, where it is `t`, and where the prelude has a function of it
-abbrev pub is_reserved : Bool → Around → Tables → Name → Bool
+abbrev pub is_reserved : Bool → StaticContext → Tables → Name → Bool
 is_reserved kept a s n = is_truth a s n || (a.spot.sited && (kept || is_of_prelude s n))
 
-abbrev pub defun_as : Bool → Around → Tables → Place → Item → Item → List Item → Option Name → Node
+abbrev pub defun_as : Bool → StaticContext → Tables → Place → Item → Item → List Item → Option Name → Node
 defun_as kept a s p d l fs None = bad_shape p
 defun_as kept a s p d l fs (Some n) =
     defining a p (is_taken a.spot.sited s n) (is_reserved kept a s n)
     (within_depth 1 a p (defun_with a s n d l fs (parameters_in s.words l)))
 
 -- where the language keeps the name or not
-abbrev pub defun_row : Bool → Around → Tables → Place → List Item → Node
+abbrev pub defun_row : Bool → StaticContext → Tables → Place → List Item → Node
 defun_row kept a s p [] = bad_shape p
 defun_row kept a s p (d ∷ []) = bad_shape p
 defun_row kept a s p (d ∷ l ∷ fs) = defun_as kept a s p d l fs (named (symbol_of d))

@@ -13,16 +13,16 @@ use Rattle.lang_derived.specs.Asked.{list_items, is_word}
 use Rattle.lang_dispatch.specs.Methods.{new_row, same_truth, is_same}
 use Rattle.front_profile.specs.declared.tables.Tables.{Tables}
 use Rattle.front_profile.specs.declared.parameters.Parameters.{Parameters}
-use Rattle.front_profile.specs.declared.making.Head.{Head}
-use Rattle.front_profile.specs.declared.making.Leaf.{Leaf}
-use Rattle.front_profile.specs.declared.making.Taker.{Taker}
-use Rattle.front_profile.specs.declared.making.Taker.TheVariants.{New, There}
-use Rattle.front_profile.specs.declared.making.Making.TheVariants.{OfMethods}
+use Rattle.front_profile.specs.declared.elaboration.MethodHead.{MethodHead}
+use Rattle.front_profile.specs.declared.elaboration.Leaf.{Leaf}
+use Rattle.front_profile.specs.declared.elaboration.Taker.{Taker}
+use Rattle.front_profile.specs.declared.elaboration.Taker.TheVariants.{New, There}
+use Rattle.front_profile.specs.declared.elaboration.Elaboration.TheVariants.{OfMethods}
 use Rattle.front_profile.specs.Words.{is_reserved_text}
-use Rattle.front_profile.specs.Nodes.{Around, Part, wrong, function, method, Node, offends, unnamed, whole}
+use Rattle.front_profile.specs.Nodes.{StaticContext, Part, wrong, function, method, Node, offends, unnamed, whole}
 use Rattle.front_profile.specs.Shapes.{parameters_in, symbol_of}
 use Rattle.front_profile.specs.RowWords.{within_depth, bad_shape, bad_binding}
-use Rattle.front_profile.specs.Makings.{generic_named}
+use Rattle.front_profile.specs.Elaborations.{generic_named}
 use Rattle.front_profile.specs.DefiningRows.{defining, is_taken, is_reserved, is_truth, is_of_prelude, with_name, named_form}
 use Rattle.front_profile.specs.GivenNames.{GivenName, no_name, unfit, lacking, given, given_name}
 use Rattle.front_profile.specs.MethodShapes.{Asked, Specialised, specialised_in, some_fresh_class, classes_asked, first_unknown, WrittenMethod, method_in, may_have_next}
@@ -30,11 +30,11 @@ use Rattle.front_profile.specs.MethodShapes.{Asked, Specialised, specialised_in,
 -- methods as they are judged: one whose list of parameters is not allowed, or that names a class that is not known, is judged by what is
 -- known of it
 
-abbrev pub head_with : Qualifier → Option (List ℕ) → Option Head
+abbrev pub head_with : Qualifier → Option (List ℕ) → Option MethodHead
 head_with q None = None
 head_with q (Some cs) = Some (record { qualifier = q; classes = cs })
 
-abbrev pub head_of : Tables → Option Qualifier → Option Specialised → Option Head
+abbrev pub head_of : Tables → Option Qualifier → Option Specialised → Option MethodHead
 head_of s None ps = None
 head_of s (Some q) None = None
 head_of s (Some q) (Some ps) = head_with q (classes_asked s.classes.rows ps.classes)
@@ -51,7 +51,7 @@ fits_by_number g None = true
 fits_by_number g (Some ps) = as_many g ps
 
 -- no other method of it has the same qualifier and classes
-abbrev pub is_there : GenericRow → Option Head → Bool
+abbrev pub is_there : GenericRow → Option MethodHead → Bool
 is_there g None = false
 is_there g (Some h) =
     list_any (λ m. is_same (record { qualifier = h.qualifier; classes = h.classes; procedure = 0 }) m) g.methods
@@ -81,14 +81,14 @@ abbrev pub method_parts : Tables → Name → WrittenMethod → List Part
 method_parts s n m = specialised_parts s n m (specialised_in s.words m.list)
 
 -- the head of a method all of which is known
-abbrev pub heads_of : Option Head → List Head
+abbrev pub heads_of : Option MethodHead → List MethodHead
 heads_of None = []
 heads_of (Some h) = h ∷ []
 
-abbrev pub written_head : Tables → WrittenMethod → Option Head
+abbrev pub written_head : Tables → WrittenMethod → Option MethodHead
 written_head s m = head_of s m.qualifier (specialised_in s.words m.list)
 
-abbrev pub written_heads : Tables → WrittenMethod → List Head
+abbrev pub written_heads : Tables → WrittenMethod → List MethodHead
 written_heads s m = heads_of (written_head s m)
 
 -- a definition of a file stands for the symbol of its name
@@ -96,7 +96,7 @@ abbrev pub name_datum : Item → Name → Item
 name_datum d n = item (place_of d) (symbol (Named n))
 
 -- the definition of methods that have these parts
-abbrev pub methods_of : Around → Tables → Item → Name → Taker → List Part → List Head → Node
+abbrev pub methods_of : StaticContext → Tables → Item → Name → Taker → List Part → List MethodHead → Node
 methods_of a s d n t xs hs =
     whole a a (with_name a.spot.sited (name_datum d n) s) xs
     (record {
@@ -165,7 +165,7 @@ methods_among (standard ∷ os) = methods_among os
 methods_among (of_method m ∷ os) = m ∷ methods_among os
 
 -- each method is judged with those in front of it there
-abbrev pub with_head : Option GenericRow → Option Head → Option GenericRow
+abbrev pub with_head : Option GenericRow → Option MethodHead → Option GenericRow
 with_head None h = None
 with_head (Some g) None = Some g
 with_head (Some g) (Some h) =
@@ -183,34 +183,34 @@ abbrev pub each_method : Tables → Name → List WrittenMethod → List Part
 each_method s n [] = []
 each_method s n (m ∷ ms) = method_parts s n m ++ each_method s n ms
 
-abbrev pub all_heads : Tables → List WrittenMethod → List Head
+abbrev pub all_heads : Tables → List WrittenMethod → List MethodHead
 all_heads s [] = []
 all_heads s (m ∷ ms) = written_heads s m ++ all_heads s ms
 
-abbrev pub generic_with : Around → Tables → Item → Name → Item → List WrittenMethod → Option Parameters → Node
+abbrev pub generic_with : StaticContext → Tables → Item → Name → Item → List WrittenMethod → Option Parameters → Node
 generic_with a s d n l ms None = bad_binding l
 generic_with a s d n l ms (Some ps) =
     methods_of a s d n (New n (length ps.required) (is_some ps.rest)) (each_method s n ms) (all_heads s ms)
 
-abbrev pub generic_checked : Around → Tables → Place → Item → Item → List GenericOption → Name → Node
+abbrev pub generic_checked : StaticContext → Tables → Place → Item → Item → List GenericOption → Name → Node
 generic_checked a s p d l os n =
     if all_fit s (generic_row n (parameters_in s.words l)) (methods_among os)
     then generic_with a s d n l (methods_among os) (parameters_in s.words l)
     else offends p BadMethod
 
-abbrev pub generic_of : List (List ℕ) → Around → Tables → Place → Item → Item → List GenericOption → Name → Node
+abbrev pub generic_of : List (List ℕ) → StaticContext → Tables → Place → Item → Item → List GenericOption → Name → Node
 generic_of names a s p d l os n =
     defining a p (is_taken a.spot.sited s n) (is_reserved (keeps names n) a s n)
     (if list_any is_of_left_out os then offends p LeftOut
     else within_depth 1 a p (generic_checked a s p d l os n))
 
-abbrev pub generic_named_as : List (List ℕ) → Around → Tables → Place → Item → Item → List GenericOption → GivenName → Node
+abbrev pub generic_named_as : List (List ℕ) → StaticContext → Tables → Place → Item → Item → List GenericOption → GivenName → Node
 generic_named_as names a s p d l os no_name = bad_shape p
 generic_named_as names a s p d l os unfit = bad_shape p
 generic_named_as names a s p d l os lacking = unnamed
 generic_named_as names a s p d l os (given n) = generic_of names a s p d l os n
 
-abbrev pub defgeneric_row : List (List ℕ) → Around → Tables → Place → List Item → Node
+abbrev pub defgeneric_row : List (List ℕ) → StaticContext → Tables → Place → List Item → Node
 defgeneric_row names a s p [] = bad_shape p
 defgeneric_row names a s p (d ∷ []) = bad_shape p
 defgeneric_row names a s p (d ∷ l ∷ ds) =
@@ -222,34 +222,34 @@ defgeneric_row names a s p (d ∷ l ∷ ds) =
 abbrev pub takes_methods : List (List ℕ) → Item → Bool
 takes_methods names d = is_word names (codes "initialize-object") d || is_word names (codes "report-condition") d
 
-abbrev pub is_closed : List (List ℕ) → Around → Tables → Item → Name → Bool
+abbrev pub is_closed : List (List ℕ) → StaticContext → Tables → Item → Name → Bool
 is_closed names a s d n = is_reserved (keeps names n) a s n && not (takes_methods names d)
 
-abbrev pub method_for : Around → Tables → Place → Item → Name → WrittenMethod → Option ℕ → Node
+abbrev pub method_for : StaticContext → Tables → Place → Item → Name → WrittenMethod → Option ℕ → Node
 method_for a s p d n m None = offends p UnknownGeneric
 method_for a s p d n m (Some g) =
     if fits s (slice_get s.generics g) m
     then methods_of a s d n (There g) (method_parts s n m) (written_heads s m)
     else offends p BadMethod
 
-abbrev pub method_of : List (List ℕ) → Around → Tables → Place → Item → WrittenMethod → Name → Node
+abbrev pub method_of : List (List ℕ) → StaticContext → Tables → Place → Item → WrittenMethod → Name → Node
 method_of names a s p d m n =
     if not a.spot.top then offends p NotTopLevel
     else if is_closed names a s d n then offends p ReservedName
     else within_depth 1 a p (method_for a s p d n m (generic_named s.generics n))
 
-abbrev pub method_named_as : List (List ℕ) → Around → Tables → Place → Item → WrittenMethod → GivenName → Node
+abbrev pub method_named_as : List (List ℕ) → StaticContext → Tables → Place → Item → WrittenMethod → GivenName → Node
 method_named_as names a s p d m no_name = bad_shape p
 method_named_as names a s p d m unfit = bad_shape p
 method_named_as names a s p d m lacking = unnamed
 method_named_as names a s p d m (given n) = method_of names a s p d m n
 
-abbrev pub method_as : List (List ℕ) → Around → Tables → Place → Item → Option WrittenMethod → Node
+abbrev pub method_as : List (List ℕ) → StaticContext → Tables → Place → Item → Option WrittenMethod → Node
 method_as names a s p d None = bad_shape p
 method_as names a s p d (Some m) =
     if some_fresh_class (list_items m.list) then bad_shape p
     else method_named_as names a s p d m (given_name names d)
 
-abbrev pub defmethod_row : List (List ℕ) → Around → Tables → Place → List Item → Node
+abbrev pub defmethod_row : List (List ℕ) → StaticContext → Tables → Place → List Item → Node
 defmethod_row names a s p [] = bad_shape p
 defmethod_row names a s p (d ∷ ds) = method_as names a s p d (method_in names ds)

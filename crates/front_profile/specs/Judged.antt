@@ -6,12 +6,12 @@ use Rattle.base.specs.declared.reason.Reason.{Reason}
 use Rattle.base.specs.Data.{Item}
 use Rattle.lang_derived.specs.Derived.{Derives, new_symbols}
 use Rattle.front_profile.specs.declared.tables.Tables.{Tables}
-use Rattle.front_profile.specs.declared.making.Found.{Found}
-use Rattle.front_profile.specs.declared.making.Made.{Made}
-use Rattle.front_profile.specs.declared.making.Leaf.TheVariants.{Nothing}
-use Rattle.front_profile.specs.declared.making.Making.TheVariants.{Ready}
-use Rattle.front_profile.specs.Nodes.{Around, Part, form, below, inner, bind, parameter, wrong, function, Node, offends, steps, whole, Ending, refused, Standing, Verdict, stands, ended, behind, recorded}
-use Rattle.front_profile.specs.Makings.{made_form, finished}
+use Rattle.front_profile.specs.declared.elaboration.ElaboratedPart.{ElaboratedPart}
+use Rattle.front_profile.specs.declared.elaboration.Made.{Made}
+use Rattle.front_profile.specs.declared.elaboration.Leaf.TheVariants.{Nothing}
+use Rattle.front_profile.specs.declared.elaboration.Elaboration.TheVariants.{Ready}
+use Rattle.front_profile.specs.Nodes.{StaticContext, Part, form, below, inner, bind, parameter, wrong, function, Node, offends, steps, whole, EarlyEnd, refused, Standing, Verdict, stands, ended, behind, recorded}
+use Rattle.front_profile.specs.Elaborations.{made_form, finished}
 use Rattle.front_profile.specs.RowWords.{deeper}
 use Rattle.front_profile.specs.FunctionNodes.{function_node}
 use Rattle.front_profile.specs.Rows.{node}
@@ -24,7 +24,7 @@ abbrev pub with_variable : Tables → Tables
 with_variable s = record s { variables = s.variables + 1 }
 
 -- the node of a part: that of its form, where it stands; a parameter stands for itself
-abbrev pub subject : List (List ℕ) → Around → Around → Tables → Part → Node
+abbrev pub subject : List (List ℕ) → StaticContext → StaticContext → Tables → Part → Node
 subject names o i s (form d) = node names o s d
 subject names o i s (below d) = node names (deeper 1 o) s d
 subject names o i s (inner d) = node names i s d
@@ -35,15 +35,15 @@ subject names o i s (function w) = function_node o s w
 
 -- what all parts came to
 pub record AllFound : Type 0 where
-  pub found : List Found
+  pub found : List ElaboratedPart
   pub tables : Tables
 
 pub data Verdicts : Type 0 where
   all_stand : AllFound → Verdicts
-  one_ended : Ending → Verdicts
+  one_ended : EarlyEnd → Verdicts
 
 -- one part more in front
-abbrev pub in_front : Found → Verdicts → Verdicts
+abbrev pub in_front : ElaboratedPart → Verdicts → Verdicts
 in_front r (all_stand more) = all_stand (record { found = r ∷ more.found; tables = more.tables })
 in_front r (one_ended e) = one_ended e
 
@@ -54,23 +54,23 @@ made_verdict m (all_stand all) =
 made_verdict m (one_ended e) = ended e
 
 mutual
-  pub data Comes (names : List (List ℕ)) : Node → Verdict → Type 0 where
-    offence : (p : Place) (r : Reason) → Comes names (offends p r) (ended (refused p r))
+  pub data Elaborates (names : List (List ℕ)) : Node → Verdict → Type 0 where
+    offence : (p : Place) (r : Reason) → Elaborates names (offends p r) (ended (refused p r))
     -- a derived form stands for what its step stands for
-    step : (a : Around) (s : Tables) (d d2 : Item) (n : ℕ) (v : Verdict) →
+    step : (a : StaticContext) (s : Tables) (d d2 : Item) (n : ℕ) (v : Verdict) →
         Derives names d (length s.fresh) d2 (length s.fresh + n) →
-        Comes names (node names a (with_fresh n s) d2) v →
-        Comes names (steps a s d) v
-    made : (o i : Around) (s : Tables) (xs : List Part) (m : Made) (w : Verdicts) →
-        Goes names o i s xs w →
-        Comes names (whole o i s xs m) (made_verdict m w)
+        Elaborates names (node names a (with_fresh n s) d2) v →
+        Elaborates names (steps a s d) v
+    made : (o i : StaticContext) (s : Tables) (xs : List Part) (m : Made) (w : Verdicts) →
+        ElaboratesAll names o i s xs w →
+        Elaborates names (whole o i s xs m) (made_verdict m w)
 
-  pub data Goes (names : List (List ℕ)) : Around → Around → Tables → List Part → Verdicts → Type 0 where
-    ends : (o i : Around) (s : Tables) → Goes names o i s [] (all_stand (record { found = []; tables = s }))
-    goes : (o i : Around) (s : Tables) (x : Part) (xs : List Part) (m : Standing) (w : Verdicts) →
-        Comes names (subject names o i s x) (stands m) →
-        Goes names o (behind i s x) m.tables xs w →
-        Goes names o i s (x ∷ xs) (in_front (recorded s x m.form) w)
-    stops : (o i : Around) (s : Tables) (x : Part) (xs : List Part) (e : Ending) →
-        Comes names (subject names o i s x) (ended e) →
-        Goes names o i s (x ∷ xs) (one_ended e)
+  pub data ElaboratesAll (names : List (List ℕ)) : StaticContext → StaticContext → Tables → List Part → Verdicts → Type 0 where
+    ends : (o i : StaticContext) (s : Tables) → ElaboratesAll names o i s [] (all_stand (record { found = []; tables = s }))
+    goes : (o i : StaticContext) (s : Tables) (x : Part) (xs : List Part) (m : Standing) (w : Verdicts) →
+        Elaborates names (subject names o i s x) (stands m) →
+        ElaboratesAll names o (behind i s x) m.tables xs w →
+        ElaboratesAll names o i s (x ∷ xs) (in_front (recorded s x m.form) w)
+    stops : (o i : StaticContext) (s : Tables) (x : Part) (xs : List Part) (e : EarlyEnd) →
+        Elaborates names (subject names o i s x) (ended e) →
+        ElaboratesAll names o i s (x ∷ xs) (one_ended e)

@@ -7,9 +7,9 @@ use Rattle.lang_meaning.specs.declared.program.GenericRow.{GenericRow}
 use Rattle.lang_meaning.specs.declared.program.MethodRow.{MethodRow}
 use Rattle.lang_meaning.specs.declared.program.FunctionRow.{FunctionRow}
 use Rattle.front_profile.specs.declared.tables.Tables.{Tables}
-use Rattle.front_profile.specs.declared.making.Made.{Made}
-use Rattle.front_profile.specs.Nodes.{Around, Part, Node, offends, unnamed, steps, whole}
-use Rattle.front_profile.specs.Judged.{AllFound, all_stand, Goes}
+use Rattle.front_profile.specs.declared.elaboration.Made.{Made}
+use Rattle.front_profile.specs.Nodes.{StaticContext, Part, Node, offends, unnamed, steps, whole}
+use Rattle.front_profile.specs.Judged.{AllFound, all_stand, ElaboratesAll}
 use Rattle.front_profile.specs.Suits.{Suits}
 use Rattle.front_profile.specs.Definitions.{has_function}
 
@@ -29,9 +29,9 @@ abbrev pub KnownTables : Tables → Type 0
 KnownTables s = KnownRows s.classes.rows s.functions s.generics
 
 -- the parts of a node begin with tables that are known, and what is made of them suits the tables behind them
-pub record MakesSuited (o i : Around) (t : Tables) (xs : List Part) (m : Made) : Type 0 where
+pub record MakesSuited (o i : StaticContext) (t : Tables) (xs : List Part) (m : Made) : Type 0 where
   pub known : KnownTables t
-  pub suits : (names : List (List ℕ)) (all : AllFound) → Goes names o i t xs (all_stand all) → Suits m.making all.tables
+  pub suits : (names : List (List ℕ)) (all : AllFound) → ElaboratesAll names o i t xs (all_stand all) → Suits m.making all.tables
 
 abbrev pub SuitsNode : Node → Type 0
 SuitsNode (offends p r) = Unit {0}

@@ -2,7 +2,7 @@ pub mod Primitives
 pub mod Words
 pub mod Names
 pub mod Nodes
-pub mod Makings
+pub mod Elaborations
 pub mod Suits
 pub mod Shapes
 pub mod RowWords

@@ -16,7 +16,7 @@ AreThere [] hs = Unit {0}
 AreThere (g ∷ gs) [] = ⊥
 AreThere (g ∷ gs) (h ∷ hs) = HasMore g h × AreThere gs hs
 
-pub record Grows (s t : Tables) : Type 0 where
+pub record TablesGrow (s t : Tables) : Type 0 where
   pub words : t.words ≡ s.words
   pub classes : StandsFirst s.classes.rows t.classes.rows
   pub slots : StandsFirst s.classes.own t.classes.own

@@ -3,8 +3,8 @@ use Rattle.std.specs.Prelude.{ℕ, ◌+◌, ◌==◌, Bool, true, false, ◌&&�
 use Rattle.std.specs.List.{filter_map}
 use Rattle.base.specs.declared.datum.Symbol.{Symbol}
 use Rattle.base.specs.declared.datum.Symbol.TheVariants.{Named, Fresh}
-use Rattle.lang_meaning.specs.declared.part.Part.{Part}
-use Rattle.lang_meaning.specs.declared.part.Part.TheVariants as part
+use Rattle.lang_meaning.specs.declared.capture.Capture.{Capture}
+use Rattle.lang_meaning.specs.declared.capture.Capture.TheVariants as part
 use Rattle.front_profile.specs.declared.bound.Target.{Target}
 use Rattle.front_profile.specs.declared.bound.Bound.{Bound}
 use Rattle.front_profile.specs.declared.bound.Bound.TheVariants.{Variable, Function, Block, Tags}
@@ -71,23 +71,23 @@ block_of bs x = innermost (as_block x) bs
 abbrev pub tag_of : List Bound → Symbol → Option Target
 tag_of bs x = innermost (as_tag x) bs
 
--- the parts of the surroundings that a function made there can capture: variables, exits and the method part, in this order
+-- the parts of the static context that a function made there can capture: variables, exits and the method part, in this order
 
-abbrev pub variable_part : Bound → Option Part
+abbrev pub variable_part : Bound → Option Capture
 variable_part (Variable y v) = Some (part.Variable v)
 variable_part (Function y v) = None
 variable_part (Block y e) = None
 variable_part (Tags ys e) = None
 
-abbrev pub exit_part : Bound → Option Part
+abbrev pub exit_part : Bound → Option Capture
 exit_part (Block y e) = Some (part.Exit e)
 exit_part (Tags ys e) = Some (part.Exit e)
 exit_part (Variable y v) = None
 exit_part (Function y v) = None
 
-abbrev pub method_part : Bool → List Part
+abbrev pub method_part : Bool → List Capture
 method_part true = part.Method ∷ []
 method_part false = []
 
-abbrev pub parts_around : List Bound → Bool → List Part
+abbrev pub parts_around : List Bound → Bool → List Capture
 parts_around bs in_method = filter_map variable_part bs ++ (filter_map exit_part bs ++ method_part in_method)

@@ -10,15 +10,15 @@ use Rattle.lang_meaning.specs.Form.{Form}
 use Rattle.front_profile.specs.declared.bound.Bound.{Bound}
 use Rattle.front_profile.specs.declared.bound.Bound.TheVariants.{Variable}
 use Rattle.front_profile.specs.declared.spot.Spot.{Spot}
-use Rattle.front_profile.specs.declared.making.Found.{Found}
-use Rattle.front_profile.specs.declared.making.Found.TheVariants.{Value, Binding, Parameter}
-use Rattle.front_profile.specs.declared.making.Accessor.{Accessor}
-use Rattle.front_profile.specs.declared.making.Made.{Made}
+use Rattle.front_profile.specs.declared.elaboration.ElaboratedPart.{ElaboratedPart}
+use Rattle.front_profile.specs.declared.elaboration.ElaboratedPart.TheVariants.{Value, Binding, Parameter}
+use Rattle.front_profile.specs.declared.elaboration.Accessor.{Accessor}
+use Rattle.front_profile.specs.declared.elaboration.Made.{Made}
 use Rattle.front_profile.specs.declared.parameters.Parameters.{Parameters}
 use Rattle.front_profile.specs.declared.tables.Tables.{Tables}
 
 -- where a form stands: what is bound there, the innermost last, and the rest
-pub record Around : Type 0 where
+pub record StaticContext : Type 0 where
   pub bound : List Bound
   pub spot : Spot
 
@@ -50,19 +50,19 @@ pub data Node : Type 0 where
   -- it asks for a name that the table of names lacks: nothing is said of it
   unnamed : Node
   -- a derived form, there and with these tables
-  steps : Around → Tables → Item → Node
+  steps : StaticContext → Tables → Item → Node
   -- the parts stand there, outside and inside
-  whole : Around → Around → Tables → List Part → Made → Node
+  whole : StaticContext → StaticContext → Tables → List Part → Made → Node
 
 -- what a form is under a table of names, and under a later one: the same, unless the earlier table lacks a name
-abbrev pub Stays : Node → Node → Type 0
-Stays x y = (x ≡ unnamed) ⊎ (x ≡ y)
+abbrev pub NodeStays : Node → Node → Type 0
+NodeStays x y = (x ≡ unnamed) ⊎ (x ≡ y)
 
 -- how judging ends before all parts are judged: with the first offence; or at the call of a macro whose expansion is not there yet, which
 -- is asked for. No row of today is a macro's call, so no verdict ends so yet.
-pub data Ending : Type 0 where
-  refused : Place → Reason → Ending
-  wants_expansion : (call : Item) → Ending
+pub data EarlyEnd : Type 0 where
+  refused : Place → Reason → EarlyEnd
+  wants_expansion : (call : Item) → EarlyEnd
 
 pub record Standing : Type 0 where
   pub form : Form
@@ -71,14 +71,14 @@ pub record Standing : Type 0 where
 -- the core form and the tables behind it, or an end before
 pub data Verdict : Type 0 where
   stands : Standing → Verdict
-  ended : Ending → Verdict
+  ended : EarlyEnd → Verdict
 
 -- the variable of a part is bound where the parts behind it stand
 
-abbrev pub with_bound : Bound → Around → Around
+abbrev pub with_bound : Bound → StaticContext → StaticContext
 with_bound b i = record i { bound = i.bound ++ b ∷ [] }
 
-abbrev pub behind : Around → Tables → Part → Around
+abbrev pub behind : StaticContext → Tables → Part → StaticContext
 behind i s (form d) = i
 behind i s (below d) = i
 behind i s (inner d) = i
@@ -88,7 +88,7 @@ behind i s (wrong p r) = i
 behind i s (function w) = i
 
 -- what is recorded of a part of which that form was found
-abbrev pub recorded : Tables → Part → Form → Found
+abbrev pub recorded : Tables → Part → Form → ElaboratedPart
 recorded s (form d) f = Value f
 recorded s (below d) f = Value f
 recorded s (inner d) f = Value f

@@ -10,35 +10,35 @@ use Rattle.lang_meaning.specs.declared.program.LiteralRow.{LiteralRow}
 use Rattle.front_profile.specs.declared.bound.Bound.{Bound}
 use Rattle.front_profile.specs.declared.spot.Spot.{Spot}
 use Rattle.front_profile.specs.declared.tables.Tables.{Tables}
-use Rattle.front_profile.specs.declared.making.Leaf.{Leaf}
-use Rattle.front_profile.specs.declared.making.Leaf.TheVariants.{Literal}
-use Rattle.front_profile.specs.declared.making.Making.{Making}
-use Rattle.front_profile.specs.declared.making.Making.TheVariants.{Ready}
-use Rattle.front_profile.specs.Nodes.{Around, Part, form, below, inner, bind, parameter, Node, offends, whole}
+use Rattle.front_profile.specs.declared.elaboration.Leaf.{Leaf}
+use Rattle.front_profile.specs.declared.elaboration.Leaf.TheVariants.{Literal}
+use Rattle.front_profile.specs.declared.elaboration.Elaboration.{Elaboration}
+use Rattle.front_profile.specs.declared.elaboration.Elaboration.TheVariants.{Ready}
+use Rattle.front_profile.specs.Nodes.{StaticContext, Part, form, below, inner, bind, parameter, Node, offends, whole}
 use Rattle.front_profile.specs.Shapes.{Pair}
 
 -- so many core forms deeper, and below top level
 abbrev pub deeper_spot : ℕ → Spot → Spot
 deeper_spot n spot = record spot { depth = spot.depth + n; top = false }
 
-abbrev pub deeper : ℕ → Around → Around
+abbrev pub deeper : ℕ → StaticContext → StaticContext
 deeper n a = record a { spot = deeper_spot n a.spot }
 
 -- the parts of a top-level `progn` stand at top level
 abbrev pub deeper_at_top_spot : Spot → Spot
 deeper_at_top_spot spot = record spot { depth = spot.depth + 1 }
 
-abbrev pub deeper_at_top : Around → Around
+abbrev pub deeper_at_top : StaticContext → StaticContext
 deeper_at_top a = record a { spot = deeper_at_top_spot a.spot }
 
-abbrev pub with_all : List Bound → Around → Around
+abbrev pub with_all : List Bound → StaticContext → StaticContext
 with_all bs a = record a { bound = a.bound ++ bs }
 
 -- where the forms of a definition's body stand: its depth begins anew. At top level nothing is bound.
 abbrev pub alone_spot : Bool → Spot → Spot
 alone_spot in_method spot = record spot { depth = 1; top = false; in_method = in_method }
 
-abbrev pub alone : Bool → Around → Around
+abbrev pub alone : Bool → StaticContext → StaticContext
 alone in_method a = record a { spot = alone_spot in_method a.spot }
 
 -- sites, counted from 1
@@ -47,36 +47,36 @@ abbrev pub with_site_if : Bool → Place → Tables → Tables
 with_site_if true p s = record s { sites = s.sites ++ p ∷ [] }
 with_site_if false p s = s
 
-abbrev pub with_site : Around → Place → Tables → Tables
+abbrev pub with_site : StaticContext → Place → Tables → Tables
 with_site a p s = with_site_if a.spot.sited p s
 
 abbrev pub site_if : Bool → ℕ → Option ℕ
 site_if true n = Some (n + 1)
 site_if false n = None
 
-abbrev pub next_site : Around → Tables → Option ℕ
+abbrev pub next_site : StaticContext → Tables → Option ℕ
 next_site a s = site_if a.spot.sited (length s.sites)
 
 -- so many core forms, inside one another, are of the form's own; none may stand inside 1,000 others
-abbrev pub within_depth : ℕ → Around → Place → Node → Node
+abbrev pub within_depth : ℕ → StaticContext → Place → Node → Node
 within_depth n a p x = if nat_le (a.spot.depth + n) 1000 then x else offends p DepthLimit
 
 -- a core form at its place, whose parts stand outside and inside
-abbrev pub made_of : Around → Around → Place → Tables → List Part → Making → Node
+abbrev pub made_of : StaticContext → StaticContext → Place → Tables → List Part → Elaboration → Node
 made_of a i p s xs m = whole (deeper 1 a) i (with_site a p s) xs (record { site = next_site a s; making = m })
 
 -- a core form that has no parts
-abbrev pub made_at_once : Around → Place → Tables → Leaf → Node
+abbrev pub made_at_once : StaticContext → Place → Tables → Leaf → Node
 made_at_once a p s l = within_depth 1 a p (made_of a (deeper 1 a) p s [] (Ready l))
 
 -- the same without a site, as that of a literal and of a variable
-abbrev pub unsited : Around → Place → Tables → Leaf → Node
+abbrev pub unsited : StaticContext → Place → Tables → Leaf → Node
 unsited a p s l = within_depth 1 a p (whole a a s [] (record { site = None; making = Ready l }))
 
 abbrev pub with_literal : LiteralRow → Tables → Tables
 with_literal row s = record s { literals = s.literals ++ row ∷ [] }
 
-abbrev pub literal_node : Around → Place → Tables → LiteralRow → Node
+abbrev pub literal_node : StaticContext → Place → Tables → LiteralRow → Node
 literal_node a p s row = unsited a p (with_literal row s) (Literal (length s.literals))
 
 -- parts

@@ -19,10 +19,10 @@ use Rattle.front_profile.specs.declared.special.Special.TheVariants as name
 use Rattle.front_profile.specs.declared.tables.Tables.{Tables}
 use Rattle.front_profile.specs.Words.{special_named, is_left_out, is_kept, is_reserved_text}
 use Rattle.front_profile.specs.Names.{function_of}
-use Rattle.front_profile.specs.declared.making.Leaf.TheVariants.{NextMethod, HasNext}
+use Rattle.front_profile.specs.declared.elaboration.Leaf.TheVariants.{NextMethod, HasNext}
 use Rattle.lang_meaning.specs.declared.kinds.OverTwo.TheVariants.{Apply, While, Catch, Throw, Unwind, WithHandler}
-use Rattle.front_profile.specs.declared.making.Making.TheVariants.{CallOfValue}
-use Rattle.front_profile.specs.Nodes.{Around, Node, offends, steps}
+use Rattle.front_profile.specs.declared.elaboration.Elaboration.TheVariants.{CallOfValue}
+use Rattle.front_profile.specs.Nodes.{StaticContext, Node, offends, steps}
 use Rattle.front_profile.specs.Shapes.{symbol_of}
 use Rattle.front_profile.specs.RowWords.{literal_node, bad_shape}
 use Rattle.front_profile.specs.ValueRows.{symbol_node, quote_row, setq_row, progn_row, cond_row, two_row, body_row, dynamic_row, set_dynamic_row, function_row, method_row, class_row}
@@ -63,7 +63,7 @@ functions_kept names [] = false
 functions_kept names (d ∷ ds) = some_kept names (list_items d)
 
 -- the row of a special or defining form, by what stands behind its name
-abbrev pub special_row : List (List ℕ) → Special → Around → Tables → Place → List Item → Node
+abbrev pub special_row : List (List ℕ) → Special → StaticContext → Tables → Place → List Item → Node
 special_row names name.Quote a s p ds = quote_row a s p ds
 special_row names name.Setq a s p ds = setq_row a s p ds
 special_row names name.Cond a s p ds = cond_row a s p ds
@@ -98,7 +98,7 @@ special_row names name.Defgeneric a s p ds = defgeneric_row names a s p ds
 special_row names name.Defmethod a s p ds = defmethod_row names a s p ds
 
 -- such a form has no dot
-abbrev pub special_node : List (List ℕ) → Special → Around → Tables → Place → List Item → Tail → Node
+abbrev pub special_node : List (List ℕ) → Special → StaticContext → Tables → Place → List Item → Tail → Node
 special_node names x a s p ds no_tail = special_row names x a s p ds
 special_node names x a s p ds (dotted d) = bad_shape p
 
@@ -108,15 +108,15 @@ without_dot p no_tail x = x
 without_dot p (dotted d) x = offends p NotAForm
 
 -- a call by a name that is no local function's
-abbrev pub call_named : Name → List ℕ → Around → Tables → Place → List Item → Node
+abbrev pub call_named : Name → List ℕ → StaticContext → Tables → Place → List Item → Node
 call_named n text a s p ds = if is_left_out text then offends p LeftOut else named_call n text a s p ds
 
-abbrev pub call_symbol : Symbol → Option (List ℕ) → Around → Tables → Place → List Item → Node
+abbrev pub call_symbol : Symbol → Option (List ℕ) → StaticContext → Tables → Place → List Item → Node
 call_symbol x None a s p ds = bad_shape p
 call_symbol (Named n) (Some text) a s p ds = call_named n text a s p ds
 call_symbol (Fresh e serial) (Some text) a s p ds = bad_shape p
 
-abbrev pub call_as : Symbol → Option (List ℕ) → Option ℕ → Around → Tables → Place → List Item → Node
+abbrev pub call_as : Symbol → Option (List ℕ) → Option ℕ → StaticContext → Tables → Place → List Item → Node
 call_as x text (Some v) a s p ds = local_call v a s p ds
 call_as x text None a s p ds = call_symbol x text a s p ds
 
@@ -124,13 +124,13 @@ abbrev pub special_of : Option (List ℕ) → Option Special
 special_of None = None
 special_of (Some text) = special_named text
 
-abbrev pub headed_as : List (List ℕ) → Symbol → Option Special → Around → Tables → Place → List Item → Tail → Node
+abbrev pub headed_as : List (List ℕ) → Symbol → Option Special → StaticContext → Tables → Place → List Item → Tail → Node
 headed_as names x (Some special) a s p ds t = special_node names special a s p ds t
 headed_as names x None a s p ds t =
     without_dot p t (call_as x (symbol_text names x) (function_of a.bound x) a s p ds)
 
 -- a list with that symbol in front
-abbrev pub headed : List (List ℕ) → Symbol → Around → Tables → Place → List Item → Tail → Node
+abbrev pub headed : List (List ℕ) → Symbol → StaticContext → Tables → Place → List Item → Tail → Node
 headed names x a s p ds t = headed_as names x (special_of (symbol_text names x)) a s p ds t
 
 -- a lambda form: a list with `lambda` in front
@@ -153,20 +153,20 @@ is_lambda names (item q (vector ds)) = false
 is_lambda names (item q nil) = false
 
 -- a list whose head is no symbol: the call of a lambda form, the operator first
-abbrev pub headed_by_form : List (List ℕ) → Item → Around → Tables → Place → List Item → Tail → Node
+abbrev pub headed_by_form : List (List ℕ) → Item → StaticContext → Tables → Place → List Item → Tail → Node
 headed_by_form names h a s p ds t =
     if is_lambda names h then without_dot p t (all_parts CallOfValue a s p (h ∷ ds)) else offends p NotAForm
 
-abbrev pub headed_by : List (List ℕ) → Item → Option Symbol → Around → Tables → Place → List Item → Tail → Node
+abbrev pub headed_by : List (List ℕ) → Item → Option Symbol → StaticContext → Tables → Place → List Item → Tail → Node
 headed_by names h (Some x) a s p ds t = headed names x a s p ds t
 headed_by names h None a s p ds t = headed_by_form names h a s p ds t
 
-abbrev pub list_node : List (List ℕ) → Around → Tables → Place → List Item → Tail → Node
+abbrev pub list_node : List (List ℕ) → StaticContext → Tables → Place → List Item → Tail → Node
 list_node names a s p [] t = offends p NotAForm
 list_node names a s p (h ∷ ds) t = headed_by names h (symbol_of h) a s p ds t
 
 -- what is no derived form
-abbrev pub plain_node : List (List ℕ) → Around → Tables → Item → Node
+abbrev pub plain_node : List (List ℕ) → StaticContext → Tables → Item → Node
 plain_node names a s (item p (list ds t)) = list_node names a s p (items_list ds) t
 plain_node names a s (item p (symbol x)) = symbol_node a p s x
 plain_node names a s (item p (integer n)) = literal_node a p s (row.Datum (item p (integer n)))
@@ -199,11 +199,11 @@ abbrev pub unless_refused : Option Refusal → Node → Node
 unless_refused None x = x
 unless_refused (Some r) x = offends r.place r.reason
 
-abbrev pub derived_as : List (List ℕ) → Derivation → Around → Tables → Item → Node
+abbrev pub derived_as : List (List ℕ) → Derivation → StaticContext → Tables → Item → Node
 derived_as names plain a s d = plain_node names a s d
 derived_as names unfit a s d = bad_shape (place_of d)
 derived_as names (becomes r) a s d = steps a s d
 
 -- the node of a datum that stands there, with these tables
-unfoldable pub node : List (List ℕ) → Around → Tables → Item → Node
+unfoldable pub node : List (List ℕ) → StaticContext → Tables → Item → Node
 node names a s d = unless_refused (class_in_front names s (list_items d)) (derived_as names (derivation names (length s.fresh) d) a s d)

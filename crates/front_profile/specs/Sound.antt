@@ -2,9 +2,9 @@
 -- definition at top level, so judging ends.
 use Rattle.std.specs.Prelude.{ℕ, ◌+◌, ◌-◌, ◌<◌, List, [], ◌∷◌, if◌then◌else◌}
 use Rattle.base.specs.AllOf.{AllOf}
-use Rattle.base.specs.GoodData.{Good}
+use Rattle.base.specs.WellFormedData.{WellFormed}
 use Rattle.front_profile.specs.declared.spot.Spot.{Spot}
-use Rattle.front_profile.specs.Nodes.{Around, Part, form, below, inner, bind, parameter, wrong, function, Written, initform, accessor, method, Node, offends, unnamed, steps, whole}
+use Rattle.front_profile.specs.Nodes.{StaticContext, Part, form, below, inner, bind, parameter, wrong, function, Written, initform, accessor, method, Node, offends, unnamed, steps, whole}
 use Rattle.front_profile.specs.RowWords.{deeper_spot}
 
 -- how far judging can still go down from there
@@ -17,21 +17,21 @@ HasBelow w spot = (weight (deeper_spot 1 spot) < w) × (spot.depth < 1000)
 
 -- a function of a definition at top level stands alone
 abbrev pub SoundFunction : ℕ → ℕ → Written → Type 0
-SoundFunction n w (initform d) = Good n d × (1001 < w)
+SoundFunction n w (initform d) = WellFormed n d × (1001 < w)
 SoundFunction n w (accessor m k d) = 1001 < w
-SoundFunction n w (method m has_next ps fs) = AllOf (Good n) fs × (1001 < w)
+SoundFunction n w (method m has_next ps fs) = AllOf (WellFormed n) fs × (1001 < w)
 
 -- where the datum of a part stands, and that datum
-abbrev pub SoundPart : ℕ → ℕ → Around → Around → Part → Type 0
-SoundPart n w o i (form d) = Good n d × (weight o.spot < w)
-SoundPart n w o i (below d) = Good n d × (HasBelow w o.spot)
-SoundPart n w o i (inner d) = Good n d × (weight i.spot < w)
-SoundPart n w o i (bind x d) = Good n d × (weight o.spot < w)
+abbrev pub SoundPart : ℕ → ℕ → StaticContext → StaticContext → Part → Type 0
+SoundPart n w o i (form d) = WellFormed n d × (weight o.spot < w)
+SoundPart n w o i (below d) = WellFormed n d × (HasBelow w o.spot)
+SoundPart n w o i (inner d) = WellFormed n d × (weight i.spot < w)
+SoundPart n w o i (bind x d) = WellFormed n d × (weight o.spot < w)
 SoundPart n w o i (parameter x) = Unit {0}
 SoundPart n w o i (wrong p r) = Unit {0}
 SoundPart n w o i (function f) = SoundFunction n w f
 
-abbrev pub AllSound : ℕ → ℕ → Around → Around → List Part → Type 0
+abbrev pub AllSound : ℕ → ℕ → StaticContext → StaticContext → List Part → Type 0
 AllSound n w o i [] = Unit {0}
 AllSound n w o i (x ∷ xs) = SoundPart n w o i x × AllSound n w o i xs
 

@@ -9,24 +9,24 @@ use Rattle.lang_classes.specs.Given.{given}
 use Rattle.lang_classes.specs.InheritedClasses.{class_named, refusal}
 use Rattle.lang_dispatch.specs.Methods.{names_of, takes}
 use Rattle.front_profile.specs.declared.tables.Tables.{Tables}
-use Rattle.front_profile.specs.declared.making.Accessor.{Accessor}
-use Rattle.front_profile.specs.declared.making.Head.{Head}
-use Rattle.front_profile.specs.declared.making.Taker.{Taker}
-use Rattle.front_profile.specs.declared.making.Taker.TheVariants.{New, There}
-use Rattle.front_profile.specs.declared.making.SlotFunction.{SlotFunction}
-use Rattle.front_profile.specs.declared.making.SlotFunction.TheVariants.{Initform, Method}
-use Rattle.front_profile.specs.declared.making.NewClass.{NewClass}
-use Rattle.front_profile.specs.declared.making.Making.{Making}
-use Rattle.front_profile.specs.declared.making.Making.TheVariants.{Ready, OfOne, OfTwo, OfBody, InSequence, CallOf, CallOfValue, CallOfLocal, CallOfPrimitive, OfClauses, OfVariables, OfDynamics, OfFunction, OfBlock, OfSegments, OfFunctionNamed, OfProcedure, OfAccessor, OfMethods, OfClass}
-use Rattle.front_profile.specs.Makings.{with_generic, with_method_at, generic_named, arguments_of, accessor_head, with_slot_function, with_new_class}
+use Rattle.front_profile.specs.declared.elaboration.Accessor.{Accessor}
+use Rattle.front_profile.specs.declared.elaboration.MethodHead.{MethodHead}
+use Rattle.front_profile.specs.declared.elaboration.Taker.{Taker}
+use Rattle.front_profile.specs.declared.elaboration.Taker.TheVariants.{New, There}
+use Rattle.front_profile.specs.declared.elaboration.SlotFunction.{SlotFunction}
+use Rattle.front_profile.specs.declared.elaboration.SlotFunction.TheVariants.{Initform, Method}
+use Rattle.front_profile.specs.declared.elaboration.NewClass.{NewClass}
+use Rattle.front_profile.specs.declared.elaboration.Elaboration.{Elaboration}
+use Rattle.front_profile.specs.declared.elaboration.Elaboration.TheVariants.{Ready, OfOne, OfTwo, OfBody, InSequence, CallOf, CallOfValue, CallOfLocal, CallOfPrimitive, OfClauses, OfVariables, OfDynamics, OfFunction, OfBlock, OfSegments, OfFunctionNamed, OfProcedure, OfAccessor, OfMethods, OfClass}
+use Rattle.front_profile.specs.Elaborations.{with_generic, with_method_at, generic_named, arguments_of, accessor_head, with_slot_function, with_new_class}
 
 -- a generic function takes a method with that head and procedure, and with a rest argument where it has one itself
-abbrev pub takes_head : Head → ℕ → Option GenericRow → Bool
+abbrev pub takes_head : MethodHead → ℕ → Option GenericRow → Bool
 takes_head h p None = false
 takes_head h p (Some g) = takes g g.rest (record { qualifier = h.qualifier; classes = h.classes; procedure = p })
 
 -- the generic function of that number is there, and takes it
-pub record SuitsHead (g : ℕ) (h : Head) (p : ℕ) (s : Tables) : Type 0 where
+pub record SuitsHead (g : ℕ) (h : MethodHead) (p : ℕ) (s : Tables) : Type 0 where
   pub there : g < length s.generics
   pub takes : takes_head h p (slice_get s.generics g) ≡ true
 
@@ -35,11 +35,11 @@ pub record SuitsName (n : Name) (s : Tables) : Type 0 where
   pub new : is_in n.0 (names_of s.generics) ≡ false
 
 -- methods, each behind those in front of it
-abbrev pub SuitsHeads : ℕ → List Head → ℕ → Tables → Type 0
+abbrev pub SuitsHeads : ℕ → List MethodHead → ℕ → Tables → Type 0
 SuitsHeads g [] p s = Unit {0}
 SuitsHeads g (h ∷ hs) p s = SuitsHead g h p s × SuitsHeads g hs (p + 1) (with_method_at g h p s)
 
-abbrev pub SuitsMethods : Taker → List Head → ℕ → Bool → Tables → Type 0
+abbrev pub SuitsMethods : Taker → List MethodHead → ℕ → Bool → Tables → Type 0
 SuitsMethods (New n required rest) hs p of_file s =
     SuitsName n s × SuitsHeads (length s.generics) hs p (with_generic n required rest of_file s)
 SuitsMethods (There g) hs p of_file s = (g < length s.generics) × SuitsHeads g hs p s
@@ -67,7 +67,7 @@ SuitsFunctions (x ∷ xs) c p of_file s =
     SuitsFunction x c p of_file s × SuitsFunctions xs c (p + 1) of_file (with_slot_function x c p of_file s)
 
 -- what a form defines suits the tables behind its parts; any form that defines no class and no method does
-abbrev pub Suits : Making → Tables → Type 0
+abbrev pub Suits : Elaboration → Tables → Type 0
 Suits (OfMethods t hs p of_file l) s = SuitsMethods t hs p of_file s
 Suits (OfClass c p of_file l) s =
     SuitsClass c s × SuitsFunctions c.functions (length s.classes.rows) p of_file (with_new_class c of_file s)

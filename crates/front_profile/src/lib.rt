@@ -2,8 +2,8 @@
 #![tactic(auto)]
 
 pub mod bound;
+pub mod elaboration;
 pub mod laws;
-pub mod making;
 pub mod parameters;
 pub mod special;
 pub mod spot;
@@ -11,9 +11,9 @@ pub mod tables;
 pub mod whole_laws;
 
 pub use bound::{Bound, BoundList, Target};
-pub use making::{
-    Accessor, BodyLengths, Found, FoundList, Head, Heads, Leaf, Lengths, Made, Making, NewClass,
-    One, SlotFunction, SlotFunctions, Taker,
+pub use elaboration::{
+    Accessor, BodyLengths, ElaboratedPart, ElaboratedParts, Elaboration, Leaf, Lengths, Made,
+    MethodHead, MethodHeads, NewClass, One, SlotFunction, SlotFunctions, Taker,
 };
 pub use parameters::Parameters;
 pub use special::{Special, is_special_name, special_named};

@@ -17,10 +17,10 @@ use Rattle.front_reader.specs.Meanings.{number_in}
 use Rattle.front_reader.specs.Fronts.{Level, levels_spelled}
 use Rattle.front_reader.specs.Stops.{StopsFirst}
 use Rattle.front_reader.specs.bridge.Lexemes.{skip}
-use Rattle.front_reader.specs.bridge.Machine.{State, stopped, finished, over, step}
-use Rattle.front_reader.specs.bridge.Steps.{ReadTo, Found}
+use Rattle.front_reader.specs.bridge.Machine.{LexemeState, stopped, finished, over, step}
+use Rattle.front_reader.specs.bridge.Steps.{ReadTo, DatumFound}
 use Rattle.front_reader.specs.Readers.{ReaderState}
-use Rattle.front_reader.specs.Answers.{IsRead, IsEnded, IsRefused}
+use Rattle.front_reader.specs.Answers.{IsRead, IsEnded, IsReaderRefused}
 use Rattle.front_reader.proofs.Skips.{skip-ends}
 use Rattle.front_reader.proofs.Shifting.{skip-front}
 use Rattle.front_reader.proofs.Stepping.{Numbers, state, place_behind-append}
@@ -31,7 +31,7 @@ use Rattle.front_reader.proofs.Ending.{finished-ended}
 use Rattle.front_reader.proofs.Stopping.{step-stops}
 
 -- what is read up to is a front
-read-fronted : (number : Numbers) (text : Seq ℕ) (p : Place) (s : State) → ReadTo number text p s → FrontedState number text p s
+read-fronted : (number : Numbers) (text : Seq ℕ) (p : Place) (s : LexemeState) → ReadTo number text p s → FrontedState number text p s
 read-fronted number text p s r = fronted-steps number text p (state text p [] []) s (fronted-start number text p) r
 
 -- the same front of a text leaves the same
@@ -67,7 +67,7 @@ none-open number p ts (l ∷ ls) done os h e =
     absurd (omega (arith, held-length number p ts (l ∷ ls) done os h, ap length e))
 
 -- only a gap was left
-pub ended-gap : (number : Numbers) (text : Seq ℕ) (p : Place) (s : State) → ReadTo number text p s → s.done ≡ []
+pub ended-gap : (number : Numbers) (text : Seq ℕ) (p : Place) (s : LexemeState) → ReadTo number text p s → s.done ≡ []
     → step number s ≡ over (finished []) → Gap text []
 unfolding spelled_all
 ended-gap number text p s r e k =
@@ -81,7 +81,7 @@ ended-gap number text p s r e k =
     subst (λ t. Gap t []) (sym all) end.is_gap
 
 -- a stop
-pub stopped-first : (number : Numbers) (text : Seq ℕ) (p : Place) (s : State) (at : Place) (r : Reason) (left : Seq ℕ)
+pub stopped-first : (number : Numbers) (text : Seq ℕ) (p : Place) (s : LexemeState) (at : Place) (r : Reason) (left : Seq ℕ)
     → ReadTo number text p s → s.done ≡ [] → step number s ≡ over (stopped at r left) → StopsFirst p text at r
 stopped-first number text p s at r left a e k =
     let f = read-fronted number text p s a in
@@ -120,26 +120,26 @@ open-no-gap text n e h = let s = gap-skipped text h in absurd (cc)
 -- ---- the answers of a reader, from what reading led to
 
 pub answer-read : (names : Seq (Seq ℕ)) (rest : Seq ℕ) (p : Place) (stop : Option Refusal) (o : Option (Cursor × Item)) (c : Cursor) (d : Item)
-    → stop ≡ None → Found names rest p (Ok o) → o ≡ Some (c, d)
+    → stop ≡ None → DatumFound names rest p (Ok o) → o ≡ Some (c, d)
     → IsRead names (record { rest = rest; place = p; stop = stop }) (record { rest = c.rest.now; place = c.place; stop = stop }) d
 answer-read names rest p stop o c d fresh f e =
-    let F : Option (Cursor × Item) → Type 0 = λ x. Found names rest p (Ok x) in
+    let F : Option (Cursor × Item) → Type 0 = λ x. DatumFound names rest p (Ok x) in
     let g : F (Some (c, d)) = subst F e f in
     read-answer names (record { rest = rest; place = p; stop = stop }) c.rest.now c.place d fresh g.0
 
 pub answer-ended : (names : Seq (Seq ℕ)) (rest : Seq ℕ) (p : Place) (stop : Option Refusal) (o : Option (Cursor × Item))
-    → stop ≡ None → Found names rest p (Ok o) → o ≡ None
+    → stop ≡ None → DatumFound names rest p (Ok o) → o ≡ None
     → IsEnded (record { rest = rest; place = p; stop = stop }) (record { rest = rest; place = p; stop = stop })
 answer-ended names rest p stop o fresh f e =
-    let F : Option (Cursor × Item) → Type 0 = λ x. Found names rest p (Ok x) in
+    let F : Option (Cursor × Item) → Type 0 = λ x. DatumFound names rest p (Ok x) in
     let g : F None = subst F e f in
     record { fresh = fresh; is_gap = ended-gap (number_in names) rest p g.0 g.1.0 g.1.1 g.1.2; same = refl }
 
 pub answer-refused : (names : Seq (Seq ℕ)) (rest : Seq ℕ) (p : Place) (stop : Option Refusal) (x : Stop) (r : Refusal)
-    → stop ≡ None → Found names rest p (Err x) → x ≡ Refused r
-    → IsRefused (record { rest = rest; place = p; stop = stop }) (record { rest = rest; place = p; stop = Some r }) r
+    → stop ≡ None → DatumFound names rest p (Err x) → x ≡ Refused r
+    → IsReaderRefused (record { rest = rest; place = p; stop = stop }) (record { rest = rest; place = p; stop = Some r }) r
 answer-refused names rest p stop x r fresh f e =
-    let F : Stop → Type 0 = λ y. Found names rest p (Err y) in
+    let F : Stop → Type 0 = λ y. DatumFound names rest p (Err y) in
     let g : F (Refused r) = subst F e f in
     record {
       kept = refl;

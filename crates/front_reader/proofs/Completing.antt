@@ -10,7 +10,7 @@ use Rattle.front_reader.specs.Characters.{place_behind}
 use Rattle.front_reader.specs.Gaps.{Gap}
 use Rattle.front_reader.specs.Trees.{Tree, atom, proper, improper, row, prefixed, Trees, no_tree, then_tree, prefix_bytes, spelled, spelled_all, behind, behind_all, Stands, StandsAll, IsSomeTree}
 use Rattle.front_reader.specs.Meanings.{Means, MeansAll}
-use Rattle.front_reader.specs.bridge.Machine.{State, next, put_in, full_dot, opening_step, opened, dot_step, Steps, none, more}
+use Rattle.front_reader.specs.bridge.Machine.{LexemeState, next, put_in, full_dot, opening_step, opened, dot_step, LexemeSteps, none, more}
 use Rattle.front_reader.proofs.Stepping.{Numbers, state, step-gap, step-atom, step-close, step-dot, step-opening, steps-then, one-step}
 
 -- where data stand in order: at the top, in a list or in a vector
@@ -20,7 +20,7 @@ pub data Holder : Type 0 where
   a_vector : Place → Seq Item → Seq Pending → Holder
 
 -- the state with these data there
-abbrev pub holding : Holder → Seq ℕ → Place → Seq Item → State
+abbrev pub holding : Holder → Seq ℕ → Place → Seq Item → LexemeState
 holding at_top r p ds = state r p ds []
 holding (a_list q done os) r p ds = state r p done (InList q ds ∷ os)
 holding (a_vector q done os) r p ds = state r p done (InVector q ds ∷ os)
@@ -65,7 +65,7 @@ held-put (a_list q done os) r p ds d = refl
 held-put (a_vector q done os) r p ds d = refl
 
 -- an opening where one more may be open
-pub opens : (number : Numbers) (s : State) (p : Place) (r : Seq ℕ) (o : Opening) → length s.pending < 256
+pub opens : (number : Numbers) (s : LexemeState) (p : Place) (r : Seq ℕ) (o : Opening) → length s.pending < 256
     → full_dot s.pending ≡ None → opening_step number s p r o ≡ opened number s p o
 opens number s p r o n f =
     let le : nat_le 256 (length s.pending) ≡ false = search (rules, tests) in
@@ -85,7 +85,7 @@ means-some number p (then_tree ts g t) ds s m =
     let f = some-items m.0 m.1.0 in (f.0, (f.1.0, m.1.1.2 ∙ f.1.1))
 
 -- the dot is taken
-pub dot-taken : (s : State) (p : Place) (r : Seq ℕ) (q : Place) (ds : Seq Item) (os : Seq Pending)
+pub dot-taken : (s : LexemeState) (p : Place) (r : Seq ℕ) (q : Place) (ds : Seq Item) (os : Seq Pending)
     → (e : Item) × ((es : Seq Item) × (ds ≡ e ∷ es))
     → dot_step s p r (InList q ds ∷ os) ≡ next (record s { pending = AtDot q ds p ∷ os })
 dot-taken s p r q ds os f = rw (f.1.1) refl
@@ -96,7 +96,7 @@ mutual
   -- from in front of a gap and a tree to behind its datum
   pub tree-steps : (number : Numbers) (t : Tree) (g r : Seq ℕ) (p : Place) (done : Seq Item) (os : Seq Pending) (d : Item)
       → Gap g (spelled t r) → Stands (length os) t r → Means number (place_behind p g) t d → full_dot os ≡ None
-      → Steps number (state (g ++ spelled t r) p done os) (put_in r (behind (place_behind p g) t) done os d)
+      → LexemeSteps number (state (g ++ spelled t r) p done os) (put_in r (behind (place_behind p g) t) done os d)
   tree-steps number (atom b a) g r p done os d k s m f =
       one-step number _ _
       (step-gap number g (b ++ r) p done os k ∙ step-atom number b r (place_behind p g) done os a s
@@ -156,7 +156,7 @@ mutual
   tree-steps number (prefixed x h t) g r p done os d k s m f =
       let q = place_behind p g in
       let inner = place_behind q (prefix_bytes x) in
-      subst (λ e. Steps number (state (g ++ (prefix_bytes x ++ (h ++ spelled t r))) p done os) (put_in r (behind (place_behind inner h) t) done os e)) (sym m.1.1.2)
+      subst (λ e. LexemeSteps number (state (g ++ (prefix_bytes x ++ (h ++ spelled t r))) p done os) (put_in r (behind (place_behind inner h) t) done os e)) (sym m.1.1.2)
       (steps-then number _ (state (h ++ spelled t r) inner done (AtPrefix q (record { 0 = m.0 }) ∷ os)) _
       (one-step number _ _
       (step-gap number g (prefix_bytes x ++ (h ++ spelled t r)) p done os k
@@ -168,20 +168,20 @@ mutual
   -- from in front of trees to behind their data
   pub trees-steps : (number : Numbers) (ts : Trees) (h : Holder) (r : Seq ℕ) (p : Place) (ds : Seq Item)
       → StandsAll (depth_of h) ts r → MeansAll number p ts ds
-      → Steps number (holding h (spelled_all ts r) p []) (holding h r (behind_all p ts) ds)
+      → LexemeSteps number (holding h (spelled_all ts r) p []) (holding h r (behind_all p ts) ds)
   trees-steps number no_tree h r p ds s m =
-      subst (λ es. Steps number (holding h r p []) (holding h r p es)) (sym m) (none (holding h r p []))
+      subst (λ es. LexemeSteps number (holding h r p []) (holding h r p es)) (sym m) (none (holding h r p []))
   trees-steps number (then_tree ts g t) h r p ds s m =
       let q = behind_all p ts in
       let b = behind (place_behind q g) t in
       let at_depth : Stands (length (held_pending h m.0)) t r =
       subst (λ n. Stands n t r) (sym (held-depth h m.0)) s.2 in
-      let one : Steps number (state (g ++ spelled t r) q (held_done h m.0) (held_pending h m.0)) (put_in r b (held_done h m.0) (held_pending h m.0) m.1.0) =
+      let one : LexemeSteps number (state (g ++ spelled t r) q (held_done h m.0) (held_pending h m.0)) (put_in r b (held_done h m.0) (held_pending h m.0) m.1.0) =
       tree-steps number t g r q (held_done h m.0) (held_pending h m.0) m.1.0 s.1 at_depth m.1.1.1 (held-open h m.0) in
-      let from : Steps number (holding h (g ++ spelled t r) q m.0) (put_in r b (held_done h m.0) (held_pending h m.0) m.1.0) =
-      subst (λ u. Steps number u (put_in r b (held_done h m.0) (held_pending h m.0) m.1.0)) (sym (holding-parts h (g ++ spelled t r) q m.0)) one in
-      let to : Steps number (holding h (g ++ spelled t r) q m.0) (holding h r b (m.0 ++ m.1.0 ∷ [])) =
-      subst (λ u. Steps number (holding h (g ++ spelled t r) q m.0) u) (held-put h r b m.0 m.1.0) from in
+      let from : LexemeSteps number (holding h (g ++ spelled t r) q m.0) (put_in r b (held_done h m.0) (held_pending h m.0) m.1.0) =
+      subst (λ u. LexemeSteps number u (put_in r b (held_done h m.0) (held_pending h m.0) m.1.0)) (sym (holding-parts h (g ++ spelled t r) q m.0)) one in
+      let to : LexemeSteps number (holding h (g ++ spelled t r) q m.0) (holding h r b (m.0 ++ m.1.0 ∷ [])) =
+      subst (λ u. LexemeSteps number (holding h (g ++ spelled t r) q m.0) u) (held-put h r b m.0 m.1.0) from in
       steps-then number _ (holding h (g ++ spelled t r) q m.0) _
       (trees-steps number ts h (g ++ spelled t r) p m.0 s.0 m.1.1.0)
-      (subst (λ es. Steps number (holding h (g ++ spelled t r) q m.0) (holding h r b es)) (sym m.1.1.2) to)
+      (subst (λ es. LexemeSteps number (holding h (g ++ spelled t r) q m.0) (holding h r b es)) (sym m.1.1.2) to)

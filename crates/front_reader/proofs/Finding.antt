@@ -6,9 +6,9 @@ use Rattle.base.specs.declared.reason.Stop.TheVariants.{Refused, NoMemory}
 use Rattle.base.specs.Names.{IsTable, Extends-same}
 use Rattle.front_reader.specs.declared.pending.Pending.{Pending}
 use Rattle.front_reader.specs.Meanings.{number_in}
-use Rattle.front_reader.specs.bridge.Machine.{State, Step, step, none}
+use Rattle.front_reader.specs.bridge.Machine.{LexemeState, LexemeStep, step, none}
 use Rattle.front_reader.specs.bridge.Turns.{IsLater}
-use Rattle.front_reader.specs.bridge.Steps.{LeadsTo, ReadTo, Found, GoesOn}
+use Rattle.front_reader.specs.bridge.Steps.{LeadsTo, ReadTo, DatumFound, ReadingGoesOn}
 use Rattle.front_reader.specs.declared.step.Turn.{Turn}
 use Rattle.front_reader.proofs.Stepping.{Numbers, state}
 
@@ -20,15 +20,15 @@ pub read-start : (number : Numbers) (text : Seq ℕ) (p : Place) (os : Seq Pendi
 read-start number text p os e =
     subst (λ us. ReadTo number text p (state text p [] (reverse us))) (sym e) (none (state text p [] []))
 
-pub stop-found : (names : Seq (Seq ℕ)) (text : Seq ℕ) (p : Place) (s : State) (stop : Stop) (os : Seq Pending)
+pub stop-found : (names : Seq (Seq ℕ)) (text : Seq ℕ) (p : Place) (s : LexemeState) (stop : Stop) (os : Seq Pending)
     → ReadTo (number_in names) text p s → s.done ≡ [] → LeadsTo (step (number_in names) s) s.done (Err stop) os
-    → Found names text p (Err stop)
+    → DatumFound names text p (Err stop)
 stop-found names text p s (Refused r) os a e l = (s, (l.0, (a, e, l.1)))
 stop-found names text p s NoMemory os a e l = tt
 
 -- what a step led to, where its answer is this one
-pub leads-as : (x : Step) (t u : Turn) (os : Seq Pending) → t ≡ u → LeadsTo x [] (Ok t) os → LeadsTo x [] (Ok u) os
+pub leads-as : (x : LexemeStep) (t u : Turn) (os : Seq Pending) → t ≡ u → LeadsTo x [] (Ok t) os → LeadsTo x [] (Ok u) os
 leads-as x t u os e l = subst (λ v. LeadsTo x [] (Ok v) os) e l
 
-pub goes-as : (n : ℕ) (t u : Turn) → t ≡ u → GoesOn n t → GoesOn n u
-goes-as n t u e g = subst (GoesOn n) e g
+pub goes-as : (n : ℕ) (t u : Turn) → t ≡ u → ReadingGoesOn n t → ReadingGoesOn n u
+goes-as n t u e g = subst (ReadingGoesOn n) e g

@@ -19,7 +19,7 @@ use Rattle.front_reader.specs.Gaps.{Gap}
 use Rattle.front_reader.specs.Atoms.{Atom}
 use Rattle.front_reader.specs.Meanings.{number_in, atom_content, prefix_name}
 use Rattle.front_reader.specs.bridge.Lexemes.{skip, lex}
-use Rattle.front_reader.specs.bridge.Machine.{State, Outcome, finished, stopped, Step, next, over, moved, put, full_dot, ending, closing, dot_step, prefix_step, opened, unless_full, opening_step, content_step, atom_step, act, by_lexed, by_rest, by_gap, step, Steps, none, more, put_in}
+use Rattle.front_reader.specs.bridge.Machine.{LexemeState, LexemesEnd, finished, stopped, LexemeStep, next, over, moved, put, full_dot, ending, closing, dot_step, prefix_step, opened, unless_full, opening_step, content_step, atom_step, act, by_lexed, by_rest, by_gap, step, LexemeSteps, none, more, put_in}
 use Rattle.front_reader.specs.Trees.{Trees, no_tree, then_tree, spelled, spelled_all, behind, StandsAll}
 use Rattle.front_reader.specs.Meanings.{MeansAll, prefix_item}
 use Rattle.front_reader.specs.Reads.{ReadsNext}
@@ -39,9 +39,9 @@ some_open [] = 0
 some_open (o ∷ os) = 1
 
 -- behind the step more than n data are whole, or n and something is open
-abbrev Grows : ℕ → Step → Type 0
-Grows n (next t) = n < length t.done + some_open t.pending
-Grows n (over o) = Unit {0}
+abbrev DataGrow : ℕ → LexemeStep → Type 0
+DataGrow n (next t) = n < length t.done + some_open t.pending
+DataGrow n (over o) = Unit {0}
 
 put_in-grows : (r : Seq ℕ) (p : Place) (done : Seq Item) (os : Seq Pending) (d : Item)
     → length done < length (put_in r p done os d).done + some_open (put_in r p done os d).pending
@@ -53,10 +53,10 @@ put_in-grows r p done (InVector q ds ∷ os) d = omega arith
 put_in-grows r p done (AtDot q ds at ∷ os) d = omega arith
 put_in-grows r p done (AtTail q ds at e ∷ os) d = omega arith
 
-put-grows : (s : State) (os : Seq Pending) (d : Item) → Grows (length s.done) (put s os d)
+put-grows : (s : LexemeState) (os : Seq Pending) (d : Item) → DataGrow (length s.done) (put s os d)
 put-grows s os d = put_in-grows s.rest s.place s.done os d
 
-closing-grows : (s : State) (p : Place) (r : Seq ℕ) (os : Seq Pending) → Grows (length s.done) (closing s p r os)
+closing-grows : (s : LexemeState) (p : Place) (r : Seq ℕ) (os : Seq Pending) → DataGrow (length s.done) (closing s p r os)
 closing-grows s p r [] = tt
 closing-grows s p r (AtPrefix q n ∷ os) = tt
 closing-grows s p r (InList q ds ∷ os) = put-grows s os _
@@ -64,7 +64,7 @@ closing-grows s p r (InVector q ds ∷ os) = put-grows s os _
 closing-grows s p r (AtDot q ds at ∷ os) = tt
 closing-grows s p r (AtTail q ds at d ∷ os) = put-grows s os _
 
-dot-grows : (s : State) (p : Place) (r : Seq ℕ) (os : Seq Pending) → Grows (length s.done) (dot_step s p r os)
+dot-grows : (s : LexemeState) (p : Place) (r : Seq ℕ) (os : Seq Pending) → DataGrow (length s.done) (dot_step s p r os)
 dot-grows s p r [] = tt
 dot-grows s p r (AtPrefix q n ∷ os) = tt
 dot-grows s p r (InList q [] ∷ os) = tt
@@ -73,62 +73,62 @@ dot-grows s p r (InVector q ds ∷ os) = tt
 dot-grows s p r (AtDot q ds at ∷ os) = tt
 dot-grows s p r (AtTail q ds at d ∷ os) = tt
 
-full-grows : (n : ℕ) (o : Option Place) (r : Seq ℕ) (x : Step) → Grows n x → Grows n (unless_full o r x)
+full-grows : (n : ℕ) (o : Option Place) (r : Seq ℕ) (x : LexemeStep) → DataGrow n x → DataGrow n (unless_full o r x)
 full-grows n None r x h = h
 full-grows n (Some at) r x h = tt
 
-prefix-grows : (s : State) (p : Place) (n : Option ℕ) → Grows (length s.done) (prefix_step s p n)
+prefix-grows : (s : LexemeState) (p : Place) (n : Option ℕ) → DataGrow (length s.done) (prefix_step s p n)
 prefix-grows s p None = tt
 prefix-grows s p (Some n) = omega arith
 
-opened-grows : (number : Numbers) (s : State) (p : Place) (o : Opening) → Grows (length s.done) (opened number s p o)
+opened-grows : (number : Numbers) (s : LexemeState) (p : Place) (o : Opening) → DataGrow (length s.done) (opened number s p o)
 opened-grows number s p List = omega arith
 opened-grows number s p Vector = omega arith
 opened-grows number s p (Before x) = prefix-grows s p (number (prefix_name x))
 
-opening-grows : (number : Numbers) (s : State) (p : Place) (r : Seq ℕ) (o : Opening) → Grows (length s.done) (opening_step number s p r o)
+opening-grows : (number : Numbers) (s : LexemeState) (p : Place) (r : Seq ℕ) (o : Opening) → DataGrow (length s.done) (opening_step number s p r o)
 opening-grows number s p r o =
-    elim (nat_le 256 (length s.pending)) as (λ b. Grows (length s.done) (if b then over (stopped p NestTooDeep r) else unless_full (full_dot s.pending) r (opened number s p o))) [
+    elim (nat_le 256 (length s.pending)) as (λ b. DataGrow (length s.done) (if b then over (stopped p NestTooDeep r) else unless_full (full_dot s.pending) r (opened number s p o))) [
       | true ↦ tt
       | false ↦ full-grows (length s.done) (full_dot s.pending) r _ (opened-grows number s p o)
     ]
 
-content-grows : (s : State) (p : Place) (c : Option Content) → Grows (length s.done) (content_step s p c)
+content-grows : (s : LexemeState) (p : Place) (c : Option Content) → DataGrow (length s.done) (content_step s p c)
 content-grows s p None = tt
 content-grows s p (Some c) = put-grows s s.pending _
 
-atom-grows : (number : Numbers) (s : State) (p : Place) (r : Seq ℕ) (a : Option Atom) → Grows (length s.done) (atom_step number s p r a)
+atom-grows : (number : Numbers) (s : LexemeState) (p : Place) (r : Seq ℕ) (a : Option Atom) → DataGrow (length s.done) (atom_step number s p r a)
 atom-grows number s p r None = tt
 atom-grows number s p r (Some a) = full-grows (length s.done) (full_dot s.pending) r _ (content-grows s p (atom_content number a))
 
-act-grows : (number : Numbers) (s : State) (p : Place) (r w : Seq ℕ) (x : Lexeme) → Grows (length s.done) (act number s p r w x)
-act-grows number s p r w x = at-act (Grows (length s.done)) number s p r w (record {
+act-grows : (number : Numbers) (s : LexemeState) (p : Place) (r w : Seq ℕ) (x : Lexeme) → DataGrow (length s.done) (act number s p r w x)
+act-grows number s p r w x = at-act (DataGrow (length s.done)) number s p r w (record {
   closes = closing-grows s p r s.pending;
   dots = dot-grows s p r s.pending;
   opens = opening-grows number s p r;
   reads = atom-grows number s p r;
 }) x
 
-lexed-grows : (number : Numbers) (s : State) (x : Lexed) → Grows (length s.done) (by_lexed number s x)
+lexed-grows : (number : Numbers) (s : LexemeState) (x : Lexed) → DataGrow (length s.done) (by_lexed number s x)
 unfolding by_lexed
 lexed-grows number s (Fault k r) = tt
 lexed-grows number s (Taken n x) = act-grows number (moved n s) s.place s.rest (take n s.rest) x
 
-rest-grows : (number : Numbers) (s : State) (r : Seq ℕ) → Grows (length s.done) (by_rest number s r)
+rest-grows : (number : Numbers) (s : LexemeState) (r : Seq ℕ) → DataGrow (length s.done) (by_rest number s r)
 unfolding by_rest
 rest-grows number s [] = by s.done s.pending
   where
-    by : (done : Seq Item) (os : Seq Pending) → Grows (length s.done) (ending done os)
+    by : (done : Seq Item) (os : Seq Pending) → DataGrow (length s.done) (ending done os)
     by done [] = tt
     by done (o ∷ os) = tt
 rest-grows number s (b ∷ bs) = lexed-grows number s (lex (b ∷ bs))
 
-gap-grows : (number : Numbers) (s : State) (x : Skipped) → Grows (length s.done) (by_gap number s x)
+gap-grows : (number : Numbers) (s : LexemeState) (x : Skipped) → DataGrow (length s.done) (by_gap number s x)
 unfolding by_gap
 gap-grows number s (OpenFrom n) = tt
 gap-grows number s (Ends n) = rest-grows number (moved n s) (drop n s.rest)
 
-step-grows : (number : Numbers) (s : State) → Grows (length s.done) (step number s)
+step-grows : (number : Numbers) (s : LexemeState) → DataGrow (length s.done) (step number s)
 unfolding step
 step-grows number s = gap-grows number s (skip Between 0 0 s.rest)
 
@@ -136,19 +136,19 @@ one-open : (os : Seq Pending) → some_open os ≤ 1
 one-open [] = omega arith
 one-open (o ∷ os) = omega arith
 
-steps-grow : (number : Numbers) (s t : State) → Steps number s t → length s.done ≤ length t.done
+steps-grow : (number : Numbers) (s t : LexemeState) → LexemeSteps number s t → length s.done ≤ length t.done
 steps-grow number s t (none v) = omega arith
 steps-grow number s t (more v w x a e) =
-    let one : length w.done < length x.done + some_open x.pending = subst (Grows (length w.done)) e (step-grows number w) in
+    let one : length w.done < length x.done + some_open x.pending = subst (DataGrow (length w.done)) e (step-grows number w) in
     omega (arith, one, one-open x.pending, steps-grow number v w a)
 
 -- the first of some steps
-record First (number : Numbers) (s t : State) : Type 0 where
-  pub state_then : State
+record First (number : Numbers) (s t : LexemeState) : Type 0 where
+  pub state_then : LexemeState
   pub one : step number s ≡ next state_then
-  pub others : Steps number state_then t
+  pub others : LexemeSteps number state_then t
 
-steps-first : (number : Numbers) (s t : State) → Steps number s t → (s ≡ t) ⊎ First number s t
+steps-first : (number : Numbers) (s t : LexemeState) → LexemeSteps number s t → (s ≡ t) ⊎ First number s t
 steps-first number s t (none v) = inl refl
 steps-first number s t (more v w x a e) =
     ⊎_elim (λ k. inr (record { state_then = x; one = ap (step number) k ∙ e; others = none x }))
@@ -156,11 +156,11 @@ steps-first number s t (more v w x a e) =
     (steps-first number v w a)
 
 -- one way leads to where the machine stops
-steps-on : (number : Numbers) (s a b : State) (o : Outcome) → Steps number s a → Steps number s b → step number b ≡ over o → Steps number a b
+steps-on : (number : Numbers) (s a b : LexemeState) (o : LexemesEnd) → LexemeSteps number s a → LexemeSteps number s b → step number b ≡ over o → LexemeSteps number a b
 steps-on number s a b o (none v) y e = y
 steps-on number s a b o (more v w x k f) y e =
     ⊎_elim (λ g. absurd (let no : next x ≡ over o = sym f ∙ ap (step number) g ∙ e in cc))
-    (λ g. let same : g.state_then ≡ x = (let h = sym g.one ∙ f in cc) in subst (λ z. Steps number z b) same g.others)
+    (λ g. let same : g.state_then ≡ x = (let h = sym g.one ∙ f in cc) in subst (λ z. LexemeSteps number z b) same g.others)
     (steps-first number w b (steps-on number v w b o k y e))
 
 held-none : (number : Numbers) (p : Place) (ts : Trees) (ls : Seq Level) (done : Seq Item) (os : Seq Pending)
@@ -184,47 +184,47 @@ next_or_stops names text p d after at r n x =
     let front : text ≡ n.gap ++ spelled t after = n.front ∙ ap (λ v. n.gap ++ v) n.reads.spells in
     let one = tree-steps all_zero t n.gap after p [] [] m.0 gap n.reads.stands m.1 refl in
     let u = put_in after (behind (place_behind p n.gap) t) [] [] m.0 in
-    let there : Steps all_zero (state text p [] []) u =
-    subst (λ v. Steps all_zero (state v p [] []) u) (sym front) one in
+    let there : LexemeSteps all_zero (state text p [] []) u =
+    subst (λ v. LexemeSteps all_zero (state v p [] []) u) (sym front) one in
     let f = x.stops.front in
     let h = held-exists p f.data_before f.levels in
     let b = state (f.gap ++ x.stops.rest) (levels_behind p f.data_before f.levels) h.0 h.1.0 in
-    let way : Steps all_zero (state text p [] []) b = subst (λ v. Steps all_zero (state v p [] []) b) (sym x.stops.is_front.spells)
+    let way : LexemeSteps all_zero (state text p [] []) b = subst (λ v. LexemeSteps all_zero (state v p [] []) b) (sym x.stops.is_front.spells)
     (front-steps all_zero p f.data_before f.levels (f.gap ++ x.stops.rest) h.0 h.1.0 x.stops.is_front.stands h.1.1) in
     let end = step-gap all_zero f.gap x.stops.rest (levels_behind p f.data_before f.levels) h.0 h.1.0 x.stops.is_front.is_gap
     ∙ row-step all_zero p f.data_before f.levels (front_behind p f) x.stops.rest at r h.0 h.1.0 h.1.1 x.stops.row in
-    let on : Steps all_zero u b = steps-on all_zero (state text p [] []) u b (stopped at r x.stops.rest) there way end in
+    let on : LexemeSteps all_zero u b = steps-on all_zero (state text p [] []) u b (stopped at r x.stops.rest) there way end in
     let grown : 1 ≤ length h.0 = steps-grow all_zero u b on in
     let empty = held-none all_zero p f.data_before f.levels h.0 h.1.0 h.1.1 x.first in
     absurd (omega (arith, grown, ap length empty))
 
 -- of two ways from one state, one goes on with the other
-two-ways : (number : Numbers) (s a b : State) → Steps number s a → Steps number s b → Steps number a b ⊎ Steps number b a
+two-ways : (number : Numbers) (s a b : LexemeState) → LexemeSteps number s a → LexemeSteps number s b → LexemeSteps number a b ⊎ LexemeSteps number b a
 two-ways number s a b (none v) y = inl y
 two-ways number s a b (more v w x k f) y =
     ⊎_elim
     (λ on. ⊎_elim
     (λ same. inr (more b b x (none b) (ap (step number) (sym same) ∙ f)))
-    (λ first. let at : first.state_then ≡ x = (let h = sym first.one ∙ f in cc) in inl (subst (λ z. Steps number z b) at first.others))
+    (λ first. let at : first.state_then ≡ x = (let h = sym first.one ∙ f in cc) in inl (subst (λ z. LexemeSteps number z b) at first.others))
     (steps-first number w b on))
     (λ back. inr (more b w x back f))
     (two-ways number v w b k y)
 
 -- from one whole datum no step leads to one whole datum
-same-whole : (number : Numbers) (a b : State) → Steps number a b → length a.done ≡ 1 → length b.done ≡ 1 → b.pending ≡ [] → a ≡ b
+same-whole : (number : Numbers) (a b : LexemeState) → LexemeSteps number a b → length a.done ≡ 1 → length b.done ≡ 1 → b.pending ≡ [] → a ≡ b
 same-whole number a b (none v) h k e = refl
 same-whole number a b (more v w x y f) h k e =
-    let one : length w.done < length x.done + some_open x.pending = subst (Grows (length w.done)) f (step-grows number w) in
+    let one : length w.done < length x.done + some_open x.pending = subst (DataGrow (length w.done)) f (step-grows number w) in
     absurd (omega (arith, one, steps-grow number v w y, h, k, ap some_open e))
 
 -- the first datum of a text, whole
 datum-whole : (names : Seq (Seq ℕ)) (text : Seq ℕ) (p : Place) (d : Item) (after : Seq ℕ) → (n : ReadsNext names text p d after)
-    → Steps (number_in names) (state text p [] []) (state after (behind (place_behind p n.gap) n.reads.tree) (d ∷ []) [])
+    → LexemeSteps (number_in names) (state text p [] []) (state after (behind (place_behind p n.gap) n.reads.tree) (d ∷ []) [])
 unfolding put_in
 datum-whole names text p d after n =
     let t = n.reads.tree in
     let front : text ≡ n.gap ++ spelled t after = n.front ∙ ap (λ v. n.gap ++ v) n.reads.spells in
-    subst (λ v. Steps (number_in names) (state v p [] []) (state after (behind (place_behind p n.gap) t) (d ∷ []) [])) (sym front)
+    subst (λ v. LexemeSteps (number_in names) (state v p [] []) (state after (behind (place_behind p n.gap) t) (d ∷ []) [])) (sym front)
     (tree-steps (number_in names) t n.gap after p [] [] d (subst (Gap n.gap) n.reads.spells n.is_gap) n.reads.stands n.reads.means refl)
 
 -- what comes next in a text is one datum at most
@@ -248,8 +248,8 @@ pub one_datum : (names : Seq (Seq ℕ)) (text : Seq ℕ) (p : Place) (d e : Item
     → (d ≡ e) × (after ≡ left) × (place_behind (place_behind p x.gap) x.bytes ≡ place_behind (place_behind p y.gap) y.bytes)
 one_datum names text p d e after left x y =
     let same = same-next names text p d e after left x y in
-    let first : d ∷ [] ≡ e ∷ [] = ap (λ (s : State). s.done) same in
-    let rest : after ≡ left = ap (λ (s : State). s.rest) same in
+    let first : d ∷ [] ≡ e ∷ [] = ap (λ (s : LexemeState). s.done) same in
+    let rest : after ≡ left = ap (λ (s : LexemeState). s.rest) same in
     let whole : (x.gap ++ x.bytes) ++ left ≡ (y.gap ++ y.bytes) ++ left =
     ap (λ r. (x.gap ++ x.bytes) ++ r) (sym rest) ∙ sym (next-front names text p d after x) ∙ next-front names text p e left y in (
       cc,

@@ -12,7 +12,7 @@ use Rattle.front_reader.specs.Atoms.{Atom, an_integer, a_character, a_symbol, a_
 use Rattle.front_reader.specs.Trees.{Tree, atom, proper, improper, row, prefixed, Trees, no_tree, then_tree, prefix_bytes, spelled, spelled_all, behind, behind_all, Stands, StandsAll, IsSomeTree}
 use Rattle.front_reader.specs.Meanings.{named, atom_content, prefix_name, Means, MeansAll}
 use Rattle.front_reader.specs.Fronts.{Level, in_list, at_dot, at_tail, in_vector, at_prefix, level_spelled, dot_after, levels_spelled, levels_behind, StandsLevels, TakesMore}
-use Rattle.front_reader.specs.bridge.Machine.{State, put_in, full_dot, Steps}
+use Rattle.front_reader.specs.bridge.Machine.{LexemeState, put_in, full_dot, LexemeSteps}
 use Rattle.front_reader.proofs.Stepping.{Numbers, state, step-gap, step-dot, step-opening, steps-then, one-step}
 use Rattle.front_reader.proofs.Completing.{a_list, a_vector, holding, at_top, opens, dot-taken, means-some, tree-steps, trees-steps}
 
@@ -75,7 +75,7 @@ held-takes number p ts (at_prefix g x ∷ ls) done os h k = ap full_dot h.1.1.0
 pub list-steps : (number : Numbers) (g : Seq ℕ) (us : Trees) (r : Seq ℕ) (p : Place) (done : Seq Item) (os : Seq Pending) (ds : Seq Item)
     → Gap g (40 ∷ spelled_all us r) → length os < 256 → full_dot os ≡ None → StandsAll (suc (length os)) us r
     → MeansAll number (place_behind (place_behind p g) (40 ∷ [])) us ds
-    → Steps number (state (g ++ 40 ∷ spelled_all us r) p done os)
+    → LexemeSteps number (state (g ++ 40 ∷ spelled_all us r) p done os)
     (state r (behind_all (place_behind (place_behind p g) (40 ∷ [])) us) done (InList (place_behind p g) ds ∷ os))
 list-steps number g us r p done os ds k n f s m =
     let q = place_behind p g in
@@ -90,7 +90,7 @@ list-steps number g us r p done os ds k n f s m =
 pub vector-steps : (number : Numbers) (g : Seq ℕ) (us : Trees) (r : Seq ℕ) (p : Place) (done : Seq Item) (os : Seq Pending) (ds : Seq Item)
     → Gap g (35 ∷ 40 ∷ spelled_all us r) → length os < 256 → full_dot os ≡ None → StandsAll (suc (length os)) us r
     → MeansAll number (place_behind (place_behind p g) (35 ∷ 40 ∷ [])) us ds
-    → Steps number (state (g ++ 35 ∷ 40 ∷ spelled_all us r) p done os)
+    → LexemeSteps number (state (g ++ 35 ∷ 40 ∷ spelled_all us r) p done os)
     (state r (behind_all (place_behind (place_behind p g) (35 ∷ 40 ∷ [])) us) done (InVector (place_behind p g) ds ∷ os))
 vector-steps number g us r p done os ds k n f s m =
     let q = place_behind p g in
@@ -105,7 +105,7 @@ vector-steps number g us r p done os ds k n f s m =
 -- through a gap and the dot of a list
 pub dot-steps : (number : Numbers) (h r : Seq ℕ) (p q inner : Place) (us : Trees) (done : Seq Item) (os : Seq Pending) (ds : Seq Item)
     → Gap h (46 ∷ r) → IsSomeTree us → MeansAll number inner us ds → begins is_token r ≡ false
-    → Steps number (state (h ++ 46 ∷ r) p done (InList q ds ∷ os))
+    → LexemeSteps number (state (h ++ 46 ∷ r) p done (InList q ds ∷ os))
     (state r (place_behind (place_behind p h) (46 ∷ [])) done (AtDot q ds (place_behind p h) ∷ os))
 dot-steps number h r p q inner us done os ds k some m e =
     one-step number _ _
@@ -118,21 +118,21 @@ dot-steps number h r p q inner us done os ds k some m e =
 tail-steps : (number : Numbers) (i : Seq ℕ) (t : Tree) (r : Seq ℕ) (p : Place) (done : Seq Item) (q dot : Place)
     (os : Seq Pending) (ds : Seq Item) (e : Item) → Gap i (spelled t r) → Stands (suc (length os)) t r
     → Means number (place_behind p i) t e
-    → Steps number (state (i ++ spelled t r) p done (AtDot q ds dot ∷ os))
+    → LexemeSteps number (state (i ++ spelled t r) p done (AtDot q ds dot ∷ os))
     (state r (behind (place_behind p i) t) done (AtTail q ds dot e ∷ os))
 unfolding put_in
 tail-steps number i t r p done q dot os ds e k s m =
     tree-steps number t i r p done (AtDot q ds dot ∷ os) e k s m refl
 
 -- the same, with what is open given by an equation
-at-open : (number : Numbers) (s : State) (r : Seq ℕ) (p : Place) (done : Seq Item) (os us : Seq Pending) → os ≡ us
-    → Steps number s (state r p done us) → Steps number s (state r p done os)
-at-open number s r p done os us e a = subst (λ vs. Steps number s (state r p done vs)) (sym e) a
+at-open : (number : Numbers) (s : LexemeState) (r : Seq ℕ) (p : Place) (done : Seq Item) (os us : Seq Pending) → os ≡ us
+    → LexemeSteps number s (state r p done us) → LexemeSteps number s (state r p done os)
+at-open number s r p done os us e a = subst (λ vs. LexemeSteps number s (state r p done vs)) (sym e) a
 
 -- from the begin of a text to behind the levels of a front
 pub front-steps : (number : Numbers) (p : Place) (ts : Trees) (ls : Seq Level) (r : Seq ℕ) (done : Seq Item) (os : Seq Pending)
     → StandsLevels ts ls r → Held number p ts ls done os
-    → Steps number (state (levels_spelled ts ls r) p [] []) (state r (levels_behind p ts ls) done os)
+    → LexemeSteps number (state (levels_spelled ts ls r) p [] []) (state r (levels_behind p ts ls) done os)
 front-steps number p ts [] r done os s h =
     at-open number _ r _ done os [] h.1 (trees-steps number ts at_top r p done s h.0)
 front-steps number p ts (in_list g us ∷ ls) r done os s h =

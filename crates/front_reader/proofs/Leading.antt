@@ -17,14 +17,14 @@ use Rattle.front_reader.specs.declared.cursor.Cursor.{Cursor}
 use Rattle.front_reader.specs.Characters.{place_behind, folded}
 use Rattle.front_reader.specs.Atoms.{Atom, a_symbol, Spells, decimal, token, barred, quoted, based, marked, lettered, space, newline}
 use Rattle.front_reader.specs.bridge.Lexemes.{skip, lex, between_quotes}
-use Rattle.front_reader.specs.bridge.Machine.{Step, next, over, stopped, finished, ending, pending_place, act, by_lexed, by_rest, by_gap, step}
+use Rattle.front_reader.specs.bridge.Machine.{LexemeStep, next, over, stopped, finished, ending, pending_place, act, by_lexed, by_rest, by_gap, step}
 use Rattle.front_reader.specs.bridge.Turns.{Turns, with_open, open_state, NameFits, innermost_of}
 use Rattle.front_reader.specs.bridge.Steps.{LeadsTo}
 use Rattle.front_reader.proofs.Stepping.{Numbers, state}
 use Rattle.front_reader.proofs.Lexing.{spells-lexes}
 
 -- a refusal
-pub refusal-leads : (x : Step) (stop : Stop) (p : Place) (r : Reason) (os : Seq Pending) (left : Seq ℕ)
+pub refusal-leads : (x : LexemeStep) (stop : Stop) (p : Place) (r : Reason) (os : Seq Pending) (left : Seq ℕ)
     → stop ≡ Refused (record { place = p; reason = r }) → x ≡ over (stopped p r left) → LeadsTo x [] (Err stop) os
 refusal-leads x stop p r os left e h = subst (λ s. LeadsTo x [] (Err s) os) (sym e) (left, h)
 

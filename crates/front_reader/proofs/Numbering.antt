@@ -10,25 +10,25 @@ use Rattle.front_reader.specs.declared.opening.Opening.{Opening}
 use Rattle.front_reader.specs.declared.opening.Opening.TheVariants.{Before}
 use Rattle.front_reader.specs.declared.opening.Prefix.{Prefix}
 use Rattle.front_reader.specs.declared.pending.Pending.TheVariants.{AtPrefix}
-use Rattle.front_reader.specs.bridge.Machine.{State, next, opened, prefix_step}
+use Rattle.front_reader.specs.bridge.Machine.{LexemeState, next, opened, prefix_step}
 use Rattle.base.specs.Data.{symbol}
 use Rattle.base.specs.Names.{Extends-then, text_stays}
 use Rattle.front_reader.specs.Atoms.{a_symbol}
 use Rattle.front_reader.specs.Meanings.{number_in, atom_content, prefix_name}
 use Rattle.front_reader.specs.bridge.Turns.{IsLater}
 
-record Found (ts : List (List ℕ)) (t : List ℕ) : Type 0 where
+record NumberFound (ts : List (List ℕ)) (t : List ℕ) : Type 0 where
   pub at : ℕ
   pub number : number_in ts t ≡ Some at
   pub there : slice_get ts at ≡ Some t
 
-found : (ts : List (List ℕ)) (n : ℕ) (t : List ℕ) → slice_get ts n ≡ Some t → Found ts t
+found : (ts : List (List ℕ)) (n : ℕ) (t : List ℕ) → slice_get ts n ≡ Some t → NumberFound ts t
 unfolding number_in
 found [] n t h = absurd (cc)
 found (s ∷ ts) n t h = by (bytes_eq t s) refl n h (λ (m : ℕ) (k : slice_get ts m ≡ Some t). found ts m t k)
   where
     by : (b : Bool) → bytes_eq t s ≡ b → (n : ℕ) → slice_get (s ∷ ts) n ≡ Some t
-        → ((m : ℕ) → slice_get ts m ≡ Some t → Found ts t) → Found (s ∷ ts) t
+        → ((m : ℕ) → slice_get ts m ≡ Some t → NumberFound ts t) → NumberFound (s ∷ ts) t
     by true e n h more = record { at = 0; number = rw e refl; there = ap Some (sym ((bytes_eq-Decides t s).0 e)) }
     by false e zero h more =
         let same : t ≡ s = cc in
@@ -55,7 +55,7 @@ pub later-then : (a b c : List (List ℕ)) → IsLater a b → IsLater b c → I
 later-then a b c x y = record { is_table = y.is_table; extends = Extends-then a b c x.extends y.extends }
 
 -- a prefix begins its open datum
-pub begins-prefix : (names table : List (List ℕ)) (s : State) (p : Place) (o : Opening) (x : Prefix) (text : List ℕ) (n : Name)
+pub begins-prefix : (names table : List (List ℕ)) (s : LexemeState) (p : Place) (o : Opening) (x : Prefix) (text : List ℕ) (n : Name)
     → IsLater names table → o ≡ Before x → text ≡ prefix_name x → slice_get names n.0 ≡ Some text
     → opened (number_in table) s p o ≡ next (record s { pending = AtPrefix p n ∷ s.pending })
 begins-prefix names table s p o x text n l e f h =

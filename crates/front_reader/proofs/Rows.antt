@@ -19,7 +19,7 @@ use Rattle.front_reader.specs.Meanings.{MeansAll, atom_content}
 use Rattle.front_reader.specs.Fronts.{Level, in_list, at_dot, at_tail, in_vector, at_prefix, opening_place, levels_behind}
 use Rattle.front_reader.specs.Stops.{Row, bad_byte, bad_byte_in_bars, bad_byte_escaped, unclosed_list, unclosed_string, unclosed_string_escaped, unclosed_bar, unclosed_bar_escaped, unclosed_comment, stray_close, bad_dot, dot_closed, dot_second, dot_opening, bad_sharp, float_literal, integer_too_wide, based_too_wide, nest_too_deep, token_too_long, bar_too_long, TakesNoClose, TakesNoDot, EndsAtDot, ends_at_dot, EndsAtTail, ends_at_tail, InnermostAt, innermost_at, BeginsOpening, list_next, vector_next, quote_next, quasiquote_next, unquote_next, function_next}
 use Rattle.front_reader.specs.bridge.Lexemes.{skip}
-use Rattle.front_reader.specs.bridge.Machine.{State, stopped, over, full_dot, ending, closing, dot_step, unless_full, opening_step, content_step, by_lexed, by_rest, by_gap, step}
+use Rattle.front_reader.specs.bridge.Machine.{LexemeState, stopped, over, full_dot, ending, closing, dot_step, unless_full, opening_step, content_step, by_lexed, by_rest, by_gap, step}
 use Rattle.front_reader.proofs.Skips.{open-skips}
 use Rattle.front_reader.proofs.Lexing.{opening_bytes, OpeningEnds}
 use Rattle.front_reader.proofs.Faulting.{Faults, faults-byte, faults-string, faults-string-escaped, faults-bar, faults-bar-escaped, faults-bar-byte, faults-bar-byte-escaped, faults-bar-long, faults-float, faults-wide, faults-long, faults-based-wide, faults-sharp}
@@ -53,11 +53,11 @@ unfolding step by_gap by_rest skip
 step-end number q done os = refl
 
 -- an opening that may not stand where it does
-opening-full : (number : Numbers) (s : State) (p : Place) (r : Seq ℕ) (o : Opening) (at : Place) → length s.pending < 256
+opening-full : (number : Numbers) (s : LexemeState) (p : Place) (r : Seq ℕ) (o : Opening) (at : Place) → length s.pending < 256
     → full_dot s.pending ≡ Some at → opening_step number s p r o ≡ over (stopped at BadDot r)
 opening-full number s p r o at n f = rw (lt-leb 256 (length s.pending) n, f) refl
 
-opening-deep : (number : Numbers) (s : State) (p : Place) (r : Seq ℕ) (o : Opening) → length s.pending ≡ 256
+opening-deep : (number : Numbers) (s : LexemeState) (p : Place) (r : Seq ℕ) (o : Opening) → length s.pending ≡ 256
     → opening_step number s p r o ≡ over (stopped p NestTooDeep r)
 opening-deep number s p r o n = rw (le-leb 256 (length s.pending) (omega arith)) refl
 
@@ -115,7 +115,7 @@ step-second number (prefixed x g t) after n q done os at s m f =
     step-full number _ q done os at (record { opening = Before x; after = g ++ spelled t after; front = refl; ends = s.1 }) (omega (arith, s.0)) f
 
 -- what the levels say of the data that are open
-held-close : (number : Numbers) (p : Place) (ts : Trees) (ls : Seq Level) (done : Seq Item) (os : Seq Pending) (s : State) (q : Place) (r : Seq ℕ)
+held-close : (number : Numbers) (p : Place) (ts : Trees) (ls : Seq Level) (done : Seq Item) (os : Seq Pending) (s : LexemeState) (q : Place) (r : Seq ℕ)
     → Held number p ts ls done os → TakesNoClose ls → closing s q r os ≡ over (stopped q StrayClose r)
 held-close number p ts [] done os s q r h k = ap (closing s q r) h.1
 held-close number p ts (in_list g us ∷ ls) done os s q r h k = absurd k
@@ -124,7 +124,7 @@ held-close number p ts (at_tail g us j i t ∷ ls) done os s q r h k = absurd k
 held-close number p ts (in_vector g us ∷ ls) done os s q r h k = absurd k
 held-close number p ts (at_prefix g x ∷ ls) done os s q r h k = ap (closing s q r) h.1.1.0
 
-held-dot : (number : Numbers) (p : Place) (ts : Trees) (ls : Seq Level) (done : Seq Item) (os : Seq Pending) (s : State) (q : Place) (r : Seq ℕ)
+held-dot : (number : Numbers) (p : Place) (ts : Trees) (ls : Seq Level) (done : Seq Item) (os : Seq Pending) (s : LexemeState) (q : Place) (r : Seq ℕ)
     → Held number p ts ls done os → TakesNoDot ls → dot_step s q r os ≡ over (stopped q BadDot r)
 unfolding MeansAll
 held-dot number p ts [] done os s q r h k = ap (dot_step s q r) h.1
@@ -136,7 +136,7 @@ held-dot number p ts (at_tail g us j i t ∷ ls) done os s q r h k = ap (dot_ste
 held-dot number p ts (in_vector g us ∷ ls) done os s q r h k = ap (dot_step s q r) h.1.1.0
 held-dot number p ts (at_prefix g x ∷ ls) done os s q r h k = ap (dot_step s q r) h.1.1.0
 
-held-at_dot : (number : Numbers) (p : Place) (ts : Trees) (ls : Seq Level) (done : Seq Item) (os : Seq Pending) (s : State) (q : Place) (r : Seq ℕ)
+held-at_dot : (number : Numbers) (p : Place) (ts : Trees) (ls : Seq Level) (done : Seq Item) (os : Seq Pending) (s : LexemeState) (q : Place) (r : Seq ℕ)
     (at : Place) → Held number p ts ls done os → EndsAtDot p ts ls at → closing s q r os ≡ over (stopped at BadDot r)
 held-at_dot number p ts _ done os s q r _ h (ends_at_dot g us k ls) = ap (closing s q r) h.1.1.0
 

@@ -4,7 +4,7 @@ use Rattle.std.proofs.lemmas.Bool.{eqb-true, and_parts}
 use Rattle.front_reader.specs.declared.gap.Mode.TheVariants.{Between, InLine, InBlock, Opens, Closes}
 use Rattle.front_reader.specs.declared.gap.Skipped.TheVariants.{Ends, OpenFrom}
 use Rattle.front_reader.specs.Characters.{is_blank, begins}
-use Rattle.front_reader.specs.Gaps.{is_mark, Within, here, opening, closing, other, InLine as IsInLine, no_byte, byte, ends_line, Gap, no_gap, blank, line, block}
+use Rattle.front_reader.specs.Gaps.{is_mark, WithinComment, here, opening, closing, other, InLine as IsInLine, no_byte, byte, ends_line, Gap, no_gap, blank, line, block}
 use Rattle.front_reader.specs.bridge.Lexemes.{skip, mode_after_close}
 
 -- ---- choices
@@ -51,7 +51,7 @@ line_skipped _ rest i o (byte b bs f l) e =
     rw f (line_skipped bs rest (i + 1) o l e ∙ ap (λ n. skip Between n o rest) (omega arith))
 
 -- what is in a block comment, where something is left of it
-some_left : (n b : ℕ) (bs rest : List ℕ) → is_mark b bs ≡ false → Within (suc n) bs 0 → is_mark b (bs ++ rest) ≡ false
+some_left : (n b : ℕ) (bs rest : List ℕ) → is_mark b bs ≡ false → WithinComment (suc n) bs 0 → is_mark b (bs ++ rest) ≡ false
 some_left n b [] rest e w = elim w [ ]
 some_left n b (c ∷ cs) rest e w = e
 
@@ -66,7 +66,7 @@ unmarked b n i o bs e =
     let h = mark_parts (b == 35 && begins (λ c. c == 124) bs) (b == 124 && begins (λ c. c == 35) bs) e in
     rw (h.0, h.1) refl
 
-closed_skipped : (n : ℕ) (bs rest : List ℕ) (i o : ℕ) → Within n bs 0 → skip (mode_after_close n) i o (bs ++ rest) ≡ skip Between (i + length bs) o rest
+closed_skipped : (n : ℕ) (bs rest : List ℕ) (i o : ℕ) → WithinComment n bs 0 → skip (mode_after_close n) i o (bs ++ rest) ≡ skip Between (i + length bs) o rest
 unfolding skip
 closed_skipped _ _ rest i o (here n) = ap (λ k. skip Between k o rest) (omega arith)
 closed_skipped _ _ rest i o (opening n _ bs w) =
@@ -79,7 +79,7 @@ closed_skipped _ _ rest i o (other n _ b bs e w) =
     ∙ ap (λ k. skip Between k o rest) (omega arith)
 
 -- and where a comment is still open at the end
-open_skipped : (n m : ℕ) (bs : List ℕ) (i o : ℕ) → Within n bs (suc m) → skip (mode_after_close n) i o bs ≡ OpenFrom o
+open_skipped : (n m : ℕ) (bs : List ℕ) (i o : ℕ) → WithinComment n bs (suc m) → skip (mode_after_close n) i o bs ≡ OpenFrom o
 unfolding skip
 open_skipped _ m _ i o (here _) = refl
 open_skipped _ m _ i o (opening n _ bs w) = open_skipped (suc (suc n)) m bs (i + 1 + 1) o w
@@ -87,7 +87,7 @@ open_skipped _ m _ i o (closing n _ bs w) = open_skipped n m bs (i + 1 + 1) o w
 open_skipped _ m _ i o (other n _ b bs e w) = unmarked b n i o bs e ∙ open_skipped (suc n) m bs (i + 1) o w
 
 -- a comment that the text does not close
-pub open-skips : (m : ℕ) (bs : List ℕ) (i o : ℕ) → Within 1 bs (suc m) → skip Between i o (35 ∷ 124 ∷ bs) ≡ OpenFrom i
+pub open-skips : (m : ℕ) (bs : List ℕ) (i o : ℕ) → WithinComment 1 bs (suc m) → skip Between i o (35 ∷ 124 ∷ bs) ≡ OpenFrom i
 unfolding skip is_blank
 open-skips m bs i o w = open_skipped 1 m bs (i + 1 + 1) i w
 
@@ -143,7 +143,7 @@ record SkipsBlock (d i : ℕ) (bs : List ℕ) (n : ℕ) : Type 0 where
   after : List ℕ
   front : bs ≡ inside ++ (gap ++ after)
   count : n ≡ i + (length inside + length gap)
-  within : Within d inside 0
+  within : WithinComment d inside 0
   is_gap : Gap gap after
   stops : skip Between 0 0 after ≡ Ends 0
 
@@ -254,7 +254,7 @@ block_over i bs n s = record {
 }
 
 -- a byte more of what is in the comment; it is no mark, since more of the comment follows
-shorter_mark : (d b : ℕ) (bs inside more : List ℕ) → bs ≡ inside ++ more → Within (suc d) inside 0 → is_mark b bs ≡ false → is_mark b inside ≡ false
+shorter_mark : (d b : ℕ) (bs inside more : List ℕ) → bs ≡ inside ++ more → WithinComment (suc d) inside 0 → is_mark b bs ≡ false → is_mark b inside ≡ false
 shorter_mark d b bs [] more f w e = elim w [ ]
 shorter_mark d b [] (c ∷ cs) more f w e = absurd (cc)
 shorter_mark d b (x ∷ xs) (c ∷ cs) more f w e = let same : x ≡ c = cc in rw same at e
@@ -365,7 +365,7 @@ record Opened (i : ℕ) (bs : List ℕ) (n : ℕ) : Type 0 where
   front : bs ≡ gap ++ 35 ∷ 124 ∷ inner
   count : n ≡ i + length gap
   is_gap : Gap gap (35 ∷ 124 ∷ inner)
-  within : Within 1 inner (suc depth)
+  within : WithinComment 1 inner (suc depth)
 
 record OpenedInLine (i : ℕ) (bs : List ℕ) (n : ℕ) : Type 0 where
   inside : List ℕ
@@ -377,13 +377,13 @@ record OpenedInLine (i : ℕ) (bs : List ℕ) (n : ℕ) : Type 0 where
   in_line : IsInLine inside
   ends : ends_line (gap ++ 35 ∷ 124 ∷ inner) ≡ true
   is_gap : Gap gap (35 ∷ 124 ∷ inner)
-  within : Within 1 inner (suc depth)
+  within : WithinComment 1 inner (suc depth)
 
 -- a comment opened at o is not closed, or it is, and one behind it is not
 data OpenedInBlock (d i o : ℕ) (bs : List ℕ) (n : ℕ) : Type 0 where
-  stays_open : (depth : ℕ) → n ≡ o → Within d bs (suc depth) → OpenedInBlock d i o bs n
+  stays_open : (depth : ℕ) → n ≡ o → WithinComment d bs (suc depth) → OpenedInBlock d i o bs n
   later_open : (inside gap inner : List ℕ) (depth : ℕ) → bs ≡ inside ++ (gap ++ 35 ∷ 124 ∷ inner)
-      → n ≡ i + (length inside + length gap) → Within d inside 0 → Gap gap (35 ∷ 124 ∷ inner) → Within 1 inner (suc depth)
+      → n ≡ i + (length inside + length gap) → WithinComment d inside 0 → Gap gap (35 ∷ 124 ∷ inner) → WithinComment 1 inner (suc depth)
       → OpenedInBlock d i o bs n
 
 opened_blank : (i b : ℕ) (bs : List ℕ) (n : ℕ) → is_blank b ≡ true → Opened (i + 1) bs n → Opened i (b ∷ bs) n
@@ -550,7 +550,7 @@ pub record GapOpen (bs : List ℕ) (n : ℕ) : Type 0 where
   pub front : bs ≡ gap ++ 35 ∷ 124 ∷ inner
   pub count : n ≡ length gap
   pub is_gap : Gap gap (35 ∷ 124 ∷ inner)
-  pub within : Within 1 inner (suc depth)
+  pub within : WithinComment 1 inner (suc depth)
 
 -- where a comment stays open, it is behind a gap
 pub skip-open : (bs : List ℕ) (n : ℕ) → skip Between 0 0 bs ≡ OpenFrom n → GapOpen bs n

@@ -24,7 +24,7 @@ use Rattle.front_reader.specs.Trees.{Tree, atom, proper, improper, row, prefixed
 use Rattle.front_reader.specs.Meanings.{atom_content, prefix_name, list_content, joined, prefix_item, Means, MeansAll}
 use Rattle.front_reader.specs.Fronts.{Level, in_list, at_dot, at_tail, in_vector, at_prefix, dot_after, levels_spelled, levels_behind, StandsLevels, TakesMore}
 use Rattle.front_reader.specs.bridge.Lexemes.{skip, lex, atom_of}
-use Rattle.front_reader.specs.bridge.Machine.{State, stopped, Step, next, over, put_in, full_dot, ending, closing, dot_step, prefix_step, opened, unless_full, opening_step, content_step, atom_step, act, by_lexed, by_rest, by_gap, step, Steps, none, more}
+use Rattle.front_reader.specs.bridge.Machine.{LexemeState, stopped, LexemeStep, next, over, put_in, full_dot, ending, closing, dot_step, prefix_step, opened, unless_full, opening_step, content_step, atom_step, act, by_lexed, by_rest, by_gap, step, LexemeSteps, none, more}
 use Rattle.front_reader.proofs.Lexing.{spells-lexes, close-lexes, dot-lexes, open-lexes, opening_bytes, OpeningEnds}
 use Rattle.front_reader.proofs.Skips.{skip-ends}
 use Rattle.front_reader.proofs.Stepping.{Numbers, state}
@@ -39,7 +39,7 @@ pub record Fronted (number : Numbers) (text : Seq ℕ) (p : Place) (r : Seq ℕ)
   pub place : q ≡ levels_behind p trees levels
   pub held : Held number p trees levels done os
 
-abbrev pub FrontedState : Numbers → Seq ℕ → Place → State → Type 0
+abbrev pub FrontedState : Numbers → Seq ℕ → Place → LexemeState → Type 0
 FrontedState number text p s = Fronted number text p s.rest s.place s.done s.pending
 
 -- before the first byte
@@ -111,7 +111,7 @@ joins number text p ts (at_prefix i x ∷ ls) g t r d done os e s h k gap stands
 
 -- a `)`
 closed : (number : Numbers) (text : Seq ℕ) (p : Place) (ts : Trees) (ls : Seq Level) (g r : Seq ℕ)
-    (q : Place) (done : Seq Item) (os : Seq Pending) (all : Seq ℕ) (u : State)
+    (q : Place) (done : Seq Item) (os : Seq Pending) (all : Seq ℕ) (u : LexemeState)
     → text ≡ levels_spelled ts ls (g ++ 41 ∷ r) → StandsLevels ts ls (g ++ 41 ∷ r) → Held number p ts ls done os
     → Gap g (41 ∷ r) → q ≡ place_behind (levels_behind p ts ls) g
     → closing (state r (place_behind q (41 ∷ [])) done os) q all os ≡ next u → FrontedState number text p u
@@ -156,7 +156,7 @@ some-trees number p (then_tree us g t) d ds m = tt
 
 -- a dot
 dotted_more : (number : Numbers) (text : Seq ℕ) (p : Place) (ts : Trees) (ls : Seq Level) (g r : Seq ℕ)
-    (q : Place) (done : Seq Item) (os : Seq Pending) (all : Seq ℕ) (u : State)
+    (q : Place) (done : Seq Item) (os : Seq Pending) (all : Seq ℕ) (u : LexemeState)
     → text ≡ levels_spelled ts ls (g ++ 46 ∷ r) → StandsLevels ts ls (g ++ 46 ∷ r) → Held number p ts ls done os
     → Gap g (46 ∷ r) → q ≡ place_behind (levels_behind p ts ls) g → begins is_token r ≡ false
     → dot_step (state r (place_behind q (46 ∷ [])) done os) q all os ≡ next u → FrontedState number text p u
@@ -192,7 +192,7 @@ dotted_more number text p ts (in_list i us ∷ ls) g r q done os all u e s h gap
 
 -- an opening
 opened_more : (number : Numbers) (text : Seq ℕ) (p : Place) (ts : Trees) (ls : Seq Level) (g r : Seq ℕ) (o : Opening)
-    (q : Place) (done : Seq Item) (os : Seq Pending) (all : Seq ℕ) (u : State)
+    (q : Place) (done : Seq Item) (os : Seq Pending) (all : Seq ℕ) (u : LexemeState)
     → text ≡ levels_spelled ts ls (g ++ (opening_bytes o ++ r)) → StandsLevels ts ls (g ++ (opening_bytes o ++ r))
     → Held number p ts ls done os → Gap g (opening_bytes o ++ r) → OpeningEnds o r
     → q ≡ place_behind (levels_behind p ts ls) g → length ls < 256 → TakesMore ls
@@ -239,11 +239,11 @@ opened_more number text p ts ls g r (Before x) q done os all u e s h gap ends at
         })
 
 -- what a choice that goes on says
-unless-next : (o : Option Place) (r : Seq ℕ) (x : Step) (u : State) → unless_full o r x ≡ next u → (o ≡ None) × (x ≡ next u)
+unless-next : (o : Option Place) (r : Seq ℕ) (x : LexemeStep) (u : LexemeState) → unless_full o r x ≡ next u → (o ≡ None) × (x ≡ next u)
 unless-next None r x u e = (refl, e)
 unless-next (Some at) r x u e = absurd (cc)
 
-opening-next : (number : Numbers) (s : State) (p : Place) (r : Seq ℕ) (o : Opening) (u : State) → opening_step number s p r o ≡ next u
+opening-next : (number : Numbers) (s : LexemeState) (p : Place) (r : Seq ℕ) (o : Opening) (u : LexemeState) → opening_step number s p r o ≡ next u
     → (length s.pending < 256) × (full_dot s.pending ≡ None) × (opened number s p o ≡ next u)
 opening-next number s p r o u e = by (nat_le 256 (length s.pending)) refl e
   where
@@ -257,7 +257,7 @@ opening-next number s p r o u e = by (nat_le 256 (length s.pending)) refl e
 
 -- an atom
 atom_more : (number : Numbers) (text : Seq ℕ) (p : Place) (ts : Trees) (ls : Seq Level) (g w r : Seq ℕ) (a : Atom)
-    (q : Place) (done : Seq Item) (os : Seq Pending) (all : Seq ℕ) (u : State)
+    (q : Place) (done : Seq Item) (os : Seq Pending) (all : Seq ℕ) (u : LexemeState)
     → text ≡ levels_spelled ts ls (g ++ (w ++ r)) → StandsLevels ts ls (g ++ (w ++ r))
     → Held number p ts ls done os → Gap g (w ++ r) → Spells w r a
     → q ≡ place_behind (levels_behind p ts ls) g
@@ -278,7 +278,7 @@ atom_more number text p ts ls g w r a q done os all u e s h gap spells at k =
 
 -- a lexeme that spells an atom
 act-atom-more : (number : Numbers) (text : Seq ℕ) (p : Place) (ts : Trees) (ls : Seq Level) (g after : Seq ℕ) (n : ℕ) (x : Lexeme)
-    (a : Option Atom) (q : Place) (done : Seq Item) (os : Seq Pending) (u : State)
+    (a : Option Atom) (q : Place) (done : Seq Item) (os : Seq Pending) (u : LexemeState)
     → text ≡ levels_spelled ts ls (g ++ after) → StandsLevels ts ls (g ++ after)
     → Held number p ts ls done os → Gap g after → q ≡ place_behind (levels_behind p ts ls) g
     → lex after ≡ Taken n x → atom_of x (take n after) ≡ a
@@ -294,7 +294,7 @@ act-atom-more number text p ts ls g after n x (Some a) q done os u e s h gap at 
 
 -- a lexeme
 act-more : (number : Numbers) (text : Seq ℕ) (p : Place) (ts : Trees) (ls : Seq Level) (g after : Seq ℕ) (n : ℕ) (x : Lexeme)
-    (q : Place) (done : Seq Item) (os : Seq Pending) (u : State)
+    (q : Place) (done : Seq Item) (os : Seq Pending) (u : LexemeState)
     → text ≡ levels_spelled ts ls (g ++ after) → StandsLevels ts ls (g ++ after)
     → Held number p ts ls done os → Gap g after → q ≡ place_behind (levels_behind p ts ls) g
     → lex after ≡ Taken n x
@@ -338,7 +338,7 @@ act-more number text p ts ls g after n (Open o) q done os u e s h gap at l k =
     c.1.2 at (omega (arith, f.0, held-length number p ts ls done os h)) (takes-held number p ts ls done os h f.1) k3
 
 -- a step
-pub fronted-step : (number : Numbers) (text : Seq ℕ) (p : Place) (s u : State) → FrontedState number text p s
+pub fronted-step : (number : Numbers) (text : Seq ℕ) (p : Place) (s u : LexemeState) → FrontedState number text p s
     → step number s ≡ next u → FrontedState number text p u
 unfolding step by_gap by_rest by_lexed
 fronted-step number text p s u f e = by (skip Between 0 0 s.rest) refl e
@@ -372,8 +372,8 @@ fronted-step number text p s u f e = by (skip Between 0 0 s.rest) refl e
         (subst M (take-append_seam a.gap a.after) (subst L (drop-append_seam a.gap a.after) k2))
 
 -- steps
-pub fronted-steps : (number : Numbers) (text : Seq ℕ) (p : Place) (s u : State) → FrontedState number text p s
-    → Steps number s u → FrontedState number text p u
+pub fronted-steps : (number : Numbers) (text : Seq ℕ) (p : Place) (s u : LexemeState) → FrontedState number text p s
+    → LexemeSteps number s u → FrontedState number text p u
 fronted-steps number text p s u f (none v) = f
 fronted-steps number text p s u f (more v w x a e) =
     fronted-step number text p w x (fronted-steps number text p v w f a) e

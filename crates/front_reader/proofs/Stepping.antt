@@ -17,14 +17,14 @@ use Rattle.front_reader.specs.Characters.{begins, is_token, place_after, place_b
 use Rattle.front_reader.specs.Gaps.{Gap}
 use Rattle.front_reader.specs.Atoms.{Atom, Spells}
 use Rattle.front_reader.specs.bridge.Lexemes.{skip, lex, atom_of}
-use Rattle.front_reader.specs.bridge.Machine.{State, next, closing, act, atom_step, opening_step, dot_step, by_lexed, by_rest, by_gap, step, Steps, none, more}
+use Rattle.front_reader.specs.bridge.Machine.{LexemeState, next, closing, act, atom_step, opening_step, dot_step, by_lexed, by_rest, by_gap, step, LexemeSteps, none, more}
 use Rattle.front_reader.proofs.Shifting.{shifted, skip-front}
 use Rattle.front_reader.proofs.Lexing.{lexes-spells, lexes-close, lexes-dot, opening_bytes, OpeningEnds, lexes-opening}
 
 abbrev pub Numbers : Type 0
 Numbers = Seq ℕ → Option ℕ
 
-abbrev pub state : Seq ℕ → Place → Seq Item → Seq Pending → State
+abbrev pub state : Seq ℕ → Place → Seq Item → Seq Pending → LexemeState
 state r p done os = record { rest = r; place = p; done = done; pending = os }
 
 pub place_behind-append : (p : Place) (xs ys : Seq ℕ) → place_behind p (xs ++ ys) ≡ place_behind (place_behind p xs) ys
@@ -60,7 +60,7 @@ step-lexed number (c ∷ b) r p done os x e l n =
     ∙ ap (λ q. act number (state q (place_behind p (take (length (c ∷ b)) ((c ∷ b) ++ r))) done os) p ((c ∷ b) ++ r) (take (length (c ∷ b)) ((c ∷ b) ++ r)) x) (drop-append_seam (c ∷ b) r)
     ∙ ap (λ w. act number (state r (place_behind p w) done os) p ((c ∷ b) ++ r) w x) (take-append_seam (c ∷ b) r)
 
-act-atom : (number : Numbers) (s : State) (p : Place) (r w : Seq ℕ) (x : Lexeme) (a : Atom) → atom_of x w ≡ Some a
+act-atom : (number : Numbers) (s : LexemeState) (p : Place) (r w : Seq ℕ) (x : Lexeme) (a : Atom) → atom_of x w ≡ Some a
     → act number s p r w x ≡ atom_step number s p r (Some a)
 act-atom number s p r w Close a h = absurd (cc)
 act-atom number s p r w Dot a h = absurd (cc)
@@ -112,10 +112,10 @@ step-opening number o r p done os h =
     step-lexed number (opening_bytes o) r p done os (Open o) l.1 l.0 (opening-some o)
 
 -- steps one after another
-pub steps-then : (number : Numbers) (s t u : State) → Steps number s t → Steps number t u → Steps number s u
+pub steps-then : (number : Numbers) (s t u : LexemeState) → LexemeSteps number s t → LexemeSteps number t u → LexemeSteps number s u
 steps-then number s t u a (none v) = a
 steps-then number s t u a (more v w x b e) = more s w x (steps-then number s v w a b) e
 
 -- one step
-pub one-step : (number : Numbers) (s t : State) → step number s ≡ next t → Steps number s t
+pub one-step : (number : Numbers) (s t : LexemeState) → step number s ≡ next t → LexemeSteps number s t
 one-step number s t e = more s s t (none s) e

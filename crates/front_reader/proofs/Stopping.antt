@@ -27,7 +27,7 @@ use Rattle.front_reader.specs.Meanings.{atom_content, prefix_name, MeansAll}
 use Rattle.front_reader.specs.Fronts.{Level, in_list, at_dot, at_tail, in_vector, at_prefix, levels_spelled, levels_behind, Front, IsFront, StandsLevels}
 use Rattle.front_reader.specs.Stops.{Row, unclosed_list, unclosed_comment, stray_close, bad_dot, dot_closed, dot_second, dot_opening, nest_too_deep, Stops, ends_at_dot, ends_at_tail, EndsAtTail, innermost_at, BeginsOpening, list_next, vector_next, quote_next, quasiquote_next, unquote_next, function_next}
 use Rattle.front_reader.specs.bridge.Lexemes.{skip, lex, atom_of}
-use Rattle.front_reader.specs.bridge.Machine.{State, stopped, Step, over, full_dot, ending, closing, dot_step, prefix_step, opened, unless_full, opening_step, content_step, atom_step, act, by_lexed, by_rest, by_gap, step}
+use Rattle.front_reader.specs.bridge.Machine.{LexemeState, stopped, LexemeStep, over, full_dot, ending, closing, dot_step, prefix_step, opened, unless_full, opening_step, content_step, atom_step, act, by_lexed, by_rest, by_gap, step}
 use Rattle.front_reader.proofs.Skips.{skip-ends, skip-open}
 use Rattle.front_reader.proofs.Lexing.{spells-lexes, close-lexes, dot-lexes, open-lexes, opening_bytes}
 use Rattle.front_reader.proofs.Faults.{fault-row}
@@ -43,7 +43,7 @@ StopsNext p text at r ts = (x : Stops p text at r) × (x.front.data_before ≡ t
 
 -- a `)`
 close-stops : (number : Numbers) (p : Place) (ts : Trees) (ls : Seq Level) (bs : Seq ℕ) (q at : Place) (done : Seq Item) (os : Seq Pending)
-    (s : State) (r : Reason) (left : Seq ℕ) → Held number p ts ls done os
+    (s : LexemeState) (r : Reason) (left : Seq ℕ) → Held number p ts ls done os
     → closing s q (41 ∷ bs) os ≡ over (stopped at r left) → Row p ts ls q (41 ∷ bs) at r
 close-stops number p ts [] bs q at done os s r left h k =
     let f = ap (closing s q (41 ∷ bs)) h.1 in
@@ -66,7 +66,7 @@ close-stops number p ts (at_tail g us j i t ∷ ls) bs q at done os s r left h k
 
 -- a dot
 dot-stops : (number : Numbers) (p : Place) (ts : Trees) (ls : Seq Level) (bs : Seq ℕ) (q at : Place) (done : Seq Item) (os : Seq Pending)
-    (s : State) (r : Reason) (left : Seq ℕ) → Held number p ts ls done os → begins is_token bs ≡ false
+    (s : LexemeState) (r : Reason) (left : Seq ℕ) → Held number p ts ls done os → begins is_token bs ≡ false
     → dot_step s q (46 ∷ bs) os ≡ over (stopped at r left) → Row p ts ls q (46 ∷ bs) at r
 unfolding MeansAll
 dot-stops number p ts [] bs q at done os s r left h e k =
@@ -111,18 +111,18 @@ full-at number p ts (at_tail g us j i t ∷ ls) done os at h k =
     subst (EndsAtTail p ts (at_tail g us j i t ∷ ls)) same (ends_at_tail g us j i t ls)
 
 -- what a choice that stops says
-unless-stops : (o : Option Place) (r : Seq ℕ) (x : Step) (at : Place) (reason : Reason) (left : Seq ℕ)
+unless-stops : (o : Option Place) (r : Seq ℕ) (x : LexemeStep) (at : Place) (reason : Reason) (left : Seq ℕ)
     → unless_full o r x ≡ over (stopped at reason left)
     → ((o ≡ Some at) × (BadDot ≡ reason)) ⊎ (x ≡ over (stopped at reason left))
 unless-stops None r x at reason left e = inr e
 unless-stops (Some d) r x at reason left e = inl (cc, cc)
 
-content-goes : (s : State) (q : Place) (c : Option Content) (at : Place) (r : Reason) (left : Seq ℕ)
+content-goes : (s : LexemeState) (q : Place) (c : Option Content) (at : Place) (r : Reason) (left : Seq ℕ)
     → content_step s q c ≡ over (stopped at r left) → ⊥
 content-goes s q None at r left e = cc
 content-goes s q (Some c) at r left e = cc
 
-opened-goes : (number : Numbers) (s : State) (q : Place) (o : Opening) (at : Place) (r : Reason) (left : Seq ℕ)
+opened-goes : (number : Numbers) (s : LexemeState) (q : Place) (o : Opening) (at : Place) (r : Reason) (left : Seq ℕ)
     → opened number s q o ≡ over (stopped at r left) → ⊥
 opened-goes number s q List at r left e = cc
 opened-goes number s q Vector at r left e = cc
@@ -143,7 +143,7 @@ begins-opening (Before Function) bs = function_next bs
 
 -- an opening
 opening-stops : (number : Numbers) (p : Place) (ts : Trees) (ls : Seq Level) (bs : Seq ℕ) (q at : Place) (done : Seq Item)
-    (s : State) (o : Opening) (r : Reason) (left : Seq ℕ) → Held number p ts ls done s.pending → length s.pending ≤ 256 → BeginsOpening bs
+    (s : LexemeState) (o : Opening) (r : Reason) (left : Seq ℕ) → Held number p ts ls done s.pending → length s.pending ≤ 256 → BeginsOpening bs
     → opening_step number s q bs o ≡ over (stopped at r left) → Row p ts ls q bs at r
 opening-stops number p ts ls bs q at done s o r left h n b k = by (nat_le 256 (length s.pending)) refl k
   where
@@ -163,7 +163,7 @@ opening-stops number p ts ls bs q at done s o r left h n b k = by (nat_le 256 (l
 
 -- an atom
 atom-stops : (number : Numbers) (p : Place) (ts : Trees) (ls : Seq Level) (after : Seq ℕ) (n : ℕ) (x : Lexeme) (a : Option Atom) (q at : Place)
-    (done : Seq Item) (s : State) (r : Reason) (left : Seq ℕ) → Held number p ts ls done s.pending
+    (done : Seq Item) (s : LexemeState) (r : Reason) (left : Seq ℕ) → Held number p ts ls done s.pending
     → lex after ≡ Taken n x → atom_of x (take n after) ≡ a
     → atom_step number s q after a ≡ over (stopped at r left) → Row p ts ls q after at r
 unfolding spelled Stands
@@ -177,7 +177,7 @@ atom-stops number p ts ls after n x (Some a) q at done s r left h l m k =
 
 -- a lexeme
 act-stops : (number : Numbers) (p : Place) (ts : Trees) (ls : Seq Level) (after : Seq ℕ) (n : ℕ) (x : Lexeme) (q at : Place)
-    (done : Seq Item) (s : State) (r : Reason) (left : Seq ℕ) → Held number p ts ls done s.pending → length s.pending ≤ 256
+    (done : Seq Item) (s : LexemeState) (r : Reason) (left : Seq ℕ) → Held number p ts ls done s.pending → length s.pending ≤ 256
     → lex after ≡ Taken n x
     → act number s q after (take n after) x ≡ over (stopped at r left) → Row p ts ls q after at r
 act-stops number p ts ls after n (Integer i) q at done s r left h d l k = atom-stops number p ts ls after n (Integer i) _ q at done s r left h l refl k
@@ -222,7 +222,7 @@ stands-depth ts [] r s = omega arith
 stands-depth ts (l ∷ ls) r s = omega (arith, s.1)
 
 -- what a row describes behind a front and a gap is a stop
-row-stops : (number : Numbers) (text : Seq ℕ) (p : Place) (s : State) (f : FrontedState number text p s) (g after : Seq ℕ) (at : Place) (r : Reason)
+row-stops : (number : Numbers) (text : Seq ℕ) (p : Place) (s : LexemeState) (f : FrontedState number text p s) (g after : Seq ℕ) (at : Place) (r : Reason)
     → s.rest ≡ g ++ after → Gap g after
     → Row p f.trees f.levels (place_behind s.place g) after at r → StopsNext p text at r f.trees
 row-stops number text p s f g after at r e gap w =
@@ -236,7 +236,7 @@ row-stops number text p s f g after at r e gap w =
     (record { front = front; rest = after; is_front = is; is_longest = row-longest p text front after at r is row; row = row }, refl)
 
 -- where the machine stops, the text stops
-pub step-stops : (number : Numbers) (text : Seq ℕ) (p : Place) (s : State) (at : Place) (r : Reason) (left : Seq ℕ) (f : FrontedState number text p s)
+pub step-stops : (number : Numbers) (text : Seq ℕ) (p : Place) (s : LexemeState) (at : Place) (r : Reason) (left : Seq ℕ) (f : FrontedState number text p s)
     → step number s ≡ over (stopped at r left) → StopsNext p text at r f.trees
 unfolding step by_gap by_rest by_lexed
 step-stops number text p s at r left f e = by (skip Between 0 0 s.rest) refl e

@@ -12,7 +12,7 @@ use Rattle.front_reader.specs.Reads.{Text}
 use Rattle.front_reader.specs.Fronts.{Front, levels_behind, front_behind, IsFront}
 use Rattle.front_reader.specs.Stops.{Row, Stops}
 use Rattle.front_reader.specs.bridge.Lexemes.{skip}
-use Rattle.front_reader.specs.bridge.Machine.{Outcome, finished, stopped, over, by_gap, by_rest, step}
+use Rattle.front_reader.specs.bridge.Machine.{LexemesEnd, finished, stopped, over, by_gap, by_rest, step}
 use Rattle.front_reader.proofs.Stepping.{Numbers, state, step-gap}
 use Rattle.front_reader.proofs.Completing.{at_top, trees-steps}
 use Rattle.front_reader.proofs.Fronting.{Held, front-steps, all_zero, all-means-exist, held-exists}
@@ -40,7 +40,7 @@ text-runs number ts g p ds s k m =
     (ends (state g (behind_all p ts) ds []) (finished ds) (last-step number g (behind_all p ts) ds k))
 
 -- from the begin of a text to the end of a front
-front-runs : (number : Numbers) (p : Place) (text : Seq ℕ) (f : Front) (rest : Seq ℕ) (done : Seq Item) (os : Seq Pending) (o : Outcome)
+front-runs : (number : Numbers) (p : Place) (text : Seq ℕ) (f : Front) (rest : Seq ℕ) (done : Seq Item) (os : Seq Pending) (o : LexemesEnd)
     → IsFront text f rest → Held number p f.data_before f.levels done os
     → Runs number (state rest (front_behind p f) done os) o → Runs number (state text p [] []) o
 front-runs number p text f rest done os o x h (ends s u e) =

@@ -24,12 +24,12 @@ pub record IsEnded (old new : ReaderState) : Type 0 where
   pub same : new ≡ old
 
 -- the text stops before a datum is whole, or stopped so before; the stop is kept
-pub record IsRefused (old new : ReaderState) (r : Refusal) : Type 0 where
+pub record IsReaderRefused (old new : ReaderState) (r : Refusal) : Type 0 where
   pub kept : new ≡ record old { stop = Some r }
   pub stops : old.stop ≡ None → StopsFirst old.place old.rest r.place r.reason
   pub again : (s : Refusal) → old.stop ≡ Some s → s ≡ r
 
 -- after want of memory the reader stands where it was
-abbrev pub IsStopped : ReaderState → ReaderState → Stop → Type 0
-IsStopped old new (Refused r) = IsRefused old new r
-IsStopped old new NoMemory = new ≡ old
+abbrev pub IsReaderStopped : ReaderState → ReaderState → Stop → Type 0
+IsReaderStopped old new (Refused r) = IsReaderRefused old new r
+IsReaderStopped old new NoMemory = new ≡ old

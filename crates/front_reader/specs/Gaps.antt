@@ -8,11 +8,11 @@ is_mark b bs = b == 35 && begins (λ c. c == 124) bs || b == 124 && begins (λ c
 
 -- `Within n bs m`: in front of these bytes n block comments are open inside one another, behind them
 -- m are, and where they are all closed nothing more follows
-pub data Within : ℕ → List ℕ → ℕ → Type 0 where
-  here : (n : ℕ) → Within n [] n
-  opening : (n m : ℕ) (bs : List ℕ) → Within (suc (suc n)) bs m → Within (suc n) (35 ∷ 124 ∷ bs) m
-  closing : (n m : ℕ) (bs : List ℕ) → Within n bs m → Within (suc n) (124 ∷ 35 ∷ bs) m
-  other : (n m b : ℕ) (bs : List ℕ) → is_mark b bs ≡ false → Within (suc n) bs m → Within (suc n) (b ∷ bs) m
+pub data WithinComment : ℕ → List ℕ → ℕ → Type 0 where
+  here : (n : ℕ) → WithinComment n [] n
+  opening : (n m : ℕ) (bs : List ℕ) → WithinComment (suc (suc n)) bs m → WithinComment (suc n) (35 ∷ 124 ∷ bs) m
+  closing : (n m : ℕ) (bs : List ℕ) → WithinComment n bs m → WithinComment (suc n) (124 ∷ 35 ∷ bs) m
+  other : (n m b : ℕ) (bs : List ℕ) → is_mark b bs ≡ false → WithinComment (suc n) bs m → WithinComment (suc n) (b ∷ bs) m
 
 -- no byte ends a line
 pub data InLine : List ℕ → Type 0 where
@@ -32,4 +32,4 @@ pub data Gap : List ℕ → List ℕ → Type 0 where
   line : (bs g after : List ℕ) → InLine bs → ends_line (g ++ after) ≡ true → Gap g after
       → Gap (59 ∷ (bs ++ g)) after
   -- `#|` up to its `|#`
-  block : (bs g after : List ℕ) → Within 1 bs 0 → Gap g after → Gap (35 ∷ 124 ∷ (bs ++ g)) after
+  block : (bs g after : List ℕ) → WithinComment 1 bs 0 → Gap g after → Gap (35 ∷ 124 ∷ (bs ++ g)) after

@@ -6,7 +6,7 @@ use Rattle.base.specs.declared.place.Place.{Place}
 use Rattle.base.specs.declared.reason.Reason.{Reason}
 use Rattle.base.specs.declared.reason.Reason.TheVariants.{BadByte, UnclosedList, UnclosedString, UnclosedComment, StrayClose, BadDot, BadSharp, FloatLiteral, IntegerTooWide, NestTooDeep, NameTooLong}
 use Rattle.front_reader.specs.Characters.{is_blank, is_token, is_printed, folded, begins, place_behind}
-use Rattle.front_reader.specs.Gaps.{Within}
+use Rattle.front_reader.specs.Gaps.{WithinComment}
 use Rattle.front_reader.specs.Tokens.{IsToken, is_integer, is_wide, is_float}
 use Rattle.front_reader.specs.Atoms.{Inside, Base}
 use Rattle.front_reader.specs.Trees.{Tree, Trees, no_tree, then_tree, spelled, Stands}
@@ -83,7 +83,7 @@ pub data Row (p : Place) (ts : Trees) (ls : List Level) (q : Place) : List ℕ �
   unclosed_bar : (bs content : List ℕ) → Inside 124 bs content → Row p ts ls q (124 ∷ bs) q UnclosedString
   unclosed_bar_escaped : (bs content : List ℕ) → Inside 124 bs content
       → Row p ts ls q (124 ∷ (bs ++ 92 ∷ [])) q UnclosedString
-  unclosed_comment : (bs : List ℕ) (n : ℕ) → Within 1 bs (suc n) → Row p ts ls q (35 ∷ 124 ∷ bs) q UnclosedComment
+  unclosed_comment : (bs : List ℕ) (n : ℕ) → WithinComment 1 bs (suc n) → Row p ts ls q (35 ∷ 124 ∷ bs) q UnclosedComment
   stray_close : (bs : List ℕ) → TakesNoClose ls → Row p ts ls q (41 ∷ bs) q StrayClose
   -- a dot that the front does not take
   bad_dot : (bs : List ℕ) → TakesNoDot ls → begins is_token bs ≡ false → Row p ts ls q (46 ∷ bs) q BadDot

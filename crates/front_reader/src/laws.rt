@@ -4,7 +4,7 @@ ghost use Rattle.std.specs.Prelude.{◌≡◌, ℕ, ◌<◌, List, [], length};
 ghost use Rattle.base.specs.declared.place.Place.{Place as place};
 ghost use Rattle.base.specs.declared.reason.Reason.{Reason as reason};
 ghost use Rattle.base.specs.Data.{Item};
-ghost use Rattle.base.specs.GoodData.{Good};
+ghost use Rattle.base.specs.WellFormedData.{WellFormed};
 ghost use Rattle.front_reader.specs.Characters.{place_behind};
 ghost use Rattle.front_reader.specs.Gaps.{Gap};
 ghost use Rattle.front_reader.specs.Reads.{ReadsNext, Text};
@@ -52,7 +52,7 @@ pub fn law_end()
 /// A datum of a text is in form, with its names in the table, and takes bytes of the text.
 pub fn law_good_data()
     ensures good { (names : List (List ℕ)) (text : List ℕ) (p : place) (d : Item) (after : List ℕ) →
-        ReadsNext names text p d after → Good (length names) d }
+        ReadsNext names text p d after → WellFormed (length names) d }
     ensures shorter { (names : List (List ℕ)) (text : List ℕ) (p : place) (d : Item) (after : List ℕ) →
         ReadsNext names text p d after → length after < length text }
 {}

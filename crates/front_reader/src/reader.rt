@@ -1,10 +1,10 @@
 // The reader: the data of a text, one call each.
 
 ghost use Rattle.std.specs.Prelude.{◌≡◌, ◌<◌, ◌↔◌, [], length, Some, None, IfOk, IfErr, IfSome, IfNone, IsTrue};
-ghost use Rattle.base.specs.GoodData.{Good};
+ghost use Rattle.base.specs.WellFormedData.{WellFormed};
 ghost use Rattle.front_reader.specs.Gaps.{Gap};
 ghost use Rattle.front_reader.specs.bridge.Turns.{IsLater};
-ghost use Rattle.front_reader.specs.Answers.{IsRead, IsEnded, IsStopped};
+ghost use Rattle.front_reader.specs.Answers.{IsRead, IsEnded, IsReaderStopped};
 ghost use Rattle.front_reader.specs.Readers.{first_place, MayBeRead};
 
 use crate::cursor::Cursor;
@@ -56,9 +56,9 @@ impl<'a> Reader<'a> {
     pub fn next(&mut self, alloc: Global, names: &mut Names) -> Result<Option<Datum>, Stop>
         ensures names { IsLater names.old names.new }
         ensures read { IfOk result (λ o. IfSome o (IsRead names.new self.old self.new)) }
-        ensures good { IfOk result (λ o. IfSome o (Good (length names.new))) }
+        ensures good { IfOk result (λ o. IfSome o (WellFormed (length names.new))) }
         ensures ended { IfOk result (λ o. IfNone o (IsEnded self.old self.new)) }
-        ensures refused { IfErr result (IsStopped self.old self.new) }
+        ensures refused { IfErr result (IsReaderStopped self.old self.new) }
     {
         let _ = names.len();
         if let Some(refusal) = self.stop {

@@ -4,7 +4,7 @@ ghost use Rattle.std.specs.Prelude.{◌≡◌, ◌<◌, ℕ, List, [], length, r
 ghost use Rattle.front_reader.specs.Meanings.{number_in};
 ghost use Rattle.front_reader.specs.Readers.{PlacesFit};
 ghost use Rattle.front_reader.specs.bridge.Turns.{IsLater};
-ghost use Rattle.front_reader.specs.bridge.Steps.{Leads, LeadsLexed, GoesOn, Found};
+ghost use Rattle.front_reader.specs.bridge.Steps.{TurnLeads, LeadsLexed, ReadingGoesOn, DatumFound};
 
 use crate::cursor::{Cursor, front, moved};
 use crate::gap::{Skipped, skip};
@@ -29,7 +29,7 @@ pub(crate) fn read<'a>(
     cursor: Cursor<'a>,
 ) -> Result<Option<(Cursor<'a>, Datum)>, Stop>
     requires fits { PlacesFit cursor.place cursor.rest.now }
-    ensures found { Found names.new cursor.entry.rest.now cursor.entry.place result }
+    ensures found { DatumFound names.new cursor.entry.rest.now cursor.entry.place result }
     ensures names { IsLater names.old names.new }
 {
     let _ = names.len();
@@ -59,11 +59,11 @@ fn step<'a>(
     cursor: Cursor<'a>,
 ) -> Result<Turn<'a>, Stop>
     requires fits { PlacesFit cursor.place cursor.rest.now }
-    ensures leads { (T : List (List ℕ)) → IsLater names.new T → Leads (number_in T)
+    ensures leads { (T : List (List ℕ)) → IsLater names.new T → TurnLeads (number_in T)
         (record { rest = cursor.entry.rest.now; place = cursor.entry.place; done = []; pending = reverse pending.old.items })
         result pending.new.items }
     ensures names { IsLater names.old names.new }
-    ensures goes_on { IfOk result (GoesOn (length cursor.entry.rest.now)) }
+    ensures goes_on { IfOk result (ReadingGoesOn (length cursor.entry.rest.now)) }
 {
     let _ = names.len();
     let n = match skip(cursor.rest) {
@@ -96,7 +96,7 @@ fn next_lexeme<'a>(
         (record { rest = cursor.entry.rest.now; place = cursor.entry.place; done = []; pending = reverse pending.old.items })
         result pending.new.items }
     ensures names { IsLater names.old names.new }
-    ensures goes_on { IfOk result (GoesOn (length cursor.entry.rest.now)) }
+    ensures goes_on { IfOk result (ReadingGoesOn (length cursor.entry.rest.now)) }
 {
     let _ = names.len();
     match lex(cursor.rest) {

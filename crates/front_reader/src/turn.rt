@@ -8,8 +8,8 @@ ghost use Rattle.front_reader.specs.Atoms.{a_symbol};
 ghost use Rattle.front_reader.specs.bridge.Lexemes.{atom_of};
 ghost use Rattle.front_reader.specs.Characters.{folded as folded_of};
 ghost use Rattle.front_reader.specs.Meanings.{number_in, atom_content, prefix_name, prefix_item, list_content};
-ghost use Rattle.front_reader.specs.bridge.Machine.{State, Step, next, put, closing, dot_step, opening_step, atom_step, act, full_dot as full_dot_of};
-ghost use Rattle.front_reader.specs.bridge.Turns.{IsLater, Turns, with_open, NameFits, open_state, IsContent, innermost_of, Begins};
+ghost use Rattle.front_reader.specs.bridge.Machine.{LexemeState, LexemeStep, next, put, closing, dot_step, opening_step, atom_step, act, full_dot as full_dot_of};
+ghost use Rattle.front_reader.specs.bridge.Turns.{IsLater, Turns, with_open, NameFits, open_state, IsContent, innermost_of, OpeningBegins};
 
 use crate::chain::Chain;
 use crate::characters::folded;
@@ -69,7 +69,7 @@ pub(crate) fn put_datum(
     pending: &mut Vec<Pending>,
     datum: Chain,
 ) -> Result<Option<Datum>, NoMemory>
-    ensures { IfOk result (λ o. (s : State) → put s (reverse pending.old.items) datum ≡ next (with_open s o pending.new.items)) }
+    ensures { IfOk result (λ o. (s : LexemeState) → put s (reverse pending.old.items) datum ≡ next (with_open s o pending.new.items)) }
 {
     let mut datum = datum;
     while let Some(open) = pending.pop() {
@@ -173,7 +173,7 @@ fn opened(
     place: Place,
     opening: Opening,
 ) -> Result<Pending, NoMemory>
-    ensures opened { IfOk result (λ begun. (T : List (List ℕ)) → IsLater names.new T → Begins (number_in T) place opening begun) }
+    ensures opened { IfOk result (λ begun. (T : List (List ℕ)) → IsLater names.new T → OpeningBegins (number_in T) place opening begun) }
     ensures names { IsLater names.old names.new }
 {
     let _ = names.len();

@@ -5,7 +5,7 @@ use Rattle.front_profile.specs.declared.tables.ReservedWords.{ReservedWords}
 use Rattle.lang_classes.specs.InheritedClasses.{Hierarchy}
 use Rattle.lang_classes.specs.InheritedBuiltIn.{AreBuiltIn}
 use Rattle.front_profile.specs.declared.tables.Tables.{Tables}
-use Rattle.front_scope.specs.Scopes.{AreWords, first_tables, IsFirst}
+use Rattle.front_scope.specs.Scopes.{AreWords, first_tables, AreInitialTables}
 
 -- a table of names that a text was looked up in, with or without memory
 pub looked_up : {T E : Type 0} (r : Result T E) (old new : List (List ℕ)) (t : List ℕ) → OnOk r (new ≡ with_text old t) → OnErr r (new ≡ old) → Extends old new
@@ -20,6 +20,6 @@ words_stay old new w x a = record {
 }
 
 pub is_first : (old new : List (List ℕ)) (w : ReservedWords) (h : Hierarchy) (t : Tables) → Extends old new → AreWords old w → AreBuiltIn new h →
-    t ≡ first_tables w h → IsFirst new t
+    t ≡ first_tables w h → AreInitialTables new t
 is_first old new w h t x a b e =
-    subst (λ (u : Tables). IsFirst new u) (sym e) (record { words = words_stay old new w x a; classes = b; nothing_else = refl })
+    subst (λ (u : Tables). AreInitialTables new u) (sym e) (record { words = words_stay old new w x a; classes = b; nothing_else = refl })

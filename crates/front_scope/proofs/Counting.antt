@@ -6,7 +6,7 @@ use Rattle.std.proofs.lemmas.List.{length-map}
 use Rattle.lang_meaning.specs.Counts.{all_nodes}
 use Rattle.lang_meaning.specs.ProgramCounts.{row_nodes, procedure_nodes, class_nodes}
 use Rattle.front_profile.specs.declared.tables.Tables.{Tables}
-use Rattle.front_profile.specs.Marks.{StandsFirst, Grows}
+use Rattle.front_profile.specs.Marks.{StandsFirst, TablesGrow}
 use Rattle.front_scope.specs.declared.mark.Mark.{Mark}
 use Rattle.front_scope.specs.Cuts.{mark_of, nodes_behind}
 use Rattle.front_scope.specs.Scopes.{nodes_of}
@@ -16,7 +16,7 @@ use Rattle.front_scope.proofs.CutGenerics.{there_enough}
 split : {X : Type 0} (f : X → ℕ) (xs ys : List X) → StandsFirst xs ys → sum_by f ys ≡ sum_by f xs + sum_by f (drop (length xs) ys)
 split f xs ys h = sym (sum_by-take-drop f ys (length xs)) ∙ ap (λ zs. sum_by f zs + sum_by f (drop (length xs) ys)) h
 
-pub grown_nodes : (s t : Tables) → Grows s t → nodes_of t ≡ nodes_of s + nodes_behind (mark_of s) t
+pub grown_nodes : (s t : Tables) → TablesGrow s t → nodes_of t ≡ nodes_of s + nodes_behind (mark_of s) t
 grown_nodes s t g =
     omega (
       arith,
@@ -29,13 +29,13 @@ grown_nodes s t g =
     )
 
 -- what was counted, with what was added, tells whether the program is too large
-pub counted_exactly : (s t : Tables) (mark : Mark) (n r : ℕ) → Grows s t → mark ≡ mark_of s → n ≡ nodes_of s
+pub counted_exactly : (s t : Tables) (mark : Mark) (n r : ℕ) → TablesGrow s t → mark ≡ mark_of s → n ≡ nodes_of s
     → r ≡ min (n + nodes_behind mark t) 18446744073709551615 → r ≤ 100000 → r ≡ nodes_of t
 counted_exactly s t mark n r g m e h small =
     let behind : nodes_behind mark t ≡ nodes_behind (mark_of s) t = ap (λ k. nodes_behind k t) m in
     omega (arith, grown_nodes s t g, behind, e, h, small)
 
-pub counted_too_many : (s t : Tables) (mark : Mark) (n r : ℕ) → Grows s t → mark ≡ mark_of s → n ≡ nodes_of s
+pub counted_too_many : (s t : Tables) (mark : Mark) (n r : ℕ) → TablesGrow s t → mark ≡ mark_of s → n ≡ nodes_of s
     → r ≡ min (n + nodes_behind mark t) 18446744073709551615 → 100000 < r → 100000 < nodes_of t
 counted_too_many s t mark n r g m e h large =
     let behind : nodes_behind mark t ≡ nodes_behind (mark_of s) t = ap (λ k. nodes_behind k t) m in

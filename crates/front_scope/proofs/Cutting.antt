@@ -2,14 +2,14 @@
 use Rattle.std.proofs.Common.{◌≡◌, ◌∙◌, ◌≤◌, List, length, take, refl, ap, sym, arith}
 use Rattle.std.proofs.lemmas.List.{length-take}
 use Rattle.front_profile.specs.declared.tables.Tables.{Tables}
-use Rattle.front_profile.specs.Marks.{StandsFirst, Grows}
+use Rattle.front_profile.specs.Marks.{StandsFirst, TablesGrow}
 use Rattle.front_scope.specs.Cuts.{mark_of, ReachesMark, cut_to}
 use Rattle.front_scope.proofs.CutGenerics.{there_reach, there_cut}
 
 reaches : {X : Type 0} (xs ys : List X) → StandsFirst xs ys → length xs ≤ length ys
 reaches xs ys h = omega (arith, ap length h, length-take (length xs) ys)
 
-pub grown_reaches : (s t : Tables) → Grows s t → ReachesMark (mark_of s) t
+pub grown_reaches : (s t : Tables) → TablesGrow s t → ReachesMark (mark_of s) t
 grown_reaches s t g = record {
   literals = reaches s.literals t.literals g.literals;
   procedures = reaches s.procedures t.procedures g.procedures;
@@ -26,10 +26,10 @@ grown_reaches s t g = record {
 }
 
 -- each class says something of slots of its own
-own_cut : (s t : Tables) → Grows s t → length s.classes.own ≡ length s.classes.rows → take (length s.classes.rows) t.classes.own ≡ s.classes.own
+own_cut : (s t : Tables) → TablesGrow s t → length s.classes.own ≡ length s.classes.rows → take (length s.classes.rows) t.classes.own ≡ s.classes.own
 own_cut s t g paired = ap (λ n. take n t.classes.own) (sym paired) ∙ g.slots
 
-pub cut_grown : (s t : Tables) → Grows s t → length s.classes.own ≡ length s.classes.rows → cut_to (mark_of s) t ≡ s
+pub cut_grown : (s t : Tables) → TablesGrow s t → length s.classes.own ≡ length s.classes.rows → cut_to (mark_of s) t ≡ s
 cut_grown s t g paired =
     rw (
       g.words,

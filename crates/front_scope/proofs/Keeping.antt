@@ -9,7 +9,7 @@ use Rattle.base.specs.declared.origin.Origin.{Origin}
 use Rattle.base.specs.declared.origin.Origin.TheVariants.{Prelude, File}
 use Rattle.base.specs.Names.{Extends, Extends-same}
 use Rattle.base.specs.Data.{Item}
-use Rattle.base.specs.GoodData.{Good, good_stays}
+use Rattle.base.specs.WellFormedData.{WellFormed, good_stays}
 use Rattle.lang_meaning.specs.declared.program.ClassRow.{ClassRow}
 use Rattle.lang_meaning.specs.declared.program.SlotRow.{SlotRow}
 use Rattle.lang_meaning.specs.declared.program.GenericRow.{GenericRow}
@@ -23,39 +23,39 @@ use Rattle.lang_classes.specs.InheritedClasses.{Hierarchy}
 use Rattle.lang_classes.specs.InheritedBuiltIn.{AreBuiltIn}
 use Rattle.lang_dispatch.specs.OfClasses.{with_classes}
 use Rattle.front_profile.specs.declared.tables.Tables.{Tables}
-use Rattle.front_profile.specs.Marks.{Grows}
-use Rattle.front_profile.specs.bridge.Growing.{grows_same, grows_at_end}
-use Rattle.front_profile.specs.Nodes.{Around, Standing, stands}
-use Rattle.front_profile.specs.Judged.{Comes}
+use Rattle.front_profile.specs.Marks.{TablesGrow}
+use Rattle.front_profile.specs.bridge.Growing.{tables_grow_reflexive, grows_at_end}
+use Rattle.front_profile.specs.Nodes.{StaticContext, Standing, stands}
+use Rattle.front_profile.specs.Judged.{Elaborates}
 use Rattle.front_profile.specs.Rows.{node}
-use Rattle.front_profile.specs.Between.{WholeBetween, HasNoForm}
-use Rattle.front_profile.specs.Places.{NothingAround}
+use Rattle.front_profile.specs.Between.{TopLevelTables, HasNoForm}
+use Rattle.front_profile.specs.Places.{EmptyContext}
 use Rattle.front_profile.specs.Right.{with_main as with_form}
 use Rattle.front_scope.specs.declared.mark.Mark.{Mark}
 use Rattle.front_scope.specs.Cells.{FewAt}
 use Rattle.front_scope.specs.Cuts.{mark_of}
-use Rattle.front_scope.specs.Scopes.{rows_of, nodes_of, cells_of, most_cells, top, first_tables, Given, IsFirst, IsWhole}
+use Rattle.front_scope.specs.Scopes.{rows_of, nodes_of, cells_of, most_cells, top, first_tables, IsElaborated, AreInitialTables, IsWhole}
 use Rattle.front_scope.proofs.CutGenerics.{same_rows, same_generics}
 
 -- what is known of top-level forms
 pub record TopForms : Type 0 where
-  pub first : (texts : List (List ℕ)) (t : Tables) → AreBuiltIn texts t.classes → HasNoForm t → WholeBetween t
-  pub file : (names : List (List ℕ)) (a : Around) (s : Tables) (d : Item) (m : Standing) → Good (length names) d → NothingAround a →
-      WholeBetween s → Comes names (node names a s d) (stands m) → WholeBetween (with_form m.form m.tables)
-  pub prelude : (names : List (List ℕ)) (a : Around) (s : Tables) (d : Item) (m : Standing) → Good (length names) d → NothingAround a →
-      a.spot.sited ≡ false → WholeBetween s → Comes names (node names a s d) (stands m) → WholeBetween m.tables
+  pub first : (texts : List (List ℕ)) (t : Tables) → AreBuiltIn texts t.classes → HasNoForm t → TopLevelTables t
+  pub file : (names : List (List ℕ)) (a : StaticContext) (s : Tables) (d : Item) (m : Standing) → WellFormed (length names) d → EmptyContext a →
+      TopLevelTables s → Elaborates names (node names a s d) (stands m) → TopLevelTables (with_form m.form m.tables)
+  pub prelude : (names : List (List ℕ)) (a : StaticContext) (s : Tables) (d : Item) (m : Standing) → WellFormed (length names) d → EmptyContext a →
+      a.spot.sited ≡ false → TopLevelTables s → Elaborates names (node names a s d) (stands m) → TopLevelTables m.tables
 
-nothing_around : (origin : Origin) → NothingAround (top origin)
+nothing_around : (origin : Origin) → EmptyContext (top origin)
 nothing_around origin = record { bound = refl; method = refl }
 
-pub given_whole : TopForms → (old names : List (List ℕ)) (origin : Origin) (s : Tables) (d : Item) (t : Tables) → Good (length old) d → Extends old names →
-    WholeBetween s → Given names origin s d t → WholeBetween t
+pub given_whole : TopForms → (old names : List (List ℕ)) (origin : Origin) (s : Tables) (d : Item) (t : Tables) → WellFormed (length old) d → Extends old names →
+    TopLevelTables s → IsElaborated names origin s d t → TopLevelTables t
 given_whole law old names Prelude s d t good x w g =
-    subst (λ (u : Tables). WholeBetween u) (sym g.now)
+    subst (λ (u : Tables). TopLevelTables u) (sym g.now)
     (law.prelude names (top Prelude) s d (record { form = g.form; tables = g.found }) (good_stays old names d x good) (nothing_around Prelude) refl w
     (g.comes.under names (Extends-same names)))
 given_whole law old names File s d t good x w g =
-    subst (λ (u : Tables). WholeBetween u) (sym g.now)
+    subst (λ (u : Tables). TopLevelTables u) (sym g.now)
     (law.file names (top File) s d (record { form = g.form; tables = g.found }) (good_stays old names d x good) (nothing_around File) w
     (g.comes.under names (Extends-same names)))
 
@@ -134,7 +134,7 @@ nothing_left texts t e = record {
   sites = ap (λ (u : Tables). u.sites) e;
 }
 
-pub first_whole : TopForms → (texts : List (List ℕ)) (t : Tables) → IsFirst texts t → WholeBetween t
+pub first_whole : TopForms → (texts : List (List ℕ)) (t : Tables) → AreInitialTables texts t → TopLevelTables t
 first_whole law texts t f = law.first texts t f.classes (nothing_left texts t f.nothing_else)
 
 first_nodes : (t : Tables) → t ≡ first_tables t.words t.classes → nodes_of t ≡ sum_by class_nodes t.classes.rows
@@ -144,10 +144,10 @@ first_nodes t e = ap (λ (u : Tables). nodes_of u) e ∙ omega arith
 first_few : (t : Tables) → t ≡ first_tables t.words t.classes → cells_of t ≤ most_cells
 first_few t e = let none : cells_of t ≡ 0 = ap (λ (u : Tables). cells_of u) e in omega (arith, none)
 
-pub first_is_whole : TopForms → (texts : List (List ℕ)) (t : Tables) (n : ℕ) → IsFirst texts t → n ≡ min (sum_by class_nodes t.classes.rows) 18446744073709551615 →
+pub first_is_whole : TopForms → (texts : List (List ℕ)) (t : Tables) (n : ℕ) → AreInitialTables texts t → n ≡ min (sum_by class_nodes t.classes.rows) 18446744073709551615 →
     (n ≡ nodes_of t) × IsWhole t
 first_is_whole law texts t n f e =
-    let between : WholeBetween t = first_whole law texts t f in
+    let between : TopLevelTables t = first_whole law texts t f in
     let small : sum_by class_nodes t.classes.rows ≤ 100000 = built_in_small texts t.classes f.classes between.classes.begins in
     let nodes : nodes_of t ≡ sum_by class_nodes t.classes.rows = first_nodes t f.nothing_else in
     (omega (arith, e, small, nodes), record { between = between; small = omega (arith, small, nodes); few = first_few t f.nothing_else })
@@ -172,7 +172,7 @@ put_together_whole t cs gs e f h =
     subst (λ hs. is_whole (put_together t cs hs) ≡ true) (sym f) classes
 
 -- a form that defines nothing leaves the cells as few as they were
-pub few_at : (s t : Tables) (mark : Mark) → Grows s t → mark ≡ mark_of s → cells_of s ≤ most_cells → FewAt mark t
+pub few_at : (s t : Tables) (mark : Mark) → TablesGrow s t → mark ≡ mark_of s → cells_of s ≤ most_cells → FewAt mark t
 few_at s t mark g m few = record {
   few = λ classes methods.
       let rows : t.classes.rows ≡ s.classes.rows = same_rows s.classes.rows t.classes.rows g.classes (classes ∙ ap (λ (k : Mark). k.classes) m) in
@@ -183,8 +183,8 @@ few_at s t mark g m few = record {
 }
 
 -- a main form more
-main_grows : (t : Tables) (f : Form) → Grows t (record t { main = t.main ++ f ∷ [] })
-main_grows t f = let g = grows_same t in record {
+main_grows : (t : Tables) (f : Form) → TablesGrow t (record t { main = t.main ++ f ∷ [] })
+main_grows t f = let g = tables_grow_reflexive t in record {
   words = g.words;
   classes = g.classes;
   slots = g.slots;
@@ -204,9 +204,9 @@ main_grows t f = let g = grows_same t in record {
 }
 
 pub pushed_grows : {T E : Type 0} (r : Result T E) (t : Tables) (fs : List Form) (f : Form) → OnOk r (fs ≡ t.main ++ f ∷ []) → OnErr r (fs ≡ t.main) →
-    Grows t (record t { main = fs })
+    TablesGrow t (record t { main = fs })
 pushed_grows (Ok x) t fs f ok err = rw ok (main_grows t f)
-pushed_grows (Err x) t fs f ok err = rw err (grows_same t)
+pushed_grows (Err x) t fs f ok err = rw err (tables_grow_reflexive t)
 
 -- what is counted up to the limit tells whether it is past it
 

@@ -17,8 +17,8 @@ use Rattle.lang_classes.specs.InheritedBuiltIn.{AreBuiltIn}
 use Rattle.front_profile.specs.declared.spot.Spot.{Spot}
 use Rattle.front_profile.specs.declared.tables.ReservedWords.{ReservedWords}
 use Rattle.front_profile.specs.declared.tables.Tables.{Tables}
-use Rattle.front_profile.specs.Between.{WholeBetween}
-use Rattle.front_profile.specs.Nodes.{Around, refused, stands, ended}
+use Rattle.front_profile.specs.Between.{TopLevelTables}
+use Rattle.front_profile.specs.Nodes.{StaticContext, refused, stands, ended}
 use Rattle.front_profile.specs.Promises.{FormComes}
 
 -- where a top-level form stands: forms of a file have sites
@@ -29,7 +29,7 @@ is_of_file File = true
 abbrev pub top_spot : Origin → Spot
 top_spot origin = record { depth = 0; top = true; in_method = false; sited = is_of_file origin }
 
-abbrev pub top : Origin → Around
+abbrev pub top : Origin → StaticContext
 top origin = record { bound = []; spot = top_spot origin }
 
 -- a form of a file is a main form; one of the prelude is none
@@ -63,12 +63,12 @@ most_cells = 262144
 
 -- tables that are a whole program, within the limits of nodes and cells
 pub record IsWhole (t : Tables) : Type 0 where
-  pub between : WholeBetween t
+  pub between : TopLevelTables t
   pub small : nodes_of t ≤ most_nodes
   pub few : cells_of t ≤ most_cells
 
 -- the datum stands for that form, which gives these tables
-pub record Given (names : List (List ℕ)) (origin : Origin) (s : Tables) (d : Item) (t : Tables) : Type 0 where
+pub record IsElaborated (names : List (List ℕ)) (origin : Origin) (s : Tables) (d : Item) (t : Tables) : Type 0 where
   pub form : Form
   pub found : Tables
   pub comes : FormComes names (top origin) s d (stands (record { form = form; tables = found }))
@@ -76,19 +76,19 @@ pub record Given (names : List (List ℕ)) (origin : Origin) (s : Tables) (d : I
 
 -- it is taken where the program stays within the limits of nodes and cells
 pub record IsTaken (names : List (List ℕ)) (origin : Origin) (s : Tables) (d : Item) (t : Tables) : Type 0 where
-  pub given : Given names origin s d t
+  pub given : IsElaborated names origin s d t
   pub small : nodes_of t ≤ most_nodes
   pub few : cells_of t ≤ most_cells
 
 -- else it is too large, as a whole: by its nodes, or else by its cells
 pub record IsTooLarge (names : List (List ℕ)) (origin : Origin) (s : Tables) (d : Item) : Type 0 where
   pub tables : Tables
-  pub given : Given names origin s d tables
+  pub given : IsElaborated names origin s d tables
   pub large : most_nodes < nodes_of tables
 
 pub record HasManyCells (names : List (List ℕ)) (origin : Origin) (s : Tables) (d : Item) : Type 0 where
   pub tables : Tables
-  pub given : Given names origin s d tables
+  pub given : IsElaborated names origin s d tables
   pub small : nodes_of tables ≤ most_nodes
   pub many : most_cells < cells_of tables
 
@@ -101,10 +101,10 @@ IsRefusedWhole names origin s d r =
     (IsTooLarge names origin s d × (r ≡ at_form d ProgramTooLarge)) ⊎ (HasManyCells names origin s d × (r ≡ at_form d DispatchTooLarge))
 
 -- a stop: the first offence, or a program that is too large with the form; or want of memory
-abbrev pub IsStopped : List (List ℕ) → Origin → Tables → Item → Stop → Type 0
-IsStopped names origin s d (Refused r) =
+abbrev pub IsFormStopped : List (List ℕ) → Origin → Tables → Item → Stop → Type 0
+IsFormStopped names origin s d (Refused r) =
     FormComes names (top origin) s d (ended (refused r.place r.reason)) ⊎ IsRefusedWhole names origin s d r
-IsStopped names origin s d NoMemory = Unit {0}
+IsFormStopped names origin s d NoMemory = Unit {0}
 
 -- the words that no variable has
 pub record AreWords (names : List (List ℕ)) (words : ReservedWords) : Type 0 where
@@ -134,7 +134,7 @@ first_tables words classes = record {
 }
 
 -- the tables in front of all forms: the words, the built-in classes, and nothing else
-pub record IsFirst (names : List (List ℕ)) (t : Tables) : Type 0 where
+pub record AreInitialTables (names : List (List ℕ)) (t : Tables) : Type 0 where
   pub words : AreWords names t.words
   pub classes : AreBuiltIn names t.classes
   pub nothing_else : t ≡ first_tables t.words t.classes

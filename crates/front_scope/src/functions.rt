@@ -2,7 +2,7 @@
 
 ghost use Rattle.std.specs.Prelude.{◌≡◌, false, ◌++◌, IfOk, OnOk};
 ghost use Rattle.front_profile.specs.FunctionNodes as node;
-ghost use Rattle.front_profile.specs.Marks.{Grows};
+ghost use Rattle.front_profile.specs.Marks.{TablesGrow};
 ghost use Rattle.front_profile.specs.Nodes.{initform, accessor, method};
 ghost use Rattle.front_profile.specs.RowWords as word;
 ghost use Rattle.front_profile.specs.Shapes.{all_symbols};
@@ -11,7 +11,7 @@ ghost use Rattle.front_scope.specs.Walk.{IsWorkOf, StandsAlone};
 
 use base::{Datum, FreshList, Kind, Name, NoMemory, Symbol};
 use front_drafts::{Inner, Part, Parts, Work, Written};
-use front_profile::{Accessor, BoundList, Made, Making, Parameters, Spot, Tables};
+use front_profile::{Accessor, BoundList, Elaboration, Made, Parameters, Spot, Tables};
 use lang_meaning::{LiteralRow, Var};
 use std::alloc::Global;
 
@@ -78,7 +78,7 @@ fn work_there<'a>(
     spot: Spot,
     parts: Parts<'a>,
     inner: Inner<'a>,
-    making: Making,
+    making: Elaboration,
 ) -> Work<'a>
     ensures { StandsAlone spot (view_parts parts.entry ++ view_inner inner.entry) making result }
 {
@@ -106,7 +106,7 @@ fn variables_of(accessor: Accessor) -> Var
 // The tables take the variables of a slot's method, and the slot's name as a literal.
 fn take_accessor(tables: &mut Tables, kind: Accessor, slot: Datum) -> Result<(), NoMemory>
     ensures ok { OnOk result (tables.new ≡ node.with_accessor kind slot tables.old) }
-    ensures grows { Grows tables.old tables.new }
+    ensures grows { TablesGrow tables.old tables.new }
 {
     let Some(behind) = tables.variables.checked_add(variables_of(kind)) else {
         drop(slot);
@@ -128,7 +128,7 @@ fn initform_work<'a>(
 {
     let mut inner = Inner::new(alloc);
     inner.push(datum)?;
-    let making = Making::OfProcedure(None, 0, false);
+    let making = Elaboration::OfProcedure(None, 0, false);
     let parts = Parts::new(alloc);
     Ok(work_there(alloc, alone_spot(spot, false), parts, inner, making))
 }
@@ -143,9 +143,9 @@ fn accessor_work<'a>(
     slot: Datum,
 ) -> Result<Work<'a>, NoMemory>
     ensures work { IfOk result (IsWorkOf spot tables.old tables.new (accessor name kind slot)) }
-    ensures grows { Grows tables.old tables.new }
+    ensures grows { TablesGrow tables.old tables.new }
 {
-    let making = Making::OfAccessor(name, kind, tables.variables, tables.literals.len());
+    let making = Elaboration::OfAccessor(name, kind, tables.variables, tables.literals.len());
     let Ok(()) = take_accessor(tables, kind, slot) else {
         drop(making);
         return Err(NoMemory);
@@ -169,7 +169,7 @@ fn method_work<'a>(
     let parts = parameter_parts(alloc, parameters)?;
     let inner = inner_forms(alloc, forms)?;
     let required = parameters.required.len();
-    let making = Making::OfProcedure(Some(name), required, parameters.rest.is_some());
+    let making = Elaboration::OfProcedure(Some(name), required, parameters.rest.is_some());
     Ok(work_there(alloc, alone_spot(spot, has_next), parts, inner, making))
 }
 
@@ -181,7 +181,7 @@ pub(crate) fn function_work<'a>(
     written: &Written<'a>,
 ) -> Result<Work<'a>, NoMemory>
     ensures work { IfOk result (IsWorkOf spot tables.old tables.new (view_function written.now)) }
-    ensures grows { Grows tables.old tables.new }
+    ensures grows { TablesGrow tables.old tables.new }
 {
     match written {
         Written::Initform(datum) => initform_work(alloc, tables, spot, *datum),

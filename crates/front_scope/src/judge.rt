@@ -1,7 +1,7 @@
 // Judging a form: what it is, then its parts one after another, then the core form that is made of them.
 
 ghost use Rattle.std.specs.Prelude.{◌≡◌, ◌++◌, [], length};
-ghost use Rattle.base.specs.GoodData.{Good};
+ghost use Rattle.base.specs.WellFormedData.{WellFormed};
 ghost use Rattle.front_profile.specs.Promises.{FormStops, PlainStops};
 ghost use Rattle.front_profile.specs.Walks.{PartTaken, PartStops, PartsStop, WholeStops};
 ghost use Rattle.front_profile.specs.FunctionNodes.{function_node};
@@ -15,7 +15,7 @@ use crate::keep::{complete_found, keep_binding, keep_value, take_parameter, take
 use base::{Datum, Names, Refusal, Stop};
 use front_context::Bindings;
 use front_drafts::{Here, Inner, Part, Parts, Plan, Work, Written, deeper};
-use front_elaboration::{Formed, Kept};
+use front_elaboration::{Formed, FoundParts};
 use front_forms::{plain_plan, settle};
 use front_profile::whole_laws::{law_known, law_suits};
 use front_profile::{BoundList, Spot, Tables};
@@ -40,7 +40,7 @@ pub(crate) fn judge(
     datum: &Datum,
 ) -> Result<Formed, Stop>
     requires known { KnownTables tables.old }
-    requires good { Good (length names.old) datum.now }
+    requires good { WellFormed (length names.old) datum.now }
     ensures { Walked names.old names.new tables.old tables.new bound.old bound.new result
         (FormGives names.new (at bound.old spot) tables.old datum.now tables.new)
         (FormStops names.new (at bound.old spot) tables.old datum.now) }
@@ -66,7 +66,7 @@ fn judge_plain(
     datum: &Datum,
 ) -> Result<Formed, Stop>
     requires known { KnownTables tables.old }
-    requires good { Good (length names.old) datum.now }
+    requires good { WellFormed (length names.old) datum.now }
     ensures { Walked names.old names.new tables.old tables.new bound.old bound.new result
         (PlainGives names.new (at bound.old spot) tables.old datum.now tables.new)
         (PlainStops names.new (at bound.old spot) tables.old datum.now) }
@@ -111,7 +111,7 @@ fn carry_out<'a>(
         inside: work.inside,
     };
     let binds = work.binds;
-    let mut found = Kept::new(alloc);
+    let mut found = FoundParts::new(alloc);
     let walked = judge_all(
         alloc,
         names,
@@ -141,7 +141,7 @@ fn judge_all(
     parts: &Parts,
     inner: &Inner,
     binds: BoundList,
-    found: &mut Kept,
+    found: &mut FoundParts,
 ) -> Result<(), Stop>
     requires known { KnownTables tables.old }
     requires sound { AllSound (length names.old) (weight spot) (at bound.old spots.outside) (at (bound.old ++ binds) spots.inside) (view_parts parts.now ++ view_inner inner.now) }
@@ -175,7 +175,7 @@ fn judge_part(
     spots: Spots,
     part: &Part,
     binds: &mut BoundList,
-    found: &mut Kept,
+    found: &mut FoundParts,
 ) -> Result<(), Stop>
     requires known { KnownTables tables.old }
     requires sound { SoundPart (length names.old) (weight spot) (at bound.old spots.outside) (at (bound.old ++ binds.old) spots.inside) (view_part part.now) }
@@ -246,7 +246,7 @@ fn judge_parts(
     spots: Spots,
     parts: &Parts,
     binds: &mut BoundList,
-    found: &mut Kept,
+    found: &mut FoundParts,
 ) -> Result<(), Stop>
     requires known { KnownTables tables.old }
     requires sound { AllSound (length names.old) (weight spot) (at bound.old spots.outside) (at (bound.old ++ binds.old) spots.inside) (view_parts parts.now) }
@@ -273,7 +273,7 @@ fn judge_inner(
     spot: Spot,
     spots: Spots,
     inner: &Inner,
-    found: &mut Kept,
+    found: &mut FoundParts,
 ) -> Result<(), Stop>
     requires known { KnownTables tables.old }
     requires sound { AllSound (length names.old) (weight spot) (at bound.old spots.outside) (at bound.old spots.inside) (view_inner inner.now) }
@@ -297,10 +297,10 @@ fn judge_value(
     bound: &mut Bindings,
     spot: Spot,
     datum: &Datum,
-    found: &mut Kept,
+    found: &mut FoundParts,
 ) -> Result<(), Stop>
     requires known { KnownTables tables.old }
-    requires good { Good (length names.old) datum.now }
+    requires good { WellFormed (length names.old) datum.now }
     ensures { Walked names.old names.new tables.old tables.new bound.old bound.new result
         (λ _. ValueFound names.new (at bound.old spot) tables.old datum.now found.old tables.new found.new)
         (FormStops names.new (at bound.old spot) tables.old datum.now) }

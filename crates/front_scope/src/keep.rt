@@ -2,12 +2,12 @@
 
 ghost use Rattle.std.specs.Prelude.{◌≡◌, OnOk, IfOk};
 ghost use Rattle.front_profile.specs.Judged.{with_variable};
-ghost use Rattle.front_profile.specs.Marks.{Grows};
+ghost use Rattle.front_profile.specs.Marks.{TablesGrow};
 ghost use Rattle.front_profile.specs.Suits.{Suits};
 ghost use Rattle.front_scope.specs.Walk.{Completes, KeepsBinding, KeepsValue, TakesParameter};
 
 use base::{NoMemory, Stop, Symbol};
-use front_elaboration::{Formed, Kept, complete};
+use front_elaboration::{Formed, FoundParts, complete};
 use front_profile::{Bound, BoundList, Made, Tables};
 use lang_meaning::Var;
 use std::alloc::Global;
@@ -16,7 +16,7 @@ use std::alloc::Global;
 pub(crate) fn take_variable(tables: &mut Tables) -> Result<Var, NoMemory>
     ensures ok { OnOk result (tables.new ≡ with_variable tables.old) }
     ensures variable { IfOk result (λ variable. variable ≡ tables.old.variables) }
-    ensures grows { Grows tables.old tables.new }
+    ensures grows { TablesGrow tables.old tables.new }
 {
     let variable = tables.variables;
     let Some(behind) = variable.checked_add(1) else {
@@ -27,7 +27,7 @@ pub(crate) fn take_variable(tables: &mut Tables) -> Result<Var, NoMemory>
 }
 
 /// A form's value behind what was found, unless the form has stopped.
-pub(crate) fn keep_value(form: Result<Formed, Stop>, found: &mut Kept) -> Result<(), Stop>
+pub(crate) fn keep_value(form: Result<Formed, Stop>, found: &mut FoundParts) -> Result<(), Stop>
     ensures { KeepsValue form found.old result found.new }
 {
     match form {
@@ -42,7 +42,7 @@ pub(crate) fn keep_binding(
     variable: Var,
     form: Result<Formed, Stop>,
     binds: &mut BoundList,
-    found: &mut Kept,
+    found: &mut FoundParts,
 ) -> Result<(), Stop>
     ensures { KeepsBinding symbol variable form binds.old found.old result binds.new found.new }
 {
@@ -59,10 +59,10 @@ pub(crate) fn take_parameter(
     tables: &mut Tables,
     symbol: Symbol,
     binds: &mut BoundList,
-    found: &mut Kept,
+    found: &mut FoundParts,
 ) -> Result<(), Stop>
     ensures taken { TakesParameter symbol tables.old binds.old found.old result tables.new binds.new found.new }
-    ensures grows { Grows tables.old tables.new }
+    ensures grows { TablesGrow tables.old tables.new }
 {
     let variable = take_variable(tables)?;
     binds.push(Bound::Variable(symbol, variable))?;
@@ -74,7 +74,7 @@ pub(crate) fn complete_found(
     alloc: Global,
     walked: Result<(), Stop>,
     made: Made,
-    found: Kept,
+    found: FoundParts,
     tables: &mut Tables,
 ) -> Result<Formed, Stop>
     requires suits { OnOk walked (Suits made.making tables.old) }

@@ -1,16 +1,16 @@
 // The scope: what the top-level forms so far have defined, and the verdict on the next one.
 
 ghost use Rattle.std.specs.Prelude.{◌≡◌, length, OnOk, OnErr, IfOk, IfErr};
-ghost use Rattle.base.specs.GoodData.{Good};
+ghost use Rattle.base.specs.WellFormedData.{WellFormed};
 ghost use Rattle.base.specs.Data.{place_of};
 ghost use Rattle.base.specs.Names.{Extends};
-ghost use Rattle.front_profile.specs.Marks.{Grows};
+ghost use Rattle.front_profile.specs.Marks.{TablesGrow};
 ghost use Rattle.front_profile.specs.Definitions.{SoundTables};
 ghost use Rattle.front_scope.specs.Cuts.{mark_of};
 ghost use Rattle.front_profile.specs.Promises.{FormStops};
 ghost use Rattle.front_profile.specs.Known.{KnownTables};
 ghost use Rattle.front_scope.specs.Walk.{FormGives};
-ghost use Rattle.front_scope.specs.Scopes.{top, top_spot, with_main, rows_of, nodes_of, IsWhole, Given, IsTaken, IsStopped, IsFirst};
+ghost use Rattle.front_scope.specs.Scopes.{top, top_spot, with_main, rows_of, nodes_of, IsWhole, IsElaborated, IsTaken, IsFormStopped, AreInitialTables};
 
 use crate::cells::has_too_many_cells;
 use crate::counts::with_added;
@@ -76,7 +76,7 @@ fn top_spot(origin: Origin) -> Spot
 // A form of a file is a main form.
 fn add_main(origin: Origin, form: Core, tables: &mut Tables) -> Result<(), NoMemory>
     ensures ok { OnOk result (tables.new ≡ with_main origin form tables.old) }
-    ensures grows { Grows tables.old tables.new }
+    ensures grows { TablesGrow tables.old tables.new }
 {
     match origin {
         Origin::Prelude => {
@@ -95,12 +95,12 @@ fn judge_alone(
     datum: &Datum,
     origin: Origin,
 ) -> Result<Formed, Stop>
-    requires good { Good (length names.old) datum.now }
+    requires good { WellFormed (length names.old) datum.now }
     requires known { KnownTables tables.old }
     ensures gives { IfOk result (FormGives names.new (top origin) tables.old datum.now tables.new) }
     ensures stops { IfErr result (FormStops names.new (top origin) tables.old datum.now) }
     ensures names { Extends names.old names.new }
-    ensures grows { Grows tables.old tables.new }
+    ensures grows { TablesGrow tables.old tables.new }
 {
     let mut bound = Bindings::new(alloc);
     let form = judge(alloc, names, tables, &mut bound, top_spot(origin), datum);
@@ -116,12 +116,12 @@ fn judge_top(
     datum: &Datum,
     origin: Origin,
 ) -> Result<(), Stop>
-    requires good { Good (length names.old) datum.now }
+    requires good { WellFormed (length names.old) datum.now }
     requires sound { SoundTables tables.old }
-    ensures given { OnOk result (Given names.new origin tables.old datum.now tables.new) }
-    ensures stop { IfErr result (IsStopped names.new origin tables.old datum.now) }
+    ensures given { OnOk result (IsElaborated names.new origin tables.old datum.now tables.new) }
+    ensures stop { IfErr result (IsFormStopped names.new origin tables.old datum.now) }
     ensures names { Extends names.old names.new }
-    ensures grows { Grows tables.old tables.new }
+    ensures grows { TablesGrow tables.old tables.new }
 {
     law_suits();
     let form = judge_alone(alloc, names, tables, datum, origin)?;
@@ -149,16 +149,16 @@ fn take_form(
     datum: &Datum,
     origin: Origin,
 ) -> Result<u64, Stop>
-    requires good { Good (length names.old) datum.now }
+    requires good { WellFormed (length names.old) datum.now }
     requires mark { mark.now ≡ mark_of tables.old }
     requires nodes { nodes ≡ nodes_of tables.old }
     requires whole { IsWhole tables.old }
     ensures taken { OnOk result (IsTaken names.new origin tables.old datum.now tables.new) }
     ensures nodes { IfOk result (λ nodes. nodes ≡ nodes_of tables.new) }
     ensures whole { OnOk result (IsWhole tables.new) }
-    ensures stop { IfErr result (IsStopped names.new origin tables.old datum.now) }
+    ensures stop { IfErr result (IsFormStopped names.new origin tables.old datum.now) }
     ensures names { Extends names.old names.new }
-    ensures grows { Grows tables.old tables.new }
+    ensures grows { TablesGrow tables.old tables.new }
 {
     law_top_forms();
     judge_top(alloc, names, tables, datum, origin)?;
@@ -176,7 +176,7 @@ impl Scope {
     /// The scope in front of all forms: the built-in classes and no definition. The table of names
     /// keeps its names and may have gained some, after `NoMemory` too.
     pub fn new(alloc: Global, names: &mut Names) -> Result<Scope, NoMemory>
-        ensures first { IfOk result (IsFirst names.new) }
+        ensures first { IfOk result (AreInitialTables names.new) }
         ensures names { Extends names.old names.new }
     {
         law_top_forms();
@@ -197,9 +197,9 @@ impl Scope {
     /// nodes with it, and by `DispatchTooLarge` where its dispatch tables have more than 262,144 cells with it. The
     /// scope is unchanged after a stop; the table of names keeps its names and may have gained some. Condition: the datum is in form, and its names are in the table.
     pub fn form(&mut self, names: &mut Names, datum: &Datum, origin: Origin) -> Result<(), Stop>
-        requires good { Good (length names.old) datum.now }
+        requires good { WellFormed (length names.old) datum.now }
         ensures taken { OnOk result (IsTaken names.new origin self.old datum.now self.new) }
-        ensures stop { IfErr result (IsStopped names.new origin self.old datum.now) }
+        ensures stop { IfErr result (IsFormStopped names.new origin self.old datum.now) }
         ensures unchanged { OnErr result (self.new ≡ self.old) }
         ensures names { Extends names.old names.new }
     {

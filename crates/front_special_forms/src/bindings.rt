@@ -6,7 +6,7 @@ ghost use Rattle.front_profile.specs.RowWords.{each_bound};
 ghost use Rattle.front_profile.specs.BindingRows as row;
 ghost use Rattle.front_profile.specs.Names.{parts_around};
 ghost use Rattle.front_profile.specs.Shapes.{symbol_of, all_symbols, pairs_in, parameters_in};
-ghost use Rattle.front_profile.specs.declared.making.Making.TheVariants.{OfVariables, OfFunction};
+ghost use Rattle.front_profile.specs.declared.elaboration.Elaboration.TheVariants.{OfVariables, OfFunction};
 ghost use Rattle.front_drafts.specs.Drafts.{around, shows, Draws};
 ghost use Rattle.front_drafts.specs.Views.{view_parts};
 ghost use Rattle.front_syntax.specs.Views.{view_pairs};
@@ -15,9 +15,9 @@ use crate::bound::parts_around;
 use crate::inside::with_inside;
 use base::{Datum, NameList, NoMemory, Reason};
 use front_drafts::draft::{Bindings, Draft, Note, made_of, made_within, offence};
-use front_drafts::here::{Setting, deeper, fits_depth};
+use front_drafts::here::{FormContext, deeper, fits_depth};
 use front_drafts::plan::{Part, Parts, inner_forms, parameter_parts, push_below, push_form};
-use front_profile::{Bound, BoundList, Making, Parameters};
+use front_profile::{Bound, BoundList, Elaboration, Parameters};
 use front_syntax::shapes::{PairList, name_of, pairs_in, parameters_in, symbol_of};
 use std::alloc::Global;
 
@@ -33,7 +33,7 @@ fn bound_parts<'a>(alloc: Global, pairs: &PairList<'a>) -> Result<Parts<'a>, NoM
 }
 
 // What stands in the place of a list of bindings and is none, in a form with so many core forms of its own.
-fn no_bindings<'a>(here: Setting, own: u32, list: &Datum) -> Draft<'a>
+fn no_bindings<'a>(here: FormContext, own: u32, list: &Datum) -> Draft<'a>
     ensures { shows here.entry result
         ≡ word.within_depth own (around here.entry) here.entry.place (word.bad_binding list.now) }
 {
@@ -46,7 +46,7 @@ fn no_bindings<'a>(here: Setting, own: u32, list: &Datum) -> Draft<'a>
 
 // Variables with their values round a body.
 fn variables<'a>(
-    here: Setting,
+    here: FormContext,
     pairs: &PairList<'a>,
     forms: &'a [Datum],
 ) -> Result<Draft<'a>, NoMemory>
@@ -61,12 +61,12 @@ fn variables<'a>(
         deeper(here.spot, 2),
         parts,
         forms,
-        Making::OfVariables,
+        Elaboration::OfVariables,
     )
 }
 
 /// `(let ((v x)*) f*)`
-pub fn let_draft<'a>(here: Setting, items: &'a [Datum]) -> Result<Draft<'a>, NoMemory>
+pub fn let_draft<'a>(here: FormContext, items: &'a [Datum]) -> Result<Draft<'a>, NoMemory>
     ensures { Draws here.entry
         (row.let_row (around here.entry) here.entry.tables.now here.entry.place items.now) result }
 {
@@ -83,7 +83,7 @@ pub fn let_draft<'a>(here: Setting, items: &'a [Datum]) -> Result<Draft<'a>, NoM
 }
 
 // The names of these bindings, none where one has no name.
-fn names_of(here: Setting, pairs: &PairList) -> Result<Option<NameList>, NoMemory>
+fn names_of(here: FormContext, pairs: &PairList) -> Result<Option<NameList>, NoMemory>
     ensures { IfOk result (λ names. names ≡ row.names_of (view_pairs pairs.now)) }
 {
     let mut names = NameList::new(here.alloc);
@@ -97,7 +97,7 @@ fn names_of(here: Setting, pairs: &PairList) -> Result<Option<NameList>, NoMemor
 }
 
 // Their values.
-fn values_of<'a>(here: Setting, pairs: &PairList<'a>) -> Result<Parts<'a>, NoMemory>
+fn values_of<'a>(here: FormContext, pairs: &PairList<'a>) -> Result<Parts<'a>, NoMemory>
     ensures { IfOk result (λ parts. view_parts parts ≡ row.values_of (view_pairs pairs.now)) }
 {
     let mut parts = Parts::new(here.alloc);
@@ -109,7 +109,7 @@ fn values_of<'a>(here: Setting, pairs: &PairList<'a>) -> Result<Parts<'a>, NoMem
 
 // Dynamic variables of these names, bound to these values round a body.
 fn dynamics<'a>(
-    here: Setting,
+    here: FormContext,
     pairs: &PairList<'a>,
     names: NameList,
     forms: &'a [Datum],
@@ -119,12 +119,18 @@ fn dynamics<'a>(
 {
     let mut parts = values_of(here, pairs)?;
     push_below(&mut parts, forms)?;
-    Ok(made_within(here, Note::Nothing, 2, parts, Making::OfDynamics(names)))
+    Ok(made_within(
+        here,
+        Note::Nothing,
+        2,
+        parts,
+        Elaboration::OfDynamics(names),
+    ))
 }
 
 // Dynamic variables of these bindings, where each has a name.
 fn named_dynamics<'a>(
-    here: Setting,
+    here: FormContext,
     pairs: &PairList<'a>,
     forms: &'a [Datum],
 ) -> Result<Draft<'a>, NoMemory>
@@ -138,7 +144,7 @@ fn named_dynamics<'a>(
 }
 
 /// `(dynamic-let ((v x)*) f*)`: dynamic variables have names.
-pub fn dynamic_let_draft<'a>(here: Setting, items: &'a [Datum]) -> Result<Draft<'a>, NoMemory>
+pub fn dynamic_let_draft<'a>(here: FormContext, items: &'a [Datum]) -> Result<Draft<'a>, NoMemory>
     ensures { Draws here.entry
         (row.dynamic_let_row (around here.entry) here.entry.tables.now here.entry.place items.now) result }
 {
@@ -153,7 +159,7 @@ pub fn dynamic_let_draft<'a>(here: Setting, items: &'a [Datum]) -> Result<Draft<
 
 // A function of these parameters.
 fn function<'a>(
-    here: Setting,
+    here: FormContext,
     parameters: &Parameters,
     forms: &'a [Datum],
 ) -> Result<Draft<'a>, NoMemory>
@@ -164,7 +170,11 @@ fn function<'a>(
         (OfFunction (length parameters.now.required) (is_some parameters.now.rest) (parts_around here.entry.bound.now here.entry.spot.in_method))) result }
 {
     let around = parts_around(here.alloc, here.bound, here.spot.in_method)?;
-    let making = Making::OfFunction(parameters.required.len(), parameters.rest.is_some(), around);
+    let making = Elaboration::OfFunction(
+        parameters.required.len(),
+        parameters.rest.is_some(),
+        around,
+    );
     let Ok(parts) = parameter_parts(here.alloc, parameters) else {
         drop(making);
         return Err(NoMemory);
@@ -173,7 +183,7 @@ fn function<'a>(
 }
 
 /// `(lambda lambda-list f*)`
-pub fn lambda_draft<'a>(here: Setting, items: &'a [Datum]) -> Result<Draft<'a>, NoMemory>
+pub fn lambda_draft<'a>(here: FormContext, items: &'a [Datum]) -> Result<Draft<'a>, NoMemory>
     ensures { Draws here.entry
         (row.lambda_row (around here.entry) here.entry.tables.now here.entry.place items.now) result }
 {
@@ -190,7 +200,7 @@ pub fn lambda_draft<'a>(here: Setting, items: &'a [Datum]) -> Result<Draft<'a>, 
 }
 
 // The local functions of a list, each the value of a variable around; none where one is not.
-fn functions_of(here: Setting, pairs: &PairList) -> Result<Option<BoundList>, NoMemory>
+fn functions_of(here: FormContext, pairs: &PairList) -> Result<Option<BoundList>, NoMemory>
     ensures { IfOk result (λ functions. functions ≡ row.functions_of (around here.entry) (view_pairs pairs.now)) }
 {
     let mut functions = BoundList::new(here.alloc);
@@ -208,7 +218,7 @@ fn functions_of(here: Setting, pairs: &PairList) -> Result<Option<BoundList>, No
 
 // A body with these local functions around.
 fn with_these<'a>(
-    here: Setting,
+    here: FormContext,
     kept: bool,
     functions: BoundList,
     forms: &'a [Datum],
@@ -234,12 +244,12 @@ fn with_these<'a>(
         parts: Parts::new(here.alloc),
         inner,
     };
-    Ok(made_of(here, Note::Nothing, work, Making::InSequence))
+    Ok(made_of(here, Note::Nothing, work, Elaboration::InSequence))
 }
 
 // A body with the local functions of these bindings around, where each is one.
 fn with_each<'a>(
-    here: Setting,
+    here: FormContext,
     kept: bool,
     pairs: &PairList,
     forms: &'a [Datum],
@@ -256,7 +266,7 @@ fn with_each<'a>(
 /// `(%with-functions ((g v)*) f*)`: in the body each g is the function that is the value of the variable
 /// v. The language keeps one of these names or not.
 pub fn with_functions_draft<'a>(
-    here: Setting,
+    here: FormContext,
     kept: bool,
     items: &'a [Datum],
 ) -> Result<Draft<'a>, NoMemory>

@@ -2,25 +2,25 @@
 
 ghost use Rattle.std.specs.Prelude.{◌≡◌, ◌+◌, ◌<◌, ◌++◌, ◌∷◌, [], ◌&&◌};
 ghost use Rattle.front_profile.specs.CallRows as row;
-ghost use Rattle.front_profile.specs.declared.making.Making.TheVariants.{CallOfValue};
+ghost use Rattle.front_profile.specs.declared.elaboration.Elaboration.TheVariants.{CallOfValue};
 ghost use Rattle.front_drafts.specs.Drafts.{around, Draws};
 ghost use Rattle.front_drafts.specs.Views.{view_parts};
 ghost use Rattle.front_profile.specs.RowWords as word;
 
 use base::{Datum, Name, NoMemory};
 use front_drafts::draft::{Draft, Note, made_within};
-use front_drafts::here::Setting;
+use front_drafts::here::FormContext;
 use front_drafts::plan::{Parts, one_form, push_forms};
-use front_profile::Making;
+use front_profile::Elaboration;
 use front_syntax::primitives::primitive_called;
 use lang_meaning::{OverTwo, Primitive, Var};
 
 /// A form with so many core forms of its own, all of whose parts stand where it stands: these, and behind them these forms.
 pub(crate) fn with_forms<'a>(
-    here: Setting,
+    here: FormContext,
     own: u32,
     parts: Parts<'a>,
-    making: Making,
+    making: Elaboration,
     items: &'a [Datum],
 ) -> Result<Draft<'a>, NoMemory>
     ensures { Draws here.entry
@@ -39,7 +39,7 @@ pub(crate) fn with_forms<'a>(
 
 /// A lambda form: the call of the function that its head gives, the operator first.
 pub fn value_call_draft<'a>(
-    here: Setting,
+    here: FormContext,
     head: &'a Datum,
     items: &'a [Datum],
 ) -> Result<Draft<'a>, NoMemory>
@@ -47,12 +47,12 @@ pub fn value_call_draft<'a>(
         (row.all_parts CallOfValue (around here.entry) here.entry.tables.now here.entry.place (head.now ∷ items.now)) result }
 {
     let parts = one_form(here.alloc, head)?;
-    with_forms(here, 1, parts, Making::CallOfValue, items)
+    with_forms(here, 1, parts, Elaboration::CallOfValue, items)
 }
 
 /// The call of a local function: a variable, and its name a form of its own inside the call.
 pub fn local_call_draft<'a>(
-    here: Setting,
+    here: FormContext,
     variable: Var,
     items: &'a [Datum],
 ) -> Result<Draft<'a>, NoMemory>
@@ -60,16 +60,16 @@ pub fn local_call_draft<'a>(
         (row.local_call variable (around here.entry) here.entry.tables.now here.entry.place items.now) result }
 {
     let parts = Parts::new(here.alloc);
-    with_forms(here, 2, parts, Making::CallOfLocal(variable), items)
+    with_forms(here, 2, parts, Elaboration::CallOfLocal(variable), items)
 }
 
 // A call of a primitive, or of the function of a name.
-fn named_making(name: Name, primitive: Option<Primitive>) -> Making
+fn named_making(name: Name, primitive: Option<Primitive>) -> Elaboration
     ensures { result ≡ row.named_making name primitive }
 {
     match primitive {
-        Some(primitive) => Making::CallOfPrimitive(primitive),
-        None => Making::CallOf(name),
+        Some(primitive) => Elaboration::CallOfPrimitive(primitive),
+        None => Elaboration::CallOf(name),
     }
 }
 
@@ -88,15 +88,15 @@ fn is_pair_call(text: &[u8], name: &[u8], count: usize) -> bool
 }
 
 // What a call of a name is, by its arguments.
-fn call_making(name: Name, text: &[u8], count: usize) -> Making
+fn call_making(name: Name, text: &[u8], count: usize) -> Elaboration
     ensures { result ≡ row.call_making name text.now count }
 {
     if is_value_call(text, count) {
-        Making::CallOfValue
+        Elaboration::CallOfValue
     } else if is_pair_call(text, b"signal-condition", count) {
-        Making::OfTwo(OverTwo::Signal)
+        Elaboration::OfTwo(OverTwo::Signal)
     } else if is_pair_call(text, b"continue-condition", count) {
-        Making::OfTwo(OverTwo::Continue)
+        Elaboration::OfTwo(OverTwo::Continue)
     } else {
         named_making(name, primitive_called(text, count))
     }
@@ -104,7 +104,7 @@ fn call_making(name: Name, text: &[u8], count: usize) -> Making
 
 /// The call of a name: of a function object, a signal, a primitive, or the function of that name.
 pub fn named_call_draft<'a>(
-    here: Setting,
+    here: FormContext,
     name: Name,
     text: &[u8],
     items: &'a [Datum],

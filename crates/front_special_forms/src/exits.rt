@@ -12,13 +12,13 @@ ghost use Rattle.front_drafts.specs.Views.{view_inner};
 
 use base::{Datum, NoMemory, Reason, Symbol};
 use front_drafts::draft::{Bindings, Draft, Note, made_at_once, made_of, offence, one_part};
-use front_drafts::here::{Setting, deeper, fits_depth};
+use front_drafts::here::{FormContext, deeper, fits_depth};
 use front_drafts::plan::{Inner, Parts, inner_forms};
-use front_profile::{Bound, BoundList, Leaf, Making, One};
+use front_profile::{Bound, BoundList, Elaboration, Leaf, One};
 use front_syntax::shapes::{all_differ, forms_in, lengths_in, symbol_of, tags_in};
 
 // What is not around, by its symbol: a fresh one is a bad shape.
-fn no_such<'a>(here: Setting, reason: Reason, symbol: Symbol) -> Draft<'a>
+fn no_such<'a>(here: FormContext, reason: Reason, symbol: Symbol) -> Draft<'a>
     ensures { shows here.entry result ≡ word.no_such here.entry.place reason (shape.name_of symbol) }
 {
     match symbol {
@@ -29,10 +29,10 @@ fn no_such<'a>(here: Setting, reason: Reason, symbol: Symbol) -> Draft<'a>
 
 // A body with an exit, which is bound in these forms.
 fn exit_form<'a>(
-    here: Setting,
+    here: FormContext,
     bound: Bound,
     inner: Inner<'a>,
-    making: Making,
+    making: Elaboration,
 ) -> Result<Draft<'a>, NoMemory>
     requires { here.spot.depth + 2 < 4294967296 }
     ensures { Draws here.entry
@@ -55,7 +55,7 @@ fn exit_form<'a>(
 }
 
 /// `(block name f*)`
-pub fn block_draft<'a>(here: Setting, items: &'a [Datum]) -> Result<Draft<'a>, NoMemory>
+pub fn block_draft<'a>(here: FormContext, items: &'a [Datum]) -> Result<Draft<'a>, NoMemory>
     ensures { Draws here.entry
         (row.block_row (around here.entry) here.entry.tables.now here.entry.place items.now) result }
 {
@@ -74,12 +74,12 @@ pub fn block_draft<'a>(here: Setting, items: &'a [Datum]) -> Result<Draft<'a>, N
         here,
         Bound::Block(symbol, exit),
         inner,
-        Making::OfBlock(exit),
+        Elaboration::OfBlock(exit),
     )
 }
 
 /// `(return-from name x)`
-pub fn return_from_draft<'a>(here: Setting, items: &'a [Datum]) -> Result<Draft<'a>, NoMemory>
+pub fn return_from_draft<'a>(here: FormContext, items: &'a [Datum]) -> Result<Draft<'a>, NoMemory>
     ensures { Draws here.entry
         (row.return_from_row (around here.entry) here.entry.tables.now here.entry.place items.now) result }
 {
@@ -97,7 +97,7 @@ pub fn return_from_draft<'a>(here: Setting, items: &'a [Datum]) -> Result<Draft<
 
 /// `(tagbody part*)`: a tag stands once.
 #[tactic(auto, using(crate::proofs::Lists::shown_inner))]
-pub fn tagbody_draft<'a>(here: Setting, items: &'a [Datum]) -> Result<Draft<'a>, NoMemory>
+pub fn tagbody_draft<'a>(here: FormContext, items: &'a [Datum]) -> Result<Draft<'a>, NoMemory>
     ensures { Draws here.entry
         (row.tagbody_row (around here.entry) here.entry.tables.now here.entry.place items.now) result }
 {
@@ -115,12 +115,12 @@ pub fn tagbody_draft<'a>(here: Setting, items: &'a [Datum]) -> Result<Draft<'a>,
         here,
         Bound::Tags(tags, exit),
         inner,
-        Making::OfSegments(exit, lengths),
+        Elaboration::OfSegments(exit, lengths),
     )
 }
 
 /// `(go tag)`: a transfer to the segment behind a tag.
-pub fn go_draft<'a>(here: Setting, items: &[Datum]) -> Result<Draft<'a>, NoMemory>
+pub fn go_draft<'a>(here: FormContext, items: &[Datum]) -> Result<Draft<'a>, NoMemory>
     ensures { Draws here.entry
         (row.go_row (around here.entry) here.entry.tables.now here.entry.place items.now) result }
 {

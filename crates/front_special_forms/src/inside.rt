@@ -7,17 +7,17 @@ ghost use Rattle.front_drafts.specs.Views.{at, view_parts};
 
 use base::{Datum, NoMemory};
 use front_drafts::draft::{Draft, Note, made_plain};
-use front_drafts::here::Setting;
+use front_drafts::here::FormContext;
 use front_drafts::plan::{Parts, inner_forms};
-use front_profile::{Making, Spot};
+use front_profile::{Elaboration, Spot};
 
 /// A core form that binds nothing but the variables among its parts, with these forms inside.
 pub(crate) fn with_inside<'a>(
-    here: Setting,
+    here: FormContext,
     inside: Spot,
     parts: Parts<'a>,
     forms: &'a [Datum],
-    making: Making,
+    making: Elaboration,
 ) -> Result<Draft<'a>, NoMemory>
     requires { here.spot.depth + 1 < 4294967296 }
     ensures { Draws here.entry

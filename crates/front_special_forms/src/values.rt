@@ -12,14 +12,14 @@ use crate::calls::with_forms;
 use crate::inside::with_inside;
 use base::{Datum, Kind, Name, NoMemory, Reason, Symbol};
 use front_drafts::draft::{Draft, Note, made_at_once, made_within, offence, one_part};
-use front_drafts::here::{Setting, deeper_at_top, fits_depth};
+use front_drafts::here::{FormContext, deeper_at_top, fits_depth};
 use front_drafts::plan::{Parts, one_form, push_below, push_form};
-use front_profile::{BodyLengths, Leaf, Making, One, ReservedWords, Tables};
+use front_profile::{BodyLengths, Elaboration, Leaf, One, ReservedWords, Tables};
 use front_syntax::shapes::{Clauses, clauses_in, is_true, name_of, symbol_of};
 use lang_meaning::{LiteralRow, OverTwo};
 
 /// A symbol: `t`, a variable around, or a global variable.
-pub fn symbol_draft<'a>(here: Setting, symbol: Symbol) -> Result<Draft<'a>, NoMemory>
+pub fn symbol_draft<'a>(here: FormContext, symbol: Symbol) -> Result<Draft<'a>, NoMemory>
     ensures { Draws here.entry
         (row.symbol_node (around here.entry) here.entry.place here.entry.tables.now symbol) result }
 {
@@ -37,7 +37,7 @@ pub fn symbol_draft<'a>(here: Setting, symbol: Symbol) -> Result<Draft<'a>, NoMe
 }
 
 /// `(quote d)`
-pub fn quote_draft<'a>(here: Setting, items: &'a [Datum]) -> Result<Draft<'a>, NoMemory>
+pub fn quote_draft<'a>(here: FormContext, items: &'a [Datum]) -> Result<Draft<'a>, NoMemory>
     ensures { Draws here.entry
         (row.quote_row (around here.entry) here.entry.tables.now here.entry.place items.now) result }
 {
@@ -59,7 +59,7 @@ fn is_constant(tables: &Tables, name: Name) -> bool
 }
 
 // A global variable is set, unless it is a constant.
-fn set_free<'a>(here: Setting, symbol: Symbol, datum: &'a Datum) -> Result<Draft<'a>, NoMemory>
+fn set_free<'a>(here: FormContext, symbol: Symbol, datum: &'a Datum) -> Result<Draft<'a>, NoMemory>
     ensures { Draws here.entry
         (row.set_free (around here.entry) here.entry.tables.now here.entry.place symbol datum.now) result }
 {
@@ -70,12 +70,16 @@ fn set_free<'a>(here: Setting, symbol: Symbol, datum: &'a Datum) -> Result<Draft
         return Ok(offence(here.place, Reason::ConstantSet));
     }
     let parts = one_form(here.alloc, datum)?;
-    let making = Making::OfOne(One::SetGlobal(name));
+    let making = Elaboration::OfOne(One::SetGlobal(name));
     Ok(made_within(here, Note::Set(name), 1, parts, making))
 }
 
 // A variable is set, or a global variable.
-fn set_symbol<'a>(here: Setting, symbol: Symbol, datum: &'a Datum) -> Result<Draft<'a>, NoMemory>
+fn set_symbol<'a>(
+    here: FormContext,
+    symbol: Symbol,
+    datum: &'a Datum,
+) -> Result<Draft<'a>, NoMemory>
     ensures { Draws here.entry
         (row.set_symbol (around here.entry) here.entry.tables.now here.entry.place symbol datum.now) result }
 {
@@ -89,7 +93,7 @@ fn set_symbol<'a>(here: Setting, symbol: Symbol, datum: &'a Datum) -> Result<Dra
 }
 
 /// `(setq v x)`: `nil` is a constant too.
-pub fn setq_draft<'a>(here: Setting, items: &'a [Datum]) -> Result<Draft<'a>, NoMemory>
+pub fn setq_draft<'a>(here: FormContext, items: &'a [Datum]) -> Result<Draft<'a>, NoMemory>
     ensures { Draws here.entry
         (row.setq_row (around here.entry) here.entry.tables.now here.entry.place items.now) result }
 {
@@ -104,7 +108,7 @@ pub fn setq_draft<'a>(here: Setting, items: &'a [Datum]) -> Result<Draft<'a>, No
 }
 
 /// `(progn f*)`, whose forms stand at top level where it does.
-pub fn progn_draft<'a>(here: Setting, items: &'a [Datum]) -> Result<Draft<'a>, NoMemory>
+pub fn progn_draft<'a>(here: FormContext, items: &'a [Datum]) -> Result<Draft<'a>, NoMemory>
     ensures { Draws here.entry
         (row.progn_row (around here.entry) here.entry.tables.now here.entry.place items.now) result }
 {
@@ -113,7 +117,7 @@ pub fn progn_draft<'a>(here: Setting, items: &'a [Datum]) -> Result<Draft<'a>, N
     }
     let inside = deeper_at_top(here.spot);
     let parts = Parts::new(here.alloc);
-    with_inside(here, inside, parts, items, Making::InSequence)
+    with_inside(here, inside, parts, items, Elaboration::InSequence)
 }
 
 // The length of a body, none where there is none.
@@ -127,7 +131,7 @@ fn length_if(items: &[Datum]) -> Option<usize>
     }
 }
 
-fn clause_lengths(here: Setting, clauses: &Clauses) -> Result<BodyLengths, NoMemory>
+fn clause_lengths(here: FormContext, clauses: &Clauses) -> Result<BodyLengths, NoMemory>
     ensures { IfOk result (λ lengths. lengths ≡ row.clause_lengths (view_clauses clauses.now)) }
 {
     let mut lengths = BodyLengths::new(here.alloc);
@@ -137,7 +141,7 @@ fn clause_lengths(here: Setting, clauses: &Clauses) -> Result<BodyLengths, NoMem
     Ok(lengths)
 }
 
-fn clause_parts<'a>(here: Setting, clauses: &Clauses<'a>) -> Result<Parts<'a>, NoMemory>
+fn clause_parts<'a>(here: FormContext, clauses: &Clauses<'a>) -> Result<Parts<'a>, NoMemory>
     ensures { IfOk result (λ parts. view_parts parts ≡ row.clause_parts (view_clauses clauses.now)) }
 {
     let mut parts = Parts::new(here.alloc);
@@ -161,7 +165,7 @@ fn own_depth(clauses: &Clauses) -> u32
 }
 
 /// `(cond (x f*)*)`
-pub fn cond_draft<'a>(here: Setting, items: &'a [Datum]) -> Result<Draft<'a>, NoMemory>
+pub fn cond_draft<'a>(here: FormContext, items: &'a [Datum]) -> Result<Draft<'a>, NoMemory>
     ensures { Draws here.entry
         (row.cond_row (around here.entry) here.entry.tables.now here.entry.place items.now) result }
 {
@@ -171,11 +175,21 @@ pub fn cond_draft<'a>(here: Setting, items: &'a [Datum]) -> Result<Draft<'a>, No
     let lengths = clause_lengths(here, &clauses)?;
     let parts = clause_parts(here, &clauses)?;
     let own = own_depth(&clauses);
-    Ok(made_within(here, Note::Nothing, own, parts, Making::OfClauses(lengths)))
+    Ok(made_within(
+        here,
+        Note::Nothing,
+        own,
+        parts,
+        Elaboration::OfClauses(lengths),
+    ))
 }
 
 /// Two forms: `(throw x x)`, `(%apply x x)`.
-pub fn two_draft<'a>(here: Setting, kind: OverTwo, items: &'a [Datum]) -> Result<Draft<'a>, NoMemory>
+pub fn two_draft<'a>(
+    here: FormContext,
+    kind: OverTwo,
+    items: &'a [Datum],
+) -> Result<Draft<'a>, NoMemory>
     ensures { Draws here.entry
         (row.two_row kind (around here.entry) here.entry.tables.now here.entry.place items.now) result }
 {
@@ -183,12 +197,12 @@ pub fn two_draft<'a>(here: Setting, kind: OverTwo, items: &'a [Datum]) -> Result
         return Ok(offence(here.place, Reason::BadShape));
     };
     let parts = Parts::new(here.alloc);
-    with_forms(here, 1, parts, Making::OfTwo(kind), items)
+    with_forms(here, 1, parts, Elaboration::OfTwo(kind), items)
 }
 
 /// A form and a body: `(while x f*)`, `(catch x f*)`, `(unwind-protect x f*)`, `(with-handler x f*)`.
 pub fn body_draft<'a>(
-    here: Setting,
+    here: FormContext,
     kind: OverTwo,
     items: &'a [Datum],
 ) -> Result<Draft<'a>, NoMemory>
@@ -200,7 +214,7 @@ pub fn body_draft<'a>(
     };
     let mut parts = one_form(here.alloc, first)?;
     push_below(&mut parts, body)?;
-    Ok(made_within(here, Note::Nothing, 2, parts, Making::OfBody(kind)))
+    Ok(made_within(here, Note::Nothing, 2, parts, Elaboration::OfBody(kind)))
 }
 
 // The name of a dynamic variable: a symbol with a name, and not `t`.
@@ -216,7 +230,7 @@ fn dynamic_name(words: ReservedWords, datum: &Datum) -> Option<Name>
 }
 
 /// `(dynamic v)`
-pub fn dynamic_draft<'a>(here: Setting, items: &'a [Datum]) -> Result<Draft<'a>, NoMemory>
+pub fn dynamic_draft<'a>(here: FormContext, items: &'a [Datum]) -> Result<Draft<'a>, NoMemory>
     ensures { Draws here.entry
         (row.dynamic_row (around here.entry) here.entry.tables.now here.entry.place items.now) result }
 {
@@ -230,7 +244,7 @@ pub fn dynamic_draft<'a>(here: Setting, items: &'a [Datum]) -> Result<Draft<'a>,
 }
 
 /// `(set-dynamic x v)`
-pub fn set_dynamic_draft<'a>(here: Setting, items: &'a [Datum]) -> Result<Draft<'a>, NoMemory>
+pub fn set_dynamic_draft<'a>(here: FormContext, items: &'a [Datum]) -> Result<Draft<'a>, NoMemory>
     ensures { Draws here.entry
         (row.set_dynamic_row (around here.entry) here.entry.tables.now here.entry.place items.now) result }
 {
@@ -244,7 +258,7 @@ pub fn set_dynamic_draft<'a>(here: Setting, items: &'a [Datum]) -> Result<Draft<
 }
 
 /// `(function g)`: the value of a local function, or the function of a name.
-pub fn function_draft<'a>(here: Setting, items: &'a [Datum]) -> Result<Draft<'a>, NoMemory>
+pub fn function_draft<'a>(here: FormContext, items: &'a [Datum]) -> Result<Draft<'a>, NoMemory>
     ensures { Draws here.entry
         (row.function_row (around here.entry) here.entry.tables.now here.entry.place items.now) result }
 {
@@ -264,7 +278,11 @@ pub fn function_draft<'a>(here: Setting, items: &'a [Datum]) -> Result<Draft<'a>
 }
 
 /// `(call-next-method)` and `(next-method-p)`, in a method that may have a next one.
-pub fn method_draft<'a>(here: Setting, leaf: Leaf, items: &[Datum]) -> Result<Draft<'a>, NoMemory>
+pub fn method_draft<'a>(
+    here: FormContext,
+    leaf: Leaf,
+    items: &[Datum],
+) -> Result<Draft<'a>, NoMemory>
     ensures { Draws here.entry
         (row.method_row leaf (around here.entry) here.entry.tables.now here.entry.place items.now) result }
 {
@@ -275,7 +293,7 @@ pub fn method_draft<'a>(here: Setting, leaf: Leaf, items: &[Datum]) -> Result<Dr
 }
 
 /// `(class c)`: the class of a name, that is defined earlier.
-pub fn class_draft<'a>(here: Setting, items: &'a [Datum]) -> Result<Draft<'a>, NoMemory>
+pub fn class_draft<'a>(here: FormContext, items: &'a [Datum]) -> Result<Draft<'a>, NoMemory>
     ensures { Draws here.entry
         (row.class_row (around here.entry) here.entry.tables.now here.entry.place items.now) result }
 {

@@ -14,17 +14,17 @@ use Rattle.base.specs.Names.{Extends, Extends-same, Extends-then, slice_get-fron
 use Rattle.base.specs.Data.{Item, item, integer, character, symbol, string, vector, nil, list, place_of}
 use Rattle.base.specs.DataNames.{symbol_text}
 use Rattle.base.specs.AllOf.{AllOf}
-use Rattle.base.specs.GoodData.{Good, all_good_stay}
+use Rattle.base.specs.WellFormedData.{WellFormed, all_good_stay}
 use Rattle.lang_derived.specs.Asked.{list_items, is_word, setf_text}
 use Rattle.front_profile.specs.declared.special.Special.{Special}
-use Rattle.front_profile.specs.declared.making.Accessor.{Accessor}
-use Rattle.front_profile.specs.declared.making.Accessor.TheVariants.{Reads, Writes, Asks}
+use Rattle.front_profile.specs.declared.elaboration.Accessor.{Accessor}
+use Rattle.front_profile.specs.declared.elaboration.Accessor.TheVariants.{Reads, Writes, Asks}
 use Rattle.front_profile.specs.Shapes.{symbol_of, name_of}
 use Rattle.front_profile.specs.GivenNames.{GivenName, no_name, unfit, lacking, given, number_of, in_table, longest_set, setter_of_text, setter_of_symbol, setter_in, named_by, given_name}
 use Rattle.front_profile.specs.ClassShapes.{SlotOption, wrong_option, initform_of, initarg_by, method_by, accessor_with, accessor_by, slot_option, option_and, slot_options, WrittenSlot, name_in, slot_with, slot_in_list, slot_by, slot_and, each_slot, slots_in}
 use Rattle.front_profile.specs.ClassRows.{Function, functions_of_option, functions_of, is_lacking}
 use Rattle.front_profile.specs.Rows.{special_of}
-use Rattle.front_profile.specs.bridge.GoodParts.{MaybeGood, good_parts}
+use Rattle.front_profile.specs.bridge.WellFormedParts.{MaybeGood, good_parts}
 use Rattle.front_profile.specs.bridge.LaterNames.{same_text, same_word}
 use Rattle.front_syntax.specs.Lacking.{is_lacking_name, setter_lacks, name_lacks, asks_in, pair_lacks, list_lacks, datum_lacks, each_lacks, text_to_set, operator_in, behind_first, slots_behind, option_lacks, options_lack, slot_lacks, slots_lack, class_lacks, first_lacks, special_in, defines_class, defines_methods, headed_lacks, form_lacks, HasNames}
 
@@ -77,7 +77,7 @@ unset_has ts (Some t) h = unset_by ts (nat_le (length t) longest_set) (setf_text
 
 -- of a symbol
 
-symbol_same : (old later : List (List ℕ)) (d : Item) (x : Symbol) → symbol_of d ≡ Some x → Extends old later → Good (length old) d → symbol_text old x ≡ symbol_text later x
+symbol_same : (old later : List (List ℕ)) (d : Item) (x : Symbol) → symbol_of d ≡ Some x → Extends old later → WellFormed (length old) d → symbol_text old x ≡ symbol_text later x
 symbol_same old later (item p (symbol y)) x h e g =
     let same : y ≡ x = cc in subst (λ z. symbol_text old z ≡ symbol_text later z) same (same_text old later (item p (symbol y)) e g)
 symbol_same old later (item p (integer n)) x h e g = absurd (cc)
@@ -87,7 +87,7 @@ symbol_same old later (item p (vector ds)) x h e g = absurd (cc)
 symbol_same old later (item p nil) x h e g = absurd (cc)
 symbol_same old later (item p (list ds t)) x h e g = absurd (cc)
 
-pub set_there : (old new : List (List ℕ)) (d : Item) (x : Symbol) (text : List ℕ) (i : ℕ) → Good (length old) d → symbol_of d ≡ Some x → Extends old new
+pub set_there : (old new : List (List ℕ)) (d : Item) (x : Symbol) (text : List ℕ) (i : ℕ) → WellFormed (length old) d → symbol_of d ≡ Some x → Extends old new
     → text_to_set (symbol_text old x) ≡ Some text → slice_get new i ≡ Some text → HasNames new (setter_lacks d)
 set_there old new d x text i g h k t there = record { under = under }
   where
@@ -99,7 +99,7 @@ set_there old new d x text i g h k t there = record { under = under }
         subst (λ (y : Option Symbol). is_lacking_name (setter_of_symbol later y) ≡ false) (sym h)
         (subst (λ (o : Option (List ℕ)). is_lacking_name (setter_of_text later o) ≡ false) same has)
 
-pub none_set : (old : List (List ℕ)) (d : Item) (x : Symbol) → Good (length old) d → symbol_of d ≡ Some x → text_to_set (symbol_text old x) ≡ None → HasNames old (setter_lacks d)
+pub none_set : (old : List (List ℕ)) (d : Item) (x : Symbol) → WellFormed (length old) d → symbol_of d ≡ Some x → text_to_set (symbol_text old x) ≡ None → HasNames old (setter_lacks d)
 none_set old d x g h t = record { under = under }
   where
     under : (later : List (List ℕ)) → Extends old later → setter_lacks d later ≡ false
@@ -137,9 +137,9 @@ operator_same old later (Some (h ∷ d ∷ f ∷ ds)) e g = refl
 
 abbrev pub MaybeItem : ℕ → Option Item → Type 0
 MaybeItem n None = Unit {0}
-MaybeItem n (Some d) = Good n d
+MaybeItem n (Some d) = WellFormed n d
 
-operator_if : (n : ℕ) (b : Bool) (d : Item) → Good n d → MaybeItem n (if b then Some d else None)
+operator_if : (n : ℕ) (b : Bool) (d : Item) → WellFormed n d → MaybeItem n (if b then Some d else None)
 operator_if n true d g = g
 operator_if n false d g = tt
 
@@ -150,7 +150,7 @@ operator_in_good n names (Some (h ∷ [])) g = tt
 operator_in_good n names (Some (h ∷ d ∷ [])) g = operator_if n (is_word names (codes "setf") h) d g.1.0
 operator_in_good n names (Some (h ∷ d ∷ e ∷ ds)) g = tt
 
-pub operator_good : (n : ℕ) (names : List (List ℕ)) (d : Item) (o : Option Item) → Good n d → o ≡ operator_in names (list_items d) → MaybeItem n o
+pub operator_good : (n : ℕ) (names : List (List ℕ)) (d : Item) (o : Option Item) → WellFormed n d → o ≡ operator_in names (list_items d) → MaybeItem n o
 operator_good n names d o g h = subst (MaybeItem n) (sym h) (operator_in_good n names (list_items d) (good_parts n d g))
 
 by_symbol : (later : List (List ℕ)) (d : Item) (x : Option Symbol) → is_lacking_name (setter_in later (list_items d)) ≡ false → is_lacking_name (named_by later d x) ≡ false
@@ -158,7 +158,7 @@ by_symbol later d None h = h
 by_symbol later d (Some (Named n)) h = refl
 by_symbol later d (Some (Fresh e k)) h = refl
 
-pub name_there : (old new : List (List ℕ)) (d : Item) (o : Option Item) → Good (length old) d → o ≡ operator_in old (list_items d) → Extends old new
+pub name_there : (old new : List (List ℕ)) (d : Item) (o : Option Item) → WellFormed (length old) d → o ≡ operator_in old (list_items d) → Extends old new
     → HasNames new (λ later. is_lacking_name (by_operator later o)) → HasNames new (name_lacks d)
 name_there old new d o g h k there = record { under = under }
   where
@@ -210,7 +210,7 @@ option_said later o d h k =
     (is_word later (codes ":boundp") o) (is_word later (codes ":accessor") o) d (symbol_of d) (given_name later d) (accessor_by later (symbol_of d))
     h (λ m n. accessor_said later (symbol_of d) (k m n))
 
-asks_same : (old later : List (List ℕ)) (o : Item) → Extends old later → Good (length old) o → asks_in old o ≡ asks_in later o
+asks_same : (old later : List (List ℕ)) (o : Item) → Extends old later → WellFormed (length old) o → asks_in old o ≡ asks_in later o
 asks_same old later o e g =
     let a : is_word old (codes ":reader") o ≡ is_word later (codes ":reader") o = same_word old later (codes ":reader") o e g in
     let b : is_word old (codes ":writer") o ≡ is_word later (codes ":writer") o = same_word old later (codes ":writer") o e g in
@@ -223,20 +223,20 @@ not_both : (b c : Bool) → b ≡ true → b ≡ false → ⊥
 not_both true c h k = absurd (cc)
 not_both false c h k = absurd (cc)
 
-pub asked_there : (old new : List (List ℕ)) (o d : Item) → Good (length old) o → Extends old new → asks_in old o ≡ true → HasNames new (name_lacks d) → HasNames new (pair_lacks o d)
+pub asked_there : (old new : List (List ℕ)) (o d : Item) → WellFormed (length old) o → Extends old new → asks_in old o ≡ true → HasNames new (name_lacks d) → HasNames new (pair_lacks o d)
 asked_there old new o d g k h there = record {
   under = λ later e. option_said later o d (λ m. there.under later e)
       (λ m n. absurd (not_both (asks_in later o) true (sym (asks_same old later o (Extends-then old new later k e) g) ∙ h) m));
 }
 
-pub accessor_there : (old new : List (List ℕ)) (o d : Item) → Good (length old) o → Extends old new → asks_in old o ≡ false → HasNames new (setter_lacks d) → HasNames new (pair_lacks o d)
+pub accessor_there : (old new : List (List ℕ)) (o d : Item) → WellFormed (length old) o → Extends old new → asks_in old o ≡ false → HasNames new (setter_lacks d) → HasNames new (pair_lacks o d)
 accessor_there old new o d g k h there = record {
   under = λ later e. option_said later o d
       (λ m. absurd (not_both (asks_in later o) true m (sym (asks_same old later o (Extends-then old new later k e) g) ∙ h)))
       (λ m n. there.under later e);
 }
 
-pub neither_there : (names : List (List ℕ)) (o d : Item) → Good (length names) o → asks_in names o ≡ false → is_word names (codes ":accessor") o ≡ false → HasNames names (pair_lacks o d)
+pub neither_there : (names : List (List ℕ)) (o d : Item) → WellFormed (length names) o → asks_in names o ≡ false → is_word names (codes ":accessor") o ≡ false → HasNames names (pair_lacks o d)
 neither_there names o d g h k = record {
   under = λ later e. option_said later o d
       (λ m. absurd (not_both (asks_in later o) true m (sym (asks_same names later o e g) ∙ h)))
@@ -247,14 +247,14 @@ neither_there names o d g h k = record {
 
 pub record Adding (old names : List (List ℕ)) (left : List Item) (rest all : List (List ℕ) → Bool) : Type 0 where
   pub later : Extends old names
-  pub good : AllOf (Good (length names)) left
+  pub good : AllOf (WellFormed (length names)) left
   pub so : (later : List (List ℕ)) → Extends names later → rest later ≡ false → all later ≡ false
 
-pub adding_first : (names : List (List ℕ)) (ds : List Item) (all : List (List ℕ) → Bool) → AllOf (Good (length names)) ds → Adding names names ds all all
+pub adding_first : (names : List (List ℕ)) (ds : List Item) (all : List (List ℕ) → Bool) → AllOf (WellFormed (length names)) ds → Adding names names ds all all
 adding_first names ds all g = record { later = Extends-same names; good = g; so = λ later e h. h }
 
 pub adding_next : (old names more : List (List ℕ)) (left others : List Item) (rest next all : List (List ℕ) → Bool) → Adding old names left rest all → Extends names more
-    → AllOf (Good (length names)) others → ((later : List (List ℕ)) → Extends more later → next later ≡ false → rest later ≡ false) → Adding old more others next all
+    → AllOf (WellFormed (length names)) others → ((later : List (List ℕ)) → Extends more later → next later ≡ false → rest later ≡ false) → Adding old more others next all
 adding_next old names more left others rest next all a e g f = record {
   later = Extends-then old names more a.later e;
   good = all_good_stay names more others e g;
@@ -332,7 +332,7 @@ behind_first_good n None g = tt
 behind_first_good n (Some []) g = tt
 behind_first_good n (Some (d ∷ ds)) g = g.1
 
-pub behind_good : (n : ℕ) (d : Item) (o : Option (List Item)) → Good n d → o ≡ behind_first (list_items d) → MaybeGood n o
+pub behind_good : (n : ℕ) (d : Item) (o : Option (List Item)) → WellFormed n d → o ≡ behind_first (list_items d) → MaybeGood n o
 behind_good n d o g h = subst (MaybeGood n) (sym h) (behind_first_good n (list_items d) (good_parts n d g))
 
 slot_and_said : (x : Option WrittenSlot) (xs : Option (List WrittenSlot)) → slot_lacks x ≡ false → slots_lack xs ≡ false → slots_lack (slot_and x xs) ≡ false
@@ -355,19 +355,19 @@ pub slot_turn : (old names more : List (List ℕ)) (ds : List Item) (i : ℕ) (d
     → i < length ds → d ≡ get_or ds i d → Extends names more → HasNames more (datum_lacks d) → Adding old more (drop (i + 1) ds) (each_lacks (drop (i + 1) ds)) all
 slot_turn old names more ds i d all a n h e there =
     let now : drop i ds ≡ d ∷ drop (i + 1) ds = items_from ds i d n h in
-    let good : Good (length names) d × AllOf (Good (length names)) (drop (i + 1) ds) = subst (AllOf (Good (length names))) now a.good in
+    let good : WellFormed (length names) d × AllOf (WellFormed (length names)) (drop (i + 1) ds) = subst (AllOf (WellFormed (length names))) now a.good in
     adding_next old names more (drop i ds) (drop (i + 1) ds) (each_lacks (drop i ds)) (each_lacks (drop (i + 1) ds)) all a e good.1
     (λ later k m. subst (λ (z : List Item). each_lacks z later ≡ false) (sym now) (one_slot_more later d (drop (i + 1) ds) (there.under later k) m))
 
 -- definitions
 
-slots_good : (n : ℕ) (ds : List Item) → AllOf (Good n) ds → MaybeGood n (slots_behind ds)
+slots_good : (n : ℕ) (ds : List Item) → AllOf (WellFormed n) ds → MaybeGood n (slots_behind ds)
 slots_good n [] g = tt
 slots_good n (d ∷ []) g = tt
 slots_good n (d ∷ cs ∷ []) g = tt
 slots_good n (d ∷ cs ∷ xs ∷ os) g = good_parts n xs g.1.1.0
 
-pub slots_behind_good : (n : ℕ) (ds : List Item) (o : Option (List Item)) → AllOf (Good n) ds → o ≡ slots_behind ds → MaybeGood n o
+pub slots_behind_good : (n : ℕ) (ds : List Item) (o : Option (List Item)) → AllOf (WellFormed n) ds → o ≡ slots_behind ds → MaybeGood n o
 slots_behind_good n ds o g h = subst (MaybeGood n) (sym h) (slots_good n ds g)
 
 abbrev pub slots_of_lack : Option (List Item) → List (List ℕ) → Bool
@@ -403,17 +403,17 @@ headed_said later x (Some es) ds h f g =
 pub nothing_there : (names : List (List ℕ)) (d : Item) → behind_first (list_items d) ≡ None → HasNames names (form_lacks d)
 nothing_there names d h = record { under = λ later e. nothing_behind later (special_in later (list_items d)) (behind_first (list_items d)) h }
 
-same_special : (old new later : List (List ℕ)) (d : Item) → Good (length old) d → Extends old new → Extends new later → special_in old (list_items d) ≡ special_in later (list_items d)
+same_special : (old new later : List (List ℕ)) (d : Item) → WellFormed (length old) d → Extends old new → Extends new later → special_in old (list_items d) ≡ special_in later (list_items d)
 same_special old new later d g k e = special_same old later (list_items d) (Extends-then old new later k e) (good_parts (length old) d g)
 
-pub class_form_there : (old new : List (List ℕ)) (d : Item) (ds : List Item) → Good (length old) d → Extends old new → behind_first (list_items d) ≡ Some ds
+pub class_form_there : (old new : List (List ℕ)) (d : Item) (ds : List Item) → WellFormed (length old) d → Extends old new → behind_first (list_items d) ≡ Some ds
     → defines_class (special_in old (list_items d)) ≡ true → HasNames new (class_lacks ds) → HasNames new (form_lacks d)
 class_form_there old new d ds g k h b there = record {
   under = λ later e. headed_said later (special_in later (list_items d)) (behind_first (list_items d)) ds h (λ m. there.under later e)
       (λ m n. absurd (not_both (defines_class (special_in later (list_items d))) true (ap defines_class (sym (same_special old new later d g k e)) ∙ b) m));
 }
 
-pub method_form_there : (old new : List (List ℕ)) (d : Item) (ds : List Item) → Good (length old) d → Extends old new → behind_first (list_items d) ≡ Some ds
+pub method_form_there : (old new : List (List ℕ)) (d : Item) (ds : List Item) → WellFormed (length old) d → Extends old new → behind_first (list_items d) ≡ Some ds
     → defines_class (special_in old (list_items d)) ≡ false → HasNames new (first_lacks ds) → HasNames new (form_lacks d)
 method_form_there old new d ds g k h b there = record {
   under = λ later e. headed_said later (special_in later (list_items d)) (behind_first (list_items d)) ds h
@@ -421,7 +421,7 @@ method_form_there old new d ds g k h b there = record {
       (λ m n. there.under later e);
 }
 
-pub other_form_there : (names : List (List ℕ)) (d : Item) (ds : List Item) → Good (length names) d → behind_first (list_items d) ≡ Some ds
+pub other_form_there : (names : List (List ℕ)) (d : Item) (ds : List Item) → WellFormed (length names) d → behind_first (list_items d) ≡ Some ds
     → defines_class (special_in names (list_items d)) ≡ false → defines_methods (special_in names (list_items d)) ≡ false → HasNames names (form_lacks d)
 other_form_there names d ds g h b c = record {
   under = λ later e. headed_said later (special_in later (list_items d)) (behind_first (list_items d)) ds h

@@ -2,7 +2,7 @@
 
 ghost use Rattle.std.specs.Prelude.{◌≡◌, length, OnOk};
 ghost use Rattle.base.specs.AllOf.{AllOf};
-ghost use Rattle.base.specs.GoodData.{Good};
+ghost use Rattle.base.specs.WellFormedData.{WellFormed};
 ghost use Rattle.base.specs.Names.{Extends};
 ghost use Rattle.lang_derived.specs.Asked.{list_items};
 ghost use Rattle.front_syntax.specs.Definitions.{borrowed};
@@ -19,7 +19,7 @@ use std::alloc::Global;
 // The name `(setf s)` of a datum that is the symbol s, where there is one.
 #[tactic(auto, using(crate::proofs::MoreNames::nothing_named, crate::proofs::MoreNames::one_named))]
 fn add_setter_of(alloc: Global, names: &mut Names, datum: &Datum) -> Result<(), NoMemory>
-    requires { Good (length names.old) datum.now }
+    requires { WellFormed (length names.old) datum.now }
     ensures given { OnOk result (HasNames names.new (setter_lacks datum.now)) }
     ensures names { Extends names.old names.new }
 {
@@ -38,7 +38,7 @@ fn add_setter_of(alloc: Global, names: &mut Names, datum: &Datum) -> Result<(), 
 // The name that a datum `(setf s)` gives.
 #[tactic(auto, using(crate::proofs::MoreNames::nothing_named))]
 fn add_name(alloc: Global, names: &mut Names, datum: &Datum) -> Result<(), NoMemory>
-    requires { Good (length names.old) datum.now }
+    requires { WellFormed (length names.old) datum.now }
     ensures given { OnOk result (HasNames names.new (name_lacks datum.now)) }
     ensures names { Extends names.old names.new }
 {
@@ -65,8 +65,8 @@ fn add_by_option(
     option: &Datum,
     value: &Datum,
 ) -> Result<(), NoMemory>
-    requires option { Good (length names.old) option.now }
-    requires value { Good (length names.old) value.now }
+    requires option { WellFormed (length names.old) option.now }
+    requires value { WellFormed (length names.old) value.now }
     ensures given { OnOk result (HasNames names.new (pair_lacks option.now value.now)) }
     ensures names { Extends names.old names.new }
 {
@@ -81,7 +81,7 @@ fn add_by_option(
 
 // The names that the options of a slot ask for.
 fn add_by_options(alloc: Global, names: &mut Names, options: &[Datum]) -> Result<(), NoMemory>
-    requires { AllOf (Good (length names.old)) options.now }
+    requires { AllOf (WellFormed (length names.old)) options.now }
     ensures given { OnOk result (HasNames names.new (list_lacks options.now)) }
     ensures names { Extends names.old names.new }
 {
@@ -106,7 +106,7 @@ fn behind_first<'a>(datum: &'a Datum) -> Option<&'a [Datum]>
 // The names that a slot asks for.
 #[tactic(auto, using(crate::proofs::MoreNames::nothing_named))]
 fn add_by_slot(alloc: Global, names: &mut Names, slot: &Datum) -> Result<(), NoMemory>
-    requires { Good (length names.old) slot.now }
+    requires { WellFormed (length names.old) slot.now }
     ensures given { OnOk result (HasNames names.new (datum_lacks slot.now)) }
     ensures names { Extends names.old names.new }
 {
@@ -118,7 +118,7 @@ fn add_by_slot(alloc: Global, names: &mut Names, slot: &Datum) -> Result<(), NoM
 
 // The names that slots ask for.
 fn add_by_slots(alloc: Global, names: &mut Names, slots: &[Datum]) -> Result<(), NoMemory>
-    requires { AllOf (Good (length names.old)) slots.now }
+    requires { AllOf (WellFormed (length names.old)) slots.now }
     ensures given { OnOk result (HasNames names.new (each_lacks slots.now)) }
     ensures names { Extends names.old names.new }
 {
@@ -141,7 +141,7 @@ fn slots_behind<'a>(items: &'a [Datum]) -> Option<&'a [Datum]>
 // The names that the definition of a class asks for, by what stands behind its head.
 #[tactic(auto, using(crate::proofs::MoreNames::nothing_named))]
 fn add_by_class(alloc: Global, names: &mut Names, items: &[Datum]) -> Result<(), NoMemory>
-    requires { AllOf (Good (length names.old)) items.now }
+    requires { AllOf (WellFormed (length names.old)) items.now }
     ensures given { OnOk result (HasNames names.new (class_lacks items.now)) }
     ensures names { Extends names.old names.new }
 {
@@ -154,7 +154,7 @@ fn add_by_class(alloc: Global, names: &mut Names, items: &[Datum]) -> Result<(),
 // The name that the definition of a generic function or of a method asks for.
 #[tactic(auto, using(crate::proofs::MoreNames::nothing_named))]
 fn add_first(alloc: Global, names: &mut Names, items: &[Datum]) -> Result<(), NoMemory>
-    requires { AllOf (Good (length names.old)) items.now }
+    requires { AllOf (WellFormed (length names.old)) items.now }
     ensures given { OnOk result (HasNames names.new (first_lacks items.now)) }
     ensures names { Extends names.old names.new }
 {
@@ -189,7 +189,7 @@ fn defines_methods(special: Option<Special>) -> bool
 /// The names that a form asks for: once they are added, it lacks none.
 #[tactic(auto, using(crate::proofs::MoreNames::nothing_named))]
 pub fn add_setters(alloc: Global, names: &mut Names, datum: &Datum) -> Result<(), NoMemory>
-    requires { Good (length names.old) datum.now }
+    requires { WellFormed (length names.old) datum.now }
     ensures given { OnOk result (HasNames names.new (form_lacks datum.now)) }
     ensures names { Extends names.old names.new }
 {

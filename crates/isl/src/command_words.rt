@@ -2,7 +2,7 @@
 
 ghost use Rattle.std.specs.Prelude.{◌≡◌, ◌⊎◌, drop, map, string_bytes, IfOk, IfErr};
 ghost use Rattle.std.specs.Vec.Iter.{into_iter_items};
-ghost use Rattle.top_main.specs.declared.status.Answer.TheVariants.{Usage, NoMemory as WantsMemory};
+ghost use Rattle.top_main.specs.declared.status.CommandAnswer.TheVariants.{Usage, NoMemory as WantsMemory};
 
 use base::Words;
 use std::alloc::Global;
@@ -10,17 +10,17 @@ use std::env;
 use std::env::{Args, FillError};
 use std::io::ErrorKind;
 use std::rt::Env;
-use top_main::Answer;
+use top_main::CommandAnswer;
 
 /// The words behind the program's name. Else the answer of the call: `Usage` where one of them is not
 /// UTF-8; `NoMemory` where memory is wanting. The name is not looked at, so it may have any bytes.
-pub fn command_words<R: Env + AllocGlobal>(rt: &R) -> Result<Words, Answer>
+pub fn command_words<R: Env + AllocGlobal>(rt: &R) -> Result<Words, CommandAnswer>
     ensures { IfErr result (λ answer. (answer ≡ Usage) ⊎ (answer ≡ WantsMemory)) }
 {
     match env::args(&(Unnamed { whole: rt }, rt.alloc())) {
         Ok(args) => words_behind_name(rt.alloc(), args),
-        Err(e) if e.kind() == ErrorKind::OutOfMemory => Err(Answer::NoMemory),
-        Err(_) => Err(Answer::Usage),
+        Err(e) if e.kind() == ErrorKind::OutOfMemory => Err(CommandAnswer::NoMemory),
+        Err(_) => Err(CommandAnswer::Usage),
     }
 }
 
@@ -49,7 +49,7 @@ impl<'a, R: Env> Env for Unnamed<'a, R> {
 }
 
 // All arguments but the first, as words.
-fn words_behind_name(alloc: Global, mut args: Args) -> Result<Words, Answer>
+fn words_behind_name(alloc: Global, mut args: Args) -> Result<Words, CommandAnswer>
     ensures words { IfOk result (λ words.
         words ≡ map (λ s. string_bytes s) (drop 1 (into_iter_items args))) }
     ensures memory { IfErr result (λ answer. answer ≡ WantsMemory) }
@@ -58,7 +58,7 @@ fn words_behind_name(alloc: Global, mut args: Args) -> Result<Words, Answer>
     let _ = args.next();
     for word in args {
         if words.push(word.as_str()).is_err() {
-            return Err(Answer::NoMemory);
+            return Err(CommandAnswer::NoMemory);
         }
     }
     Ok(words)

@@ -15,7 +15,7 @@ use Rattle.lang_meaning.specs.Lookup.{all_differ}
 use Rattle.lang_classes.specs.InheritedSlots.{same_name, has_name, each_first, without_name, names_of, said_by, own_slots, united}
 use Rattle.lang_classes.specs.InheritedClasses.{Hierarchy, IsRow, AreClasses, IsBuiltIn, class_named, slot_limit}
 use Rattle.lang_classes.specs.InheritedBuiltIn.{SaysSlots, AreBuiltIn, built_in_own, own_initarg, texts_of}
-use Rattle.lang_classes.specs.FirstClasses.{AreFirst, IsMade}
+use Rattle.lang_classes.specs.FirstClasses.{AreFirst, AreSlotsOf}
 use Rattle.lang_classes.specs.FirstNames.{either}
 use Rattle.lang_classes.proofs.Defining.{said-own, length-united, names-append}
 
@@ -246,7 +246,7 @@ module _ (texts : List (List ℕ)) (h : Hierarchy) (n : ℕ) (first : AreFirst t
           absurd (differ-at class_texts c n (get_or class_texts n []) texts_differ other text_there less)
 
   module _ (says : SaysSlots texts (built_in_own n) own) (precedence_is : slice_get built_in_precedence n ≡ Some row.precedence)
-      (made : IsMade h.own own n row) (concrete : row.abstract_class ≡ false) where
+      (made : AreSlotsOf h.own own n row) (concrete : row.abstract_class ≡ false) where
     count : (m : ℕ) × (slice_get built_in_slots n ≡ Some m) × (is_good (0 + n) row.precedence m ≡ true)
     count = good-at 0 built_in_precedence built_in_slots n row.precedence table_good precedence_is
 
@@ -376,7 +376,7 @@ pub record IsNext (texts : List (List ℕ)) (h : Hierarchy) (n : ℕ) (row : Cla
 
 pub next : (old mid new : List (List ℕ)) (h : Hierarchy) (n : ℕ) (name : Name) (row : ClassRow) (own : List SlotRow) → n < 34 → AreFirst old h n
     → Extends old mid → Extends mid new → slice_get mid name.0 ≡ slice_get class_texts n → SaysSlots new (built_in_own n) own
-    → row.name ≡ name → slice_get built_in_precedence n ≡ Some row.precedence → IsMade h.own own n row → row.abstract_class ≡ false
+    → row.name ≡ name → slice_get built_in_precedence n ≡ Some row.precedence → AreSlotsOf h.own own n row → row.abstract_class ≡ false
     → IsNext new h n row own
 next old mid new h n name row own below first x y named says same precedence_is made concrete =
     let text : slice_get class_texts n ≡ Some (get_or class_texts n []) = slice_get-get_or class_texts n [] below in

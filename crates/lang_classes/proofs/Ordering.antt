@@ -9,7 +9,7 @@ use Rattle.lang_meaning.specs.BuiltIn.{built_in_precedence}
 use Rattle.lang_meaning.specs.Classes.{precedence_of}
 use Rattle.lang_meaning.specs.Lookup.{all_differ, is_in}
 use Rattle.lang_classes.specs.InheritedPrecedence.{above, each_last, joined, superclasses, precedence_below}
-use Rattle.lang_classes.specs.InheritedClasses.{Hierarchy, IsHierarchy, IsBelow}
+use Rattle.lang_classes.specs.InheritedClasses.{Hierarchy, IsHierarchy, IsInherited}
 use Rattle.lang_classes.specs.Lines.{line}
 
 pub number_is : (a b : ℕ) → (a == b) ≡ true → a ≡ b
@@ -219,7 +219,7 @@ either c = by 34
         next l false e = let t : suc n ≤ c = grind (arith, nat_tests) in inr t
 
 module _ (h : Hierarchy) (x : IsHierarchy h) where
-  own_class : (c : ℕ) (row : ClassRow) → slice_get h.rows c ≡ Some row → 34 ≤ c → IsBelow (take c h.rows) c row.precedence
+  own_class : (c : ℕ) (row : ClassRow) → slice_get h.rows c ≡ Some row → 34 ≤ c → IsInherited (take c h.rows) c row.precedence
   own_class c row e l = (x.classes.right c row e).below l
 
   pub itself : (c : ℕ) → c < length h.rows → is_in c (line h c) ≡ true

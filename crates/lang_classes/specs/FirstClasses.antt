@@ -14,7 +14,7 @@ pub record AreFirst (texts : List (List ℕ)) (h : Hierarchy) (n : ℕ) : Type 0
   pub named : AreNamed texts h
 
 -- the slots of a row are those that its classes say, itself last
-pub record IsMade (own : List (List SlotRow)) (said : List SlotRow) (c : ℕ) (row : ClassRow) : Type 0 where
+pub record AreSlotsOf (own : List (List SlotRow)) (said : List SlotRow) (c : ℕ) (row : ClassRow) : Type 0 where
   pub above : List ℕ
   pub line : row.precedence ≡ c ∷ above
   pub slots : row.slots ≡ united (said_by own above ++ said)

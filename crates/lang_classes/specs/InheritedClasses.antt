@@ -89,7 +89,7 @@ with_class h name supers given abstract_class = record {
 -- what each class is
 
 -- the precedence list of a file's own class is that of its superclasses, which go together
-pub record IsBelow (rows : List ClassRow) (c : ℕ) (precedence : List ℕ) : Type 0 where
+pub record IsInherited (rows : List ClassRow) (c : ℕ) (precedence : List ℕ) : Type 0 where
   pub supers : List ℕ
   pub fit : supers_fit rows supers ≡ true
   pub is : precedence ≡ precedence_below rows c supers
@@ -99,7 +99,7 @@ pub record IsRow (rows : List ClassRow) (own : List (List SlotRow)) (c : ℕ) (r
   pub in_range : All (λ d. d ≤ c) row.precedence
   pub slots : row.slots ≡ united (said_by own row.precedence)
   pub few : length row.slots ≤ slot_limit
-  pub below : built_in_classes ≤ c → IsBelow rows c row.precedence
+  pub below : built_in_classes ≤ c → IsInherited rows c row.precedence
 
 -- classes by their numbers: each says something of slots of its own, is right, and is the one of its name
 pub record AreClasses (h : Hierarchy) : Type 0 where

@@ -4,7 +4,7 @@ ghost use Rattle.std.specs.Prelude.{◌≡◌, ℕ, List, ◌+◌, ◌<◌, ◌�
 ghost use Rattle.base.specs.Names.{Extends};
 ghost use Rattle.lang_meaning.specs.BuiltIn.{built_in_precedence, class_texts};
 ghost use Rattle.lang_classes.specs.InheritedBuiltIn.{SaysSlots, built_in_own};
-ghost use Rattle.lang_classes.specs.FirstClasses.{AreFirst, IsMade};
+ghost use Rattle.lang_classes.specs.FirstClasses.{AreFirst, AreSlotsOf};
 
 use crate::row::row_of;
 use crate::slots::said_by;
@@ -148,7 +148,7 @@ fn built_in_row(
     ensures name { IfOk result (λ row. row.name ≡ name) }
     ensures concrete { IfOk result (λ row. row.abstract_class ≡ false) }
     ensures precedence { IfOk result (λ row. slice_get built_in_precedence class ≡ Some row.precedence) }
-    ensures made { IfOk result (IsMade table.now.own own.now class) }
+    ensures made { IfOk result (AreSlotsOf table.now.own own.now class) }
 {
     let above = built_in_above(class);
     let inherited = said_by(alloc, table.own(), above)?;

@@ -7,7 +7,7 @@ use Rattle.base.specs.DataMeasures.{size_of, sizes_of, size_of_tail}
 use Rattle.base.specs.DataParts.{AllItems, AllParts, OfDotted, of_list}
 use Rattle.lang_derived.specs.Pieces.{Piece, word, made, taken, parens, Pieces, no_piece, piece_and, Right, in_parens, Builds, BuildsAll}
 use Rattle.lang_derived.specs.Derived.{becomes, derivation}
-use Rattle.lang_derived.specs.Ends.{piece_weight, pieces_weight, has_derived_name, IfDerived, AllFurther, AllFurtherIn, Leaves, by_step, by_part}
+use Rattle.lang_derived.specs.Ends.{piece_weight, pieces_weight, has_derived_name, IfDerived, AllFurther, AllFurtherIn, LeavesForm, by_step, by_part}
 use Rattle.lang_derived.proofs.Parts.{GoesDown}
 use Rattle.lang_derived.proofs.Derivations.{OfDerivation, OfArguments}
 use Rattle.lang_derived.proofs.Further.{Arguments, size_above, sizes_listed, derivation_further}
@@ -134,7 +134,7 @@ less_stable m zero h = absurd (h (λ less. omega arith))
 less_stable zero (suc n) h = omega arith
 less_stable (suc m) (suc n) h = omega (arith, less_stable m n (λ k. h (λ less. k (omega arith))))
 
-pub left_smaller : (d e : Item) → Leaves d e → size_of e < size_of d
+pub left_smaller : (d e : Item) → LeavesForm d e → size_of e < size_of d
 left_smaller d e (by_step names s r p h g) =
     less_stable (size_of e) (size_of d) (λ k. g (further_map (Light (size_of d)) (λ x. Builds names p x e → ⊥)
     (λ x light built. k (omega (arith, built_size names p x e built, light))) r.piece (further_smaller names s d r h)))
@@ -142,12 +142,12 @@ left_smaller d e (by_part g) =
     less_stable (size_of e) (size_of d) (λ k. g (parts_map (Below (size_of d)) (λ x. x ≢ e)
     (λ x below same. k (subst (Below (size_of d)) same below)) d (parts_smaller d)))
 
-sizes_fall : (f : ℕ → Item) → ((i : ℕ) → Leaves (f i) (f (i + 1))) → (i : ℕ) → size_of (f i) + i ≤ size_of (f 0)
+sizes_fall : (f : ℕ → Item) → ((i : ℕ) → LeavesForm (f i) (f (i + 1))) → (i : ℕ) → size_of (f i) + i ≤ size_of (f 0)
 sizes_fall f h zero = omega arith
 sizes_fall f h (suc i) =
     let next : size_of (f (suc i)) ≡ size_of (f (i + 1)) = ap (λ (k : ℕ). size_of (f k)) (omega arith) in
     omega (arith, next, sizes_fall f h i, left_smaller (f i) (f (i + 1)) (h i))
 
-pub no_endless_steps : (f : ℕ → Item) → ((i : ℕ) → Leaves (f i) (f (i + 1))) → ⊥
+pub no_endless_steps : (f : ℕ → Item) → ((i : ℕ) → LeavesForm (f i) (f (i + 1))) → ⊥
 no_endless_steps f h =
     absurd (omega (arith, sizes_fall f h (size_of (f 0) + 1)))

@@ -15,7 +15,7 @@ use Rattle.lang_derived.specs.Table.{Row, row, true_symbol, table, is_derived, c
 use Rattle.lang_derived.specs.Derived.{row_right, derivation}
 use Rattle.lang_derived.specs.Ends.{piece_weight, pieces_weight, IfDerived, AllFurther, AllFurtherIn}
 use Rattle.lang_derived.proofs.Parts.{AllOfSome, GoesDown, OfParts, items_too, part_too, fit_all_too}
-use Rattle.lang_derived.proofs.Quotations.{AllIn, Keeps, template_kept}
+use Rattle.lang_derived.proofs.Quotations.{AllIn, TemplateKeeps, template_kept}
 use Rattle.lang_derived.proofs.Names.{free_front, front_free, both_true, PlainWord, setter_named}
 use Rattle.lang_derived.proofs.Writing.{repeated_each}
 use Rattle.lang_derived.proofs.Derivations.{OfRight, OfDerivation, OfArguments, RowKeeps, AllGroups, passed_groups, row_kept, derivation_kept}
@@ -57,7 +57,7 @@ all_further : (F : Piece → Type 0) (xs : Pieces) → AllIn (AllFurther F) xs �
 all_further F no_piece h = tt
 all_further F (piece_and x xs) h = (h.0, all_further F xs h.1)
 
-quotation_further : (F : Piece → Type 0) → Keeps (λ d. F (taken d)) (AllFurther F)
+quotation_further : (F : Piece → Type 0) → TemplateKeeps (λ d. F (taken d)) (AllFurther F)
 unfolding is_derived table conditional_rows binding_rows case_rows case_using_rows loop_rows place_rows function_rows condition_rows class_rows quotation_rows
 quotation_further F = record {
   of_taken = λ d h. h;

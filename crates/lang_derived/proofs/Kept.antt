@@ -9,12 +9,12 @@ use Rattle.base.specs.Data.{Item, item, symbol, Items, no_item, item_and, place_
 use Rattle.base.specs.DataMeasures.{Formed, AllFormed, NamesBelow, AllNamesBelow}
 use Rattle.base.specs.DataNames.{names_stay, text_same}
 use Rattle.base.specs.DataParts.{AllItems}
-use Rattle.base.specs.GoodData.{formed_parts, below_parts}
+use Rattle.base.specs.WellFormedData.{formed_parts, below_parts}
 use Rattle.lang_derived.specs.Pieces.{Piece, word, made, taken, parens, Pieces, no_piece, piece_and, Right, in_parens, Builds, BuildsAll}
 use Rattle.lang_derived.specs.Derived.{becomes, derivation, Derives, new_symbols}
 use Rattle.lang_derived.specs.declared.one_step.Step.TheVariants.{Derived}
-use Rattle.lang_derived.specs.Steps.{IsStep, IsWhole}
-use Rattle.lang_derived.specs.GoodSteps.{StepsAreGood}
+use Rattle.lang_derived.specs.Steps.{IsStep, IsWellFormedStep}
+use Rattle.lang_derived.specs.WellFormedSteps.{StepsAreWellFormed}
 use Rattle.lang_derived.specs.Ends.{AllFurther, AllFurtherIn}
 use Rattle.lang_derived.proofs.Parts.{GoesDown, goes_down}
 use Rattle.lang_derived.proofs.Derivations.{OfDerivation}
@@ -109,7 +109,7 @@ step_named : (names : List (List ℕ)) (d : Item) (s : ℕ) (e : Item) (s2 : ℕ
 step_named names d s e s2 h x =
     step_too (NamesBelow (length names)) (below_down (length names)) names (below_up (length names)) d s e s2 h x
 
-pub step_good : StepsAreGood
+pub step_good : StepsAreWellFormed
 step_good names d s e s2 g x = record { formed = step_formed names d s e s2 g.formed x; named = step_named names d s e s2 g.named x }
 
 -- a later table
@@ -141,7 +141,7 @@ step_taken old new d e p fresh after r later below fits place builds appended =
 
 -- what it gives is in form, and its names are in the table
 pub step_whole : (old new : List (List ℕ)) (d e : Item) (fresh after : List Symbol) → Extends old new → Formed d → NamesBelow (length old) d
-    → IsStep new d fresh (Derived e) after → IsWhole (length new) (Derived e)
+    → IsStep new d fresh (Derived e) after → IsWellFormedStep (length new) (Derived e)
 step_whole old new d e fresh after later formed below h = (
   step_formed new d (length fresh) e (length fresh + h.0) formed h.1.0,
   step_named new d (length fresh) e (length fresh + h.0) (names_stay old new d later below) h.1.0,

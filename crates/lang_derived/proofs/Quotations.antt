@@ -14,7 +14,7 @@ AllIn Q no_piece = Unit {0}
 AllIn Q (piece_and x xs) = Q x × AllIn Q xs
 
 -- what holds of parts holds of what a template writes around them
-pub record Keeps (P : Item → Type 0) (Q : Piece → Type 0) : Type 0 where
+pub record TemplateKeeps (P : Item → Type 0) (Q : Piece → Type 0) : Type 0 where
   pub of_taken : (d : Item) → P d → Q (taken d)
   pub of_quoted : (d : Item) → P d → Q (form (codes "quote") (taken d ∷ []))
   pub of_empty : Q (form (codes "quote") (listed [] ∷ []))
@@ -31,7 +31,7 @@ either_in : (Q : Piece → Type 0) (b : Bool) (xs ys : Pieces) → AllIn Q xs �
 either_in Q true xs ys g h = g
 either_in Q false xs ys g h = h
 
-module _ (P : Item → Type 0) (Q : Piece → Type 0) (down : GoesDown P) (keeps : Keeps P Q) (names : List (List ℕ)) where
+module _ (P : Item → Type 0) (Q : Piece → Type 0) (down : GoesDown P) (keeps : TemplateKeeps P Q) (names : List (List ℕ)) where
   mutual
     unfolding template
 

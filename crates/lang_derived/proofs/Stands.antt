@@ -15,7 +15,7 @@ use Rattle.lang_derived.specs.Table.{Row, table, is_derived, conditional_rows, b
 use Rattle.lang_derived.specs.Derived.{plain, becomes, by_name, by_table, derivation}
 use Rattle.lang_derived.specs.FormPlaces.{Role, no_form, a_form, a_list, Shape, no_part, each, first, shape_of, StandsAs, StandsNamed, StandBy}
 use Rattle.lang_derived.proofs.Parts.{GoesDown, fit_all_too}
-use Rattle.lang_derived.proofs.Quotations.{AllIn, Keeps, template_kept}
+use Rattle.lang_derived.proofs.Quotations.{AllIn, TemplateKeeps, template_kept}
 use Rattle.lang_derived.proofs.Names.{both_true, PlainWord, setter_named}
 use Rattle.lang_derived.proofs.Writing.{repeated_each}
 use Rattle.lang_derived.proofs.Derivations.{OfDerivation, OfArguments, OfBehind, RowKeeps, AllGroups, passed_groups, row_kept, derivation_kept}
@@ -111,7 +111,7 @@ all_stand : (xs : Pieces) → AllIn (StandsAs a_form) xs → StandBy (each a_for
 all_stand no_piece h = tt
 all_stand (piece_and x xs) h = (h.0, all_stand xs h.1)
 
-quotation_stands : Keeps Any (StandsAs a_form)
+quotation_stands : TemplateKeeps Any (StandsAs a_form)
 unfolding shape_of is_derived table conditional_rows binding_rows case_rows case_using_rows loop_rows place_rows function_rows condition_rows class_rows quotation_rows
 quotation_stands = record {
   of_taken = λ d h. tt;
@@ -152,12 +152,12 @@ each_by : (role : Role) (xs : List Piece) → StandBy (each role) (pieces_of xs)
 each_by role [] h = tt
 each_by role (x ∷ xs) h = (h.0, each_by role xs h.1)
 
-record One (xs : List Piece) : Type 0 where
+record OnePiece (xs : List Piece) : Type 0 where
   pub piece : Piece
   pub is : xs ≡ piece ∷ []
 
 module _ (names : List (List ℕ)) (s : ℕ) where
-  one_written : (x : Template) → writes_one x ≡ true → (own : ℕ) (parts : Parts) → One (write names s x own parts)
+  one_written : (x : Template) → writes_one x ≡ true → (own : ℕ) (parts : Parts) → OnePiece (write names s x own parts)
   unfolding write
   one_written (datum i) h own parts = record { piece = of_first (λ d. taken d) (part_of parts i); is = refl }
   one_written (all_of i) h own parts = absurd (cc)
@@ -231,7 +231,7 @@ module _ (names : List (List ℕ)) (s : ℕ) where
         let a : (writes_one x ≡ true) × ((if stands x role then stand_by xs shape else false) ≡ true) =
         both_true (writes_one x) (if stands x role then stand_by xs shape else false) h in
         let b : (stands x role ≡ true) × (stand_by xs shape ≡ true) = both_true (stands x role) (stand_by xs shape) a.1 in
-        let o : One (write names s x own parts) = one_written x a.0 own parts in
+        let o : OnePiece (write names s x own parts) = one_written x a.0 own parts in
         let y : AllOf (StandsAs role) (o.piece ∷ []) = subst (AllOf (StandsAs role)) o.is (write_stands x role b.0 own parts) in
         subst (λ zs. StandBy (first role shape) (pieces_of (zs ++ write_all names s xs own parts))) (sym o.is) (y.0, write_by xs shape b.1 own parts)
 

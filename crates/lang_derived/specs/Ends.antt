@@ -48,7 +48,7 @@ abbrev mutual
 
 -- `Leaves d e`: e is built of some part that may be derived again after a step of d, under some table of
 -- names, or e is a part of d. "Some" is said as "not all are something else".
-pub data Leaves (d : Item) (e : Item) : Type 0 where
+pub data LeavesForm (d : Item) (e : Item) : Type 0 where
   by_step : (names : List (List ℕ)) (s : ℕ) (r : Right) (p : Place) → derivation names s d ≡ becomes r
-      → (AllFurther (λ x. Builds names p x e → ⊥) r.piece → ⊥) → Leaves d e
-  by_part : (AllParts (λ x. x ≢ e) d → ⊥) → Leaves d e
+      → (AllFurther (λ x. Builds names p x e → ⊥) r.piece → ⊥) → LeavesForm d e
+  by_part : (AllParts (λ x. x ≢ e) d → ⊥) → LeavesForm d e

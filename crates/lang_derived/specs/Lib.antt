@@ -14,5 +14,5 @@ pub mod Setters
 pub mod Templates
 pub mod Ranks
 pub mod Steps
-pub mod GoodSteps
+pub mod WellFormedSteps
 pub mod Singles

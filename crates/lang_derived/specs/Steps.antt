@@ -46,6 +46,6 @@ RankFalls names n Plain = Unit {0}
 RankFalls names n (Derived d) = rank names d < n
 
 -- a datum that is given is in form, and its names are below that number
-abbrev pub IsWhole : ℕ → Step → Type 0
-IsWhole n Plain = Unit {0}
-IsWhole n (Derived d) = Formed d × NamesBelow n d
+abbrev pub IsWellFormedStep : ℕ → Step → Type 0
+IsWellFormedStep n Plain = Unit {0}
+IsWellFormedStep n (Derived d) = Formed d × NamesBelow n d

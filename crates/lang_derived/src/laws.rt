@@ -11,8 +11,8 @@ ghost use Rattle.base.specs.Names.{IsTable, Extends};
 ghost use Rattle.base.specs.DataParts.{AllParts};
 ghost use Rattle.lang_derived.specs.Table.{is_derived};
 ghost use Rattle.lang_derived.specs.Derived.{Derives, plain, becomes, derivation};
-ghost use Rattle.lang_derived.specs.GoodSteps.{StepsAreGood};
-ghost use Rattle.lang_derived.specs.Ends.{AllFurther, Leaves, piece_weight};
+ghost use Rattle.lang_derived.specs.WellFormedSteps.{StepsAreWellFormed};
+ghost use Rattle.lang_derived.specs.Ends.{AllFurther, LeavesForm, piece_weight};
 ghost use Rattle.lang_derived.specs.Pieces.{Builds, Piece, word, parens, Pieces, piece_and, Right};
 ghost use Rattle.lang_derived.specs.Ranks.{rank};
 ghost use Rattle.lang_derived.specs.Steps.{IsStep, IsStop};
@@ -38,7 +38,7 @@ pub fn law_step_stays()
 
 /// What a datum in form, with all its names in the table, becomes is in form and has all its names there.
 pub fn law_good_steps()
-    ensures { StepsAreGood }
+    ensures { StepsAreWellFormed }
 {}
 
 /// Steps end: there is no endless sequence of data in which each is left to be derived by a step of
@@ -50,7 +50,7 @@ pub fn law_good_steps()
 /// stand where the shape of that name has them; and what is built under a name that is no derived
 /// one is no derived form.
 pub fn law_steps_end()
-    ensures ends { (f : ℕ → Item) → ((i : ℕ) → Leaves (f i) (f (i + 1))) → ⊥ }
+    ensures ends { (f : ℕ → Item) → ((i : ℕ) → LeavesForm (f i) (f (i + 1))) → ⊥ }
     ensures falls { (names : List (List ℕ)) (s : ℕ) (d : Item) (r : Right) → derivation names s d ≡ becomes r →
         AllFurther (λ x. piece_weight x < size_of d) r.piece }
     ensures built { (names : List (List ℕ)) (p : Place) (x : Piece) (d : Item) → Builds names p x d →

@@ -11,7 +11,7 @@ ghost use Rattle.lang_derived.specs.Patterns.{fit_all};
 ghost use Rattle.lang_derived.specs.model.PatternView.{view_patterns};
 ghost use Rattle.lang_derived.specs.model.TableView.{view_row, view_rows, view_groups};
 ghost use Rattle.lang_derived.specs.Ranks.{rank};
-ghost use Rattle.lang_derived.specs.Steps.{shown, IsStep, IsStop, StepStays, StopStays, RankFalls, IsWhole};
+ghost use Rattle.lang_derived.specs.Steps.{shown, IsStep, IsStop, StepStays, StopStays, RankFalls, IsWellFormedStep};
 
 use crate::build::build;
 use crate::pattern::{Parts, fit_all};
@@ -257,7 +257,7 @@ pub fn derive(
     ensures step_stays { IfOk result (λ step. StepStays names.new datum.now fresh.old step fresh.new) }
     ensures stop_stays { IfErr result (λ stop. StopStays names.new datum.now (length fresh.old) stop) }
     ensures falls { IfOk result (RankFalls names.new (rank names.old datum.now)) }
-    ensures whole { IfOk result (IsWhole (length names.new)) }
+    ensures whole { IfOk result (IsWellFormedStep (length names.new)) }
     ensures fresh { OnErr result (fresh.new ≡ fresh.old) }
     ensures names { Extends names.old names.new }
 {

@@ -9,7 +9,7 @@ use Rattle.std.proofs.lemmas.Option.{slice_get-map}
 use Rattle.base.specs.Names.{slice_get-front, slice_get-behind, slice_get-push}
 use Rattle.lang_meaning.specs.Cells.{one_of_each}
 use Rattle.lang_dispatch.specs.declared.groups.Grouping.{Grouping}
-use Rattle.lang_dispatch.specs.GroupNumbers.{NumbersGroups, IsTaken}
+use Rattle.lang_dispatch.specs.GroupNumbers.{NumbersGroups, IsClassGrouped}
 
 bytes_eq-itself : (a : List ℕ) → bytes_eq a a ≡ true
 bytes_eq-itself a = (bytes_eq-Decides a a).1 refl
@@ -174,7 +174,7 @@ progress_new group n firsts kept numbers at x h =
 
 -- a class that is taken
 pub progress_taken : (group : ℕ → List ℕ) (n : ℕ) (old new : Grouping) (at : ℕ) (found : List ℕ)
-    → Progress group n old.firsts old.kept old.numbers at → IsTaken old new at found → found ≡ group at
+    → Progress group n old.firsts old.kept old.numbers at → IsClassGrouped old new at found → found ≡ group at
     → Progress group n new.firsts new.kept new.numbers (at + 1)
 progress_taken group n old new at found x taken e =
     ⊎_elim

@@ -18,8 +18,8 @@ pub record AreGroups (program : ProgramRows) (g : GenericRow) (argument : ℕ) (
   pub specialised : found.specialised ≡ is_specialised g argument
 
 -- a class is taken: it has the number of its group, or a new number as the first of it
-abbrev pub IsTaken : Grouping → Grouping → ℕ → List ℕ → Type 0
-IsTaken old new class group =
+abbrev pub IsClassGrouped : Grouping → Grouping → ℕ → List ℕ → Type 0
+IsClassGrouped old new class group =
     ((k : ℕ) × (slice_get old.kept k ≡ Some group) × (new ≡ record old { numbers = old.numbers ++ k ∷ [] }))
     ⊎ (((k : ℕ) → (g : List ℕ) → slice_get old.kept k ≡ Some g → g ≢ group)
     × (new ≡ record {

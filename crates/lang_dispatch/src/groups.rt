@@ -5,7 +5,7 @@ ghost use Rattle.std.specs.List.{list_any};
 ghost use Rattle.lang_meaning.specs.Lookup.{is_in};
 ghost use Rattle.lang_meaning.specs.Cells.{argument_classes, is_specialised, group_of};
 ghost use Rattle.lang_dispatch.specs.OfClasses.{with_classes};
-ghost use Rattle.lang_dispatch.specs.GroupNumbers.{AreGroups, IsTaken};
+ghost use Rattle.lang_dispatch.specs.GroupNumbers.{AreGroups, IsClassGrouped};
 
 use base::{ItemList, NoMemory};
 use lang_meaning::{ClassId, ClassIds, ClassRows, GenericRow};
@@ -68,7 +68,7 @@ struct Grouping {
 impl Grouping {
     // Takes the next class, which has this group.
     fn take(&mut self, class: ClassId, group: ClassIds) -> Result<(), NoMemory>
-        ensures { OnOk result (IsTaken self.old self.new class group) }
+        ensures { OnOk result (IsClassGrouped self.old self.new class group) }
     {
         match place_of(&self.kept, &group) {
             Some(number) => self.numbers.push(number),

@@ -12,7 +12,7 @@ use Rattle.lang_meaning.specs.State.{State}
 use Rattle.lang_meaning.specs.Lookup.{passed}
 use Rattle.lang_meaning.specs.Classes.{fetch, class_of, precedence, slots, is_condition}
 use Rattle.lang_meaning.specs.Primitives.{Answer, result, makes, makes_symbol, fails, domain_error, needs, as_integer, as_character, as_cons, as_string, as_vector, as_class, as_instance, as_stream, as_symbol, integer_result, floor_quotient, floor_remainder, division, index_of, length_of, byte_of, change, other_bytes, can_be_made, is_slot, slot_place, slot_value, a_slot, of_none, of_one, of_two, of_three, of_integers, primitive}
-use Rattle.lang_meaning.proofs.Steps.{IsKept}
+use Rattle.lang_meaning.proofs.Steps.{IsKeptByRules}
 
 -- the state of an answer
 abbrev pub state_of : Answer → State
@@ -22,7 +22,7 @@ state_of (makes_symbol z) = z
 state_of (fails class vs z) = z
 state_of (domain_error v expected z) = z
 
-module _ (R : State → State → Type 0) (k : IsKept R) where
+module _ (R : State → State → Type 0) (k : IsKeptByRules R) where
   -- an answer's state is a later one
   record Keeps (z : State) (a : Answer) : Type 0 where
     pub by : R z (state_of a)

@@ -11,17 +11,17 @@ use Rattle.lang_meaning.specs.Form.{Form, parameters}
 use Rattle.lang_meaning.specs.Counts.{nodes, application_words}
 use Rattle.lang_meaning.specs.Values.{Value, symbol, named, nil, object}
 use Rattle.lang_meaning.specs.Objects.{Chain, Called, Environment, no_environment, Object, cons, string, vector, instance, function, closure, generic_function, class_object, input_stream, output_stream, fresh_symbol, control_error_class, program_error_class, undefined_function_class}
-use Rattle.lang_meaning.specs.State.{State, Surroundings, Exit, signal_exit, Landing, at_segment, at_site, Evaluated, leaves, Act, inside, exit_made, Limit, charged}
+use Rattle.lang_meaning.specs.State.{State, DynamicContext, Exit, signal_exit, Landing, at_segment, at_site, Evaluated, leaves, Act, inside, exit_made, Limit, charged}
 use Rattle.lang_meaning.specs.Lookup.{text, with_variables, with_values}
-use Rattle.lang_meaning.specs.declared.part.Part.TheVariants.{Method}
-use Rattle.lang_meaning.specs.Captured.{captures, has_cell}
+use Rattle.lang_meaning.specs.declared.capture.Capture.TheVariants.{Method}
+use Rattle.lang_meaning.specs.Captured.{captures, has_box}
 use Rattle.lang_meaning.specs.Classes.{class_of, fetch, chain}
-use Rattle.lang_meaning.specs.Signals.{Context, Task, nothing, form, methods, Evaluation, Signals, takes, marked, marked_at, descend, make_list, gathered, with_cells, with_record, enter, apply_procedure, apply_closure, apply_method, apply_each, run_primary, run_around, run_chain, undefined_function, signal_domain_error, apply_chain, apply_generic_row, apply_generic, apply_object, apply_value, apply_callee, apply_row, new_condition, signal_under, signal, search, to_exit, transfer, throw_to, continue_with, is_catch, is_signal, is_continuable}
-use Rattle.lang_meaning.proofs.Steps.{IsKept}
+use Rattle.lang_meaning.specs.Signals.{Context, Task, nothing, form, methods, Evaluation, Signals, takes, marked, marked_at, descend, make_list, gathered, with_boxes, with_record, enter, apply_procedure, apply_closure, apply_method, apply_each, run_primary, run_around, run_chain, undefined_function, signal_domain_error, apply_chain, apply_generic_row, apply_generic, apply_object, apply_value, apply_callee, apply_row, new_condition, signal_under, signal, search, to_exit, transfer, throw_to, continue_with, is_catch, is_signal, is_continuable}
+use Rattle.lang_meaning.proofs.Steps.{IsKeptByRules}
 use Rattle.lang_meaning.proofs.Compared.{Extends, Continues, Follows, Acts, Within, Beside, second, Both, itself, given, sooner, on, tests, catches, some, requests, charges, made, framed}
 
-module _ {R : State → State → Type 0} {k : IsKept R} where
-  pub descends : {low high : Task → Evaluation} → Within R k low high → (around : Surroundings) (z : State) {next next' : State → Evaluated} → Follows R k around.exits next next'
+module _ {R : State → State → Type 0} {k : IsKeptByRules R} where
+  pub descends : {low high : Task → Evaluation} → Within R k low high → (around : DynamicContext) (z : State) {next next' : State → Evaluated} → Follows R k around.exits next next'
       → Extends R k around.exits z (descend low next around z) (descend high next' around z)
   descends w around z c = on (w nothing no_environment around z) (λ v after. c after)
 
@@ -38,13 +38,13 @@ module _ {R : State → State → Type 0} {k : IsKept R} where
   gathers limit exits required (Some rest) vs z c =
       lists limit exits (drop required vs) z (λ tail after. c (take required vs ++ tail ∷ []) after)
 
-  pub cells : (limit : Limit) (exits : List Exit) (vs : List ℕ) (body : Form) (z : State) {next next' : State → Evaluated} → Follows R k exits next next'
-      → Extends R k exits z (with_cells limit vs body z next) (with_cells limit vs body z next')
-  cells limit exits [] body z c = c z
-  cells limit exits (v ∷ vs) body z c =
-      tests (has_cell v body)
-      (requests limit 1 0 z (λ entered. charges 1 entered (cells limit exits vs body (charged 1 entered) c)))
-      (cells limit exits vs body z c)
+  pub boxes : (limit : Limit) (exits : List Exit) (vs : List ℕ) (body : Form) (z : State) {next next' : State → Evaluated} → Follows R k exits next next'
+      → Extends R k exits z (with_boxes limit vs body z next) (with_boxes limit vs body z next')
+  boxes limit exits [] body z c = c z
+  boxes limit exits (v ∷ vs) body z c =
+      tests (has_box v body)
+      (requests limit 1 0 z (λ entered. charges 1 entered (boxes limit exits vs body (charged 1 entered) c)))
+      (boxes limit exits vs body z c)
 
   pub records : (limit : Limit) (exits : List Exit) (called : Option Called) (body : Form) (z : State) {next next' : State → Evaluated} → Follows R k exits next next'
       → Extends R k exits z (with_record limit called body z next) (with_record limit called body z next')
@@ -76,7 +76,7 @@ module _ {R : State → State → Type 0} {k : IsKept R} where
       (charges 1 z (f x (h x.number (inl refl)) (charged 1 z)))
       (charges 1 z (exit_searches exits p f o xs (λ e i. h e (inr i)) (charged 1 z)))
 
-module _ {R : State → State → Type 0} {k : IsKept R} (b : Beside R k) where
+module _ {R : State → State → Type 0} {k : IsKeptByRules R} (b : Beside R k) where
   -- signals of conditions
   abbrev pub Signs : (Context → Signals) → Type 0
   Signs wrong = (class : ℕ) (slots : List Value) → Both b (λ context. wrong context class slots)
@@ -93,7 +93,7 @@ module _ {R : State → State → Type 0} {k : IsKept R} (b : Beside R k) where
         charges (length vs) entered
         (gathers b.context.limit around.exits (length required) rest vs (charged (length vs) entered) (λ ws gone.
         records b.context.limit around.exits called body gone (λ recorded.
-        cells b.context.limit around.exits (parameters required rest) body recorded (λ ready.
+        boxes b.context.limit around.exits (parameters required rest) body recorded (λ ready.
         sooner (k.values ws ready)
         (b.within (form body) (with_variables (parameters required rest) ready env) around (with_values ws ready))))))))
         (s program_error_class [] around z)
@@ -226,12 +226,12 @@ module _ {R : State → State → Type 0} {k : IsKept R} (b : Beside R k) where
 
   -- transfers
   exit_left : (p : Exit → Bool) (go go' : Exit → Act)
-      → ((x : Exit) (around : Surroundings) (z : State) → IsExitOf x.number around.exits → Extends R k around.exits z (go x around z) (go' x around z))
+      → ((x : Exit) (around : DynamicContext) (z : State) → IsExitOf x.number around.exits → Extends R k around.exits z (go x around z) (go' x around z))
       → Acts R k (to_exit b.context p go) (to_exit (second b) p go')
   exit_left p go go' f around z =
       exit_searches around.exits p (λ x i y. f x around y i) (λ y. signals control_error_class [] around y) around.exits (λ e i. i) z
 
-  leaving : (x : Exit) (v : Value) (landing : Landing) (around : Surroundings) (z : State) → IsExitOf x.number around.exits
+  leaving : (x : Exit) (v : Value) (landing : Landing) (around : DynamicContext) (z : State) → IsExitOf x.number around.exits
       → Extends R k around.exits z (leaves x.number v landing z) (leaves x.number v landing z)
   leaving x v landing around z i = itself around.exits (leaves x.number v landing z) (k.none z) (inr i)
 

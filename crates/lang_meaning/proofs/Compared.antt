@@ -6,9 +6,9 @@ use Rattle.lang_meaning.specs.Laws.{IsExitOf, LandsIn}
 use Rattle.lang_meaning.specs.Prefixes.{IsPrefix}
 use Rattle.lang_meaning.specs.Values.{Value, object}
 use Rattle.lang_meaning.specs.Objects.{Environment, Object}
-use Rattle.lang_meaning.specs.State.{State, Surroundings, Exit, ExitKind, Landing, Outcome, value, exit, full, more, Evaluated, gives, leaves, Act, go_on, go_on_from, landed, landed_from, caught, cleaned, cleaned_from, exits_from, Limit, has_room, room_left, request, with_words, charged, make, stored, with_stack, in_frame}
+use Rattle.lang_meaning.specs.State.{State, DynamicContext, Exit, ExitKind, Landing, Outcome, value, exit, full, more, Evaluated, gives, leaves, Act, go_on, go_on_from, landed, landed_from, caught, cleaned, cleaned_from, exits_from, Limit, has_room, room_left, request, with_words, charged, make, stored, with_stack, in_frame}
 use Rattle.lang_meaning.specs.Signals.{Context, Task, Evaluation, with_some}
-use Rattle.lang_meaning.proofs.Steps.{IsKept, prefix_of_prefix}
+use Rattle.lang_meaning.proofs.Steps.{IsKeptByRules, prefix_of_prefix}
 
 -- the first evaluation ran out of levels, and what it printed is a beginning of what the second one did
 pub record IsCut (r s : Evaluated) : Type 0 where
@@ -40,7 +40,7 @@ wider_landing few many w (exit e v landing) (inr i) = inr (w e i)
 wider_landing few many w (full asked left) l = tt
 wider_landing few many w more l = tt
 
-module _ (R : State → State → Type 0) (k : IsKept R) where
+module _ (R : State → State → Type 0) (k : IsKeptByRules R) where
   -- from a state, among exits: the second evaluation goes on from the state and lands among the exits, and the
   -- first one is the same or was cut
   pub record Extends (exits : List Exit) (z : State) (r s : Evaluated) : Type 0 where
@@ -55,9 +55,9 @@ module _ (R : State → State → Type 0) (k : IsKept R) where
   abbrev pub Follows : List Exit → (State → Evaluated) → (State → Evaluated) → Type 0
   Follows exits next next' = (z : State) → Extends exits z (next z) (next' z)
 
-  -- acts, in all surroundings
+  -- acts, in every dynamic context
   abbrev pub Acts : Act → Act → Type 0
-  Acts act act' = (around : Surroundings) (z : State) → Extends around.exits z (act around z) (act' around z)
+  Acts act act' = (around : DynamicContext) (z : State) → Extends around.exits z (act around z) (act' around z)
 
   -- one meaning beside another, for all tasks
   abbrev pub Within : (Task → Evaluation) → (Task → Evaluation) → Type 0
@@ -70,14 +70,14 @@ module _ (R : State → State → Type 0) (k : IsKept R) where
     pub within : Within context.below higher
 
 -- acts in both contexts
-module _ {R : State → State → Type 0} {k : IsKept R} (b : Beside R k) where
+module _ {R : State → State → Type 0} {k : IsKeptByRules R} (b : Beside R k) where
   abbrev pub second : Context
   second = record b.context { below = b.higher }
 
   abbrev pub Both : (Context → Act) → Type 0
   Both act = Acts R k (act b.context) (act second)
 
-module _ {R : State → State → Type 0} {k : IsKept R} where
+module _ {R : State → State → Type 0} {k : IsKeptByRules R} where
   -- one result for both
   pub itself : (exits : List Exit) {z : State} (r : Evaluated) → R z r.state → LandsIn exits r.outcome → Extends R k exits z r r
   itself exits r g l = record { grows = g; lands = l; either = inl refl }
@@ -158,7 +158,7 @@ module _ {R : State → State → Type 0} {k : IsKept R} where
   catches {exits} e kind x = lands_on e kind (λ v landing z. given exits v z (k.none z)) x
 
   -- a cleanup
-  pub cleans : {y : State} {r s : Evaluated} (around : Surroundings) {cleanup cleanup' : Act} → Acts R k cleanup cleanup'
+  pub cleans : {y : State} {r s : Evaluated} (around : DynamicContext) {cleanup cleanup' : Act} → Acts R k cleanup cleanup'
       → Extends R k around.exits y r s → Extends R k around.exits y (cleaned cleanup around r) (cleaned cleanup' around s)
   cleans {y} {r} {s} around {cleanup} {cleanup'} c x =
       used (cleaned_from cleanup around) (cleaned_from cleanup' around) (λ z. refl) at x

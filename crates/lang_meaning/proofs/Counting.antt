@@ -15,7 +15,7 @@ pub record IsDeepest (all left : List Form) (so_far : ℕ) : Type 0 where
   pub seen : min (max so_far (greatest (map depth left))) 4294967295 ≡ min (greatest (map depth all)) 4294967295
 
 -- the nodes of forms together, in 64 bits
-pub record AreCounted (bodies : Bodies) (all left : List Form) (so_far : ℕ) : Type 0 where
+pub record NodesAreCounted (bodies : Bodies) (all left : List Form) (so_far : ℕ) : Type 0 where
   pub smaller : sizes left ≤ sizes all
   pub fits : so_far ≤ 18446744073709551615
   pub counted : min (so_far + sum (map (nodes_with bodies) left)) 18446744073709551615 ≡ min (sum (map (nodes_with bodies) all)) 18446744073709551615

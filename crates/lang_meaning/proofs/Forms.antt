@@ -9,22 +9,22 @@ use Rattle.lang_meaning.specs.Form.{BindingForms, no_binding, binding_and, Dynam
 use Rattle.lang_meaning.specs.Counts.{count_forms, count_clauses, count_bindings, count_dynamics}
 use Rattle.lang_meaning.specs.Values.{Value, symbol, named, nil, is_true}
 use Rattle.lang_meaning.specs.Objects.{Called, Environment, fresh_symbol, function_class, list_class, serious_condition_class, control_error_class, unbound_variable_class}
-use Rattle.lang_meaning.specs.State.{State, Surroundings, Exit, block_exit, tagbody_exit, catch_exit, at_segment, Evaluated, Act, inside, exit_made, charged}
+use Rattle.lang_meaning.specs.State.{State, DynamicContext, Exit, block_exit, tagbody_exit, catch_exit, at_segment, Evaluated, Act, inside, exit_made, charged}
 use Rattle.lang_meaning.specs.Lookup.{text, under_text, under_number, value_at, set_at, numbered, with_variables, with_values, with_exit}
 use Rattle.lang_meaning.specs.Classes.{fetch, is_condition}
 use Rattle.lang_meaning.specs.Literals.{function_row}
-use Rattle.lang_meaning.specs.Layout.{function_value}
+use Rattle.lang_meaning.specs.InitialHeap.{function_value}
 use Rattle.lang_meaning.specs.Primitives.{Answer, result, makes, makes_symbol, fails, domain_error, is_function, primitive}
 use Rattle.lang_meaning.specs.Signals.{Task, nothing, form, turn, methods, signal_domain_error, signal, answered, apply_value, unbound_variable}
 use Rattle.lang_meaning.specs.Meaning.{place_of_site, unless_nil, from_segment, segment_of, bound_variables, bound_names, with_turns, spread, mean_literal, mean_global, set_global_to, mean_dynamic, set_dynamic_to, mean_apply, mean_call_value, mean_signal, with_handler_value, mean_next, turned, mean, mean_sequence, mean_arguments, mean_clauses, mean_body, mean_bindings, mean_dynamics, mean_task}
-use Rattle.lang_meaning.proofs.Steps.{IsKept}
+use Rattle.lang_meaning.proofs.Steps.{IsKeptByRules}
 use Rattle.lang_meaning.proofs.Compared.{Extends, Follows, Acts, Beside, second, Both, given, sooner, on, tests, lands_on, catches, cleans, some, charges, made}
 use Rattle.lang_meaning.proofs.Applied as applied
-use Rattle.lang_meaning.proofs.Applied.{Signs, domain_signals, undefined, row_applies, chain_runs, cells, signals, signals_under, searches, transfers, throws, continues}
+use Rattle.lang_meaning.proofs.Applied.{Signs, domain_signals, undefined, row_applies, chain_runs, boxes, signals, signals_under, searches, transfers, throws, continues}
 use Rattle.lang_meaning.proofs.Answers.{state_of, primitive_kept}
 
-module _ {R : State → State → Type 0} {k : IsKept R} (b : Beside R k) where
-  answers : (a : Answer) (around : Surroundings) (y z : State) → R z (state_of a)
+module _ {R : State → State → Type 0} {k : IsKeptByRules R} (b : Beside R k) where
+  answers : (a : Answer) (around : DynamicContext) (y z : State) → R z (state_of a)
       → Extends R k around.exits z (answered b.context a around y) (answered (second b) a around y)
   answers (result v after) around y z g = given around.exits v after g
   answers (makes size besides o after) around y z g =
@@ -109,7 +109,7 @@ module _ {R : State → State → Type 0} {k : IsKept R} (b : Beside R k) where
       (signals_under b around.handlers c mark around z)
       (domains c serious_condition_class around z)
 
-  handlers : (h : Value) (around : Surroundings) (z : State) {body body' : Act} → Acts R k body body'
+  handlers : (h : Value) (around : DynamicContext) (z : State) {body body' : Act} → Acts R k body body'
       → Extends R k around.exits z (with_handler_value b.context h body around z) (with_handler_value (second b) h body' around z)
   handlers h around z c =
       tests (is_function (fetch z h)) (c (record around { handlers = h ∷ around.handlers }) z)
@@ -119,7 +119,7 @@ module _ {R : State → State → Type 0} {k : IsKept R} (b : Beside R k) where
   nexts None around z = wrongs control_error_class [] around z
   nexts (Some called) around z = chain_runs b signal wrongs called.rest called.arguments around z
 
-  turns : (e : ℕ) (all : Forms) (env : Environment) (around : Surroundings) {y : State} {r s : Evaluated}
+  turns : (e : ℕ) (all : Forms) (env : Environment) (around : DynamicContext) {y : State} {r s : Evaluated}
       → Extends R k (with_turns e around).exits y r s
       → Extends R k around.exits y (turned b.context e all env around r) (turned (second b) e all env around s)
   turns e all env around x =
@@ -152,7 +152,7 @@ module _ {R : State → State → Type 0} {k : IsKept R} (b : Beside R k) where
     means (let_form bs body) env around z =
         charges (1 + count_bindings bs) z
         (bindings_mean bs [] env around (charged (1 + count_bindings bs) z) (λ vs after.
-        cells b.context.limit around.exits (bound_variables bs) body after (λ ready.
+        boxes b.context.limit around.exits (bound_variables bs) body after (λ ready.
         sooner (k.values vs ready)
         (means body (with_variables (bound_variables bs) ready env) around (with_values vs ready)))))
     means (lambda required rest body parts) env around z =
@@ -242,7 +242,7 @@ module _ {R : State → State → Type 0} {k : IsKept R} (b : Beside R k) where
     sequence_means last (form_and f fs) env around z =
         on (means f env around z) (λ v after. sequence_means v fs env around after)
 
-    arguments_mean : (fs : Forms) (vs : List Value) (env : Environment) (around : Surroundings) (z : State)
+    arguments_mean : (fs : Forms) (vs : List Value) (env : Environment) (around : DynamicContext) (z : State)
         {next next' : List Value → State → Evaluated} → ((ws : List Value) → Follows R k around.exits (next ws) (next' ws))
         → Extends R k around.exits z (mean_arguments b.context fs vs env around z next) (mean_arguments (second b) fs vs env around z next')
     arguments_mean no_form vs env around z c = c vs z
@@ -261,14 +261,14 @@ module _ {R : State → State → Type 0} {k : IsKept R} (b : Beside R k) where
     body_means v no_body env around z = given around.exits v z (k.none z)
     body_means v (with_body f) env around z = means f env around z
 
-    bindings_mean : (bs : BindingForms) (vs : List Value) (env : Environment) (around : Surroundings) (z : State)
+    bindings_mean : (bs : BindingForms) (vs : List Value) (env : Environment) (around : DynamicContext) (z : State)
         {next next' : List Value → State → Evaluated} → ((ws : List Value) → Follows R k around.exits (next ws) (next' ws))
         → Extends R k around.exits z (mean_bindings b.context bs vs env around z next) (mean_bindings (second b) bs vs env around z next')
     bindings_mean no_binding vs env around z c = c vs z
     bindings_mean (binding_and x f bs) vs env around z c =
         on (means f env around z) (λ v after. bindings_mean bs (vs ++ v ∷ []) env around after c)
 
-    dynamics_mean : (bs : DynamicForms) (vs : List Value) (env : Environment) (around : Surroundings) (z : State)
+    dynamics_mean : (bs : DynamicForms) (vs : List Value) (env : Environment) (around : DynamicContext) (z : State)
         {next next' : List Value → State → Evaluated} → ((ws : List Value) → Follows R k around.exits (next ws) (next' ws))
         → Extends R k around.exits z (mean_dynamics b.context bs vs env around z next) (mean_dynamics (second b) bs vs env around z next')
     dynamics_mean no_dynamic vs env around z c = c vs z

@@ -6,15 +6,15 @@ use Rattle.lang_meaning.specs.Form.{Form}
 use Rattle.lang_meaning.specs.Counts.{nodes, application_words}
 use Rattle.lang_meaning.specs.Values.{Value, nil}
 use Rattle.lang_meaning.specs.Objects.{no_environment}
-use Rattle.lang_meaning.specs.State.{State, first_state, main_surroundings, more, Evaluated, Limit}
-use Rattle.lang_meaning.specs.Layout.{objects_at_start}
+use Rattle.lang_meaning.specs.State.{State, first_state, main_context, more, Evaluated, Limit}
+use Rattle.lang_meaning.specs.InitialHeap.{objects_at_start}
 use Rattle.lang_meaning.specs.Signals.{Task, form, Evaluation}
 use Rattle.lang_meaning.specs.Meaning.{mean_task, none_below, context_of, meaning_at, mean_main, mean_mains, end_of, meant, meaning}
-use Rattle.lang_meaning.proofs.Steps.{IsKept, GrowsAnew, anew_kept, prefix_of_itself}
+use Rattle.lang_meaning.proofs.Steps.{IsKeptByRules, GrowsAnew, anew_kept, prefix_of_itself}
 use Rattle.lang_meaning.proofs.Compared.{Extends, Within, itself, given, on, requests}
 use Rattle.lang_meaning.proofs.Forms.{tasks}
 
-module _ {R : State → State → Type 0} {k : IsKept R} where
+module _ {R : State → State → Type 0} {k : IsKeptByRules R} where
   -- nothing is below everything that keeps the relation
   none_within : {low high : Task → Evaluation} → Within R k low high → Within R k none_below high
   none_within {low} {high} w task env around z = record {
@@ -46,21 +46,21 @@ module _ {R : State → State → Type 0} {k : IsKept R} where
       beside names program limit (levels_within names program limit few many (omega (arith, h)))
 
   main_within : (names : List (List ℕ)) (program : ProgramRows) (limit : Limit) (few many : ℕ) → few ≤ many → (f : Form) (z : State)
-      → Extends R k main_surroundings.exits z (mean_main names program limit few f z) (mean_main names program limit many f z)
+      → Extends R k main_context.exits z (mean_main names program limit few f z) (mean_main names program limit many f z)
   main_within names program limit few many h f z =
       requests limit 0 (application_words (nodes f)) z (λ entered.
-      on (levels_within names program limit few many h (form f) no_environment main_surroundings entered) (λ v after.
-      given main_surroundings.exits v (record after { stack = z.stack }) (k.stack z.stack after)))
+      on (levels_within names program limit few many h (form f) no_environment main_context entered) (λ v after.
+      given main_context.exits v (record after { stack = z.stack }) (k.stack z.stack after)))
 
   pub mains_within : (names : List (List ℕ)) (program : ProgramRows) (limit : Limit) (few many : ℕ) → few ≤ many → (fs : List Form) (last : Value) (z : State)
-      → Extends R k main_surroundings.exits z (mean_mains names program limit few fs last z) (mean_mains names program limit many fs last z)
-  mains_within names program limit few many h [] last z = given main_surroundings.exits last z (k.none z)
+      → Extends R k main_context.exits z (mean_mains names program limit few fs last z) (mean_mains names program limit many fs last z)
+  mains_within names program limit few many h [] last z = given main_context.exits last z (k.none z)
   mains_within names program limit few many h (f ∷ fs) last z =
       on (main_within names program limit few many h f z) (λ v after.
       mains_within names program limit few many h fs v after)
 
 -- what is known of two results side by side
-settled : {z : State} {r s : Evaluated} → Extends GrowsAnew anew_kept main_surroundings.exits z r s → IsSettled (meant r) (meant s)
+settled : {z : State} {r s : Evaluated} → Extends GrowsAnew anew_kept main_context.exits z r s → IsSettled (meant r) (meant s)
 settled {z} {r} {s} x = ⊎_elim
     (λ same. subst (λ q. IsSettled (meant q) (meant s)) (sym same)
     (record { same = λ h. refl; prefix = prefix_of_itself s.state.printed }))

@@ -8,7 +8,7 @@ use Rattle.lang_meaning.specs.declared.program.LiteralRow.{LiteralRow}
 use Rattle.lang_meaning.specs.declared.program.LiteralRow.TheVariants.{Datum}
 use Rattle.lang_meaning.specs.Objects.{Object}
 use Rattle.lang_meaning.specs.Lookup.{numbered}
-use Rattle.lang_meaning.specs.Layout.{Thing, literal, literal_objects, laid_out, under_key, stands_for, literal_value}
+use Rattle.lang_meaning.specs.InitialHeap.{Thing, literal, literal_objects, laid_out, under_key, stands_for, literal_value}
 use Rattle.lang_meaning.specs.Recipes.{in_turn, literal_recipe, last_of}
 use Rattle.lang_meaning.proofs.RecipeKeys.{AreOthers, first_thing, later_thing}
 use Rattle.lang_meaning.proofs.RecipeSegments.{literal_thing, literal_same}

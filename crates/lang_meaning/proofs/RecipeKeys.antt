@@ -4,7 +4,7 @@ use Rattle.std.specs.Prelude.{if◌then◌else◌, flat_map}
 use Rattle.std.proofs.lemmas.List.{length-append}
 use Rattle.lang_meaning.specs.Values.{nil, object}
 use Rattle.lang_meaning.specs.Objects.{Object}
-use Rattle.lang_meaning.specs.Layout.{Key, part, same_key, Keyed, Thing, keyed, laid_out, under_key}
+use Rattle.lang_meaning.specs.InitialHeap.{Key, part, same_key, Keyed, Thing, keyed, laid_out, under_key}
 use Rattle.lang_meaning.specs.Recipes.{last_of}
 
 abbrev pub object_under : Keyed → Object

@@ -9,7 +9,7 @@ use Rattle.lang_meaning.specs.declared.program.LiteralRow.TheVariants as row
 use Rattle.lang_meaning.specs.Objects.{Object}
 use Rattle.lang_meaning.specs.Lookup.{numbered}
 use Rattle.lang_meaning.specs.Literals.{lay_content}
-use Rattle.lang_meaning.specs.Layout.{Thing, literal, initargs, initform, keyed, laid_out, literal_objects, initargs_list, initform_objects, slot_things}
+use Rattle.lang_meaning.specs.InitialHeap.{Thing, literal, initargs, initform, keyed, laid_out, literal_objects, initargs_list, initform_objects, slot_things}
 use Rattle.lang_meaning.specs.Recipes.{Recipe, in_turn, literal_recipe, OfSlot, slot_recipe, slots_recipe}
 use Rattle.lang_meaning.proofs.RecipeKeys.{object_under, keyed_objects, laid_append}
 

@@ -6,7 +6,7 @@ use Rattle.lang_meaning.specs.declared.program.ProgramRows.{ProgramRows}
 use Rattle.lang_meaning.specs.Values.{Value, object}
 use Rattle.lang_meaning.specs.Objects.{Object}
 use Rattle.lang_meaning.specs.Literals.{Laid, no_object, after_parts, lay, lay_content, lay_list, lay_tail}
-use Rattle.lang_meaning.specs.Layout.{literal, stands_for, literal_value}
+use Rattle.lang_meaning.specs.InitialHeap.{literal, stands_for, literal_value}
 use Rattle.lang_meaning.specs.Recipes.{last_of}
 
 -- at least one object, of which the last is the value

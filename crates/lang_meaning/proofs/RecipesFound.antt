@@ -3,7 +3,7 @@ use Rattle.std.proofs.Common.{◌≡◌, ℕ, zero, suc, ◌+◌, ◌<◌, ◌�
 use Rattle.std.specs.List.{range_with_len}
 use Rattle.std.proofs.lemmas.Bool.{ne_eqb}
 use Rattle.lang_meaning.specs.Values.{Value, nil, object}
-use Rattle.lang_meaning.specs.Layout.{class, laid_out, under_key, class_things}
+use Rattle.lang_meaning.specs.InitialHeap.{class, laid_out, under_key, class_things}
 use Rattle.lang_meaning.specs.Recipes.{in_turn, class_recipe}
 use Rattle.lang_meaning.proofs.RecipeKeys.{AreOthers}
 

@@ -10,24 +10,24 @@ use Rattle.lang_meaning.specs.Values.{Value, nil}
 use Rattle.lang_meaning.specs.Objects.{Object}
 use Rattle.lang_meaning.specs.State.{no_place}
 use Rattle.lang_meaning.specs.Literals.{lay_content}
-use Rattle.lang_meaning.specs.Layout.{Key, part, initargs, initform, same_key, laid_out, under_key, initargs_list, initform_objects}
+use Rattle.lang_meaning.specs.InitialHeap.{Key, part, initargs, initform, same_key, laid_out, under_key, initargs_list, initform_objects}
 use Rattle.lang_meaning.specs.Recipes.{in_turn, OfSlot, slot_recipe, slots_recipe}
 use Rattle.lang_meaning.proofs.RecipeKeys.{AreOthers, others_append, absent_others, first_thing, later_thing, laid_append, passed_over, none_behind}
 use Rattle.lang_meaning.proofs.RecipeSegments.{initargs_thing, initform_thing, slots_of, all_slots_of, slot_count, objects_of_slots, as_many}
 use Rattle.lang_meaning.proofs.RecipeShapes.{list_last}
 
 -- what is looked up of a slot
-pub data Part : Type 0 where
-  args : Part
-  form : Part
+pub data SlotPart : Type 0 where
+  args : SlotPart
+  form : SlotPart
 
-abbrev pub key_of : Part → (class place : ℕ) → Key
+abbrev pub key_of : SlotPart → (class place : ℕ) → Key
 key_of args c i = initargs c i
 key_of form c i = initform c i
 
 -- how the two are read from what stands for a slot
 pub record Reading {V : Type 0} (of : OfSlot V) : Type 0 where
-  pub read : Part → V → Value
+  pub read : SlotPart → V → Value
   pub args_are : (s : SlotRow) (a f : Value) → read args (of s a f) ≡ a
   pub form_are : (s : SlotRow) (a f : Value) → read form (of s a f) ≡ f
 
@@ -43,7 +43,7 @@ value_in_class read (vs ∷ vss) (suc c) i = value_in_class read vss c i
 
 -- keys
 
-inner : (which : Part) (c i : ℕ) → same_key (key_of which c i) part ≡ false
+inner : (which : SlotPart) (c i : ℕ) → same_key (key_of which c i) part ≡ false
 inner args c i = refl
 inner form c i = refl
 
@@ -61,26 +61,26 @@ not_second c i d j h = by (c == d)
     by false = refl
 
 -- a slot with another place, and one of another class
-passed_args : (which : Part) (c i d j : ℕ) → ((c == d) && (i == j)) ≡ false → same_key (key_of which c i) (initargs d j) ≡ false
+passed_args : (which : SlotPart) (c i d j : ℕ) → ((c == d) && (i == j)) ≡ false → same_key (key_of which c i) (initargs d j) ≡ false
 passed_args args c i d j h = h
 passed_args form c i d j h = refl
 
-passed_form : (which : Part) (c i d j : ℕ) → ((c == d) && (i == j)) ≡ false → same_key (key_of which c i) (initform d j) ≡ false
+passed_form : (which : SlotPart) (c i d j : ℕ) → ((c == d) && (i == j)) ≡ false → same_key (key_of which c i) (initform d j) ≡ false
 passed_form args c i d j h = refl
 passed_form form c i d j h = h
 
-others_behind : (names : List (List ℕ)) (which : Part) (c i : ℕ) (slots : List SlotRow) (j : ℕ) → i < j → AreOthers (key_of which c i) (slots_of names c slots j)
+others_behind : (names : List (List ℕ)) (which : SlotPart) (c i : ℕ) (slots : List SlotRow) (j : ℕ) → i < j → AreOthers (key_of which c i) (slots_of names c slots j)
 others_behind names which c i [] j h = tt
 others_behind names which c i (s ∷ ss) j h =
     let other : ((c == c) && (i == j)) ≡ false = not_second c i c j (λ e. omega arith) in
     (passed_args which c i c j other, (passed_form which c i c j other, others_behind names which c i ss (j + 1) (omega arith)))
 
-others_apart : (names : List (List ℕ)) (which : Part) (c i d : ℕ) (slots : List SlotRow) (j : ℕ) → (c ≡ d → ⊥) → AreOthers (key_of which c i) (slots_of names d slots j)
+others_apart : (names : List (List ℕ)) (which : SlotPart) (c i d : ℕ) (slots : List SlotRow) (j : ℕ) → (c ≡ d → ⊥) → AreOthers (key_of which c i) (slots_of names d slots j)
 others_apart names which c i d [] j h = tt
 others_apart names which c i d (s ∷ ss) j h =
     (passed_args which c i d j (not_first c i d j h), (passed_form which c i d j (not_first c i d j h), others_apart names which c i d ss (j + 1) h))
 
-others_later : (names : List (List ℕ)) (which : Part) (c i : ℕ) (classes : List ClassRow) (k : ℕ) → c < k → AreOthers (key_of which c i) (all_slots_of names classes k)
+others_later : (names : List (List ℕ)) (which : SlotPart) (c i : ℕ) (classes : List ClassRow) (k : ℕ) → c < k → AreOthers (key_of which c i) (all_slots_of names classes k)
 others_later names which c i [] k h = tt
 others_later names which c i (d ∷ ds) k h =
     others_append (key_of which c i) (slots_of names k d.slots 0) (all_slots_of names ds (k + 1))
@@ -91,7 +91,7 @@ others_later names which c i (d ∷ ds) k h =
 abbrev rest_from : List (List ℕ) → (c j : ℕ) → SlotRow → List SlotRow → ℕ → ℕ
 rest_from names c j s ss n = n + length ((initargs_thing names c (s, j)).objects n) + length (initform_objects s.initform)
 
-slot_found : {V : Type 0} (of : OfSlot V) (r : Reading of) (names : List (List ℕ)) (which : Part) (c : ℕ) (slots : List SlotRow) (j n i : ℕ)
+slot_found : {V : Type 0} (of : OfSlot V) (r : Reading of) (names : List (List ℕ)) (which : SlotPart) (c : ℕ) (slots : List SlotRow) (j n i : ℕ)
     → under_key (key_of which c (j + i)) (laid_out (slots_of names c slots j) n) n ≡ value_at (r.read which) (in_turn (slot_recipe of names) slots n).1 i
 slot_found of r names which c [] j n i = refl
 slot_found of r names args c (s ∷ ss) j n zero =
@@ -119,7 +119,7 @@ slot_found of r names which c (s ∷ ss) j n (suc i) =
     ∙ slot_found of r names which c ss (j + 1) (n + length (slot_recipe of names s n).0) i
 
 -- the slots of all classes
-slot_found_in : {V : Type 0} (of : OfSlot V) (r : Reading of) (names : List (List ℕ)) (which : Part) (classes : List ClassRow) (k n c i : ℕ)
+slot_found_in : {V : Type 0} (of : OfSlot V) (r : Reading of) (names : List (List ℕ)) (which : SlotPart) (classes : List ClassRow) (k n c i : ℕ)
     → under_key (key_of which (k + c) i) (laid_out (all_slots_of names classes k) n) n ≡ value_in_class (r.read which) (in_turn (slots_recipe of names) classes n).1 c i
 slot_found_in of r names which [] k n c i = refl
 slot_found_in of r names which (d ∷ ds) k n zero i =
@@ -143,7 +143,7 @@ slot_found_in of r names which (d ∷ ds) k n (suc c) i =
     ∙ slot_found_in of r names which ds (k + 1) (n + length (slots_recipe of names d n).0) c i
 
 -- the values of slots are what stands under their keys
-pub slot_under : {V : Type 0} (of : OfSlot V) (r : Reading of) (names : List (List ℕ)) (which : Part) (classes : List ClassRow) (n c i : ℕ)
+pub slot_under : {V : Type 0} (of : OfSlot V) (r : Reading of) (names : List (List ℕ)) (which : SlotPart) (classes : List ClassRow) (n c i : ℕ)
     → under_key (key_of which c i) (laid_out (all_slots_of names classes 0) n) n ≡ value_in_class (r.read which) (in_turn (slots_recipe of names) classes n).1 c i
 slot_under of r names which classes n c i =
     ap (λ k. under_key (key_of which k i) (laid_out (all_slots_of names classes 0) n) n) (sym (zero-add c))

@@ -10,7 +10,7 @@ use Rattle.lang_meaning.specs.Lookup.{with_values}
 
 -- a relation between an earlier and a later state that holds of no step, of two one after another, and of each
 -- step that a rule makes
-pub record IsKept (R : State → State → Type 0) : Type 0 where
+pub record IsKeptByRules (R : State → State → Type 0) : Type 0 where
   pub prefix : {a b : State} → R a b → IsPrefix a.printed b.printed
   pub none : (z : State) → R z z
   pub both : {a b c : State} → R a b → R b c → R a c
@@ -96,7 +96,7 @@ exit_grows z = record {
 }
 
 -- nothing of what is counted falls, and no number of an exit is used twice
-pub anew_kept : IsKept GrowsAnew
+pub anew_kept : IsKeptByRules GrowsAnew
 anew_kept = record {
   prefix = λ g. g.later.printed;
   none = λ z. same refl refl refl refl refl refl;

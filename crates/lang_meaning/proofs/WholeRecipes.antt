@@ -1,4 +1,4 @@
--- All objects together: what was made kind by kind is the meaning's layout, and each word is what stands under its key.
+-- All objects together: what was made kind by kind is the meaning's initial heap, and each word is what stands under its key.
 use Rattle.std.proofs.Common.{◌≡◌, ℕ, ◌+◌, ◌-◌, ◌<◌, ◌≤◌, List, [], ◌∷◌, ◌++◌, length, refl, sym, ◌∙◌, ap, append_assoc, append-nil, zero-add, false, arith, ⊎_elim}
 use Rattle.std.specs.List.{range_with_len}
 use Rattle.std.proofs.lemmas.Bool.{cases_lt}
@@ -10,8 +10,8 @@ use Rattle.lang_meaning.specs.declared.program.LiteralRow.{LiteralRow}
 use Rattle.lang_meaning.specs.Values.{Value, object}
 use Rattle.lang_meaning.specs.Objects.{Object, class_object, input_stream, output_stream}
 use Rattle.lang_meaning.specs.Lookup.{text, numbered}
-use Rattle.lang_meaning.specs.Layout.{Key, Thing, part, class, input, output, function_of, literal, initargs, initform, same_key}
-use Rattle.lang_meaning.specs.Layout.{single, class_things, function_things, function_object, slot_things, laid_out, under_key}
+use Rattle.lang_meaning.specs.InitialHeap.{Key, Thing, part, class, input, output, function_of, literal, initargs, initform, same_key}
+use Rattle.lang_meaning.specs.InitialHeap.{single, class_things, function_things, function_object, slot_things, laid_out, under_key}
 use Rattle.lang_meaning.specs.Recipes.{Recipe, both, in_turn, class_recipe, classes_recipe, function_recipe, literal_recipe, OfSlot, slots_recipe}
 use Rattle.lang_meaning.proofs.RecipeKeys.{AreOthers, others_append, others_mapped, others_flat, absent_others, laid_append, passed_over, none_behind, still_found}
 use Rattle.lang_meaning.proofs.RecipeSegments.{objects_in, objects_append, objects_mapped, objects_of_literals, objects_of_classes, as_many, slots_of_class, all_slots_of}

@@ -3,7 +3,7 @@
 use Rattle.std.specs.Prelude.{◌≡◌, ⊤, ℕ, Bool, true, false, List, [], Option, Some, None, slice_get}
 use Rattle.std.specs.List.{list_all}
 use Rattle.base.specs.AllOf.{AllOf}
-use Rattle.lang_meaning.specs.declared.part.Part.{Part}
+use Rattle.lang_meaning.specs.declared.capture.Capture.{Capture}
 use Rattle.lang_meaning.specs.declared.program.Procedure.{Procedure}
 use Rattle.lang_meaning.specs.declared.program.Callee.{Callee}
 use Rattle.lang_meaning.specs.declared.program.Callee.TheVariants as callee
@@ -17,7 +17,7 @@ use Rattle.lang_meaning.specs.Facts.{knows_next, is_whole}
 
 -- a function is made in a scope where what it captures is bound, and its body stands in the scope of just that and
 -- its own variables
-pub record FunctionStands (required : List ℕ) (rest : Option ℕ) (body : Form) (parts : List Part) : Type 0 where
+pub record FunctionStands (required : List ℕ) (rest : Option ℕ) (body : Form) (parts : List Capture) : Type 0 where
   pub around : LexicalScope
   pub captured : list_all (is_bound around) parts ≡ true
   pub inside : stands (with_bound (parameters required rest) (seen parts around)) body ≡ true

@@ -2,7 +2,7 @@
 -- `sited` is this profile's own; it marks the place of a form.
 use Rattle.std.specs.Prelude.{ℕ, ◌+◌, List, [], ◌∷◌, ◌++◌, Option, option_to_list}
 use Rattle.lang_meaning.specs.declared.primitive.Primitive.{Primitive}
-use Rattle.lang_meaning.specs.declared.part.Part.{Part}
+use Rattle.lang_meaning.specs.declared.capture.Capture.{Capture}
 
 mutual
   -- variables, exits, names and sites are named by their numbers
@@ -17,7 +17,7 @@ mutual
     sequence : Forms → Form
     let_form : BindingForms → Form → Form
     -- a function of these required variables, this rest variable and this body, and the parts that it captures
-    lambda : List ℕ → Option ℕ → Form → List Part → Form
+    lambda : List ℕ → Option ℕ → Form → List Capture → Form
     call : ℕ → Forms → Form
     call_value : Forms → Form
     apply : Form → Form → Form
@@ -67,7 +67,7 @@ mutual
 abbrev pub parameters : List ℕ → Option ℕ → List ℕ
 parameters required rest = required ++ option_to_list rest
 
-abbrev pub parts_size : List Part → ℕ
+abbrev pub parts_size : List Capture → ℕ
 parts_size [] = 1
 parts_size (p ∷ ps) = parts_size ps + 1
 

@@ -3,7 +3,7 @@
 use Rattle.std.specs.Prelude.{◌≡◌, ◌≤◌, ◌<◌, ◌⊎◌, ⊤, ℕ, List, [], ◌∷◌, ◌++◌}
 use Rattle.lang_meaning.specs.declared.program.ProgramRows.{ProgramRows}
 use Rattle.lang_meaning.specs.Objects.{Object}
-use Rattle.lang_meaning.specs.State.{State, first_state, Surroundings, Exit, Outcome, value, exit, full, more, Limit}
+use Rattle.lang_meaning.specs.State.{State, first_state, DynamicContext, Exit, Outcome, value, exit, full, more, Limit}
 use Rattle.lang_meaning.specs.Objects.{Environment}
 use Rattle.lang_meaning.specs.Signals.{Task}
 use Rattle.lang_meaning.specs.Meaning.{Meant, ended_more, meaning, meaning_at}
@@ -45,13 +45,13 @@ LandsIn exits more = ⊤
 abbrev pub LawOfGrowth : Type 0
 LawOfGrowth =
     (names : List (List ℕ)) (program : ProgramRows) (limit : Limit) (k : ℕ) (task : Task) (env : Environment)
-    (around : Surroundings) (z : State) → IsLater z (meaning_at names program limit k task env around z).state
+    (around : DynamicContext) (z : State) → IsLater z (meaning_at names program limit k task env around z).state
 
 -- the law of transfers
 abbrev pub LawOfTransfers : Type 0
 LawOfTransfers =
     (names : List (List ℕ)) (program : ProgramRows) (limit : Limit) (k : ℕ) (task : Task) (env : Environment)
-    (around : Surroundings) (z : State)
+    (around : DynamicContext) (z : State)
     → LandsIn around.exits (meaning_at names program limit k task env around z).outcome
 
 -- numbers, each below the one before it: none stands there twice
@@ -71,4 +71,4 @@ LawOfExits =
     ((objects : List Object) (input : List ℕ)
     → Falling (first_state objects input).exits (first_state objects input).made)
     × ((names : List (List ℕ)) (program : ProgramRows) (limit : Limit) (k : ℕ) (task : Task) (env : Environment)
-    (around : Surroundings) (z : State) → MakesNewExits z (meaning_at names program limit k task env around z).state)
+    (around : DynamicContext) (z : State) → MakesNewExits z (meaning_at names program limit k task env around z).state)

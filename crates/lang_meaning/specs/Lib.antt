@@ -12,7 +12,7 @@ pub mod Inside
 pub mod Counts
 pub mod Classes
 pub mod Literals
-pub mod Layout
+pub mod InitialHeap
 pub mod Primitives
 pub mod Signals
 pub mod Meaning

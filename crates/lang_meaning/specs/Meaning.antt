@@ -12,13 +12,13 @@ use Rattle.lang_meaning.specs.Form.{BindingForms, no_binding, binding_and, Dynam
 use Rattle.lang_meaning.specs.Counts.{own_nodes, nodes, application_words}
 use Rattle.lang_meaning.specs.Values.{Value, symbol, named, nil, object, truth, is_true}
 use Rattle.lang_meaning.specs.Objects.{Called, Environment, no_environment, Object, cons, closure, function_class, list_class, serious_condition_class, control_error_class}
-use Rattle.lang_meaning.specs.State.{State, first_state, Surroundings, main_surroundings, no_place, block_exit, tagbody_exit, catch_exit, Landing, at_segment, at_site, Outcome, value, exit, full, more, Evaluated, gives, Act, go_on, landed, caught, cleaned, inside, exit_made, Limit, request, charged, make}
+use Rattle.lang_meaning.specs.State.{State, first_state, DynamicContext, main_context, no_place, block_exit, tagbody_exit, catch_exit, Landing, at_segment, at_site, Outcome, value, exit, full, more, Evaluated, gives, Act, go_on, landed, caught, cleaned, inside, exit_made, Limit, request, charged, make}
 use Rattle.lang_meaning.specs.Lookup.{text, is_in, under_text, under_number, value_at, set_at, numbered, with_variables, with_values, with_exit}
 use Rattle.lang_meaning.specs.Classes.{class_of_object, fetch, is_condition}
 use Rattle.lang_meaning.specs.Literals.{function_row}
-use Rattle.lang_meaning.specs.Layout.{class_value, function_value, literal_value, objects_at_start}
+use Rattle.lang_meaning.specs.InitialHeap.{class_value, function_value, literal_value, objects_at_start}
 use Rattle.lang_meaning.specs.Primitives.{primitive, is_function}
-use Rattle.lang_meaning.specs.Signals.{Context, Task, nothing, form, turn, methods, Evaluation, with_some, run_chain, apply_value, apply_row, undefined_function, unbound_variable, signal_domain_error, signal_under, signal, answered, search, transfer, throw_to, continue_with, with_cells}
+use Rattle.lang_meaning.specs.Signals.{Context, Task, nothing, form, turn, methods, Evaluation, with_some, run_chain, apply_value, apply_row, undefined_function, unbound_variable, signal_domain_error, signal_under, signal, answered, search, transfer, throw_to, continue_with, with_boxes}
 
 -- the place of a site, counted from 1
 abbrev pub place_of_site : List Place → ℕ → Place
@@ -43,7 +43,7 @@ segment_of (at_segment i) = i
 segment_of (at_site place) = 0
 
 -- the exit of a tagbody, innermost
-abbrev pub with_turns : ℕ → Surroundings → Surroundings
+abbrev pub with_turns : ℕ → DynamicContext → DynamicContext
 with_turns e around = record around { exits = record { number = e; kind = tagbody_exit } ∷ around.exits }
 
 -- the variables of bindings, and the texts of dynamic ones
@@ -153,7 +153,7 @@ module _ (context : Context) where
 
   -- the segments of a tagbody, whose exit is the innermost one while they run: a transfer to it goes on from a segment,
   -- one level below
-  abbrev pub turned : ℕ → Forms → Environment → Surroundings → Evaluated → Evaluated
+  abbrev pub turned : ℕ → Forms → Environment → DynamicContext → Evaluated → Evaluated
   turned e all env around r =
       landed e (λ v landing z. context.below (turn e (from_segment (segment_of landing) all) all) env around z)
       (go_on r (λ v after. gives nil after))
@@ -175,7 +175,7 @@ module _ (context : Context) where
     mean (sequence fs) env around z = mean_sequence nil fs env around (charged_for (sequence fs) z)
     mean (let_form bs body) env around z =
         mean_bindings bs [] env around (charged_for (let_form bs body) z) (λ vs after.
-        with_cells context.limit (bound_variables bs) body after (λ ready.
+        with_boxes context.limit (bound_variables bs) body after (λ ready.
         mean body (with_variables (bound_variables bs) ready env) around (with_values vs ready)))
     mean (lambda required rest body parts) env around z =
         make context.limit (2 + length parts) 0 (closure required rest body env) (charged_for (lambda required rest body parts) z) (λ v after. gives v after)
@@ -246,7 +246,7 @@ module _ (context : Context) where
         go_on (mean f env around z) (λ v after. mean_sequence v fs env around after)
 
     -- arguments from left to right, after those already evaluated
-    pub mean_arguments : Forms → List Value → Environment → Surroundings → State → (List Value → State → Evaluated) → Evaluated
+    pub mean_arguments : Forms → List Value → Environment → DynamicContext → State → (List Value → State → Evaluated) → Evaluated
     mean_arguments no_form vs env around z next = next vs z
     mean_arguments (form_and f fs) vs env around z next =
         go_on (mean f env around z) (λ v after. mean_arguments fs (vs ++ v ∷ []) env around after next)
@@ -263,12 +263,12 @@ module _ (context : Context) where
     mean_body v (with_body f) env around z = mean f env around z
 
     -- the values of bindings, after those already evaluated
-    pub mean_bindings : BindingForms → List Value → Environment → Surroundings → State → (List Value → State → Evaluated) → Evaluated
+    pub mean_bindings : BindingForms → List Value → Environment → DynamicContext → State → (List Value → State → Evaluated) → Evaluated
     mean_bindings no_binding vs env around z next = next vs z
     mean_bindings (binding_and x f bs) vs env around z next =
         go_on (mean f env around z) (λ v after. mean_bindings bs (vs ++ v ∷ []) env around after next)
 
-    pub mean_dynamics : DynamicForms → List Value → Environment → Surroundings → State → (List Value → State → Evaluated) → Evaluated
+    pub mean_dynamics : DynamicForms → List Value → Environment → DynamicContext → State → (List Value → State → Evaluated) → Evaluated
     mean_dynamics no_dynamic vs env around z next = next vs z
     mean_dynamics (dynamic_and n f bs) vs env around z next =
         go_on (mean f env around z) (λ v after. mean_dynamics bs (vs ++ v ∷ []) env around after next)
@@ -297,7 +297,7 @@ meaning_at names program limit (suc k) = mean_task (context_of names program lim
 abbrev pub mean_main : List (List ℕ) → ProgramRows → Limit → ℕ → Form → State → Evaluated
 mean_main names program limit k f z =
     request limit 0 (application_words (nodes f)) z (λ entered.
-    go_on (meaning_at names program limit k (form f) no_environment main_surroundings entered) (λ v after.
+    go_on (meaning_at names program limit k (form f) no_environment main_context entered) (λ v after.
     gives v (record after { stack = z.stack })))
 
 -- the main forms in order, after a last value

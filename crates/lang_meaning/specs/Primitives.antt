@@ -16,7 +16,7 @@ use Rattle.lang_meaning.specs.Objects.{vector_class, string_class, character_cla
 use Rattle.lang_meaning.specs.State.{State, charged, changed}
 use Rattle.lang_meaning.specs.Lookup.{text, passed}
 use Rattle.lang_meaning.specs.Classes.{class_of, fetch, precedence, slots, is_below, is_condition}
-use Rattle.lang_meaning.specs.Layout.{class_value, initargs_value, initform_value, standard_input, standard_output}
+use Rattle.lang_meaning.specs.InitialHeap.{class_value, initargs_value, initform_value, standard_input, standard_output}
 
 -- what a primitive answers: a value, an object to be made of so many words and with so many units besides, the
 -- next fresh symbol, or a condition to signal: its class and its slots, or an argument that is not of the expected class

@@ -10,7 +10,7 @@ use Rattle.lang_meaning.specs.declared.program.LiteralRow.TheVariants as row
 use Rattle.lang_meaning.specs.Values.{Value, nil, object}
 use Rattle.lang_meaning.specs.Objects.{Object, class_object, input_stream, output_stream}
 use Rattle.lang_meaning.specs.Literals.{Laid, lay, lay_content}
-use Rattle.lang_meaning.specs.Layout.{function_object, initargs_list, initform_objects}
+use Rattle.lang_meaning.specs.InitialHeap.{function_object, initargs_list, initform_objects}
 
 -- objects from a number on, and what stands for them
 abbrev pub Recipe : Type 0 → Type 0

@@ -14,10 +14,10 @@ use Rattle.lang_meaning.specs.Values.{Value, named, symbol, nil, object, same, i
 use Rattle.lang_meaning.specs.Objects.{Chain, Called, Environment, no_environment, Object, cons, instance, function, closure, generic_function, fresh_symbol, function_class, control_error_class, program_error_class, domain_error_class, unbound_variable_class, undefined_function_class}
 use Rattle.lang_meaning.specs.State.{State, Exit, ExitKind, catch_exit, signal_exit, Landing, at_segment, at_site, Evaluated, gives, leaves, Act, go_on, caught, inside, exit_made, Limit, request, charged, make, changed, in_frame}
 use Rattle.lang_meaning.specs.Lookup.{text, with_variables, with_values}
-use Rattle.lang_meaning.specs.declared.part.Part.TheVariants.{Method}
-use Rattle.lang_meaning.specs.Captured.{captures, has_cell}
+use Rattle.lang_meaning.specs.declared.capture.Capture.TheVariants.{Method}
+use Rattle.lang_meaning.specs.Captured.{captures, has_box}
 use Rattle.lang_meaning.specs.Classes.{class_of, fetch, chain}
-use Rattle.lang_meaning.specs.Layout.{class_value}
+use Rattle.lang_meaning.specs.InitialHeap.{class_value}
 use Rattle.lang_meaning.specs.Primitives.{Answer, result, makes, makes_symbol, fails, domain_error, instance_words}
 
 -- what is evaluated one level below: nothing, to see that there is a level; a form; the segments of
@@ -28,7 +28,7 @@ pub data Task : Type 0 where
   turn : (exit : ℕ) → Forms → Forms → Task
   methods : Chain → List Value → Task
 
--- an evaluation from an environment, surroundings and a state
+-- an evaluation from an environment, a dynamic context and a state
 abbrev pub Evaluation : Type 0
 Evaluation = Environment → Act
 
@@ -93,12 +93,12 @@ gathered limit required None vs z next = next vs z
 gathered limit required (Some rest) vs z next =
     make_list limit (drop required vs) z (λ tail after. next (take required vs ++ tail ∷ []) after)
 
--- a word for the cell of each variable that has one
-abbrev pub with_cells : Limit → List ℕ → Form → State → (State → Evaluated) → Evaluated
-with_cells limit [] body z next = next z
-with_cells limit (v ∷ vs) body z next =
-    if has_cell v body then request limit 1 0 z (λ entered. with_cells limit vs body (charged 1 entered) next)
-    else with_cells limit vs body z next
+-- a word for the box of each variable that has one
+abbrev pub with_boxes : Limit → List ℕ → Form → State → (State → Evaluated) → Evaluated
+with_boxes limit [] body z next = next z
+with_boxes limit (v ∷ vs) body z next =
+    if has_box v body then request limit 1 0 z (λ entered. with_boxes limit vs body (charged 1 entered) next)
+    else with_boxes limit vs body z next
 
 -- the words of the arguments and the chain of a method, where a function in it captures them
 abbrev pub with_record : Limit → Option Called → Form → State → (State → Evaluated) → Evaluated
@@ -137,7 +137,7 @@ module _ (context : Context) where
       in_frame context.limit (application_words (nodes body) + length vs)
       (λ entered. gathered context.limit (length required) rest vs (charged (length vs) entered) (λ ws gone.
       with_record context.limit called body gone (λ recorded.
-      with_cells context.limit (parameters required rest) body recorded (λ ready.
+      with_boxes context.limit (parameters required rest) body recorded (λ ready.
       context.below (form body) (with_variables (parameters required rest) ready env) around (with_values ws ready)))))
       z
       else wrong program_error_class [] around z

@@ -1,12 +1,12 @@
 -- Where a form stands, and whether all that it names is bound there (ISO/IEC 13816:2007, 11 and 14.8).
 use Rattle.std.specs.Prelude.{ℕ, ◌==◌, Bool, true, false, not, ◌&&◌, nat_lt, List, [], ◌∷◌, ◌++◌, Option, Some, None, filter, if◌then◌else◌}
 use Rattle.std.specs.List.{list_all, list_any}
-use Rattle.lang_meaning.specs.declared.part.Part.{Part}
-use Rattle.lang_meaning.specs.declared.part.Part.TheVariants.{Variable, Exit, Method}
+use Rattle.lang_meaning.specs.declared.capture.Capture.{Capture}
+use Rattle.lang_meaning.specs.declared.capture.Capture.TheVariants.{Variable, Exit, Method}
 use Rattle.lang_meaning.specs.declared.program.Procedure.{Procedure}
-use Rattle.lang_meaning.specs.declared.scope.Around.{Around}
-use Rattle.lang_meaning.specs.declared.scope.Around.TheVariants.{Block, Tagbody}
-use Rattle.lang_meaning.specs.declared.scope.ExitAround.{ExitAround}
+use Rattle.lang_meaning.specs.declared.scope.ExitForm.{ExitForm}
+use Rattle.lang_meaning.specs.declared.scope.ExitForm.TheVariants.{Block, Tagbody}
+use Rattle.lang_meaning.specs.declared.scope.NamedExit.{NamedExit}
 use Rattle.lang_meaning.specs.declared.scope.LexicalScope.{LexicalScope}
 use Rattle.lang_meaning.specs.Form.{Form, local, set_local, let_form, lambda, block, return_from, tagbody, go, next_method, has_next, parameters}
 use Rattle.lang_meaning.specs.Subforms.{fold}
@@ -22,35 +22,35 @@ abbrev pub with_bound : List ℕ → LexicalScope → LexicalScope
 with_bound vs s = record s { variables = vs ++ s.variables }
 
 -- an exit comes in front of those around it
-abbrev pub with_around : ℕ → Around → LexicalScope → LexicalScope
+abbrev pub with_around : ℕ → ExitForm → LexicalScope → LexicalScope
 with_around x around s = record s { exits = (record { exit = x; around = around }) ∷ s.exits }
 
 abbrev pub is_variable : LexicalScope → ℕ → Bool
 is_variable s v = list_any (λ w. v == w) s.variables
 
 -- the exit of that name is the innermost one
-abbrev pub exit_around : ℕ → List ExitAround → Option Around
+abbrev pub exit_around : ℕ → List NamedExit → Option ExitForm
 exit_around x [] = None
 exit_around x (e ∷ es) = if x == e.exit then Some e.around else exit_around x es
 
-abbrev pub is_block : Option Around → Bool
+abbrev pub is_block : Option ExitForm → Bool
 is_block None = false
 is_block (Some Block) = true
 is_block (Some (Tagbody segments)) = false
 
 -- a tagbody with such a segment
-abbrev pub is_segment : ℕ → Option Around → Bool
+abbrev pub is_segment : ℕ → Option ExitForm → Bool
 is_segment i None = false
 is_segment i (Some Block) = false
 is_segment i (Some (Tagbody segments)) = nat_lt i segments
 
-abbrev pub is_bound : LexicalScope → Part → Bool
+abbrev pub is_bound : LexicalScope → Capture → Bool
 is_bound s (Variable v) = is_variable s v
 is_bound s (Exit x) = list_any (λ e. x == e.exit) s.exits
 is_bound s Method = s.in_method
 
 -- what a function sees of where it is made: just what it captures
-abbrev pub seen : List Part → LexicalScope → LexicalScope
+abbrev pub seen : List Capture → LexicalScope → LexicalScope
 seen parts s = record {
   variables = filter (λ v. list_any (same_part (Variable v)) parts) s.variables;
   exits = filter (λ e. list_any (same_part (Exit e.exit)) parts) s.exits;
@@ -58,12 +58,12 @@ seen parts s = record {
 }
 
 -- whether a body mentions a part that is none of these variables
-abbrev pub is_free : List ℕ → Form → Part → Bool
+abbrev pub is_free : List ℕ → Form → Capture → Bool
 is_free vs body p = not (owns vs p) && mentions p body
 
 -- the captured parts stand in their order, are bound where the function is made, and are what its body mentions
 -- besides its own variables
-abbrev pub are_captured : LexicalScope → List ℕ → Form → List Part → Bool
+abbrev pub are_captured : LexicalScope → List ℕ → Form → List Capture → Bool
 are_captured s vs body parts =
     in_order parts && list_all (is_bound s) parts && list_all (is_free vs body) parts
 

@@ -54,9 +54,9 @@ pub record Exit : Type 0 where
   pub number : ℕ
   pub kind : ExitKind
 
--- the surroundings, innermost first: dynamic bindings (name and variable), handlers, valid exits; and the
+-- the dynamic context, innermost first: dynamic bindings (name and variable), handlers, valid exits; and the
 -- site, which is the place of the innermost form of the file
-pub record Surroundings : Type 0 where
+pub record DynamicContext : Type 0 where
   pub bindings : List (List ℕ × ℕ)
   pub handlers : List Value
   pub exits : List Exit
@@ -65,9 +65,9 @@ pub record Surroundings : Type 0 where
 abbrev pub no_place : Place
 no_place = record { line = 0; column = 0 }
 
--- the surroundings of a main form
-abbrev pub main_surroundings : Surroundings
-main_surroundings = record {
+-- the dynamic context of a main form
+abbrev pub main_context : DynamicContext
+main_context = record {
   bindings = [];
   handlers = [];
   exits = record { number = 0; kind = end_exit } ∷ [];
@@ -99,9 +99,9 @@ gives v z = record { outcome = value v; state = z }
 abbrev pub leaves : ℕ → Value → Landing → State → Evaluated
 leaves e v landing z = record { outcome = exit e v landing; state = z }
 
--- what is evaluated in surroundings
+-- what is evaluated in a dynamic context
 abbrev pub Act : Type 0
-Act = Surroundings → State → Evaluated
+Act = DynamicContext → State → Evaluated
 
 -- a part whose outcome is no value ends the form with that outcome
 abbrev pub go_on_from : Outcome → State → (Value → State → Evaluated) → Evaluated
@@ -133,22 +133,22 @@ abbrev pub exits_from : ℕ → List Exit → List Exit
 exits_from e [] = []
 exits_from e (x ∷ xs) = if x.number == e then x ∷ xs else exits_from e xs
 
--- a cleanup (ISO/IEC 13816:2007, 14.8.2): after a value it runs in the same surroundings, during a transfer
+-- a cleanup (ISO/IEC 13816:2007, 14.8.2): after a value it runs in the same dynamic context, during a transfer
 -- with the exits inside the target taken away; what it comes to itself replaces the rest, unless it is a value
-abbrev pub cleaned_from : Act → Surroundings → Outcome → State → Evaluated
+abbrev pub cleaned_from : Act → DynamicContext → Outcome → State → Evaluated
 cleaned_from cleanup around (value v) z = go_on (cleanup around z) (λ w after. gives v after)
 cleaned_from cleanup around (exit e v landing) z =
     go_on (cleanup (record around { exits = exits_from e around.exits }) z) (λ w after. leaves e v landing after)
 cleaned_from cleanup around (full asked left) z = record { outcome = full asked left; state = z }
 cleaned_from cleanup around more z = record { outcome = more; state = z }
 
-abbrev pub cleaned : Act → Surroundings → Evaluated → Evaluated
+abbrev pub cleaned : Act → DynamicContext → Evaluated → Evaluated
 cleaned cleanup around r = cleaned_from cleanup around r.outcome r.state
 
 -- exits
 
 -- a fresh exit, innermost
-abbrev pub inside : ExitKind → Surroundings → State → Surroundings
+abbrev pub inside : ExitKind → DynamicContext → State → DynamicContext
 inside kind around z = record around { exits = record { number = z.exits; kind = kind } ∷ around.exits }
 
 -- one exit more was made, with the number to which the exits had come

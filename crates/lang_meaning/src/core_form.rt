@@ -9,7 +9,7 @@ mod counts;
 mod depths;
 mod subforms;
 
-use crate::part::{ExitVar, PartList, Var};
+use crate::capture::{CaptureList, ExitVar, Var};
 use crate::primitive::Primitive;
 use crate::program::{LiteralId, SiteId, VarList};
 use base::{ItemList, Name, NoMemory};
@@ -48,7 +48,7 @@ pub enum CoreForm {
     Let(BindingList, Box<Core>),
     /// A new function of its required variables, its rest variable and its body, which captures these
     /// parts (ISO/IEC 13816:2007, 12.7).
-    Lambda(VarList, Option<Var>, Box<Core>, PartList),
+    Lambda(VarList, Option<Var>, Box<Core>, CaptureList),
     /// The function of a name, applied to the arguments.
     Call(Name, CoreList),
     /// The first part's value, applied to those of the others.

@@ -15,7 +15,7 @@ pub fn law_growth()
     ensures { LawOfGrowth }
 {}
 
-/// A transfer goes to one of the exits of its surroundings, or to exit 0.
+/// A transfer goes to one of the exits of its dynamic context, or to exit 0.
 pub fn law_transfers()
     ensures { LawOfTransfers }
 {}

@@ -1,7 +1,7 @@
 // Programs: what a file comes to.
 
+use crate::capture::Var;
 use crate::core_form::{Core, CoreList};
-use crate::part::Var;
 use base::{Datum, ItemList, Name, NameList, PlaceList};
 
 /// The number of a literal row, from 0.

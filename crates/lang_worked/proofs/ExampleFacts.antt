@@ -1,6 +1,6 @@
 -- The facts of the worked programs compute.
 use Rattle.std.proofs.Common.{refl}
-use Rattle.lang_worked.specs.Programs.{WorkedAreWhole, TooFewArguments, GoOutside, NoSuchSegment, NoSegment, GoToABlock, Captured, InOrder, CellOfItsOwn, Uncalled, MadeByUncalled, NotThere, NodesOfOneApplication, NotReached, CellsOfMethods}
+use Rattle.lang_worked.specs.Programs.{WorkedAreWhole, TooFewArguments, GoOutside, NoSuchSegment, NoSegment, GoToABlock, Captured, InOrder, BoxOfItsOwn, Uncalled, MadeByUncalled, NotThere, NodesOfOneApplication, NotReached, BoxesOfMethods}
 use Rattle.base.specs.DataMeasures.{size_of}
 
 pub worked_are_whole : WorkedAreWhole
@@ -31,8 +31,8 @@ pub parts_in_order : InOrder
 unfolding size_of
 parts_in_order = (refl, refl, refl, refl, refl)
 
-pub cell_of_its_own : CellOfItsOwn
-cell_of_its_own = (refl, refl)
+pub box_of_its_own : BoxOfItsOwn
+box_of_its_own = (refl, refl)
 
 pub no_segment : NoSegment
 unfolding size_of
@@ -58,6 +58,6 @@ pub not_reached : NotReached
 unfolding size_of
 not_reached = (refl, refl)
 
-pub cells_of_methods : CellsOfMethods
+pub cells_of_methods : BoxesOfMethods
 unfolding size_of
 cells_of_methods = refl

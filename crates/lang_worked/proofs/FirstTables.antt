@@ -8,7 +8,7 @@ use Rattle.lang_meaning.specs.BuiltIn.{built_in_precedence, built_in_slots, clas
 use Rattle.lang_classes.specs.InheritedSlots.{names_of, said_by, united}
 use Rattle.lang_classes.specs.InheritedClasses.{IsRow, IsBuiltIn, IsHierarchy, class_named, slot_limit}
 use Rattle.lang_classes.specs.InheritedBuiltIn.{AreNamed, built_in_own, own_initarg, texts_of}
-use Rattle.front_scope.specs.Scopes.{IsFirst}
+use Rattle.front_scope.specs.Scopes.{AreInitialTables}
 use Rattle.lang_worked.specs.FileNames.{first_names, class_rows, classes, first}
 use Rattle.lang_worked.proofs.EachPlace.{same_at, all_at_most}
 
@@ -59,7 +59,7 @@ hierarchy = record {
   built_in = λ c row below h. built_in c row h;
 }
 
-pub is_first : (more : List (List ℕ)) → IsFirst (first_names ++ more) first
+pub is_first : (more : List (List ℕ)) → AreInitialTables (first_names ++ more) first
 is_first more = record {
   words = record { truth = refl; rest = refl; and_rest = refl };
   classes = record { hierarchy = hierarchy; number = refl; named = named more };

@@ -13,7 +13,7 @@ use Rattle.lang_meaning.specs.declared.program.FunctionRow.{FunctionRow}
 use Rattle.lang_meaning.specs.declared.program.Callee.TheVariants as callee
 use Rattle.lang_meaning.specs.declared.program.ProgramRows.{ProgramRows}
 use Rattle.lang_meaning.specs.declared.primitive.Primitive.TheVariants.{StandardOutput, PutChar}
-use Rattle.lang_meaning.specs.declared.part.Part.{Part}
+use Rattle.lang_meaning.specs.declared.capture.Capture.{Capture}
 use Rattle.lang_meaning.specs.Form.{Form, literal, sequence, lambda, prim, no_form}
 use Rattle.lang_meaning.specs.model.View.{forms}
 use Rattle.lang_meaning.specs.State.{Limit, no_place}
@@ -58,7 +58,7 @@ abbrev pub a_class : List ℕ → ClassRow
 a_class precedence = record { name = name 0; precedence = precedence; slots = []; abstract_class = false }
 
 -- a function of required variables and a body of forms, and the parts that it captures
-abbrev pub a_lambda : List ℕ → List Form → List Part → Form
+abbrev pub a_lambda : List ℕ → List Form → List Capture → Form
 a_lambda vars fs parts = lambda vars None (sequence (forms fs)) parts
 
 -- a procedure of required variables and a body of forms
@@ -99,6 +99,6 @@ abbrev pub Doing : Type 1
 Doing = List (List ℕ) → ProgramRows → ℕ → Limit → Ending → List ℕ → Type 0
 
 -- that its meaning ends so and prints that
-pub record Does (names : List (List ℕ)) (program : ProgramRows) (k : ℕ) (limit : Limit) (ending : Ending) (printed : List ℕ) : Type 0 where
+pub record EndsAndPrints (names : List (List ℕ)) (program : ProgramRows) (k : ℕ) (limit : Limit) (ending : Ending) (printed : List ℕ) : Type 0 where
   pub ends : ending_of (meaning names program [] k limit).end (meaning names program [] k limit).store ≡ ending
   pub prints : (meaning names program [] k limit).printed ≡ printed

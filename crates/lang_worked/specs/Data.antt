@@ -1,7 +1,7 @@
 -- Worked programs: literals, data, variables and arguments (ISO/IEC 13816:2007, 12 to 15, 19 to 24).
 use Rattle.std.specs.Prelude.{◌≡◌, ℕ, pos, negsuc, false, List, [], ◌∷◌, ◌++◌, ◌+◌, ◌*◌, Some}
 use Rattle.base.specs.Data as datum
-use Rattle.lang_meaning.specs.declared.part.Part.TheVariants.{Variable}
+use Rattle.lang_meaning.specs.declared.capture.Capture.TheVariants.{Variable}
 use Rattle.lang_meaning.specs.declared.program.LiteralRow.{LiteralRow}
 use Rattle.lang_meaning.specs.declared.program.LiteralRow.TheVariants as row
 use Rattle.lang_meaning.specs.declared.program.ProgramRows.{ProgramRows}
@@ -116,7 +116,7 @@ counting = a_program (a_number 0 ∷ a_number 2 ∷ a_number 5 ∷ []) [] []
 abbrev pub Counting : Doing → Type 0
 Counting does = does [] counting 3 unlimited (with_value (integer (pos 6))) []
 
--- its words: the main form has 19 nodes; a cell for n; 3 for the function with one captured part; and the body of
+-- its words: the main form has 19 nodes; a box for n; 3 for the function with one captured part; and the body of
 -- the function, which has 7 nodes
 abbrev pub CountingWords : Type 0
 CountingWords = (meaning [] counting [] 3 unlimited).peak ≡ (16 + 16 * 19) + 1 + 3 + (16 + 16 * 7)

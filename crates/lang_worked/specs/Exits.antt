@@ -1,6 +1,6 @@
 -- Worked programs: transfers and cleanups (ISO/IEC 13816:2007, 14.8).
 use Rattle.std.specs.Prelude.{pos, [], ◌∷◌}
-use Rattle.lang_meaning.specs.declared.part.Part.TheVariants.{Exit}
+use Rattle.lang_meaning.specs.declared.capture.Capture.TheVariants.{Exit}
 use Rattle.lang_meaning.specs.declared.program.ProgramRows.{ProgramRows}
 use Rattle.lang_meaning.specs.declared.primitive.Primitive.TheVariants.{Add, Subtract, NumberEqual}
 use Rattle.lang_meaning.specs.Form.{literal, local, set_local, global, set_global, def_global, clauses, let_form, call, call_value, prim, block, return_from, tagbody, go, unwind, catch_form, throw, sited, no_clause, clause_and, with_body, no_binding, binding_and}

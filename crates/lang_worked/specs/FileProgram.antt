@@ -1,7 +1,7 @@
 -- A file with a function, a block that a handler leaves through a cleanup, and a condition, written out with its program.
 use Rattle.std.specs.Prelude.{ℕ, pos, List, [], ◌∷◌, ◌++◌, Some, None, codes}
 use Rattle.base.specs.declared.place.Place.{Place}
-use Rattle.lang_meaning.specs.declared.part.Part.TheVariants.{Variable, Exit}
+use Rattle.lang_meaning.specs.declared.capture.Capture.TheVariants.{Variable, Exit}
 use Rattle.lang_meaning.specs.declared.primitive.Primitive.TheVariants.{Car, StandardOutput, PutChar}
 use Rattle.lang_meaning.specs.declared.program.FunctionRow.{FunctionRow}
 use Rattle.lang_meaning.specs.declared.program.LiteralRow.{LiteralRow}

@@ -5,8 +5,8 @@ use Rattle.lang_meaning.specs.declared.primitive.Primitive.TheVariants.{Add}
 use Rattle.lang_meaning.specs.State.{Limit, unlimited}
 use Rattle.lang_meaning.specs.Values.{integer}
 use Rattle.lang_meaning.specs.Meaning.{Ending, ending_of, ended_value}
-use Rattle.flat_language.specs.declared.place.CapturedKind.TheVariants.{Cell}
-use Rattle.flat_language.specs.declared.place.VariablePlace.TheVariants.{CapturedCell}
+use Rattle.flat_language.specs.declared.place.CapturedKind.TheVariants.{Boxed}
+use Rattle.flat_language.specs.declared.place.VariablePlace.TheVariants.{CapturedBox}
 use Rattle.flat_language.specs.FlatForm.{set_local, prim, sequence, local, literal, no_form, form_and}
 use Rattle.flat_language.specs.FlatMeaning.{flat_meaning}
 use Rattle.flat_language.specs.Flatten.{flat_program}
@@ -28,19 +28,19 @@ OneApplication =
 abbrev pub TwoBytes : Type 0
 TwoBytes = (flat_meaning [] (flat_program two_bytes) (7 ∷ []) 0 unlimited).end ≡ ended_value (integer (pos 8))
 
--- the words of a function that captures a cell
+-- the words of a function that captures a box
 abbrev pub CountingWords : Type 0
 CountingWords = (flat_meaning [] (flat_program counting) [] 3 unlimited).peak ≡ (16 + 16 * 19) + 1 + 3 + (16 + 16 * 7)
 
--- it has one function, in which the variable is the first captured cell
+-- it has one function, in which the variable is the first captured box
 abbrev pub CountingFlat : Type 0
 CountingFlat =
     (flat_program counting).lambdas
     ≡ record {
-      captured = Cell ∷ [];
+      captured = Boxed ∷ [];
       required = [];
       rest = None;
       keeps_method = false;
       body = sequence (form_and
-          (set_local (CapturedCell 0) (prim Add (form_and (local (CapturedCell 0)) (form_and (literal 1) no_form)))) no_form);
+          (set_local (CapturedBox 0) (prim Add (form_and (local (CapturedBox 0)) (form_and (literal 1) no_form)))) no_form);
     } ∷ []

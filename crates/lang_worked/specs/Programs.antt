@@ -1,13 +1,13 @@
 -- Which programs that are written out are whole, and which are not.
 use Rattle.std.specs.Prelude.{◌≡◌, ℕ, ◌+◌, ◌*◌, true, false, List, [], ◌∷◌}
-use Rattle.lang_meaning.specs.declared.part.Part.{Part}
-use Rattle.lang_meaning.specs.declared.part.Part.TheVariants.{Variable, Exit}
+use Rattle.lang_meaning.specs.declared.capture.Capture.{Capture}
+use Rattle.lang_meaning.specs.declared.capture.Capture.TheVariants.{Variable, Exit}
 use Rattle.lang_meaning.specs.declared.program.Procedure.{Procedure}
 use Rattle.lang_meaning.specs.declared.program.ProgramRows.{ProgramRows}
 use Rattle.lang_meaning.specs.declared.primitive.Primitive.TheVariants.{Cons}
 use Rattle.lang_meaning.specs.Form.{Form, literal, local, set_local, let_form, call_value, prim, block, tagbody, go, next_method, sited, no_binding, binding_and}
 use Rattle.lang_meaning.specs.model.View.{forms}
-use Rattle.lang_meaning.specs.Captured.{has_cell}
+use Rattle.lang_meaning.specs.Captured.{has_box}
 use Rattle.lang_meaning.specs.Cells.{program_cells}
 use Rattle.lang_meaning.specs.ProgramCounts.{program_nodes}
 use Rattle.lang_meaning.specs.Reached.{reached_nodes}
@@ -53,7 +53,7 @@ Captured =
     × is_whole (one_form (tagbody 0 (forms (body (a_lambda (0 ∷ []) (go 0 0 ∷ []) [] ∷ []) ∷ [])))) ≡ false
 
 -- captured parts stand in their order, each once: variables by their numbers, and then exits
-abbrev pub capturing : List Part → ProgramRows
+abbrev pub capturing : List Capture → ProgramRows
 capturing parts = one_form (
     let_form (binding_and 0 (literal 0) (binding_and 1 (literal 0) no_binding)) (
     tagbody 0 (forms (body (a_lambda [] (local 1 ∷ local 0 ∷ go 0 0 ∷ []) parts ∷ []) ∷ []))))
@@ -70,11 +70,11 @@ InOrder =
 abbrev pub set_inside : Form
 set_inside = let_form (binding_and 0 (literal 0) no_binding) (a_lambda [] (set_local 0 (literal 0) ∷ []) (Variable 0 ∷ []))
 
--- the inner binding has a cell, and not the outer one
-abbrev pub CellOfItsOwn : Type 0
-CellOfItsOwn =
-    has_cell 0 (a_lambda [] (set_local 0 (literal 0) ∷ []) (Variable 0 ∷ [])) ≡ true
-    × has_cell 0 set_inside ≡ false
+-- the inner binding has a box, and not the outer one
+abbrev pub BoxOfItsOwn : Type 0
+BoxOfItsOwn =
+    has_box 0 (a_lambda [] (set_local 0 (literal 0) ∷ []) (Variable 0 ∷ [])) ≡ true
+    × has_box 0 set_inside ≡ false
 
 -- a program whose procedures no main form mentions and no row calls
 abbrev pub uncalled : List Procedure → ProgramRows
@@ -123,5 +123,5 @@ NotReached =
 
 -- one argument is specialised, by `<a>` and `<b>` of 36 classes; for a `<b>` all seven methods apply, for an
 -- `<a>` three, and for all others none
-abbrev pub CellsOfMethods : Type 0
-CellsOfMethods = program_cells methods_in_order ≡ 36 + ((1 + 7) + (1 + 3) + 1)
+abbrev pub BoxesOfMethods : Type 0
+BoxesOfMethods = program_cells methods_in_order ≡ 36 + ((1 + 7) + (1 + 3) + 1)

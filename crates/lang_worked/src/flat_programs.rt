@@ -60,7 +60,7 @@ pub fn flat_data()
     ensures set_slot { SetSlot DoesFlat }
 {}
 
-/// The units and the words of an application, an input of two bytes, the words of a function that captures a cell and its flat form, which
+/// The units and the words of an application, an input of two bytes, the words of a function that captures a box and its flat form, which
 /// `specs/Flat.antt` shows; and two programs that set slots: each activation its own, and one around a form that a transfer leaves.
 pub fn worked_flat()
     ensures one_application { OneApplication }

@@ -10,14 +10,14 @@ use Rattle.lang_meaning.specs.Values.{Value, nil, object, truth}
 use Rattle.lang_meaning.specs.Objects.{Object, instance, class_object, serious_condition_class, program_error_class}
 use Rattle.lang_meaning.specs.State as meaning
 use Rattle.lang_meaning.specs.Classes.{fetch, slots, is_below}
-use Rattle.lang_meaning.specs.Layout.{class_value}
+use Rattle.lang_meaning.specs.InitialHeap.{class_value}
 use Rattle.lang_meaning.specs.Primitives.{Answer, makes, program_error, can_be_made, instance_words, primitive}
 use Rattle.mid_code.specs.declared.program.MidProcedure.{MidProcedure}
 use Rattle.mid_code.specs.declared.operation.Comparison.TheVariants.{Different}
 use Rattle.base.specs.Arithmetic.{sum32, shift_right, one_if_less, difference32}
 use Rattle.mid_code.specs.Arena.{Arena, left, word_at}
 use Rattle.mid_code.specs.MidCode.{MidStep, code_of}
-use Rattle.mid_code.specs.State.{State, Outcome, falls, returns, no_room, ends, first_registers}
+use Rattle.mid_code.specs.State.{MidState, MidOutcome, falls, returns, no_room, ends, first_registers}
 use Rattle.mid_code.specs.Meaning.{Task, Context}
 use Rattle.mid_arena.specs.Tags.{object_tag, nil_word, unbound_word, instance_header}
 use Rattle.mid_arena.specs.Places.{Spot, Places, with_object, word_of}
@@ -46,7 +46,7 @@ use Rattle.mid_arena.proofs.Filling.{filling_code, filling_ends}
 use Rattle.mid_arena.proofs.Memory.{heap_below, stands_with_heap}
 use Rattle.mid_arena.proofs.Telling.{truth_told}
 
-module _ (names : List (List ℕ)) (program : ProgramRows) (places : Places) (z : meaning.State) (y : State) (r : Represents names program places z y) where
+module _ (names : List (List ℕ)) (program : ProgramRows) (places : Places) (z : meaning.State) (y : MidState) (r : Represents names program places z y) where
   -- the bit of a condition
   bit_told : (b : Bool) (word : ℕ) → word_of places (truth b) ≡ Some word → one_if_less 0 (difference32 word nil_word) ≡ (if b then 1 else 0)
   bit_told b word e =
@@ -150,7 +150,7 @@ module _ (names : List (List ℕ)) (program : ProgramRows) (places : Places) (z 
 
     -- it is made, where its words are left
     allocating_run :
-        (procedures : List MidProcedure) (below : Task → State → Outcome) (n budget k : ℕ) (r1 r2 r3 r4 r5 r6 r7 : Option ℕ) → count ≤ n
+        (procedures : List MidProcedure) (below : Task → MidState → MidOutcome) (n budget k : ℕ) (r1 r2 r3 r4 r5 r6 r7 : Option ℕ) → count ≤ n
         → k + 272 + 38 * count ≤ budget + 250 * (2 + count) → c < length program.classes
         → Run names program places z y procedures below n budget (makes (instance_words program c count) 0 made z) (code_of allocating_code)
         (Some w ∷ r1 ∷ r2 ∷ r3 ∷ r4 ∷ r5 ∷ r6 ∷ r7 ∷ []) k
@@ -172,7 +172,7 @@ module _ (names : List (List ℕ)) (program : ProgramRows) (places : Places) (z 
             let mark : ℕ = mark_address y.arena.heap_to count bit in
             let all : List ℕ = instance_words_all room in
             let few : length all ≤ 2 + count + bit = omega (arith, many room) in
-            let now : State = record y { arena = allotted (2 + count + bit) mark all y.arena; cost = k + 90 + 140 + 42 + 38 * count } in
+            let now : MidState = record y { arena = allotted (2 + count + bit) mark all y.arena; cost = k + 90 + 140 + 42 + 38 * count } in
             record {
               outcome =
                   ends (returns (y.arena.heap_to + 2))
@@ -221,9 +221,9 @@ allocation program c z =
     else program_error z
 
 module _
-    (names : List (List ℕ)) (program : ProgramRows) (places : Places) (z : meaning.State) (y : State) (r : Represents names program places z y)
+    (names : List (List ℕ)) (program : ProgramRows) (places : Places) (z : meaning.State) (y : MidState) (r : Represents names program places z y)
     (classes : ClassesThere names program z) (v : Value) (w c : ℕ) (word : word_of places v ≡ Some w) (it : ObjectFound names program places z y r v w (class_object c))
-    (procedures : List MidProcedure) (below : Task → State → Outcome) (n budget k : ℕ) (turns : can_be_made program c ≡ true → length (slots program c) ≤ n)
+    (procedures : List MidProcedure) (below : Task → MidState → MidOutcome) (n budget k : ℕ) (turns : can_be_made program c ≡ true → length (slots program c) ≤ n)
     (cost : k + 200 ≤ budget)
   where
     making_run :

@@ -7,7 +7,7 @@ use Rattle.mid_code.specs.declared.operation.Operation.TheVariants.{Move, Reques
 use Rattle.base.specs.Arithmetic.{sum32}
 use Rattle.mid_code.specs.Arena.{Arena, left, word_at, with_word, with_heap}
 use Rattle.mid_code.specs.MidCode.{MidStep, perform, code_of}
-use Rattle.mid_code.specs.State.{State, falls, ends}
+use Rattle.mid_code.specs.State.{MidState, falls, ends}
 use Rattle.mid_code.specs.Meaning.{Context}
 use Rattle.mid_arena.specs.Tags.{nil_word, unbound_word, instance_header}
 use Rattle.mid_arena.specs.Standing.{ArenaStands}
@@ -18,7 +18,7 @@ use Rattle.mid_arena.proofs.Memory.{with_words, words_stand, words_behind, store
 use Rattle.mid_arena.proofs.Running.{RunsTo, none_left, and_then, costing, constant_falls}
 use Rattle.mid_arena.proofs.Running.{compute_known, move_falls, store_in_heap, request_falls, address_here, address_above}
 use Rattle.mid_arena.proofs.Doing.{paid}
-use Rattle.mid_arena.proofs.Growing.{Grows}
+use Rattle.mid_arena.proofs.Growing.{HeapGrows}
 use Rattle.mid_arena.proofs.Filling.{filling_code}
 
 -- ---- the arena
@@ -28,7 +28,7 @@ abbrev pub allotted : (words mark : ℕ) → List ℕ → Arena → Arena
 allotted words mark ws a = with_words a.heap_to ws (with_word mark nil_word (with_heap words a))
 
 module _ (a : Arena) (words mark : ℕ) (ws : List ℕ) (stands : ArenaStands a) (room : words ≤ left a) (few : length ws ≤ words) (aligned : mark % 4 ≡ 0) (behind : a.heap_to ≤ mark) where
-  pub allotted_grows : Grows a (allotted words mark ws a)
+  pub allotted_grows : HeapGrows a (allotted words mark ws a)
   allotted_grows = grows_with_words a.heap_to ws (grows_stored mark nil_word (grows_with_heap words stands room) aligned behind) stands.aligned (omega arith)
 
   pub allotted_heap : (allotted words mark ws a).heap_to ≡ a.heap_to + 4 * words
@@ -73,7 +73,7 @@ abbrev pub mark_address : (heap count bit : ℕ) → ℕ
 mark_address heap count bit = heap + 4 * (1 + count + bit)
 
 pub beginning_falls :
-    {c : Context} {r1 r2 r6 r7 : Option ℕ} (y : State) (k w count bit : ℕ) → ArenaStands y.arena → bit < 2 → 2 + count + bit ≤ left y.arena
+    {c : Context} {r1 r2 r6 r7 : Option ℕ} (y : MidState) (k w count bit : ℕ) → ArenaStands y.arena → bit < 2 → 2 + count + bit ≤ left y.arena
     → RunsTo c (code_of beginning_code) (Some w ∷ r1 ∷ r2 ∷ Some (2 + count + bit) ∷ Some bit ∷ Some (4 * count) ∷ r6 ∷ r7 ∷ []) (paid y k)
     (ends falls (Some w ∷ r1 ∷ r2 ∷ Some y.arena.heap_to ∷ Some unbound_word ∷ Some (y.arena.heap_to + 4 * count) ∷ Some 3 ∷ Some y.arena.heap_to ∷ [])
     (record y { arena = allotted (2 + count + bit) (mark_address y.arena.heap_to count bit) (instance_header count ∷ w ∷ []) y.arena; cost = k + 140 }))

@@ -8,7 +8,7 @@ use Rattle.lang_meaning.specs.Objects.{Object}
 use Rattle.lang_meaning.specs.State as meaning
 use Rattle.lang_meaning.specs.Classes.{fetch}
 use Rattle.mid_code.specs.Arena.{word_at}
-use Rattle.mid_code.specs.State.{State}
+use Rattle.mid_code.specs.State.{MidState}
 use Rattle.mid_code.proofs.WordBounds.{low_word_bounded}
 use Rattle.mid_arena.specs.Tags.{object_tag, integer_word, nil_word, character_word, tag_of}
 use Rattle.mid_arena.specs.Places.{Spot, Places, of_object, of_symbol, spot_of, word_of}
@@ -76,7 +76,7 @@ item_there [] i h = absurd (omega arith)
 item_there (x ∷ xs) zero h = (x, refl)
 item_there (x ∷ xs) (suc i) h = item_there xs i (omega arith)
 
-module _ (names : List (List ℕ)) (program : ProgramRows) (places : Places) (z : meaning.State) (y : State) (r : Represents names program places z y) where
+module _ (names : List (List ℕ)) (program : ProgramRows) (places : Places) (z : meaning.State) (y : MidState) (r : Represents names program places z y) where
   -- an object whose number has a spot
   pub record ObjectThere (i : ℕ) (w : ℕ) : Type 0 where
     pub one : Object

@@ -13,7 +13,7 @@ use Rattle.mid_code.specs.declared.operation.Comparison.TheVariants.{AtLeast, Le
 use Rattle.mid_code.specs.Words.{compares, address}
 use Rattle.mid_code.specs.Arena.{Arena, with_word}
 use Rattle.mid_code.specs.MidCode.{MidStep, return_word, code_of}
-use Rattle.mid_code.specs.State.{Registers, State, Outcome, returns, ends, register}
+use Rattle.mid_code.specs.State.{Registers, MidState, MidOutcome, returns, ends, register}
 use Rattle.mid_code.specs.Meaning.{Task}
 use Rattle.mid_arena.specs.Tags.{integer_word}
 use Rattle.mid_arena.specs.Places.{Spot, end_of, Places, of_object, spot_of, word_of}
@@ -25,7 +25,7 @@ use Rattle.mid_arena.specs.Steps as steps
 use Rattle.mid_arena.proofs.WordFacts.{length_tested, length_word, index_is, index_word, index_tested}
 use Rattle.mid_arena.proofs.Running.{constant_falls, and_then, and_ends, store_in_spot, return_ends}
 use Rattle.mid_arena.proofs.Growing.{Changes, changes_part}
-use Rattle.mid_arena.proofs.ClassesKept.{IsMade}
+use Rattle.mid_arena.proofs.ClassesKept.{IsNewObject}
 use Rattle.mid_arena.proofs.Representing.{represents_changed, kept_changed}
 use Rattle.mid_arena.proofs.FixedChanges.{one_word}
 use Rattle.mid_arena.proofs.Making.{changes_stored}
@@ -40,8 +40,8 @@ abbrev pub length_test : List MidStep → List MidStep
 length_test rest = steps.constant 6 0 ∷ steps.either (steps.comparing AtLeast 0 6) [] (steps.domain_error 0 (pos (class_address integer_class))) ∷ rest
 
 module _
-    (names : List (List ℕ)) (program : ProgramRows) (places : Places) (z : meaning.State) (y : State) (r : Represents names program places z y)
-    (procedures : List MidProcedure) (below : Task → State → Outcome)
+    (names : List (List ℕ)) (program : ProgramRows) (places : Places) (z : meaning.State) (y : MidState) (r : Represents names program places z y)
+    (procedures : List MidProcedure) (below : Task → MidState → MidOutcome)
   where
     -- An integer is an index of so many, whose word is in register 7, or the answer is a program error. It costs 14 to find it.
     pub index_needed :
@@ -71,7 +71,7 @@ module _
     -- a value is returned where an object was changed in its spot
     pub returns_changed :
         (budget k i w : ℕ) (s : Spot) (before now : Object) (v : Value) (b : Arena) (rs : Registers) → slice_get z.store i ≡ Some before
-        → IsMade program before → IsMade program now → ((p : ℕ) → before ≡ function p → ⊥) → spot_of places (of_object i) ≡ Some s → Changes s y.arena b → ObjectAt names program places b s now
+        → IsNewObject program before → IsNewObject program now → ((p : ℕ) → before ≡ function p → ⊥) → spot_of places (of_object i) ≡ Some s → Changes s y.arena b → ObjectAt names program places b s now
         → word_of places v ≡ Some w → length b.memory ≡ length y.arena.memory → b.heap_to ≡ y.arena.heap_to → b.blocks ≡ y.arena.blocks → k ≤ budget
         → Answers names program places z y budget (result v (meaning.changed i now z)) (ends (returns w) rs (record y { arena = b; cost = k }))
     returns_changed budget k i w s before now v b rs stored was is_made no_function at c made word size heap blocks cost = record {
@@ -91,7 +91,7 @@ module _
     pub stores_changed :
         (n budget k i from base at b x stored_word w : ℕ) (offset : ℤ) (s : Spot) (before now : Object) (v of : Value) (rs : Registers)
         → register from rs ≡ Some stored_word → register base rs ≡ Some b → address b offset ≡ x → register at rs ≡ Some w → word_of places v ≡ Some w
-        → x % 4 ≡ 0 → s.address ≤ x → x < end_of s → slice_get z.store i ≡ Some before → IsMade program before → IsMade program now
+        → x % 4 ≡ 0 → s.address ≤ x → x < end_of s → slice_get z.store i ≡ Some before → IsNewObject program before → IsNewObject program now
         → ((p : ℕ) → before ≡ function p → ⊥) → spot_of places (of_object i) ≡ Some s → of ≡ object i → ObjectAt names program places (with_word x stored_word y.arena) s now → k + 22 ≤ budget
         → Run names program places z y procedures below n budget (result v (change of now z)) (code_of (steps.store from base offset ∷ return_word at ∷ [])) rs k
     stores_changed n budget k i from base at b x stored_word w offset s before now v of rs held based same returned word aligned low high there was is_made no_function spot value made cost =

@@ -13,7 +13,7 @@ use Rattle.mid_code.specs.declared.operation.Comparison.TheVariants as compariso
 use Rattle.base.specs.Arithmetic.{shift_left, shift_right, sum32}
 use Rattle.mid_code.specs.Words.{compares}
 use Rattle.mid_code.specs.MidCode.{MidStep, return_word, code_of}
-use Rattle.mid_code.specs.State.{State, Outcome}
+use Rattle.mid_code.specs.State.{MidState, MidOutcome}
 use Rattle.mid_code.specs.Meaning.{Task}
 use Rattle.mid_arena.specs.Tags.{integer_word, character_word}
 use Rattle.mid_arena.specs.Places.{Places, word_of}
@@ -58,8 +58,8 @@ char_code_does = does_one CharCode refl (λ v a names program places z y procedu
     (in_range_is (pos c) (omega arith) (omega arith)) (omega arith)))))))
 
 module _
-    (names : List (List ℕ)) (program : ProgramRows) (places : Places) (z : meaning.State) (y : State) (r : Represents names program places z y)
-    (procedures : List MidProcedure) (below : Task → State → Outcome)
+    (names : List (List ℕ)) (program : ProgramRows) (places : Places) (z : meaning.State) (y : MidState) (r : Represents names program places z y)
+    (procedures : List MidProcedure) (below : Task → MidState → MidOutcome)
   where
     -- the integer in register 0 is tested to be a byte, and the character of it is returned
     testing_run :

@@ -12,7 +12,7 @@ use Rattle.mid_code.specs.declared.program.MidProcedure.{MidProcedure}
 use Rattle.mid_code.specs.Arena.{word_at}
 use Rattle.base.specs.Arithmetic.{shift_left, difference32}
 use Rattle.mid_code.specs.MidCode.{MidStep, code_of}
-use Rattle.mid_code.specs.State.{Registers, State, Outcome, falls, ends, register}
+use Rattle.mid_code.specs.State.{Registers, MidState, MidOutcome, falls, ends, register}
 use Rattle.mid_code.specs.Meaning.{Task}
 use Rattle.mid_arena.specs.Tags.{object_tag, integer_word, character_word}
 use Rattle.mid_arena.specs.Places.{Spot, Places, word_of}
@@ -52,8 +52,8 @@ abbrev pub byte_registers : (w : ℕ) → Registers → Registers
 byte_registers w rs = slice_set (slice_set (slice_set rs 6 (Some 24)) 7 (Some (shift_left w 24))) 6 (Some (15 * 2 ^ 24))
 
 module _
-    (names : List (List ℕ)) (program : ProgramRows) (places : Places) (z : meaning.State) (y : State) (r : Represents names program places z y)
-    (procedures : List MidProcedure) (below : Task → State → Outcome)
+    (names : List (List ℕ)) (program : ProgramRows) (places : Places) (z : meaning.State) (y : MidState) (r : Represents names program places z y)
+    (procedures : List MidProcedure) (below : Task → MidState → MidOutcome)
   where
     -- An argument whose word is in one of the first registers, and the class that it is expected to be of. Where a test of it fails, the
     -- answer is a domain error.

@@ -5,14 +5,14 @@ use Rattle.std.proofs.lemmas.Bool.Decides.{nat_tests}
 use Rattle.lang_meaning.specs.declared.program.ProgramRows.{ProgramRows}
 use Rattle.lang_meaning.specs.Objects.{vector_class, string_class, function_class, generic_function_class, symbol_class, stream_class, built_in_class_class, standard_class_class}
 use Rattle.lang_meaning.specs.State as meaning
-use Rattle.lang_meaning.specs.Layout.{class_value}
+use Rattle.lang_meaning.specs.InitialHeap.{class_value}
 use Rattle.mid_code.specs.declared.program.MidProcedure.{MidProcedure}
 use Rattle.mid_code.specs.declared.operation.Test.{Test}
 use Rattle.mid_code.specs.Arena.{word_at}
 use Rattle.base.specs.Arithmetic.{shift_left}
 use Rattle.mid_code.specs.Words.{compares}
 use Rattle.mid_code.specs.MidCode.{MidStep, choose, MidCode, no_step, step_and, code_of}
-use Rattle.mid_code.specs.State.{Registers, State, Outcome, falls, ends, register}
+use Rattle.mid_code.specs.State.{Registers, MidState, MidOutcome, falls, ends, register}
 use Rattle.mid_code.specs.Meaning.{Task}
 use Rattle.mid_arena.specs.Tags.{class_header, string_header, vector_header, function_header, generic_header, input_header, output_header, symbol_header, fresh_header}
 use Rattle.mid_arena.specs.Places.{Places, word_of}
@@ -39,10 +39,10 @@ pub data KindHeader : (header class : ℕ) → Type 0 where
 
 -- Where the class of a value is sought: a represented state, how a run goes on, the registers at its beginning, of which one of the first has
 -- the word of the value, and the one where the word of the class is to come.
-pub record Seeking (names : List (List ℕ)) (program : ProgramRows) (places : Places) (z : meaning.State) (y : State) : Type 0 where
+pub record Seeking (names : List (List ℕ)) (program : ProgramRows) (places : Places) (z : meaning.State) (y : MidState) : Type 0 where
   pub represents : Represents names program places z y
   pub procedures : List MidProcedure
-  pub below : Task → State → Outcome
+  pub below : Task → MidState → MidOutcome
   pub turns : ℕ
   pub to : ℕ
   pub to_low : to < 3
@@ -54,8 +54,8 @@ pub record Seeking (names : List (List ℕ)) (program : ProgramRows) (places : P
 
 -- the word is in register 0, and that of the class is to come into register 2
 abbrev pub seeking_first :
-    {names : List (List ℕ)} {program : ProgramRows} {places : Places} {z : meaning.State} {y : State} (r : Represents names program places z y)
-    (procedures : List MidProcedure) (below : Task → State → Outcome) (n w : ℕ) (start : Registers) → register 0 start ≡ Some w → Seeking names program places z y
+    {names : List (List ℕ)} {program : ProgramRows} {places : Places} {z : meaning.State} {y : MidState} (r : Represents names program places z y)
+    (procedures : List MidProcedure) (below : Task → MidState → MidOutcome) (n w : ℕ) (start : Registers) → register 0 start ≡ Some w → Seeking names program places z y
 seeking_first r procedures below n w start held = record {
   represents = r;
   procedures = procedures;
@@ -70,7 +70,7 @@ seeking_first r procedures below n w start held = record {
   held = held;
 }
 
-module _ {names : List (List ℕ)} {program : ProgramRows} {places : Places} {z : meaning.State} {y : State} (here : Seeking names program places z y) where
+module _ {names : List (List ℕ)} {program : ProgramRows} {places : Places} {z : meaning.State} {y : MidState} (here : Seeking names program places z y) where
   -- Registers on the way: those of the arguments are as they were, 0 is in register 5, and that word is in register 7.
   pub record OnTheWay (seventh : ℕ) (rs : Registers) : Type 0 where
     pub size : length rs ≡ 8

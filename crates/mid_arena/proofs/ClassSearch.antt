@@ -15,7 +15,7 @@ use Rattle.mid_code.specs.declared.operation.Comparison.TheVariants.{Equal}
 use Rattle.mid_code.specs.Arena.{word_at}
 use Rattle.base.specs.Arithmetic.{sum32}
 use Rattle.mid_code.specs.MidCode.{MidStep, return_word, code_of}
-use Rattle.mid_code.specs.State.{Registers, State, Outcome, falls, returns, ends, register}
+use Rattle.mid_code.specs.State.{Registers, MidState, MidOutcome, falls, returns, ends, register}
 use Rattle.mid_code.specs.Meaning.{Task}
 use Rattle.mid_arena.specs.Tags.{nil_word}
 use Rattle.mid_arena.specs.Places.{Places, word_of}
@@ -39,8 +39,8 @@ abbrev search : MidStep
 search = steps.while_below 5 3 search_body
 
 module _
-    (names : List (List ℕ)) (program : ProgramRows) (places : Places) (z : meaning.State) (y : State) (r : Represents names program places z y)
-    (procedures : List MidProcedure) (below : Task → State → Outcome) (d : ℕ)
+    (names : List (List ℕ)) (program : ProgramRows) (places : Places) (z : meaning.State) (y : MidState) (r : Represents names program places z y)
+    (procedures : List MidProcedure) (below : Task → MidState → MidOutcome) (d : ℕ)
   where
     -- The loop in front of the words of some classes: it returns t where the class is among them, else it falls out.
     pub data Searched (n : ℕ) (cs : List ℕ) (rs : Registers) (k : ℕ) : Type 0 where
@@ -117,7 +117,7 @@ module _
 
       -- it is another one: the loop goes on with the next one
       passed_in_turn :
-          (m : ℕ) {k : ℕ} {o : Outcome} → word_at y.arena at ≡ Some (4 * c) → (d == c) ≡ false
+          (m : ℕ) {k : ℕ} {o : MidOutcome} → word_at y.arena at ≡ Some (4 * c) → (d == c) ≡ false
           → StepsTo (turning procedures below m) search (after_turn at c rs) (paid y (k + 12 + 8 + 12 + 2 + 6 + 10 + 2)) o
           → StepsTo (turning procedures below (suc m)) search rs (paid y k) o
       passed_in_turn m {k = k} at_word other more =
@@ -177,8 +177,8 @@ asking of =
     ++ steps.compute 3 which.Add 3 5 ∷ search ∷ steps.constant 5 nil_word ∷ return_word 5 ∷ []
 
 module _
-    (names : List (List ℕ)) (program : ProgramRows) (places : Places) (z : meaning.State) (y : State) (r : Represents names program places z y)
-    (procedures : List MidProcedure) (below : Task → State → Outcome)
+    (names : List (List ℕ)) (program : ProgramRows) (places : Places) (z : meaning.State) (y : MidState) (r : Represents names program places z y)
+    (procedures : List MidProcedure) (below : Task → MidState → MidOutcome)
   where
     -- The loop, and nil behind it, where a class is sought among others.
     sought_run :

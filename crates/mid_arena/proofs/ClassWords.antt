@@ -13,7 +13,7 @@ use Rattle.mid_code.specs.declared.operation.Comparison.TheVariants.{Equal}
 use Rattle.mid_code.specs.Arena.{word_at}
 use Rattle.base.specs.Arithmetic.{shift_left}
 use Rattle.mid_code.specs.MidCode.{return_word, MidStep, code_of}
-use Rattle.mid_code.specs.State.{first_registers, Registers, State, register}
+use Rattle.mid_code.specs.State.{first_registers, Registers, MidState, register}
 use Rattle.mid_arena.specs.Tags.{nil_word, class_header, tag_of}
 use Rattle.mid_arena.specs.Places.{Spot, Places, word_of}
 use Rattle.mid_arena.specs.Standing.{SpotStands}
@@ -36,7 +36,7 @@ use Rattle.mid_arena.proofs.Telling.{character_not_nil}
 use Rattle.mid_arena.proofs.Registers.{register_beside, register_here, same_size}
 use Rattle.mid_arena.proofs.Memory.{spot_low}
 
-module _ {names : List (List ℕ)} {program : ProgramRows} {places : Places} {z : meaning.State} {y : State} (here : Seeking names program places z y) where
+module _ {names : List (List ℕ)} {program : ProgramRows} {places : Places} {z : meaning.State} {y : MidState} (here : Seeking names program places z y) where
   -- ---- by the tag
 
   -- the code behind that of integers, behind that of conses, and behind that of objects

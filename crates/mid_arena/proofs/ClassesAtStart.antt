@@ -16,9 +16,9 @@ use Rattle.lang_meaning.specs.declared.program.LiteralRow.{LiteralRow}
 use Rattle.lang_meaning.specs.declared.program.LiteralRow.TheVariants as row
 use Rattle.lang_meaning.specs.Lookup.{text, numbered}
 use Rattle.lang_meaning.specs.Literals.{Laid, lay, lay_content, lay_items, lay_list, lay_tail}
-use Rattle.lang_meaning.specs.Layout.{Key, class, input, output, function_of, literal, same_key, Keyed, Thing, single, keyed, laid_out, layout, things}
-use Rattle.lang_meaning.specs.Layout.{class_things, function_object, function_things, literal_objects, literal_things}
-use Rattle.lang_meaning.specs.Layout.{initargs_list, initform_objects, slot_things, objects_at_start, under_key, class_value}
+use Rattle.lang_meaning.specs.InitialHeap.{Key, class, input, output, function_of, literal, same_key, Keyed, Thing, single, keyed, laid_out, layout, things}
+use Rattle.lang_meaning.specs.InitialHeap.{class_things, function_object, function_things, literal_objects, literal_things}
+use Rattle.lang_meaning.specs.InitialHeap.{initargs_list, initform_objects, slot_things, objects_at_start, under_key, class_value}
 use Rattle.lang_meaning.specs.Values.{Value, object}
 use Rattle.lang_meaning.specs.Objects.{Object, instance, class_object, input_stream, output_stream, built_in_classes}
 use Rattle.lang_meaning.specs.State.{first_state}

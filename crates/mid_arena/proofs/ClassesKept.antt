@@ -7,24 +7,24 @@ use Rattle.lang_meaning.specs.Values.{Value, object}
 use Rattle.lang_meaning.specs.Objects.{Object, instance, class_object}
 use Rattle.lang_meaning.specs.State as meaning
 use Rattle.lang_meaning.specs.Classes.{fetch}
-use Rattle.lang_meaning.specs.Layout.{class_value}
+use Rattle.lang_meaning.specs.InitialHeap.{class_value}
 use Rattle.mid_arena.proofs.Owners.{FrontOrEnd, at_front, at_end, front_or_end, SetOrNot, at_place, elsewhere, set_or_not}
 use Rattle.mid_arena.specs.ClassesThere.{ClassesThere}
 use Rattle.mid_arena.proofs.Lists.{set_elsewhere}
 
 -- an object that a run makes: no class, and if it is an instance, then of a class of the program
-abbrev pub IsMade : ProgramRows → Object → Type 0
-IsMade program (instance c slots mark) = c < length program.classes
-IsMade program (class_object c) = ⊥
-IsMade program other = Unit {0}
+abbrev pub IsNewObject : ProgramRows → Object → Type 0
+IsNewObject program (instance c slots mark) = c < length program.classes
+IsNewObject program (class_object c) = ⊥
+IsNewObject program other = Unit {0}
 
-pub no_class : (program : ProgramRows) (o : Object) (c : ℕ) → IsMade program o → o ≡ class_object c → ⊥
-no_class program o c made e = subst (λ x. IsMade program x) e made
+pub no_class : (program : ProgramRows) (o : Object) (c : ℕ) → IsNewObject program o → o ≡ class_object c → ⊥
+no_class program o c made e = subst (λ x. IsNewObject program x) e made
 
 pub of_program :
-    (program : ProgramRows) (o : Object) (c : ℕ) (slots : List (Option Value)) (mark : Value) → IsMade program o → o ≡ instance c slots mark
+    (program : ProgramRows) (o : Object) (c : ℕ) (slots : List (Option Value)) (mark : Value) → IsNewObject program o → o ≡ instance c slots mark
     → c < length program.classes
-of_program program o c slots mark made e = subst (λ x. IsMade program x) e made
+of_program program o c slots mark made e = subst (λ x. IsNewObject program x) e made
 
 module _ (names : List (List ℕ)) (program : ProgramRows) (z : meaning.State) (there : ClassesThere names program z) where
   -- in a state with the same objects
@@ -40,7 +40,7 @@ module _ (names : List (List ℕ)) (program : ProgramRows) (z : meaning.State) (
       fetched w = refl
 
   -- with one object more
-  pub classes_stored : (o : Object) → IsMade program o → ClassesThere names program (meaning.stored o z)
+  pub classes_stored : (o : Object) → IsNewObject program o → ClassesThere names program (meaning.stored o z)
   classes_stored o made = record {
     objects = λ c h. fetched (class_value names program c) (class_object c) (there.objects c h);
     values = values;
@@ -66,7 +66,7 @@ module _ (names : List (List ℕ)) (program : ProgramRows) (z : meaning.State) (
 
   -- with another object in the place of one
   pub classes_changed :
-      (i : ℕ) (old now : Object) → slice_get z.store i ≡ Some old → IsMade program old → IsMade program now
+      (i : ℕ) (old now : Object) → slice_get z.store i ≡ Some old → IsNewObject program old → IsNewObject program now
       → ClassesThere names program (meaning.changed i now z)
   classes_changed i old now stored was made = record {
     objects = λ c h. fetched (class_value names program c) c (there.objects c h);

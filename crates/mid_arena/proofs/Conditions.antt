@@ -7,13 +7,13 @@ use Rattle.lang_meaning.specs.Values.{Value}
 use Rattle.lang_meaning.specs.Objects.{built_in_classes, serious_condition_class, domain_error_class}
 use Rattle.lang_meaning.specs.State as meaning
 use Rattle.lang_meaning.specs.Classes.{slots}
-use Rattle.lang_meaning.specs.Layout.{class_value}
+use Rattle.lang_meaning.specs.InitialHeap.{class_value}
 use Rattle.lang_meaning.specs.Primitives.{domain_error, fails, instance_words}
 use Rattle.mid_code.specs.declared.operation.Operation.TheVariants.{Request}
 use Rattle.mid_code.specs.declared.program.MidProcedure.{MidProcedure}
 use Rattle.mid_code.specs.Arena.{left, is_lent, word_at, with_word}
 use Rattle.mid_code.specs.MidCode.{MidStep, perform, MidCode, step_and, code_of}
-use Rattle.mid_code.specs.State.{Registers, State, Outcome, falls, returns, no_room, ends, register}
+use Rattle.mid_code.specs.State.{Registers, MidState, MidOutcome, falls, returns, no_room, ends, register}
 use Rattle.mid_code.specs.Meaning.{Task, Context}
 use Rattle.mid_arena.specs.Tags.{nil_word, signal_word, instance_header}
 use Rattle.mid_arena.specs.Places.{Places, word_of, WordsOf}
@@ -26,7 +26,7 @@ use Rattle.mid_arena.proofs.Running.{RunsTo, and_then, and_ends, none_left, cost
 use Rattle.mid_arena.proofs.Running.{request_wanting, return_ends, address_above, address_here}
 use Rattle.mid_arena.proofs.BuiltInFacts.{built_in_known, is_condition_class, slot_count_is, condition_words}
 use Rattle.mid_arena.proofs.Making.{Room, is_left, is_wanting, room_for, begun, begun_grows, begun_heap, begun_blocks, fixed_below, answers_wanting, condition_at, signalled_new, fixed_still_lent}
-use Rattle.mid_arena.proofs.Doing.{Alike, Run, paid}
+use Rattle.mid_arena.proofs.Doing.{SameObjects, Run, paid}
 use Rattle.mid_arena.proofs.Registers.{EightRegisters, eight, eight_registers}
 
 -- a class of conditions that is built in, has no slots, and is signalled by primitives
@@ -73,7 +73,7 @@ mark_slot = steps.constant 4 nil_word ∷ steps.store 4 3 (pos 8) ∷ steps.hand
 
 -- a condition is handed over
 hand_over_ends :
-    {c : Context} {r0 r1 r2 r4 r6 r7 : Option ℕ} {x : State} (b : ℕ) → b + 2 < 2 ^ 32 → is_lent x.arena pending_address ≡ true
+    {c : Context} {r0 r1 r2 r4 r6 r7 : Option ℕ} {x : MidState} (b : ℕ) → b + 2 < 2 ^ 32 → is_lent x.arena pending_address ≡ true
     → RunsTo c (code_of steps.hand_over) (r0 ∷ r1 ∷ r2 ∷ Some b ∷ r4 ∷ Some 0 ∷ r6 ∷ r7 ∷ []) x
     (ends (returns signal_word) (r0 ∷ r1 ∷ r2 ∷ Some (b + 2) ∷ Some signal_word ∷ Some 0 ∷ r6 ∷ r7 ∷ [])
     (record x { arena = with_word pending_address (b + 2) x.arena; cost = x.cost + 44 }))
@@ -86,7 +86,7 @@ hand_over_ends b small lent =
     (and_then constant_falls
     (and_ends tt (return_ends refl)))))) (omega arith)
 
-module _ (names : List (List ℕ)) (program : ProgramRows) (places : Places) (z : meaning.State) (y : State) (r : Represents names program places z y) where
+module _ (names : List (List ℕ)) (program : ProgramRows) (places : Places) (z : meaning.State) (y : MidState) (r : Represents names program places z y) where
   -- the words of an instance are requested, and its header and its class stored
   begin_falls :
       {c : Context} {r0 r1 r2 r3 r4 r5 r6 r7 : Option ℕ} (words header class word k : ℕ) → 2 ≤ words → words ≤ left y.arena → class < 184
@@ -109,7 +109,7 @@ module _ (names : List (List ℕ)) (program : ProgramRows) (places : Places) (z 
       (and_then (store_in_heap refl refl (address_above y.arena.heap_to 4 (y.arena.heap_to + 4) refl (omega arith)) (omega (arith, r.arena.aligned)) (omega (arith, r.arena.heap)) (omega arith))
       none_left))))))) (omega arith)
 
-module _ (names : List (List ℕ)) (program : ProgramRows) (places : Places) (z : meaning.State) (y : State) (r : Represents names program places z y) where
+module _ (names : List (List ℕ)) (program : ProgramRows) (places : Places) (z : meaning.State) (y : MidState) (r : Represents names program places z y) where
   -- the slots and the mark of a domain error are stored, and it is handed over
   error_ends :
       {c : Context} {r0 r1 r2 r4 r6 r7 : Option ℕ} (of w expected word header named k : ℕ) → of < 3
@@ -164,7 +164,7 @@ module _ (names : List (List ℕ)) (program : ProgramRows) (places : Places) (z 
 
   -- a condition of a class that is built in, with all slots that the class has, whose words were all stored, is to be signalled
   signalled :
-      (class : ℕ) (vs : List Value) (ws : List ℕ) (z' : meaning.State) (rs : Registers) (k : ℕ) → Alike z z'
+      (class : ℕ) (vs : List Value) (ws : List ℕ) (z' : meaning.State) (rs : Registers) (k : ℕ) → SameObjects z z'
       → serious_condition_class < suc class → (high : class < built_in_classes) → length vs ≡ length (slots program class) → WordsOf places vs ws
       → 3 + length vs ≤ left y.arena
       → Signalled names program places z y class vs z'
@@ -182,12 +182,12 @@ module _ (names : List (List ℕ)) (program : ProgramRows) (places : Places) (z 
       (condition_at names program places z y r class named.word vs ws (is_condition_class program r.built_in class low high) count named.of_value are room)
       (built_in_known program r.built_in class high)
 
-module _ (names : List (List ℕ)) (program : ProgramRows) (places : Places) (z : meaning.State) (y : State) (r : Represents names program places z y)
-    (procedures : List MidProcedure) (below : Task → State → Outcome) where
+module _ (names : List (List ℕ)) (program : ProgramRows) (places : Places) (z : meaning.State) (y : MidState) (r : Represents names program places z y)
+    (procedures : List MidProcedure) (below : Task → MidState → MidOutcome) where
   -- a domain error of the value whose word is in a register
   pub domain_error_run :
       (n budget k of w expected : ℕ) (v : Value) (z' : meaning.State) (rs : Registers) → of < 3 → length rs ≡ 8 → register of rs ≡ Some w → word_of places v ≡ Some w
-      → expected < 34 → Alike z z' → k + 160 + 250 * z.units ≤ budget + 250 * (z'.units + 5)
+      → expected < 34 → SameObjects z z' → k + 160 + 250 * z.units ≤ budget + 250 * (z'.units + 5)
       → Run names program places z y procedures below n budget (domain_error v expected z') (code_of (steps.domain_error of (pos (class_address expected)))) rs k
   unfolding steps.domain_error
   domain_error_run n budget k of w expected v z' rs low size at word class alike cost = by rs (eight_registers rs size) at (room_for 5 y.arena)
@@ -227,7 +227,7 @@ module _ (names : List (List ℕ)) (program : ProgramRows) (places : Places) (z 
 
   -- a condition without slots
   pub signal_run :
-      (n budget k class : ℕ) (z' : meaning.State) (rs : Registers) → length rs ≡ 8 → PlainCondition class → Alike z z'
+      (n budget k class : ℕ) (z' : meaning.State) (rs : Registers) → length rs ≡ 8 → PlainCondition class → SameObjects z z'
       → k + 130 + 250 * z.units ≤ budget + 250 * (z'.units + 3)
       → Run names program places z y procedures below n budget (fails class [] z') (code_of (steps.signal (pos (class_address class)))) rs k
   unfolding steps.signal

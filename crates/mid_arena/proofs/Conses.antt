@@ -14,7 +14,7 @@ use Rattle.mid_code.specs.declared.operation.Operation.TheVariants as operation
 use Rattle.mid_code.specs.Words.{address}
 use Rattle.mid_code.specs.Arena.{Arena, left, word_at, with_word}
 use Rattle.mid_code.specs.MidCode.{MidStep, perform, return_word, code_of}
-use Rattle.mid_code.specs.State.{Registers, State, Outcome, returns, no_room, ends, register, first_registers}
+use Rattle.mid_code.specs.State.{Registers, MidState, MidOutcome, returns, no_room, ends, register, first_registers}
 use Rattle.mid_code.specs.Meaning.{Task}
 use Rattle.mid_arena.specs.Tags.{cons_tag}
 use Rattle.mid_arena.specs.Places.{Spot, Places, with_object, word_of}
@@ -31,7 +31,7 @@ use Rattle.mid_arena.proofs.Memory.{heap_below, stored_in_spot, others_in_spot, 
 use Rattle.mid_arena.proofs.Keeping.{same_word}
 use Rattle.mid_arena.proofs.Making.{Room, is_left, is_wanting, room_for, begun, begun_grows, begun_word, answers_wanting, answers_made}
 use Rattle.mid_arena.proofs.Arguments.{ObjectFound, object_found}
-use Rattle.mid_arena.proofs.ClassesKept.{IsMade}
+use Rattle.mid_arena.proofs.ClassesKept.{IsNewObject}
 use Rattle.mid_arena.proofs.Doing.{alike_self, paid, Run, goes_on, returns_value}
 use Rattle.mid_arena.proofs.Checking.{tag_registers, cons_needed}
 use Rattle.mid_arena.proofs.Arrays.{stores_changed}
@@ -41,28 +41,28 @@ use Rattle.mid_arena.proofs.WordFacts.{sum_fits}
 -- ---- the parts of a cons
 
 -- the two parts, where they are from the word of a cons on, and which value each is
-data Part : Type 0 where
-  first_part : Part
-  second_part : Part
+data ConsPart : Type 0 where
+  first_part : ConsPart
+  second_part : ConsPart
 
-abbrev offset_of : Part → ℤ
+abbrev offset_of : ConsPart → ℤ
 offset_of first_part = negsuc 0
 offset_of second_part = pos 3
 
-abbrev words_to : Part → ℕ
+abbrev words_to : ConsPart → ℕ
 words_to first_part = 0
 words_to second_part = 1
 
-abbrev part_of : Part → Value × Value → Value
+abbrev part_of : ConsPart → Value × Value → Value
 part_of first_part c = c.0
 part_of second_part c = c.1
 
 -- the cons with another value for a part
-abbrev with_part : Part → Value → Value × Value → Object
+abbrev with_part : ConsPart → Value → Value × Value → Object
 with_part first_part v c = cons v c.1
 with_part second_part v c = cons c.0 v
 
-part_made : (program : ProgramRows) (part : Part) (v : Value) (c : Value × Value) → IsMade program (with_part part v c)
+part_made : (program : ProgramRows) (part : ConsPart) (v : Value) (c : Value × Value) → IsNewObject program (with_part part v c)
 part_made program first_part v c = tt
 part_made program second_part v c = tt
 
@@ -71,12 +71,12 @@ abbrev need_cons : (of : ℕ) → List MidStep → List MidStep
 need_cons of rest = steps.need_tag of (2 ^ 30) (pos (class_address cons_class)) ++ rest
 
 module _
-    (names : List (List ℕ)) (program : ProgramRows) (places : Places) (z : meaning.State) (y : State) (r : Represents names program places z y)
-    (procedures : List MidProcedure) (below : Task → State → Outcome)
+    (names : List (List ℕ)) (program : ProgramRows) (places : Places) (z : meaning.State) (y : MidState) (r : Represents names program places z y)
+    (procedures : List MidProcedure) (below : Task → MidState → MidOutcome)
   where
     -- a part stands at its offset
     part_address :
-        (part : Part) (v : Value) (w : ℕ) (car cdr : Value) (it : ObjectFound names program places z y r v w (cons car cdr))
+        (part : ConsPart) (v : Value) (w : ℕ) (car cdr : Value) (it : ObjectFound names program places z y r v w (cons car cdr))
         → address w (offset_of part) ≡ it.spot.address + 4 * words_to part
     part_address first_part v w car cdr it =
         let high = spot_low r.arena it.spot_stands in
@@ -85,13 +85,13 @@ module _
         let high = spot_low r.arena it.spot_stands in
         address_above w 3 (it.spot.address + 4 * 1) (omega (arith, it.word)) (omega (arith, it.stands.size.words, high))
 
-    part_stands : (part : Part) (s : Spot) (car cdr : Value) → ConsAt places y.arena s car cdr → ValueAt places y.arena (s.address + 4 * words_to part) (part_of part (car, cdr))
+    part_stands : (part : ConsPart) (s : Spot) (car cdr : Value) → ConsAt places y.arena s car cdr → ValueAt places y.arena (s.address + 4 * words_to part) (part_of part (car, cdr))
     part_stands first_part s car cdr t = record { word = t.car.word; of_value = t.car.of_value; stands = ap (word_at y.arena) (omega arith) ∙ t.car.stands }
     part_stands second_part s car cdr t = t.cdr
 
     -- the argument is a cons, and its part is returned
     takes_part :
-        (n w : ℕ) (v : Value) (part : Part) → word_of places v ≡ Some w
+        (n w : ℕ) (v : Value) (part : ConsPart) → word_of places v ≡ Some w
         → Run names program places z y procedures below n (y.cost + 130 + 244) (a_cons v z (λ c. result (part_of part c) z))
         (code_of (need_cons 0 (steps.load 7 0 (offset_of part) ∷ return_word 7 ∷ []))) (first_registers 8 (w ∷ [])) y.cost
     takes_part n w v part word =
@@ -115,7 +115,7 @@ cdr_does = does_one Cdr refl (λ v w names program places z y procedures below n
 
 -- a cons in whose spot the word of a part was stored
 cons_set :
-    (places : Places) (a : Arena) (s : Spot) (car cdr v : Value) (w : ℕ) (part : Part) → ArenaStands a → SpotStands a s → word_of places v ≡ Some w
+    (places : Places) (a : Arena) (s : Spot) (car cdr v : Value) (w : ℕ) (part : ConsPart) → ArenaStands a → SpotStands a s → word_of places v ≡ Some w
     → ConsAt places a s car cdr → (names : List (List ℕ)) (program : ProgramRows)
     → ObjectAt names program places (with_word (s.address + 4 * words_to part) w a) s (with_part part v (car, cdr))
 cons_set places a s car cdr v w first_part arena stands word t names program = record {
@@ -137,17 +137,17 @@ cons_set places a s car cdr v w second_part arena stands word t names program = 
   cdr = record { word = w; of_value = word; stands = stored_in_spot 1 w (s.address + 4) arena stands (omega (arith, t.size.words)) (omega arith) };
 }
 
-part_below : (part : Part) → words_to part < 2
+part_below : (part : ConsPart) → words_to part < 2
 part_below first_part = omega arith
 part_below second_part = omega arith
 
 module _
-    (names : List (List ℕ)) (program : ProgramRows) (places : Places) (z : meaning.State) (y : State) (r : Represents names program places z y)
-    (procedures : List MidProcedure) (below : Task → State → Outcome)
+    (names : List (List ℕ)) (program : ProgramRows) (places : Places) (z : meaning.State) (y : MidState) (r : Represents names program places z y)
+    (procedures : List MidProcedure) (below : Task → MidState → MidOutcome)
   where
     -- the argument was found to be a cons, the first word is stored in its part, and returned
     stores_part :
-        (n budget k a w : ℕ) (v u car cdr : Value) (part : Part) (rs : Registers) → word_of places v ≡ Some a → word_of places u ≡ Some w
+        (n budget k a w : ℕ) (v u car cdr : Value) (part : ConsPart) (rs : Registers) → word_of places v ≡ Some a → word_of places u ≡ Some w
         → fetch z u ≡ Some (cons car cdr) → register 0 rs ≡ Some a → register 1 rs ≡ Some w → k + 22 ≤ budget
         → Run names program places z y procedures below n budget (result v (change u (with_part part v (car, cdr)) z))
         (code_of (steps.store 0 1 (offset_of part) ∷ return_word 0 ∷ [])) rs k
@@ -160,7 +160,7 @@ module _
         (λ p e. absurd (cc e)) it.found it.value (cons_set places y.arena it.spot car cdr v a part r.arena it.spot_stands first it.stands names program) cost
 
     sets_part :
-        (n a w : ℕ) (v u : Value) (part : Part) → word_of places v ≡ Some a → word_of places u ≡ Some w
+        (n a w : ℕ) (v u : Value) (part : ConsPart) → word_of places v ≡ Some a → word_of places u ≡ Some w
         → Run names program places z y procedures below n (y.cost + 130 + 244 * 2) (a_cons u z (λ c. result v (change u (with_part part v c) z)))
         (code_of (need_cons 1 (steps.store 0 1 (offset_of part) ∷ return_word 0 ∷ []))) (first_registers 8 (a ∷ w ∷ [])) y.cost
     sets_part n a w v u part first second =
@@ -186,8 +186,8 @@ making =
     ∷ steps.compute_by 3 which.Add 3 cons_tag ++ return_word 3 ∷ []
 
 module _
-    (names : List (List ℕ)) (program : ProgramRows) (places : Places) (z : meaning.State) (y : State) (r : Represents names program places z y)
-    (procedures : List MidProcedure) (below : Task → State → Outcome)
+    (names : List (List ℕ)) (program : ProgramRows) (places : Places) (z : meaning.State) (y : MidState) (r : Represents names program places z y)
+    (procedures : List MidProcedure) (below : Task → MidState → MidOutcome)
   where
     module _ (n a b : ℕ) (v u : Value) (first : word_of places v ≡ Some a) (second : word_of places u ≡ Some b) where
       -- the registers, with that word in the fourth one

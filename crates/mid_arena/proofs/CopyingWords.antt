@@ -6,7 +6,7 @@ use Rattle.mid_code.specs.declared.operation.Arithmetic.TheVariants as which
 use Rattle.mid_code.specs.declared.program.MidProcedure.{MidProcedure}
 use Rattle.mid_code.specs.Arena.{word_at, with_word}
 use Rattle.mid_code.specs.MidCode.{MidStep}
-use Rattle.mid_code.specs.State.{State, Outcome, falls, ends}
+use Rattle.mid_code.specs.State.{MidState, MidOutcome, falls, ends}
 use Rattle.mid_code.specs.Meaning.{Task}
 use Rattle.mid_arena.specs.Standing.{ArenaStands}
 use Rattle.mid_arena.specs.Steps as steps
@@ -20,9 +20,9 @@ abbrev pub copy_words : MidStep
 copy_words =
     steps.while_below 7 5 (steps.load 6 4 (pos 6) ∷ steps.store 6 7 (pos 8) ∷ steps.compute_by 7 which.Add 7 4 ++ steps.compute_by 4 which.Add 4 4)
 
-module _ (procedures : List MidProcedure) (below : Task → State → Outcome) where
+module _ (procedures : List MidProcedure) (below : Task → MidState → MidOutcome) where
   -- With so many turns, these words are stored from an address on. What is left in the registers that the loop uses does not matter.
-  pub record Copies (n : ℕ) (ws : List ℕ) (at : ℕ) (r0 r1 r2 r3 r4 r5 r6 r7 : Option ℕ) (x : State) : Type 0 where
+  pub record Copies (n : ℕ) (ws : List ℕ) (at : ℕ) (r0 r1 r2 r3 r4 r5 r6 r7 : Option ℕ) (x : MidState) : Type 0 where
     pub four : Option ℕ
     pub six : Option ℕ
     pub seven : Option ℕ
@@ -34,7 +34,7 @@ module _ (procedures : List MidProcedure) (below : Task → State → Outcome) w
 
   -- one word is stored, and then the others are
   one_more :
-      (w : ℕ) (ws : List ℕ) (n s d e from at : ℕ) (r0 r1 r2 r3 r6 : Option ℕ) (x : State) → ArenaStands x.arena → from ≡ s + 6 → at ≡ d + 8 → d < e
+      (w : ℕ) (ws : List ℕ) (n s d e from at : ℕ) (r0 r1 r2 r3 r6 : Option ℕ) (x : MidState) → ArenaStands x.arena → from ≡ s + 6 → at ≡ d + 8 → d < e
       → at % 4 ≡ 0 → x.arena.heap_from ≤ at → at + 4 ≤ x.arena.heap_to → from ≤ at → word_at x.arena from ≡ Some w
       → Copies n ws (at + 4) r0 r1 r2 r3 (Some (s + 4)) (Some e) (Some 4) (Some (d + 4))
       (record x { arena = with_word at w x.arena; cost = x.cost + 12 + 8 + 8 + 6 + 10 + 6 + 10 + 2 })
@@ -61,7 +61,7 @@ module _ (procedures : List MidProcedure) (below : Task → State → Outcome) w
 
   -- The words stand one after another from an address on, below those where they are stored.
   pub copies :
-      (ws : List ℕ) (n s d e from at : ℕ) (r0 r1 r2 r3 r6 : Option ℕ) (x : State) → ArenaStands x.arena → from ≡ s + 6 → at ≡ d + 8
+      (ws : List ℕ) (n s d e from at : ℕ) (r0 r1 r2 r3 r6 : Option ℕ) (x : MidState) → ArenaStands x.arena → from ≡ s + 6 → at ≡ d + 8
       → e ≡ d + 4 * length ws → at % 4 ≡ 0 → x.arena.heap_from ≤ at → at + 4 * length ws ≤ x.arena.heap_to → from + 4 * length ws ≤ at
       → length ws ≤ n → ((i w : ℕ) → slice_get ws i ≡ Some w → word_at x.arena (from + 4 * i) ≡ Some w)
       → Copies n ws at r0 r1 r2 r3 (Some s) (Some e) r6 (Some d) x

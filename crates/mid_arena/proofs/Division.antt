@@ -12,7 +12,7 @@ use Rattle.mid_code.specs.declared.operation.Arithmetic.TheVariants as which
 use Rattle.mid_code.specs.declared.operation.Comparison.TheVariants as comparison
 use Rattle.base.specs.Arithmetic.{sum32, product32, difference32, quotient_signed, remainder_signed}
 use Rattle.mid_code.specs.MidCode.{MidStep, return_word, code_of}
-use Rattle.mid_code.specs.State.{State, Outcome}
+use Rattle.mid_code.specs.State.{MidState, MidOutcome}
 use Rattle.mid_code.specs.Meaning.{Task}
 use Rattle.mid_arena.specs.Tags.{integer_word}
 use Rattle.mid_arena.specs.Places.{Places}
@@ -63,8 +63,8 @@ taking_remainder =
     ∷ steps.compute 4 which.Add 4 5 ∷ return_word 4 ∷ []
 
 module _
-    (names : List (List ℕ)) (program : ProgramRows) (places : Places) (z : meaning.State) (y : State) (r : Represents names program places z y)
-    (procedures : List MidProcedure) (below : Task → State → Outcome)
+    (names : List (List ℕ)) (program : ProgramRows) (places : Places) (z : meaning.State) (y : MidState) (r : Represents names program places z y)
+    (procedures : List MidProcedure) (below : Task → MidState → MidOutcome)
   where
     -- the second integer is not zero, and the code behind goes on, or the condition for that is signalled
     divisor_needed :

@@ -8,7 +8,7 @@ use Rattle.mid_code.specs.declared.program.MidProcedure.{MidProcedure}
 use Rattle.mid_code.specs.declared.operation.Test.{Test}
 use Rattle.mid_code.specs.Words.{compares}
 use Rattle.mid_code.specs.MidCode.{MidStep, choose, return_word, MidCode, no_step, step_and, code_of}
-use Rattle.mid_code.specs.State.{Registers, State, Outcome, falls, returns, ends, register}
+use Rattle.mid_code.specs.State.{Registers, MidState, MidOutcome, falls, returns, ends, register}
 use Rattle.mid_code.specs.Meaning.{Task}
 use Rattle.mid_arena.specs.Places.{Places, word_of}
 use Rattle.mid_arena.specs.Represents.{Represents}
@@ -19,30 +19,30 @@ use Rattle.mid_arena.proofs.Growing.{grows_same}
 use Rattle.mid_arena.proofs.Representing.{kept_grown, represents_grown, represents_same}
 
 -- a state of the meaning with the same objects, fresh symbols, output and input
-pub record Alike (z z' : meaning.State) : Type 0 where
+pub record SameObjects (z z' : meaning.State) : Type 0 where
   pub store : z'.store ≡ z.store
   pub symbols : z'.symbols ≡ z.symbols
   pub printed : z'.printed ≡ z.printed
   pub input : z'.input ≡ z.input
 
-pub alike_self : (z : meaning.State) → Alike z z
+pub alike_self : (z : meaning.State) → SameObjects z z
 alike_self z = record { store = refl; symbols = refl; printed = refl; input = refl }
 
-pub alike_charged : (z : meaning.State) (n : ℕ) → Alike z (meaning.charged n z)
+pub alike_charged : (z : meaning.State) (n : ℕ) → SameObjects z (meaning.charged n z)
 alike_charged z n = record { store = refl; symbols = refl; printed = refl; input = refl }
 
 -- a state where so much was paid
-abbrev pub paid : State → ℕ → State
+abbrev pub paid : MidState → ℕ → MidState
 paid y k = record y { cost = k }
 
-module _ (names : List (List ℕ)) (program : ProgramRows) (places : Places) (z : meaning.State) (y : State) where
+module _ (names : List (List ℕ)) (program : ProgramRows) (places : Places) (z : meaning.State) (y : MidState) where
   -- what a run came to that began in a state: the answer, within a budget to which each unit behind it adds 250
-  pub record Answers (budget : ℕ) (answer : Answer) (r : Outcome) : Type 0 where
+  pub record Answers (budget : ℕ) (answer : Answer) (r : MidOutcome) : Type 0 where
     pub comes : Comes names program places z y 0 answer r
     pub cost : r.state.cost + 250 * z.units ≤ budget + 250 * units_after names program answer
 
   -- what came to an answer did not fall out
-  pub answers_last : {budget : ℕ} (answer : Answer) (r : Outcome) → Answers budget answer r → IsLast r.end
+  pub answers_last : {budget : ℕ} (answer : Answer) (r : MidOutcome) → Answers budget answer r → IsLast r.end
   answers_last answer r a = by answer a.comes
     where
       returned : (w : ℕ) → r.end ≡ returns w → IsLast r.end
@@ -61,7 +61,7 @@ module _ (names : List (List ℕ)) (program : ProgramRows) (places : Places) (z 
 
   -- the word of a value was returned, where things stand as they stood
   pub value_answers :
-      (r : Represents names program places z y) {budget k w : ℕ} {v : Value} {z' : meaning.State} {rs : Registers} → word_of places v ≡ Some w → Alike z z'
+      (r : Represents names program places z y) {budget k w : ℕ} {v : Value} {z' : meaning.State} {rs : Registers} → word_of places v ≡ Some w → SameObjects z z'
       → k + 250 * z.units ≤ budget + 250 * z'.units → Answers budget (result v z') (ends (returns w) rs (paid y k))
   value_answers r {k = k} {w = w} {z' = z'} e alike cost = record {
     comes = done (record {
@@ -78,10 +78,10 @@ module _ (names : List (List ℕ)) (program : ProgramRows) (places : Places) (z 
     cost = cost;
   }
 
-  module _ (procedures : List MidProcedure) (below : Task → State → Outcome) where
+  module _ (procedures : List MidProcedure) (below : Task → MidState → MidOutcome) where
     -- code that comes to an answer, with so many turns, from registers on, where so much was paid
     pub record Run (n budget : ℕ) (answer : Answer) (code : MidCode) (rs : Registers) (k : ℕ) : Type 0 where
-      pub outcome : Outcome
+      pub outcome : MidOutcome
       pub runs : RunsTo (turning procedures below n) code rs (paid y k) outcome
       pub answers : Answers budget answer outcome
 
@@ -95,14 +95,14 @@ module _ (names : List (List ℕ)) (program : ProgramRows) (places : Places) (z 
     -- a step returns with the word of a value, where things stand as they stood; and the step that returns the word of a register
     pub step_returns :
         (r : Represents names program places z y) {n budget k k' w : ℕ} {v : Value} {z' : meaning.State} {s : MidStep} {code : MidCode} {rs rs' : Registers}
-        → StepsTo (turning procedures below n) s rs (paid y k) (ends (returns w) rs' (paid y k')) → word_of places v ≡ Some w → Alike z z'
+        → StepsTo (turning procedures below n) s rs (paid y k) (ends (returns w) rs' (paid y k')) → word_of places v ≡ Some w → SameObjects z z'
         → k' + 250 * z.units ≤ budget + 250 * z'.units → Run n budget (result v z') (step_and s code) rs k
     step_returns r {k' = k'} {w = w} {rs' = rs'} g e alike cost =
         record { outcome = ends (returns w) rs' (paid y k'); runs = and_ends tt g; answers = value_answers r e alike cost }
 
     pub returns_value :
         (r : Represents names program places z y) {n budget k at w : ℕ} {v : Value} {z' : meaning.State} {code : MidCode} {rs : Registers}
-        → register at rs ≡ Some w → word_of places v ≡ Some w → Alike z z' → k + 14 + 250 * z.units ≤ budget + 250 * z'.units
+        → register at rs ≡ Some w → word_of places v ≡ Some w → SameObjects z z' → k + 14 + 250 * z.units ≤ budget + 250 * z'.units
         → Run n budget (result v z') (step_and (return_word at) code) rs k
     returns_value r e f alike cost = step_returns r (return_ends e) f alike cost
 

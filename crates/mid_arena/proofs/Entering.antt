@@ -10,7 +10,7 @@ use Rattle.lang_meaning.specs.Primitives.{Answer, primitive}
 use Rattle.mid_code.specs.declared.program.MidProcedure.{MidProcedure}
 use Rattle.mid_code.specs.Arena.{left}
 use Rattle.mid_code.specs.MidCode.{code_of}
-use Rattle.mid_code.specs.State.{State, Outcome, first_registers}
+use Rattle.mid_code.specs.State.{MidState, MidOutcome, first_registers}
 use Rattle.mid_code.specs.Meaning.{Task, enter, turns}
 use Rattle.mid_arena.specs.Places.{Places, WordsOf}
 use Rattle.mid_arena.specs.Represents.{Represents}
@@ -26,10 +26,10 @@ use Rattle.mid_arena.proofs.Keeping.{as_many_words}
 -- In a represented state where the frame of a primitive is laid and its entry is paid, its code comes to the primitive's answer, within what
 -- is left of 150 and 250 for each argument.
 pub does_by_code :
-    (names : List (List ℕ)) (program : ProgramRows) (places : Places) (z : meaning.State) (y : State) (procedures : List MidProcedure)
-    (below : Task → State → Outcome) (n : ℕ) (which : Primitive) (vs : List Value) (ws : List ℕ)
+    (names : List (List ℕ)) (program : ProgramRows) (places : Places) (z : meaning.State) (y : MidState) (procedures : List MidProcedure)
+    (below : Task → MidState → MidOutcome) (n : ℕ) (which : Primitive) (vs : List Value) (ws : List ℕ)
     → Represents names program places z y → WordsOf places vs ws → length vs ≡ arity which
-    → ((y' : State) → Represents names program places z y'
+    → ((y' : MidState) → Represents names program places z y'
     → Run names program places z y' procedures below n (y'.cost + 130 + 244 * arity which) (primitive names program which vs z)
     (code_of (code_of_primitive which)) (first_registers registers ws) y'.cost)
     → DoesPrimitive names program which (procedure_of which) places z y vs (turns procedures below (suc n) (enter (procedure_of which) ws) y)

@@ -6,7 +6,7 @@ use Rattle.std.proofs.lemmas.Bool.Decides.{nat_tests}
 use Rattle.mid_code.specs.declared.operation.Arithmetic.TheVariants as which
 use Rattle.mid_code.specs.declared.program.MidProcedure.{MidProcedure}
 use Rattle.mid_code.specs.MidCode.{MidStep, return_word, code_of}
-use Rattle.mid_code.specs.State.{Registers, State, Outcome, falls, returns, ends}
+use Rattle.mid_code.specs.State.{Registers, MidState, MidOutcome, falls, returns, ends}
 use Rattle.mid_code.specs.Meaning.{Task, Context}
 use Rattle.mid_arena.specs.Steps as steps
 use Rattle.mid_arena.proofs.Memory.{with_words}
@@ -28,15 +28,15 @@ six_after (suc count) before = Some 4
 
 -- the same step, with what it costs in one sum, and its registers in another form
 known_falls :
-    {c : Context} {s : MidStep} {rs rs' rs'' : Registers} {z z' : State} {n : ℕ} → StepsTo c s rs z (ends falls rs' z') → rs' ≡ rs'' → z'.cost ≡ n
+    {c : Context} {s : MidStep} {rs rs' rs'' : Registers} {z z' : MidState} {n : ℕ} → StepsTo c s rs z (ends falls rs' z') → rs' ≡ rs'' → z'.cost ≡ n
     → StepsTo c s rs z (ends falls rs'' (record z' { cost = n }))
 known_falls {rs'' = rs''} {z' = z'} g same cost =
     record { same = g.same ∙ ap (λ rs. ends falls rs z') same ∙ ap (λ n. ends falls rs'' (record z' { cost = n })) cost }
 
-module _ (procedures : List MidProcedure) (below : Task → State → Outcome) where
+module _ (procedures : List MidProcedure) (below : Task → MidState → MidOutcome) where
   -- So many words are stored from an address on, which is 8 behind the one in register 7; register 5 has the address at which the latter ends.
   pub fill_falls :
-      (count n x from end w : ℕ) (a b c d six : Option ℕ) (z : State) → count ≤ n → from ≡ x + 8 → end ≡ x + 4 * count → from % 4 ≡ 0
+      (count n x from end w : ℕ) (a b c d six : Option ℕ) (z : MidState) → count ≤ n → from ≡ x + 8 → end ≡ x + 4 * count → from % 4 ≡ 0
       → z.arena.heap_from ≤ from → from + 4 * count ≤ z.arena.heap_to → z.arena.heap_to < 2 ^ 32
       → StepsTo (turning procedures below n) fill (a ∷ b ∷ c ∷ d ∷ Some w ∷ Some end ∷ six ∷ Some x ∷ []) z
       (ends falls (a ∷ b ∷ c ∷ d ∷ Some w ∷ Some end ∷ six_after count six ∷ Some end ∷ [])
@@ -67,7 +67,7 @@ abbrev pub filling_code : List MidStep
 filling_code = fill ∷ steps.compute_by 3 which.Add 3 2 ++ return_word 3 ∷ []
 
 pub filling_ends :
-    {r0 r1 r2 r6 : Option ℕ} (procedures : List MidProcedure) (below : Task → State → Outcome) (n count heap w k : ℕ) (y : State) → count ≤ n → heap % 4 ≡ 0
+    {r0 r1 r2 r6 : Option ℕ} (procedures : List MidProcedure) (below : Task → MidState → MidOutcome) (n count heap w k : ℕ) (y : MidState) → count ≤ n → heap % 4 ≡ 0
     → y.arena.heap_from ≤ heap → heap + 4 * (2 + count) ≤ y.arena.heap_to → y.arena.heap_to ≤ 2 ^ 26
     → RunsTo (turning procedures below n) (code_of filling_code) (r0 ∷ r1 ∷ r2 ∷ Some heap ∷ Some w ∷ Some (heap + 4 * count) ∷ r6 ∷ Some heap ∷ []) (record y { cost = k })
     (ends (returns (heap + 2)) (r0 ∷ r1 ∷ r2 ∷ Some (heap + 2) ∷ Some w ∷ Some (heap + 4 * count) ∷ Some 2 ∷ Some (heap + 4 * count) ∷ [])

@@ -6,7 +6,7 @@ use Rattle.lang_meaning.specs.Values.{Value, truth}
 use Rattle.lang_meaning.specs.State as meaning
 use Rattle.lang_meaning.specs.Primitives.{is_fresh_line}
 use Rattle.mid_code.specs.Arena.{Arena, word_at}
-use Rattle.mid_code.specs.State.{State}
+use Rattle.mid_code.specs.State.{MidState}
 use Rattle.mid_arena.specs.Tags.{object_tag, symbol_header}
 use Rattle.mid_arena.specs.Places.{Spot, Places}
 use Rattle.mid_arena.specs.Standing.{Apart, in_front, behind, ValueAt}
@@ -22,7 +22,7 @@ use Rattle.mid_arena.proofs.Representing.{fixed_spot, fixed_stands, represents_f
 abbrev pub one_word : ℕ → Spot
 one_word address = record { address = address; words = 1; tag = 0 }
 
-module _ (names : List (List ℕ)) (program : ProgramRows) (places : Places) (z : meaning.State) (y : State) (r : Represents names program places z y) where
+module _ (names : List (List ℕ)) (program : ProgramRows) (places : Places) (z : meaning.State) (y : MidState) (r : Represents names program places z y) where
   -- another fixed word is as before
   module _ (changed : ℕ) (b : Arena) (c : Changes (one_word changed) y.arena b) where
     word_kept : (address : ℕ) → address < 184 → Apart (one_word address) (one_word changed) → word_at b address ≡ word_at y.arena address
@@ -78,7 +78,7 @@ module _ (names : List (List ℕ)) (program : ProgramRows) (places : Places) (z 
 
   -- a condition is to be signalled
   pub represents_pending :
-      (y' : State) → Changes (one_word pending_address) y.arena y'.arena → y'.printed ≡ y.printed → y'.input ≡ y.input
+      (y' : MidState) → Changes (one_word pending_address) y.arena y'.arena → y'.printed ≡ y.printed → y'.input ≡ y.input
       → Represents names program places z y'
   represents_pending y' c printed input =
       represents_fixed names program places z y r z y' (word_of_fixed pending_address y'.arena (omega arith) c) refl
@@ -89,7 +89,7 @@ module _ (names : List (List ℕ)) (program : ProgramRows) (places : Places) (z 
 
   -- bytes were printed
   pub represents_printed :
-      (printed : List ℕ) (y' : State) → Changes (one_word line_address) y.arena y'.arena
+      (printed : List ℕ) (y' : MidState) → Changes (one_word line_address) y.arena y'.arena
       → ValueAt places y'.arena line_address (truth (is_fresh_line printed)) → y'.printed ≡ printed → y'.input ≡ y.input
       → Represents names program places (record z { printed = printed }) y'
   represents_printed printed y' c line same input =
@@ -100,7 +100,7 @@ module _ (names : List (List ℕ)) (program : ProgramRows) (places : Places) (z 
 
   -- so many fresh symbols were made
   pub represents_serial :
-      (symbols : ℕ) (y' : State) → Changes (one_word serial_address) y.arena y'.arena
+      (symbols : ℕ) (y' : MidState) → Changes (one_word serial_address) y.arena y'.arena
       → word_at y'.arena serial_address ≡ Some (4 * (symbols % 2 ^ 29)) → y'.printed ≡ y.printed → y'.input ≡ y.input
       → Represents names program places (record z { symbols = symbols }) y'
   represents_serial symbols y' c serial printed input =
@@ -111,7 +111,7 @@ module _ (names : List (List ℕ)) (program : ProgramRows) (places : Places) (z 
 
   -- a byte was read, or looked at
   pub represents_read :
-      (bytes : List ℕ) (y' : State) → Changes (one_word peeked_address) y.arena y'.arena → InputIs y'.arena y'.input bytes → AreBytes bytes
+      (bytes : List ℕ) (y' : MidState) → Changes (one_word peeked_address) y.arena y'.arena → InputIs y'.arena y'.input bytes → AreBytes bytes
       → y'.printed ≡ y.printed → Represents names program places (record z { input = bytes }) y'
   represents_read bytes y' c input are_bytes printed =
       represents_fixed names program places z y r (record z { input = bytes }) y' (word_of_fixed peeked_address y'.arena (omega arith) c) refl

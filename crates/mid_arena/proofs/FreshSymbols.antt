@@ -10,7 +10,7 @@ use Rattle.lang_meaning.specs.Primitives.{makes_symbol, primitive}
 use Rattle.mid_code.specs.declared.program.MidProcedure.{MidProcedure}
 use Rattle.mid_code.specs.Arena.{Arena, left, word_at, with_word}
 use Rattle.mid_code.specs.MidCode.{code_of}
-use Rattle.mid_code.specs.State.{Registers, State, Outcome, returns, no_room, ends, first_registers}
+use Rattle.mid_code.specs.State.{Registers, MidState, MidOutcome, returns, no_room, ends, first_registers}
 use Rattle.mid_code.specs.Meaning.{Task, Context}
 use Rattle.mid_arena.specs.Tags.{object_tag, fresh_header}
 use Rattle.mid_arena.specs.Places.{Spot, Places, with_object}
@@ -20,7 +20,7 @@ use Rattle.mid_arena.specs.Represents.{Represents}
 use Rattle.mid_arena.specs.Answers.{Done, done, IsPrimitive}
 use Rattle.mid_arena.specs.Codes.{code_of_primitive, procedure_of}
 use Rattle.mid_arena.proofs.Memory.{heap_below}
-use Rattle.mid_arena.proofs.Growing.{Changes, Grows}
+use Rattle.mid_arena.proofs.Growing.{Changes, HeapGrows}
 use Rattle.mid_arena.proofs.WordFacts.{next_serial}
 use Rattle.mid_arena.proofs.Running.{RunsTo, and_then, and_ends, costing, constant_falls, compute_falls, compute_known, load_falls, store_falls, store_in_heap, request_falls, request_wanting}
 use Rattle.mid_arena.proofs.Running.{return_ends, address_above, address_here}
@@ -39,7 +39,7 @@ serial_word z = 4 * (z.symbols % 2 ^ 29)
 abbrev next_word : meaning.State → ℕ
 next_word z = 4 * ((z.symbols + 1) % 2 ^ 29)
 
-module _ (names : List (List ℕ)) (program : ProgramRows) (places : Places) (z : meaning.State) (y : State) (r : Represents names program places z y) (room : 2 ≤ left y.arena) where
+module _ (names : List (List ℕ)) (program : ProgramRows) (places : Places) (z : meaning.State) (y : MidState) (r : Represents names program places z y) (room : 2 ≤ left y.arena) where
   -- the arena where the two words of the symbol were stored, and the one where the serial was, too
   abbrev symbol_arena : Arena
   symbol_arena = begun 2 (fresh_header ∷ serial_word z ∷ []) y.arena
@@ -47,7 +47,7 @@ module _ (names : List (List ℕ)) (program : ProgramRows) (places : Places) (z 
   abbrev serial_arena : Arena
   serial_arena = with_word serial_address (next_word z) symbol_arena
 
-  grown : Grows y.arena symbol_arena
+  grown : HeapGrows y.arena symbol_arena
   grown = begun_grows 2 (fresh_header ∷ serial_word z ∷ []) r.arena room
 
   -- the code comes to the pointer to the symbol, with these words stored
@@ -115,10 +115,10 @@ module _ (names : List (List ℕ)) (program : ProgramRows) (places : Places) (z 
       after : Places
       after = with_object spot places
 
-      with_symbol : State
+      with_symbol : MidState
       with_symbol = record y { arena = symbol_arena }
 
-      last : State
+      last : MidState
       last = record y { arena = serial_arena; cost = k }
 
       to : symbol_arena.heap_to ≡ y.arena.heap_to + 4 * 2
@@ -147,8 +147,8 @@ module _ (names : List (List ℕ)) (program : ProgramRows) (places : Places) (z 
       serial = stored_fixed names program after (meaning.stored one z) with_symbol there serial_address (next_word z) refl (omega arith)
 
 module _
-    (names : List (List ℕ)) (program : ProgramRows) (places : Places) (z : meaning.State) (y : State) (r : Represents names program places z y)
-    (procedures : List MidProcedure) (below : Task → State → Outcome)
+    (names : List (List ℕ)) (program : ProgramRows) (places : Places) (z : meaning.State) (y : MidState) (r : Represents names program places z y)
+    (procedures : List MidProcedure) (below : Task → MidState → MidOutcome)
   where
     -- it is made, or its words are not left
     gensym_run :

@@ -5,7 +5,7 @@ use Rattle.mid_arena.specs.Places.{Spot, end_of}
 use Rattle.mid_arena.specs.Standing.{ArenaStands, IsLentPart, of_laid, of_heap, SpotStands, Apart, in_front, behind, SameWords}
 
 -- the same bounds but for the heap, which may have grown, and the same words in all that was laid or in the heap
-pub record Grows (earlier later : Arena) : Type 0 where
+pub record HeapGrows (earlier later : Arena) : Type 0 where
   pub size : length later.memory ≡ length earlier.memory
   pub laid_from : later.laid_from ≡ earlier.laid_from
   pub laid_to : later.laid_to ≡ earlier.laid_to
@@ -14,7 +14,7 @@ pub record Grows (earlier later : Arena) : Type 0 where
   pub stands : ArenaStands later
   pub words : (x : ℕ) → x < earlier.heap_to → word_at later x ≡ word_at earlier x
 
-pub grows_same : (a : Arena) → ArenaStands a → Grows a a
+pub grows_same : (a : Arena) → ArenaStands a → HeapGrows a a
 grows_same a stands = record { size = refl; laid_from = refl; laid_to = refl; heap_from = refl; heap_to = omega arith; stands = stands; words = λ x h. refl }
 
 -- a spot ends in what was laid or in the heap, and so below the stack
@@ -35,11 +35,11 @@ spot_stands a b s laid_from laid_to heap_from heap_to spot = record { aligned = 
     by (of_laid low high) = of_laid (omega arith) (omega arith)
     by (of_heap low high) = of_heap (omega arith) (omega arith)
 
-pub spot_grown : {a b : Arena} {s : Spot} → Grows a b → SpotStands a s → SpotStands b s
+pub spot_grown : {a b : Arena} {s : Spot} → HeapGrows a b → SpotStands a s → SpotStands b s
 spot_grown {a} {b} {s} g = spot_stands a b s g.laid_from g.laid_to g.heap_from g.heap_to
 
 -- a spot that stood has the same words
-pub words_grown : (a b : Arena) (s : Spot) → Grows a b → ArenaStands a → SpotStands a s → SameWords a b s
+pub words_grown : (a b : Arena) (s : Spot) → HeapGrows a b → ArenaStands a → SpotStands a s → SameWords a b s
 words_grown a b s g stands spot x low high = let below = spot_below stands spot in g.words x (omega arith)
 
 -- the same bounds but for the heap, which may have grown, and the same words in what was laid and in the heap but in a spot

@@ -14,7 +14,7 @@ use Rattle.mid_code.specs.declared.operation.Comparison.TheVariants as compariso
 use Rattle.mid_code.specs.declared.operation.Test.{Test}
 use Rattle.mid_code.specs.Words.{compares}
 use Rattle.mid_code.specs.MidCode.{MidStep, return_word, code_of}
-use Rattle.mid_code.specs.State.{Registers, State, Outcome, register}
+use Rattle.mid_code.specs.State.{Registers, MidState, MidOutcome, register}
 use Rattle.mid_code.specs.Meaning.{Task}
 use Rattle.mid_arena.specs.Tags.{integer_word}
 use Rattle.mid_arena.specs.Places.{Places, word_of}
@@ -41,8 +41,8 @@ abbrev pub integer_registers : ℕ → ℕ → Registers
 integer_registers a b = tag_registers b 0 (tag_registers a 0 (two_registers a b))
 
 module _
-    (names : List (List ℕ)) (program : ProgramRows) (places : Places) (z : meaning.State) (y : State) (r : Represents names program places z y)
-    (procedures : List MidProcedure) (below : Task → State → Outcome)
+    (names : List (List ℕ)) (program : ProgramRows) (places : Places) (z : meaning.State) (y : MidState) (r : Represents names program places z y)
+    (procedures : List MidProcedure) (below : Task → MidState → MidOutcome)
   where
     -- both arguments are tested, and the code behind goes on with the words of two integers
     pub integers_needed :
@@ -105,8 +105,8 @@ turned how holds tells = record {
 
 -- the code of a comparison
 comparison_run :
-    (names : List (List ℕ)) (program : ProgramRows) (places : Places) (z : meaning.State) (y : State) (procedures : List MidProcedure)
-    (below : Task → State → Outcome) (n : ℕ) (v w : Value) (a b : ℕ) (t : Test) (holds : ℤ → ℤ → Bool) → SaysOf t holds
+    (names : List (List ℕ)) (program : ProgramRows) (places : Places) (z : meaning.State) (y : MidState) (procedures : List MidProcedure)
+    (below : Task → MidState → MidOutcome) (n : ℕ) (v w : Value) (a b : ℕ) (t : Test) (holds : ℤ → ℤ → Bool) → SaysOf t holds
     → Represents names program places z y → word_of places v ≡ Some a → word_of places w ≡ Some b
     → Run names program places z y procedures below n (y.cost + 130 + 244 * 2) (of_integers (λ i j. says (holds i j)) (v ∷ w ∷ []) z)
     (code_of (steps_of line.NeedIntegers ++ steps.says t)) (two_registers a b) y.cost
@@ -151,8 +151,8 @@ abbrev ending : List MidStep
 ending = steps.signal_unless (steps.comparing comparison.Equal 4 5) (pos (class_address integer_overflow_class)) ∷ return_word 3 ∷ []
 
 module _
-    (names : List (List ℕ)) (program : ProgramRows) (places : Places) (z : meaning.State) (y : State) (r : Represents names program places z y)
-    (procedures : List MidProcedure) (below : Task → State → Outcome)
+    (names : List (List ℕ)) (program : ProgramRows) (places : Places) (z : meaning.State) (y : MidState) (r : Represents names program places z y)
+    (procedures : List MidProcedure) (below : Task → MidState → MidOutcome)
   where
     -- a test holds, and the code behind goes on, or a condition is signalled
     pub signals_unless :

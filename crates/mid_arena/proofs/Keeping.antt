@@ -40,10 +40,10 @@ old_spot s places (of_symbol v) r e = e
 old_spot s places (of_other n) r e = e
 
 -- each value that had a word has the same word
-pub record Extends (before after : Places) : Type 0 where
+pub record PlacesExtend (before after : Places) : Type 0 where
   pub word : (v : Value) (w : ℕ) → word_of before v ≡ Some w → word_of after v ≡ Some w
 
-pub extends_same : (places : Places) → Extends places places
+pub extends_same : (places : Places) → PlacesExtend places places
 extends_same places = record { word = λ v w e. e }
 
 pub same_word : (s : Spot) (places : Places) (v : Value) (w : ℕ) → word_of places v ≡ Some w → word_of (with_object s places) v ≡ Some w
@@ -52,10 +52,10 @@ same_word s places (object i) w e =
     ap pointer_in (old_spot s places (of_object i) p.spot p.found) ∙ cc p.word
 same_word s places other w e = e
 
-pub extends_one : (s : Spot) (places : Places) → Extends places (with_object s places)
+pub extends_one : (s : Spot) (places : Places) → PlacesExtend places (with_object s places)
 extends_one s places = record { word = same_word s places }
 
-pub words_extended : (before after : Places) → Extends before after → (vs : List Value) (ws : List ℕ) → WordsOf before vs ws → WordsOf after vs ws
+pub words_extended : (before after : Places) → PlacesExtend before after → (vs : List Value) (ws : List ℕ) → WordsOf before vs ws → WordsOf after vs ws
 words_extended before after more [] [] h = tt
 words_extended before after more [] (w ∷ ws) h = h
 words_extended before after more (v ∷ vs) [] h = h
@@ -107,7 +107,7 @@ module _ (a b : Arena) (s : Spot) (same : SameWords a b s) where
   symbol_kept (named name) t = text_kept symbol_header name t
   symbol_kept (unnamed expansion serial) t = pair_kept _ _ t
 
-  module _ (before after : Places) (more : Extends before after) where
+  module _ (before after : Places) (more : PlacesExtend before after) where
     pub value_kept : (address : ℕ) (v : Value) → s.address ≤ address → address < end_of s → ValueAt before a address v → ValueAt after b address v
     value_kept address v low high at = record {
       word = at.word;

@@ -5,30 +5,30 @@ use Rattle.lang_meaning.specs.Values.{Value}
 use Rattle.lang_meaning.specs.State as meaning
 use Rattle.lang_meaning.specs.Primitives.{Answer, result, makes, makes_symbol, fails, domain_error}
 use Rattle.mid_code.specs.Arena.{Block, Arena, left, word_at, with_blocks, with_new_block}
-use Rattle.mid_code.specs.State.{Registers, State, End, falls, returns, no_room, Outcome, ends, charged, with_arena}
+use Rattle.mid_code.specs.State.{Registers, MidState, End, falls, returns, no_room, MidOutcome, ends, charged, with_arena}
 use Rattle.mid_code.specs.Meaning.{left_from, leaves}
 use Rattle.mid_code.proofs.Growth.{length-emptied}
 use Rattle.mid_arena.specs.Places.{Spot, Places, end_of, Owner, of_object, of_other, spot_of}
 use Rattle.mid_arena.specs.FixedWords.{pending_address}
 use Rattle.mid_arena.specs.Represents.{Represents}
-use Rattle.mid_arena.specs.Answers.{Enlarged, Kept, words_asked, Returned, Pending, Done, RoomWanting, Comes, done, no_words}
+use Rattle.mid_arena.specs.Answers.{Enlarged, KeepsFunctions, words_asked, Returned, Pending, Done, RoomWanting, Comes, done, no_words}
 use Rattle.mid_arena.proofs.Memory.{grows_with_new_block, left_with_new_block, grows_given_back}
-use Rattle.mid_arena.proofs.Growing.{Grows, spot_below, grows_same}
+use Rattle.mid_arena.proofs.Growing.{HeapGrows, spot_below, grows_same}
 use Rattle.mid_arena.proofs.Representing.{fixed_stands, kept_grown, kept_both, represents_grown}
 
 -- how the body of a procedure is left
 
 pub leaves_returned :
-    (bs : List Block) (r : Outcome) {w : ℕ} → r.end ≡ returns w
+    (bs : List Block) (r : MidOutcome) {w : ℕ} → r.end ≡ returns w
     → leaves bs r ≡ ends (returns w) r.registers (with_arena (with_blocks bs r.state.arena) r.state)
 unfolding leaves
 leaves_returned bs r e = ap (λ l. left_from l bs r) e
 
-pub leaves_no_room : (bs : List Block) (r : Outcome) {asked lacking : ℕ} → r.end ≡ no_room asked lacking → leaves bs r ≡ r
+pub leaves_no_room : (bs : List Block) (r : MidOutcome) {asked lacking : ℕ} → r.end ≡ no_room asked lacking → leaves bs r ≡ r
 unfolding leaves
 leaves_no_room bs r e = ap (λ l. left_from l bs r) e
 
-pub leaves_cost : (bs : List Block) (r : Outcome) → (leaves bs r).state.cost ≡ r.state.cost
+pub leaves_cost : (bs : List Block) (r : MidOutcome) → (leaves bs r).state.cost ≡ r.state.cost
 unfolding leaves
 leaves_cost bs r = from r.end
   where
@@ -37,26 +37,26 @@ leaves_cost bs r = from r.end
     from e = refl
 
 -- a state where a frame is laid, and so much was paid
-abbrev pub with_frame : Block → ℕ → State → State
+abbrev pub with_frame : Block → ℕ → MidState → MidState
 with_frame frame cost y = with_arena (with_new_block frame y.arena) (charged cost y)
 
 -- a represented state with room for the frame
 module _
-    (names : List (List ℕ)) (program : ProgramRows) (places : Places) (z : meaning.State) (y : State) (r : Represents names program places z y)
+    (names : List (List ℕ)) (program : ProgramRows) (places : Places) (z : meaning.State) (y : MidState) (r : Represents names program places z y)
     (frame : Block) (cost : ℕ) (some : frame.words ≤ left y.arena)
   where
-    frame_grows : Grows y.arena (with_frame frame cost y).arena
+    frame_grows : HeapGrows y.arena (with_frame frame cost y).arena
     frame_grows = grows_with_new_block frame r.arena some
 
     -- is represented too where the frame is laid
     pub represents_frame : Represents names program places z (with_frame frame cost y)
     represents_frame = represents_grown names program places z y r (with_frame frame cost y) frame_grows refl refl
 
-    kept_frame : (b : Arena) → Kept places z (with_frame frame cost y).arena b → Kept places z y.arena b
+    kept_frame : (b : Arena) → KeepsFunctions places z (with_frame frame cost y).arena b → KeepsFunctions places z y.arena b
     kept_frame b k = kept_both places z y.arena (with_frame frame cost y).arena b (kept_grown names program places z y r (with_frame frame cost y).arena frame_grows) k
 
     -- what was there before is kept where a later arena, whose heap does not end before, goes on
-    kept_later : (a b : Arena) → Kept places z y.arena a → y.arena.heap_to ≤ a.heap_to → Grows a b → Kept places z y.arena b
+    kept_later : (a b : Arena) → KeepsFunctions places z y.arena a → y.arena.heap_to ≤ a.heap_to → HeapGrows a b → KeepsFunctions places z y.arena b
     kept_later a b k low g = record {
       functions = λ i p s found e x from to. later (of_object i) s e x to ∙ k.functions i p s found e x from to;
       others = λ n s e x from to. later (of_other (suc n)) s e x to ∙ k.others n s e x from to;
@@ -77,16 +77,16 @@ module _
     }
 
     -- the code came to an outcome
-    module _ (o : Outcome) where
+    module _ (o : MidOutcome) where
       -- the state where the frame is given back
-      abbrev given_back : State
+      abbrev given_back : MidState
       given_back = with_arena (with_blocks y.arena.blocks o.state.arena) o.state
 
       returned :
           (after : Places) (v : Value) (z' : meaning.State) (words : ℕ) → Returned names program places z (with_frame frame cost y) after v z' words o
           → Returned names program places z y after v z' words (leaves y.arena.blocks o)
       returned after v z' words h =
-          let g : Grows o.state.arena given_back.arena = grows_given_back frame y.arena.blocks h.represents.arena h.blocks in
+          let g : HeapGrows o.state.arena given_back.arena = grows_given_back frame y.arena.blocks h.represents.arena h.blocks in
           rw (leaves_returned y.arena.blocks o h.end) (record {
             word = h.word;
             end = refl;
@@ -103,7 +103,7 @@ module _
           → Pending names program places z (with_frame frame cost y) after class slots z' words o
           → Pending names program places z y after class slots z' words (leaves y.arena.blocks o)
       signalled after class slots z' words h =
-          let g : Grows o.state.arena given_back.arena = grows_given_back frame y.arena.blocks h.represents.arena h.blocks in
+          let g : HeapGrows o.state.arena given_back.arena = grows_given_back frame y.arena.blocks h.represents.arena h.blocks in
           let fixed = spot_below h.represents.arena (fixed_stands names program after _ o.state h.represents) in
           rw (leaves_returned y.arena.blocks o h.end) (record {
             end = refl;
@@ -149,7 +149,7 @@ module _
 
 -- the frame is not left
 pub comes_without_frame :
-    (names : List (List ℕ)) (program : ProgramRows) (places : Places) (z : meaning.State) (y : State) (cost words : ℕ) (answer : Answer) (rs : Registers)
+    (names : List (List ℕ)) (program : ProgramRows) (places : Places) (z : meaning.State) (y : MidState) (cost words : ℕ) (answer : Answer) (rs : Registers)
     → Represents names program places z y → left y.arena < words
     → Comes names program places z y words answer (ends (no_room words (left y.arena)) rs (charged cost y))
 comes_without_frame names program places z y cost words answer rs r few =

@@ -16,7 +16,7 @@ use Rattle.mid_code.specs.declared.operation.Operation.TheVariants.{Move, Reques
 use Rattle.base.specs.Arithmetic.{sum32}
 use Rattle.mid_code.specs.Arena.{Arena, left, word_at, with_word, with_heap}
 use Rattle.mid_code.specs.MidCode.{MidStep, perform, return_word, code_of}
-use Rattle.mid_code.specs.State.{State, Outcome, falls, returns, no_room, ends, first_registers}
+use Rattle.mid_code.specs.State.{MidState, MidOutcome, falls, returns, no_room, ends, first_registers}
 use Rattle.mid_code.specs.Meaning.{Task, Context}
 use Rattle.mid_arena.specs.Tags.{object_tag, string_header, character_word}
 use Rattle.mid_arena.specs.Places.{Places}
@@ -38,7 +38,7 @@ use Rattle.mid_arena.proofs.Doing.{alike_self, Run, paid}
 use Rattle.mid_arena.proofs.Checking.{integer_needed, character_needed}
 use Rattle.mid_arena.proofs.Filling.{fill, six_after, fill_falls}
 use Rattle.mid_arena.proofs.Arrays.{length_test, length_needed}
-use Rattle.mid_arena.proofs.Growing.{Grows}
+use Rattle.mid_arena.proofs.Growing.{HeapGrows}
 use Rattle.mid_arena.proofs.Taking.{does_two}
 use Rattle.mid_arena.proofs.Lists.{replicated}
 
@@ -72,18 +72,18 @@ filled_blocks : (count c : ℕ) (a : Arena) → (filled_string count c a).blocks
 filled_blocks count c a = ap (λ b. b.blocks) (only_memory (a.heap_to + 8) (replicate (byte_words count) (full_word c)) (begun_string count a))
 
 module _ (a : Arena) (count c : ℕ) (stands : ArenaStands a) (room : 2 + byte_words count ≤ left a) (small : c < 256) where
-  begun_string_grows : Grows a (begun_string count a)
+  begun_string_grows : HeapGrows a (begun_string count a)
   begun_string_grows = grows_stored a.heap_to string_header (grows_with_heap (2 + byte_words count) stands room) stands.aligned (omega arith)
 
-  filled_string_grows : Grows a (filled_string count c a)
+  filled_string_grows : HeapGrows a (filled_string count c a)
   filled_string_grows =
       grows_with_words (a.heap_to + 8) (replicate (byte_words count) (full_word c)) begun_string_grows (omega (arith, stands.aligned)) (omega arith)
 
-  ended_string_grows : Grows a (ended_string count c a)
+  ended_string_grows : HeapGrows a (ended_string count c a)
   ended_string_grows =
       grows_stored (a.heap_to + 4 * byte_words count + 4) (last_word (full_word c) (4 * count)) filled_string_grows (omega (arith, stands.aligned)) (omega arith)
 
-  made_string_grows : Grows a (made_string count c a)
+  made_string_grows : HeapGrows a (made_string count c a)
   made_string_grows = grows_stored (a.heap_to + 4) (4 * count) ended_string_grows (omega (arith, stands.aligned)) (omega arith)
 
   -- the words that stand there
@@ -161,7 +161,7 @@ string_code = asking_code ++ (beginning_code ++ (fill ∷ ending_code))
 
 -- what each part comes to
 asking_falls :
-    {c : Context} {r1 r2 r3 r4 r5 r6 r7 : Option ℕ} {x : State} (count : ℕ) → count < 2 ^ 29
+    {c : Context} {r1 r2 r3 r4 r5 r6 r7 : Option ℕ} {x : MidState} (count : ℕ) → count < 2 ^ 29
     → RunsTo c (code_of asking_code) (Some (4 * count) ∷ r1 ∷ r2 ∷ r3 ∷ r4 ∷ r5 ∷ r6 ∷ r7 ∷ []) x
     (ends falls (Some (4 * count) ∷ r1 ∷ r2 ∷ r3 ∷ Some (2 + byte_words count) ∷ Some (byte_words count) ∷ Some 2 ∷ r7 ∷ []) (record x { cost = x.cost + 48 }))
 asking_falls count low =
@@ -175,7 +175,7 @@ asking_falls count low =
     (and_then (compute_known refl refl asked) none_left)))))) (omega arith)
 
 beginning_falls :
-    {context : Context} {r2 r3 r6 r7 : Option ℕ} (y : State) (k count c : ℕ) → ArenaStands y.arena → 2 + byte_words count ≤ left y.arena
+    {context : Context} {r2 r3 r6 r7 : Option ℕ} (y : MidState) (k count c : ℕ) → ArenaStands y.arena → 2 + byte_words count ≤ left y.arena
     → RunsTo context (code_of beginning_code)
     (Some (4 * count) ∷ Some (character_word c) ∷ r2 ∷ r3 ∷ Some (2 + byte_words count) ∷ Some (byte_words count) ∷ r6 ∷ r7 ∷ []) (paid y k)
     (ends falls
@@ -201,7 +201,7 @@ beginning_falls y k count c stands room =
     (and_then (move_falls refl) none_left))))))))))) (omega arith)
 
 filling_falls :
-    {r0 r1 r2 r6 : Option ℕ} (procedures : List MidProcedure) (below : Task → State → Outcome) (n : ℕ) (y : State) (k count c : ℕ) → ArenaStands y.arena
+    {r0 r1 r2 r6 : Option ℕ} (procedures : List MidProcedure) (below : Task → MidState → MidOutcome) (n : ℕ) (y : MidState) (k count c : ℕ) → ArenaStands y.arena
     → 2 + byte_words count ≤ left y.arena → byte_words count ≤ n
     → StepsTo (turning procedures below n) fill
     (r0 ∷ r1 ∷ r2 ∷ Some y.arena.heap_to ∷ Some (full_word c) ∷ Some (y.arena.heap_to + 4 * byte_words count) ∷ r6 ∷ Some y.arena.heap_to ∷ [])
@@ -218,7 +218,7 @@ filling_falls procedures below n y k count c stands room turns =
     (omega (arith, stands.heap)) (omega arith) (omega arith)
 
 ending_ends :
-    {context : Context} {r1 r2 r6 r7 : Option ℕ} (y : State) (k count c : ℕ) → ArenaStands y.arena → 2 + byte_words count ≤ left y.arena
+    {context : Context} {r1 r2 r6 r7 : Option ℕ} (y : MidState) (k count c : ℕ) → ArenaStands y.arena → 2 + byte_words count ≤ left y.arena
     → RunsTo context (code_of ending_code)
     (Some (4 * count) ∷ r1 ∷ r2 ∷ Some y.arena.heap_to ∷ Some (full_word c) ∷ Some (y.arena.heap_to + 4 * byte_words count) ∷ r6 ∷ r7 ∷ [])
     (record y { arena = filled_string count c y.arena; cost = k })
@@ -249,8 +249,8 @@ ending_ends y k count c stands room =
     (and_ends tt (return_ends refl))))))))))))) (omega arith)
 
 module _
-    (names : List (List ℕ)) (program : ProgramRows) (places : Places) (z : meaning.State) (y : State) (r : Represents names program places z y)
-    (procedures : List MidProcedure) (below : Task → State → Outcome)
+    (names : List (List ℕ)) (program : ProgramRows) (places : Places) (z : meaning.State) (y : MidState) (r : Represents names program places z y)
+    (procedures : List MidProcedure) (below : Task → MidState → MidOutcome)
   where
     -- the string is made, where its words are left
     string_run :
@@ -276,7 +276,7 @@ module _
         }
         by (is_left room) =
             let paid_then : ℕ = k + 48 + 98 + (12 + 38 * byte_words count) in
-            let now : State = record y { arena = made_string count c y.arena; cost = paid_then + 104 } in
+            let now : MidState = record y { arena = made_string count c y.arena; cost = paid_then + 104 } in
             record {
               outcome =
                   ends (returns (y.arena.heap_to + 2))

@@ -14,7 +14,7 @@ use Rattle.mid_code.specs.declared.operation.Operation.TheVariants.{Move, Reques
 use Rattle.base.specs.Arithmetic.{sum32, shift_right}
 use Rattle.mid_code.specs.Arena.{left, word_at}
 use Rattle.mid_code.specs.MidCode.{MidStep, perform, code_of}
-use Rattle.mid_code.specs.State.{State, Outcome, falls, returns, no_room, ends, first_registers}
+use Rattle.mid_code.specs.State.{MidState, MidOutcome, falls, returns, no_room, ends, first_registers}
 use Rattle.mid_code.specs.Meaning.{Task, Context}
 use Rattle.mid_arena.specs.Tags.{object_tag, vector_header}
 use Rattle.mid_arena.specs.Places.{Spot, Places, with_object, word_of}
@@ -52,7 +52,7 @@ vector_code = asking_code ++ (beginning_code ++ filling_code)
 
 -- what each part comes to
 asking_falls :
-    {c : Context} {r1 r2 r3 r4 r5 r6 r7 : Option ℕ} {x : State} (count : ℕ) → count < 2 ^ 29
+    {c : Context} {r1 r2 r3 r4 r5 r6 r7 : Option ℕ} {x : MidState} (count : ℕ) → count < 2 ^ 29
     → RunsTo c (code_of asking_code) (Some (4 * count) ∷ r1 ∷ r2 ∷ r3 ∷ r4 ∷ r5 ∷ r6 ∷ r7 ∷ []) x
     (ends falls (Some (4 * count) ∷ r1 ∷ r2 ∷ r3 ∷ r4 ∷ Some (2 + count) ∷ Some 2 ∷ r7 ∷ []) (record x { cost = x.cost + 32 }))
 asking_falls count low =
@@ -65,7 +65,7 @@ asking_falls count low =
     (and_then (compute_known refl refl asked_all) none_left)))) (omega arith)
 
 beginning_falls :
-    {c : Context} {r2 r3 r4 r6 r7 : Option ℕ} {b : ℕ} (y : State) (k count : ℕ) → ArenaStands y.arena → 2 + count ≤ left y.arena
+    {c : Context} {r2 r3 r4 r6 r7 : Option ℕ} {b : ℕ} (y : MidState) (k count : ℕ) → ArenaStands y.arena → 2 + count ≤ left y.arena
     → RunsTo c (code_of beginning_code) (Some (4 * count) ∷ Some b ∷ r2 ∷ r3 ∷ r4 ∷ Some (2 + count) ∷ r6 ∷ r7 ∷ []) (paid y k)
     (ends falls (Some (4 * count) ∷ Some b ∷ r2 ∷ Some y.arena.heap_to ∷ Some b ∷ Some (y.arena.heap_to + 4 * count) ∷ r6 ∷ Some y.arena.heap_to ∷ [])
     (record y { arena = begun (2 + count) (vector_header ∷ (4 * count) ∷ []) y.arena; cost = k + 64 }))
@@ -82,7 +82,7 @@ beginning_falls y k count stands room =
     (and_then (move_falls refl)
     (and_then (move_falls refl) none_left))))))) (omega arith)
 
-module _ (names : List (List ℕ)) (program : ProgramRows) (places : Places) (z : meaning.State) (y : State) (r : Represents names program places z y) where
+module _ (names : List (List ℕ)) (program : ProgramRows) (places : Places) (z : meaning.State) (y : MidState) (r : Represents names program places z y) where
   module _ (count b : ℕ) (v : Value) (word : word_of places v ≡ Some b) (room : 2 + count ≤ left y.arena) where
     -- the words of the vector, and its spot
     abbrev all_words : List ℕ
@@ -110,7 +110,7 @@ module _ (names : List (List ℕ)) (program : ProgramRows) (places : Places) (z 
             (x i w : ℕ) → x ≡ y.arena.heap_to + 4 * i → slice_get all_words i ≡ Some w → word_at (begun (2 + count) all_words y.arena) x ≡ Some w
         moved x i w same found = begun_word (2 + count) all_words x i w r.arena room (omega (arith, length-replicate count b)) same found
 
-  module _ (procedures : List MidProcedure) (below : Task → State → Outcome) where
+  module _ (procedures : List MidProcedure) (below : Task → MidState → MidOutcome) where
     -- the vector is made, where its words are left
     vector_run :
         (n budget k b count : ℕ) (v : Value) (c d e f g h : Option ℕ) → count < 2 ^ 29 → word_of places v ≡ Some b → count ≤ n
@@ -133,7 +133,7 @@ module _ (names : List (List ℕ)) (program : ProgramRows) (places : Places) (z 
         }
         by (is_left room) =
             let all : List ℕ = all_words count b v word room in
-            let now : State = record y { arena = begun (2 + count) all y.arena; cost = k + 32 + 64 + 42 + 38 * count } in
+            let now : MidState = record y { arena = begun (2 + count) all y.arena; cost = k + 32 + 64 + 42 + 38 * count } in
             record {
               outcome =
                   ends (returns (y.arena.heap_to + 2))

@@ -12,10 +12,10 @@ use Rattle.lang_meaning.specs.Objects.{Object, instance}
 use Rattle.lang_meaning.specs.Objects.{serious_condition_class}
 use Rattle.lang_meaning.specs.State as meaning
 use Rattle.lang_meaning.specs.Classes.{slots, is_below}
-use Rattle.lang_meaning.specs.Layout.{class_value}
+use Rattle.lang_meaning.specs.InitialHeap.{class_value}
 use Rattle.lang_meaning.specs.Primitives.{Answer, makes, instance_words}
 use Rattle.mid_code.specs.Arena.{Arena, left, is_lent, word_at, with_word, with_heap}
-use Rattle.mid_code.specs.State.{Registers, State, Outcome, returns, no_room, ends}
+use Rattle.mid_code.specs.State.{Registers, MidState, MidOutcome, returns, no_room, ends}
 use Rattle.mid_arena.specs.Tags.{nil_word, instance_header, object_tag, signal_word, tag_of}
 use Rattle.mid_arena.specs.Places.{Spot, Places, with_object, pointer_in, word_of, WordsOf}
 use Rattle.mid_arena.specs.Standing.{ArenaStands, SlotAt}
@@ -27,12 +27,12 @@ use Rattle.mid_arena.proofs.Memory.{in_spot_lent, in_spot_there, word_here, word
 use Rattle.mid_arena.proofs.Memory.{grows_with_heap, with_words, grows_with_words, stored_heap, stored_blocks}
 use Rattle.mid_arena.proofs.Memory.{words_stand}
 use Rattle.mid_arena.proofs.Keeping.{same_word, words_extended, words_of_condition, words_at_least, extends_one, as_many_words, tag_low}
-use Rattle.mid_arena.proofs.Growing.{Grows, grows_same, Changes, spot_below, spot_grown}
+use Rattle.mid_arena.proofs.Growing.{HeapGrows, grows_same, Changes, spot_below, spot_grown}
 use Rattle.mid_arena.proofs.Owners.{new_spot_found}
-use Rattle.mid_arena.proofs.ClassesKept.{IsMade}
+use Rattle.mid_arena.proofs.ClassesKept.{IsNewObject}
 use Rattle.mid_arena.proofs.Representing.{fixed_spot, fixed_stands, represents_same, represents_grown, represents_made, kept_both, kept_same, kept_made, kept_grown, kept_fixed}
 use Rattle.mid_arena.proofs.FixedChanges.{one_word, represents_pending, word_of_fixed}
-use Rattle.mid_arena.proofs.Doing.{Alike, Answers, paid}
+use Rattle.mid_arena.proofs.Doing.{SameObjects, Answers, paid}
 use Rattle.std.proofs.lemmas.Bool.{ne_eqb}
 
 -- ---- arenas
@@ -49,7 +49,7 @@ room_for words a = by (nat_le words (left a)) refl
     by true e = is_left (grind (arith, nat_tests))
     by false e = is_wanting (grind (arith, nat_tests))
 
-pub enlarged_by : {a b : Arena} (words : ℕ) → Grows a b → b.heap_to ≡ a.heap_to + 4 * words → Enlarged a b words
+pub enlarged_by : {a b : Arena} (words : ℕ) → HeapGrows a b → b.heap_to ≡ a.heap_to + 4 * words → Enlarged a b words
 enlarged_by words g to = record { size = g.size; laid_from = g.laid_from; laid_to = g.laid_to; heap_from = g.heap_from; heap_to = to }
 
 -- the arena with so many new words, of which the first ones were stored
@@ -64,7 +64,7 @@ pub begun_blocks : (words : ℕ) (ws : List ℕ) (a : Arena) → (begun words ws
 begun_blocks words ws a = stored_blocks a.heap_to ws (with_heap words a)
 
 -- all else stays
-pub begun_grows : {a : Arena} (words : ℕ) (ws : List ℕ) → ArenaStands a → words ≤ left a → Grows a (begun words ws a)
+pub begun_grows : {a : Arena} (words : ℕ) (ws : List ℕ) → ArenaStands a → words ≤ left a → HeapGrows a (begun words ws a)
 begun_grows {a} words ws h room = grows_with_words a.heap_to ws (grows_with_heap words h room) h.aligned (omega arith)
 
 -- each word stands where it was stored
@@ -100,7 +100,7 @@ slot_stands places a address (v ∷ vs) (w ∷ ws) (suc i) h low stand = slot_st
 
 -- ---- a represented state
 
-module _ (names : List (List ℕ)) (program : ProgramRows) (places : Places) (z : meaning.State) (y : State) (r : Represents names program places z y) where
+module _ (names : List (List ℕ)) (program : ProgramRows) (places : Places) (z : meaning.State) (y : MidState) (r : Represents names program places z y) where
   -- the fixed words are lent, and stand below the heap's end
   pub fixed_below : 184 ≤ y.arena.heap_to
   fixed_below = spot_below r.arena (fixed_stands names program places z y r)
@@ -109,7 +109,7 @@ module _ (names : List (List ℕ)) (program : ProgramRows) (places : Places) (z 
   fixed_lent x aligned high = in_spot_lent x (fixed_stands names program places z y r) aligned (omega arith) high
 
   -- also where the arena grew
-  pub fixed_still_lent : (b : Arena) → Grows y.arena b → (x : ℕ) → x % 4 ≡ 0 → x < 184 → is_lent b x ≡ true
+  pub fixed_still_lent : (b : Arena) → HeapGrows y.arena b → (x : ℕ) → x % 4 ≡ 0 → x < 184 → is_lent b x ≡ true
   fixed_still_lent b g x aligned high = in_spot_lent x (spot_grown g (fixed_stands names program places z y r)) aligned (omega arith) high
 
   -- what is stored there stands there
@@ -117,7 +117,7 @@ module _ (names : List (List ℕ)) (program : ProgramRows) (places : Places) (z 
   stored_fixed address word aligned low =
       word_here y.arena address word (fixed_lent address aligned low) (in_spot_there {s = fixed_spot} address r.arena (fixed_stands names program places z y r) (omega arith))
 
-module _ (names : List (List ℕ)) (program : ProgramRows) (places : Places) (z : meaning.State) (y : State) (r : Represents names program places z y) where
+module _ (names : List (List ℕ)) (program : ProgramRows) (places : Places) (z : meaning.State) (y : MidState) (r : Represents names program places z y) where
   -- words that are not left were asked for, where nothing else changed
   pub room_wanting :
       (asked : ℕ) (rs : Registers) (k : ℕ) → left y.arena < asked
@@ -144,7 +144,7 @@ module _ (names : List (List ℕ)) (program : ProgramRows) (places : Places) (z 
 
   -- a new object, at the end of the heap, in an arena that grew by its words
   module _
-      (words tag : ℕ) (o : Object) (y' : State) (g : Grows y.arena y'.arena) (to : y'.arena.heap_to ≡ y.arena.heap_to + 4 * words)
+      (words tag : ℕ) (o : Object) (y' : MidState) (g : HeapGrows y.arena y'.arena) (to : y'.arena.heap_to ≡ y.arena.heap_to + 4 * words)
       (blocks : y'.arena.blocks ≡ y.arena.blocks) (printed : y'.printed ≡ y.printed) (input : y'.input ≡ y.input) (some : 1 ≤ words) (small : tag < 4)
     where
       -- the spot of the object, and the places with it
@@ -154,7 +154,7 @@ module _ (names : List (List ℕ)) (program : ProgramRows) (places : Places) (z 
       abbrev pub places_made : Places
       places_made = with_object spot_made places
 
-      module _ (z' : meaning.State) (alike : Alike z z') (made : ObjectAt names program places_made y'.arena spot_made o) (is_made : IsMade program o) where
+      module _ (z' : meaning.State) (alike : SameObjects z z') (made : ObjectAt names program places_made y'.arena spot_made o) (is_made : IsNewObject program o) where
         -- it is represented
         pub represents_new : Represents names program places_made (meaning.stored o z') y'
         represents_new =
@@ -181,11 +181,11 @@ module _ (names : List (List ℕ)) (program : ProgramRows) (places : Places) (z 
 
   -- so such a run answers
   pub answers_made :
-      {budget : ℕ} (size besides : ℕ) (o : Object) (z' : meaning.State) (y' : State) (rs : Registers) → Alike z z' → Grows y.arena y'.arena
+      {budget : ℕ} (size besides : ℕ) (o : Object) (z' : meaning.State) (y' : MidState) (rs : Registers) → SameObjects z z' → HeapGrows y.arena y'.arena
       → y'.arena.heap_to ≡ y.arena.heap_to + 4 * size → y'.arena.blocks ≡ y.arena.blocks → y'.printed ≡ y.printed → y'.input ≡ y.input → 1 ≤ size
       → ObjectAt names program (with_object (record { address = y.arena.heap_to; words = size; tag = tag_of o }) places) y'.arena
       (record { address = y.arena.heap_to; words = size; tag = tag_of o }) o
-      → IsMade program o → y'.cost + 250 * z.units ≤ budget + 250 * (z'.units + size + besides)
+      → IsNewObject program o → y'.cost + 250 * z.units ≤ budget + 250 * (z'.units + size + besides)
       → Answers names program places z y budget (makes size besides o z') (ends (returns (y.arena.heap_to + tag_of o)) rs y')
   answers_made size besides o z' y' rs alike g to blocks printed input some made is_made cost = record {
     comes = done (returned_new size (tag_of o) o y' g to blocks printed input some (omega (arith, tag_low o)) z' alike made is_made rs);
@@ -248,8 +248,8 @@ module _ (names : List (List ℕ)) (program : ProgramRows) (places : Places) (z 
 
   -- where a new condition stands, and its pointer was stored at the fixed address, it is to be signalled
   pub signalled_new :
-      (class : ℕ) (vs : List Value) (words : ℕ) (z' : meaning.State) (y' : State) (rs : Registers) (k : ℕ) → Alike z z'
-      → words ≡ instance_words program class (length vs) → Grows y.arena y'.arena → y'.arena.heap_to ≡ y.arena.heap_to + 4 * words
+      (class : ℕ) (vs : List Value) (words : ℕ) (z' : meaning.State) (y' : MidState) (rs : Registers) (k : ℕ) → SameObjects z z'
+      → words ≡ instance_words program class (length vs) → HeapGrows y.arena y'.arena → y'.arena.heap_to ≡ y.arena.heap_to + 4 * words
       → y'.arena.blocks ≡ y.arena.blocks → y'.printed ≡ y.printed → y'.input ≡ y.input
       → InstanceAt names program (with_object (record { address = y.arena.heap_to; words = words; tag = object_tag }) places) y'.arena
       (record { address = y.arena.heap_to; words = words; tag = object_tag }) class (map (λ v. Some v) vs) nil
@@ -261,10 +261,10 @@ module _ (names : List (List ℕ)) (program : ProgramRows) (places : Places) (z 
       word : ℕ
       word = y.arena.heap_to + object_tag
 
-      pending_state : State
+      pending_state : MidState
       pending_state = record y' { arena = with_word pending_address word y'.arena; cost = k }
 
-      ended : Outcome
+      ended : MidOutcome
       ended = ends (returns signal_word) rs pending_state
 
       spot : Spot

@@ -8,7 +8,7 @@ use Rattle.mid_code.specs.Arena.{is_lent, word_in, word_at, with_word, emptied, 
 use Rattle.mid_code.proofs.Growth.{length-emptied}
 use Rattle.mid_arena.specs.Places.{Spot, end_of}
 use Rattle.mid_arena.specs.Standing.{ArenaStands, IsLentPart, of_laid, of_heap, SpotStands}
-use Rattle.mid_arena.proofs.Growing.{Grows, spot_below}
+use Rattle.mid_arena.proofs.Growing.{HeapGrows, spot_below}
 use Rattle.std.proofs.lemmas.Bool.{eq-eqb, ne_eqb, and_from, or_left, or_right}
 use Rattle.mid_arena.proofs.Lists.{set_here, set_elsewhere}
 use Rattle.mid_code.proofs.WordBounds.{first_true}
@@ -173,7 +173,7 @@ stands_with_heap {a} n h some =
       blocks = omega (arith, same, h.blocks);
     }
 
-pub grows_with_heap : {a : Arena} (n : ℕ) → ArenaStands a → n ≤ left a → Grows a (with_heap n a)
+pub grows_with_heap : {a : Arena} (n : ℕ) → ArenaStands a → n ≤ left a → HeapGrows a (with_heap n a)
 grows_with_heap {a} n h some =
     let same : length (emptied (a.heap_to / 4) n a.memory) ≡ length a.memory = length-emptied (a.heap_to / 4) n a.memory in
     record {
@@ -202,7 +202,7 @@ stands_with_new_block {a} b h some =
       blocks = omega (arith, same, h.blocks);
     }
 
-pub grows_with_new_block : {a : Arena} (b : Block) → ArenaStands a → b.words ≤ left a → Grows a (with_new_block b a)
+pub grows_with_new_block : {a : Arena} (b : Block) → ArenaStands a → b.words ≤ left a → HeapGrows a (with_new_block b a)
 grows_with_new_block {a} b h some =
     let same : length (with_new_block b a).memory ≡ length a.memory = length-emptied _ b.words a.memory in
     record {
@@ -235,7 +235,7 @@ stands_with_blocks {a} bs h fewer = record {
   blocks = omega (arith, h.blocks);
 }
 
-pub grows_with_blocks : {a : Arena} (bs : List Block) → ArenaStands a → words_of bs ≤ words_of a.blocks → Grows a (with_blocks bs a)
+pub grows_with_blocks : {a : Arena} (bs : List Block) → ArenaStands a → words_of bs ≤ words_of a.blocks → HeapGrows a (with_blocks bs a)
 grows_with_blocks {a} bs h fewer = record {
   size = refl;
   laid_from = refl;
@@ -247,13 +247,13 @@ grows_with_blocks {a} bs h fewer = record {
 }
 
 -- the innermost block is given back
-pub grows_given_back : {a : Arena} (b : Block) (bs : List Block) → ArenaStands a → a.blocks ≡ b ∷ bs → Grows a (with_blocks bs a)
+pub grows_given_back : {a : Arena} (b : Block) (bs : List Block) → ArenaStands a → a.blocks ≡ b ∷ bs → HeapGrows a (with_blocks bs a)
 grows_given_back {a} b bs h e =
     let same : words_of a.blocks ≡ b.words + words_of bs = ap words_of e in
     grows_with_blocks bs h (omega arith)
 
 -- a word is stored above where the heap ended before
-pub grows_stored : {a b : Arena} (x w : ℕ) → Grows a b → x % 4 ≡ 0 → a.heap_to ≤ x → Grows a (with_word x w b)
+pub grows_stored : {a b : Arena} (x w : ℕ) → HeapGrows a b → x % 4 ≡ 0 → a.heap_to ≤ x → HeapGrows a (with_word x w b)
 grows_stored {a} {b} x w g e above = record {
   size = length-set b.memory (x / 4) (Some w) ∙ g.size;
   laid_from = g.laid_from;
@@ -314,6 +314,6 @@ words_stand x (v ∷ ws) a (suc i) w h e low high found =
     ∙ words_stand (x + 4) ws (with_word x v a) i w (stands_with_word x v h) (omega arith) (omega arith) (omega arith) found
 
 -- an arena grows where they are stored above where the heap ended before
-pub grows_with_words : {a b : Arena} (x : ℕ) (ws : List ℕ) → Grows a b → x % 4 ≡ 0 → a.heap_to ≤ x → Grows a (with_words x ws b)
+pub grows_with_words : {a b : Arena} (x : ℕ) (ws : List ℕ) → HeapGrows a b → x % 4 ≡ 0 → a.heap_to ≤ x → HeapGrows a (with_words x ws b)
 grows_with_words {a} {b} x [] g e above = g
 grows_with_words {a} {b} x (w ∷ ws) g e above = grows_with_words {a = a} {b = with_word x w b} (x + 4) ws (grows_stored x w g e above) (omega arith) (omega arith)

@@ -11,7 +11,7 @@ use Rattle.mid_code.specs.declared.program.MidProcedure.{MidProcedure}
 use Rattle.mid_code.specs.Arena.{word_at}
 use Rattle.base.specs.Arithmetic.{shift_left, difference32}
 use Rattle.mid_code.specs.MidCode.{MidStep, code_of}
-use Rattle.mid_code.specs.State.{Registers, State, Outcome, falls, ends, register}
+use Rattle.mid_code.specs.State.{Registers, MidState, MidOutcome, falls, ends, register}
 use Rattle.mid_code.specs.Meaning.{Task}
 use Rattle.mid_arena.specs.Tags.{instance_header, string_header, vector_header, class_header, input_header, output_header}
 use Rattle.mid_arena.specs.Places.{Places, word_of}
@@ -30,8 +30,8 @@ use Rattle.mid_arena.proofs.Running.{RunsTo, turning, none_left, and_then, parts
 use Rattle.mid_arena.proofs.Registers.{Scratched, scratched_seven, scratched_six, seven_behind_six, six_here}
 
 module _
-    (names : List (List ℕ)) (program : ProgramRows) (places : Places) (z : meaning.State) (y : State) (r : Represents names program places z y)
-    (procedures : List MidProcedure) (below : Task → State → Outcome)
+    (names : List (List ℕ)) (program : ProgramRows) (places : Places) (z : meaning.State) (y : MidState) (r : Represents names program places z y)
+    (procedures : List MidProcedure) (below : Task → MidState → MidOutcome)
   where
     -- An object that the header decides. It costs 80 to find it.
     module _

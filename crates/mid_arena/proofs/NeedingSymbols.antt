@@ -11,7 +11,7 @@ use Rattle.mid_code.specs.declared.program.MidProcedure.{MidProcedure}
 use Rattle.mid_code.specs.Arena.{Arena, word_at}
 use Rattle.mid_code.specs.Words.{address}
 use Rattle.mid_code.specs.MidCode.{MidStep, code_of}
-use Rattle.mid_code.specs.State.{Registers, State, Outcome, register}
+use Rattle.mid_code.specs.State.{Registers, MidState, MidOutcome, register}
 use Rattle.mid_code.specs.Meaning.{Task}
 use Rattle.mid_arena.specs.Tags.{nil_word, symbol_header, fresh_header}
 use Rattle.mid_arena.specs.Places.{Places, word_of}
@@ -47,8 +47,8 @@ header_address w small tag =
     address_below w 1 (w - 2) (omega arith) small
 
 module _
-    (names : List (List ℕ)) (program : ProgramRows) (places : Places) (z : meaning.State) (y : State) (r : Represents names program places z y)
-    (procedures : List MidProcedure) (below : Task → State → Outcome)
+    (names : List (List ℕ)) (program : ProgramRows) (places : Places) (z : meaning.State) (y : MidState) (r : Represents names program places z y)
+    (procedures : List MidProcedure) (below : Task → MidState → MidOutcome)
   where
     -- the word of what has the tag of objects is the address of a spot, and the tag
     pointer_small : (v : Value) (w : ℕ) → word_of places v ≡ Some w → (w % 4 == 2) ≡ true → w < 2 ^ 27

@@ -15,7 +15,7 @@ use Rattle.mid_code.specs.declared.operation.Comparison.TheVariants as compariso
 use Rattle.mid_code.specs.Arena.{word_at}
 use Rattle.base.specs.Arithmetic.{shift_left, difference32}
 use Rattle.mid_code.specs.MidCode.{MidStep, return_word, code_of}
-use Rattle.mid_code.specs.State.{Registers, State, Outcome, first_registers}
+use Rattle.mid_code.specs.State.{Registers, MidState, MidOutcome, first_registers}
 use Rattle.mid_code.specs.Meaning.{Task}
 use Rattle.mid_arena.specs.Tags.{nil_word, object_tag, string_header, vector_header, function_header, generic_header, symbol_header, fresh_header}
 use Rattle.mid_arena.specs.Places.{Places, word_of}
@@ -61,8 +61,8 @@ abbrev shifted_is : (by bits : ℕ) → List MidStep
 shifted_is by bits = steps.compute_by 7 which.ShiftLeft 0 by ++ steps.constant 6 bits ∷ steps.says (steps.comparing comparison.Equal 7 6)
 
 module _
-    (names : List (List ℕ)) (program : ProgramRows) (places : Places) (z : meaning.State) (y : State) (r : Represents names program places z y)
-    (procedures : List MidProcedure) (below : Task → State → Outcome)
+    (names : List (List ℕ)) (program : ProgramRows) (places : Places) (z : meaning.State) (y : MidState) (r : Represents names program places z y)
+    (procedures : List MidProcedure) (below : Task → MidState → MidOutcome)
   where
     shifted_says :
         (n budget k w by bits : ℕ) (holds : Bool) → (shift_left w by == bits) ≡ holds → k + 70 ≤ budget
@@ -105,8 +105,8 @@ is_character_does = does_one IsCharacter refl (λ v w names program places z y p
 -- ---- by the header
 
 module _
-    (names : List (List ℕ)) (program : ProgramRows) (places : Places) (z : meaning.State) (y : State) (r : Represents names program places z y)
-    (procedures : List MidProcedure) (below : Task → State → Outcome)
+    (names : List (List ℕ)) (program : ProgramRows) (places : Places) (z : meaning.State) (y : MidState) (r : Represents names program places z y)
+    (procedures : List MidProcedure) (below : Task → MidState → MidOutcome)
   where
     module _ (n budget k w : ℕ) (v : Value) (word : word_of places v ≡ Some w) (second third fourth fifth sixth seventh eighth : Option ℕ) where
       -- the registers where the argument is in the first one
@@ -215,8 +215,8 @@ is_nil_or_symbol =
     ∷ steps.says_header symbol_header 2
 
 module _
-    (names : List (List ℕ)) (program : ProgramRows) (places : Places) (z : meaning.State) (y : State) (r : Represents names program places z y)
-    (procedures : List MidProcedure) (below : Task → State → Outcome)
+    (names : List (List ℕ)) (program : ProgramRows) (places : Places) (z : meaning.State) (y : MidState) (r : Represents names program places z y)
+    (procedures : List MidProcedure) (below : Task → MidState → MidOutcome)
   where
     -- nil was told apart, and the header tells the rest
     behind_nil :

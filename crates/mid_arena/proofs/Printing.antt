@@ -15,7 +15,7 @@ use Rattle.mid_code.specs.declared.operation.Operation.TheVariants as operation
 use Rattle.base.specs.Arithmetic.{difference32, one_if_less}
 use Rattle.mid_code.specs.Arena.{word_at, with_word}
 use Rattle.mid_code.specs.MidCode.{MidStep, perform, return_word, code_of}
-use Rattle.mid_code.specs.State.{Registers, State, Outcome, returns, ends, first_registers}
+use Rattle.mid_code.specs.State.{Registers, MidState, MidOutcome, returns, ends, first_registers}
 use Rattle.mid_code.specs.Meaning.{Task}
 use Rattle.mid_arena.specs.declared.line.Line.TheVariants as line
 use Rattle.mid_arena.specs.Tags.{nil_word, character_word, input_header, output_header}
@@ -53,7 +53,7 @@ newline_bit : (c : ℕ) → c ≤ 255 → one_if_less (difference32 c 10) 1 ≡ 
 newline_bit c h = ap (λ (b : Bool). if◌then◌else◌ {A = ℕ} b 1 0) (equal_bit c 10 (omega arith) (omega arith))
 
 module _
-    (names : List (List ℕ)) (program : ProgramRows) (places : Places) (z : meaning.State) (y : State) (r : Represents names program places z y)
+    (names : List (List ℕ)) (program : ProgramRows) (places : Places) (z : meaning.State) (y : MidState) (r : Represents names program places z y)
   where
     -- the word of t, or of nil
     abbrev truth_word : Bool → ℕ
@@ -67,7 +67,7 @@ module _
     true_low = word_told names program places z y r t r.fixed.true_value.word r.fixed.true_value.of_value
 
     -- the state where a byte was put
-    abbrev put_state : (c k : ℕ) → State
+    abbrev put_state : (c k : ℕ) → MidState
     put_state c k = record y {
       arena = with_word line_address (truth_word (c == 10)) y.arena;
       printed = y.printed ++ c % 256 ∷ [];
@@ -104,8 +104,8 @@ putting_on_output =
     ∷ steps.either (steps.comparing comparison.Equal 7 6) [] (steps.domain_error 0 (pos (class_address stream_class))) ∷ putting
 
 module _
-    (names : List (List ℕ)) (program : ProgramRows) (places : Places) (z : meaning.State) (y : State) (r : Represents names program places z y)
-    (procedures : List MidProcedure) (below : Task → State → Outcome)
+    (names : List (List ℕ)) (program : ProgramRows) (places : Places) (z : meaning.State) (y : MidState) (r : Represents names program places z y)
+    (procedures : List MidProcedure) (below : Task → MidState → MidOutcome)
   where
     -- the registers with both arguments
     abbrev both : (w x : ℕ) → (seventh eighth : Option ℕ) → Registers

@@ -10,7 +10,7 @@ use Rattle.lang_meaning.specs.Values.{Value}
 use Rattle.lang_meaning.specs.Objects.{Object, function}
 use Rattle.lang_meaning.specs.State as meaning
 use Rattle.mid_code.specs.Arena.{Arena}
-use Rattle.mid_code.specs.State.{State}
+use Rattle.mid_code.specs.State.{MidState}
 use Rattle.mid_arena.specs.Tags.{symbol_header}
 use Rattle.mid_arena.specs.Places.{Spot, end_of, Places, Owner, same_owner, of_object, of_symbol, of_other, spot_of, with_object}
 use Rattle.mid_arena.specs.Standing.{of_heap, SpotStands, Apart, in_front, behind, SameWords, ValueAt}
@@ -18,10 +18,10 @@ use Rattle.mid_arena.specs.FixedWords.{fixed_words, nil_text, class_address, inp
 use Rattle.mid_arena.specs.FixedWords.{line_address, peeked_address, InputIs, untouched, looked_at, FixedStand}
 use Rattle.mid_arena.specs.Layouts.{AreBytes, ObjectAt}
 use Rattle.mid_arena.specs.Represents.{Represents}
-use Rattle.mid_arena.specs.Answers.{Kept}
-use Rattle.mid_arena.proofs.ClassesKept.{IsMade, classes_same, classes_stored, classes_changed}
-use Rattle.mid_arena.proofs.Keeping.{Extends, extends_same, extends_one, old_spot, text_kept, value_kept, symbol_kept, object_kept}
-use Rattle.mid_arena.proofs.Growing.{Grows, Changes, spot_below, spot_grown, words_grown, spot_changed, words_apart}
+use Rattle.mid_arena.specs.Answers.{KeepsFunctions}
+use Rattle.mid_arena.proofs.ClassesKept.{IsNewObject, classes_same, classes_stored, classes_changed}
+use Rattle.mid_arena.proofs.Keeping.{PlacesExtend, extends_same, extends_one, old_spot, text_kept, value_kept, symbol_kept, object_kept}
+use Rattle.mid_arena.proofs.Growing.{HeapGrows, Changes, spot_below, spot_grown, words_grown, spot_changed, words_apart}
 use Rattle.mid_arena.proofs.Owners.{after_zero, FrontOrEnd, at_front, at_end, front_or_end, OldOrNew, of_old}
 use Rattle.mid_arena.proofs.Owners.{of_new, old_or_new, object_within, SetOrNot, at_place, elsewhere, set_or_not}
 
@@ -36,7 +36,7 @@ input_kept a b left bytes same (looked_at byte e) = looked_at byte (same peeked_
 
 pub fixed_kept :
     (names : List (List ℕ)) (program : ProgramRows) (before after : Places) (a b : Arena) (symbols : ℕ) (printed bytes left : List ℕ)
-    → Extends before after → slice_get after.others 0 ≡ slice_get before.others 0 → SameWords a b fixed_spot
+    → PlacesExtend before after → slice_get after.others 0 ≡ slice_get before.others 0 → SameWords a b fixed_spot
     → FixedStand names program before a symbols printed bytes left → FixedStand names program after b symbols printed bytes left
 fixed_kept names program before after a b symbols printed bytes left more others same f = record {
   spot = others ∙ f.spot;
@@ -58,7 +58,7 @@ fixed_kept names program before after a b symbols printed bytes left more others
 
 -- each state with the same objects, fresh symbols, output and input is represented too
 pub represents_same :
-    (names : List (List ℕ)) (program : ProgramRows) (places : Places) (z z' : meaning.State) (y : State)
+    (names : List (List ℕ)) (program : ProgramRows) (places : Places) (z z' : meaning.State) (y : MidState)
     → z'.store ≡ z.store → z'.symbols ≡ z.symbols → z'.printed ≡ z.printed → z'.input ≡ z.input
     → Represents names program places z y → Represents names program places z' y
 represents_same names program places z z' y store symbols printed input r = record {
@@ -78,14 +78,14 @@ represents_same names program places z z' y store symbols printed input r = reco
 
 -- ---- what is kept, step by step
 
-pub kept_both : (places : Places) (z : meaning.State) (a b c : Arena) → Kept places z a b → Kept places z b c → Kept places z a c
+pub kept_both : (places : Places) (z : meaning.State) (a b c : Arena) → KeepsFunctions places z a b → KeepsFunctions places z b c → KeepsFunctions places z a c
 kept_both places z a b c g h = record {
   functions = λ i p s found e x low high. h.functions i p s found e x low high ∙ g.functions i p s found e x low high;
   others = λ n s e x low high. h.others n s e x low high ∙ g.others n s e x low high;
 }
 
 -- with the same objects
-pub kept_same : (places : Places) (z z' : meaning.State) (a b : Arena) → z'.store ≡ z.store → Kept places z' a b → Kept places z a b
+pub kept_same : (places : Places) (z z' : meaning.State) (a b : Arena) → z'.store ≡ z.store → KeepsFunctions places z' a b → KeepsFunctions places z a b
 kept_same places z z' a b store k = record {
   functions = λ i p s found e. k.functions i p s (ap (λ os. slice_get os i) store ∙ found) e;
   others = k.others;
@@ -93,7 +93,7 @@ kept_same places z z' a b store k = record {
 
 -- with one object fewer
 pub kept_made :
-    (places : Places) (z : meaning.State) (s : Spot) (o : Object) (a b : Arena) → Kept (with_object s places) (meaning.stored o z) a b → Kept places z a b
+    (places : Places) (z : meaning.State) (s : Spot) (o : Object) (a b : Arena) → KeepsFunctions (with_object s places) (meaning.stored o z) a b → KeepsFunctions places z a b
 kept_made places z s o a b k = record {
   functions = λ i p one found e. k.functions i p one (slice_get-front z.store (o ∷ []) i (function p) found) (old_spot s places (of_object i) one e);
   others = k.others;
@@ -101,21 +101,21 @@ kept_made places z s o a b k = record {
 
 -- ---- a represented state
 
-module _ (names : List (List ℕ)) (program : ProgramRows) (places : Places) (z : meaning.State) (y : State) (r : Represents names program places z y) where
+module _ (names : List (List ℕ)) (program : ProgramRows) (places : Places) (z : meaning.State) (y : MidState) (r : Represents names program places z y) where
   pub fixed_stands : SpotStands y.arena fixed_spot
   fixed_stands = r.spots (of_other 0) fixed_spot r.fixed.spot
 
   -- what an owner's spot has stays
-  pub owned_grown : (b : Arena) → Grows y.arena b → (p : Owner) (s : Spot) → spot_of places p ≡ Some s → SameWords y.arena b s
+  pub owned_grown : (b : Arena) → HeapGrows y.arena b → (p : Owner) (s : Spot) → spot_of places p ≡ Some s → SameWords y.arena b s
   owned_grown b g p s e = words_grown y.arena b s g r.arena (r.spots p s e)
 
-  pub kept_grown : (b : Arena) → Grows y.arena b → Kept places z y.arena b
+  pub kept_grown : (b : Arena) → HeapGrows y.arena b → KeepsFunctions places z y.arena b
   kept_grown b g = record {
     functions = λ i p s found e. owned_grown b g (of_object i) s e;
     others = λ n s e. owned_grown b g (of_other (suc n)) s e;
   }
 
-  module _ (y' : State) (g : Grows y.arena y'.arena) (printed : y'.printed ≡ y.printed) (input : y'.input ≡ y.input) where
+  module _ (y' : MidState) (g : HeapGrows y.arena y'.arena) (printed : y'.printed ≡ y.printed) (input : y'.input ≡ y.input) where
     pub represents_grown : Represents names program places z y'
     represents_grown = record {
       built_in = r.built_in;
@@ -139,7 +139,7 @@ module _ (names : List (List ℕ)) (program : ProgramRows) (places : Places) (z 
     -- an object more, at the end of the heap
     module _
         (s : Spot) (o : Object) (address : s.address ≡ y.arena.heap_to) (high : end_of s ≤ y'.arena.heap_to) (some : 1 ≤ s.words) (tag : s.tag < 4)
-        (made : ObjectAt names program (with_object s places) y'.arena s o) (is_made : IsMade program o)
+        (made : ObjectAt names program (with_object s places) y'.arena s o) (is_made : IsNewObject program o)
       where
         pub new_stands : SpotStands y'.arena s
         new_stands = record {
@@ -205,7 +205,7 @@ module _ (names : List (List ℕ)) (program : ProgramRows) (places : Places) (z 
         words_apart y.arena b s one c r.arena (r.spots p one e) (r.apart p (of_object i) one s different e at)
 
     -- which is none that a function has for itself
-    pub kept_changed : (o : Object) → slice_get z.store i ≡ Some o → ((p : ℕ) → o ≡ function p → ⊥) → Kept places z y.arena b
+    pub kept_changed : (o : Object) → slice_get z.store i ≡ Some o → ((p : ℕ) → o ≡ function p → ⊥) → KeepsFunctions places z y.arena b
     kept_changed o stored no_function = record {
       functions = λ j p one found e. other_kept (of_object j) one (other j p found) e;
       others = λ n one e. other_kept (of_other (suc n)) one refl e;
@@ -232,7 +232,7 @@ module _ (names : List (List ℕ)) (program : ProgramRows) (places : Places) (z 
         (r.objects j o one stored found)
 
   pub represents_changed :
-      (i : ℕ) (s : Spot) (old now : Object) (y' : State) → slice_get z.store i ≡ Some old → IsMade program old → IsMade program now
+      (i : ℕ) (s : Spot) (old now : Object) (y' : MidState) → slice_get z.store i ≡ Some old → IsNewObject program old → IsNewObject program now
       → spot_of places (of_object i) ≡ Some s → Changes s y.arena y'.arena → ObjectAt names program places y'.arena s now
       → y'.printed ≡ y.printed → y'.input ≡ y.input → Represents names program places (meaning.changed i now z) y'
   represents_changed i s old now y' stored was is_made at c made printed input = record {
@@ -258,14 +258,14 @@ module _ (names : List (List ℕ)) (program : ProgramRows) (places : Places) (z 
     not_fixed_kept p one different e =
         words_apart y.arena b fixed_spot one c r.arena (r.spots p one e) (r.apart p (of_other 0) one fixed_spot different e r.fixed.spot)
 
-    pub kept_fixed : Kept places z y.arena b
+    pub kept_fixed : KeepsFunctions places z y.arena b
     kept_fixed = record {
       functions = λ i p s found e. not_fixed_kept (of_object i) s refl e;
       others = λ n s e. not_fixed_kept (of_other (suc n)) s (after_zero n) e;
     }
 
   pub represents_fixed :
-      (z' : meaning.State) (y' : State) → Changes fixed_spot y.arena y'.arena → z'.store ≡ z.store
+      (z' : meaning.State) (y' : MidState) → Changes fixed_spot y.arena y'.arena → z'.store ≡ z.store
       → FixedStand names program places y'.arena z'.symbols z'.printed z'.input y'.input → AreBytes z'.input → y'.printed ≡ z'.printed
       → Represents names program places z' y'
   represents_fixed z' y' c store fixed input printed = record {

@@ -13,8 +13,8 @@ use Rattle.mid_code.specs.Words.{computed, compares, address}
 use Rattle.mid_code.specs.MidCode.{MidStep, perform, choose, repeat, return_word, MidCode, no_step, step_and, code_of}
 use Rattle.mid_code.specs.Arena.{Block, activation_frame, left, is_lent, word_at, with_word, with_heap, with_new_block}
 use Rattle.mid_code.specs.Costs.{operation_cost, test_cost, jump_cost, return_cost, entry_cost}
-use Rattle.mid_code.specs.State.{Registers, first_registers, State, End, falls, returns, cuts, no_room, no_level, no_turn, halts, unhandled, exhausted}
-use Rattle.mid_code.specs.State.{stuck, Outcome, Next, ends, charged, with_arena, gives, go_on, with_some, choose_by, register, jumped}
+use Rattle.mid_code.specs.State.{Registers, first_registers, MidState, End, falls, returns, cuts, no_room, no_level, no_turn, halts, unhandled, exhausted}
+use Rattle.mid_code.specs.State.{stuck, MidOutcome, Next, ends, charged, with_arena, gives, go_on, with_some, choose_by, register, jumped}
 use Rattle.mid_code.specs.Meaning.{store, get_from, test, count, Task, enter, again, Context, context_of, leaves, exec, exec_step, turns}
 use Rattle.mid_arena.specs.Places.{Spot, end_of}
 use Rattle.mid_arena.specs.Standing.{SpotStands}
@@ -29,7 +29,7 @@ IsLast other = Unit {0}
 
 -- combinators
 
-go_on_last : (e : End) (rs : Registers) (z : State) (next : Next) → IsLast e → go_on (ends e rs z) next ≡ ends e rs z
+go_on_last : (e : End) (rs : Registers) (z : MidState) (next : Next) → IsLast e → go_on (ends e rs z) next ≡ ends e rs z
 unfolding go_on
 go_on_last falls rs z next h = absurd h
 go_on_last (returns w) rs z next h = refl
@@ -42,24 +42,24 @@ go_on_last (unhandled class site) rs z next h = refl
 go_on_last exhausted rs z next h = refl
 go_on_last stuck rs z next h = refl
 
-some_found : {X : Type 0} {o : Option X} {x : X} (next : X → Next) (rs : Registers) (z : State) → o ≡ Some x → with_some o next rs z ≡ next x rs z
+some_found : {X : Type 0} {o : Option X} {x : X} (next : X → Next) (rs : Registers) (z : MidState) → o ≡ Some x → with_some o next rs z ≡ next x rs z
 unfolding with_some
 some_found next rs z e = ap (λ o. with_some o next rs z) e
 
-first_chosen : {b : Bool} (first second : Next) (rs : Registers) (z : State) → b ≡ true → choose_by b first second rs z ≡ first rs z
+first_chosen : {b : Bool} (first second : Next) (rs : Registers) (z : MidState) → b ≡ true → choose_by b first second rs z ≡ first rs z
 unfolding choose_by
 first_chosen first second rs z e = ap (λ b. choose_by b first second rs z) e
 
-second_chosen : {b : Bool} (first second : Next) (rs : Registers) (z : State) → b ≡ false → choose_by b first second rs z ≡ second rs z
+second_chosen : {b : Bool} (first second : Next) (rs : Registers) (z : MidState) → b ≡ false → choose_by b first second rs z ≡ second rs z
 unfolding choose_by
 second_chosen first second rs z e = ap (λ b. choose_by b first second rs z) e
 
 -- where code falls out, it jumps; every other end passes
-pub jumped_falls : {r : Outcome} {rs : Registers} {z : State} → r ≡ ends falls rs z → jumped r ≡ ends falls rs (charged jump_cost z)
+pub jumped_falls : {r : MidOutcome} {rs : Registers} {z : MidState} → r ≡ ends falls rs z → jumped r ≡ ends falls rs (charged jump_cost z)
 unfolding go_on
 jumped_falls e = ap jumped e
 
-pub jumped_last : {r : Outcome} {e : End} {rs : Registers} {z : State} → IsLast e → r ≡ ends e rs z → jumped r ≡ ends e rs z
+pub jumped_last : {r : MidOutcome} {e : End} {rs : Registers} {z : MidState} → IsLast e → r ≡ ends e rs z → jumped r ≡ ends e rs z
 jumped_last {e = e} {rs = rs} {z = z} h same = ap jumped same ∙ go_on_last e rs z _ h
 
 -- the parts of a loop: its test, a turn, and what follows the turn
@@ -95,63 +95,63 @@ address_below b k x e h = ap (λ n. address n (negsuc k)) e ∙ address_down x k
 
 -- What code and a step come to, as records, so that a lemma finds the code, the registers and the state that it is about.
 
-pub record RunsTo (c : Context) (code : MidCode) (rs : Registers) (z : State) (r : Outcome) : Type 0 where
+pub record RunsTo (c : Context) (code : MidCode) (rs : Registers) (z : MidState) (r : MidOutcome) : Type 0 where
   pub same : exec c code rs z ≡ r
 
-pub record StepsTo (c : Context) (s : MidStep) (rs : Registers) (z : State) (r : Outcome) : Type 0 where
+pub record StepsTo (c : Context) (s : MidStep) (rs : Registers) (z : MidState) (r : MidOutcome) : Type 0 where
   pub same : exec_step c s rs z ≡ r
 
 -- code with no step falls out
-pub none_left : {c : Context} {rs : Registers} {z : State} → RunsTo c no_step rs z (ends falls rs z)
+pub none_left : {c : Context} {rs : Registers} {z : MidState} → RunsTo c no_step rs z (ends falls rs z)
 unfolding exec
 none_left = record { same = refl }
 
 -- where a step falls out, the code behind it goes on
 pub step_falls :
-    (c : Context) (s : MidStep) (code : MidCode) (rs rs' : Registers) (z z' : State) → exec_step c s rs z ≡ ends falls rs' z'
+    (c : Context) (s : MidStep) (code : MidCode) (rs rs' : Registers) (z z' : MidState) → exec_step c s rs z ≡ ends falls rs' z'
     → exec c (step_and s code) rs z ≡ exec c code rs' z'
 unfolding exec go_on
 step_falls c s code rs rs' z z' e = ap (λ r. go_on r (λ rs y. exec c code rs y)) e
 
 -- where a step ends otherwise, so does the code
 pub step_last :
-    (c : Context) (s : MidStep) (code : MidCode) (e : End) (rs rs' : Registers) (z z' : State) → IsLast e → exec_step c s rs z ≡ ends e rs' z'
+    (c : Context) (s : MidStep) (code : MidCode) (e : End) (rs rs' : Registers) (z z' : MidState) → IsLast e → exec_step c s rs z ≡ ends e rs' z'
     → exec c (step_and s code) rs z ≡ ends e rs' z'
 unfolding exec
 step_last c s code e rs rs' z z' h same = ap (λ r. go_on r (λ rs y. exec c code rs y)) same ∙ go_on_last e rs' z' _ h
 
 pub and_then :
-    {c : Context} {s : MidStep} {code : MidCode} {rs rs' : Registers} {z z' : State} {r : Outcome} → StepsTo c s rs z (ends falls rs' z')
+    {c : Context} {s : MidStep} {code : MidCode} {rs rs' : Registers} {z z' : MidState} {r : MidOutcome} → StepsTo c s rs z (ends falls rs' z')
     → RunsTo c code rs' z' r → RunsTo c (step_and s code) rs z r
 and_then {c = c} {s = s} {code = code} {rs = rs} {rs' = rs'} {z = z} {z' = z'} g h = record { same = step_falls c s code rs rs' z z' g.same ∙ h.same }
 
 pub and_ends :
-    {c : Context} {s : MidStep} {code : MidCode} {e : End} {rs rs' : Registers} {z z' : State} → IsLast e → StepsTo c s rs z (ends e rs' z')
+    {c : Context} {s : MidStep} {code : MidCode} {e : End} {rs rs' : Registers} {z z' : MidState} → IsLast e → StepsTo c s rs z (ends e rs' z')
     → RunsTo c (step_and s code) rs z (ends e rs' z')
 and_ends {c = c} {s = s} {code = code} {e = e} {rs = rs} {rs' = rs'} {z = z} {z' = z'} l g = record { same = step_last c s code e rs rs' z z' l g.same }
 
 -- the same run, with what it costs in one sum
 pub costing :
-    {c : Context} {code : MidCode} {e : End} {rs rs' : Registers} {z z' : State} {n : ℕ} → RunsTo c code rs z (ends e rs' z') → z'.cost ≡ n
+    {c : Context} {code : MidCode} {e : End} {rs rs' : Registers} {z z' : MidState} {n : ℕ} → RunsTo c code rs z (ends e rs' z') → z'.cost ≡ n
     → RunsTo c code rs z (ends e rs' (record z' { cost = n }))
 costing {e = e} {rs' = rs'} {z' = z'} g h = record { same = g.same ∙ ap (λ n. ends e rs' (record z' { cost = n })) h }
 
 -- operations, where they succeed
 
 pub move_falls :
-    {c : Context} {to from w : ℕ} {rs : Registers} {z : State} → register from rs ≡ Some w
+    {c : Context} {to from w : ℕ} {rs : Registers} {z : MidState} → register from rs ≡ Some w
     → StepsTo c (perform (Move to from)) rs z (ends falls (slice_set rs to (Some w)) (charged (operation_cost (Move to from)) z))
 unfolding exec
 move_falls {to = to} {rs = rs} e = record { same = some_found (gives to) rs _ e }
 
 pub constant_falls :
-    {c : Context} {to w : ℕ} {rs : Registers} {z : State}
+    {c : Context} {to w : ℕ} {rs : Registers} {z : MidState}
     → StepsTo c (perform (Constant to w)) rs z (ends falls (slice_set rs to (Some w)) (charged (operation_cost (Constant to w)) z))
 unfolding exec
 constant_falls = record { same = refl }
 
 pub compute_falls :
-    {c : Context} {to first second v w : ℕ} {how : Arithmetic} {rs : Registers} {z : State} → register first rs ≡ Some v → register second rs ≡ Some w
+    {c : Context} {to first second v w : ℕ} {how : Arithmetic} {rs : Registers} {z : MidState} → register first rs ≡ Some v → register second rs ≡ Some w
     → StepsTo c (perform (Compute to how first second)) rs z
     (ends falls (slice_set rs to (Some (computed how v w))) (charged (operation_cost (Compute to how first second)) z))
 unfolding exec
@@ -159,7 +159,7 @@ compute_falls {to = to} {how = how} {rs = rs} e f = record { same = some_found _
 
 -- the word that is computed is known in another form
 pub compute_known :
-    {c : Context} {to first second v w x : ℕ} {how : Arithmetic} {rs : Registers} {z : State} → register first rs ≡ Some v → register second rs ≡ Some w
+    {c : Context} {to first second v w x : ℕ} {how : Arithmetic} {rs : Registers} {z : MidState} → register first rs ≡ Some v → register second rs ≡ Some w
     → computed how v w ≡ x
     → StepsTo c (perform (Compute to how first second)) rs z (ends falls (slice_set rs to (Some x)) (charged (operation_cost (Compute to how first second)) z))
 compute_known {to = to} {first = first} {second = second} {how = how} {rs = rs} {z = z} e f same =
@@ -167,7 +167,7 @@ compute_known {to = to} {first = first} {second = second} {how = how} {rs = rs} 
     record { same = (compute_falls e f).same ∙ ap (λ n. ends falls (slice_set rs to (Some n)) (charged cost z)) same }
 
 pub load_falls :
-    {c : Context} {to base b x w : ℕ} {offset : ℤ} {rs : Registers} {z : State} → register base rs ≡ Some b → address b offset ≡ x
+    {c : Context} {to base b x w : ℕ} {offset : ℤ} {rs : Registers} {z : MidState} → register base rs ≡ Some b → address b offset ≡ x
     → word_at z.arena x ≡ Some w
     → StepsTo c (perform (Load to base offset)) rs z (ends falls (slice_set rs to (Some w)) (charged (operation_cost (Load to base offset)) z))
 unfolding exec
@@ -175,7 +175,7 @@ load_falls {to = to} {rs = rs} {z = z} e same f =
     record { same = some_found _ rs _ e ∙ some_found (gives to) rs _ (ap (word_at z.arena) same ∙ f) }
 
 pub store_falls :
-    {c : Context} {from base b x w : ℕ} {offset : ℤ} {rs : Registers} {z : State} → register from rs ≡ Some w → register base rs ≡ Some b
+    {c : Context} {from base b x w : ℕ} {offset : ℤ} {rs : Registers} {z : MidState} → register from rs ≡ Some w → register base rs ≡ Some b
     → address b offset ≡ x → is_lent z.arena x ≡ true
     → StepsTo c (perform (Store from base offset)) rs z
     (ends falls rs (with_arena (with_word x w z.arena) (charged (operation_cost (Store from base offset)) z)))
@@ -186,7 +186,7 @@ store_falls {from = from} {base = base} {w = w} {offset = offset} {rs = rs} {z =
 
 -- the address is in the heap
 pub store_in_heap :
-    {c : Context} {from base b x w : ℕ} {offset : ℤ} {rs : Registers} {z : State} → register from rs ≡ Some w → register base rs ≡ Some b
+    {c : Context} {from base b x w : ℕ} {offset : ℤ} {rs : Registers} {z : MidState} → register from rs ≡ Some w → register base rs ≡ Some b
     → address b offset ≡ x → x % 4 ≡ 0 → z.arena.heap_from ≤ x → x < z.arena.heap_to
     → StepsTo c (perform (Store from base offset)) rs z
     (ends falls rs (with_arena (with_word x w z.arena) (charged (operation_cost (Store from base offset)) z)))
@@ -194,7 +194,7 @@ store_in_heap {x = x} {z = z} e f same aligned low high = store_falls e f same (
 
 -- the address is in a spot that stands
 pub store_in_spot :
-    {c : Context} {from base b x w : ℕ} {offset : ℤ} {rs : Registers} {z : State} {s : Spot} → SpotStands z.arena s → register from rs ≡ Some w
+    {c : Context} {from base b x w : ℕ} {offset : ℤ} {rs : Registers} {z : MidState} {s : Spot} → SpotStands z.arena s → register from rs ≡ Some w
     → register base rs ≡ Some b → address b offset ≡ x → x % 4 ≡ 0 → s.address ≤ x → x < end_of s
     → StepsTo c (perform (Store from base offset)) rs z
     (ends falls rs (with_arena (with_word x w z.arena) (charged (operation_cost (Store from base offset)) z)))
@@ -202,7 +202,7 @@ store_in_spot {x = x} h e f same aligned low high = store_falls e f same (in_spo
 
 -- words are requested: so many are left
 pub request_falls :
-    {c : Context} {to words n : ℕ} {rs : Registers} {z : State} → register words rs ≡ Some n → n ≤ left z.arena
+    {c : Context} {to words n : ℕ} {rs : Registers} {z : MidState} → register words rs ≡ Some n → n ≤ left z.arena
     → StepsTo c (perform (Request to words)) rs z
     (ends falls (slice_set rs to (Some z.arena.heap_to)) (with_arena (with_heap n z.arena) (charged (operation_cost (Request to words)) z)))
 unfolding exec
@@ -210,33 +210,33 @@ request_falls {rs = rs} e h = record { same = some_found _ rs _ e ∙ first_chos
 
 -- or they are not
 pub request_wanting :
-    {c : Context} {to words n : ℕ} {rs : Registers} {z : State} → register words rs ≡ Some n → left z.arena < n
+    {c : Context} {to words n : ℕ} {rs : Registers} {z : MidState} → register words rs ≡ Some n → left z.arena < n
     → StepsTo c (perform (Request to words)) rs z (ends (no_room n (left z.arena)) rs (charged (operation_cost (Request to words)) z))
 unfolding exec
 request_wanting {rs = rs} e h = record { same = some_found _ rs _ e ∙ second_chosen _ _ rs _ (lt-leb _ _ h) }
 
 pub put_falls :
-    {c : Context} {from w : ℕ} {rs : Registers} {z : State} → register from rs ≡ Some w
+    {c : Context} {from w : ℕ} {rs : Registers} {z : MidState} → register from rs ≡ Some w
     → StepsTo c (perform (Put from)) rs z (ends falls rs (record (charged (operation_cost (Put from)) z) { printed = z.printed ++ w % 256 ∷ [] }))
 unfolding exec
 put_falls {rs = rs} e = record { same = some_found _ rs _ e }
 
 -- a byte of the input is taken; behind its end the word is all ones
 pub get_falls :
-    {c : Context} {to byte : ℕ} {bytes : List ℕ} {rs : Registers} {z : State} → z.input ≡ byte ∷ bytes
+    {c : Context} {to byte : ℕ} {bytes : List ℕ} {rs : Registers} {z : MidState} → z.input ≡ byte ∷ bytes
     → StepsTo c (perform (Get to)) rs z (ends falls (slice_set rs to (Some byte)) (record (charged (operation_cost (Get to)) z) { input = bytes }))
 unfolding exec
 get_falls {to = to} {rs = rs} {z = z} e = record { same = ap (λ l. get_from l to rs (charged (operation_cost (Get to)) z)) e }
 
 pub get_at_end :
-    {c : Context} {to : ℕ} {rs : Registers} {z : State} → z.input ≡ []
+    {c : Context} {to : ℕ} {rs : Registers} {z : MidState} → z.input ≡ []
     → StepsTo c (perform (Get to)) rs z (ends falls (slice_set rs to (Some (2 ^ 32 - 1))) (charged (operation_cost (Get to)) z))
 unfolding exec
 get_at_end {to = to} {rs = rs} {z = z} e = record { same = ap (λ l. get_from l to rs (charged (operation_cost (Get to)) z)) e }
 
 -- the word in a register is returned
 pub return_ends :
-    {c : Context} {r w : ℕ} {rs : Registers} {z : State} → register r rs ≡ Some w
+    {c : Context} {r w : ℕ} {rs : Registers} {z : MidState} → register r rs ≡ Some w
     → StepsTo c (return_word r) rs z (ends (returns w) rs (charged return_cost z))
 unfolding exec
 return_ends {rs = rs} e = record { same = some_found _ rs _ e }
@@ -244,17 +244,17 @@ return_ends {rs = rs} e = record { same = some_found _ rs _ e }
 -- choices, by a test that is known
 
 test_true :
-    {a b : ℕ} (t : Test) (first second : Next) (rs : Registers) (z : State) → register t.first rs ≡ Some a → register t.second rs ≡ Some b
+    {a b : ℕ} (t : Test) (first second : Next) (rs : Registers) (z : MidState) → register t.first rs ≡ Some a → register t.second rs ≡ Some b
     → compares t.comparison a b ≡ true → test t first second rs z ≡ first rs (charged test_cost z)
 test_true t first second rs z e f h = some_found _ rs _ e ∙ some_found _ rs _ f ∙ first_chosen first second rs _ h
 
 test_false :
-    {a b : ℕ} (t : Test) (first second : Next) (rs : Registers) (z : State) → register t.first rs ≡ Some a → register t.second rs ≡ Some b
+    {a b : ℕ} (t : Test) (first second : Next) (rs : Registers) (z : MidState) → register t.first rs ≡ Some a → register t.second rs ≡ Some b
     → compares t.comparison a b ≡ false → test t first second rs z ≡ second rs (charged test_cost z)
 test_false t first second rs z e f h = some_found _ rs _ e ∙ some_found _ rs _ f ∙ second_chosen first second rs _ h
 
 pub choose_first :
-    {c : Context} {t : Test} {first second : MidCode} {a b : ℕ} {rs : Registers} {z : State} {r : Outcome} → register t.first rs ≡ Some a
+    {c : Context} {t : Test} {first second : MidCode} {a b : ℕ} {rs : Registers} {z : MidState} {r : MidOutcome} → register t.first rs ≡ Some a
     → register t.second rs ≡ Some b → compares t.comparison a b ≡ true → RunsTo c first rs (charged test_cost z) r
     → StepsTo c (choose t first second) rs z (jumped r)
 unfolding exec
@@ -262,7 +262,7 @@ choose_first {c = c} {t = t} {first = first} {second = second} {rs = rs} {z = z}
     record { same = test_true t (λ rs' y. jumped (exec c first rs' y)) (λ rs' y. jumped (exec c second rs' y)) rs z e f h ∙ ap jumped g.same }
 
 pub choose_second :
-    {c : Context} {t : Test} {first second : MidCode} {a b : ℕ} {rs : Registers} {z : State} {r : Outcome} → register t.first rs ≡ Some a
+    {c : Context} {t : Test} {first second : MidCode} {a b : ℕ} {rs : Registers} {z : MidState} {r : MidOutcome} → register t.first rs ≡ Some a
     → register t.second rs ≡ Some b → compares t.comparison a b ≡ false → RunsTo c second rs (charged test_cost z) r
     → StepsTo c (choose t first second) rs z (jumped r)
 unfolding exec
@@ -271,50 +271,50 @@ choose_second {c = c} {t = t} {first = first} {second = second} {rs = rs} {z = z
 
 -- the branch falls out, and the code behind goes on
 pub choose_first_falls :
-    {c : Context} {t : Test} {first second : MidCode} {a b : ℕ} {rs rs' : Registers} {z z' : State} → register t.first rs ≡ Some a
+    {c : Context} {t : Test} {first second : MidCode} {a b : ℕ} {rs rs' : Registers} {z z' : MidState} → register t.first rs ≡ Some a
     → register t.second rs ≡ Some b → compares t.comparison a b ≡ true → RunsTo c first rs (charged test_cost z) (ends falls rs' z')
     → StepsTo c (choose t first second) rs z (ends falls rs' (charged jump_cost z'))
 choose_first_falls e f h g = record { same = (choose_first e f h g).same ∙ jumped_falls refl }
 
 pub choose_second_falls :
-    {c : Context} {t : Test} {first second : MidCode} {a b : ℕ} {rs rs' : Registers} {z z' : State} → register t.first rs ≡ Some a
+    {c : Context} {t : Test} {first second : MidCode} {a b : ℕ} {rs rs' : Registers} {z z' : MidState} → register t.first rs ≡ Some a
     → register t.second rs ≡ Some b → compares t.comparison a b ≡ false → RunsTo c second rs (charged test_cost z) (ends falls rs' z')
     → StepsTo c (choose t first second) rs z (ends falls rs' (charged jump_cost z'))
 choose_second_falls e f h g = record { same = (choose_second e f h g).same ∙ jumped_falls refl }
 
 -- the branch ends otherwise
 pub choose_first_ends :
-    {c : Context} {t : Test} {first second : MidCode} {a b : ℕ} {e : End} {rs rs' : Registers} {z z' : State} → IsLast e → register t.first rs ≡ Some a
+    {c : Context} {t : Test} {first second : MidCode} {a b : ℕ} {e : End} {rs rs' : Registers} {z z' : MidState} → IsLast e → register t.first rs ≡ Some a
     → register t.second rs ≡ Some b → compares t.comparison a b ≡ true → RunsTo c first rs (charged test_cost z) (ends e rs' z')
     → StepsTo c (choose t first second) rs z (ends e rs' z')
 choose_first_ends l e f h g = record { same = (choose_first e f h g).same ∙ jumped_last l refl }
 
 pub choose_second_ends :
-    {c : Context} {t : Test} {first second : MidCode} {a b : ℕ} {e : End} {rs rs' : Registers} {z z' : State} → IsLast e → register t.first rs ≡ Some a
+    {c : Context} {t : Test} {first second : MidCode} {a b : ℕ} {e : End} {rs rs' : Registers} {z z' : MidState} → IsLast e → register t.first rs ≡ Some a
     → register t.second rs ≡ Some b → compares t.comparison a b ≡ false → RunsTo c second rs (charged test_cost z) (ends e rs' z')
     → StepsTo c (choose t first second) rs z (ends e rs' z')
 choose_second_ends l e f h g = record { same = (choose_second e f h g).same ∙ jumped_last l refl }
 
 -- code in two parts
 
-go_on_twice : (r : Outcome) (f g : Next) → go_on (go_on r f) g ≡ go_on r (λ rs z. go_on (f rs z) g)
+go_on_twice : (r : MidOutcome) (f g : Next) → go_on (go_on r f) g ≡ go_on r (λ rs z. go_on (f rs z) g)
 unfolding go_on
 go_on_twice r f g = from r.end r.registers r.state
   where
-    from : (e : End) (rs : Registers) (z : State) → go_on (go_on (ends e rs z) f) g ≡ go_on (ends e rs z) (λ rs' y. go_on (f rs' y) g)
+    from : (e : End) (rs : Registers) (z : MidState) → go_on (go_on (ends e rs z) f) g ≡ go_on (ends e rs z) (λ rs' y. go_on (f rs' y) g)
     from falls rs z = refl
     from e rs z = refl
 
-go_on_same : (r : Outcome) (f g : Next) → ((rs : Registers) (z : State) → f rs z ≡ g rs z) → go_on r f ≡ go_on r g
+go_on_same : (r : MidOutcome) (f g : Next) → ((rs : Registers) (z : MidState) → f rs z ≡ g rs z) → go_on r f ≡ go_on r g
 unfolding go_on
 go_on_same r f g h = from r.end r.registers r.state
   where
-    from : (e : End) (rs : Registers) (z : State) → go_on (ends e rs z) f ≡ go_on (ends e rs z) g
+    from : (e : End) (rs : Registers) (z : MidState) → go_on (ends e rs z) f ≡ go_on (ends e rs z) g
     from falls rs z = h rs z
     from e rs z = refl
 
 in_two_parts :
-    (c : Context) (ss ts : List MidStep) (rs : Registers) (z : State)
+    (c : Context) (ss ts : List MidStep) (rs : Registers) (z : MidState)
     → exec c (code_of (ss ++ ts)) rs z ≡ go_on (exec c (code_of ss) rs z) (λ rs' y. exec c (code_of ts) rs' y)
 unfolding exec go_on
 in_two_parts c [] ts rs z = refl
@@ -324,7 +324,7 @@ in_two_parts c (s ∷ ss) ts rs z =
 
 -- the first part falls out, and the second one goes on
 pub parts_then :
-    {c : Context} (ss ts : List MidStep) {rs rs' : Registers} {z z' : State} {r : Outcome} → RunsTo c (code_of ss) rs z (ends falls rs' z')
+    {c : Context} (ss ts : List MidStep) {rs rs' : Registers} {z z' : MidState} {r : MidOutcome} → RunsTo c (code_of ss) rs z (ends falls rs' z')
     → RunsTo c (code_of ts) rs' z' r → RunsTo c (code_of (ss ++ ts)) rs z r
 unfolding go_on
 parts_then {c = c} ss ts {rs = rs} {z = z} g h =
@@ -332,7 +332,7 @@ parts_then {c = c} ss ts {rs = rs} {z = z} g h =
 
 -- the first part ends otherwise
 pub parts_end :
-    {c : Context} (ss ts : List MidStep) {e : End} {rs rs' : Registers} {z z' : State} → IsLast e → RunsTo c (code_of ss) rs z (ends e rs' z')
+    {c : Context} (ss ts : List MidStep) {e : End} {rs rs' : Registers} {z z' : MidState} → IsLast e → RunsTo c (code_of ss) rs z (ends e rs' z')
     → RunsTo c (code_of (ss ++ ts)) rs z (ends e rs' z')
 unfolding go_on
 parts_end {c = c} ss ts {e = e} {rs = rs} {rs' = rs'} {z = z} {z' = z'} l g =
@@ -342,7 +342,7 @@ parts_end {c = c} ss ts {e = e} {rs = rs} {rs' = rs'} {z = z} {z' = z'} l g =
 
 -- the test fails, and the loop falls out
 pub repeat_falls :
-    {c : Context} {how : Counted} {head body : MidCode} {t : Test} {a b : ℕ} {rs rs' : Registers} {z z' : State} → RunsTo c head rs z (ends falls rs' z')
+    {c : Context} {how : Counted} {head body : MidCode} {t : Test} {a b : ℕ} {rs rs' : Registers} {z z' : MidState} → RunsTo c head rs z (ends falls rs' z')
     → register t.first rs' ≡ Some a → register t.second rs' ≡ Some b → compares t.comparison a b ≡ false
     → StepsTo c (repeat how head t body) rs z (ends falls rs' (charged test_cost z'))
 unfolding exec go_on
@@ -351,7 +351,7 @@ repeat_falls {c = c} {how = how} {head = head} {body = body} {t = t} {rs' = rs'}
 
 -- the test holds, the body falls out and jumps, and the loop goes on
 pub repeat_goes_on :
-    {c : Context} {how : Counted} {head body : MidCode} {t : Test} {a b : ℕ} {rs rs' rs'' : Registers} {z z' z'' : State} → RunsTo c head rs z (ends falls rs' z')
+    {c : Context} {how : Counted} {head body : MidCode} {t : Test} {a b : ℕ} {rs rs' rs'' : Registers} {z z' z'' : MidState} → RunsTo c head rs z (ends falls rs' z')
     → register t.first rs' ≡ Some a → register t.second rs' ≡ Some b → compares t.comparison a b ≡ true
     → RunsTo c body rs' (charged test_cost z') (ends falls rs'' z'')
     → StepsTo c (repeat how head t body) rs z (count c how (again (repeat how head t body) rs'') (charged jump_cost z''))
@@ -365,7 +365,7 @@ repeat_goes_on {c = c} {how = how} {head = head} {body = body} {t = t} {rs' = rs
 
 -- the test holds, and the body ends otherwise
 pub repeat_ends :
-    {c : Context} {how : Counted} {head body : MidCode} {t : Test} {a b : ℕ} {l : End} {rs rs' rs'' : Registers} {z z' z'' : State} → IsLast l
+    {c : Context} {how : Counted} {head body : MidCode} {t : Test} {a b : ℕ} {l : End} {rs rs' rs'' : Registers} {z z' z'' : MidState} → IsLast l
     → RunsTo c head rs z (ends falls rs' z') → register t.first rs' ≡ Some a → register t.second rs' ≡ Some b → compares t.comparison a b ≡ true
     → RunsTo c body rs' (charged test_cost z') (ends l rs'' z'') → StepsTo c (repeat how head t body) rs z (ends l rs'' z'')
 unfolding exec go_on
@@ -377,13 +377,13 @@ repeat_ends {c = c} {how = how} {head = head} {body = body} {t = t} {l = l} {rs'
     }
 
 -- where so many turns are left for loops
-abbrev pub turning : List MidProcedure → (below : Task → State → Outcome) → ℕ → Context
+abbrev pub turning : List MidProcedure → (below : Task → MidState → MidOutcome) → ℕ → Context
 turning procedures below n = context_of procedures below (turns procedures below n)
 
 -- a loop that counts turns goes on with one less
 pub repeat_turn :
-    (procedures : List MidProcedure) (below : Task → State → Outcome) (n : ℕ) {head body : MidCode} {t : Test} {a b : ℕ} {rs rs' rs'' : Registers}
-    {z z' z'' : State} {r : Outcome} → RunsTo (turning procedures below (suc n)) head rs z (ends falls rs' z') → register t.first rs' ≡ Some a
+    (procedures : List MidProcedure) (below : Task → MidState → MidOutcome) (n : ℕ) {head body : MidCode} {t : Test} {a b : ℕ} {rs rs' rs'' : Registers}
+    {z z' z'' : MidState} {r : MidOutcome} → RunsTo (turning procedures below (suc n)) head rs z (ends falls rs' z') → register t.first rs' ≡ Some a
     → register t.second rs' ≡ Some b → compares t.comparison a b ≡ true
     → RunsTo (turning procedures below (suc n)) body rs' (charged test_cost z') (ends falls rs'' z'')
     → StepsTo (turning procedures below n) (repeat Turn head t body) rs'' (charged jump_cost z'') r
@@ -398,16 +398,16 @@ abbrev pub frame_of : MidProcedure → Block
 frame_of p = record { words = p.frame; kind = activation_frame }
 
 -- a state where a procedure was entered: the entry is paid, and the frame is laid
-abbrev pub entered : MidProcedure → State → State
+abbrev pub entered : MidProcedure → MidState → MidState
 entered p z = with_arena (with_new_block (frame_of p) z.arena) (charged (entry_cost p.parameters) z)
 
 -- what a procedure comes to that is entered with a turn, as a record for the same reason
-pub record EntersTo (procedures : List MidProcedure) (below : Task → State → Outcome) (n : ℕ) (p : MidProcedure) (ws : List ℕ) (z : State) (r : Outcome) : Type 0 where
+pub record EntersTo (procedures : List MidProcedure) (below : Task → MidState → MidOutcome) (n : ℕ) (p : MidProcedure) (ws : List ℕ) (z : MidState) (r : MidOutcome) : Type 0 where
   pub same : turns procedures below (suc n) (enter p ws) z ≡ r
 
 -- its frame is not left
 pub enters_wanting :
-    {procedures : List MidProcedure} {below : Task → State → Outcome} {n : ℕ} {p : MidProcedure} {ws : List ℕ} {z : State} → length ws ≡ p.parameters
+    {procedures : List MidProcedure} {below : Task → MidState → MidOutcome} {n : ℕ} {p : MidProcedure} {ws : List ℕ} {z : MidState} → length ws ≡ p.parameters
     → left z.arena < p.frame
     → EntersTo procedures below n p ws z
     (ends (no_room p.frame (left z.arena)) (first_registers p.registers ws) (charged (entry_cost p.parameters) z))
@@ -416,7 +416,7 @@ enters_wanting {p = p} e h = record { same = first_chosen _ _ _ _ (eq-eqb _ _ e)
 
 -- its frame is left, and the body runs
 pub enters :
-    {procedures : List MidProcedure} {below : Task → State → Outcome} {n : ℕ} {p : MidProcedure} {ws : List ℕ} {z : State} {r : Outcome}
+    {procedures : List MidProcedure} {below : Task → MidState → MidOutcome} {n : ℕ} {p : MidProcedure} {ws : List ℕ} {z : MidState} {r : MidOutcome}
     → length ws ≡ p.parameters → p.frame ≤ left z.arena
     → RunsTo (turning procedures below n) (code_of p.body) (first_registers p.registers ws) (entered p z) r
     → EntersTo procedures below n p ws z (leaves z.arena.blocks r)

@@ -6,7 +6,7 @@ use Rattle.std.proofs.lemmas.Slice.Eq.{bytes_eq-Decides}
 use Rattle.lang_meaning.specs.declared.program.ProgramRows.{ProgramRows}
 use Rattle.lang_meaning.specs.Values.{SymbolValue, named, unnamed, same_symbol, Value, integer, character, symbol, nil, object, int_equal, same}
 use Rattle.lang_meaning.specs.State as meaning
-use Rattle.mid_code.specs.State.{State}
+use Rattle.mid_code.specs.State.{MidState}
 use Rattle.mid_arena.specs.Tags.{integer_word, nil_word, tag_of}
 use Rattle.mid_arena.specs.Places.{Spot, Places, Owner, of_object, of_symbol, same_owner, spot_of, word_of}
 use Rattle.mid_arena.specs.Standing.{Apart, in_front, behind}
@@ -57,7 +57,7 @@ spots_differ :
 spots_differ s t w u (in_front h) d e f g m n p q = decided false w u (λ x. absurd (cc x)) (λ x. absurd (omega arith))
 spots_differ s t w u (behind h) d e f g m n p q = decided false w u (λ x. absurd (cc x)) (λ x. absurd (omega arith))
 
-module _ (names : List (List ℕ)) (program : ProgramRows) (places : Places) (z : meaning.State) (y : State) (r : Represents names program places z y) where
+module _ (names : List (List ℕ)) (program : ProgramRows) (places : Places) (z : meaning.State) (y : MidState) (r : Represents names program places z y) where
   -- the tag of an object is that of no integer, character or nil
   object_between : (i w : ℕ) → word_of places (object i) ≡ Some w → (1 ≤ w % 4) × (w % 4 < 3)
   object_between i w e =

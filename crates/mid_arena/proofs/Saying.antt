@@ -8,7 +8,7 @@ use Rattle.mid_code.specs.declared.program.MidProcedure.{MidProcedure}
 use Rattle.mid_code.specs.declared.operation.Test.{Test}
 use Rattle.mid_code.specs.Words.{compares}
 use Rattle.mid_code.specs.MidCode.{return_word, code_of}
-use Rattle.mid_code.specs.State.{Registers, State, Outcome, register}
+use Rattle.mid_code.specs.State.{Registers, MidState, MidOutcome, register}
 use Rattle.mid_code.specs.Meaning.{Task}
 use Rattle.mid_arena.specs.Tags.{nil_word}
 use Rattle.mid_arena.specs.Places.{Places}
@@ -16,17 +16,17 @@ use Rattle.mid_arena.specs.FixedWords.{true_address}
 use Rattle.mid_arena.specs.Represents.{Represents}
 use Rattle.mid_arena.specs.Steps as steps
 use Rattle.mid_arena.proofs.Running.{constant_falls, load_falls, address_up}
-use Rattle.mid_arena.proofs.Doing.{Alike, Run, goes_on, returns_value, test_fails, first_answers}
+use Rattle.mid_arena.proofs.Doing.{SameObjects, Run, goes_on, returns_value, test_fails, first_answers}
 use Rattle.mid_arena.proofs.Registers.{register_beside, register_here, same_size}
 
 module _
-    (names : List (List ℕ)) (program : ProgramRows) (places : Places) (z : meaning.State) (y : State) (r : Represents names program places z y)
-    (procedures : List MidProcedure) (below : Task → State → Outcome)
+    (names : List (List ℕ)) (program : ProgramRows) (places : Places) (z : meaning.State) (y : MidState) (r : Represents names program places z y)
+    (procedures : List MidProcedure) (below : Task → MidState → MidOutcome)
   where
     -- t or nil is returned, as a test says of the words in two registers other than 5
     pub says_run :
         (n budget k a b : ℕ) (holds : Bool) (t : Test) (z' : meaning.State) (rs : Registers) → length rs ≡ 8 → (5 ≡ t.first → ⊥) → (5 ≡ t.second → ⊥)
-        → register t.first rs ≡ Some a → register t.second rs ≡ Some b → compares t.comparison a b ≡ holds → Alike z z'
+        → register t.first rs ≡ Some a → register t.second rs ≡ Some b → compares t.comparison a b ≡ holds → SameObjects z z'
         → k + 48 + 250 * z.units ≤ budget + 250 * z'.units
         → Run names program places z y procedures below n budget (says holds z') (code_of (steps.says t)) rs k
     says_run n budget k a b holds t z' rs size other_first other_second first second tells alike cost =

@@ -10,13 +10,13 @@ use Rattle.lang_meaning.specs.Values.{Value}
 use Rattle.lang_meaning.specs.Objects.{instance, class_object, program_error_class, standard_object_class}
 use Rattle.lang_meaning.specs.State as meaning
 use Rattle.lang_meaning.specs.Classes.{precedence, slots}
-use Rattle.lang_meaning.specs.Layout.{class_value}
+use Rattle.lang_meaning.specs.InitialHeap.{class_value}
 use Rattle.lang_meaning.specs.Primitives.{Spelt, as_symbol, a_symbol, is_slot, slot_place}
 use Rattle.mid_code.specs.declared.program.MidProcedure.{MidProcedure}
 use Rattle.mid_code.specs.declared.operation.Arithmetic.TheVariants as which
 use Rattle.base.specs.Arithmetic.{sum32, product32}
 use Rattle.mid_code.specs.MidCode.{MidStep, code_of}
-use Rattle.mid_code.specs.State.{Registers, State, Outcome, returns, ends, first_registers}
+use Rattle.mid_code.specs.State.{Registers, MidState, MidOutcome, returns, ends, first_registers}
 use Rattle.mid_code.specs.Meaning.{Task}
 use Rattle.mid_arena.specs.Tags.{instance_header}
 use Rattle.mid_arena.specs.Places.{Places, word_of}
@@ -63,9 +63,9 @@ seeking rest =
 abbrev sought : List MidStep
 sought = search_slot ∷ steps.signal (pos (class_address program_error_class)) ++ []
 
-module _ (names : List (List ℕ)) (program : ProgramRows) (places : Places) (z : meaning.State) (y : State) (r : Represents names program places z y) where
+module _ (names : List (List ℕ)) (program : ProgramRows) (places : Places) (z : meaning.State) (y : MidState) (r : Represents names program places z y) where
   module _
-      (procedures : List MidProcedure) (below : Task → State → Outcome) (n budget : ℕ) (rows : List SlotRow) (p : SlotRow → Bool) (few : length rows < 2 ^ 28)
+      (procedures : List MidProcedure) (below : Task → MidState → MidOutcome) (n budget : ℕ) (rows : List SlotRow) (p : SlotRow → Bool) (few : length rows < 2 ^ 28)
       (x : ℕ)
     where
       -- where the search ends, it comes to the place, or to a program error
@@ -89,10 +89,10 @@ module _ (names : List (List ℕ)) (program : ProgramRows) (places : Places) (z 
           (alike_charged z (length rows)) (omega (arith, within, cost)))))
 
 module _
-    (names : List (List ℕ)) (program : ProgramRows) (places : Places) (z : meaning.State) (y : State) (r : Represents names program places z y)
+    (names : List (List ℕ)) (program : ProgramRows) (places : Places) (z : meaning.State) (y : MidState) (r : Represents names program places z y)
     (classes : ClassesThere names program z) (w x c : ℕ) (v u : Value) (values : List (Option Value)) (mark : Value) (s : Spelt)
     (it : ObjectFound names program places z y r v w (instance c values mark)) (word : word_of places u ≡ Some x) (spelt : as_symbol z u ≡ Some s)
-    (procedures : List MidProcedure) (below : Task → State → Outcome) (n budget : ℕ) (turns : position_or_len (is_slot names s) (slots program c) ≤ n)
+    (procedures : List MidProcedure) (below : Task → MidState → MidOutcome) (n budget : ℕ) (turns : position_or_len (is_slot names s) (slots program c) ≤ n)
   where
     of_class : ObjectFound names program places z y r (class_value names program c) it.stands.class.word (class_object c)
     of_class = class_found names program places z y r classes v w c values mark it

@@ -8,14 +8,14 @@ use Rattle.lang_meaning.specs.Values.{Value, object, truth}
 use Rattle.lang_meaning.specs.Objects.{Object, instance, class_object, serious_condition_class}
 use Rattle.lang_meaning.specs.State as meaning
 use Rattle.lang_meaning.specs.Classes.{fetch, class_of, class_of_object, precedence, slots, is_below, is_condition}
-use Rattle.lang_meaning.specs.Layout.{class_value, initargs_value, initform_value}
+use Rattle.lang_meaning.specs.InitialHeap.{class_value, initargs_value, initform_value}
 use Rattle.lang_meaning.specs.Primitives.{Answer, result, domain_error, needs, as_instance, primitive}
 use Rattle.mid_code.specs.declared.program.MidProcedure.{MidProcedure}
 use Rattle.mid_code.specs.declared.operation.Arithmetic.TheVariants as which
 use Rattle.mid_code.specs.declared.operation.Comparison.TheVariants.{Different}
 use Rattle.base.specs.Arithmetic.{sum32, product32}
 use Rattle.mid_code.specs.MidCode.{MidStep, return_word, code_of}
-use Rattle.mid_code.specs.State.{State, Outcome, first_registers}
+use Rattle.mid_code.specs.State.{MidState, MidOutcome, first_registers}
 use Rattle.mid_code.specs.Meaning.{Task}
 use Rattle.mid_arena.specs.Tags.{nil_word, instance_header}
 use Rattle.mid_arena.specs.Places.{Places, word_of}
@@ -40,7 +40,7 @@ use Rattle.mid_arena.proofs.Taking.{does_one, does_two}
 use Rattle.mid_arena.proofs.WordFacts.{header_without_kind, four_times_count}
 use Rattle.mid_arena.proofs.Memory.{spot_low}
 
-module _ (names : List (List ℕ)) (program : ProgramRows) (places : Places) (z : meaning.State) (y : State) (r : Represents names program places z y) (classes : ClassesThere names program z) where
+module _ (names : List (List ℕ)) (program : ProgramRows) (places : Places) (z : meaning.State) (y : MidState) (r : Represents names program places z y) (classes : ClassesThere names program z) where
   -- the class of an instance
   pub class_found :
       (v : Value) (w c : ℕ) (values : List (Option Value)) (mark : Value) (it : ObjectFound names program places z y r v w (instance c values mark))
@@ -58,7 +58,7 @@ module _ (names : List (List ℕ)) (program : ProgramRows) (places : Places) (z 
       omega (arith, it.word, it.stands.size.words, high)
 
 module _
-    (names : List (List ℕ)) (program : ProgramRows) (places : Places) (z : meaning.State) (y : State) (r : Represents names program places z y)
+    (names : List (List ℕ)) (program : ProgramRows) (places : Places) (z : meaning.State) (y : MidState) (r : Represents names program places z y)
     (classes : ClassesThere names program z) (w x c : ℕ) (v : Value) (values : List (Option Value)) (mark : Value) (j : ℕ)
     (it : ObjectFound names program places z y r v w (instance c values mark)) (inside : j < length values) (place : x ≡ 4 * j)
   where
@@ -77,7 +77,7 @@ module _
     row_stands = of_class.stands.rows j row_there.0 row_there.1
 
     row_run :
-        (extra : ℕ) (u : Value) (procedures : List MidProcedure) (below : Task → State → Outcome) (n budget k : ℕ) → extra < 9
+        (extra : ℕ) (u : Value) (procedures : List MidProcedure) (below : Task → MidState → MidOutcome) (n budget k : ℕ) → extra < 9
         → ValueAt places y.arena (row_address + extra) u → k + 80 ≤ budget
         → Run names program places z y procedures below n budget (result u z) (code_of (steps.slot_word (pos (26 + extra))))
         (slot_registers w x (length values) (first_registers 8 (w ∷ x ∷ []))) k
@@ -142,7 +142,7 @@ value_class_below : (z : meaning.State) (v : Value) → as_instance (fetch z v) 
 value_class_below z (object i) e = class_below (slice_get z.store i) e
 value_class_below z w e = omega arith
 
-module _ (names : List (List ℕ)) (program : ProgramRows) (places : Places) (z : meaning.State) (y : State) (r : Represents names program places z y) where
+module _ (names : List (List ℕ)) (program : ProgramRows) (places : Places) (z : meaning.State) (y : MidState) (r : Represents names program places z y) where
   -- the class of an instance that is stored
   instance_class : (v : Value) (i : ℕ × List (Option Value) × Value) → as_instance (fetch z v) ≡ Some i → class_of z v ≡ i.0
   instance_class (object k) i e = by (slice_get z.store k) e
@@ -179,10 +179,10 @@ abbrev marking : List MidStep
 marking = steps.slot_count 0 ++ steps.compute 7 which.Add 7 0 ∷ steps.load 5 7 (pos 6) ∷ return_word 5 ∷ []
 
 module _
-    (names : List (List ℕ)) (program : ProgramRows) (places : Places) (z : meaning.State) (y : State) (r : Represents names program places z y)
+    (names : List (List ℕ)) (program : ProgramRows) (places : Places) (z : meaning.State) (y : MidState) (r : Represents names program places z y)
     (classes : ClassesThere names program z) (w c : ℕ) (v : Value) (values : List (Option Value)) (mark : Value)
     (it : ObjectFound names program places z y r v w (instance c values mark)) (word : word_of places v ≡ Some w)
-    (procedures : List MidProcedure) (below : Task → State → Outcome) (n budget k : ℕ)
+    (procedures : List MidProcedure) (below : Task → MidState → MidOutcome) (n budget k : ℕ)
   where
     mark_run :
         (u paid_so_far : ℕ) → ValueAt places y.arena (it.spot.address + 8 + 4 * length values) mark → paid_so_far + 100 ≤ budget

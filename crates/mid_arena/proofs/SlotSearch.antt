@@ -18,7 +18,7 @@ use Rattle.mid_code.specs.declared.operation.Comparison.TheVariants.{Equal}
 use Rattle.base.specs.Arithmetic.{sum32}
 use Rattle.mid_code.specs.Arena.{word_at}
 use Rattle.mid_code.specs.MidCode.{MidStep}
-use Rattle.mid_code.specs.State.{Registers, State, Outcome, falls, returns, ends}
+use Rattle.mid_code.specs.State.{Registers, MidState, MidOutcome, falls, returns, ends}
 use Rattle.mid_code.specs.Meaning.{Task}
 use Rattle.mid_arena.specs.Places.{Places, of_symbol, spot_of, word_of}
 use Rattle.mid_arena.specs.FixedWords.{nil_text}
@@ -51,7 +51,7 @@ abbrev pub search_slot : MidStep
 search_slot =
     steps.while_below 5 7 (steps.load 4 5 (pos 0) ∷ steps.return_if (steps.comparing Equal 4 1) 3 ∷ steps.compute_by 5 which.Add 5 12 ++ steps.compute_by 3 which.Add 3 4)
 
-module _ (procedures : List MidProcedure) (below : Task → State → Outcome) (y : State) (x : ℕ) (p : SlotRow → Bool) where
+module _ (procedures : List MidProcedure) (below : Task → MidState → MidOutcome) (y : MidState) (x : ℕ) (p : SlotRow → Bool) where
   -- the word at an address is the one that is sought exactly where the row passes
   pub record NameAt (address : ℕ) (row : SlotRow) : Type 0 where
     pub word : ℕ
@@ -87,7 +87,7 @@ module _ (procedures : List MidProcedure) (below : Task → State → Outcome) (
 
     -- it does not, and the loop goes on
     turn :
-        {r : Outcome} → p row ≡ false
+        {r : MidOutcome} → p row ≡ false
         → StepsTo (turning procedures below n) search_slot (searching r0 r2 (Some at.word) (Some 4) (i + 1) (a + 12) e) (paid y (k + 12 + 8 + 12 + 2 + 6 + 10 + 6 + 10 + 2)) r
         → StepsTo (turning procedures below (suc n)) search_slot (searching r0 r2 r4 r6 i a e) (paid y k) r
     turn fails rest =
@@ -148,7 +148,7 @@ bytes_turned a b = by (bytes_eq a b) (bytes_eq b a) refl refl
     by true false e f = let same : a ≡ b = (bytes_eq-Decides a b).0 e in cc
     by false true e f = let same : b ≡ a = (bytes_eq-Decides b a).0 f in cc
 
-module _ (names : List (List ℕ)) (program : ProgramRows) (places : Places) (z : meaning.State) (y : State) (r : Represents names program places z y) where
+module _ (names : List (List ℕ)) (program : ProgramRows) (places : Places) (z : meaning.State) (y : MidState) (r : Represents names program places z y) where
   -- a symbol is the name of a slot exactly where it is that symbol with a text
   same_name :
       (u : Value) (s : Spelt) (row : SlotRow) (word : ℕ) → as_symbol z u ≡ Some s → word_of places (symbol (named (text names row.name.0))) ≡ Some word

@@ -14,7 +14,7 @@ use Rattle.mid_code.specs.declared.program.MidProcedure.{MidProcedure}
 use Rattle.mid_code.specs.declared.operation.Arithmetic.TheVariants as which
 use Rattle.mid_code.specs.Arena.{Arena, word_at, with_word}
 use Rattle.mid_code.specs.MidCode.{MidStep, return_word, code_of}
-use Rattle.mid_code.specs.State.{Registers, State, Outcome, first_registers}
+use Rattle.mid_code.specs.State.{Registers, MidState, MidOutcome, first_registers}
 use Rattle.mid_code.specs.Meaning.{Task}
 use Rattle.mid_arena.specs.Tags.{instance_header}
 use Rattle.mid_arena.specs.Places.{Spot, end_of, Places, word_of}
@@ -93,7 +93,7 @@ abbrev setting : List MidStep
 setting = steps.compute 5 which.Add 1 2 ∷ steps.store 0 5 (pos 6) ∷ return_word 0 ∷ []
 
 module _
-    (names : List (List ℕ)) (program : ProgramRows) (places : Places) (z : meaning.State) (y : State) (r : Represents names program places z y)
+    (names : List (List ℕ)) (program : ProgramRows) (places : Places) (z : meaning.State) (y : MidState) (r : Represents names program places z y)
     (w x c : ℕ) (v : Value) (values : List (Option Value)) (mark : Value) (j : ℕ)
     (it : ObjectFound names program places z y r v w (instance c values mark)) (inside : j < length values) (place : x ≡ 4 * j)
     (u : Value) (word : ℕ) (of_value : word_of places u ≡ Some word)
@@ -106,7 +106,7 @@ module _
     slot_within = omega (arith, it.stands.size.words, words_at_least program c (length values))
 
     set_run :
-        (procedures : List MidProcedure) (below : Task → State → Outcome) (n budget k : ℕ) → k + 32 ≤ budget
+        (procedures : List MidProcedure) (below : Task → MidState → MidOutcome) (n budget k : ℕ) → k + 32 ≤ budget
         → Run names program places z y procedures below n budget (result u (change v now z)) (code_of setting)
         (slot_registers w x (length values) (first_registers 8 (word ∷ w ∷ x ∷ []))) k
     set_run procedures below n budget k cost =

@@ -16,7 +16,7 @@ use Rattle.base.specs.Arithmetic.{sum32}
 use Rattle.mid_code.specs.Words.{address}
 use Rattle.mid_code.specs.Arena.{word_at}
 use Rattle.mid_code.specs.MidCode.{MidStep, return_word, code_of}
-use Rattle.mid_code.specs.State.{Registers, State, Outcome, register, first_registers}
+use Rattle.mid_code.specs.State.{Registers, MidState, MidOutcome, register, first_registers}
 use Rattle.mid_code.specs.Meaning.{Task}
 use Rattle.mid_arena.specs.Tags.{integer_word, instance_header, unbound_word}
 use Rattle.mid_arena.specs.Places.{Places, word_of}
@@ -78,7 +78,7 @@ place_paid k = instance_paid k + 6 + 10 + 6 + 12 + 2
 abbrev pub slot_paid : ℕ → ℕ
 slot_paid k = place_paid k + 8 + 6 + 10 + 6 + 10 + 12 + 2
 
-module _ (names : List (List ℕ)) (program : ProgramRows) (places : Places) (z : meaning.State) (y : State) (r : Represents names program places z y) where
+module _ (names : List (List ℕ)) (program : ProgramRows) (places : Places) (z : meaning.State) (y : MidState) (r : Represents names program places z y) where
   -- an instance stands in the heap or beside the code, so its word and the number of its slots are not large
   pub instance_low :
       (v : Value) (w c : ℕ) (values : List (Option Value)) (mark : Value) → ObjectFound names program places z y r v w (instance c values mark)
@@ -96,8 +96,8 @@ module _ (names : List (List ℕ)) (program : ProgramRows) (places : Places) (z 
   no_value_unbound (object i) w e = let low = object_low names program places z y r i w e in grind (arith, nat_tests)
 
 module _
-    (names : List (List ℕ)) (program : ProgramRows) (places : Places) (z : meaning.State) (y : State) (r : Represents names program places z y)
-    (procedures : List MidProcedure) (below : Task → State → Outcome)
+    (names : List (List ℕ)) (program : ProgramRows) (places : Places) (z : meaning.State) (y : MidState) (r : Represents names program places z y)
+    (procedures : List MidProcedure) (below : Task → MidState → MidOutcome)
   where
     -- an instance and a place of its slots, with which the code behind goes on, or a condition: it costs 170 to find them
     pub slot_needed :
@@ -167,7 +167,7 @@ slot_count_does = does_one SlotCount refl (λ v w names program places z y proce
     (returns_value names program places z y procedures below r refl (length_word_is places (length values) (omega (arith, low))) (alike_self z) (omega arith))))))))
 
 module _
-    (names : List (List ℕ)) (program : ProgramRows) (places : Places) (z : meaning.State) (y : State) (r : Represents names program places z y)
+    (names : List (List ℕ)) (program : ProgramRows) (places : Places) (z : meaning.State) (y : MidState) (r : Represents names program places z y)
     (w x c : ℕ) (v : Value) (values : List (Option Value)) (mark : Value) (j : ℕ)
     (it : ObjectFound names program places z y r v w (instance c values mark)) (inside : j < length values) (place : x ≡ 4 * j)
   where
@@ -210,10 +210,10 @@ abbrev summed : (w x count : ℕ) → Registers
 summed w x count = slice_set (slot_registers w x count (first_registers 8 (w ∷ x ∷ []))) 5 (Some (w + x))
 
 module _
-    (names : List (List ℕ)) (program : ProgramRows) (places : Places) (z : meaning.State) (y : State) (r : Represents names program places z y)
+    (names : List (List ℕ)) (program : ProgramRows) (places : Places) (z : meaning.State) (y : MidState) (r : Represents names program places z y)
     (w x c : ℕ) (v : Value) (values : List (Option Value)) (mark : Value) (j : ℕ)
     (it : ObjectFound names program places z y r v w (instance c values mark)) (inside : j < length values) (place : x ≡ 4 * j)
-    (procedures : List MidProcedure) (below : Task → State → Outcome) (n budget k : ℕ)
+    (procedures : List MidProcedure) (below : Task → MidState → MidOutcome) (n budget k : ℕ)
   where
     taken :
         SlotHolds names program places z y r w x c v values mark j it inside place → k + 250 ≤ budget

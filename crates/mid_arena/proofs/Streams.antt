@@ -7,7 +7,7 @@ use Rattle.lang_meaning.specs.declared.program.ProgramRows.{ProgramRows}
 use Rattle.lang_meaning.specs.declared.primitive.Primitive.TheVariants.{StandardInput, StandardOutput, IsFreshLine, GetByte, PeekByte}
 use Rattle.lang_meaning.specs.Values.{Value, integer, truth}
 use Rattle.lang_meaning.specs.State as meaning
-use Rattle.lang_meaning.specs.Layout.{standard_input, standard_output}
+use Rattle.lang_meaning.specs.InitialHeap.{standard_input, standard_output}
 use Rattle.lang_meaning.specs.Primitives.{result, first_byte, other_bytes, is_fresh_line}
 use Rattle.mid_code.specs.declared.program.MidProcedure.{MidProcedure}
 use Rattle.mid_code.specs.declared.operation.Arithmetic.TheVariants as which
@@ -16,7 +16,7 @@ use Rattle.mid_code.specs.declared.operation.Operation.TheVariants as operation
 use Rattle.base.specs.Arithmetic.{shift_left}
 use Rattle.mid_code.specs.Arena.{Arena, word_at, with_word}
 use Rattle.mid_code.specs.MidCode.{MidStep, perform, return_word, code_of}
-use Rattle.mid_code.specs.State.{Registers, State, Outcome, falls, returns, ends, first_registers}
+use Rattle.mid_code.specs.State.{Registers, MidState, MidOutcome, falls, returns, ends, first_registers}
 use Rattle.mid_code.specs.Meaning.{Task, Context}
 use Rattle.mid_arena.specs.Tags.{nil_word, integer_word}
 use Rattle.mid_arena.specs.Places.{Places, word_of}
@@ -41,8 +41,8 @@ use Rattle.mid_arena.proofs.Arguments.{integer_word_there}
 -- ---- values at fixed addresses
 
 module _
-    (names : List (List ℕ)) (program : ProgramRows) (places : Places) (z : meaning.State) (y : State) (r : Represents names program places z y)
-    (procedures : List MidProcedure) (below : Task → State → Outcome)
+    (names : List (List ℕ)) (program : ProgramRows) (places : Places) (z : meaning.State) (y : MidState) (r : Represents names program places z y)
+    (procedures : List MidProcedure) (below : Task → MidState → MidOutcome)
   where
     returns_fixed :
         (n address : ℕ) (v : Value) → address < 184 → ValueAt places y.arena address v
@@ -77,7 +77,7 @@ word_got [] = integer_word (negsuc 0)
 word_got (byte ∷ bytes) = integer_word (pos byte)
 
 get_left :
-    {c : Context} {rs : Registers} {x : State} (left : List ℕ) → x.input ≡ left
+    {c : Context} {rs : Registers} {x : MidState} (left : List ℕ) → x.input ≡ left
     → StepsTo c (perform (operation.Get 5)) rs x (ends falls (slice_set rs 5 (Some (got left))) (record x { input = other_bytes left; cost = x.cost + 8 }))
 get_left {rs = rs} {x = x} [] e =
     record { same = (get_at_end e).same ∙ ap (λ l. ends falls (slice_set rs 5 (Some (2 ^ 32 - 1))) (record x { input = l; cost = x.cost + 8 })) e }
@@ -114,10 +114,10 @@ peeked a left bytes (looked_at byte e) = one_peeked byte e refl
 
 -- ---- a fixed word is stored
 
-module _ (names : List (List ℕ)) (program : ProgramRows) (places : Places) (z : meaning.State) (y : State) (r : Represents names program places z y) where
+module _ (names : List (List ℕ)) (program : ProgramRows) (places : Places) (z : meaning.State) (y : MidState) (r : Represents names program places z y) where
   -- a value is returned where a word was stored at a fixed address, which is for words that change
   pub returns_stored :
-      (budget address word w : ℕ) (v : Value) (z' : meaning.State) (y' : State) (rs : Registers) → address % 4 ≡ 0 → address ≤ 160
+      (budget address word w : ℕ) (v : Value) (z' : meaning.State) (y' : MidState) (rs : Registers) → address % 4 ≡ 0 → address ≤ 160
       → y'.arena ≡ with_word address word y.arena → word_of places v ≡ Some w → Represents names program places z' y'
       → y'.cost + 250 * z.units ≤ budget + 250 * z'.units
       → Answers names program places z y budget (result v z') (ends (returns w) rs y')
@@ -146,8 +146,8 @@ module _ (names : List (List ℕ)) (program : ProgramRows) (places : Places) (z 
 -- ---- a byte is got
 
 module _
-    (names : List (List ℕ)) (program : ProgramRows) (places : Places) (z : meaning.State) (y : State) (r : Represents names program places z y)
-    (procedures : List MidProcedure) (below : Task → State → Outcome)
+    (names : List (List ℕ)) (program : ProgramRows) (places : Places) (z : meaning.State) (y : MidState) (r : Represents names program places z y)
+    (procedures : List MidProcedure) (below : Task → MidState → MidOutcome)
   where
     abbrev getting : List MidStep
     getting =
@@ -234,8 +234,8 @@ byte_tells byte h = rw (integer_word_of_pos byte (omega arith)) (by byte h)
     by byte h = grind (arith, nat_tests)
 
 module _
-    (names : List (List ℕ)) (program : ProgramRows) (places : Places) (z : meaning.State) (y : State) (r : Represents names program places z y)
-    (procedures : List MidProcedure) (below : Task → State → Outcome)
+    (names : List (List ℕ)) (program : ProgramRows) (places : Places) (z : meaning.State) (y : MidState) (r : Represents names program places z y)
+    (procedures : List MidProcedure) (below : Task → MidState → MidOutcome)
   where
     -- the byte that is got is kept
     peeks_left :
@@ -279,7 +279,7 @@ module _
               (omega arith);
         }
       where
-        after : List ℕ → ℕ → State
+        after : List ℕ → ℕ → MidState
         after bytes byte = record y {
           arena = with_word peeked_address (integer_word (pos byte)) y.arena;
           input = bytes;

@@ -15,7 +15,7 @@ use Rattle.mid_code.specs.declared.operation.Arithmetic.TheVariants as which
 use Rattle.base.specs.Arithmetic.{sum32, shift_left, shift_right}
 use Rattle.mid_code.specs.Arena.{Arena, word_at, with_word}
 use Rattle.mid_code.specs.MidCode.{MidStep, return_word, code_of}
-use Rattle.mid_code.specs.State.{State, Outcome, falls, ends, first_registers}
+use Rattle.mid_code.specs.State.{MidState, MidOutcome, falls, ends, first_registers}
 use Rattle.mid_arena.specs.Tags.{string_header, character_word}
 use Rattle.mid_arena.specs.Places.{Spot, Places, word_of}
 use Rattle.mid_arena.specs.Standing.{ArenaStands, SpotStands}
@@ -69,7 +69,7 @@ string_set a s bytes i c arena stands low small t =
     beside j h other =
         elsewhere (s.address + 8 + 4 * j) (λ e. other (omega arith)) ∙ t.words j h ∙ ap (λ w. Some w) (sym (other_packed bytes i c j other))
 
-module _ (names : List (List ℕ)) (program : ProgramRows) (places : Places) (z : meaning.State) (y : State) (r : Represents names program places z y) where
+module _ (names : List (List ℕ)) (program : ProgramRows) (places : Places) (z : meaning.State) (y : MidState) (r : Represents names program places z y) where
   -- a string stands in the heap or beside the code, so its word and its length are not large
   string_low : (v : Value) (w : ℕ) (bytes : List ℕ) → ObjectFound names program places z y r v w (string bytes) → w + length bytes + 8 < 2 ^ 27
   string_low v w bytes it =
@@ -112,7 +112,7 @@ character_setting = steps.load 4 5 (pos 6) ∷ word_changing ++ (steps.store 4 5
 
 -- what the word is then
 changing_falls :
-    {context : Context} {r1 r3 r5 r6 r7 : Option ℕ} {k : ℕ} (y : State) (a c word old new : ℕ) → byte_in word (byte_shift c) ≡ old → shift_right a 8 ≡ new
+    {context : Context} {r1 r3 r5 r6 r7 : Option ℕ} {k : ℕ} (y : MidState) (a c word old new : ℕ) → byte_in word (byte_shift c) ≡ old → shift_right a 8 ≡ new
     → RunsTo context (code_of word_changing) (Some a ∷ r1 ∷ Some c ∷ r3 ∷ Some word ∷ r5 ∷ r6 ∷ r7 ∷ []) (paid y k)
     (ends falls
     (Some a ∷ r1 ∷ Some c ∷ Some (byte_shift c) ∷ Some (word_changed word old new (byte_shift c)) ∷ r5 ∷ Some 8 ∷ Some (shift_left new (byte_shift c)) ∷ [])
@@ -136,8 +136,8 @@ changing_falls y a c word old new old_is new_is =
     (and_then (compute_falls refl refl) none_left))))))))))))))) (omega arith)
 
 module _
-    (names : List (List ℕ)) (program : ProgramRows) (places : Places) (z : meaning.State) (y : State) (r : Represents names program places z y)
-    (procedures : List MidProcedure) (below : Task → State → Outcome)
+    (names : List (List ℕ)) (program : ProgramRows) (places : Places) (z : meaning.State) (y : MidState) (r : Represents names program places z y)
+    (procedures : List MidProcedure) (below : Task → MidState → MidOutcome)
   where
     -- a character is returned
     character_run :

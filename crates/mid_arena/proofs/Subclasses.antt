@@ -10,11 +10,11 @@ use Rattle.lang_meaning.specs.Objects.{Object, instance, class_object, character
 use Rattle.lang_meaning.specs.State as meaning
 use Rattle.lang_meaning.specs.Lookup.{passed}
 use Rattle.lang_meaning.specs.Classes.{class_of, class_of_object, fetch, precedence, is_below}
-use Rattle.lang_meaning.specs.Layout.{class_value}
+use Rattle.lang_meaning.specs.InitialHeap.{class_value}
 use Rattle.lang_meaning.specs.Primitives.{result, says, a_class, class_name, primitive}
 use Rattle.mid_code.specs.declared.program.MidProcedure.{MidProcedure}
 use Rattle.mid_code.specs.MidCode.{return_word, code_of}
-use Rattle.mid_code.specs.State.{State, Outcome, first_registers}
+use Rattle.mid_code.specs.State.{MidState, MidOutcome, first_registers}
 use Rattle.mid_code.specs.Meaning.{Task}
 use Rattle.mid_arena.specs.Tags.{class_header}
 use Rattle.mid_arena.specs.Places.{Places, word_of}
@@ -108,8 +108,8 @@ class_known names program z built_in there v = by v
 
 -- In a state where the class objects are there, the code of the primitive comes to its answer.
 pub is_instance_run :
-    (names : List (List ℕ)) (program : ProgramRows) (places : Places) (z : meaning.State) (y : State) (procedures : List MidProcedure)
-    (below : Task → State → Outcome) (n w x : ℕ) (v u : Value)
+    (names : List (List ℕ)) (program : ProgramRows) (places : Places) (z : meaning.State) (y : MidState) (procedures : List MidProcedure)
+    (below : Task → MidState → MidOutcome) (n w x : ℕ) (v u : Value)
     → Represents names program places z y → ClassesThere names program z → word_of places v ≡ Some w → word_of places u ≡ Some x
     → units_after names program (primitive names program IsInstance (v ∷ u ∷ []) z) ≤ z.units + n
     → Run names program places z y procedures below n (y.cost + 130 + 244 * 2) (primitive names program IsInstance (v ∷ u ∷ []) z)

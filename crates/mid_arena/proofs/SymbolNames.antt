@@ -15,7 +15,7 @@ use Rattle.mid_code.specs.declared.operation.Operation.TheVariants.{Move, Reques
 use Rattle.mid_code.specs.Arena.{Arena, left, word_at}
 use Rattle.base.specs.Arithmetic.{sum32}
 use Rattle.mid_code.specs.MidCode.{MidStep, perform, return_word, code_of}
-use Rattle.mid_code.specs.State.{State, Outcome, returns, no_room, ends, first_registers}
+use Rattle.mid_code.specs.State.{MidState, MidOutcome, returns, no_room, ends, first_registers}
 use Rattle.mid_code.specs.Meaning.{Task, Context}
 use Rattle.mid_arena.specs.Tags.{object_tag, nil_word, string_header, symbol_header, fresh_header}
 use Rattle.mid_arena.specs.Places.{Spot, end_of, Places, word_of}
@@ -58,8 +58,8 @@ find_lines =
     ∷ steps.either (steps.comparing Equal 7 6) (steps.constant 4 (no_name_address + object_tag) ∷ []) [] ∷ copy_lines
 
 module _
-    (names : List (List ℕ)) (program : ProgramRows) (places : Places) (z : meaning.State) (y : State) (r : Represents names program places z y)
-    (procedures : List MidProcedure) (below : Task → State → Outcome)
+    (names : List (List ℕ)) (program : ProgramRows) (places : Places) (z : meaning.State) (y : MidState) (r : Represents names program places z y)
+    (procedures : List MidProcedure) (below : Task → MidState → MidOutcome)
   where
     -- a text that stands in a spot is copied
     module _ (n p : ℕ) (bytes : List ℕ) (s : Spot) (points : p ≡ s.address + 2) (high : end_of s ≤ y.arena.heap_to) (text : TextAt y.arena s symbol_header bytes) where
@@ -99,7 +99,7 @@ module _
       -- or they are, and the words of the text are copied
       module _ (r0 r7 : Option ℕ) (k : ℕ) (room : 2 + count ≤ left y.arena) (turns : count ≤ n) where
         -- the state where the loop begins
-        abbrev loop_state : State
+        abbrev loop_state : MidState
         loop_state = record y { arena = begun_arena; cost = k + 8 + 6 + 10 + 6 + 10 + 6 + 10 + 20 + 6 + 8 + 8 + 6 + 10 + 10 + 6 }
 
         as_many : length (text_words bytes) ≡ count
@@ -182,8 +182,8 @@ name_of (by_name name) = name
 name_of (by_serial serial) = []
 
 module _
-    (names : List (List ℕ)) (program : ProgramRows) (places : Places) (z : meaning.State) (y : State) (r : Represents names program places z y)
-    (procedures : List MidProcedure) (below : Task → State → Outcome)
+    (names : List (List ℕ)) (program : ProgramRows) (places : Places) (z : meaning.State) (y : MidState) (r : Represents names program places z y)
+    (procedures : List MidProcedure) (below : Task → MidState → MidOutcome)
   where
     -- the text is that of nil, that of the symbol, or an empty one
     find_run :

@@ -9,7 +9,7 @@ use Rattle.lang_meaning.specs.Primitives.{result, Spelt, by_name, by_serial}
 use Rattle.mid_code.specs.declared.program.MidProcedure.{MidProcedure}
 use Rattle.mid_code.specs.declared.operation.Comparison.TheVariants.{Equal, Different}
 use Rattle.mid_code.specs.MidCode.{MidStep, return_word, code_of}
-use Rattle.mid_code.specs.State.{State, Outcome, first_registers}
+use Rattle.mid_code.specs.State.{MidState, MidOutcome, first_registers}
 use Rattle.mid_code.specs.Meaning.{Task}
 use Rattle.mid_arena.specs.Tags.{nil_word, fresh_header}
 use Rattle.mid_arena.specs.Places.{Places, word_of}
@@ -36,8 +36,8 @@ serial_lines =
     ∷ steps.return_if (steps.comparing Different 7 6) 5 ∷ steps.load 5 0 (pos 2) ∷ return_word 5 ∷ []
 
 module _
-    (names : List (List ℕ)) (program : ProgramRows) (places : Places) (z : meaning.State) (y : State) (r : Represents names program places z y)
-    (procedures : List MidProcedure) (below : Task → State → Outcome)
+    (names : List (List ℕ)) (program : ProgramRows) (places : Places) (z : meaning.State) (y : MidState) (r : Represents names program places z y)
+    (procedures : List MidProcedure) (below : Task → MidState → MidOutcome)
   where
     -- the word of nil is nil's own; that of another symbol leads to a header, and to a serial behind it where the symbol has no name
     serial_run :

@@ -8,7 +8,7 @@ use Rattle.lang_meaning.specs.State as meaning
 use Rattle.lang_meaning.specs.Primitives.{primitive}
 use Rattle.mid_code.specs.declared.program.MidProcedure.{MidProcedure}
 use Rattle.mid_code.specs.MidCode.{code_of}
-use Rattle.mid_code.specs.State.{Registers, State, Outcome, first_registers}
+use Rattle.mid_code.specs.State.{Registers, MidState, MidOutcome, first_registers}
 use Rattle.mid_code.specs.Meaning.{Task}
 use Rattle.mid_arena.specs.Places.{Places, WordsOf}
 use Rattle.mid_arena.specs.Represents.{Represents}
@@ -27,8 +27,8 @@ two_registers a b = first_registers 8 (a ∷ b ∷ [])
 -- The code of a primitive, at such arguments in the first registers, comes to its answer, where so many units as the answer takes are left for turns.
 abbrev pub CodeDoes : Primitive → List Value → List ℕ → Type 0
 CodeDoes which vs ws =
-    (names : List (List ℕ)) (program : ProgramRows) (places : Places) (z : meaning.State) (y : State) (procedures : List MidProcedure)
-    (below : Task → State → Outcome) (n : ℕ)
+    (names : List (List ℕ)) (program : ProgramRows) (places : Places) (z : meaning.State) (y : MidState) (procedures : List MidProcedure)
+    (below : Task → MidState → MidOutcome) (n : ℕ)
     → Represents names program places z y → WordsOf places vs ws
     → units_after names program (primitive names program which vs z) ≤ z.units + n
     → Run names program places z y procedures below n (y.cost + 130 + 244 * arity which) (primitive names program which vs z)

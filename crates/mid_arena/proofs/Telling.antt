@@ -9,7 +9,7 @@ use Rattle.lang_meaning.specs.State as meaning
 use Rattle.lang_meaning.specs.Classes.{fetch}
 use Rattle.lang_meaning.specs.Primitives.{as_integer, as_character, as_cons, as_string, as_vector, as_class, as_instance, as_stream, fresh_in, as_symbol, Spelt, by_serial}
 use Rattle.mid_code.specs.Arena.{Arena, word_at}
-use Rattle.mid_code.specs.State.{State}
+use Rattle.mid_code.specs.State.{MidState}
 use Rattle.mid_arena.specs.Tags.{cons_tag, object_tag, integer_word, nil_word, character_word, string_header, vector_header}
 use Rattle.mid_arena.specs.Tags.{class_header, input_header, output_header, symbol_header, fresh_header, tag_of}
 use Rattle.mid_arena.specs.Places.{Places, word_of}
@@ -97,7 +97,7 @@ instance_not_fresh n = grind (arith, nat_tests)
 
 -- ---- what the tag and the header decide
 
-module _ (names : List (List ℕ)) (program : ProgramRows) (places : Places) (z : meaning.State) (y : State) (r : Represents names program places z y) where
+module _ (names : List (List ℕ)) (program : ProgramRows) (places : Places) (z : meaning.State) (y : MidState) (r : Represents names program places z y) where
   module _ (p : Option Object → Bool) (is_kind : ℕ → Bool) (k : IsKindOf p is_kind) where
     -- what has another tag
     by_other_tag :

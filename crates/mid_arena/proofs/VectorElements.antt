@@ -14,7 +14,7 @@ use Rattle.mid_code.specs.declared.operation.Arithmetic.TheVariants as which
 use Rattle.base.specs.Arithmetic.{sum32}
 use Rattle.mid_code.specs.Arena.{Arena, word_at, with_word}
 use Rattle.mid_code.specs.MidCode.{MidStep, return_word}
-use Rattle.mid_code.specs.State.{State, first_registers}
+use Rattle.mid_code.specs.State.{MidState, first_registers}
 use Rattle.mid_arena.specs.Places.{Spot, Places, word_of}
 use Rattle.mid_arena.specs.Standing.{ArenaStands, SpotStands, ValueAt}
 use Rattle.mid_arena.specs.Layouts.{VectorAt}
@@ -65,7 +65,7 @@ vector_set places a s vs i w v arena stands low word t =
           stands = elsewhere (s.address + 8 + 4 * j) (λ e. other (omega arith)) ∙ at.stands;
         }
 
-module _ (names : List (List ℕ)) (program : ProgramRows) (places : Places) (z : meaning.State) (y : State) (r : Represents names program places z y) where
+module _ (names : List (List ℕ)) (program : ProgramRows) (places : Places) (z : meaning.State) (y : MidState) (r : Represents names program places z y) where
   -- a vector stands in the heap or beside the code, so its word and its length are not large
   vector_low : (v : Value) (w : ℕ) (vs : List Value) → ObjectFound names program places z y r v w (vector vs) → w + 4 * length vs + 8 < 2 ^ 27
   vector_low v w vs it =

@@ -7,11 +7,11 @@ use Rattle.lang_meaning.specs.Values.{Value, nil, object}
 use Rattle.lang_meaning.specs.Objects.{instance, function, fresh_symbol, domain_error_class}
 use Rattle.lang_meaning.specs.State.{stored}
 use Rattle.lang_meaning.specs.State as meaning
-use Rattle.lang_meaning.specs.Layout.{class_value}
+use Rattle.lang_meaning.specs.InitialHeap.{class_value}
 use Rattle.lang_meaning.specs.Primitives.{Answer, result, makes, makes_symbol, fails, domain_error, instance_words, primitive}
 use Rattle.mid_code.specs.declared.program.MidProcedure.{MidProcedure}
 use Rattle.mid_code.specs.Arena.{Arena, left}
-use Rattle.mid_code.specs.State.{State, returns, no_room, Outcome}
+use Rattle.mid_code.specs.State.{MidState, returns, no_room, MidOutcome}
 use Rattle.mid_code.specs.Meaning.{Task, enter, turns}
 use Rattle.mid_arena.specs.Tags.{object_tag, signal_word, tag_of}
 use Rattle.mid_arena.specs.Places.{Spot, Places, of_object, spot_of, with_object, word_of, WordsOf}
@@ -29,7 +29,7 @@ pub record Enlarged (earlier later : Arena) (words : ℕ) : Type 0 where
 
 -- Where functions stand, and in the spots that code has for itself but the first, the words are as they were: of a state of the
 -- meaning, and from one arena to a later one.
-pub record Kept (places : Places) (z : meaning.State) (earlier later : Arena) : Type 0 where
+pub record KeepsFunctions (places : Places) (z : meaning.State) (earlier later : Arena) : Type 0 where
   pub functions :
       (i p : ℕ) (s : Spot) → slice_get z.store i ≡ Some (function p) → spot_of places (of_object i) ≡ Some s
       → SameWords earlier later s
@@ -52,35 +52,35 @@ module _ (names : List (List ℕ)) (program : ProgramRows) where
   units_after (domain_error v expected z) = z.units + instance_words program domain_error_class 2
 
   -- a run from a state of the arena, where the meaning was in that state, in a frame of so many words
-  module _ (places : Places) (start : meaning.State) (before : State) where
+  module _ (places : Places) (start : meaning.State) (before : MidState) where
     -- the spot of an object that is made
     abbrev pub new_spot : (words tag : ℕ) → Spot
     new_spot words tag = record { address = before.arena.heap_to; words = words; tag = tag }
 
     -- it returned with the word of a value, where things stand so, and the state is that one
-    pub record Returned (after : Places) (v : Value) (z : meaning.State) (words : ℕ) (r : Outcome) : Type 0 where
+    pub record Returned (after : Places) (v : Value) (z : meaning.State) (words : ℕ) (r : MidOutcome) : Type 0 where
       pub word : ℕ
       pub end : r.end ≡ returns word
       pub of_value : word_of after v ≡ Some word
       pub represents : Represents names program after z r.state
       pub arena : Enlarged before.arena r.state.arena words
       pub blocks : r.state.arena.blocks ≡ before.arena.blocks
-      pub kept : Kept places start before.arena r.state.arena
+      pub kept : KeepsFunctions places start before.arena r.state.arena
 
     -- it returned, and the condition that it made, of a class with these slots, stands to be signalled
-    pub record Pending (after : Places) (class : ℕ) (slots : List Value) (z : meaning.State) (words : ℕ) (r : Outcome) : Type 0 where
+    pub record Pending (after : Places) (class : ℕ) (slots : List Value) (z : meaning.State) (words : ℕ) (r : MidOutcome) : Type 0 where
       pub end : r.end ≡ returns signal_word
       pub represents : Represents names program after (stored (instance class (map (λ v. Some v) slots) nil) z) r.state
       pub pending : ValueAt after r.state.arena pending_address (object (length z.store))
       pub arena : Enlarged before.arena r.state.arena words
       pub blocks : r.state.arena.blocks ≡ before.arena.blocks
-      pub kept : Kept places start before.arena r.state.arena
+      pub kept : KeepsFunctions places start before.arena r.state.arena
 
-    abbrev pub Signalled : (class : ℕ) → List Value → meaning.State → Outcome → Type 0
+    abbrev pub Signalled : (class : ℕ) → List Value → meaning.State → MidOutcome → Type 0
     Signalled class slots z r =
         Pending (with_object (new_spot (instance_words program class (length slots)) object_tag) places) class slots z (instance_words program class (length slots)) r
 
-    abbrev pub Done : Answer → Outcome → Type 0
+    abbrev pub Done : Answer → MidOutcome → Type 0
     Done (result v z) r = Returned places v z 0 r
     Done (makes size besides o z) r =
         Returned (with_object (new_spot size (tag_of o)) places) (object (length z.store)) (stored o z) size r
@@ -91,34 +91,34 @@ module _ (names : List (List ℕ)) (program : ProgramRows) where
     Done (domain_error v expected z) r = Signalled domain_error_class (v ∷ class_value names program expected ∷ []) z r
 
     -- it asked for words that were not left, when the words of its frame were taken, or for these; nothing else changed
-    pub record RoomWanting (frame_words asked : ℕ) (r : Outcome) : Type 0 where
+    pub record RoomWanting (frame_words asked : ℕ) (r : MidOutcome) : Type 0 where
       pub asked_for : ℕ
       pub left_then : ℕ
       pub end : r.end ≡ no_room asked_for left_then
       pub wanting : left_then < asked_for
       pub together : left before.arena < frame_words + asked
       pub represents : Represents names program places start r.state
-      pub kept : Kept places start before.arena r.state.arena
+      pub kept : KeepsFunctions places start before.arena r.state.arena
 
-    pub data Comes (frame_words : ℕ) (answer : Answer) (r : Outcome) : Type 0 where
+    pub data Comes (frame_words : ℕ) (answer : Answer) (r : MidOutcome) : Type 0 where
       done : Done answer r → Comes frame_words answer r
       no_words : RoomWanting frame_words (words_asked answer) r → Comes frame_words answer r
 
     -- a run costs at most 250 for each argument and each unit behind it, and 150
-    abbrev pub IsWithin : (arguments : ℕ) → Answer → Outcome → Type 0
+    abbrev pub IsWithin : (arguments : ℕ) → Answer → MidOutcome → Type 0
     IsWithin arguments answer r =
         r.state.cost + 250 * start.units ≤ before.cost + 150 + 250 * (arguments + units_after answer)
 
   -- The procedure of a primitive: entered with the words of its arguments, and with a turn for each unit that the primitive is charged, it
   -- comes to the primitive's answer, within its cost.
-  pub record DoesPrimitive (which : Primitive) (procedure : MidProcedure) (places : Places) (z : meaning.State) (y : State) (vs : List Value) (r : Outcome) : Type 0 where
+  pub record DoesPrimitive (which : Primitive) (procedure : MidProcedure) (places : Places) (z : meaning.State) (y : MidState) (vs : List Value) (r : MidOutcome) : Type 0 where
     pub comes : Comes places z y procedure.frame (primitive names program which vs z) r
     pub cost : IsWithin places z y (arity which) (primitive names program which vs z) r
 
 abbrev pub IsPrimitive : Primitive → MidProcedure → Type 0
 IsPrimitive which procedure =
-    (names : List (List ℕ)) (program : ProgramRows) (procedures : List MidProcedure) (below : Task → State → Outcome) (n : ℕ)
-    (places : Places) (z : meaning.State) (y : State) (vs : List Value) (ws : List ℕ)
+    (names : List (List ℕ)) (program : ProgramRows) (procedures : List MidProcedure) (below : Task → MidState → MidOutcome) (n : ℕ)
+    (places : Places) (z : meaning.State) (y : MidState) (vs : List Value) (ws : List ℕ)
     → Represents names program places z y → WordsOf places vs ws → length vs ≡ arity which
     → units_after names program (primitive names program which vs z) ≤ z.units + n
     → DoesPrimitive names program which procedure places z y vs (turns procedures below (suc n) (enter procedure ws) y)

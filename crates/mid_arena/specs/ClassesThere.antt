@@ -5,7 +5,7 @@ use Rattle.lang_meaning.specs.Values.{Value}
 use Rattle.lang_meaning.specs.Objects.{instance, class_object}
 use Rattle.lang_meaning.specs.State as meaning
 use Rattle.lang_meaning.specs.Classes.{fetch}
-use Rattle.lang_meaning.specs.Layout.{class_value}
+use Rattle.lang_meaning.specs.InitialHeap.{class_value}
 
 -- The value of each class of the program is the class object of that class, each class object is the value of its class, and each instance is
 -- of a class of the program.

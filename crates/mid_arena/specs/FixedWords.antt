@@ -4,7 +4,7 @@ use Rattle.std.specs.Prelude.{◌≡◌, ℕ, ◌*◌, ◌%◌, ◌^◌, ◌<◌
 use Rattle.lang_meaning.specs.declared.program.ProgramRows.{ProgramRows}
 use Rattle.lang_meaning.specs.Values.{t, truth}
 use Rattle.lang_meaning.specs.Objects.{built_in_classes}
-use Rattle.lang_meaning.specs.Layout.{class_value, standard_input, standard_output}
+use Rattle.lang_meaning.specs.InitialHeap.{class_value, standard_input, standard_output}
 use Rattle.lang_meaning.specs.Primitives.{is_fresh_line}
 use Rattle.mid_code.specs.Arena.{Arena, word_at}
 use Rattle.mid_arena.specs.Tags.{integer_word, nil_word, object_tag, symbol_header}

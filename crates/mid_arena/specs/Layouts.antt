@@ -6,7 +6,7 @@ use Rattle.lang_meaning.specs.Values.{SymbolValue, named, unnamed, Value, symbol
 use Rattle.lang_meaning.specs.Objects.{Object, cons, string, vector, instance, function, closure, generic_function, class_object, input_stream, output_stream, fresh_symbol, serious_condition_class}
 use Rattle.lang_meaning.specs.Lookup.{text}
 use Rattle.lang_meaning.specs.Classes.{precedence, slots, is_below}
-use Rattle.lang_meaning.specs.Layout.{class_value, initargs_value, initform_value}
+use Rattle.lang_meaning.specs.InitialHeap.{class_value, initargs_value, initform_value}
 use Rattle.lang_meaning.specs.Primitives.{class_name, can_be_made, instance_words}
 use Rattle.mid_code.specs.Arena.{Arena, word_at}
 use Rattle.mid_arena.specs.Tags.{cons_tag, object_tag, string_header, vector_header, instance_header, function_header, generic_header, class_header, input_header, output_header, symbol_header, fresh_header}

@@ -6,14 +6,14 @@ use Rattle.lang_meaning.specs.Facts.{begins_with_built_in}
 use Rattle.lang_meaning.specs.Values.{SymbolValue, named}
 use Rattle.lang_meaning.specs.Objects.{Object}
 use Rattle.lang_meaning.specs.State as meaning
-use Rattle.mid_code.specs.State.{State}
+use Rattle.mid_code.specs.State.{MidState}
 use Rattle.mid_arena.specs.Places.{Spot, Places, Owner, of_object, of_symbol, spot_of}
 use Rattle.mid_arena.specs.Standing.{ArenaStands, SpotStands, AllApart}
 use Rattle.mid_arena.specs.ClassesThere.{ClassesThere}
 use Rattle.mid_arena.specs.FixedWords.{nil_text, FixedStand}
 use Rattle.mid_arena.specs.Layouts.{AreBytes, ObjectAt, SymbolAt}
 
-pub record Represents (names : List (List ℕ)) (program : ProgramRows) (places : Places) (z : meaning.State) (y : State) : Type 0 where
+pub record Represents (names : List (List ℕ)) (program : ProgramRows) (places : Places) (z : meaning.State) (y : MidState) : Type 0 where
   pub built_in : begins_with_built_in program.classes built_in_precedence built_in_slots ≡ true
   pub arena : ArenaStands y.arena
   pub spots : (p : Owner) (s : Spot) → spot_of places p ≡ Some s → SpotStands y.arena s

@@ -5,7 +5,7 @@ ghost use Rattle.mid_arena.specs.Steps.{steps_of};
 ghost use Rattle.mid_arena.specs.declared.line.Line.TheVariants as line;
 
 use crate::steps::{
-    comparing, compute_by, constant, either, give, load, return_if, store, while_below,
+    comparing, compute_by, constant, either, load, return_if, return_word, store, while_below,
 };
 use crate::words::TRUE_AT;
 use base::NoMemory;
@@ -41,7 +41,7 @@ pub fn search_class(code: &mut Code, alloc: Global) -> Result<(), NoMemory>
     let mut found = Code::new(alloc);
     found.push(constant(7, 0))?;
     found.push(load(7, 7, TRUE_AT))?;
-    found.push(give(7))?;
+    found.push(return_word(7))?;
     let mut body = Code::new(alloc);
     body.push(load(7, 5, 0))?;
     body.push(either(comparing(Comparison::Equal, 7, 4), found, Code::new(alloc)))?;

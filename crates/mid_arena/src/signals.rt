@@ -3,10 +3,10 @@
 ghost use Rattle.std.specs.Prelude.{◌≡◌, ◌++◌, OnOk, IfOk};
 ghost use Rattle.mid_arena.specs.Steps as steps;
 
-use crate::steps::{compute, constant, either, give, load, store};
+use crate::steps::{compute, constant, either, load, return_word, store};
 use crate::words::{DOMAIN_ERROR, NIL, OBJECT, PENDING_AT, SIGNAL};
 use base::NoMemory;
-use mid_code::{Arithmetic, Code, Operation, Register, Step, StepKind, Test};
+use mid_code::{Arithmetic, Code, CodeStep, Operation, Register, StepKind, Test};
 use std::alloc::Global;
 
 /// A condition that was made is handed over: its address is in register 3, and 0 in register 5.
@@ -18,7 +18,7 @@ fn hand_over(code: &mut Code) -> Result<(), NoMemory>
     code.push(compute(3, Arithmetic::Add, 3, 4))?;
     code.push(store(3, 5, PENDING_AT))?;
     code.push(constant(4, SIGNAL))?;
-    code.push(give(4))
+    code.push(return_word(4))
 }
 
 /// So many words for an instance, with its header and its class, whose word stands at that address.
@@ -26,7 +26,7 @@ fn begin_instance(code: &mut Code, words: u32, header: u32, class: i32) -> Resul
     ensures { OnOk result (code.new ≡ code.old ++ steps.begin_instance words header class) }
 {
     code.push(constant(3, words))?;
-    code.push(Step::new(StepKind::Do(Operation::Request { to: 3, words: 3 })))?;
+    code.push(CodeStep::new(StepKind::Do(Operation::Request { to: 3, words: 3 })))?;
     code.push(constant(5, 0))?;
     code.push(constant(4, header))?;
     code.push(store(4, 3, 0))?;
@@ -65,7 +65,7 @@ pub fn domain_error(alloc: Global, of: Register, class: i32) -> Result<Code, NoM
 }
 
 /// A test has to hold, or a condition without slots is signalled.
-pub fn signal_unless(alloc: Global, test: Test, class: i32) -> Result<Step, NoMemory>
+pub fn signal_unless(alloc: Global, test: Test, class: i32) -> Result<CodeStep, NoMemory>
     ensures { IfOk result (λ s. s ≡ steps.signal_unless test class) }
 {
     let error = signal(alloc, class)?;

@@ -6,7 +6,7 @@ ghost use Rattle.mid_arena.specs.Steps.{steps_of};
 ghost use Rattle.mid_arena.specs.declared.line.Line.TheVariants as line;
 
 use crate::signals::signal_unless;
-use crate::steps::{comparing, compute, compute_by, give, load};
+use crate::steps::{comparing, compute, compute_by, load, return_word};
 use crate::tests::{need_instance, need_integer};
 use crate::words::{HEADER, PROGRAM_ERROR, SECOND, STANDARD_OBJECT};
 use base::NoMemory;
@@ -41,6 +41,6 @@ pub fn slot_word(code: &mut Code, offset: i32) -> Result<(), NoMemory>
     compute_by(code, 5, Arithmetic::Multiply, 1, 3)?;
     code.push(compute(4, Arithmetic::Add, 4, 5))?;
     code.push(load(5, 4, offset))?;
-    code.push(give(5))?;
+    code.push(return_word(5))?;
     Ok(())
 }

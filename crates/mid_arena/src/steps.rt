@@ -5,21 +5,23 @@ ghost use Rattle.mid_code.specs.MidCode.{return_word};
 ghost use Rattle.mid_arena.specs.Steps as steps;
 
 use base::NoMemory;
-use mid_code::{Arithmetic, Code, Comparison, Counted, Operation, Register, Step, StepKind, Test};
+use mid_code::{
+    Arithmetic, Code, CodeStep, Comparison, Counted, Operation, Register, StepKind, Test,
+};
 use std::alloc::Global;
 
 /// The word.
-pub fn constant(to: Register, word: u32) -> Step
+pub fn constant(to: Register, word: u32) -> CodeStep
     ensures { result ≡ steps.constant to word }
 {
-    Step::new(StepKind::Do(Operation::Constant { to, word }))
+    CodeStep::new(StepKind::Do(Operation::Constant { to, word }))
 }
 
 /// What is computed of two words.
-pub fn compute(to: Register, which: Arithmetic, first: Register, second: Register) -> Step
+pub fn compute(to: Register, which: Arithmetic, first: Register, second: Register) -> CodeStep
     ensures { result ≡ steps.compute to which first second }
 {
-    Step::new(StepKind::Do(Operation::Compute {
+    CodeStep::new(StepKind::Do(Operation::Compute {
         to,
         which,
         first,
@@ -28,24 +30,24 @@ pub fn compute(to: Register, which: Arithmetic, first: Register, second: Registe
 }
 
 /// The word at an offset from a word.
-pub fn load(to: Register, base: Register, offset: i32) -> Step
+pub fn load(to: Register, base: Register, offset: i32) -> CodeStep
     ensures { result ≡ steps.load to base offset }
 {
-    Step::new(StepKind::Do(Operation::Load { to, base, offset }))
+    CodeStep::new(StepKind::Do(Operation::Load { to, base, offset }))
 }
 
 /// Stores the word at an offset from a word.
-pub fn store(from: Register, base: Register, offset: i32) -> Step
+pub fn store(from: Register, base: Register, offset: i32) -> CodeStep
     ensures { result ≡ steps.store from base offset }
 {
-    Step::new(StepKind::Do(Operation::Store { from, base, offset }))
+    CodeStep::new(StepKind::Do(Operation::Store { from, base, offset }))
 }
 
 /// Ends with the word.
-pub fn give(from: Register) -> Step
+pub fn return_word(from: Register) -> CodeStep
     ensures { result ≡ return_word from }
 {
-    Step::new(StepKind::Return(from))
+    CodeStep::new(StepKind::Return(from))
 }
 
 /// A test of two registers.
@@ -60,17 +62,17 @@ pub fn comparing(comparison: Comparison, first: Register, second: Register) -> T
 }
 
 /// The first code where the test holds, else the second.
-pub fn either(test: Test, first: Code, second: Code) -> Step
+pub fn either(test: Test, first: Code, second: Code) -> CodeStep
     ensures { result ≡ steps.either test first second }
 {
-    Step::new(StepKind::Choose(test, first, second))
+    CodeStep::new(StepKind::Choose(test, first, second))
 }
 
 /// A loop of a routine, as long as one word is below another.
-pub fn while_below(alloc: Global, first: Register, second: Register, body: Code) -> Step
+pub fn while_below(alloc: Global, first: Register, second: Register, body: Code) -> CodeStep
     ensures { result ≡ steps.while_below first second body }
 {
-    Step::new(StepKind::Repeat {
+    CodeStep::new(StepKind::Repeat {
         counted: Counted::Turn,
         head: Code::new(alloc),
         test: comparing(Comparison::LessUnsigned, first, second),
@@ -79,11 +81,11 @@ pub fn while_below(alloc: Global, first: Register, second: Register, body: Code)
 }
 
 /// Ends with the word, where the test holds.
-pub fn return_if(alloc: Global, test: Test, from: Register) -> Result<Step, NoMemory>
+pub fn return_if(alloc: Global, test: Test, from: Register) -> Result<CodeStep, NoMemory>
     ensures { IfOk result (λ s. s ≡ steps.return_if test from) }
 {
     let mut ending = Code::new(alloc);
-    ending.push(give(from))?;
+    ending.push(return_word(from))?;
     Ok(either(test, ending, Code::new(alloc)))
 }
 

@@ -3,7 +3,7 @@
 ghost use Rattle.std.specs.Prelude.{◌≡◌, ◌++◌, IfOk, OnOk};
 ghost use Rattle.mid_arena.specs.Steps as steps;
 
-use crate::steps::{comparing, compute_by, constant, give, load, return_if};
+use crate::steps::{comparing, compute_by, constant, load, return_if, return_word};
 use crate::words::{HEADER, NIL, OBJECT_BITS, TRUE_AT};
 use base::NoMemory;
 use mid_code::{Arithmetic, Code, Comparison, Test};
@@ -17,7 +17,7 @@ pub fn says(code: &mut Code, alloc: Global, test: Test) -> Result<(), NoMemory>
     code.push(load(5, 5, TRUE_AT))?;
     code.push(return_if(alloc, test, 5)?)?;
     code.push(constant(5, NIL))?;
-    code.push(give(5))
+    code.push(return_word(5))
 }
 
 /// Ends with t where the argument is an object with one of so many headers, else with nil.
@@ -35,6 +35,6 @@ pub fn says_header(alloc: Global, header: u32, count: u32) -> Result<Code, NoMem
     code.push(return_if(alloc, comparing(Comparison::AtLeastUnsigned, 7, 6), 5)?)?;
     code.push(constant(5, 0))?;
     code.push(load(5, 5, TRUE_AT))?;
-    code.push(give(5))?;
+    code.push(return_word(5))?;
     Ok(code)
 }

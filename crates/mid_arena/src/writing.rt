@@ -18,7 +18,7 @@ use crate::loops::{copy_words, fill, search_class, search_slot};
 use crate::signals::{signal, signal_unless};
 use crate::slot_words::{need_place, slot_word};
 use crate::steps::{
-    comparing, compute, compute_by, constant, either, give, load, return_if, store,
+    comparing, compute, compute_by, constant, either, load, return_if, return_word, store,
 };
 use crate::tests::{
     need_character, need_header, need_index, need_instance, need_integers, need_length,
@@ -27,7 +27,7 @@ use crate::tests::{
 use crate::truths::{says, says_header};
 use base::NoMemory;
 use lang_meaning::Primitive;
-use mid_code::{Code, Counted, MidProcedure, Operation, Step, StepKind};
+use mid_code::{Code, CodeStep, Counted, MidProcedure, Operation, StepKind};
 use std::alloc::Global;
 
 /// The registers of each primitive's code, and the words that an activation of it has for itself: one for each register, and two more.
@@ -39,7 +39,7 @@ pub const FRAME_WORDS: u32 = 10;
 fn operation(code: &mut Code, operation: Operation) -> Result<(), NoMemory>
     ensures { OnOk result (code.new ≡ code.old ++ perform operation ∷ []) }
 {
-    code.push(Step::new(StepKind::Do(operation)))
+    code.push(CodeStep::new(StepKind::Do(operation)))
 }
 
 // Appends the steps of a line.
@@ -70,7 +70,7 @@ fn write(code: &mut Code, alloc: Global, line: Line) -> Result<(), NoMemory>
         Line::Request(to, words) => operation(code, Operation::Request { to, words }),
         Line::Put(from) => operation(code, Operation::Put { from }),
         Line::Get(to) => operation(code, Operation::Get { to }),
-        Line::Return(from) => code.push(give(from)),
+        Line::Return(from) => code.push(return_word(from)),
         Line::ReturnIf(how, first, second, from) => {
             code.push(return_if(alloc, comparing(how, first, second), from)?)
         }

@@ -13,7 +13,7 @@ use Rattle.mid_code.specs.declared.program.MidProcedure.{MidProcedure}
 use Rattle.mid_code.specs.declared.program.MidProgram.{MidProgram}
 use Rattle.mid_code.specs.MidCode.{MidStep, perform, choose, repeat, with_block, return_word, cut_to, halt_with, end_unhandled, MidCode, no_step, step_and, code_of}
 use Rattle.mid_code.specs.Arena.{Block, activation_frame, closed_record, is_record, is_open, record_of, lent_from, with_blocks, blocks_from, outside_of, blocks_outside, blocks_closed}
-use Rattle.mid_code.specs.State.{Registers, State, End, falls, returns, cuts, no_level, no_turn, stuck, Outcome, Next, ends, with_arena, gives, go_on, with_some, choose_by, with_registers, jumped, landed}
+use Rattle.mid_code.specs.State.{Registers, MidState, End, falls, returns, cuts, no_level, no_turn, stuck, MidOutcome, Next, ends, with_arena, gives, go_on, with_some, choose_by, with_registers, jumped, landed}
 use Rattle.mid_code.specs.Meaning.{store, cut, give_back, run_landing, with_record, get_from, test, Task, enter, again, Context, context_of, called, leaves, count, with_callee, operate, exec, exec_step, run_procedure, run_task, turns, levels, at_top, runs}
 use Rattle.mid_code.specs.BlockLaw.{OuterPart, is_innermost_open, CutBlocks, CodeEnded, ProcedureEnded, TaskEnded, context_in, LawOfBlocks}
 
@@ -102,91 +102,91 @@ closed_blocks outside b bs all left same e = from (is_open b.kind && (length bs 
 -- combinators
 
 with_some_ended :
-    {X : Type 0} (Q : Outcome → Type 0) (o : Option X) (next : X → Next) (rs : Registers) (z : State) → Q (ends stuck rs z)
+    {X : Type 0} (Q : MidOutcome → Type 0) (o : Option X) (next : X → Next) (rs : Registers) (z : MidState) → Q (ends stuck rs z)
     → ((x : X) → o ≡ Some x → Q (next x rs z)) → Q (with_some o next rs z)
 unfolding with_some
 with_some_ended Q None next rs z g h = g
 with_some_ended Q (Some x) next rs z g h = h x refl
 
 choose_ended :
-    (Q : Outcome → Type 0) (b : Bool) (first second : Next) (rs : Registers) (z : State) → (b ≡ true → Q (first rs z))
+    (Q : MidOutcome → Type 0) (b : Bool) (first second : Next) (rs : Registers) (z : MidState) → (b ≡ true → Q (first rs z))
     → (b ≡ false → Q (second rs z)) → Q (choose_by b first second rs z)
 unfolding choose_by
 choose_ended Q true first second rs z g h = g refl
 choose_ended Q false first second rs z g h = h refl
 
 -- code that falls out with the same blocks, or that is stuck
-fell : (rs : Registers) (z : State) → CodeEnded z.arena.blocks (ends falls rs z)
+fell : (rs : Registers) (z : MidState) → CodeEnded z.arena.blocks (ends falls rs z)
 fell rs z = record { blocks = refl }
 
-stuck_there : (bs : List Block) (rs : Registers) (z : State) → CodeEnded bs (ends stuck rs z)
+stuck_there : (bs : List Block) (rs : Registers) (z : MidState) → CodeEnded bs (ends stuck rs z)
 stuck_there bs rs z = record { blocks = tt }
 
 some_ended :
-    {X : Type 0} (bs : List Block) (o : Option X) (next : X → Next) (rs : Registers) (z : State) → ((x : X) → CodeEnded bs (next x rs z))
+    {X : Type 0} (bs : List Block) (o : Option X) (next : X → Next) (rs : Registers) (z : MidState) → ((x : X) → CodeEnded bs (next x rs z))
     → CodeEnded bs (with_some o next rs z)
 some_ended bs o next rs z h = with_some_ended (CodeEnded bs) o next rs z (stuck_there bs rs z) (λ x e. h x)
 
 with_registers_ended :
-    (bs : List Block) (list : List ℕ) (next : List ℕ → Next) (rs : Registers) (z : State) → ((ws : List ℕ) → CodeEnded bs (next ws rs z))
+    (bs : List Block) (list : List ℕ) (next : List ℕ → Next) (rs : Registers) (z : MidState) → ((ws : List ℕ) → CodeEnded bs (next ws rs z))
     → CodeEnded bs (with_registers list next rs z)
 unfolding with_registers
 with_registers_ended bs [] next rs z h = h []
 with_registers_ended bs (r ∷ more) next rs z h =
     some_ended bs _ _ rs z (λ w. with_registers_ended bs more (λ ws. next (w ∷ ws)) rs z (λ ws. h (w ∷ ws)))
 
-go_on_ended : (bs : List Block) (r : Outcome) (next : Next) → CodeEnded bs r → ((rs : Registers) (y : State) → CodeEnded y.arena.blocks (next rs y)) → CodeEnded bs (go_on r next)
+go_on_ended : (bs : List Block) (r : MidOutcome) (next : Next) → CodeEnded bs r → ((rs : Registers) (y : MidState) → CodeEnded y.arena.blocks (next rs y)) → CodeEnded bs (go_on r next)
 unfolding go_on
 go_on_ended bs r next g h = from r.end r.registers r.state g
   where
-    from : (e : End) (rs : Registers) (z : State) → CodeEnded bs (ends e rs z) → CodeEnded bs (go_on (ends e rs z) next)
+    from : (e : End) (rs : Registers) (z : MidState) → CodeEnded bs (ends e rs z) → CodeEnded bs (go_on (ends e rs z) next)
     from falls rs z g = subst (λ l. CodeEnded l (next rs z)) g.blocks (h rs z)
     from e rs z g = g
 
-jumped_ended : (bs : List Block) (r : Outcome) → CodeEnded bs r → CodeEnded bs (jumped r)
+jumped_ended : (bs : List Block) (r : MidOutcome) → CodeEnded bs r → CodeEnded bs (jumped r)
 jumped_ended bs r g = go_on_ended bs r _ g (λ rs y. record { blocks = refl })
 
-called_ended : (bs : List Block) (r : Outcome) (to : ℕ) (own : Registers) → ProcedureEnded bs r → CodeEnded bs (called r to own)
+called_ended : (bs : List Block) (r : MidOutcome) (to : ℕ) (own : Registers) → ProcedureEnded bs r → CodeEnded bs (called r to own)
 unfolding called
 called_ended bs r to own g = from r.end r.registers r.state g
   where
-    from : (e : End) (rs : Registers) (z : State) → ProcedureEnded bs (ends e rs z) → CodeEnded bs (called (ends e rs z) to own)
+    from : (e : End) (rs : Registers) (z : MidState) → ProcedureEnded bs (ends e rs z) → CodeEnded bs (called (ends e rs z) to own)
     from falls rs z g = absurd g.blocks
     from (returns w) rs z g = record { blocks = g.blocks }
     from (cuts n w) rs z g = record { blocks = g.blocks }
     from e rs z g = record { blocks = tt }
 
 -- the body of a procedure, which has laid a block that is no open record
-leaves_ended : (b : Block) (bs : List Block) (r : Outcome) → is_open b.kind ≡ false → CodeEnded (b ∷ bs) r → ProcedureEnded bs (leaves bs r)
+leaves_ended : (b : Block) (bs : List Block) (r : MidOutcome) → is_open b.kind ≡ false → CodeEnded (b ∷ bs) r → ProcedureEnded bs (leaves bs r)
 unfolding leaves
 leaves_ended b bs r h g = from r.end r.registers r.state g
   where
-    from : (e : End) (rs : Registers) (z : State) → CodeEnded (b ∷ bs) (ends e rs z) → ProcedureEnded bs (leaves bs (ends e rs z))
+    from : (e : End) (rs : Registers) (z : MidState) → CodeEnded (b ∷ bs) (ends e rs z) → ProcedureEnded bs (leaves bs (ends e rs z))
     from (returns w) rs z g = record { blocks = refl }
     from (cuts n w) rs z g = record { blocks = cut_passes n b bs z.arena.blocks h g.blocks }
     from e rs z g = record { blocks = tt }
 
 -- control records
 
-give_back_ended : (outside : ℕ) (b : Block) (bs : List Block) (rs : Registers) (z : State) → z.arena.blocks ≡ b ∷ bs → CodeEnded bs (give_back outside rs z)
+give_back_ended : (outside : ℕ) (b : Block) (bs : List Block) (rs : Registers) (z : MidState) → z.arena.blocks ≡ b ∷ bs → CodeEnded bs (give_back outside rs z)
 give_back_ended outside b bs rs z same =
     with_some_ended (CodeEnded bs) (blocks_outside outside z.arena.blocks) _ rs _ (stuck_there bs rs _)
     (λ left e. record { blocks = given_back outside b bs z.arena.blocks left same e })
 
 -- the landing of a record that is closed, and the record given back behind it
-closed_ended : (outside : ℕ) (b : Block) (bs : List Block) (r : Outcome) → is_open b.kind ≡ false → CodeEnded (b ∷ bs) r → CodeEnded bs (go_on r (give_back outside))
+closed_ended : (outside : ℕ) (b : Block) (bs : List Block) (r : MidOutcome) → is_open b.kind ≡ false → CodeEnded (b ∷ bs) r → CodeEnded bs (go_on r (give_back outside))
 unfolding go_on
 closed_ended outside b bs r h g = from r.end r.registers r.state g
   where
-    from : (e : End) (rs : Registers) (z : State) → CodeEnded (b ∷ bs) (ends e rs z) → CodeEnded bs (go_on (ends e rs z) (give_back outside))
+    from : (e : End) (rs : Registers) (z : MidState) → CodeEnded (b ∷ bs) (ends e rs z) → CodeEnded bs (go_on (ends e rs z) (give_back outside))
     from falls rs z g = give_back_ended outside b bs rs z g.blocks
     from (returns w) rs z g = record { blocks = rest_is_part b bs z.arena.blocks g.blocks }
     from (cuts n w) rs z g = record { blocks = cut_passes n b bs z.arena.blocks h g.blocks }
     from e rs z g = record { blocks = tt }
 
 run_landing_ended :
-    (outside word : ℕ) (landing : Next) (b : Block) (bs : List Block) (w : ℕ) (rs : Registers) (z : State)
-    → ((rs : Registers) (y : State) → CodeEnded y.arena.blocks (landing rs y)) → z.arena.blocks ≡ b ∷ bs
+    (outside word : ℕ) (landing : Next) (b : Block) (bs : List Block) (w : ℕ) (rs : Registers) (z : MidState)
+    → ((rs : Registers) (y : MidState) → CodeEnded y.arena.blocks (landing rs y)) → z.arena.blocks ≡ b ∷ bs
     → CodeEnded bs (run_landing outside word landing w rs z)
 run_landing_ended outside word landing b bs w rs z h same =
     with_some_ended (CodeEnded bs) (blocks_closed outside z.arena.blocks) _ rs z (stuck_there bs rs z) (λ left e.
@@ -195,11 +195,11 @@ run_landing_ended outside word landing b bs w rs z h same =
     (closed_blocks outside b bs z.arena.blocks left same e) (h _ _)))
 
 -- no cut is to a block inside all of them
-nothing_caught : (bs : List Block) (catch : ℕ → Next) (r : Outcome) → CodeEnded bs r → CodeEnded bs (landed (length bs) catch r)
+nothing_caught : (bs : List Block) (catch : ℕ → Next) (r : MidOutcome) → CodeEnded bs r → CodeEnded bs (landed (length bs) catch r)
 unfolding landed
 nothing_caught bs catch r g = from r.end r.registers r.state g
   where
-    from : (e : End) (rs : Registers) (z : State) → CodeEnded bs (ends e rs z) → CodeEnded bs (landed (length bs) catch (ends e rs z))
+    from : (e : End) (rs : Registers) (z : MidState) → CodeEnded bs (ends e rs z) → CodeEnded bs (landed (length bs) catch (ends e rs z))
     from (cuts n w) rs z g =
         choose_ended (CodeEnded bs) _ (catch w) (ends (cuts n w)) rs z
         (λ t. absurd (cut_is_among n bs z.arena.blocks (eqb-true n (length bs) t) g.blocks)) (λ t. g)
@@ -207,14 +207,14 @@ nothing_caught bs catch r g = from r.end r.registers r.state g
 
 -- the inside of a record, what comes behind it, and what catches a cut to it
 record_ended :
-    (b : Block) (bs : List Block) (r : Outcome) (next : Next) (catch : ℕ → Next) → CodeEnded (b ∷ bs) r
-    → ((rs : Registers) (y : State) → y.arena.blocks ≡ b ∷ bs → CodeEnded bs (next rs y))
-    → ((w : ℕ) (rs : Registers) (y : State) → y.arena.blocks ≡ b ∷ bs → CodeEnded bs (catch w rs y))
+    (b : Block) (bs : List Block) (r : MidOutcome) (next : Next) (catch : ℕ → Next) → CodeEnded (b ∷ bs) r
+    → ((rs : Registers) (y : MidState) → y.arena.blocks ≡ b ∷ bs → CodeEnded bs (next rs y))
+    → ((w : ℕ) (rs : Registers) (y : MidState) → y.arena.blocks ≡ b ∷ bs → CodeEnded bs (catch w rs y))
     → CodeEnded bs (landed (length bs) catch (go_on r next))
 unfolding go_on landed
 record_ended b bs r next catch g h k = from r.end r.registers r.state g
   where
-    from : (e : End) (rs : Registers) (z : State) → CodeEnded (b ∷ bs) (ends e rs z) → CodeEnded bs (landed (length bs) catch (go_on (ends e rs z) next))
+    from : (e : End) (rs : Registers) (z : MidState) → CodeEnded (b ∷ bs) (ends e rs z) → CodeEnded bs (landed (length bs) catch (go_on (ends e rs z) next))
     from falls rs z g = nothing_caught bs catch (next rs z) (h rs z g.blocks)
     from (returns w) rs z g = record { blocks = rest_is_part b bs z.arena.blocks g.blocks }
     from (cuts n w) rs z g =
@@ -224,8 +224,8 @@ record_ended b bs r next catch g h k = from r.end r.registers r.state g
     from e rs z g = record { blocks = tt }
 
 with_record_ended :
-    (block words word : ℕ) (inside landing : Next) (rs : Registers) (z : State)
-    → ((rs : Registers) (y : State) → CodeEnded y.arena.blocks (inside rs y)) → ((rs : Registers) (y : State) → CodeEnded y.arena.blocks (landing rs y))
+    (block words word : ℕ) (inside landing : Next) (rs : Registers) (z : MidState)
+    → ((rs : Registers) (y : MidState) → CodeEnded y.arena.blocks (inside rs y)) → ((rs : Registers) (y : MidState) → CodeEnded y.arena.blocks (landing rs y))
     → CodeEnded z.arena.blocks (with_record block words word inside landing rs z)
 with_record_ended block words word inside landing rs z g h =
     choose_ended (CodeEnded z.arena.blocks) _ _ _ rs _
@@ -236,42 +236,42 @@ with_record_ended block words word inside landing rs z g h =
 
 -- operations
 
-store_ended : (a w : ℕ) (next : Next) (rs : Registers) (z : State) → ((rs : Registers) (y : State) → CodeEnded y.arena.blocks (next rs y)) → CodeEnded z.arena.blocks (store a w next rs z)
+store_ended : (a w : ℕ) (next : Next) (rs : Registers) (z : MidState) → ((rs : Registers) (y : MidState) → CodeEnded y.arena.blocks (next rs y)) → CodeEnded z.arena.blocks (store a w next rs z)
 store_ended a w next rs z h = choose_ended (CodeEnded z.arena.blocks) _ _ _ rs z (λ t. h rs _) (λ t. stuck_there z.arena.blocks rs z)
 
-get_ended : (bytes : List ℕ) (to : ℕ) (rs : Registers) (z : State) → CodeEnded z.arena.blocks (get_from bytes to rs z)
+get_ended : (bytes : List ℕ) (to : ℕ) (rs : Registers) (z : MidState) → CodeEnded z.arena.blocks (get_from bytes to rs z)
 get_ended [] to rs z = record { blocks = refl }
 get_ended (byte ∷ bytes) to rs z = record { blocks = refl }
 
-cut_ended : (block word : ℕ) (rs : Registers) (z : State) → CodeEnded z.arena.blocks (cut block word rs z)
+cut_ended : (block word : ℕ) (rs : Registers) (z : MidState) → CodeEnded z.arena.blocks (cut block word rs z)
 cut_ended block word rs z =
     with_some_ended (CodeEnded z.arena.blocks) (blocks_from (length z.arena.memory) z.arena.blocks block) _ rs z (stuck_there z.arena.blocks rs z)
     (λ left e. record { blocks = cut_blocks (length z.arena.memory) block z.arena.blocks left e })
 
 test_ended :
-    (t : Test) (first second : Next) (rs : Registers) (z : State) → ((rs : Registers) (y : State) → CodeEnded y.arena.blocks (first rs y))
-    → ((rs : Registers) (y : State) → CodeEnded y.arena.blocks (second rs y)) → CodeEnded z.arena.blocks (test t first second rs z)
+    (t : Test) (first second : Next) (rs : Registers) (z : MidState) → ((rs : Registers) (y : MidState) → CodeEnded y.arena.blocks (first rs y))
+    → ((rs : Registers) (y : MidState) → CodeEnded y.arena.blocks (second rs y)) → CodeEnded z.arena.blocks (test t first second rs z)
 test_ended t first second rs z g h =
     some_ended z.arena.blocks _ _ rs _ (λ a. some_ended z.arena.blocks _ _ rs _ (λ b.
     choose_ended (CodeEnded z.arena.blocks) _ first second rs _ (λ e. g rs _) (λ e. h rs _)))
 
 -- code and tasks, where it is so for tasks one level below and one turn further
 
-pub record TasksEnd (f : Task → State → Outcome) : Type 0 where
-  pub at : (task : Task) (z : State) → TaskEnded task z.arena.blocks (f task z)
+pub record TasksEnd (f : Task → MidState → MidOutcome) : Type 0 where
+  pub at : (task : Task) (z : MidState) → TaskEnded task z.arena.blocks (f task z)
 
 module _ (c : Context) (below : TasksEnd c.below) (further : TasksEnd c.further) where
-  count_ended : (how : Counted) (task : Task) (z : State) → TaskEnded task z.arena.blocks (count c how task z)
+  count_ended : (how : Counted) (task : Task) (z : MidState) → TaskEnded task z.arena.blocks (count c how task z)
   count_ended Level task z = below.at task z
   count_ended Turn task z = further.at task z
 
   callee_ended :
-      (callee : Callee) (next : MidProcedure → Next) (rs : Registers) (z : State) → ((p : MidProcedure) → CodeEnded z.arena.blocks (next p rs z))
+      (callee : Callee) (next : MidProcedure → Next) (rs : Registers) (z : MidState) → ((p : MidProcedure) → CodeEnded z.arena.blocks (next p rs z))
       → CodeEnded z.arena.blocks (with_callee c callee next rs z)
   callee_ended (Procedure n) next rs z h = some_ended z.arena.blocks _ next rs z h
   callee_ended (Word r) next rs z h = some_ended z.arena.blocks _ _ rs z (λ n. some_ended z.arena.blocks _ next rs z h)
 
-  operate_ended : (o : Operation) (rs : Registers) (z : State) → CodeEnded z.arena.blocks (operate c o rs z)
+  operate_ended : (o : Operation) (rs : Registers) (z : MidState) → CodeEnded z.arena.blocks (operate c o rs z)
   operate_ended (Move to from) rs z = some_ended z.arena.blocks _ (gives to) rs z (λ w. fell _ z)
   operate_ended (Constant to word) rs z = fell _ z
   operate_ended (Compute to which first second) rs z =
@@ -295,11 +295,11 @@ module _ (c : Context) (below : TasksEnd c.below) (further : TasksEnd c.further)
   mutual
     unfolding exec
 
-    pub exec_ended : (code : MidCode) (rs : Registers) (z : State) → CodeEnded z.arena.blocks (exec c code rs z)
+    pub exec_ended : (code : MidCode) (rs : Registers) (z : MidState) → CodeEnded z.arena.blocks (exec c code rs z)
     exec_ended no_step rs z = fell rs z
     exec_ended (step_and s code) rs z = go_on_ended z.arena.blocks _ _ (step_ended s rs z) (λ rs' y. exec_ended code rs' y)
 
-    pub step_ended : (s : MidStep) (rs : Registers) (z : State) → CodeEnded z.arena.blocks (exec_step c s rs z)
+    pub step_ended : (s : MidStep) (rs : Registers) (z : MidState) → CodeEnded z.arena.blocks (exec_step c s rs z)
     step_ended (perform o) rs z = operate_ended o rs _
     step_ended (choose t first second) rs z =
         test_ended t _ _ rs z (λ rs' y. jumped_ended y.arena.blocks _ (exec_ended first rs' y)) (λ rs' y. jumped_ended y.arena.blocks _ (exec_ended second rs' y))
@@ -318,7 +318,7 @@ module _ (c : Context) (below : TasksEnd c.below) (further : TasksEnd c.further)
     step_ended (end_unhandled class site) rs z =
         some_ended z.arena.blocks _ _ rs _ (λ a. some_ended z.arena.blocks _ _ rs _ (λ b. record { blocks = tt }))
 
-  procedure_ended : (p : MidProcedure) (arguments : List ℕ) (z : State) → ProcedureEnded z.arena.blocks (run_procedure c p arguments z)
+  procedure_ended : (p : MidProcedure) (arguments : List ℕ) (z : MidState) → ProcedureEnded z.arena.blocks (run_procedure c p arguments z)
   procedure_ended p arguments z =
       choose_ended (ProcedureEnded z.arena.blocks) _ _ _ _ _
       (λ t. choose_ended (ProcedureEnded z.arena.blocks) _ _ _ _ _
@@ -326,21 +326,21 @@ module _ (c : Context) (below : TasksEnd c.below) (further : TasksEnd c.further)
       (λ u. record { blocks = tt }))
       (λ t. record { blocks = tt })
 
-  task_ended : (task : Task) (z : State) → TaskEnded task z.arena.blocks (run_task c task z)
+  task_ended : (task : Task) (z : MidState) → TaskEnded task z.arena.blocks (run_task c task z)
   task_ended (enter p arguments) z = procedure_ended p arguments z
   task_ended (again s rs) z = step_ended s rs z
 
 -- tasks with so many turns and levels
 
-no_turn_ended : (task : Task) (bs : List Block) (z : State) → TaskEnded task bs (ends no_turn [] z)
+no_turn_ended : (task : Task) (bs : List Block) (z : MidState) → TaskEnded task bs (ends no_turn [] z)
 no_turn_ended (enter p arguments) bs z = record { blocks = tt }
 no_turn_ended (again s rs) bs z = record { blocks = tt }
 
-no_level_ended : (task : Task) (bs : List Block) (z : State) → TaskEnded task bs (ends no_level [] z)
+no_level_ended : (task : Task) (bs : List Block) (z : MidState) → TaskEnded task bs (ends no_level [] z)
 no_level_ended (enter p arguments) bs z = record { blocks = tt }
 no_level_ended (again s rs) bs z = record { blocks = tt }
 
-pub turns_end : (procedures : List MidProcedure) (below : Task → State → Outcome) → TasksEnd below → (n : ℕ) → TasksEnd (turns procedures below n)
+pub turns_end : (procedures : List MidProcedure) (below : Task → MidState → MidOutcome) → TasksEnd below → (n : ℕ) → TasksEnd (turns procedures below n)
 unfolding turns
 turns_end procedures below g zero = record { at = λ task z. no_turn_ended task z.arena.blocks z }
 turns_end procedures below g (suc n) = record {
@@ -352,16 +352,16 @@ unfolding levels
 levels_end procedures turns_each zero = record { at = λ task z. no_level_ended task z.arena.blocks z }
 levels_end procedures turns_each (suc k) = turns_end procedures _ (levels_end procedures turns_each k) (suc turns_each)
 
-at_top_ended : (bs : List Block) (r : Outcome) → ProcedureEnded bs r → ProcedureEnded bs (at_top r)
+at_top_ended : (bs : List Block) (r : MidOutcome) → ProcedureEnded bs r → ProcedureEnded bs (at_top r)
 unfolding at_top
 at_top_ended bs r g = from r.end r.registers r.state g
   where
-    from : (e : End) (rs : Registers) (z : State) → ProcedureEnded bs (ends e rs z) → ProcedureEnded bs (at_top (ends e rs z))
+    from : (e : End) (rs : Registers) (z : MidState) → ProcedureEnded bs (ends e rs z) → ProcedureEnded bs (at_top (ends e rs z))
     from falls rs z g = record { blocks = tt }
     from (cuts n w) rs z g = record { blocks = tt }
     from e rs z g = g
 
-runs_end : (program : MidProgram) (k turns_each entry : ℕ) (arguments : List ℕ) (z : State) → ProcedureEnded z.arena.blocks (runs program k turns_each entry arguments z)
+runs_end : (program : MidProgram) (k turns_each entry : ℕ) (arguments : List ℕ) (z : MidState) → ProcedureEnded z.arena.blocks (runs program k turns_each entry arguments z)
 unfolding runs
 runs_end program k turns_each entry arguments z =
     at_top_ended z.arena.blocks _

@@ -15,7 +15,7 @@ use Rattle.mid_code.specs.declared.operation.Test.{Test}
 use Rattle.mid_code.specs.declared.program.MidProcedure.{MidProcedure}
 use Rattle.mid_code.specs.MidCode.{MidStep, perform, choose, repeat, with_block, return_word, cut_to, halt_with, end_unhandled, MidCode, no_step, step_and, code_of}
 use Rattle.mid_code.specs.Arena.{Arena, Block, activation_frame, record_of, begin_of, lent_from, left, is_lent, word_at, emptied, with_word, with_heap, with_new_block, with_blocks}
-use Rattle.mid_code.specs.State.{Registers, State, End, falls, returns, cuts, stuck, Outcome, Next, ends, charged, gives, go_on, go_on_from, with_some, choose_by, with_arena, with_register, with_registers, jumped, landed, landed_from}
+use Rattle.mid_code.specs.State.{Registers, MidState, End, falls, returns, cuts, stuck, MidOutcome, Next, ends, charged, gives, go_on, go_on_from, with_some, choose_by, with_arena, with_register, with_registers, jumped, landed, landed_from}
 use Rattle.mid_code.specs.Checked.{is_register, is_block_size, operation_fits, test_fits, step_fits, code_fits, is_checked, is_sound_in}
 use Rattle.mid_code.specs.Meaning.{store, where_left, lay, request, draw, cut, give_back, run_inside, run_landing, with_record, get_from, test, Task, enter, again, Context, context_of, called, called_from, left_from, leaves, count, with_callee, operate, exec, exec_step, run_procedure, run_task, turns, levels, at_top, at_top_from, runs}
 use Rattle.mid_code.specs.Bounds.{IsWord, AreWords, AreWordsOrNone, BoundedArena, BoundedState, BoundedEnd, BoundedPoint, BoundedOutcome}
@@ -46,27 +46,27 @@ blocks_arena bs arena b = record { memory = b.memory; size = b.size; heap_to = b
 left_bounded : (arena : Arena) → BoundedArena arena → IsWord (left arena)
 left_bounded arena b = omega (arith, b.size)
 
-with_arena_bounded : (a : Arena) (rs : Registers) (z : State) → BoundedPoint rs z → BoundedArena a → BoundedPoint rs (with_arena a z)
+with_arena_bounded : (a : Arena) (rs : Registers) (z : MidState) → BoundedPoint rs z → BoundedArena a → BoundedPoint rs (with_arena a z)
 with_arena_bounded a rs z b h = record { registers = b.registers; state = record { arena = h; input = b.state.input } }
 
-charged_bounded : (n : ℕ) (rs : Registers) (z : State) → BoundedPoint rs z → BoundedPoint rs (charged n z)
+charged_bounded : (n : ℕ) (rs : Registers) (z : MidState) → BoundedPoint rs z → BoundedPoint rs (charged n z)
 charged_bounded n rs z b = record { registers = b.registers; state = record { arena = b.state.arena; input = b.state.input } }
 
-set_point : (rs : Registers) (z : State) (to w : ℕ) → BoundedPoint rs z → IsWord w → BoundedPoint (slice_set rs to (Some w)) z
+set_point : (rs : Registers) (z : MidState) (to w : ℕ) → BoundedPoint rs z → IsWord w → BoundedPoint (slice_set rs to (Some w)) z
 set_point rs z to w b h = record { registers = set_bounded rs to w b.registers h; state = b.state }
 
 -- combinators
 
-gives_bounded : (to w : ℕ) (rs : Registers) (z : State) → BoundedPoint rs z → IsWord w → BoundedOutcome (gives to w rs z)
+gives_bounded : (to w : ℕ) (rs : Registers) (z : MidState) → BoundedPoint rs z → IsWord w → BoundedOutcome (gives to w rs z)
 gives_bounded to w rs z b h = record { end = tt; point = set_point rs z to w b h }
 
-stuck_bounded : (rs : Registers) (z : State) → BoundedPoint rs z → BoundedOutcome (ends stuck rs z)
+stuck_bounded : (rs : Registers) (z : MidState) → BoundedPoint rs z → BoundedOutcome (ends stuck rs z)
 stuck_bounded rs z b = record { end = tt; point = b }
 
-falls_bounded : (rs : Registers) (z : State) → BoundedPoint rs z → BoundedOutcome (ends falls rs z)
+falls_bounded : (rs : Registers) (z : MidState) → BoundedPoint rs z → BoundedOutcome (ends falls rs z)
 falls_bounded rs z b = record { end = tt; point = b }
 
-go_on_bounded : (r : Outcome) (next : Next) → BoundedOutcome r → ((rs : Registers) (y : State) → BoundedPoint rs y → BoundedOutcome (next rs y)) → BoundedOutcome (go_on r next)
+go_on_bounded : (r : MidOutcome) (next : Next) → BoundedOutcome r → ((rs : Registers) (y : MidState) → BoundedPoint rs y → BoundedOutcome (next rs y)) → BoundedOutcome (go_on r next)
 unfolding go_on
 go_on_bounded r next b h = from r.end
   where
@@ -75,14 +75,14 @@ go_on_bounded r next b h = from r.end
     from e = b
 
 with_some_bounded :
-    {X : Type 0} (o : Option X) (next : X → Next) (rs : Registers) (z : State) → BoundedPoint rs z → ((x : X) → o ≡ Some x → BoundedOutcome (next x rs z))
+    {X : Type 0} (o : Option X) (next : X → Next) (rs : Registers) (z : MidState) → BoundedPoint rs z → ((x : X) → o ≡ Some x → BoundedOutcome (next x rs z))
     → BoundedOutcome (with_some o next rs z)
 unfolding with_some
 with_some_bounded None next rs z b h = stuck_bounded rs z b
 with_some_bounded (Some x) next rs z b h = h x refl
 
 choose_bounded :
-    (t : Bool) (first second : Next) (rs : Registers) (z : State) → (t ≡ true → BoundedOutcome (first rs z)) → (t ≡ false → BoundedOutcome (second rs z))
+    (t : Bool) (first second : Next) (rs : Registers) (z : MidState) → (t ≡ true → BoundedOutcome (first rs z)) → (t ≡ false → BoundedOutcome (second rs z))
     → BoundedOutcome (choose_by t first second rs z)
 unfolding choose_by
 choose_bounded true first second rs z g h = g refl
@@ -90,24 +90,24 @@ choose_bounded false first second rs z g h = h refl
 
 -- a word that is in a register
 with_register_bounded :
-    (r : ℕ) (next : ℕ → Next) (rs : Registers) (z : State) → BoundedPoint rs z → ((w : ℕ) → IsWord w → BoundedOutcome (next w rs z))
+    (r : ℕ) (next : ℕ → Next) (rs : Registers) (z : MidState) → BoundedPoint rs z → ((w : ℕ) → IsWord w → BoundedOutcome (next w rs z))
     → BoundedOutcome (with_register r next rs z)
 with_register_bounded r next rs z b h = with_some_bounded _ next rs z b (λ w e. h w (word_in_bounded rs r w b.registers e))
 
 with_registers_bounded :
-    (list : List ℕ) (next : List ℕ → Next) (rs : Registers) (z : State) → BoundedPoint rs z → ((ws : List ℕ) → AreWords ws → BoundedOutcome (next ws rs z))
+    (list : List ℕ) (next : List ℕ → Next) (rs : Registers) (z : MidState) → BoundedPoint rs z → ((ws : List ℕ) → AreWords ws → BoundedOutcome (next ws rs z))
     → BoundedOutcome (with_registers list next rs z)
 unfolding with_registers
 with_registers_bounded [] next rs z b h = h [] tt
 with_registers_bounded (r ∷ more) next rs z b h =
     with_register_bounded r _ rs z b (λ w e. with_registers_bounded more (λ ws. next (w ∷ ws)) rs z b (λ ws f. h (w ∷ ws) (e, f)))
 
-jumped_bounded : (r : Outcome) → BoundedOutcome r → BoundedOutcome (jumped r)
+jumped_bounded : (r : MidOutcome) → BoundedOutcome r → BoundedOutcome (jumped r)
 jumped_bounded r b = go_on_bounded r _ b (λ rs y c. falls_bounded rs _ (charged_bounded _ rs y c))
 
 landed_bounded :
-    (outside : ℕ) (catch : ℕ → Next) (r : Outcome) → BoundedOutcome r
-    → ((w : ℕ) (rs : Registers) (y : State) → IsWord w → BoundedPoint rs y → BoundedOutcome (catch w rs y)) → BoundedOutcome (landed outside catch r)
+    (outside : ℕ) (catch : ℕ → Next) (r : MidOutcome) → BoundedOutcome r
+    → ((w : ℕ) (rs : Registers) (y : MidState) → IsWord w → BoundedPoint rs y → BoundedOutcome (catch w rs y)) → BoundedOutcome (landed outside catch r)
 unfolding landed
 landed_bounded outside catch r b h = from r.end b.end
   where
@@ -116,7 +116,7 @@ landed_bounded outside catch r b h = from r.end b.end
         choose_bounded _ (catch w) (ends (cuts n w)) r.registers r.state (λ t. h w r.registers r.state g b.point) (λ t. record { end = g; point = b.point })
     from e g = b
 
-called_bounded : (r : Outcome) (to : ℕ) (rs : Registers) → BoundedOutcome r → AreWordsOrNone rs → BoundedOutcome (called r to rs)
+called_bounded : (r : MidOutcome) (to : ℕ) (rs : Registers) → BoundedOutcome r → AreWordsOrNone rs → BoundedOutcome (called r to rs)
 unfolding called
 called_bounded r to rs b h = from r.end b.end
   where
@@ -128,7 +128,7 @@ called_bounded r to rs b h = from r.end b.end
     from falls g = stuck_bounded rs r.state own
     from e g = record { end = g; point = own }
 
-leaves_bounded : (bs : List Block) (r : Outcome) → BoundedOutcome r → BoundedOutcome (leaves bs r)
+leaves_bounded : (bs : List Block) (r : MidOutcome) → BoundedOutcome r → BoundedOutcome (leaves bs r)
 unfolding leaves
 leaves_bounded bs r b = from r.end b.end
   where
@@ -137,7 +137,7 @@ leaves_bounded bs r b = from r.end b.end
     from falls g = stuck_bounded r.registers r.state b.point
     from e g = b
 
-at_top_bounded : (r : Outcome) → BoundedOutcome r → BoundedOutcome (at_top r)
+at_top_bounded : (r : MidOutcome) → BoundedOutcome r → BoundedOutcome (at_top r)
 unfolding at_top
 at_top_bounded r b = from r.end
   where
@@ -153,67 +153,67 @@ lent_word true o w e = e
 lent_word false o w e = absurd (cc e)
 
 with_word_bounded :
-    (a : ℕ) (next : ℕ → Next) (rs : Registers) (z : State) → BoundedPoint rs z → ((w : ℕ) → IsWord w → BoundedOutcome (next w rs z))
+    (a : ℕ) (next : ℕ → Next) (rs : Registers) (z : MidState) → BoundedPoint rs z → ((w : ℕ) → IsWord w → BoundedOutcome (next w rs z))
     → BoundedOutcome (with_some (word_at z.arena a) next rs z)
 with_word_bounded a next rs z b h =
     with_some_bounded _ next rs z b (λ w e.
     h w (word_in_bounded z.arena.memory (a / 4) w b.state.arena.memory (lent_word (is_lent z.arena a) _ w e)))
 
 store_bounded :
-    (a w : ℕ) (next : Next) (rs : Registers) (z : State) → BoundedPoint rs z → IsWord w → ((y : State) → BoundedPoint rs y → BoundedOutcome (next rs y))
+    (a w : ℕ) (next : Next) (rs : Registers) (z : MidState) → BoundedPoint rs z → IsWord w → ((y : MidState) → BoundedPoint rs y → BoundedOutcome (next rs y))
     → BoundedOutcome (store a w next rs z)
 store_bounded a w next rs z b h k =
     choose_bounded _ _ _ rs z (λ t. k _ (with_arena_bounded _ rs z b (word_arena a w z.arena b.state.arena h))) (λ t. stuck_bounded rs z b)
 
 where_left_bounded :
-    (words : ℕ) (next : Next) (rs : Registers) (z : State) → BoundedPoint rs z → IsWord words → (words ≤ left z.arena → BoundedOutcome (next rs z))
+    (words : ℕ) (next : Next) (rs : Registers) (z : MidState) → BoundedPoint rs z → IsWord words → (words ≤ left z.arena → BoundedOutcome (next rs z))
     → BoundedOutcome (where_left words next rs z)
 where_left_bounded words next rs z b h k =
     choose_bounded _ next _ rs z (λ t. k (leb-true words (left z.arena) t)) (λ t. record { end = (h, left_bounded z.arena b.state.arena); point = b })
 
 lay_bounded :
-    (block : Block) (next : Next) (rs : Registers) (z : State) → BoundedPoint rs z → IsWord block.words
+    (block : Block) (next : Next) (rs : Registers) (z : MidState) → BoundedPoint rs z → IsWord block.words
     → (block.words ≤ left z.arena → BoundedPoint rs (with_arena (with_new_block block z.arena) z) → BoundedOutcome (next rs (with_arena (with_new_block block z.arena) z)))
     → BoundedOutcome (lay block next rs z)
 lay_bounded block next rs z b h k =
     where_left_bounded block.words _ rs z b h (λ t. k t (with_arena_bounded _ rs z b (block_arena block z.arena b.state.arena)))
 
-request_bounded : (to words : ℕ) (rs : Registers) (z : State) → BoundedPoint rs z → IsWord words → BoundedOutcome (request to words rs z)
+request_bounded : (to words : ℕ) (rs : Registers) (z : MidState) → BoundedPoint rs z → IsWord words → BoundedOutcome (request to words rs z)
 request_bounded to words rs z b h =
     where_left_bounded words _ rs z b h (λ t.
     gives_bounded to z.arena.heap_to rs _ (with_arena_bounded _ rs z b (heap_arena words z.arena b.state.arena t)) (omega (arith, b.state.arena.size, b.state.arena.heap_to)))
 
-draw_bounded : (to a : ℕ) (rs : Registers) (z : State) → BoundedPoint rs z → BoundedOutcome (draw to a rs z)
+draw_bounded : (to a : ℕ) (rs : Registers) (z : MidState) → BoundedPoint rs z → BoundedOutcome (draw to a rs z)
 draw_bounded to a rs z b =
     with_word_bounded a _ rs z b (λ w h. choose_bounded (w == 2 ^ 32 - 1) _ _ rs z (λ t. record { end = tt; point = b })
     (λ t. let more : IsWord (w + 1) = grind (arith, nat_tests) in
     store_bounded a (w + 1) (gives to (w + 1)) rs z b more (λ y c. gives_bounded to (w + 1) rs y c more)))
 
-cut_bounded : (block word : ℕ) (rs : Registers) (z : State) → BoundedPoint rs z → IsWord word → BoundedOutcome (cut block word rs z)
+cut_bounded : (block word : ℕ) (rs : Registers) (z : MidState) → BoundedPoint rs z → IsWord word → BoundedOutcome (cut block word rs z)
 cut_bounded block word rs z b h =
     with_some_bounded _ _ rs z b (λ bs e. record { end = h; point = with_arena_bounded _ rs z b (blocks_arena bs z.arena b.state.arena) })
 
-get_bounded : (bytes : List ℕ) (to : ℕ) (rs : Registers) (z : State) → BoundedPoint rs z → AreWords bytes → BoundedOutcome (get_from bytes to rs z)
+get_bounded : (bytes : List ℕ) (to : ℕ) (rs : Registers) (z : MidState) → BoundedPoint rs z → AreWords bytes → BoundedOutcome (get_from bytes to rs z)
 get_bounded [] to rs z b h = gives_bounded to _ rs z b (omega arith)
 get_bounded (byte ∷ bytes) to rs z b h =
     gives_bounded to byte rs _ (record { registers = b.registers; state = record { arena = b.state.arena; input = h.1 } }) h.0
 
 -- control records
 
-give_back_bounded : (outside : ℕ) (rs : Registers) (z : State) → BoundedPoint rs z → BoundedOutcome (give_back outside rs z)
+give_back_bounded : (outside : ℕ) (rs : Registers) (z : MidState) → BoundedPoint rs z → BoundedOutcome (give_back outside rs z)
 give_back_bounded outside rs z b =
     with_some_bounded _ _ rs _ (charged_bounded _ rs z b) (λ bs e.
     falls_bounded rs _ (with_arena_bounded _ rs _ (charged_bounded _ rs z b) (blocks_arena bs z.arena b.state.arena)))
 
 run_inside_bounded :
-    (outside block : ℕ) (inside : Next) (rs : Registers) (z : State) → BoundedPoint rs z → IsWord (lent_from (length z.arena.memory) z.arena.blocks)
-    → ((rs : Registers) (y : State) → BoundedPoint rs y → BoundedOutcome (inside rs y)) → BoundedOutcome (run_inside outside block inside rs z)
+    (outside block : ℕ) (inside : Next) (rs : Registers) (z : MidState) → BoundedPoint rs z → IsWord (lent_from (length z.arena.memory) z.arena.blocks)
+    → ((rs : Registers) (y : MidState) → BoundedPoint rs y → BoundedOutcome (inside rs y)) → BoundedOutcome (run_inside outside block inside rs z)
 run_inside_bounded outside block inside rs z b h k =
     go_on_bounded _ _ (k _ z (set_point rs z block _ b h)) (λ rs' y c. jumped_bounded _ (give_back_bounded outside rs' y c))
 
 run_landing_bounded :
-    (outside word : ℕ) (landing : Next) (w : ℕ) (rs : Registers) (z : State) → BoundedPoint rs z → IsWord w
-    → ((rs : Registers) (y : State) → BoundedPoint rs y → BoundedOutcome (landing rs y)) → BoundedOutcome (run_landing outside word landing w rs z)
+    (outside word : ℕ) (landing : Next) (w : ℕ) (rs : Registers) (z : MidState) → BoundedPoint rs z → IsWord w
+    → ((rs : Registers) (y : MidState) → BoundedPoint rs y → BoundedOutcome (landing rs y)) → BoundedOutcome (run_landing outside word landing w rs z)
 run_landing_bounded outside word landing w rs z b h k =
     with_some_bounded _ _ rs z b (λ bs e.
     go_on_bounded _ (give_back outside)
@@ -229,9 +229,9 @@ record_bounded words arena b h =
     omega (arith, same, b.size, h)
 
 with_record_bounded :
-    (block words word : ℕ) (inside landing : Next) (rs : Registers) (z : State) → BoundedPoint rs z → words < 2 ^ 24
-    → ((rs : Registers) (y : State) → BoundedPoint rs y → BoundedOutcome (inside rs y))
-    → ((rs : Registers) (y : State) → BoundedPoint rs y → BoundedOutcome (landing rs y)) → BoundedOutcome (with_record block words word inside landing rs z)
+    (block words word : ℕ) (inside landing : Next) (rs : Registers) (z : MidState) → BoundedPoint rs z → words < 2 ^ 24
+    → ((rs : Registers) (y : MidState) → BoundedPoint rs y → BoundedOutcome (inside rs y))
+    → ((rs : Registers) (y : MidState) → BoundedPoint rs y → BoundedOutcome (landing rs y)) → BoundedOutcome (with_record block words word inside landing rs z)
 with_record_bounded block words word inside landing rs z b h k l =
     lay_bounded (record_of words)
     (λ rs' y. landed (length z.arena.blocks) (run_landing (length z.arena.blocks) word landing) (run_inside (length z.arena.blocks) block inside rs' y)) rs _
@@ -241,8 +241,8 @@ with_record_bounded block words word inside landing rs z b h k l =
     (λ w rs'' x g d. run_landing_bounded _ word landing w rs'' x d g l))
 
 test_bounded :
-    (t : Test) (first second : Next) (rs : Registers) (z : State) → BoundedPoint rs z → ((y : State) → BoundedPoint rs y → BoundedOutcome (first rs y))
-    → ((y : State) → BoundedPoint rs y → BoundedOutcome (second rs y)) → BoundedOutcome (test t first second rs z)
+    (t : Test) (first second : Next) (rs : Registers) (z : MidState) → BoundedPoint rs z → ((y : MidState) → BoundedPoint rs y → BoundedOutcome (first rs y))
+    → ((y : MidState) → BoundedPoint rs y → BoundedOutcome (second rs y)) → BoundedOutcome (test t first second rs z)
 test_bounded t first second rs z b g h =
     let c = charged_bounded _ rs z b in
     with_register_bounded t.first _ rs _ c (λ m e. with_register_bounded t.second _ rs _ c (λ n f.
@@ -254,25 +254,25 @@ abbrev BoundedTask : Task → Type 0
 BoundedTask (enter p arguments) = (is_checked p ≡ true) × AreWords arguments
 BoundedTask (again s rs) = (n : ℕ) × ((step_fits n s ≡ true) × AreWordsOrNone rs)
 
-record TasksBounded (f : Task → State → Outcome) : Type 0 where
-  at : (task : Task) (z : State) → BoundedTask task → BoundedState z → BoundedOutcome (f task z)
+record TasksBounded (f : Task → MidState → MidOutcome) : Type 0 where
+  at : (task : Task) (z : MidState) → BoundedTask task → BoundedState z → BoundedOutcome (f task z)
 
 record AreChecked (procedures : List MidProcedure) : Type 0 where
   at : (n : ℕ) (p : MidProcedure) → slice_get procedures n ≡ Some p → is_checked p ≡ true
 
 module _ (c : Context) (checked : AreChecked c.procedures) (below : TasksBounded c.below) (further : TasksBounded c.further) where
-  count_bounded : (how : Counted) (task : Task) (z : State) → BoundedTask task → BoundedState z → BoundedOutcome (count c how task z)
+  count_bounded : (how : Counted) (task : Task) (z : MidState) → BoundedTask task → BoundedState z → BoundedOutcome (count c how task z)
   count_bounded Level task z h b = below.at task z h b
   count_bounded Turn task z h b = further.at task z h b
 
   callee_bounded :
-      (callee : Callee) (next : MidProcedure → Next) (rs : Registers) (z : State) → BoundedPoint rs z
+      (callee : Callee) (next : MidProcedure → Next) (rs : Registers) (z : MidState) → BoundedPoint rs z
       → ((p : MidProcedure) → is_checked p ≡ true → BoundedOutcome (next p rs z)) → BoundedOutcome (with_callee c callee next rs z)
   callee_bounded (Procedure n) next rs z b h = with_some_bounded _ next rs z b (λ p e. h p (checked.at n p e))
   callee_bounded (Word r) next rs z b h =
       with_register_bounded r _ rs z b (λ n f. with_some_bounded _ next rs z b (λ p e. h p (checked.at n p e)))
 
-  operate_bounded : (n : ℕ) (o : Operation) (rs : Registers) (z : State) → operation_fits n o ≡ true → BoundedPoint rs z → BoundedOutcome (operate c o rs z)
+  operate_bounded : (n : ℕ) (o : Operation) (rs : Registers) (z : MidState) → operation_fits n o ≡ true → BoundedPoint rs z → BoundedOutcome (operate c o rs z)
   operate_bounded n (Move to from) rs z h b = with_register_bounded from (gives to) rs z b (λ w e. gives_bounded to w rs z b e)
   operate_bounded n (Constant to word) rs z h b = gives_bounded to word rs z b (ltb-true word (2 ^ 32) (second_true (is_register n to) _ h))
   operate_bounded n (Compute to which first second) rs z h b =
@@ -296,13 +296,13 @@ module _ (c : Context) (checked : AreChecked c.procedures) (below : TasksBounded
   mutual
     unfolding exec
 
-    exec_bounded : (n : ℕ) (code : MidCode) (rs : Registers) (z : State) → code_fits n code ≡ true → BoundedPoint rs z → BoundedOutcome (exec c code rs z)
+    exec_bounded : (n : ℕ) (code : MidCode) (rs : Registers) (z : MidState) → code_fits n code ≡ true → BoundedPoint rs z → BoundedOutcome (exec c code rs z)
     exec_bounded n no_step rs z h b = falls_bounded rs z b
     exec_bounded n (step_and s code) rs z h b =
         go_on_bounded _ _ (step_bounded n s rs z (first_true _ (code_fits n code) h) b)
         (λ rs' y d. exec_bounded n code rs' y (second_true (step_fits n s) _ h) d)
 
-    step_bounded : (n : ℕ) (s : MidStep) (rs : Registers) (z : State) → step_fits n s ≡ true → BoundedPoint rs z → BoundedOutcome (exec_step c s rs z)
+    step_bounded : (n : ℕ) (s : MidStep) (rs : Registers) (z : MidState) → step_fits n s ≡ true → BoundedPoint rs z → BoundedOutcome (exec_step c s rs z)
     step_bounded n (perform o) rs z h b = operate_bounded n o rs _ h (charged_bounded _ rs z b)
     step_bounded n (choose t first second) rs z h b =
         let two : (test_fits n t && code_fits n first) ≡ true = first_true _ (code_fits n second) h in
@@ -336,7 +336,7 @@ module _ (c : Context) (checked : AreChecked c.procedures) (below : TasksBounded
         let d = charged_bounded _ rs z b in
         with_register_bounded class _ rs _ d (λ a e. with_register_bounded site _ rs _ d (λ w f. record { end = (e, f); point = d }))
 
-  enter_bounded : (p : MidProcedure) (arguments : List ℕ) (z : State) → is_checked p ≡ true → AreWords arguments → BoundedState z → BoundedOutcome (run_procedure c p arguments z)
+  enter_bounded : (p : MidProcedure) (arguments : List ℕ) (z : MidState) → is_checked p ≡ true → AreWords arguments → BoundedState z → BoundedOutcome (run_procedure c p arguments z)
   enter_bounded p arguments z h g b =
       let two : (nat_le p.parameters p.registers && is_block_size p.frame) ≡ true = first_true _ (code_fits p.registers (code_of p.body)) h in
       let small : p.frame < 2 ^ 24 = ltb-true p.frame (2 ^ 24) (second_true (nat_le p.parameters p.registers) _ two) in
@@ -346,13 +346,13 @@ module _ (c : Context) (checked : AreChecked c.procedures) (below : TasksBounded
       (λ e d. leaves_bounded z.arena.blocks _ (exec_bounded p.registers (code_of p.body) _ _ (second_true (nat_le p.parameters p.registers && is_block_size p.frame) _ h) d)))
       (λ t. stuck_bounded _ _ start)
 
-  task_bounded : (task : Task) (z : State) → BoundedTask task → BoundedState z → BoundedOutcome (run_task c task z)
+  task_bounded : (task : Task) (z : MidState) → BoundedTask task → BoundedState z → BoundedOutcome (run_task c task z)
   task_bounded (enter p arguments) z h b = enter_bounded p arguments z h.0 h.1 b
   task_bounded (again s rs) z h b = step_bounded h.0 s rs z h.1.0 (record { registers = h.1.1; state = b })
 
 -- tasks with so many turns and levels
 
-turns_bounded : (procedures : List MidProcedure) (below : Task → State → Outcome) → AreChecked procedures → TasksBounded below → (n : ℕ) → TasksBounded (turns procedures below n)
+turns_bounded : (procedures : List MidProcedure) (below : Task → MidState → MidOutcome) → AreChecked procedures → TasksBounded below → (n : ℕ) → TasksBounded (turns procedures below n)
 unfolding turns
 turns_bounded procedures below checked g zero = record { at = λ task z h b. record { end = tt; point = record { registers = tt; state = b } } }
 turns_bounded procedures below checked g (suc n) = record {

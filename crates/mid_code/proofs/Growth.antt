@@ -13,7 +13,7 @@ use Rattle.mid_code.specs.declared.operation.Test.{Test}
 use Rattle.mid_code.specs.declared.program.MidProcedure.{MidProcedure}
 use Rattle.mid_code.specs.MidCode.{MidStep, perform, choose, repeat, with_block, return_word, cut_to, halt_with, end_unhandled, MidCode, no_step, step_and, code_of}
 use Rattle.mid_code.specs.Arena.{Arena, Block, activation_frame, record_of, emptied, with_word, with_heap, with_new_block, with_blocks}
-use Rattle.mid_code.specs.State.{Registers, State, End, falls, returns, cuts, Outcome, Next, ends, charged, gives, go_on, go_on_from, with_some, choose_by, with_arena, with_registers, jumped, landed, landed_from}
+use Rattle.mid_code.specs.State.{Registers, MidState, End, falls, returns, cuts, MidOutcome, Next, ends, charged, gives, go_on, go_on_from, with_some, choose_by, with_arena, with_registers, jumped, landed, landed_from}
 use Rattle.mid_code.specs.Meaning.{store, where_left, lay, give_back, close, run_inside, run_landing, with_record, get_from, test, Task, enter, again, Context, context_of, called, called_from, left_from, leaves, count, with_callee, operate, exec, exec_step, run_task, turns, levels, at_top, at_top_from}
 use Rattle.mid_code.specs.Law.{Enlarged, Grown}
 
@@ -48,10 +48,10 @@ block_enlarged b arena = record { size = length-emptied _ b.words arena.memory; 
 blocks_enlarged : (bs : List Block) (arena : Arena) → Enlarged arena (with_blocks bs arena)
 blocks_enlarged bs arena = record { size = refl; laid_from = refl; laid_to = refl; heap_from = refl; heap_to = omega arith }
 
-pub same_grown : (z : State) → Grown z z
+pub same_grown : (z : MidState) → Grown z z
 same_grown z = record { arena = same_enlarged z.arena; printed = ([], sym (append-nil z.printed)); cost = omega arith }
 
-pub both_grown : {x y z : State} → Grown x y → Grown y z → Grown x z
+pub both_grown : {x y z : MidState} → Grown x y → Grown y z → Grown x z
 both_grown {x} {y} {z} g h = record {
   arena = both_enlarged x.arena y.arena z.arena g.arena h.arena;
   printed = (
@@ -61,20 +61,20 @@ both_grown {x} {y} {z} g h = record {
   cost = omega (arith, g.cost, h.cost);
 }
 
-pub charged_grown : (n : ℕ) (z : State) → Grown z (charged n z)
+pub charged_grown : (n : ℕ) (z : MidState) → Grown z (charged n z)
 charged_grown n z = record { arena = same_enlarged z.arena; printed = ([], sym (append-nil z.printed)); cost = omega arith }
 
 -- another arena
-arena_grown : (a : Arena) (z : State) → Enlarged z.arena a → Grown z (with_arena a z)
+arena_grown : (a : Arena) (z : MidState) → Enlarged z.arena a → Grown z (with_arena a z)
 arena_grown a z g = record { arena = g; printed = ([], sym (append-nil z.printed)); cost = omega arith }
 
 -- it grows from each state
-pub record Grows (next : Next) : Type 0 where
-  pub at : (rs : Registers) (z : State) → Grown z (next rs z).state
+pub record GrowsEachState (next : Next) : Type 0 where
+  pub at : (rs : Registers) (z : MidState) → Grown z (next rs z).state
 
 -- combinators
 
-pub go_on_grown : (r : Outcome) (next : Next) (z : State) → Grown z r.state → ((rs : Registers) (y : State) → Grown y (next rs y).state) → Grown z (go_on r next).state
+pub go_on_grown : (r : MidOutcome) (next : Next) (z : MidState) → Grown z r.state → ((rs : Registers) (y : MidState) → Grown y (next rs y).state) → Grown z (go_on r next).state
 unfolding go_on
 go_on_grown r next z g h = from r.end
   where
@@ -82,30 +82,30 @@ go_on_grown r next z g h = from r.end
     from falls = both_grown g (h r.registers r.state)
     from e = g
 
-pub with_some_grown : {X : Type 0} (o : Option X) (next : X → Next) (rs : Registers) (z : State) → ((x : X) → Grown z (next x rs z).state) → Grown z (with_some o next rs z).state
+pub with_some_grown : {X : Type 0} (o : Option X) (next : X → Next) (rs : Registers) (z : MidState) → ((x : X) → Grown z (next x rs z).state) → Grown z (with_some o next rs z).state
 unfolding with_some
 with_some_grown None next rs z h = same_grown z
 with_some_grown (Some x) next rs z h = h x
 
-pub choose_grown : (b : Bool) (first second : Next) (rs : Registers) (z : State) → Grown z (first rs z).state → Grown z (second rs z).state → Grown z (choose_by b first second rs z).state
+pub choose_grown : (b : Bool) (first second : Next) (rs : Registers) (z : MidState) → Grown z (first rs z).state → Grown z (second rs z).state → Grown z (choose_by b first second rs z).state
 unfolding choose_by
 choose_grown true first second rs z g h = g
 choose_grown false first second rs z g h = h
 
 pub with_registers_grown :
-    (list : List ℕ) (next : List ℕ → Next) (rs : Registers) (z : State) → ((ws : List ℕ) → Grown z (next ws rs z).state)
+    (list : List ℕ) (next : List ℕ → Next) (rs : Registers) (z : MidState) → ((ws : List ℕ) → Grown z (next ws rs z).state)
     → Grown z (with_registers list next rs z).state
 unfolding with_registers
 with_registers_grown [] next rs z h = h []
 with_registers_grown (r ∷ more) next rs z h =
     with_some_grown _ _ rs z (λ w. with_registers_grown more (λ ws. next (w ∷ ws)) rs z (λ ws. h (w ∷ ws)))
 
-pub jumped_grown : (r : Outcome) (z : State) → Grown z r.state → Grown z (jumped r).state
+pub jumped_grown : (r : MidOutcome) (z : MidState) → Grown z r.state → Grown z (jumped r).state
 jumped_grown r z g = go_on_grown r _ z g (λ rs y. charged_grown _ y)
 
 pub landed_grown :
-    (outside : ℕ) (catch : ℕ → Next) (r : Outcome) (z : State) → Grown z r.state
-    → ((w : ℕ) (rs : Registers) (y : State) → Grown y (catch w rs y).state) → Grown z (landed outside catch r).state
+    (outside : ℕ) (catch : ℕ → Next) (r : MidOutcome) (z : MidState) → Grown z r.state
+    → ((w : ℕ) (rs : Registers) (y : MidState) → Grown y (catch w rs y).state) → Grown z (landed outside catch r).state
 unfolding landed
 landed_grown outside catch r z g h = from r.end
   where
@@ -114,7 +114,7 @@ landed_grown outside catch r z g h = from r.end
         both_grown g (choose_grown _ (catch w) (ends (cuts n w)) r.registers r.state (h w r.registers r.state) (same_grown r.state))
     from e = g
 
-pub called_grown : (r : Outcome) (to : ℕ) (rs : Registers) (z : State) → Grown z r.state → Grown z (called r to rs).state
+pub called_grown : (r : MidOutcome) (to : ℕ) (rs : Registers) (z : MidState) → Grown z r.state → Grown z (called r to rs).state
 unfolding called
 called_grown r to rs z g = from r.end
   where
@@ -122,7 +122,7 @@ called_grown r to rs z g = from r.end
     from falls = g
     from e = g
 
-pub leaves_grown : (bs : List Block) (r : Outcome) (z : State) → Grown z r.state → Grown z (leaves bs r).state
+pub leaves_grown : (bs : List Block) (r : MidOutcome) (z : MidState) → Grown z r.state → Grown z (leaves bs r).state
 unfolding leaves
 leaves_grown bs r z g = from r.end
   where
@@ -132,38 +132,38 @@ leaves_grown bs r z g = from r.end
 
 -- operations
 
-store_grown : (a w : ℕ) (next : Next) (rs : Registers) (z : State) → ((rs : Registers) (y : State) → Grown y (next rs y).state) → Grown z (store a w next rs z).state
+store_grown : (a w : ℕ) (next : Next) (rs : Registers) (z : MidState) → ((rs : Registers) (y : MidState) → Grown y (next rs y).state) → Grown z (store a w next rs z).state
 store_grown a w next rs z h = choose_grown _ _ _ rs z (both_grown (arena_grown _ z (word_enlarged a w z.arena)) (h rs _)) (same_grown z)
 
-where_left_grown : (words : ℕ) (next : Next) (rs : Registers) (z : State) → Grown z (next rs z).state → Grown z (where_left words next rs z).state
+where_left_grown : (words : ℕ) (next : Next) (rs : Registers) (z : MidState) → Grown z (next rs z).state → Grown z (where_left words next rs z).state
 where_left_grown words next rs z g = choose_grown _ _ _ rs z g (same_grown z)
 
-lay_grown : (b : Block) (next : Next) (rs : Registers) (z : State) → ((rs : Registers) (y : State) → Grown y (next rs y).state) → Grown z (lay b next rs z).state
+lay_grown : (b : Block) (next : Next) (rs : Registers) (z : MidState) → ((rs : Registers) (y : MidState) → Grown y (next rs y).state) → Grown z (lay b next rs z).state
 lay_grown b next rs z h = where_left_grown b.words _ rs z (both_grown (arena_grown _ z (block_enlarged b z.arena)) (h rs _))
 
-pub give_back_grown : (outside : ℕ) (rs : Registers) (z : State) → Grown z (give_back outside rs z).state
+pub give_back_grown : (outside : ℕ) (rs : Registers) (z : MidState) → Grown z (give_back outside rs z).state
 give_back_grown outside rs z =
     both_grown (charged_grown _ z) (with_some_grown _ _ rs _ (λ bs. arena_grown _ _ (blocks_enlarged bs z.arena)))
 
-close_grown : (outside : ℕ) (next : Next) (rs : Registers) (z : State) → ((rs : Registers) (y : State) → Grown y (next rs y).state) → Grown z (close outside next rs z).state
+close_grown : (outside : ℕ) (next : Next) (rs : Registers) (z : MidState) → ((rs : Registers) (y : MidState) → Grown y (next rs y).state) → Grown z (close outside next rs z).state
 close_grown outside next rs z h =
     with_some_grown _ _ rs z (λ bs. both_grown (arena_grown _ z (blocks_enlarged bs z.arena)) (h rs _))
 
-run_inside_grown : (outside block : ℕ) (inside : Next) (rs : Registers) (z : State) → ((rs : Registers) (y : State) → Grown y (inside rs y).state) → Grown z (run_inside outside block inside rs z).state
+run_inside_grown : (outside block : ℕ) (inside : Next) (rs : Registers) (z : MidState) → ((rs : Registers) (y : MidState) → Grown y (inside rs y).state) → Grown z (run_inside outside block inside rs z).state
 run_inside_grown outside block inside rs z h =
     go_on_grown _ _ z (h _ z) (λ rs' y. jumped_grown _ y (give_back_grown outside rs' y))
 
-pub run_landing_grown : (outside word : ℕ) (landing : Next) (w : ℕ) (rs : Registers) (z : State) → ((rs : Registers) (y : State) → Grown y (landing rs y).state) → Grown z (run_landing outside word landing w rs z).state
+pub run_landing_grown : (outside word : ℕ) (landing : Next) (w : ℕ) (rs : Registers) (z : MidState) → ((rs : Registers) (y : MidState) → Grown y (landing rs y).state) → Grown z (run_landing outside word landing w rs z).state
 run_landing_grown outside word landing w rs z h =
     close_grown outside (λ rs' y. go_on (landing (slice_set rs' word (Some w)) y) (give_back outside)) rs z
     (λ rs' y. go_on_grown _ (give_back outside) y (h _ y) (λ rs'' x. give_back_grown outside rs'' x))
 
-pub after_inside_grown : (outside : ℕ) (rs : Registers) (z : State) → Grown z (jumped (give_back outside rs z)).state
+pub after_inside_grown : (outside : ℕ) (rs : Registers) (z : MidState) → Grown z (jumped (give_back outside rs z)).state
 after_inside_grown outside rs z = jumped_grown _ z (give_back_grown outside rs z)
 
 with_record_grown :
-    (block words word : ℕ) (inside landing : Next) (rs : Registers) (z : State) → ((rs : Registers) (y : State) → Grown y (inside rs y).state)
-    → ((rs : Registers) (y : State) → Grown y (landing rs y).state) → Grown z (with_record block words word inside landing rs z).state
+    (block words word : ℕ) (inside landing : Next) (rs : Registers) (z : MidState) → ((rs : Registers) (y : MidState) → Grown y (inside rs y).state)
+    → ((rs : Registers) (y : MidState) → Grown y (landing rs y).state) → Grown z (with_record block words word inside landing rs z).state
 with_record_grown block words word inside landing rs z g h =
     both_grown (charged_grown _ z)
     (lay_grown (record_of words)
@@ -171,32 +171,32 @@ with_record_grown block words word inside landing rs z g h =
     (λ rs' y. landed_grown (length z.arena.blocks) _ _ y (run_inside_grown _ block inside rs' y g)
     (λ w rs'' x. run_landing_grown _ word landing w rs'' x h)))
 
-get_grown : (bytes : List ℕ) (to : ℕ) (rs : Registers) (z : State) → Grown z (get_from bytes to rs z).state
+get_grown : (bytes : List ℕ) (to : ℕ) (rs : Registers) (z : MidState) → Grown z (get_from bytes to rs z).state
 get_grown [] to rs z = same_grown z
 get_grown (byte ∷ bytes) to rs z = record { arena = same_enlarged z.arena; printed = ([], sym (append-nil z.printed)); cost = omega arith }
 
-pub test_grown : (t : Test) (first second : Next) (rs : Registers) (z : State) → ((rs : Registers) (y : State) → Grown y (first rs y).state) → ((rs : Registers) (y : State) → Grown y (second rs y).state) → Grown z (test t first second rs z).state
+pub test_grown : (t : Test) (first second : Next) (rs : Registers) (z : MidState) → ((rs : Registers) (y : MidState) → Grown y (first rs y).state) → ((rs : Registers) (y : MidState) → Grown y (second rs y).state) → Grown z (test t first second rs z).state
 test_grown t first second rs z g h =
     both_grown (charged_grown _ z)
     (with_some_grown _ _ rs _ (λ a. with_some_grown _ _ rs _ (λ b. choose_grown _ first second rs _ (g rs _) (h rs _))))
 
 -- code and tasks, where tasks grow one level below and one turn further
 
-pub record TasksGrow (f : Task → State → Outcome) : Type 0 where
-  pub at : (task : Task) (z : State) → Grown z (f task z).state
+pub record TasksGrow (f : Task → MidState → MidOutcome) : Type 0 where
+  pub at : (task : Task) (z : MidState) → Grown z (f task z).state
 
 module _ (c : Context) (below : TasksGrow c.below) (further : TasksGrow c.further) where
-  pub count_grown : (how : Counted) (task : Task) (z : State) → Grown z (count c how task z).state
+  pub count_grown : (how : Counted) (task : Task) (z : MidState) → Grown z (count c how task z).state
   count_grown Level task z = below.at task z
   count_grown Turn task z = further.at task z
 
   callee_grown :
-      (callee : Callee) (next : MidProcedure → Next) (rs : Registers) (z : State) → ((p : MidProcedure) → Grown z (next p rs z).state)
+      (callee : Callee) (next : MidProcedure → Next) (rs : Registers) (z : MidState) → ((p : MidProcedure) → Grown z (next p rs z).state)
       → Grown z (with_callee c callee next rs z).state
   callee_grown (Procedure n) next rs z h = with_some_grown _ next rs z h
   callee_grown (Word r) next rs z h = with_some_grown _ _ rs z (λ n. with_some_grown _ next rs z h)
 
-  operate_grown : (o : Operation) (rs : Registers) (z : State) → Grown z (operate c o rs z).state
+  operate_grown : (o : Operation) (rs : Registers) (z : MidState) → Grown z (operate c o rs z).state
   operate_grown (Move to from) rs z = with_some_grown _ (gives to) rs z (λ w. same_grown z)
   operate_grown (Constant to word) rs z = same_grown z
   operate_grown (Compute to which first second) rs z =
@@ -220,11 +220,11 @@ module _ (c : Context) (below : TasksGrow c.below) (further : TasksGrow c.furthe
   mutual
     unfolding exec
 
-    pub exec_grown : (code : MidCode) (rs : Registers) (z : State) → Grown z (exec c code rs z).state
+    pub exec_grown : (code : MidCode) (rs : Registers) (z : MidState) → Grown z (exec c code rs z).state
     exec_grown no_step rs z = same_grown z
     exec_grown (step_and s code) rs z = go_on_grown _ _ z (step_grown s rs z) (λ rs' y. exec_grown code rs' y)
 
-    step_grown : (s : MidStep) (rs : Registers) (z : State) → Grown z (exec_step c s rs z).state
+    step_grown : (s : MidStep) (rs : Registers) (z : MidState) → Grown z (exec_step c s rs z).state
     step_grown (perform o) rs z = both_grown (charged_grown _ z) (operate_grown o rs _)
     step_grown (choose t first second) rs z =
         test_grown t _ _ rs z (λ rs' y. jumped_grown _ y (exec_grown first rs' y)) (λ rs' y. jumped_grown _ y (exec_grown second rs' y))
@@ -242,7 +242,7 @@ module _ (c : Context) (below : TasksGrow c.below) (further : TasksGrow c.furthe
     step_grown (end_unhandled class site) rs z =
         both_grown (charged_grown _ z) (with_some_grown _ _ rs _ (λ a. with_some_grown _ _ rs _ (λ b. same_grown _)))
 
-  pub task_grown : (task : Task) (z : State) → Grown z (run_task c task z).state
+  pub task_grown : (task : Task) (z : MidState) → Grown z (run_task c task z).state
   task_grown (enter p arguments) z =
       both_grown (charged_grown _ z)
       (choose_grown _ _ _ _ _
@@ -251,7 +251,7 @@ module _ (c : Context) (below : TasksGrow c.below) (further : TasksGrow c.furthe
       (same_grown _))
   task_grown (again s rs) z = step_grown s rs z
 
-pub at_top_grown : (r : Outcome) (z : State) → Grown z r.state → Grown z (at_top r).state
+pub at_top_grown : (r : MidOutcome) (z : MidState) → Grown z r.state → Grown z (at_top r).state
 unfolding at_top
 at_top_grown r z g = from r.end
   where
@@ -261,7 +261,7 @@ at_top_grown r z g = from r.end
 
 -- tasks with so many turns and levels
 
-pub turns_grow : (procedures : List MidProcedure) (below : Task → State → Outcome) → TasksGrow below → (n : ℕ) → TasksGrow (turns procedures below n)
+pub turns_grow : (procedures : List MidProcedure) (below : Task → MidState → MidOutcome) → TasksGrow below → (n : ℕ) → TasksGrow (turns procedures below n)
 unfolding turns
 turns_grow procedures below g zero = record { at = λ task z. same_grown z }
 turns_grow procedures below g (suc n) = record {

@@ -5,7 +5,7 @@ use Rattle.mid_code.specs.declared.program.MidProcedure.{MidProcedure}
 use Rattle.mid_code.specs.declared.program.MidProgram.{MidProgram}
 use Rattle.mid_code.specs.MidCode.{MidStep, MidCode}
 use Rattle.mid_code.specs.Arena.{Block, is_open}
-use Rattle.mid_code.specs.State.{Registers, State, End, falls, returns, cuts, no_room, no_level, no_turn, halts, unhandled, exhausted, stuck, Outcome}
+use Rattle.mid_code.specs.State.{Registers, MidState, End, falls, returns, cuts, no_room, no_level, no_turn, halts, unhandled, exhausted, stuck, MidOutcome}
 use Rattle.mid_code.specs.Meaning.{Task, enter, again, Context, context_of, exec, exec_step, turns, levels, runs}
 
 -- an outer part of blocks: those that are left without some inner ones
@@ -53,15 +53,15 @@ ProcedureBlocks exhausted before after = Unit {0}
 ProcedureBlocks stuck before after = Unit {0}
 
 -- an outcome of code that started with these blocks
-pub record CodeEnded (before : List Block) (r : Outcome) : Type 0 where
+pub record CodeEnded (before : List Block) (r : MidOutcome) : Type 0 where
   pub blocks : CodeBlocks r.end before r.state.arena.blocks
 
 -- an outcome of a procedure that was entered with these blocks
-pub record ProcedureEnded (before : List Block) (r : Outcome) : Type 0 where
+pub record ProcedureEnded (before : List Block) (r : MidOutcome) : Type 0 where
   pub blocks : ProcedureBlocks r.end before r.state.arena.blocks
 
 -- an outcome of a task, which enters a procedure or goes on with a loop
-abbrev pub TaskEnded : Task → (before : List Block) → Outcome → Type 0
+abbrev pub TaskEnded : Task → (before : List Block) → MidOutcome → Type 0
 TaskEnded (enter p arguments) before r = ProcedureEnded before r
 TaskEnded (again s rs) before r = CodeEnded before r
 
@@ -73,17 +73,17 @@ context_in procedures k turns_each n =
 -- so it is for code, steps and tasks in any run, and for a run itself
 pub record LawOfBlocks : Type 0 where
   pub of_code :
-      (procedures : List MidProcedure) (k turns_each n : ℕ) (code : MidCode) (rs : Registers) (z : State)
+      (procedures : List MidProcedure) (k turns_each n : ℕ) (code : MidCode) (rs : Registers) (z : MidState)
       → CodeEnded z.arena.blocks (exec (context_in procedures k turns_each n) code rs z)
   pub of_steps :
-      (procedures : List MidProcedure) (k turns_each n : ℕ) (s : MidStep) (rs : Registers) (z : State)
+      (procedures : List MidProcedure) (k turns_each n : ℕ) (s : MidStep) (rs : Registers) (z : MidState)
       → CodeEnded z.arena.blocks (exec_step (context_in procedures k turns_each n) s rs z)
   pub of_turns :
-      (procedures : List MidProcedure) (k turns_each n : ℕ) (task : Task) (z : State)
+      (procedures : List MidProcedure) (k turns_each n : ℕ) (task : Task) (z : MidState)
       → TaskEnded task z.arena.blocks (turns procedures (levels procedures turns_each k) n task z)
   pub of_levels :
-      (procedures : List MidProcedure) (k turns_each : ℕ) (task : Task) (z : State)
+      (procedures : List MidProcedure) (k turns_each : ℕ) (task : Task) (z : MidState)
       → TaskEnded task z.arena.blocks (levels procedures turns_each k task z)
   pub of_runs :
-      (program : MidProgram) (k turns_each entry : ℕ) (arguments : List ℕ) (z : State)
+      (program : MidProgram) (k turns_each entry : ℕ) (arguments : List ℕ) (z : MidState)
       → ProcedureEnded z.arena.blocks (runs program k turns_each entry arguments z)

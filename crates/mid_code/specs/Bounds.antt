@@ -1,7 +1,7 @@
 -- What it is for all words to be below 2 ^ 32: in the arena, in registers, and in ends.
 use Rattle.std.specs.Prelude.{ℕ, ◌*◌, ◌^◌, ◌<◌, ◌≤◌, List, [], ◌∷◌, length, Option, Some, None}
 use Rattle.mid_code.specs.Arena.{Arena}
-use Rattle.mid_code.specs.State.{Registers, State, End, falls, returns, cuts, no_room, no_level, no_turn, halts, unhandled, exhausted, stuck, Outcome}
+use Rattle.mid_code.specs.State.{Registers, MidState, End, falls, returns, cuts, no_room, no_level, no_turn, halts, unhandled, exhausted, stuck, MidOutcome}
 
 abbrev pub IsWord : ℕ → Type 0
 IsWord word = word < 2 ^ 32
@@ -26,7 +26,7 @@ pub record BoundedArena (a : Arena) : Type 0 where
   pub size : IsWord (4 * length a.memory)
   pub heap_to : a.heap_to ≤ 4 * length a.memory
 
-pub record BoundedState (z : State) : Type 0 where
+pub record BoundedState (z : MidState) : Type 0 where
   pub arena : BoundedArena z.arena
   pub input : AreWords z.input
 
@@ -43,10 +43,10 @@ BoundedEnd exhausted = Unit {0}
 BoundedEnd stuck = Unit {0}
 
 -- an activation's registers and the state
-pub record BoundedPoint (rs : Registers) (z : State) : Type 0 where
+pub record BoundedPoint (rs : Registers) (z : MidState) : Type 0 where
   pub registers : AreWordsOrNone rs
   pub state : BoundedState z
 
-pub record BoundedOutcome (r : Outcome) : Type 0 where
+pub record BoundedOutcome (r : MidOutcome) : Type 0 where
   pub end : BoundedEnd r.end
   pub point : BoundedPoint r.registers r.state

@@ -13,7 +13,7 @@ use Rattle.mid_code.specs.MidCode.{MidStep, perform, choose, repeat, with_block,
 use Rattle.mid_code.specs.Words.{computed, compares, address}
 use Rattle.mid_code.specs.Arena.{Block, activation_frame, record_of, lent_from, left, is_lent, word_at, with_word, with_heap, with_blocks, with_new_block, blocks_from, outside_of, blocks_outside, blocks_closed}
 use Rattle.mid_code.specs.Costs.{operation_cost, test_cost, record_cost, give_back_cost, return_cost, cut_cost, halt_cost, unhandled_cost, entry_cost}
-use Rattle.mid_code.specs.State.{Registers, first_registers, State, End, falls, returns, cuts, no_room, no_level, no_turn, halts, unhandled, exhausted, stuck, Outcome, Next, ends, charged, with_arena, gives, go_on, with_some, choose_by, where_true, with_register, with_registers, jumped, landed}
+use Rattle.mid_code.specs.State.{Registers, first_registers, MidState, End, falls, returns, cuts, no_room, no_level, no_turn, halts, unhandled, exhausted, stuck, MidOutcome, Next, ends, charged, with_arena, gives, go_on, with_some, choose_by, where_true, with_register, with_registers, jumped, landed}
 
 -- operations on the arena
 
@@ -112,8 +112,8 @@ pub data Task : Type 0 where
 -- the procedures of the program, what a task does one level below, and what it does with one turn less
 pub record Context : Type 0 where
   pub procedures : List MidProcedure
-  pub below : Task → State → Outcome
-  pub further : Task → State → Outcome
+  pub below : Task → MidState → MidOutcome
+  pub further : Task → MidState → MidOutcome
 
 -- a call ended: the caller goes on with its own registers where it returned; every other end passes
 abbrev pub called_from : End → ℕ → Next
@@ -128,11 +128,11 @@ called_from (unhandled class site) to rs z = ends (unhandled class site) rs z
 called_from exhausted to rs z = ends exhausted rs z
 called_from stuck to rs z = ends stuck rs z
 
-unfoldable pub called : Outcome → ℕ → Registers → Outcome
+unfoldable pub called : MidOutcome → ℕ → Registers → MidOutcome
 called r to rs = called_from r.end to rs r.state
 
 -- The body of a procedure ended. Where it returned, the blocks are those of the caller again; out of its end no code falls.
-abbrev pub left_from : End → List Block → Outcome → Outcome
+abbrev pub left_from : End → List Block → MidOutcome → MidOutcome
 left_from (returns w) bs r = ends (returns w) r.registers (with_arena (with_blocks bs r.state.arena) r.state)
 left_from falls bs r = ends stuck r.registers r.state
 left_from (cuts n w) bs r = r
@@ -144,13 +144,13 @@ left_from (unhandled class site) bs r = r
 left_from exhausted bs r = r
 left_from stuck bs r = r
 
-unfoldable pub leaves : List Block → Outcome → Outcome
+unfoldable pub leaves : List Block → MidOutcome → MidOutcome
 leaves bs r = left_from r.end bs r
 
 -- operations, code and tasks, in a context
 module _ (context : Context) where
   -- a task by what it takes
-  abbrev pub count : Counted → Task → State → Outcome
+  abbrev pub count : Counted → Task → MidState → MidOutcome
   count Level task z = context.below task z
   count Turn task z = context.further task z
 
@@ -200,33 +200,33 @@ module _ (context : Context) where
         with_register class (λ c. with_register site (λ s. ends (unhandled c s))) rs (charged unhandled_cost z)
 
   -- a procedure is entered with arguments: its frame is laid, and the body runs
-  abbrev pub run_procedure : MidProcedure → List ℕ → State → Outcome
+  abbrev pub run_procedure : MidProcedure → List ℕ → MidState → MidOutcome
   run_procedure p arguments z =
       where_true (length arguments == p.parameters) (lay (record { words = p.frame; kind = activation_frame })
       (λ rs y. leaves z.arena.blocks (exec (code_of p.body) rs y)))
       (first_registers p.registers arguments) (charged (entry_cost p.parameters) z)
 
   -- a task with a level and a turn for it
-  abbrev pub run_task : Task → State → Outcome
+  abbrev pub run_task : Task → MidState → MidOutcome
   run_task (enter p arguments) z = run_procedure p arguments z
   run_task (again s rs) z = exec_step s rs z
 
-abbrev pub context_of : List MidProcedure → (below further : Task → State → Outcome) → Context
+abbrev pub context_of : List MidProcedure → (below further : Task → MidState → MidOutcome) → Context
 context_of procedures below further = record { procedures = procedures; below = below; further = further }
 
 -- a task with so many turns, where what is one level below is given; with none there is no turn
-unfoldable pub turns : List MidProcedure → (below : Task → State → Outcome) → ℕ → Task → State → Outcome
+unfoldable pub turns : List MidProcedure → (below : Task → MidState → MidOutcome) → ℕ → Task → MidState → MidOutcome
 turns procedures below zero task z = ends no_turn [] z
 turns procedures below (suc n) task z = run_task (context_of procedures below (turns procedures below n)) task z
 
 -- A task with so many levels, and so many turns at each of them. A level is entered by one turn more, so that takes none of them. With
 -- no levels the task ends for want of one.
-unfoldable pub levels : List MidProcedure → (turns_each : ℕ) → ℕ → Task → State → Outcome
+unfoldable pub levels : List MidProcedure → (turns_each : ℕ) → ℕ → Task → MidState → MidOutcome
 levels procedures turns_each zero task z = ends no_level [] z
 levels procedures turns_each (suc k) task z = turns procedures (levels procedures turns_each k) (suc turns_each) task z
 
 -- the end of a program: a cut that was not caught is stuck, and so is code that fell out
-abbrev pub at_top_from : End → Outcome → Outcome
+abbrev pub at_top_from : End → MidOutcome → MidOutcome
 at_top_from (cuts n w) r = ends stuck r.registers r.state
 at_top_from falls r = ends stuck r.registers r.state
 at_top_from (returns w) r = r
@@ -238,12 +238,12 @@ at_top_from (unhandled class site) r = r
 at_top_from exhausted r = r
 at_top_from stuck r = r
 
-unfoldable pub at_top : Outcome → Outcome
+unfoldable pub at_top : MidOutcome → MidOutcome
 at_top r = at_top_from r.end r
 
 -- A run of a program with so many levels, and so many turns at each: its procedure of a number is entered with arguments, at a level
 -- that is one more.
-unfoldable pub runs : MidProgram → (k turns_each : ℕ) → (entry : ℕ) → List ℕ → State → Outcome
+unfoldable pub runs : MidProgram → (k turns_each : ℕ) → (entry : ℕ) → List ℕ → MidState → MidOutcome
 runs program k turns_each entry arguments z =
     at_top (with_some (slice_get program.procedures entry)
     (λ p rs y. levels program.procedures turns_each (suc k) (enter p arguments) y) [] z)

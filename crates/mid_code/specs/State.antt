@@ -13,7 +13,7 @@ abbrev pub first_registers : ℕ → List ℕ → Registers
 first_registers count arguments = map (λ w. Some w) arguments ++ replicate {A = Option ℕ} (count - length arguments) None
 
 -- the arena, the bytes printed, the input that is left, and the cost so far
-pub record State : Type 0 where
+pub record MidState : Type 0 where
   pub arena : Arena
   pub printed : List ℕ
   pub input : List ℕ
@@ -35,22 +35,22 @@ pub data End : Type 0 where
   stuck : End
 
 -- an end, with the registers and the state there
-pub record Outcome : Type 0 where
+pub record MidOutcome : Type 0 where
   pub end : End
   pub registers : Registers
-  pub state : State
+  pub state : MidState
 
 -- what comes after in an activation
 abbrev pub Next : Type 0
-Next = Registers → State → Outcome
+Next = Registers → MidState → MidOutcome
 
 abbrev pub ends : End → Next
 ends e rs z = record { end = e; registers = rs; state = z }
 
-abbrev pub charged : ℕ → State → State
+abbrev pub charged : ℕ → MidState → MidState
 charged n z = record z { cost = z.cost + n }
 
-abbrev pub with_arena : Arena → State → State
+abbrev pub with_arena : Arena → MidState → MidState
 with_arena a z = record z { arena = a }
 
 -- it goes on with a word in a register
@@ -58,7 +58,7 @@ abbrev pub gives : ℕ → ℕ → Next
 gives to word rs z = ends falls (slice_set rs to (Some word)) z
 
 -- code that fell out goes on; every other end passes
-abbrev pub go_on_from : End → Outcome → Next → Outcome
+abbrev pub go_on_from : End → MidOutcome → Next → MidOutcome
 go_on_from falls r next = next r.registers r.state
 go_on_from (returns w) r next = r
 go_on_from (cuts n w) r next = r
@@ -70,7 +70,7 @@ go_on_from (unhandled class site) r next = r
 go_on_from exhausted r next = r
 go_on_from stuck r next = r
 
-unfoldable pub go_on : Outcome → Next → Outcome
+unfoldable pub go_on : MidOutcome → Next → MidOutcome
 go_on r next = go_on_from r.end r next
 
 -- with what is there; it is stuck where nothing is
@@ -101,11 +101,11 @@ with_registers (r ∷ more) next rs z =
     with_register r (λ w. with_registers more (λ ws. next (w ∷ ws))) rs z
 
 -- code that fell out jumps
-abbrev pub jumped : Outcome → Outcome
+abbrev pub jumped : MidOutcome → MidOutcome
 jumped r = go_on r (λ rs z. ends falls rs (charged jump_cost z))
 
 -- a cut to the block that has so many outside is caught; every other end passes
-abbrev pub landed_from : End → (outside : ℕ) → (ℕ → Next) → Outcome → Outcome
+abbrev pub landed_from : End → (outside : ℕ) → (ℕ → Next) → MidOutcome → MidOutcome
 landed_from (cuts n w) outside catch r = choose_by (n == outside) (catch w) (ends (cuts n w)) r.registers r.state
 landed_from falls outside catch r = r
 landed_from (returns w) outside catch r = r
@@ -117,5 +117,5 @@ landed_from (unhandled class site) outside catch r = r
 landed_from exhausted outside catch r = r
 landed_from stuck outside catch r = r
 
-unfoldable pub landed : (outside : ℕ) → (ℕ → Next) → Outcome → Outcome
+unfoldable pub landed : (outside : ℕ) → (ℕ → Next) → MidOutcome → MidOutcome
 landed outside catch r = landed_from r.end outside catch r

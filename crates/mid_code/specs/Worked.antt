@@ -9,7 +9,7 @@ use Rattle.mid_code.specs.declared.program.MidProcedure.{MidProcedure}
 use Rattle.mid_code.specs.declared.program.MidProgram.{MidProgram}
 use Rattle.mid_code.specs.MidCode.{MidStep, perform, repeat, with_block, return_word, cut_to, halt_with, no_step, code_of}
 use Rattle.mid_code.specs.Arena.{activation_frame, closed_record, record_of}
-use Rattle.mid_code.specs.State.{State, returns, no_room, no_level, no_turn, halts, exhausted, stuck, Outcome}
+use Rattle.mid_code.specs.State.{MidState, returns, no_room, no_level, no_turn, halts, exhausted, stuck, MidOutcome}
 use Rattle.mid_code.specs.Meaning.{enter, levels, runs}
 
 -- a procedure of the program with so many parameters, registers and words for a frame
@@ -21,7 +21,7 @@ abbrev pub program : List MidProcedure → MidProgram
 program procedures = record { procedures = procedures }
 
 -- an arena of so many words with an input; the first word is laid beside the code and is 0, nothing is in heap and stack
-abbrev pub start : ℕ → List ℕ → State
+abbrev pub start : ℕ → List ℕ → MidState
 start words input = record {
   arena = record {
     memory = Some 0 ∷ replicate {A = Option ℕ} words None;
@@ -37,7 +37,7 @@ start words input = record {
 }
 
 -- a program's first procedure is entered in an arena of so many words
-abbrev pub run : List MidProcedure → (levels turns : ℕ) → List ℕ → (words : ℕ) → Outcome
+abbrev pub run : List MidProcedure → (levels turns : ℕ) → List ℕ → (words : ℕ) → MidOutcome
 run procedures levels turns arguments words = runs (program procedures) levels turns 0 arguments (start words [])
 
 -- the sum of two arguments
@@ -157,7 +157,7 @@ FellOut =
     × ((run falling 0 0 [] 8).state.cost ≡ 20 + 36 + 6 + 10 + 2 + 6)
 
 -- a procedure that is no program's entry, so that a cut out of it is not stuck by that
-abbrev pub run_alone : MidProcedure → Outcome
+abbrev pub run_alone : MidProcedure → MidOutcome
 run_alone p = levels (p ∷ []) 0 1 (enter p []) (start 8 [])
 
 -- a landing that cuts to the control record that it is of
@@ -175,7 +175,7 @@ abbrev pub CutNowhere : Type 0
 CutNowhere = (run_alone cutting_nowhere).end ≡ stuck
 
 -- a cut out of the program to a control record that none of its steps has laid, at the arena's end
-abbrev pub cut_out : Outcome
+abbrev pub cut_out : MidOutcome
 cut_out =
     runs (program (procedure 1 1 0 (cut_to 0 0 ∷ []) ∷ [])) 0 0 0 (32 ∷ [])
     (record (start 8 []) { arena = record (start 8 []).arena { blocks = record_of 1 ∷ [] } })

@@ -10,7 +10,7 @@ use std::marker::Model;
 /// A step of code. Contracts see it as the `MidStep` of specs/MidCode.antt.
 #[derive(Drop)]
 #[cycle(code)]
-pub struct Step {
+pub struct CodeStep {
     pub kind: StepKind,
 }
 
@@ -55,9 +55,9 @@ pub enum StepKind {
 }
 
 /// Steps in order.
-pub type Code = ItemList<Step>;
+pub type Code = ItemList<CodeStep>;
 
-impl Model for Step {
+impl Model for CodeStep {
     ghost use Rattle.mid_code.specs.MidCode.{MidStep, step_size};
 
     ghost Value = { MidStep };
@@ -77,11 +77,11 @@ impl Model for Step {
     ghost size_decreases = { λ s h. step_falls s.kind };
 }
 
-impl Step {
+impl CodeStep {
     /// A step of that kind.
-    pub fn new(kind: StepKind) -> Step
+    pub fn new(kind: StepKind) -> CodeStep
         ensures { result ≡ view_step kind }
     {
-        Step { kind }
+        CodeStep { kind }
     }
 }

@@ -8,7 +8,7 @@ pub mod operation;
 pub mod program;
 pub mod worked;
 
-pub use code::{Code, Step, StepKind};
+pub use code::{Code, CodeStep, StepKind};
 pub use laws::{law_arenas, law_blocks, law_costs, law_levels, law_printing, law_words};
 pub use operation::{
     Arithmetic, Callee, Comparison, Counted, Operation, Register, RegisterList, Test,

@@ -3,7 +3,7 @@ use Rattle.std.specs.Prelude.{◌≡◌, ℕ, ◌+◌, ◌*◌, true, nat_le, Li
 use Rattle.lang_meaning.specs.declared.primitive.Primitive.{Primitive}
 use Rattle.lang_meaning.specs.declared.primitive.Primitive.TheVariants.{Add, Subtract, Multiply, Divide, Modulo, NumberEqual, NumberNotEqual, NumberLess, NumberAtMost, NumberGreater, NumberAtLeast, Same, IsNull, IsCons, IsInteger, IsSymbol, IsCharacter, IsString, IsVector, IsFunction, IsGeneric, Cons, Car, Cdr, SetCar, SetCdr, MakeString, MakeVector, StringLength, VectorLength, CharAt, VectorRef, SetCharAt, SetVectorRef, CharCode, CodeChar, SymbolName, SymbolSerial, Gensym, ClassOf, ClassName, IsSubclass, IsInstance, Allocate, SlotCount, SlotPlace, SlotRef, SlotSet, SlotBound, SlotInitargs, SlotInitform, Continuable, StandardInput, StandardOutput, PutChar, IsFreshLine, GetByte, PeekByte}
 use Rattle.mid_code.specs.Arena.{activation_frame}
-use Rattle.mid_code.specs.State.{State, no_room, Outcome, with_arena}
+use Rattle.mid_code.specs.State.{MidState, no_room, MidOutcome, with_arena}
 use Rattle.mid_code.specs.Meaning.{enter, levels}
 use Rattle.mid_arena.specs.Tags.{nil_word, character_word}
 use Rattle.mid_arena.specs.Codes.{frame_words, procedure_of}
@@ -66,11 +66,11 @@ charges =
     ∷ charge PutChar (object_at input ∷ character_word 97 ∷ []) 5 ∷ charge Divide (number 1 ∷ number 0 ∷ []) 3 ∷ []
 
 -- with so many turns
-abbrev pub run_in_turns : ℕ → State → Charge → Outcome
+abbrev pub run_in_turns : ℕ → MidState → Charge → MidOutcome
 run_in_turns turns z c = levels [] turns 1 (enter (procedure_of c.which) c.arguments) z
 
 -- a caller's frame of one word more, so that with that one fewer are left than a primitive's frame takes
-abbrev pub narrow : State
+abbrev pub narrow : MidState
 narrow =
     with_arena (record (with_room 0).arena { blocks = record { words = 5; kind = activation_frame } ∷ [] }) (with_room 0)
 

@@ -1,7 +1,7 @@
 -- The arena in which primitives are run, word for word, and the state around it.
 use Rattle.std.specs.Prelude.{ℕ, ◌+◌, ◌*◌, ◌/◌, List, [], ◌∷◌, ◌++◌, length, map, replicate, Option, Some, None}
 use Rattle.mid_code.specs.Arena.{Block, activation_frame}
-use Rattle.mid_code.specs.State.{State}
+use Rattle.mid_code.specs.State.{MidState}
 use Rattle.mid_arena.specs.Tags.{nil_word, unbound_word, string_header, vector_header, instance_header, function_header, generic_header, class_header, input_header, output_header, symbol_header, fresh_header}
 use Rattle.mid_arena.specs.Codes.{frame_words}
 use Rattle.mid_examples.specs.Addresses.{cons_at, object_at, number, symbol_t, symbol_x, symbol_y, symbol_point, symbol_abcd, symbol_cons, symbol_empty, next_pair, abc, a_function, input, output, x_initargs, x_initform, points, dots, mishaps, domain_errors, integers, heap_begin, made, class_words}
@@ -111,7 +111,7 @@ caller = record { words = 4; kind = activation_frame }
 
 -- The state with so many words left beside the frame of a primitive. Two bytes were printed, hi, and two are left of the input, A and
 -- a newline.
-abbrev pub with_room : ℕ → State
+abbrev pub with_room : ℕ → MidState
 with_room room = record {
   arena = record {
     memory = words ++ replicate {A = Option ℕ} (frame_words + room + 4) None;

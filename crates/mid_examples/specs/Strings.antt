@@ -6,26 +6,26 @@ use Rattle.mid_arena.specs.Tags.{object_tag, nil_word, character_word, string_he
 use Rattle.mid_examples.specs.Addresses.{cons_at, object_at, number, minus, symbol_abcd, pair, empty_string, abc, abcd, abcde, made}
 use Rattle.mid_examples.specs.Ground.{four}
 use Rattle.mid_examples.specs.Kinds.{some_integers, some_characters, some_strings, others_than}
-use Rattle.mid_examples.specs.Rows.{gives, stores, makes, refuses, signals, wants, Does, DoesThen, RefusesEach, FitsError, FitsCondition, FitsObject}
+use Rattle.mid_examples.specs.Rows.{gives, stores, makes, refuses, signals, wants, RunsAlways, DoesThen, RefusesEach, FitsError, FitsCondition, FitsObject}
 use Rattle.mid_examples.specs.Sums.{greatest, least}
 
 pub record MakeStringRows : Type 0 where
   -- no byte, one, three, four, five and eight: none, one or two words behind the length
-  pub of_none : Does MakeString (number 0 ∷ character_word 97 ∷ []) (makes object_tag (string_header ∷ number 0 ∷ []))
-  pub of_one : Does MakeString (number 1 ∷ character_word 97 ∷ []) (makes object_tag (string_header ∷ number 1 ∷ four 97 0 0 0 ∷ []))
-  pub of_two : Does MakeString (number 2 ∷ character_word 97 ∷ []) (makes object_tag (string_header ∷ number 2 ∷ four 97 97 0 0 ∷ []))
-  pub of_three : Does MakeString (number 3 ∷ character_word 97 ∷ []) (makes object_tag (string_header ∷ number 3 ∷ four 97 97 97 0 ∷ []))
-  pub of_four : Does MakeString (number 4 ∷ character_word 97 ∷ []) (makes object_tag (string_header ∷ number 4 ∷ four 97 97 97 97 ∷ []))
+  pub of_none : RunsAlways MakeString (number 0 ∷ character_word 97 ∷ []) (makes object_tag (string_header ∷ number 0 ∷ []))
+  pub of_one : RunsAlways MakeString (number 1 ∷ character_word 97 ∷ []) (makes object_tag (string_header ∷ number 1 ∷ four 97 0 0 0 ∷ []))
+  pub of_two : RunsAlways MakeString (number 2 ∷ character_word 97 ∷ []) (makes object_tag (string_header ∷ number 2 ∷ four 97 97 0 0 ∷ []))
+  pub of_three : RunsAlways MakeString (number 3 ∷ character_word 97 ∷ []) (makes object_tag (string_header ∷ number 3 ∷ four 97 97 97 0 ∷ []))
+  pub of_four : RunsAlways MakeString (number 4 ∷ character_word 97 ∷ []) (makes object_tag (string_header ∷ number 4 ∷ four 97 97 97 97 ∷ []))
   pub of_five :
-      Does MakeString (number 5 ∷ character_word 97 ∷ [])
+      RunsAlways MakeString (number 5 ∷ character_word 97 ∷ [])
       (makes object_tag (string_header ∷ number 5 ∷ four 97 97 97 97 ∷ four 97 0 0 0 ∷ []))
   pub of_eight :
-      Does MakeString (number 8 ∷ character_word 97 ∷ [])
+      RunsAlways MakeString (number 8 ∷ character_word 97 ∷ [])
       (makes object_tag (string_header ∷ number 8 ∷ four 97 97 97 97 ∷ four 97 97 97 97 ∷ []))
   -- of the first and of the last character
-  pub of_first : Does MakeString (number 2 ∷ character_word 0 ∷ []) (makes object_tag (string_header ∷ number 2 ∷ four 0 0 0 0 ∷ []))
+  pub of_first : RunsAlways MakeString (number 2 ∷ character_word 0 ∷ []) (makes object_tag (string_header ∷ number 2 ∷ four 0 0 0 0 ∷ []))
   pub of_last :
-      Does MakeString (number 5 ∷ character_word 255 ∷ [])
+      RunsAlways MakeString (number 5 ∷ character_word 255 ∷ [])
       (makes object_tag (string_header ∷ number 5 ∷ four 255 255 255 255 ∷ four 255 0 0 0 ∷ []))
   -- what was made has that length, and is read as it was made
   pub length_then :
@@ -35,15 +35,15 @@ pub record MakeStringRows : Type 0 where
       DoesThen (makes object_tag (string_header ∷ number 5 ∷ four 97 97 97 97 ∷ four 97 0 0 0 ∷ [])) CharAt
       (object_at made ∷ number 4 ∷ []) (gives (character_word 97))
   -- a length below zero
-  pub below : Does MakeString (minus 1 ∷ character_word 97 ∷ []) (refuses (minus 1) integer_class)
-  pub far_below : Does MakeString (least ∷ character_word 97 ∷ []) (refuses least integer_class)
+  pub below : RunsAlways MakeString (minus 1 ∷ character_word 97 ∷ []) (refuses (minus 1) integer_class)
+  pub far_below : RunsAlways MakeString (least ∷ character_word 97 ∷ []) (refuses least integer_class)
   -- the greatest length takes 2 ^ 27 words for the bytes
-  pub far_above : Does MakeString (greatest ∷ character_word 97 ∷ []) (wants (2 + 2 ^ 27) 16)
+  pub far_above : RunsAlways MakeString (greatest ∷ character_word 97 ∷ []) (wants (2 + 2 ^ 27) 16)
   pub length_refused : RefusesEach MakeString (λ w. w ∷ character_word 97 ∷ []) (others_than some_integers) integer_class
   pub character_refused : RefusesEach MakeString (λ w. number 1 ∷ w ∷ []) (others_than some_characters) character_class
   -- the length is tested first, but whether it is below zero last
-  pub first_of_two : Does MakeString (nil_word ∷ number 1 ∷ []) (refuses nil_word integer_class)
-  pub class_before_range : Does MakeString (minus 1 ∷ number 1 ∷ []) (refuses (number 1) character_class)
+  pub first_of_two : RunsAlways MakeString (nil_word ∷ number 1 ∷ []) (refuses nil_word integer_class)
+  pub class_before_range : RunsAlways MakeString (minus 1 ∷ number 1 ∷ []) (refuses (number 1) character_class)
   pub none_fits : FitsObject MakeString (number 0 ∷ character_word 97 ∷ []) object_tag (string_header ∷ number 0 ∷ [])
   pub four_fits :
       FitsObject MakeString (number 4 ∷ character_word 97 ∷ []) object_tag (string_header ∷ number 4 ∷ four 97 97 97 97 ∷ [])
@@ -54,37 +54,37 @@ pub record MakeStringRows : Type 0 where
   pub below_fits : FitsError MakeString (minus 1 ∷ character_word 97 ∷ []) (minus 1) integer_class
 
 pub record StringLengthRows : Type 0 where
-  pub of_none : Does StringLength (object_at empty_string ∷ []) (gives (number 0))
-  pub of_three : Does StringLength (object_at abc ∷ []) (gives (number 3))
-  pub of_four : Does StringLength (object_at abcd ∷ []) (gives (number 4))
-  pub of_five : Does StringLength (object_at abcde ∷ []) (gives (number 5))
+  pub of_none : RunsAlways StringLength (object_at empty_string ∷ []) (gives (number 0))
+  pub of_three : RunsAlways StringLength (object_at abc ∷ []) (gives (number 3))
+  pub of_four : RunsAlways StringLength (object_at abcd ∷ []) (gives (number 4))
+  pub of_five : RunsAlways StringLength (object_at abcde ∷ []) (gives (number 5))
   -- a symbol is no string
-  pub symbol_refused : Does StringLength (object_at symbol_abcd ∷ []) (refuses (object_at symbol_abcd) string_class)
+  pub symbol_refused : RunsAlways StringLength (object_at symbol_abcd ∷ []) (refuses (object_at symbol_abcd) string_class)
   pub refused : RefusesEach StringLength (λ w. w ∷ []) (others_than some_strings) string_class
   pub fits : FitsError StringLength (nil_word ∷ []) nil_word string_class
   pub header_fits : FitsError StringLength (object_at symbol_abcd ∷ []) (object_at symbol_abcd) string_class
 
 pub record CharAtRows : Type 0 where
   -- the bytes of abcde, the last one in a word of its own
-  pub first : Does CharAt (object_at abcde ∷ number 0 ∷ []) (gives (character_word 97))
-  pub second : Does CharAt (object_at abcde ∷ number 1 ∷ []) (gives (character_word 98))
-  pub third : Does CharAt (object_at abcde ∷ number 2 ∷ []) (gives (character_word 99))
-  pub fourth : Does CharAt (object_at abcde ∷ number 3 ∷ []) (gives (character_word 100))
-  pub last : Does CharAt (object_at abcde ∷ number 4 ∷ []) (gives (character_word 101))
+  pub first : RunsAlways CharAt (object_at abcde ∷ number 0 ∷ []) (gives (character_word 97))
+  pub second : RunsAlways CharAt (object_at abcde ∷ number 1 ∷ []) (gives (character_word 98))
+  pub third : RunsAlways CharAt (object_at abcde ∷ number 2 ∷ []) (gives (character_word 99))
+  pub fourth : RunsAlways CharAt (object_at abcde ∷ number 3 ∷ []) (gives (character_word 100))
+  pub last : RunsAlways CharAt (object_at abcde ∷ number 4 ∷ []) (gives (character_word 101))
   -- the last ones of shorter strings
-  pub last_of_three : Does CharAt (object_at abc ∷ number 2 ∷ []) (gives (character_word 99))
-  pub last_of_four : Does CharAt (object_at abcd ∷ number 3 ∷ []) (gives (character_word 100))
+  pub last_of_three : RunsAlways CharAt (object_at abc ∷ number 2 ∷ []) (gives (character_word 99))
+  pub last_of_four : RunsAlways CharAt (object_at abcd ∷ number 3 ∷ []) (gives (character_word 100))
   -- one beyond, also where the word has a byte there, and as far beyond as can be
-  pub below : Does CharAt (object_at abcde ∷ minus 1 ∷ []) (signals program_error_class)
-  pub above : Does CharAt (object_at abcde ∷ number 5 ∷ []) (signals program_error_class)
-  pub above_three : Does CharAt (object_at abc ∷ number 3 ∷ []) (signals program_error_class)
-  pub above_four : Does CharAt (object_at abcd ∷ number 4 ∷ []) (signals program_error_class)
-  pub of_none : Does CharAt (object_at empty_string ∷ number 0 ∷ []) (signals program_error_class)
-  pub far_below : Does CharAt (object_at abcde ∷ least ∷ []) (signals program_error_class)
-  pub far_above : Does CharAt (object_at abcde ∷ greatest ∷ []) (signals program_error_class)
+  pub below : RunsAlways CharAt (object_at abcde ∷ minus 1 ∷ []) (signals program_error_class)
+  pub above : RunsAlways CharAt (object_at abcde ∷ number 5 ∷ []) (signals program_error_class)
+  pub above_three : RunsAlways CharAt (object_at abc ∷ number 3 ∷ []) (signals program_error_class)
+  pub above_four : RunsAlways CharAt (object_at abcd ∷ number 4 ∷ []) (signals program_error_class)
+  pub of_none : RunsAlways CharAt (object_at empty_string ∷ number 0 ∷ []) (signals program_error_class)
+  pub far_below : RunsAlways CharAt (object_at abcde ∷ least ∷ []) (signals program_error_class)
+  pub far_above : RunsAlways CharAt (object_at abcde ∷ greatest ∷ []) (signals program_error_class)
   pub string_refused : RefusesEach CharAt (λ w. w ∷ number 0 ∷ []) (others_than some_strings) string_class
   pub index_refused : RefusesEach CharAt (λ w. object_at abc ∷ w ∷ []) (others_than some_integers) integer_class
-  pub first_of_two : Does CharAt (number 0 ∷ nil_word ∷ []) (refuses (number 0) string_class)
+  pub first_of_two : RunsAlways CharAt (number 0 ∷ nil_word ∷ []) (refuses (number 0) string_class)
   pub string_fits : FitsError CharAt (nil_word ∷ number 0 ∷ []) nil_word string_class
   pub index_fits : FitsError CharAt (object_at abc ∷ nil_word ∷ []) nil_word integer_class
   pub above_fits : FitsCondition CharAt (object_at abc ∷ number 3 ∷ []) program_error_class
@@ -93,33 +93,33 @@ pub record CharAtRows : Type 0 where
 pub record SetCharAtRows : Type 0 where
   -- each byte of abcde becomes Z
   pub first :
-      Does SetCharAt (character_word 90 ∷ object_at abcde ∷ number 0 ∷ []) (stores (character_word 90) (abcde + 8) (four 90 98 99 100 ∷ []))
+      RunsAlways SetCharAt (character_word 90 ∷ object_at abcde ∷ number 0 ∷ []) (stores (character_word 90) (abcde + 8) (four 90 98 99 100 ∷ []))
   pub second :
-      Does SetCharAt (character_word 90 ∷ object_at abcde ∷ number 1 ∷ []) (stores (character_word 90) (abcde + 8) (four 97 90 99 100 ∷ []))
+      RunsAlways SetCharAt (character_word 90 ∷ object_at abcde ∷ number 1 ∷ []) (stores (character_word 90) (abcde + 8) (four 97 90 99 100 ∷ []))
   pub third :
-      Does SetCharAt (character_word 90 ∷ object_at abcde ∷ number 2 ∷ []) (stores (character_word 90) (abcde + 8) (four 97 98 90 100 ∷ []))
+      RunsAlways SetCharAt (character_word 90 ∷ object_at abcde ∷ number 2 ∷ []) (stores (character_word 90) (abcde + 8) (four 97 98 90 100 ∷ []))
   pub fourth :
-      Does SetCharAt (character_word 90 ∷ object_at abcde ∷ number 3 ∷ []) (stores (character_word 90) (abcde + 8) (four 97 98 99 90 ∷ []))
+      RunsAlways SetCharAt (character_word 90 ∷ object_at abcde ∷ number 3 ∷ []) (stores (character_word 90) (abcde + 8) (four 97 98 99 90 ∷ []))
   pub last :
-      Does SetCharAt (character_word 90 ∷ object_at abcde ∷ number 4 ∷ []) (stores (character_word 90) (abcde + 12) (four 90 0 0 0 ∷ []))
+      RunsAlways SetCharAt (character_word 90 ∷ object_at abcde ∷ number 4 ∷ []) (stores (character_word 90) (abcde + 12) (four 90 0 0 0 ∷ []))
   -- the first and the last character
   pub to_first :
-      Does SetCharAt (character_word 0 ∷ object_at abc ∷ number 1 ∷ []) (stores (character_word 0) (abc + 8) (four 97 0 99 0 ∷ []))
+      RunsAlways SetCharAt (character_word 0 ∷ object_at abc ∷ number 1 ∷ []) (stores (character_word 0) (abc + 8) (four 97 0 99 0 ∷ []))
   pub to_last :
-      Does SetCharAt (character_word 255 ∷ object_at abcd ∷ number 3 ∷ []) (stores (character_word 255) (abcd + 8) (four 97 98 99 255 ∷ []))
+      RunsAlways SetCharAt (character_word 255 ∷ object_at abcd ∷ number 3 ∷ []) (stores (character_word 255) (abcd + 8) (four 97 98 99 255 ∷ []))
   pub to_last_of_three :
-      Does SetCharAt (character_word 255 ∷ object_at abc ∷ number 2 ∷ []) (stores (character_word 255) (abc + 8) (four 97 98 255 0 ∷ []))
+      RunsAlways SetCharAt (character_word 255 ∷ object_at abc ∷ number 2 ∷ []) (stores (character_word 255) (abc + 8) (four 97 98 255 0 ∷ []))
   -- what was set is there
   pub then_read :
       DoesThen (stores (character_word 90) (abcde + 12) (four 90 0 0 0 ∷ [])) CharAt (object_at abcde ∷ number 4 ∷ [])
       (gives (character_word 90))
   -- one beyond, and as far beyond as can be
-  pub below : Does SetCharAt (character_word 90 ∷ object_at abc ∷ minus 1 ∷ []) (signals program_error_class)
-  pub above : Does SetCharAt (character_word 90 ∷ object_at abc ∷ number 3 ∷ []) (signals program_error_class)
-  pub above_four : Does SetCharAt (character_word 90 ∷ object_at abcd ∷ number 4 ∷ []) (signals program_error_class)
-  pub of_none : Does SetCharAt (character_word 90 ∷ object_at empty_string ∷ number 0 ∷ []) (signals program_error_class)
-  pub far_below : Does SetCharAt (character_word 90 ∷ object_at abc ∷ least ∷ []) (signals program_error_class)
-  pub far_above : Does SetCharAt (character_word 90 ∷ object_at abc ∷ greatest ∷ []) (signals program_error_class)
+  pub below : RunsAlways SetCharAt (character_word 90 ∷ object_at abc ∷ minus 1 ∷ []) (signals program_error_class)
+  pub above : RunsAlways SetCharAt (character_word 90 ∷ object_at abc ∷ number 3 ∷ []) (signals program_error_class)
+  pub above_four : RunsAlways SetCharAt (character_word 90 ∷ object_at abcd ∷ number 4 ∷ []) (signals program_error_class)
+  pub of_none : RunsAlways SetCharAt (character_word 90 ∷ object_at empty_string ∷ number 0 ∷ []) (signals program_error_class)
+  pub far_below : RunsAlways SetCharAt (character_word 90 ∷ object_at abc ∷ least ∷ []) (signals program_error_class)
+  pub far_above : RunsAlways SetCharAt (character_word 90 ∷ object_at abc ∷ greatest ∷ []) (signals program_error_class)
   pub character_refused :
       RefusesEach SetCharAt (λ w. w ∷ object_at abc ∷ number 0 ∷ []) (others_than some_characters) character_class
   pub string_refused :
@@ -127,8 +127,8 @@ pub record SetCharAtRows : Type 0 where
   pub index_refused :
       RefusesEach SetCharAt (λ w. character_word 90 ∷ object_at abc ∷ w ∷ []) (others_than some_integers) integer_class
   -- from left to right
-  pub first_of_three : Does SetCharAt (number 1 ∷ nil_word ∷ cons_at pair ∷ []) (refuses (number 1) character_class)
-  pub second_of_two : Does SetCharAt (character_word 90 ∷ nil_word ∷ cons_at pair ∷ []) (refuses nil_word string_class)
+  pub first_of_three : RunsAlways SetCharAt (number 1 ∷ nil_word ∷ cons_at pair ∷ []) (refuses (number 1) character_class)
+  pub second_of_two : RunsAlways SetCharAt (character_word 90 ∷ nil_word ∷ cons_at pair ∷ []) (refuses nil_word string_class)
   pub character_fits : FitsError SetCharAt (nil_word ∷ object_at abc ∷ number 0 ∷ []) nil_word character_class
   pub string_fits : FitsError SetCharAt (character_word 90 ∷ nil_word ∷ number 0 ∷ []) nil_word string_class
   pub index_fits : FitsError SetCharAt (character_word 90 ∷ object_at abc ∷ nil_word ∷ []) nil_word integer_class

@@ -21,19 +21,19 @@ use Rattle.mid_lines.proofs.Lying.{code_length}
 
 -- lines of which each passes
 
-record Passes (p : Line → Bool) (xs : List Line) : Type 0 where
+record AllPass (p : Line → Bool) (xs : List Line) : Type 0 where
   all : list_all p xs ≡ true
 
-none : (p : Line → Bool) → Passes p []
+none : (p : Line → Bool) → AllPass p []
 none p = record { all = refl }
 
-one_more : (p : Line → Bool) (x : Line) (xs : List Line) → p x ≡ true → Passes p xs → Passes p (x ∷ xs)
+one_more : (p : Line → Bool) (x : Line) (xs : List Line) → p x ≡ true → AllPass p xs → AllPass p (x ∷ xs)
 one_more p x xs h k = record { all = both_true (p x) (list_all p xs) h k.all }
 
-appended : (p : Line → Bool) (xs ys : List Line) → Passes p xs → Passes p ys → Passes p (xs ++ ys)
+appended : (p : Line → Bool) (xs ys : List Line) → AllPass p xs → AllPass p ys → AllPass p (xs ++ ys)
 appended p xs ys h k = record { all = list_all-append p xs ys ∙ both_true (list_all p xs) (list_all p ys) h.all k.all }
 
-one_line : (p : Line → Bool) (x : Line) → p x ≡ true → Passes p (x ∷ [])
+one_line : (p : Line → Bool) (x : Line) → p x ≡ true → AllPass p (x ∷ [])
 one_line p x h = one_more p x [] h (none p)
 
 -- lines that fit
@@ -46,7 +46,7 @@ module _ (registers lines : ℕ) where
   target to h = le-leb to lines h
 
   mutual
-    step_fit : (s : MidStep) (at : ℕ) → tree.step_fits registers s ≡ true → at + step_line_count s ≤ lines → Passes fits (step_lines at s)
+    step_fit : (s : MidStep) (at : ℕ) → tree.step_fits registers s ≡ true → at + step_line_count s ≤ lines → AllPass fits (step_lines at s)
     step_fit (perform o) at h le = one_line fits (Do o) h
     step_fit (choose t first second) at h le =
         let tests_first = front_true (tree.test_fits registers t && tree.code_fits registers first) (tree.code_fits registers second) h in
@@ -91,7 +91,7 @@ module _ (registers lines : ℕ) where
     step_fit (halt_with r) at h le = one_line fits (Halt r) h
     step_fit (end_unhandled class site) at h le = one_line fits (Unhandled class site) h
 
-    code_fit : (c : MidCode) (at : ℕ) → tree.code_fits registers c ≡ true → at + line_count c ≤ lines → Passes fits (code_lines at c)
+    code_fit : (c : MidCode) (at : ℕ) → tree.code_fits registers c ≡ true → at + line_count c ≤ lines → AllPass fits (code_lines at c)
     code_fit no_step at h le = none fits
     code_fit (step_and s c) at h le =
         appended fits (step_lines at s) (code_lines (at + step_line_count s) c)
@@ -121,7 +121,7 @@ module _ (procedures : List MidProcedure) where
   operation_same w h = refl
 
   mutual
-    step_call : (s : MidStep) (at : ℕ) → tree.step_calls procedures s ≡ true → Passes calls (step_lines at s)
+    step_call : (s : MidStep) (at : ℕ) → tree.step_calls procedures s ≡ true → AllPass calls (step_lines at s)
     step_call (perform o) at h = one_line calls (Do o) (operation_same o h)
     step_call (choose t first second) at h =
         let one = front_true (tree.code_calls procedures first) (tree.code_calls procedures second) h in
@@ -151,7 +151,7 @@ module _ (procedures : List MidProcedure) where
     step_call (halt_with r) at h = one_line calls (Halt r) refl
     step_call (end_unhandled class site) at h = one_line calls (Unhandled class site) refl
 
-    code_call : (c : MidCode) (at : ℕ) → tree.code_calls procedures c ≡ true → Passes calls (code_lines at c)
+    code_call : (c : MidCode) (at : ℕ) → tree.code_calls procedures c ≡ true → AllPass calls (code_lines at c)
     code_call no_step at h = none calls
     code_call (step_and s c) at h =
         appended calls (step_lines at s) (code_lines (at + step_line_count s) c)

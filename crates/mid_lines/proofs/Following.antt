@@ -15,7 +15,7 @@ use Rattle.mid_code.specs.MidCode.{MidStep, perform, choose, repeat, with_block,
 use Rattle.mid_code.specs.Words.{compares}
 use Rattle.mid_code.specs.Arena.{Block, activation_frame, record_of, lent_from, left, with_blocks, with_new_block, blocks_outside, blocks_closed}
 use Rattle.mid_code.specs.Costs.{operation_cost, test_cost, jump_cost, record_cost, give_back_cost, entry_cost}
-use Rattle.mid_code.specs.State.{Registers, first_registers, State, End, falls, returns, cuts, no_room, no_level, no_turn, halts, unhandled, exhausted, stuck, Outcome, Next, ends, charged, with_arena, go_on, with_some, choose_by, register, with_register, with_registers, jumped, landed}
+use Rattle.mid_code.specs.State.{Registers, first_registers, MidState, End, falls, returns, cuts, no_room, no_level, no_turn, halts, unhandled, exhausted, stuck, MidOutcome, Next, ends, charged, with_arena, go_on, with_some, choose_by, register, with_register, with_registers, jumped, landed}
 use Rattle.mid_code.specs.Law.{IsReached}
 use Rattle.mid_code.specs.Meaning.{lay, get_from, give_back, run_inside, run_landing, with_record, test, Task, enter, again, Context, context_of, called, leaves, count, with_callee, exec, exec_step, run_task}
 use Rattle.mid_lines.specs.declared.line.Line.{Line}
@@ -25,33 +25,33 @@ use Rattle.mid_lines.specs.Lines.{lines_in, lines_of, line_of}
 use Rattle.mid_lines.specs.LineMeaning.{Standing, Activation, with_standing, Caller, Stage, running, entering, ended, standing_from, arrive, land_at, land, cut_outwards, proceed, enter_at, both, branch, words_before, words_in, callee_in, call, do_line, next, after}
 use Rattle.mid_lines.specs.Flattened.{step_line_count, line_count, code_lines, procedure_lines, program_lines}
 use Rattle.mid_lines.proofs.Lying.{StepLies, CodeLies, all_lies, code_length}
-use Rattle.mid_lines.proofs.Coming.{Comes, Meets, left_from, after_coming, after_step, then_meets, meets_to, meets_from, ended_here, met_here, land_same, go_on_meets, code_on, jumped_on}
+use Rattle.mid_lines.proofs.Coming.{ReachesStage, Meets, left_from, after_coming, after_step, then_meets, meets_to, meets_from, ended_here, met_here, land_same, go_on_meets, code_on, jumped_on}
 
 -- an activation that stands in the program's lines does, from a stage on, what an outcome says, and goes on at a line where that falls out
-abbrev Does : LineProgram → (least : ℕ) → Stage → Activation → (to : ℕ) → List Caller → Outcome → Type 0
-Does program least s a to callers r = Meets program least s (proceed program a to callers r) r.end r.state
+abbrev FollowsOutcome : LineProgram → (least : ℕ) → Stage → Activation → (to : ℕ) → List Caller → MidOutcome → Type 0
+FollowsOutcome program least s a to callers r = Meets program least s (proceed program a to callers r) r.end r.state
 
 -- the callers do, from a stage on, what an outcome of the procedure that they called says
-abbrev Leaves : LineProgram → (least : ℕ) → Stage → List Caller → Outcome → Type 0
-Leaves program least s callers r = Meets program least s (left_from program r.end callers r.state) r.end r.state
+abbrev CallersFollow : LineProgram → (least : ℕ) → Stage → List Caller → MidOutcome → Type 0
+CallersFollow program least s callers r = Meets program least s (left_from program r.end callers r.state) r.end r.state
 
 -- a control record with so many blocks outside, which lends so many words, with the line of its landing
 abbrev standing_at : (outside words landing : ℕ) → (is_open : Bool) → Standing
 standing_at outside words landing is_open = record { outside = outside; words = words; landing = landing; is_open = is_open }
 
 -- what tasks do is done by the machine, with at least so many steps before an end for want of levels or turns
-pub record TasksMeet (mid : MidProgram) (least : ℕ) (f : Task → State → Outcome) : Type 0 where
+pub record TasksMeet (mid : MidProgram) (least : ℕ) (f : Task → MidState → MidOutcome) : Type 0 where
   pub enters :
-      (n : ℕ) (p : MidProcedure) → slice_get mid.procedures n ≡ Some p → (arguments : List ℕ) (callers : List Caller) (z : State)
-      → Leaves (program_lines mid) least (entering n arguments callers z) callers (f (enter p arguments) z)
+      (n : ℕ) (p : MidProcedure) → slice_get mid.procedures n ≡ Some p → (arguments : List ℕ) (callers : List Caller) (z : MidState)
+      → CallersFollow (program_lines mid) least (entering n arguments callers z) callers (f (enter p arguments) z)
   pub goes_again :
-      (s : MidStep) (at : ℕ) (a : Activation) (rs : Registers) (callers : List Caller) (z : State) → StepLies (lines_of (program_lines mid) a.procedure) at s
-      → Does (program_lines mid) least (running a at rs callers z) a (at + step_line_count s) callers (f (again s rs) z)
+      (s : MidStep) (at : ℕ) (a : Activation) (rs : Registers) (callers : List Caller) (z : MidState) → StepLies (lines_of (program_lines mid) a.procedure) at s
+      → FollowsOutcome (program_lines mid) least (running a at rs callers z) a (at + step_line_count s) callers (f (again s rs) z)
 
 -- lines, in any program of lines
 
 words_on :
-    (o : Option ℕ) (list : List ℕ) (k : List ℕ → Next) (rs : Registers) (z : State)
+    (o : Option ℕ) (list : List ℕ) (k : List ℕ → Next) (rs : Registers) (z : MidState)
     → ((k : List ℕ → Next) → with_registers list k rs z ≡ with_some (words_in list rs) k rs z)
     → with_some o (λ w. with_registers list (λ ws. k (w ∷ ws))) rs z ≡ with_some (words_before o (words_in list rs)) k rs z
 unfolding with_some
@@ -62,28 +62,28 @@ words_on (Some w) list k rs z h = h (λ ws. k (w ∷ ws)) ∙ before (words_in l
     before None = refl
     before (Some ws) = refl
 
-words_same : (list : List ℕ) (k : List ℕ → Next) (rs : Registers) (z : State) → with_registers list k rs z ≡ with_some (words_in list rs) k rs z
+words_same : (list : List ℕ) (k : List ℕ → Next) (rs : Registers) (z : MidState) → with_registers list k rs z ≡ with_some (words_in list rs) k rs z
 unfolding with_registers with_some
 words_same [] k rs z = refl
 words_same (r ∷ more) k rs z = words_on (register r rs) more k rs z (λ k. words_same more k rs z)
 
 -- what operations and single steps come to is reached
 
-some_reached : {X : Type 0} (o : Option X) (f : X → Next) (rs : Registers) (z : State) → ((x : X) → IsReached (f x rs z).end) → IsReached (with_some o f rs z).end
+some_reached : {X : Type 0} (o : Option X) (f : X → Next) (rs : Registers) (z : MidState) → ((x : X) → IsReached (f x rs z).end) → IsReached (with_some o f rs z).end
 unfolding with_some
 some_reached None f rs z h = tt
 some_reached (Some x) f rs z h = h x
 
-choice_reached : (t : Bool) (f g : Next) (rs : Registers) (z : State) → IsReached (f rs z).end → IsReached (g rs z).end → IsReached (choose_by t f g rs z).end
+choice_reached : (t : Bool) (f g : Next) (rs : Registers) (z : MidState) → IsReached (f rs z).end → IsReached (g rs z).end → IsReached (choose_by t f g rs z).end
 unfolding choose_by
 choice_reached true f g rs z h k = h
 choice_reached false f g rs z h k = k
 
-get_reached : (bytes : List ℕ) (to : ℕ) (rs : Registers) (z : State) → IsReached (get_from bytes to rs z).end
+get_reached : (bytes : List ℕ) (to : ℕ) (rs : Registers) (z : MidState) → IsReached (get_from bytes to rs z).end
 get_reached [] to rs z = tt
 get_reached (byte ∷ bytes) to rs z = tt
 
-give_back_reached : (outside : ℕ) (rs : Registers) (z : State) → IsReached (give_back outside rs z).end
+give_back_reached : (outside : ℕ) (rs : Registers) (z : MidState) → IsReached (give_back outside rs z).end
 give_back_reached outside rs z = some_reached _ _ rs _ (λ bs. tt)
 
 same_number : (n : ℕ) → (n == n) ≡ true
@@ -91,28 +91,28 @@ same_number n = eq-eqb n n refl
 
 module _ (program : LineProgram) where
   at_line :
-      (a : Activation) (line : ℕ) (rs : Registers) (callers : List Caller) (z : State) (x : Line) → line_of program a.procedure line ≡ Some x
+      (a : Activation) (line : ℕ) (rs : Registers) (callers : List Caller) (z : MidState) (x : Line) → line_of program a.procedure line ≡ Some x
       → next program (running a line rs callers z) ≡ do_line program (Some x) a line rs callers z
   at_line a line rs callers z x h = ap (λ o. do_line program o a line rs callers z) h
 
   second_meets :
-      (k : ℕ) (m : ℕ) (p : Option ℕ) (compare : ℕ → ℕ → Bool) (a : Activation) (after otherwise to : ℕ) (rs : Registers) (callers : List Caller) (z : State) (f g : Next)
-      → Does program k (running a after rs callers z) a to callers (f rs z)
-      → Does program k (running a otherwise rs callers z) a to callers (g rs z)
-      → Does program k (branch (both (Some m) p compare) a after otherwise rs callers z) a to callers (with_some p (λ n. choose_by (compare m n) f g) rs z)
+      (k : ℕ) (m : ℕ) (p : Option ℕ) (compare : ℕ → ℕ → Bool) (a : Activation) (after otherwise to : ℕ) (rs : Registers) (callers : List Caller) (z : MidState) (f g : Next)
+      → FollowsOutcome program k (running a after rs callers z) a to callers (f rs z)
+      → FollowsOutcome program k (running a otherwise rs callers z) a to callers (g rs z)
+      → FollowsOutcome program k (branch (both (Some m) p compare) a after otherwise rs callers z) a to callers (with_some p (λ n. choose_by (compare m n) f g) rs z)
   unfolding with_some choose_by proceed
   second_meets k m None compare a after otherwise to rs callers z f g h i = ended_here program k stuck z tt
   second_meets k m (Some n) compare a after otherwise to rs callers z f g h i = by (compare m n)
     where
-      by : (t : Bool) → Does program k (branch (Some t) a after otherwise rs callers z) a to callers (choose_by t f g rs z)
+      by : (t : Bool) → FollowsOutcome program k (branch (Some t) a after otherwise rs callers z) a to callers (choose_by t f g rs z)
       by true = h
       by false = i
 
   branch_meets :
-      (k : ℕ) (o : Option ℕ) (second : ℕ) (compare : ℕ → ℕ → Bool) (a : Activation) (after otherwise to : ℕ) (rs : Registers) (callers : List Caller) (z : State) (f g : Next)
-      → Does program k (running a after rs callers z) a to callers (f rs z)
-      → Does program k (running a otherwise rs callers z) a to callers (g rs z)
-      → Does program k (branch (both o (register second rs) compare) a after otherwise rs callers z) a to callers
+      (k : ℕ) (o : Option ℕ) (second : ℕ) (compare : ℕ → ℕ → Bool) (a : Activation) (after otherwise to : ℕ) (rs : Registers) (callers : List Caller) (z : MidState) (f g : Next)
+      → FollowsOutcome program k (running a after rs callers z) a to callers (f rs z)
+      → FollowsOutcome program k (running a otherwise rs callers z) a to callers (g rs z)
+      → FollowsOutcome program k (branch (both o (register second rs) compare) a after otherwise rs callers z) a to callers
       (with_some o (λ m. with_register second (λ n. choose_by (compare m n) f g)) rs z)
   unfolding with_some proceed
   branch_meets k None second compare a after otherwise to rs callers z f g h i = ended_here program k stuck z tt
@@ -120,35 +120,35 @@ module _ (program : LineProgram) where
       second_meets k m (register second rs) compare a after otherwise to rs callers z f g h i
 
   test_meets :
-      (k : ℕ) (t : Test) (a : Activation) (line otherwise to : ℕ) (rs : Registers) (callers : List Caller) (z : State) (f g : Next)
+      (k : ℕ) (t : Test) (a : Activation) (line otherwise to : ℕ) (rs : Registers) (callers : List Caller) (z : MidState) (f g : Next)
       → line_of program a.procedure line ≡ Some (Branch t otherwise)
-      → ((y : State) → Does program k (running a (line + 1) rs callers y) a to callers (f rs y))
-      → ((y : State) → Does program k (running a otherwise rs callers y) a to callers (g rs y))
-      → Does program k (running a line rs callers z) a to callers (test t f g rs z)
+      → ((y : MidState) → FollowsOutcome program k (running a (line + 1) rs callers y) a to callers (f rs y))
+      → ((y : MidState) → FollowsOutcome program k (running a otherwise rs callers y) a to callers (g rs y))
+      → FollowsOutcome program k (running a line rs callers z) a to callers (test t f g rs z)
   test_meets k t a line otherwise to rs callers z f g e h i =
       then_meets program (at_line a line rs callers z (Branch t otherwise) e)
       (branch_meets k (register t.first rs) t.second (compares t.comparison) a (line + 1) otherwise to rs callers (charged test_cost z) f g (h _) (i _))
 
   -- a jump to where the outcome goes on
   jump_meets :
-      (k : ℕ) (a : Activation) (line to : ℕ) (rs : Registers) (callers : List Caller) (z : State) → line_of program a.procedure line ≡ Some (Jump to)
-      → Does program k (running a line rs callers z) a to callers (ends falls rs (charged jump_cost z))
+      (k : ℕ) (a : Activation) (line to : ℕ) (rs : Registers) (callers : List Caller) (z : MidState) → line_of program a.procedure line ≡ Some (Jump to)
+      → FollowsOutcome program k (running a line rs callers z) a to callers (ends falls rs (charged jump_cost z))
   unfolding proceed
   jump_meets k a line to rs callers z e =
       then_meets program (at_line a line rs callers z (Jump to) e) (met_here program k a to callers (ends falls rs (charged jump_cost z)) tt)
 
   -- code and a jump behind it
   jumped_meets :
-      (k : ℕ) (s : Stage) (a : Activation) (line to : ℕ) (callers : List Caller) (r : Outcome) → line_of program a.procedure line ≡ Some (Jump to)
-      → Does program k s a line callers r → Does program k s a to callers (jumped r)
+      (k : ℕ) (s : Stage) (a : Activation) (line to : ℕ) (callers : List Caller) (r : MidOutcome) → line_of program a.procedure line ≡ Some (Jump to)
+      → FollowsOutcome program k s a line callers r → FollowsOutcome program k s a to callers (jumped r)
   jumped_meets k s a line to callers r e m =
       code_on program k s a line to callers r (λ rs z. ends falls rs (charged jump_cost z)) m (λ rs z. jump_meets k a line to rs callers z e)
 
   -- a block is laid, or there is no room
   lay_meets :
-      (k : ℕ) (b : Block) (f g : Next) (a : Activation) (line : ℕ) (callers : List Caller) (to : Outcome → Stage) (rs : Registers) (z : State)
-      → ((asked left : ℕ) (rs : Registers) (y : State) → to (ends (no_room asked left) rs y) ≡ ended (no_room asked left) y)
-      → ((rs : Registers) (y : State) → Meets program k (arrive a line callers (f rs y)) (to (g rs y)) (g rs y).end (g rs y).state)
+      (k : ℕ) (b : Block) (f g : Next) (a : Activation) (line : ℕ) (callers : List Caller) (to : MidOutcome → Stage) (rs : Registers) (z : MidState)
+      → ((asked left : ℕ) (rs : Registers) (y : MidState) → to (ends (no_room asked left) rs y) ≡ ended (no_room asked left) y)
+      → ((rs : Registers) (y : MidState) → Meets program k (arrive a line callers (f rs y)) (to (g rs y)) (g rs y).end (g rs y).state)
       → Meets program k (arrive a line callers (lay b f rs z)) (to (lay b g rs z)) (lay b g rs z).end (lay b g rs z).state
   unfolding choose_by
   lay_meets k b f g a line callers to rs z e h = by _
@@ -164,14 +164,14 @@ module _ (program : LineProgram) where
   -- the innermost record is given back
 
   gave_back :
-      (a : Activation) (st : Standing) (line : ℕ) (rs : Registers) (callers : List Caller) (z : State) → line_of program a.procedure line ≡ Some (GiveBack st.words)
+      (a : Activation) (st : Standing) (line : ℕ) (rs : Registers) (callers : List Caller) (z : MidState) → line_of program a.procedure line ≡ Some (GiveBack st.words)
       → next program (running (with_standing (st ∷ a.standing) a) line rs callers z) ≡ arrive a (line + 1) callers (give_back st.outside rs z)
   gave_back a st line rs callers z e =
       at_line (with_standing (st ∷ a.standing) a) line rs callers z (GiveBack st.words) e
       ∙ ap (λ t. if t then arrive a (line + 1) callers (give_back st.outside rs z) else ended stuck z) (same_number st.words)
 
   give_back_arrives :
-      (a : Activation) (line outside : ℕ) (rs : Registers) (callers : List Caller) (z : State)
+      (a : Activation) (line outside : ℕ) (rs : Registers) (callers : List Caller) (z : MidState)
       → arrive a line callers (give_back outside rs z) ≡ proceed program a line callers (give_back outside rs z)
   unfolding with_some proceed
   give_back_arrives a line outside rs callers z = by (blocks_outside outside z.arena.blocks)
@@ -184,8 +184,8 @@ module _ (program : LineProgram) where
       by (Some bs) = refl
 
   give_back_meets :
-      (k : ℕ) (a : Activation) (st : Standing) (line : ℕ) (rs : Registers) (callers : List Caller) (z : State) → line_of program a.procedure line ≡ Some (GiveBack st.words)
-      → Does program k (running (with_standing (st ∷ a.standing) a) line rs callers z) a (line + 1) callers (give_back st.outside rs z)
+      (k : ℕ) (a : Activation) (st : Standing) (line : ℕ) (rs : Registers) (callers : List Caller) (z : MidState) → line_of program a.procedure line ≡ Some (GiveBack st.words)
+      → FollowsOutcome program k (running (with_standing (st ∷ a.standing) a) line rs callers z) a (line + 1) callers (give_back st.outside rs z)
   give_back_meets k a st line rs callers z e =
       then_meets program (gave_back a st line rs callers z e ∙ give_back_arrives a (line + 1) st.outside rs callers z)
       (met_here program k a (line + 1) callers (give_back st.outside rs z) (give_back_reached st.outside rs z))
@@ -193,32 +193,32 @@ module _ (program : LineProgram) where
   -- The inside of a control record and what catches a cut to it. Where the inside falls out, the record is given back, and the landing is
   -- jumped over.
   inside_meets :
-      (k : ℕ) (s : Stage) (a : Activation) (outside words landing line to : ℕ) (callers : List Caller) (catch : ℕ → Next) (r : Outcome)
+      (k : ℕ) (s : Stage) (a : Activation) (outside words landing line to : ℕ) (callers : List Caller) (catch : ℕ → Next) (r : MidOutcome)
       → line_of program a.procedure line ≡ Some (GiveBack words)
       → line_of program a.procedure (line + 1) ≡ Some (Jump to)
-      → ((w : ℕ) (rs : Registers) (y : State)
-      → Does program k
+      → ((w : ℕ) (rs : Registers) (y : MidState)
+      → FollowsOutcome program k
       (land_at (line_of program a.procedure landing) w (standing_at outside words landing true)
       (with_standing (standing_at outside words landing false ∷ a.standing) a) rs callers y)
       a to callers (catch w rs y))
-      → Does program k s (with_standing (standing_at outside words landing true ∷ a.standing) a) line callers r
-      → Does program k s a to callers (landed outside catch (go_on r (λ rs y. jumped (give_back outside rs y))))
+      → FollowsOutcome program k s (with_standing (standing_at outside words landing true ∷ a.standing) a) line callers r
+      → FollowsOutcome program k s a to callers (landed outside catch (go_on r (λ rs y. jumped (give_back outside rs y))))
   unfolding go_on landed with_some choose_by proceed
   inside_meets k s a outside words landing line to callers catch r e j h m = from r.end r.registers r.state m
     where
       fell :
-          (o : Option (List Block)) (rs : Registers) (z : State)
-          → Does program k (arrive a (line + 1) callers (with_some o (λ bs rs' y. ends falls rs' (with_arena (with_blocks bs y.arena) y)) rs z)) a to callers
+          (o : Option (List Block)) (rs : Registers) (z : MidState)
+          → FollowsOutcome program k (arrive a (line + 1) callers (with_some o (λ bs rs' y. ends falls rs' (with_arena (with_blocks bs y.arena) y)) rs z)) a to callers
           (landed outside catch (jumped (with_some o (λ bs rs' y. ends falls rs' (with_arena (with_blocks bs y.arena) y)) rs z)))
       fell None rs z = ended_here program k stuck z tt
       fell (Some bs) rs z = jump_meets k a (line + 1) to rs callers (with_arena (with_blocks bs z.arena) z) j
 
       caught :
-          (t : Bool) (n w : ℕ) (rs : Registers) (z : State)
-          → Comes program s
+          (t : Bool) (n w : ℕ) (rs : Registers) (z : MidState)
+          → ReachesStage program s
           (land program w (if t then (standing_at outside words landing true) ∷ a.standing else standing_from n a.standing)
           (with_standing (standing_at outside words landing true ∷ a.standing) a) rs callers z (cut_outwards program n w callers z))
-          → Does program k s a to callers (choose_by t (catch w) (ends (cuts n w)) rs z)
+          → FollowsOutcome program k s a to callers (choose_by t (catch w) (ends (cuts n w)) rs z)
       caught true n w rs z c = after_coming program c (h w rs z)
       caught false n w rs z c =
           after_coming program c
@@ -226,9 +226,9 @@ module _ (program : LineProgram) where
           (met_here program k a to callers (ends (cuts n w) rs z) tt))
 
       from :
-          (e : End) (rs : Registers) (z : State)
-          → Does program k s (with_standing (standing_at outside words landing true ∷ a.standing) a) line callers (ends e rs z)
-          → Does program k s a to callers (landed outside catch (go_on (ends e rs z) (λ rs y. jumped (give_back outside rs y))))
+          (e : End) (rs : Registers) (z : MidState)
+          → FollowsOutcome program k s (with_standing (standing_at outside words landing true ∷ a.standing) a) line callers (ends e rs z)
+          → FollowsOutcome program k s a to callers (landed outside catch (go_on (ends e rs z) (λ rs y. jumped (give_back outside rs y))))
       from falls rs z m =
           after_coming program (m.comes tt)
           (then_meets program (gave_back a (standing_at outside words landing true) line rs callers z e)
@@ -245,14 +245,14 @@ module _ (program : LineProgram) where
 
   -- the landing of a control record, from its head on
   landing_meets :
-      (k : ℕ) (a : Activation) (outside words landing line word w : ℕ) (callers : List Caller) (code : Next) (rs : Registers) (z : State)
+      (k : ℕ) (a : Activation) (outside words landing line word w : ℕ) (callers : List Caller) (code : Next) (rs : Registers) (z : MidState)
       → line_of program a.procedure landing ≡ Some (Landed word)
       → line_of program a.procedure line ≡ Some (GiveBack words)
-      → ((rs : Registers) (y : State)
-      → Does program k
+      → ((rs : Registers) (y : MidState)
+      → FollowsOutcome program k
       (running (with_standing (standing_at outside words landing false ∷ a.standing) a) (landing + 1) rs callers y)
       (with_standing (standing_at outside words landing false ∷ a.standing) a) line callers (code rs y))
-      → Does program k
+      → FollowsOutcome program k
       (land_at (line_of program a.procedure landing) w (standing_at outside words landing true)
       (with_standing (standing_at outside words landing false ∷ a.standing) a) rs callers z)
       a (line + 1) callers (run_landing outside word code w rs z)
@@ -265,7 +265,7 @@ module _ (program : LineProgram) where
     where
       by :
           (o : Option (List Block))
-          → Does program k
+          → FollowsOutcome program k
           (arrive (with_standing (standing_at outside words landing false ∷ a.standing) a) (landing + 1) callers
           (with_some o (λ bs rs' y. ends falls (slice_set rs' word (Some w)) (with_arena (with_blocks bs y.arena) y)) rs z))
           a (line + 1) callers
@@ -278,15 +278,15 @@ module _ (program : LineProgram) where
 
   -- the body of a procedure, whose lines end where it falls out
   leaves_meets :
-      (k : ℕ) (s : Stage) (number : ℕ) (outer : List Block) (line : ℕ) (callers : List Caller) (r : Outcome) → line_of program number line ≡ None
-      → Does program k s (record { procedure = number; outer = outer; standing = [] }) line callers r
-      → Leaves program k s callers (leaves outer r)
+      (k : ℕ) (s : Stage) (number : ℕ) (outer : List Block) (line : ℕ) (callers : List Caller) (r : MidOutcome) → line_of program number line ≡ None
+      → FollowsOutcome program k s (record { procedure = number; outer = outer; standing = [] }) line callers r
+      → CallersFollow program k s callers (leaves outer r)
   unfolding leaves proceed
   leaves_meets k s number outer line callers r e m = from r.end r.registers r.state m
     where
       from :
-          (e : End) (rs : Registers) (z : State) → Does program k s (record { procedure = number; outer = outer; standing = [] }) line callers (ends e rs z)
-          → Leaves program k s callers (leaves outer (ends e rs z))
+          (e : End) (rs : Registers) (z : MidState) → FollowsOutcome program k s (record { procedure = number; outer = outer; standing = [] }) line callers (ends e rs z)
+          → CallersFollow program k s callers (leaves outer (ends e rs z))
       from falls rs z m =
           after_coming program (m.comes tt)
           (then_meets program (ap (λ o. do_line program o (record { procedure = number; outer = outer; standing = [] }) line rs callers z) e) (ended_here program k stuck z tt))
@@ -302,15 +302,15 @@ module _ (program : LineProgram) where
 
   -- a call ended, and its caller goes on
   called_meets :
-      (k : ℕ) (s : Stage) (a : Activation) (line to : ℕ) (rs : Registers) (callers : List Caller) (r : Outcome)
-      → Leaves program k s (record { activation = a; line = line; registers = rs; result = to } ∷ callers) r
-      → Does program k s a line callers (called r to rs)
+      (k : ℕ) (s : Stage) (a : Activation) (line to : ℕ) (rs : Registers) (callers : List Caller) (r : MidOutcome)
+      → CallersFollow program k s (record { activation = a; line = line; registers = rs; result = to } ∷ callers) r
+      → FollowsOutcome program k s a line callers (called r to rs)
   unfolding called proceed
   called_meets k s a line to rs callers r m = from r.end r.state m
     where
       from :
-          (e : End) (z : State) → Leaves program k s (record { activation = a; line = line; registers = rs; result = to } ∷ callers) (ends e [] z)
-          → Does program k s a line callers (called (ends e [] z) to rs)
+          (e : End) (z : MidState) → CallersFollow program k s (record { activation = a; line = line; registers = rs; result = to } ∷ callers) (ends e [] z)
+          → FollowsOutcome program k s a line callers (called (ends e [] z) to rs)
       from falls z m = record { comes = m.comes; pauses = λ h. absurd h }
       from (returns w) z m = record { comes = m.comes; pauses = λ h. absurd h }
       from (cuts n w) z m = m
@@ -329,7 +329,7 @@ procedure_at mid n o e = slice_get-map procedure_lines mid.procedures n ∙ ap (
 
 -- steps, code and tasks of a program, where tasks below and further are met
 
-module _ (mid : MidProgram) (b : ℕ) (below further : Task → State → Outcome) (under : TasksMeet mid b below) (on_and_on : TasksMeet mid b further) where
+module _ (mid : MidProgram) (b : ℕ) (below further : Task → MidState → MidOutcome) (under : TasksMeet mid b below) (on_and_on : TasksMeet mid b further) where
   abbrev flat : LineProgram
   flat = program_lines mid
 
@@ -337,22 +337,22 @@ module _ (mid : MidProgram) (b : ℕ) (below further : Task → State → Outcom
   c = context_of mid.procedures below further
 
   count_enters :
-      (how : Counted) (n : ℕ) (p : MidProcedure) → slice_get mid.procedures n ≡ Some p → (arguments : List ℕ) (callers : List Caller) (z : State)
-      → Leaves flat b (entering n arguments callers z) callers (count c how (enter p arguments) z)
+      (how : Counted) (n : ℕ) (p : MidProcedure) → slice_get mid.procedures n ≡ Some p → (arguments : List ℕ) (callers : List Caller) (z : MidState)
+      → CallersFollow flat b (entering n arguments callers z) callers (count c how (enter p arguments) z)
   count_enters Level n p e arguments callers z = under.enters n p e arguments callers z
   count_enters Turn n p e arguments callers z = on_and_on.enters n p e arguments callers z
 
   count_goes_again :
-      (how : Counted) (s : MidStep) (at : ℕ) (a : Activation) (rs : Registers) (callers : List Caller) (z : State) → StepLies (lines_of flat a.procedure) at s
-      → Does flat b (running a at rs callers z) a (at + step_line_count s) callers (count c how (again s rs) z)
+      (how : Counted) (s : MidStep) (at : ℕ) (a : Activation) (rs : Registers) (callers : List Caller) (z : MidState) → StepLies (lines_of flat a.procedure) at s
+      → FollowsOutcome flat b (running a at rs callers z) a (at + step_line_count s) callers (count c how (again s rs) z)
   count_goes_again Level s at a rs callers z h = under.goes_again s at a rs callers z h
   count_goes_again Turn s at a rs callers z h = on_and_on.goes_again s at a rs callers z h
 
   -- calls
 
   entering_meets :
-      (n : ℕ) (o : Option MidProcedure) (words : List ℕ) (a : Activation) (line to : ℕ) (rs : Registers) (callers : List Caller) (z : State) → slice_get mid.procedures n ≡ o
-      → Does flat b (entering n words (record { activation = a; line = line; registers = rs; result = to } ∷ callers) z) a line callers
+      (n : ℕ) (o : Option MidProcedure) (words : List ℕ) (a : Activation) (line to : ℕ) (rs : Registers) (callers : List Caller) (z : MidState) → slice_get mid.procedures n ≡ o
+      → FollowsOutcome flat b (entering n words (record { activation = a; line = line; registers = rs; result = to } ∷ callers) z) a line callers
       (with_some o (λ p rs' y. called (count c p.counted (enter p words) y) to rs') rs z)
   unfolding with_some proceed
   entering_meets n None words a line to rs callers z e =
@@ -364,37 +364,37 @@ module _ (mid : MidProgram) (b : ℕ) (below further : Task → State → Outcom
       (count_enters p.counted n p e words (record { activation = a; line = line; registers = rs; result = to } ∷ callers) z)
 
   number_meets :
-      (o : Option ℕ) (words : List ℕ) (a : Activation) (line to : ℕ) (rs : Registers) (callers : List Caller) (z : State)
-      → Does flat b (call (Some words) o (record { activation = a; line = line; registers = rs; result = to } ∷ callers) z) a line callers
+      (o : Option ℕ) (words : List ℕ) (a : Activation) (line to : ℕ) (rs : Registers) (callers : List Caller) (z : MidState)
+      → FollowsOutcome flat b (call (Some words) o (record { activation = a; line = line; registers = rs; result = to } ∷ callers) z) a line callers
       (with_some o (λ n. with_some (slice_get mid.procedures n) (λ p rs' y. called (count c p.counted (enter p words) y) to rs')) rs z)
   unfolding with_some proceed
   number_meets None words a line to rs callers z = ended_here flat b stuck z tt
   number_meets (Some n) words a line to rs callers z = entering_meets n (slice_get mid.procedures n) words a line to rs callers z refl
 
   callee_meets :
-      (callee : Callee) (words : List ℕ) (a : Activation) (line to : ℕ) (rs : Registers) (callers : List Caller) (z : State)
-      → Does flat b (call (Some words) (callee_in callee rs) (record { activation = a; line = line; registers = rs; result = to } ∷ callers) z) a line callers
+      (callee : Callee) (words : List ℕ) (a : Activation) (line to : ℕ) (rs : Registers) (callers : List Caller) (z : MidState)
+      → FollowsOutcome flat b (call (Some words) (callee_in callee rs) (record { activation = a; line = line; registers = rs; result = to } ∷ callers) z) a line callers
       (with_callee c callee (λ p rs' y. called (count c p.counted (enter p words) y) to rs') rs z)
   callee_meets (Procedure n) words a line to rs callers z = entering_meets n (slice_get mid.procedures n) words a line to rs callers z refl
   callee_meets (Word r) words a line to rs callers z = number_meets (register r rs) words a line to rs callers z
 
   words_meet :
-      (o : Option (List ℕ)) (callee : Callee) (a : Activation) (line to : ℕ) (rs : Registers) (callers : List Caller) (z : State)
-      → Does flat b (call o (callee_in callee rs) (record { activation = a; line = line; registers = rs; result = to } ∷ callers) z) a line callers
+      (o : Option (List ℕ)) (callee : Callee) (a : Activation) (line to : ℕ) (rs : Registers) (callers : List Caller) (z : MidState)
+      → FollowsOutcome flat b (call o (callee_in callee rs) (record { activation = a; line = line; registers = rs; result = to } ∷ callers) z) a line callers
       (with_some o (λ words. with_callee c callee (λ p rs' y. called (count c p.counted (enter p words) y) to rs')) rs z)
   unfolding with_some proceed
   words_meet None callee a line to rs callers z = ended_here flat b stuck z tt
   words_meet (Some words) callee a line to rs callers z = callee_meets callee words a line to rs callers z
 
   call_meets :
-      (to : ℕ) (callee : Callee) (arguments : List ℕ) (a : Activation) (line : ℕ) (rs : Registers) (callers : List Caller) (z : State)
+      (to : ℕ) (callee : Callee) (arguments : List ℕ) (a : Activation) (line : ℕ) (rs : Registers) (callers : List Caller) (z : MidState)
       → line_of flat a.procedure line ≡ Some (Do (Call to callee arguments))
-      → Does flat (suc b) (running a line rs callers z) a (line + 1) callers
+      → FollowsOutcome flat (suc b) (running a line rs callers z) a (line + 1) callers
       (with_registers arguments (λ words. with_callee c callee (λ p rs' y. called (count c p.counted (enter p words) y) to rs')) rs (charged (operation_cost (Call to callee arguments)) z))
   call_meets to callee arguments a line rs callers z e =
       after_step flat (at_line flat a line rs callers z (Do (Call to callee arguments)) e)
       (subst
-      (λ r. Does flat b
+      (λ r. FollowsOutcome flat b
       (call (words_in arguments rs) (callee_in callee rs) (record { activation = a; line = line + 1; registers = rs; result = to } ∷ callers)
       (charged (operation_cost (Call to callee arguments)) z))
       a (line + 1) callers r)
@@ -403,16 +403,16 @@ module _ (mid : MidProgram) (b : ℕ) (below further : Task → State → Outcom
 
   -- a step that is a line
   simple_meets :
-      (s : MidStep) (x : Line) (a : Activation) (line : ℕ) (rs : Registers) (callers : List Caller) (z : State) → line_of flat a.procedure line ≡ Some x
+      (s : MidStep) (x : Line) (a : Activation) (line : ℕ) (rs : Registers) (callers : List Caller) (z : MidState) → line_of flat a.procedure line ≡ Some x
       → do_line flat (Some x) a line rs callers z ≡ proceed flat a (line + 1) callers (exec_step c s rs z)
       → IsReached (exec_step c s rs z).end
-      → Does flat (suc b) (running a line rs callers z) a (line + 1) callers (exec_step c s rs z)
+      → FollowsOutcome flat (suc b) (running a line rs callers z) a (line + 1) callers (exec_step c s rs z)
   simple_meets s x a line rs callers z e h reached =
       then_meets flat (at_line flat a line rs callers z x e ∙ h) (met_here flat (suc b) a (line + 1) callers (exec_step c s rs z) reached)
 
   perform_meets :
-      (o : Operation) (a : Activation) (line : ℕ) (rs : Registers) (callers : List Caller) (z : State) → line_of flat a.procedure line ≡ Some (Do o)
-      → Does flat (suc b) (running a line rs callers z) a (line + 1) callers (exec_step c (perform o) rs z)
+      (o : Operation) (a : Activation) (line : ℕ) (rs : Registers) (callers : List Caller) (z : MidState) → line_of flat a.procedure line ≡ Some (Do o)
+      → FollowsOutcome flat (suc b) (running a line rs callers z) a (line + 1) callers (exec_step c (perform o) rs z)
   unfolding exec exec_step
   perform_meets (Move to from) a line rs callers z e =
       simple_meets (perform (Move to from)) (Do (Move to from)) a line rs callers z e
@@ -441,19 +441,19 @@ module _ (mid : MidProgram) (b : ℕ) (below further : Task → State → Outcom
       refl (get_reached _ to rs _)
   perform_meets (Call to callee arguments) a line rs callers z e = call_meets to callee arguments a line rs callers z e
 
-  fallen : (line : ℕ) (a : Activation) (rs : Registers) (callers : List Caller) (z : State) → Does flat (suc b) (running a line rs callers z) a line callers (ends falls rs z)
+  fallen : (line : ℕ) (a : Activation) (rs : Registers) (callers : List Caller) (z : MidState) → FollowsOutcome flat (suc b) (running a line rs callers z) a line callers (ends falls rs z)
   unfolding proceed
   fallen line a rs callers z = met_here flat (suc b) a line callers (ends falls rs z) tt
 
   -- the body of a loop, and its next turn
   turn_meets :
-      (how : Counted) (head : MidCode) (t : Test) (body : MidCode) (at : ℕ) (a : Activation) (rs : Registers) (callers : List Caller) (z : State)
+      (how : Counted) (head : MidCode) (t : Test) (body : MidCode) (at : ℕ) (a : Activation) (rs : Registers) (callers : List Caller) (z : MidState)
       → StepLies (lines_of flat a.procedure) at (repeat how head t body)
-      → Does flat (suc b) (running a (at + line_count head + 1) rs callers z) a (at + line_count head + 1 + line_count body) callers (exec c body rs z)
-      → Does flat (suc b) (running a (at + line_count head + 1) rs callers z) a (at + step_line_count (repeat how head t body)) callers
+      → FollowsOutcome flat (suc b) (running a (at + line_count head + 1) rs callers z) a (at + line_count head + 1 + line_count body) callers (exec c body rs z)
+      → FollowsOutcome flat (suc b) (running a (at + line_count head + 1) rs callers z) a (at + step_line_count (repeat how head t body)) callers
       (go_on (jumped (exec c body rs z)) (λ rs' y. count c how (again (repeat how head t body) rs') y))
   turn_meets how head t body at a rs callers z h m =
-      subst (λ r. Does flat (suc b) (running a (at + line_count head + 1) rs callers z) a (at + step_line_count (repeat how head t body)) callers r)
+      subst (λ r. FollowsOutcome flat (suc b) (running a (at + line_count head + 1) rs callers z) a (at + step_line_count (repeat how head t body)) callers r)
       (sym (jumped_on (exec c body rs z) (λ rs' y. count c how (again (repeat how head t body) rs') y)))
       (code_on flat (suc b) _ a (at + line_count head + 1 + line_count body) (at + step_line_count (repeat how head t body)) callers (exec c body rs z)
       (λ rs' y. count c how (again (repeat how head t body) rs') (charged jump_cost y)) m
@@ -462,14 +462,14 @@ module _ (mid : MidProgram) (b : ℕ) (below further : Task → State → Outcom
 
   -- a control record, of whose inside and landing it is known
   record_meets :
-      (block words word : ℕ) (inside landing : MidCode) (at : ℕ) (a : Activation) (rs : Registers) (callers : List Caller) (z : State)
+      (block words word : ℕ) (inside landing : MidCode) (at : ℕ) (a : Activation) (rs : Registers) (callers : List Caller) (z : MidState)
       → StepLies (lines_of flat a.procedure) at (with_block block words word inside landing)
-      → ((records : List Standing) (rs : Registers) (y : State)
-      → Does flat (suc b) (running (with_standing records a) (at + 1) rs callers y) (with_standing records a) (at + 1 + line_count inside) callers (exec c inside rs y))
-      → ((records : List Standing) (rs : Registers) (y : State)
-      → Does flat (suc b) (running (with_standing records a) (at + 1 + line_count inside + 2 + 1) rs callers y) (with_standing records a)
+      → ((records : List Standing) (rs : Registers) (y : MidState)
+      → FollowsOutcome flat (suc b) (running (with_standing records a) (at + 1) rs callers y) (with_standing records a) (at + 1 + line_count inside) callers (exec c inside rs y))
+      → ((records : List Standing) (rs : Registers) (y : MidState)
+      → FollowsOutcome flat (suc b) (running (with_standing records a) (at + 1 + line_count inside + 2 + 1) rs callers y) (with_standing records a)
       (at + 1 + line_count inside + 2 + 1 + line_count landing) callers (exec c landing rs y))
-      → Does flat (suc b) (running a at rs callers z) a (at + step_line_count (with_block block words word inside landing)) callers
+      → FollowsOutcome flat (suc b) (running a at rs callers z) a (at + step_line_count (with_block block words word inside landing)) callers
       (with_record block words word (λ rs' y. exec c inside rs' y) (λ rs' y. exec c landing rs' y) rs z)
   unfolding proceed
   record_meets block words word inside landing at a rs callers z h i l =
@@ -484,7 +484,7 @@ module _ (mid : MidProgram) (b : ℕ) (below further : Task → State → Outcom
       (at + step_line_count (with_block block words word inside landing)) callers
       (run_landing (length z.arena.blocks) word (λ rs'' x. exec c landing rs'' x)) (exec c inside _ y) h.2 h.3
       (λ w rs'' x. subst
-      (λ to. Does flat (suc b)
+      (λ to. FollowsOutcome flat (suc b)
       (land_at (line_of flat a.procedure (at + 1 + line_count inside + 2)) w
       (standing_at (length z.arena.blocks) words (at + 1 + line_count inside + 2) true)
       (with_standing (standing_at (length z.arena.blocks) words (at + 1 + line_count inside + 2) false ∷ a.standing) a) rs'' callers x)
@@ -497,21 +497,21 @@ module _ (mid : MidProgram) (b : ℕ) (below further : Task → State → Outcom
     unfolding exec exec_step
 
     code_meets :
-        (code : MidCode) (at : ℕ) (a : Activation) (rs : Registers) (callers : List Caller) (z : State) → CodeLies (lines_of flat a.procedure) at code
-        → Does flat (suc b) (running a at rs callers z) a (at + line_count code) callers (exec c code rs z)
+        (code : MidCode) (at : ℕ) (a : Activation) (rs : Registers) (callers : List Caller) (z : MidState) → CodeLies (lines_of flat a.procedure) at code
+        → FollowsOutcome flat (suc b) (running a at rs callers z) a (at + line_count code) callers (exec c code rs z)
     code_meets no_step at a rs callers z h =
         let same : at ≡ at + 0 = omega arith in
-        subst (λ to. Does flat (suc b) (running a at rs callers z) a to callers (ends falls rs z)) same (fallen at a rs callers z)
+        subst (λ to. FollowsOutcome flat (suc b) (running a at rs callers z) a to callers (ends falls rs z)) same (fallen at a rs callers z)
     code_meets (step_and s code) at a rs callers z h =
         let same : at + step_line_count s + line_count code ≡ at + (step_line_count s + line_count code) = omega arith in
-        subst (λ to. Does flat (suc b) (running a at rs callers z) a to callers (go_on (exec_step c s rs z) (λ rs' y. exec c code rs' y))) same
+        subst (λ to. FollowsOutcome flat (suc b) (running a at rs callers z) a to callers (go_on (exec_step c s rs z) (λ rs' y. exec c code rs' y))) same
         (code_on flat (suc b) _ a (at + step_line_count s) (at + step_line_count s + line_count code) callers (exec_step c s rs z) (λ rs' y. exec c code rs' y)
         (step_meets s at a rs callers z h.0)
         (λ rs' y. code_meets code (at + step_line_count s) a rs' callers y h.1))
 
     step_meets :
-        (s : MidStep) (at : ℕ) (a : Activation) (rs : Registers) (callers : List Caller) (z : State) → StepLies (lines_of flat a.procedure) at s
-        → Does flat (suc b) (running a at rs callers z) a (at + step_line_count s) callers (exec_step c s rs z)
+        (s : MidStep) (at : ℕ) (a : Activation) (rs : Registers) (callers : List Caller) (z : MidState) → StepLies (lines_of flat a.procedure) at s
+        → FollowsOutcome flat (suc b) (running a at rs callers z) a (at + step_line_count s) callers (exec_step c s rs z)
     step_meets (perform o) at a rs callers z h = perform_meets o a at rs callers z h
     step_meets (choose t first second) at a rs callers z h =
         test_meets flat (suc b) t a at (at + 1 + line_count first + 1) (at + step_line_count (choose t first second)) rs callers z
@@ -547,8 +547,8 @@ module _ (mid : MidProgram) (b : ℕ) (below further : Task → State → Outcom
 
   -- the body of a procedure that is entered, from its first line on
   body_meets :
-      (n : ℕ) (p : MidProcedure) (outer : List Block) (callers : List Caller) (rs : Registers) (z : State) → slice_get mid.procedures n ≡ Some p
-      → Leaves flat (suc b) (running (record { procedure = n; outer = outer; standing = [] }) 0 rs callers z) callers (leaves outer (exec c (code_of p.body) rs z))
+      (n : ℕ) (p : MidProcedure) (outer : List Block) (callers : List Caller) (rs : Registers) (z : MidState) → slice_get mid.procedures n ≡ Some p
+      → CallersFollow flat (suc b) (running (record { procedure = n; outer = outer; standing = [] }) 0 rs callers z) callers (leaves outer (exec c (code_of p.body) rs z))
   body_meets n p outer callers rs z e =
       let own : Activation = record { procedure = n; outer = outer; standing = [] } in
       let same = ap lines_in (procedure_at mid n (Some p) e) in
@@ -559,15 +559,15 @@ module _ (mid : MidProgram) (b : ℕ) (below further : Task → State → Outcom
       (code_meets (code_of p.body) 0 own rs callers z lies)
 
   entry_meets :
-      (n : ℕ) (p : MidProcedure) → slice_get mid.procedures n ≡ Some p → (arguments : List ℕ) (callers : List Caller) (z : State)
-      → Leaves flat (suc b) (entering n arguments callers z) callers (run_task c (enter p arguments) z)
+      (n : ℕ) (p : MidProcedure) → slice_get mid.procedures n ≡ Some p → (arguments : List ℕ) (callers : List Caller) (z : MidState)
+      → CallersFollow flat (suc b) (entering n arguments callers z) callers (run_task c (enter p arguments) z)
   unfolding choose_by
   entry_meets n p e arguments callers z =
       then_meets flat (ap (λ o. enter_at o n arguments callers z) (procedure_at mid n (Some p) e)) (by (length arguments == p.parameters))
     where
       by :
           (t : Bool)
-          → Leaves flat (suc b)
+          → CallersFollow flat (suc b)
           (arrive (record { procedure = n; outer = z.arena.blocks; standing = [] }) 0 callers
           (choose_by t (lay (record { words = p.frame; kind = activation_frame }) (ends falls)) (ends stuck) (first_registers p.registers arguments) (charged (entry_cost p.parameters) z)))
           callers

@@ -7,7 +7,7 @@ use Rattle.mid_code.specs.declared.operation.Operation.TheVariants.{Move, Consta
 use Rattle.mid_code.specs.MidCode.{MidStep, perform, return_word, cut_to, halt_with, end_unhandled}
 use Rattle.mid_code.specs.Arena.{Arena, Block, activation_frame, record_of, lent_from, left, with_blocks, with_new_block}
 use Rattle.mid_code.specs.Costs.{test_cost, jump_cost, record_cost, entry_cost}
-use Rattle.mid_code.specs.State.{Registers, State, End, falls, returns, cuts, no_room, no_level, no_turn, halts, unhandled, exhausted, stuck, Outcome, Next, ends, with_arena}
+use Rattle.mid_code.specs.State.{Registers, MidState, End, falls, returns, cuts, no_room, no_level, no_turn, halts, unhandled, exhausted, stuck, MidOutcome, Next, ends, with_arena}
 use Rattle.mid_code.specs.Meaning.{lay, give_back, close, again, exec_step}
 use Rattle.mid_code.specs.Law.{Enlarged, Grown}
 use Rattle.mid_code.proofs.Growth.{length-emptied, same_grown, both_grown, charged_grown, with_some_grown, choose_grown, give_back_grown, TasksGrow, task_grown}
@@ -24,16 +24,16 @@ block_enlarged b arena = record { size = length-emptied _ b.words arena.memory; 
 blocks_enlarged : (bs : List Block) (arena : Arena) → Enlarged arena (with_blocks bs arena)
 blocks_enlarged bs arena = record { size = refl; laid_from = refl; laid_to = refl; heap_from = refl; heap_to = omega arith }
 
-arena_grown : (a : Arena) (z : State) → Enlarged z.arena a → Grown z (with_arena a z)
+arena_grown : (a : Arena) (z : MidState) → Enlarged z.arena a → Grown z (with_arena a z)
 arena_grown a z g = record { arena = g; printed = ([], sym (append-nil z.printed)); cost = omega arith }
 
-laid_grown : (b : Block) (f : Next) (rs : Registers) (z : State) → ((rs : Registers) (y : State) → Grown y (f rs y).state) → Grown z (lay b f rs z).state
+laid_grown : (b : Block) (f : Next) (rs : Registers) (z : MidState) → ((rs : Registers) (y : MidState) → Grown y (f rs y).state) → Grown z (lay b f rs z).state
 laid_grown b f rs z h = choose_grown _ _ _ rs z (both_grown (arena_grown _ z (block_enlarged b z.arena)) (h rs _)) (same_grown z)
 
-closed_grown : (outside : ℕ) (f : Next) (rs : Registers) (z : State) → ((rs : Registers) (y : State) → Grown y (f rs y).state) → Grown z (close outside f rs z).state
+closed_grown : (outside : ℕ) (f : Next) (rs : Registers) (z : MidState) → ((rs : Registers) (y : MidState) → Grown y (f rs y).state) → Grown z (close outside f rs z).state
 closed_grown outside f rs z h = with_some_grown _ _ rs z (λ bs. both_grown (arena_grown _ z (blocks_enlarged bs z.arena)) (h rs _))
 
-arrive_grown : (z : State) (a : Activation) (line : ℕ) (callers : List Caller) (r : Outcome) → Grown z r.state → Grown z (state_of (arrive a line callers r))
+arrive_grown : (z : MidState) (a : Activation) (line : ℕ) (callers : List Caller) (r : MidOutcome) → Grown z r.state → Grown z (state_of (arrive a line callers r))
 arrive_grown z a line callers r g = from r.end
   where
     from : (e : End) → Grown z (state_of (arrive_from e a line r.registers callers r.state))
@@ -48,12 +48,12 @@ arrive_grown z a line callers r g = from r.end
     from exhausted = g
     from stuck = g
 
-return_grown : (callers : List Caller) (word : ℕ) (z : State) → Grown z (state_of (return_to callers word z))
+return_grown : (callers : List Caller) (word : ℕ) (z : MidState) → Grown z (state_of (return_to callers word z))
 return_grown [] word z = same_grown z
 return_grown (c ∷ callers) word z = same_grown z
 
 land_at_grown :
-    (o : Option Line) (word : ℕ) (s : Standing) (a : Activation) (rs : Registers) (callers : List Caller) (z : State)
+    (o : Option Line) (word : ℕ) (s : Standing) (a : Activation) (rs : Registers) (callers : List Caller) (z : MidState)
     → Grown z (state_of (land_at o word s a rs callers z))
 land_at_grown None word s a rs callers z = same_grown z
 land_at_grown (Some (Do o)) word s a rs callers z = same_grown z
@@ -69,18 +69,18 @@ land_at_grown (Some (Halt r)) word s a rs callers z = same_grown z
 land_at_grown (Some (Unhandled class site)) word s a rs callers z = same_grown z
 
 land_grown :
-    (program : LineProgram) (word : ℕ) (records : List Standing) (a : Activation) (rs : Registers) (callers : List Caller) (z : State) (otherwise : Stage)
+    (program : LineProgram) (word : ℕ) (records : List Standing) (a : Activation) (rs : Registers) (callers : List Caller) (z : MidState) (otherwise : Stage)
     → Grown z (state_of otherwise) → Grown z (state_of (land program word records a rs callers z otherwise))
 land_grown program word [] a rs callers z otherwise g = g
 land_grown program word (s ∷ records) a rs callers z otherwise g =
     land_at_grown (line_of program a.procedure s.landing) word s (with_standing (closed s ∷ records) a) rs callers z
 
-cut_outwards_grown : (program : LineProgram) (n w : ℕ) (callers : List Caller) (z : State) → Grown z (state_of (cut_outwards program n w callers z))
+cut_outwards_grown : (program : LineProgram) (n w : ℕ) (callers : List Caller) (z : MidState) → Grown z (state_of (cut_outwards program n w callers z))
 cut_outwards_grown program n w [] z = same_grown z
 cut_outwards_grown program n w (c ∷ callers) z =
     land_grown program w (standing_from n c.activation.standing) c.activation c.registers callers z _ (cut_outwards_grown program n w callers z)
 
-proceed_grown : (program : LineProgram) (z : State) (a : Activation) (line : ℕ) (callers : List Caller) (r : Outcome) → Grown z r.state → Grown z (state_of (proceed program a line callers r))
+proceed_grown : (program : LineProgram) (z : MidState) (a : Activation) (line : ℕ) (callers : List Caller) (r : MidOutcome) → Grown z r.state → Grown z (state_of (proceed program a line callers r))
 unfolding proceed
 proceed_grown program z a line callers r g = from r.end
   where
@@ -94,23 +94,23 @@ proceed_grown program z a line callers r g = from r.end
 no_tasks_grow : TasksGrow (λ task z. ends stuck [] z)
 no_tasks_grow = record { at = λ task z. same_grown z }
 
-step_grown : (s : MidStep) (rs : Registers) (z : State) → Grown z (exec_step alone s rs z).state
+step_grown : (s : MidStep) (rs : Registers) (z : MidState) → Grown z (exec_step alone s rs z).state
 step_grown s rs z = task_grown alone no_tasks_grow no_tasks_grow (again s rs) z
 
 branch_grown :
-    (o : Option Bool) (a : Activation) (after otherwise : ℕ) (rs : Registers) (callers : List Caller) (z : State)
+    (o : Option Bool) (a : Activation) (after otherwise : ℕ) (rs : Registers) (callers : List Caller) (z : MidState)
     → Grown z (state_of (branch o a after otherwise rs callers z))
 branch_grown None a after otherwise rs callers z = same_grown z
 branch_grown (Some true) a after otherwise rs callers z = same_grown z
 branch_grown (Some false) a after otherwise rs callers z = same_grown z
 
-call_grown : (o : Option (List ℕ)) (p : Option ℕ) (callers : List Caller) (z : State) → Grown z (state_of (call o p callers z))
+call_grown : (o : Option (List ℕ)) (p : Option ℕ) (callers : List Caller) (z : MidState) → Grown z (state_of (call o p callers z))
 call_grown None p callers z = same_grown z
 call_grown (Some words) None callers z = same_grown z
 call_grown (Some words) (Some number) callers z = same_grown z
 
 perform_grown :
-    (program : LineProgram) (o : Operation) (a : Activation) (line : ℕ) (rs : Registers) (callers : List Caller) (z : State)
+    (program : LineProgram) (o : Operation) (a : Activation) (line : ℕ) (rs : Registers) (callers : List Caller) (z : MidState)
     → Grown z (state_of (perform_at program o a line rs callers z))
 perform_grown program (Move to from) a line rs callers z = proceed_grown program z a (line + 1) callers _ (step_grown (perform (Move to from)) rs z)
 perform_grown program (Constant to word) a line rs callers z = proceed_grown program z a (line + 1) callers _ (step_grown (perform (Constant to word)) rs z)
@@ -125,7 +125,7 @@ perform_grown program (Call to callee arguments) a line rs callers z =
     both_grown (charged_grown _ z) (call_grown (words_in arguments rs) (callee_in callee rs) _ _)
 
 give_back_at_grown :
-    (words : ℕ) (records : List Standing) (a : Activation) (line : ℕ) (rs : Registers) (callers : List Caller) (z : State)
+    (words : ℕ) (records : List Standing) (a : Activation) (line : ℕ) (rs : Registers) (callers : List Caller) (z : MidState)
     → Grown z (state_of (give_back_at words records a line rs callers z))
 give_back_at_grown words [] a line rs callers z = same_grown z
 give_back_at_grown words (s ∷ records) a line rs callers z = by (words == s.words)
@@ -135,7 +135,7 @@ give_back_at_grown words (s ∷ records) a line rs callers z = by (words == s.wo
     by false = same_grown z
 
 line_grown :
-    (program : LineProgram) (o : Option Line) (a : Activation) (line : ℕ) (rs : Registers) (callers : List Caller) (z : State)
+    (program : LineProgram) (o : Option Line) (a : Activation) (line : ℕ) (rs : Registers) (callers : List Caller) (z : MidState)
     → Grown z (state_of (do_line program o a line rs callers z))
 line_grown program None a line rs callers z = same_grown z
 line_grown program (Some (Do o)) a line rs callers z = perform_grown program o a line rs callers z
@@ -154,7 +154,7 @@ line_grown program (Some (Halt r)) a line rs callers z = proceed_grown program z
 line_grown program (Some (Unhandled class site)) a line rs callers z = proceed_grown program z a (line + 1) callers _ (step_grown (end_unhandled class site) rs z)
 
 entry_grown :
-    (o : Option LineProcedure) (number : ℕ) (arguments : List ℕ) (callers : List Caller) (z : State)
+    (o : Option LineProcedure) (number : ℕ) (arguments : List ℕ) (callers : List Caller) (z : MidState)
     → Grown z (state_of (enter_at o number arguments callers z))
 entry_grown None number arguments callers z = same_grown z
 entry_grown (Some p) number arguments callers z =

@@ -5,25 +5,25 @@ use Rattle.std.proofs.lemmas.Bool.{cases_lt}
 use Rattle.std.proofs.lemmas.List.{append-nil}
 use Rattle.mid_code.specs.declared.program.MidProcedure.{MidProcedure}
 use Rattle.mid_code.specs.declared.program.MidProgram.{MidProgram}
-use Rattle.mid_code.specs.State.{Registers, State, End, falls, returns, cuts, no_room, no_level, no_turn, halts, unhandled, exhausted, stuck, Outcome, ends, with_some}
+use Rattle.mid_code.specs.State.{Registers, MidState, End, falls, returns, cuts, no_room, no_level, no_turn, halts, unhandled, exhausted, stuck, MidOutcome, ends, with_some}
 use Rattle.mid_code.specs.Meaning.{Task, enter, turns, levels, at_top, runs}
 use Rattle.mid_code.specs.Law.{IsReached}
 use Rattle.mid_lines.specs.declared.line.LineProgram.{LineProgram}
 use Rattle.mid_lines.specs.LineMeaning.{Stage, running, entering, ended, state_of, begin, enter_at, after}
 use Rattle.mid_lines.specs.Flattened.{program_lines}
 use Rattle.mid_lines.specs.LineLaw.{LawOfLines, LawOfLineEnds, LawOfLinePrinting}
-use Rattle.mid_lines.proofs.Coming.{IsWanting, GoesOn, Meets, left_from, after_sum, after_end, with_fewer, then_meets, ended_here}
+use Rattle.mid_lines.proofs.Coming.{IsWanting, StageGoesOn, Meets, left_from, after_sum, after_end, with_fewer, then_meets, ended_here}
 use Rattle.mid_lines.proofs.Following.{TasksMeet, procedure_at, tasks_meet}
 use Rattle.mid_lines.proofs.Growing.{after_grown}
 
-fewer : (mid : MidProgram) (b c : ℕ) (f : Task → State → Outcome) → b ≤ c → TasksMeet mid c f → TasksMeet mid b f
+fewer : (mid : MidProgram) (b c : ℕ) (f : Task → MidState → MidOutcome) → b ≤ c → TasksMeet mid c f → TasksMeet mid b f
 fewer mid b c f le x = record {
   enters = λ n p e arguments callers z. with_fewer (program_lines mid) le (x.enters n p e arguments callers z);
   goes_again = λ s at a rs callers z h. with_fewer (program_lines mid) le (x.goes_again s at a rs callers z h);
 }
 
 -- where nothing is done for want of levels or turns, the machine is where it is
-waiting : (program : LineProgram) (s to : Stage) (e : End) → GoesOn s → (IsReached e → ⊥) → Meets program 0 s to e (state_of s)
+waiting : (program : LineProgram) (s to : Stage) (e : End) → StageGoesOn s → (IsReached e → ⊥) → Meets program 0 s to e (state_of s)
 unfolding after
 waiting program s to e g h = record { comes = λ k. absurd (h k); pauses = λ k. record { steps = 0; enough = omega arith; there = refl; goes_on = g } }
 
@@ -41,7 +41,7 @@ no_levels_meet mid = record {
 
 -- so many turns are at least so many steps, where what is one level below is almost as many
 turns_meet :
-    (mid : MidProgram) (below : Task → State → Outcome) (n c : ℕ) → TasksMeet mid (c - 1) below → c ≤ n
+    (mid : MidProgram) (below : Task → MidState → MidOutcome) (n c : ℕ) → TasksMeet mid (c - 1) below → c ≤ n
     → TasksMeet mid c (turns mid.procedures below n)
 unfolding turns
 turns_meet mid below zero zero x le = no_turns_meet mid
@@ -64,13 +64,13 @@ levels_meet mid turns_each (suc k) c le lt =
 -- whole runs
 
 top_meets :
-    (program : LineProgram) (c : ℕ) (s : Stage) (r : Outcome) → Meets program c s (left_from program r.end [] r.state) r.end r.state
+    (program : LineProgram) (c : ℕ) (s : Stage) (r : MidOutcome) → Meets program c s (left_from program r.end [] r.state) r.end r.state
     → Meets program c s (ended (at_top r).end (at_top r).state) (at_top r).end (at_top r).state
 unfolding at_top
 top_meets program c s r m = from r.end r.registers r.state m
   where
     from :
-        (e : End) (rs : Registers) (z : State) → Meets program c s (left_from program e [] z) e z
+        (e : End) (rs : Registers) (z : MidState) → Meets program c s (left_from program e [] z) e z
         → Meets program c s (ended (at_top (ends e rs z)).end (at_top (ends e rs z)).state) (at_top (ends e rs z)).end (at_top (ends e rs z)).state
     from falls rs z m = record { comes = m.comes; pauses = λ h. absurd h }
     from (returns w) rs z m = m
@@ -84,7 +84,7 @@ top_meets program c s r m = from r.end r.registers r.state m
     from stuck rs z m = m
 
 entry_task_meets :
-    (mid : MidProgram) (c : ℕ) (f : Task → State → Outcome) → TasksMeet mid c f → (entry : ℕ) (arguments : List ℕ) (z : State) (o : Option MidProcedure)
+    (mid : MidProgram) (c : ℕ) (f : Task → MidState → MidOutcome) → TasksMeet mid c f → (entry : ℕ) (arguments : List ℕ) (z : MidState) (o : Option MidProcedure)
     → slice_get mid.procedures entry ≡ o
     → Meets (program_lines mid) c (begin entry arguments z)
     (left_from (program_lines mid) (with_some o (λ p rs y. f (enter p arguments) y) [] z).end [] (with_some o (λ p rs y. f (enter p arguments) y) [] z).state)
@@ -96,7 +96,7 @@ entry_task_meets mid c f x entry arguments z (Some p) e = x.enters entry p e arg
 
 -- a run of the tree is met, after at least so many steps where it ended for want of levels or turns
 run_meets :
-    (mid : MidProgram) (k turns_each c entry : ℕ) (arguments : List ℕ) (z : State) → c ≤ k → c ≤ turns_each
+    (mid : MidProgram) (k turns_each c entry : ℕ) (arguments : List ℕ) (z : MidState) → c ≤ k → c ≤ turns_each
     → Meets (program_lines mid) c (begin entry arguments z)
     (ended (runs mid k turns_each entry arguments z).end (runs mid k turns_each entry arguments z).state)
     (runs mid k turns_each entry arguments z).end (runs mid k turns_each entry arguments z).state
@@ -136,7 +136,7 @@ printed_so_far program n m s le =
 
 -- a run that has ended has printed all
 printed_at_end :
-    (program : LineProgram) (n m : ℕ) (s : Stage) (e : End) (z : State) → m < n → after program m s ≡ ended e z
+    (program : LineProgram) (n m : ℕ) (s : Stage) (e : End) (z : MidState) → m < n → after program m s ≡ ended e z
     → (more : List ℕ) × (z.printed ≡ (state_of (after program n s)).printed ++ more)
 printed_at_end program n m s e z lt h =
     let sum : n ≡ m + (n - m) = omega arith in
@@ -161,7 +161,7 @@ law_of_line_printing program n entry arguments z =
 
 -- the end of a run is one
 ended_twice :
-    (program : LineProgram) (n m : ℕ) (s : Stage) (e f : End) (y z : State) → after program n s ≡ ended e y → after program m s ≡ ended f z
+    (program : LineProgram) (n m : ℕ) (s : Stage) (e f : End) (y z : MidState) → after program n s ≡ ended e y → after program m s ≡ ended f z
     → (f ≡ e) × (z ≡ y)
 ended_twice program n m s e f y z h k =
     let one = after_sum program n m s ∙ ap (after program m) h ∙ after_end program m e y in
@@ -171,11 +171,11 @@ ended_twice program n m s e f y z h k =
     (cc ends, cc ends)
 
 -- a run that has ended does not go on
-not_paused : (program : LineProgram) (n m : ℕ) (s : Stage) (e : End) (y : State) → n ≤ m → after program n s ≡ ended e y → GoesOn (after program m s) → ⊥
+not_paused : (program : LineProgram) (n m : ℕ) (s : Stage) (e : End) (y : MidState) → n ≤ m → after program n s ≡ ended e y → StageGoesOn (after program m s) → ⊥
 not_paused program n m s e y le h g =
     let sum : m ≡ n + (m - n) = omega arith in
     let same : after program m s ≡ ended e y = ap (λ k. after program k s) sum ∙ after_sum program n (m - n) s ∙ ap (after program (m - n)) h ∙ after_end program (m - n) e y in
-    subst GoesOn same g
+    subst StageGoesOn same g
 
 pub law_of_line_ends : LawOfLineEnds
 law_of_line_ends program n entry arguments z e y h =

@@ -5,7 +5,7 @@ use Rattle.mid_code.specs.declared.operation.Operation.{Operation}
 use Rattle.mid_code.specs.declared.operation.Operation.TheVariants.{Move, Constant, Compute, Load, Store, Request, Draw, Put, Get, Call}
 use Rattle.mid_code.specs.Arena.{Block, activation_frame, closed_record, is_open, is_record, record_of, lent_from, left, with_blocks, with_new_block, blocks_from, outside_of, blocks_outside, blocks_closed}
 use Rattle.mid_code.specs.Costs.{give_back_cost, entry_cost}
-use Rattle.mid_code.specs.State.{Registers, first_registers, State, End, falls, returns, cuts, no_room, no_level, no_turn, halts, unhandled, exhausted, stuck, Outcome, Next, ends, charged, with_arena, with_some, choose_by, register}
+use Rattle.mid_code.specs.State.{Registers, first_registers, MidState, End, falls, returns, cuts, no_room, no_level, no_turn, halts, unhandled, exhausted, stuck, MidOutcome, Next, ends, charged, with_arena, with_some, choose_by, register}
 use Rattle.mid_code.specs.Meaning.{lay, get_from, give_back, exec_step}
 use Rattle.mid_lines.proofs.Conjunctions.{front_true, back_true, both_true}
 use Rattle.mid_lines.specs.declared.line.Line.{Line}
@@ -14,7 +14,7 @@ use Rattle.mid_lines.specs.declared.line.LineProcedure.{LineProcedure}
 use Rattle.mid_lines.specs.declared.line.LineProgram.{LineProgram}
 use Rattle.mid_lines.specs.Lines.{line_of}
 use Rattle.mid_lines.specs.LineMeaning.{Standing, Activation, with_standing, Caller, Stage, running, entering, ended, return_to, standing_from, closed, arrive, arrive_from, land_at, land, cut_outwards, cut_from, proceed, proceed_from, enter_at, begin, holds, branch, words_in, callee_in, call, perform_at, give_back_at, do_line, next, after}
-use Rattle.mid_lines.specs.StackLaw.{record_kind, record_block, frame_in, frame_of, blocks_of, AreCounted, StandsOn, CallersStandOn, StageStands, LawOfStack}
+use Rattle.mid_lines.specs.StackLaw.{record_kind, record_block, frame_in, frame_of, blocks_of, BlocksAreCounted, StandsOn, CallersStandOn, StageStands, LawOfStack}
 
 -- where something falls out, a fact holds
 abbrev IfFalls : End → Type 0 → Type 0
@@ -30,26 +30,26 @@ IfFalls exhausted T = Unit {0}
 IfFalls stuck T = Unit {0}
 
 -- it neither returns nor cuts, and where it falls out, the blocks are these
-abbrev KeepsAt : End → List Block → State → Type 0
+abbrev KeepsAt : End → List Block → MidState → Type 0
 KeepsAt falls bs z = z.arena.blocks ≡ bs
 KeepsAt (returns w) bs z = ⊥
 KeepsAt (cuts n w) bs z = ⊥
 KeepsAt other bs z = Unit {0}
 
-abbrev Keeps : List Block → Outcome → Type 0
-Keeps bs r = KeepsAt r.end bs r.state
+abbrev OutcomeKeepsBlocks : List Block → MidOutcome → Type 0
+OutcomeKeepsBlocks bs r = KeepsAt r.end bs r.state
 
-some_keeps : {X : Type 0} (bs : List Block) (o : Option X) (f : X → Next) (rs : Registers) (z : State) → ((x : X) → Keeps bs (f x rs z)) → Keeps bs (with_some o f rs z)
+some_keeps : {X : Type 0} (bs : List Block) (o : Option X) (f : X → Next) (rs : Registers) (z : MidState) → ((x : X) → OutcomeKeepsBlocks bs (f x rs z)) → OutcomeKeepsBlocks bs (with_some o f rs z)
 unfolding with_some
 some_keeps bs None f rs z h = tt
 some_keeps bs (Some x) f rs z h = h x
 
-choice_keeps : (bs : List Block) (t : Bool) (f g : Next) (rs : Registers) (z : State) → Keeps bs (f rs z) → Keeps bs (g rs z) → Keeps bs (choose_by t f g rs z)
+choice_keeps : (bs : List Block) (t : Bool) (f g : Next) (rs : Registers) (z : MidState) → OutcomeKeepsBlocks bs (f rs z) → OutcomeKeepsBlocks bs (g rs z) → OutcomeKeepsBlocks bs (choose_by t f g rs z)
 unfolding choose_by
 choice_keeps bs true f g rs z h k = h
 choice_keeps bs false f g rs z h k = k
 
-get_keeps : (bytes : List ℕ) (to : ℕ) (rs : Registers) (z : State) → Keeps z.arena.blocks (get_from bytes to rs z)
+get_keeps : (bytes : List ℕ) (to : ℕ) (rs : Registers) (z : MidState) → OutcomeKeepsBlocks z.arena.blocks (get_from bytes to rs z)
 get_keeps [] to rs z = refl
 get_keeps (byte ∷ bytes) to rs z = refl
 
@@ -104,7 +104,7 @@ open_record_is_open false h = h
 
 module _ (program : LineProgram) (first : List Block) where
   arrive_stands :
-      (a : Activation) (line : ℕ) (callers : List Caller) (r : Outcome) → IfFalls r.end (StandsOn program a r.state.arena.blocks)
+      (a : Activation) (line : ℕ) (callers : List Caller) (r : MidOutcome) → IfFalls r.end (StandsOn program a r.state.arena.blocks)
       → CallersStandOn program first callers a.outer → StageStands program first (arrive a line callers r)
   arrive_stands a line callers r h k = from r.end h
     where
@@ -113,7 +113,7 @@ module _ (program : LineProgram) (first : List Block) where
       from e h = tt
 
   keeps_stands :
-      (a : Activation) (line : ℕ) (callers : List Caller) (bs : List Block) (r : Outcome) → Keeps bs r → StandsOn program a bs
+      (a : Activation) (line : ℕ) (callers : List Caller) (bs : List Block) (r : MidOutcome) → OutcomeKeepsBlocks bs r → StandsOn program a bs
       → CallersStandOn program first callers a.outer → StageStands program first (proceed program a line callers r)
   unfolding proceed
   keeps_stands a line callers bs r kept h k = from r.end kept
@@ -130,14 +130,14 @@ module _ (program : LineProgram) (first : List Block) where
       from exhausted kept = tt
       from stuck kept = tt
 
-  return_stands : (callers : List Caller) (word : ℕ) (z : State) → CallersStandOn program first callers z.arena.blocks → StageStands program first (return_to callers word z)
+  return_stands : (callers : List Caller) (word : ℕ) (z : MidState) → CallersStandOn program first callers z.arena.blocks → StageStands program first (return_to callers word z)
   return_stands [] word z k = tt
   return_stands (c ∷ callers) word z k = k
 
   -- the landing of a record, with the blocks from it on
   landing_stands :
-      (o : Option Line) (word : ℕ) (s : Standing) (records : List Standing) (a : Activation) (rs : Registers) (callers : List Caller) (z : State)
-      → z.arena.blocks ≡ record_block s ∷ blocks_of program a records → s.outside ≡ length (blocks_of program a records) → AreCounted program a records
+      (o : Option Line) (word : ℕ) (s : Standing) (records : List Standing) (a : Activation) (rs : Registers) (callers : List Caller) (z : MidState)
+      → z.arena.blocks ≡ record_block s ∷ blocks_of program a records → s.outside ≡ length (blocks_of program a records) → BlocksAreCounted program a records
       → CallersStandOn program first callers a.outer
       → StageStands program first (land_at o word s (with_standing (closed s ∷ records) a) rs callers z)
   unfolding with_some
@@ -166,8 +166,8 @@ module _ (program : LineProgram) (first : List Block) where
   -- a cut that leaves the blocks from an open record on, in an activation and outside it
 
   seeking :
-      (a : Activation) (records : List Standing) (inner : List Block) (b : Block) (outer : List Block) (word : ℕ) (rs : Registers) (callers : List Caller) (z : State) (otherwise : Stage)
-      → blocks_of program a records ≡ inner ++ b ∷ outer → is_open b.kind ≡ true → z.arena.blocks ≡ b ∷ outer → AreCounted program a records
+      (a : Activation) (records : List Standing) (inner : List Block) (b : Block) (outer : List Block) (word : ℕ) (rs : Registers) (callers : List Caller) (z : MidState) (otherwise : Stage)
+      → blocks_of program a records ≡ inner ++ b ∷ outer → is_open b.kind ≡ true → z.arena.blocks ≡ b ∷ outer → BlocksAreCounted program a records
       → CallersStandOn program first callers a.outer
       → ((inner : List Block) → a.outer ≡ inner ++ b ∷ outer → StageStands program first otherwise)
       → StageStands program first (land program word (standing_from (length outer) records) a rs callers z otherwise)
@@ -200,7 +200,7 @@ module _ (program : LineProgram) (first : List Block) where
       by false t (x ∷ xs) e i = i xs (cc e)
 
   outwards_stands :
-      (callers : List Caller) (blocks inner : List Block) (b : Block) (outer : List Block) (word : ℕ) (z : State)
+      (callers : List Caller) (blocks inner : List Block) (b : Block) (outer : List Block) (word : ℕ) (z : MidState)
       → blocks ≡ inner ++ b ∷ outer → is_open b.kind ≡ true → z.arena.blocks ≡ b ∷ outer → CallersStandOn program first callers blocks
       → StageStands program first (cut_outwards program (length outer) word callers z)
   outwards_stands [] blocks inner b outer word z e o m k = tt
@@ -209,7 +209,7 @@ module _ (program : LineProgram) (first : List Block) where
       (λ xs part. outwards_stands callers c.activation.outer xs b outer word z part o m k.1)
 
   cut_stands :
-      (a : Activation) (line : ℕ) (rs : Registers) (callers : List Caller) (z : State) (blocks : List Block) (word : ℕ) (o : Option (List Block))
+      (a : Activation) (line : ℕ) (rs : Registers) (callers : List Caller) (z : MidState) (blocks : List Block) (word : ℕ) (o : Option (List Block))
       → CutTo blocks o → StandsOn program a blocks → CallersStandOn program first callers a.outer
       → StageStands program first
       (proceed program a line callers (with_some o (λ bs rs' y. ends (cuts (outside_of bs) word) rs' (with_arena (with_blocks bs y.arena) y)) rs z))
@@ -223,22 +223,22 @@ module _ (program : LineProgram) (first : List Block) where
   -- lines
 
   branch_stands :
-      (o : Option Bool) (a : Activation) (after otherwise : ℕ) (rs : Registers) (callers : List Caller) (z : State)
+      (o : Option Bool) (a : Activation) (after otherwise : ℕ) (rs : Registers) (callers : List Caller) (z : MidState)
       → StandsOn program a z.arena.blocks → CallersStandOn program first callers a.outer → StageStands program first (branch o a after otherwise rs callers z)
   branch_stands None a after otherwise rs callers z h k = tt
   branch_stands (Some true) a after otherwise rs callers z h k = (h, k)
   branch_stands (Some false) a after otherwise rs callers z h k = (h, k)
 
   call_stands :
-      (o : Option (List ℕ)) (p : Option ℕ) (callers : List Caller) (z : State) → CallersStandOn program first callers z.arena.blocks
+      (o : Option (List ℕ)) (p : Option ℕ) (callers : List Caller) (z : MidState) → CallersStandOn program first callers z.arena.blocks
       → StageStands program first (call o p callers z)
   call_stands None p callers z k = tt
   call_stands (Some words) None callers z k = tt
   call_stands (Some words) (Some number) callers z k = k
 
   laid_stands :
-      (b : Block) (f : Next) (a : Activation) (line : ℕ) (rs : Registers) (callers : List Caller) (z : State)
-      → ((y : State) → y.arena.blocks ≡ b ∷ z.arena.blocks → IfFalls (f rs y).end (StandsOn program a (f rs y).state.arena.blocks))
+      (b : Block) (f : Next) (a : Activation) (line : ℕ) (rs : Registers) (callers : List Caller) (z : MidState)
+      → ((y : MidState) → y.arena.blocks ≡ b ∷ z.arena.blocks → IfFalls (f rs y).end (StandsOn program a (f rs y).state.arena.blocks))
       → CallersStandOn program first callers a.outer → StageStands program first (arrive a line callers (lay b f rs z))
   unfolding choose_by
   laid_stands b f a line rs callers z h k = by _
@@ -251,7 +251,7 @@ module _ (program : LineProgram) (first : List Block) where
       by false = tt
 
   perform_stands :
-      (o : Operation) (a : Activation) (line : ℕ) (rs : Registers) (callers : List Caller) (z : State)
+      (o : Operation) (a : Activation) (line : ℕ) (rs : Registers) (callers : List Caller) (z : MidState)
       → StandsOn program a z.arena.blocks → CallersStandOn program first callers a.outer → StageStands program first (perform_at program o a line rs callers z)
   unfolding exec_step
   perform_stands (Move to from) a line rs callers z h k = keeps_stands a (line + 1) callers z.arena.blocks _ (some_keeps _ _ _ rs _ (λ w. refl)) h k
@@ -272,8 +272,8 @@ module _ (program : LineProgram) (first : List Block) where
   perform_stands (Call to callee arguments) a line rs callers z h k = call_stands (words_in arguments rs) (callee_in callee rs) _ _ (h, k)
 
   give_back_stands :
-      (words : ℕ) (records : List Standing) (a : Activation) (line : ℕ) (rs : Registers) (callers : List Caller) (z : State)
-      → z.arena.blocks ≡ blocks_of program a records → AreCounted program a records → CallersStandOn program first callers a.outer
+      (words : ℕ) (records : List Standing) (a : Activation) (line : ℕ) (rs : Registers) (callers : List Caller) (z : MidState)
+      → z.arena.blocks ≡ blocks_of program a records → BlocksAreCounted program a records → CallersStandOn program first callers a.outer
       → StageStands program first (give_back_at words records a line rs callers z)
   unfolding with_some
   give_back_stands words [] a line rs callers z e counted k = tt
@@ -295,14 +295,14 @@ module _ (program : LineProgram) (first : List Block) where
       by false = tt
 
   returned_stands :
-      (o : Option ℕ) (a : Activation) (line : ℕ) (rs : Registers) (callers : List Caller) (z : State) → CallersStandOn program first callers a.outer
+      (o : Option ℕ) (a : Activation) (line : ℕ) (rs : Registers) (callers : List Caller) (z : MidState) → CallersStandOn program first callers a.outer
       → StageStands program first (proceed program a line callers (with_some o (λ w. ends (returns w)) rs z))
   unfolding with_some proceed
   returned_stands None a line rs callers z k = tt
   returned_stands (Some w) a line rs callers z k = return_stands callers w (with_arena (with_blocks a.outer z.arena) z) k
 
   some_stands :
-      {X : Type 0} (o : Option X) (f : X → Next) (a : Activation) (line : ℕ) (rs : Registers) (callers : List Caller) (z : State)
+      {X : Type 0} (o : Option X) (f : X → Next) (a : Activation) (line : ℕ) (rs : Registers) (callers : List Caller) (z : MidState)
       → ((x : X) → StageStands program first (proceed program a line callers (f x rs z)))
       → StageStands program first (proceed program a line callers (with_some o f rs z))
   unfolding with_some proceed
@@ -310,7 +310,7 @@ module _ (program : LineProgram) (first : List Block) where
   some_stands (Some x) f a line rs callers z h = h x
 
   line_stands :
-      (o : Option Line) (a : Activation) (line : ℕ) (rs : Registers) (callers : List Caller) (z : State)
+      (o : Option Line) (a : Activation) (line : ℕ) (rs : Registers) (callers : List Caller) (z : MidState)
       → StandsOn program a z.arena.blocks → CallersStandOn program first callers a.outer → StageStands program first (do_line program o a line rs callers z)
   unfolding exec_step
   line_stands None a line rs callers z h k = tt
@@ -331,7 +331,7 @@ module _ (program : LineProgram) (first : List Block) where
       keeps_stands a (line + 1) callers z.arena.blocks _ (some_keeps _ _ _ rs _ (λ v. some_keeps _ _ _ rs _ (λ w. tt))) h k
 
   entry_stands :
-      (o : Option LineProcedure) (number : ℕ) (arguments : List ℕ) (callers : List Caller) (z : State) → slice_get program.procedures number ≡ o
+      (o : Option LineProcedure) (number : ℕ) (arguments : List ℕ) (callers : List Caller) (z : MidState) → slice_get program.procedures number ≡ o
       → CallersStandOn program first callers z.arena.blocks → StageStands program first (enter_at o number arguments callers z)
   unfolding choose_by
   entry_stands None number arguments callers z e k = tt

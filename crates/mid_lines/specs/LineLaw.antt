@@ -1,29 +1,29 @@
 -- The laws of lines: the machine does what the tree of steps does.
 use Rattle.std.specs.Prelude.{◌≡◌, ℕ, List, ◌++◌}
 use Rattle.mid_code.specs.declared.program.MidProgram.{MidProgram}
-use Rattle.mid_code.specs.State.{State, End, Outcome}
+use Rattle.mid_code.specs.State.{MidState, End, MidOutcome}
 use Rattle.mid_code.specs.Meaning.{runs}
 use Rattle.mid_code.specs.Law.{IsReached}
 use Rattle.mid_lines.specs.LineMeaning.{Stage, ended, state_of, begin, after}
 use Rattle.mid_lines.specs.Flattened.{program_lines}
 
 -- the machine of a program's lines, so many steps after its procedure of a number was entered with arguments
-abbrev pub line_run : MidProgram → (entry : ℕ) → (arguments : List ℕ) → State → (steps : ℕ) → Stage
+abbrev pub line_run : MidProgram → (entry : ℕ) → (arguments : List ℕ) → MidState → (steps : ℕ) → Stage
 line_run program entry arguments z steps = after (program_lines program) steps (begin entry arguments z)
 
 -- a run of the machine does what an outcome says: it comes to its end where that was reached, and to its state in any case
-pub record DoesTheSame (run : ℕ → Stage) (outcome : Outcome) : Type 0 where
+pub record DoesTheSame (run : ℕ → Stage) (outcome : MidOutcome) : Type 0 where
   pub ends : IsReached outcome.end → (steps : ℕ) × (run steps ≡ ended outcome.end outcome.state)
   pub comes : (steps : ℕ) × (state_of (run steps) ≡ outcome.state)
 
 -- whatever the levels and turns, the machine of the lines does what the tree does
 abbrev pub LawOfLines : Type 0
 LawOfLines =
-    (program : MidProgram) (k turns_each entry : ℕ) (arguments : List ℕ) (z : State)
+    (program : MidProgram) (k turns_each entry : ℕ) (arguments : List ℕ) (z : MidState)
     → DoesTheSame (line_run program entry arguments z) (runs program k turns_each entry arguments z)
 
 -- an outcome has an end and a state, and its end is reached
-pub record EndsSo (outcome : Outcome) (e : End) (z : State) : Type 0 where
+pub record OutcomeEnds (outcome : MidOutcome) (e : End) (z : MidState) : Type 0 where
   pub reached : IsReached outcome.end
   pub end : outcome.end ≡ e
   pub state : outcome.state ≡ z
@@ -31,12 +31,12 @@ pub record EndsSo (outcome : Outcome) (e : End) (z : State) : Type 0 where
 -- the end to which the machine comes in some steps is the one that the tree reaches with as many levels and turns
 abbrev pub LawOfLineEnds : Type 0
 LawOfLineEnds =
-    (program : MidProgram) (steps entry : ℕ) (arguments : List ℕ) (z : State) (e : End) (y : State)
-    → line_run program entry arguments z steps ≡ ended e y → EndsSo (runs program steps steps entry arguments z) e y
+    (program : MidProgram) (steps entry : ℕ) (arguments : List ℕ) (z : MidState) (e : End) (y : MidState)
+    → line_run program entry arguments z steps ≡ ended e y → OutcomeEnds (runs program steps steps entry arguments z) e y
 
 -- What the machine has printed after some steps is a beginning of what the tree prints with as many levels and turns.
 abbrev pub LawOfLinePrinting : Type 0
 LawOfLinePrinting =
-    (program : MidProgram) (steps entry : ℕ) (arguments : List ℕ) (z : State)
+    (program : MidProgram) (steps entry : ℕ) (arguments : List ℕ) (z : MidState)
     → (more : List ℕ)
     × ((runs program steps steps entry arguments z).state.printed ≡ (state_of (line_run program entry arguments z steps)).printed ++ more)

@@ -9,7 +9,7 @@ use Rattle.mid_code.specs.MidCode.{perform, return_word, cut_to, halt_with, end_
 use Rattle.mid_code.specs.Words.{compares}
 use Rattle.mid_code.specs.Arena.{Block, activation_frame, record_of, lent_from, with_blocks}
 use Rattle.mid_code.specs.Costs.{operation_cost, test_cost, jump_cost, record_cost, entry_cost}
-use Rattle.mid_code.specs.State.{Registers, first_registers, State, End, falls, returns, cuts, no_room, no_level, no_turn, halts, unhandled, exhausted, stuck, Outcome, ends, charged, with_arena, where_true, register}
+use Rattle.mid_code.specs.State.{Registers, first_registers, MidState, End, falls, returns, cuts, no_room, no_level, no_turn, halts, unhandled, exhausted, stuck, MidOutcome, ends, charged, with_arena, where_true, register}
 use Rattle.mid_code.specs.Meaning.{lay, give_back, close, Context, context_of, exec_step}
 use Rattle.mid_lines.specs.declared.line.Line.{Line}
 use Rattle.mid_lines.specs.declared.line.Line.TheVariants.{Do, Branch, Jump, Lay, Landed, GiveBack, Return, Cut, Halt, Unhandled}
@@ -45,24 +45,24 @@ pub record Caller : Type 0 where
 -- A stage of a run: an activation at a line with its registers, or a procedure that is entered with arguments, above the callers,
 -- the innermost first; or the end.
 pub data Stage : Type 0 where
-  running : Activation → (line : ℕ) → Registers → List Caller → State → Stage
-  entering : (procedure : ℕ) → (arguments : List ℕ) → List Caller → State → Stage
-  ended : End → State → Stage
+  running : Activation → (line : ℕ) → Registers → List Caller → MidState → Stage
+  entering : (procedure : ℕ) → (arguments : List ℕ) → List Caller → MidState → Stage
+  ended : End → MidState → Stage
 
 -- the state of a stage
-abbrev pub state_of : Stage → State
+abbrev pub state_of : Stage → MidState
 state_of (running a line rs callers z) = z
 state_of (entering number arguments callers z) = z
 state_of (ended e z) = z
 
 -- where a run begins: a procedure is entered with arguments, above no caller
-abbrev pub begin : (entry : ℕ) → (arguments : List ℕ) → State → Stage
+abbrev pub begin : (entry : ℕ) → (arguments : List ℕ) → MidState → Stage
 begin entry arguments z = entering entry arguments [] z
 
 -- ends of activations
 
 -- a word is returned to the innermost caller; where there is none, the run ends
-abbrev pub return_to : List Caller → (word : ℕ) → State → Stage
+abbrev pub return_to : List Caller → (word : ℕ) → MidState → Stage
 return_to [] word z = ended (returns word) z
 return_to (c ∷ callers) word z = running c.activation c.line (slice_set c.registers c.result (Some word)) callers z
 
@@ -76,39 +76,39 @@ abbrev pub closed : Standing → Standing
 closed s = record s { is_open = false }
 
 -- an activation goes on at a line where something fell out; every other end ends the run
-abbrev pub arrive_from : End → Activation → (line : ℕ) → Registers → List Caller → State → Stage
+abbrev pub arrive_from : End → Activation → (line : ℕ) → Registers → List Caller → MidState → Stage
 arrive_from falls a line rs callers z = running a line rs callers z
 arrive_from e a line rs callers z = ended e z
 
-abbrev pub arrive : Activation → (line : ℕ) → List Caller → Outcome → Stage
+abbrev pub arrive : Activation → (line : ℕ) → List Caller → MidOutcome → Stage
 arrive a line callers r = arrive_from r.end a line r.registers callers r.state
 
 -- the head of the landing of a record, with the word of the cut: the record is closed, and the word is in the register
-abbrev pub land_at : Option Line → (word : ℕ) → Standing → Activation → Registers → List Caller → State → Stage
+abbrev pub land_at : Option Line → (word : ℕ) → Standing → Activation → Registers → List Caller → MidState → Stage
 land_at (Some (Landed r)) word s a rs callers z =
     arrive a (s.landing + 1) callers (close s.outside (λ rs' y. ends falls (slice_set rs' r (Some word)) y) rs z)
 land_at line word s a rs callers z = ended stuck z
 
 -- the landing of the first of these records of an activation, and something else where there is none
-abbrev pub land : LineProgram → (word : ℕ) → List Standing → Activation → Registers → List Caller → State → (otherwise : Stage) → Stage
+abbrev pub land : LineProgram → (word : ℕ) → List Standing → Activation → Registers → List Caller → MidState → (otherwise : Stage) → Stage
 land program word [] a rs callers z otherwise = otherwise
 land program word (s ∷ records) a rs callers z otherwise =
     land_at (line_of program a.procedure s.landing) word s (with_standing (closed s ∷ records) a) rs callers z
 
 -- A cut to the block that has so many outside. The record is sought in the callers, from the innermost on; the activations above the one
 -- that laid it end.
-abbrev pub cut_outwards : LineProgram → (outside word : ℕ) → List Caller → State → Stage
+abbrev pub cut_outwards : LineProgram → (outside word : ℕ) → List Caller → MidState → Stage
 cut_outwards program outside word [] z = ended stuck z
 cut_outwards program outside word (c ∷ callers) z =
     land program word (standing_from outside c.activation.standing) c.activation c.registers callers z (cut_outwards program outside word callers z)
 
 -- the same, and the record is sought first in an activation above the callers
-abbrev pub cut_from : LineProgram → (outside word : ℕ) → Activation → Registers → List Caller → State → Stage
+abbrev pub cut_from : LineProgram → (outside word : ℕ) → Activation → Registers → List Caller → MidState → Stage
 cut_from program outside word a rs callers z =
     land program word (standing_from outside a.standing) a rs callers z (cut_outwards program outside word callers z)
 
 -- What comes after an end in an activation: where something fell out it goes on at a line, and where it returned or cut, elsewhere.
-abbrev pub proceed_from : LineProgram → End → Activation → (line : ℕ) → Registers → List Caller → State → Stage
+abbrev pub proceed_from : LineProgram → End → Activation → (line : ℕ) → Registers → List Caller → MidState → Stage
 proceed_from program falls a line rs callers z = running a line rs callers z
 proceed_from program (returns w) a line rs callers z = return_to callers w (with_arena (with_blocks a.outer z.arena) z)
 proceed_from program (cuts n w) a line rs callers z = cut_from program n w a rs callers z
@@ -120,13 +120,13 @@ proceed_from program (unhandled class site) a line rs callers z = ended (unhandl
 proceed_from program exhausted a line rs callers z = ended exhausted z
 proceed_from program stuck a line rs callers z = ended stuck z
 
-unfoldable pub proceed : LineProgram → Activation → (line : ℕ) → List Caller → Outcome → Stage
+unfoldable pub proceed : LineProgram → Activation → (line : ℕ) → List Caller → MidOutcome → Stage
 proceed program a line callers r = proceed_from program r.end a line r.registers callers r.state
 
 -- entries
 
 -- the frame of a procedure is laid, and its first line is next
-abbrev pub enter_at : Option LineProcedure → (number : ℕ) → (arguments : List ℕ) → List Caller → State → Stage
+abbrev pub enter_at : Option LineProcedure → (number : ℕ) → (arguments : List ℕ) → List Caller → MidState → Stage
 enter_at None number arguments callers z = ended stuck z
 enter_at (Some p) number arguments callers z =
     arrive (record { procedure = number; outer = z.arena.blocks; standing = [] }) 0 callers
@@ -150,7 +150,7 @@ abbrev pub holds : Test → Registers → Option Bool
 holds t rs = both (register t.first rs) (register t.second rs) (compares t.comparison)
 
 -- the next line where a test holds, else another one; it is stuck where a register was not set
-abbrev pub branch : Option Bool → Activation → (next otherwise : ℕ) → Registers → List Caller → State → Stage
+abbrev pub branch : Option Bool → Activation → (next otherwise : ℕ) → Registers → List Caller → MidState → Stage
 branch None a next otherwise rs callers z = ended stuck z
 branch (Some true) a next otherwise rs callers z = running a next rs callers z
 branch (Some false) a next otherwise rs callers z = running a otherwise rs callers z
@@ -172,26 +172,26 @@ callee_in (Procedure n) rs = Some n
 callee_in (Word r) rs = register r rs
 
 -- a call of the procedure of that number with those arguments, above these callers; it is stuck where they are none
-abbrev pub call : Option (List ℕ) → Option ℕ → List Caller → State → Stage
+abbrev pub call : Option (List ℕ) → Option ℕ → List Caller → MidState → Stage
 call None callee callers z = ended stuck z
 call (Some words) None callers z = ended stuck z
 call (Some words) (Some number) callers z = entering number words callers z
 
 -- An operation. A call waits, with the next line to go on at; every other one does what the step does.
-abbrev pub perform_at : LineProgram → Operation → Activation → (line : ℕ) → Registers → List Caller → State → Stage
+abbrev pub perform_at : LineProgram → Operation → Activation → (line : ℕ) → Registers → List Caller → MidState → Stage
 perform_at program (Call to callee arguments) a line rs callers z =
     call (words_in arguments rs) (callee_in callee rs) (record { activation = a; line = line + 1; registers = rs; result = to } ∷ callers)
     (charged (operation_cost (Call to callee arguments)) z)
 perform_at program o a line rs callers z = proceed program a (line + 1) callers (exec_step alone (perform o) rs z)
 
 -- the innermost record of the activation, which lends so many words, is given back
-abbrev pub give_back_at : (words : ℕ) → List Standing → Activation → (line : ℕ) → Registers → List Caller → State → Stage
+abbrev pub give_back_at : (words : ℕ) → List Standing → Activation → (line : ℕ) → Registers → List Caller → MidState → Stage
 give_back_at words [] a line rs callers z = ended stuck z
 give_back_at words (s ∷ records) a line rs callers z =
     if words == s.words then arrive (with_standing records a) (line + 1) callers (give_back s.outside rs z) else ended stuck z
 
 -- What an activation does at a line. Behind the last line it is stuck, and at the head of a landing too, where only a cut leads.
-abbrev pub do_line : LineProgram → Option Line → Activation → (line : ℕ) → Registers → List Caller → State → Stage
+abbrev pub do_line : LineProgram → Option Line → Activation → (line : ℕ) → Registers → List Caller → MidState → Stage
 do_line program None a line rs callers z = ended stuck z
 do_line program (Some (Do o)) a line rs callers z = perform_at program o a line rs callers z
 do_line program (Some (Branch t otherwise)) a line rs callers z = branch (holds t rs) a (line + 1) otherwise rs callers (charged test_cost z)

@@ -2,7 +2,7 @@
 -- activation has a frame and outside it the blocks of its caller, and inside it its control records that stand.
 use Rattle.std.specs.Prelude.{◌≡◌, ℕ, ◌+◌, Bool, true, false, List, [], ◌∷◌, length, slice_get, Option, Some, None}
 use Rattle.mid_code.specs.Arena.{Block, BlockKind, activation_frame, open_record, closed_record, header_words}
-use Rattle.mid_code.specs.State.{State}
+use Rattle.mid_code.specs.State.{MidState}
 use Rattle.mid_lines.specs.declared.line.LineProcedure.{LineProcedure}
 use Rattle.mid_lines.specs.declared.line.LineProgram.{LineProgram}
 use Rattle.mid_lines.specs.LineMeaning.{Standing, Activation, Caller, Stage, running, entering, ended, begin, after}
@@ -29,14 +29,14 @@ blocks_of program a [] = frame_of program a.procedure ∷ a.outer
 blocks_of program a (s ∷ records) = record_block s ∷ blocks_of program a records
 
 -- each of these records says how many blocks stand outside it
-abbrev pub AreCounted : LineProgram → Activation → List Standing → Type 0
-AreCounted program a [] = Unit {0}
-AreCounted program a (s ∷ records) = (s.outside ≡ length (blocks_of program a records)) × AreCounted program a records
+abbrev pub BlocksAreCounted : LineProgram → Activation → List Standing → Type 0
+BlocksAreCounted program a [] = Unit {0}
+BlocksAreCounted program a (s ∷ records) = (s.outside ≡ length (blocks_of program a records)) × BlocksAreCounted program a records
 
 -- an activation stands on these blocks
 pub record StandsOn (program : LineProgram) (a : Activation) (blocks : List Block) : Type 0 where
   pub all : blocks ≡ blocks_of program a a.standing
-  pub counted : AreCounted program a a.standing
+  pub counted : BlocksAreCounted program a a.standing
 
 -- the callers stand on these blocks, from the innermost on; outside them are the blocks with which the run began
 abbrev pub CallersStandOn : LineProgram → (first : List Block) → List Caller → List Block → Type 0
@@ -52,5 +52,5 @@ StageStands program first (ended e z) = Unit {0}
 -- so it is at each stage of a run
 abbrev pub LawOfStack : Type 0
 LawOfStack =
-    (program : LineProgram) (entry : ℕ) (arguments : List ℕ) (z : State) (steps : ℕ)
+    (program : LineProgram) (entry : ℕ) (arguments : List ℕ) (z : MidState) (steps : ℕ)
     → StageStands program z.arena.blocks (after program steps (begin entry arguments z))

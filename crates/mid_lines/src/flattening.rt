@@ -9,7 +9,7 @@ mod copies;
 use crate::flattening::copies::copy_of_operation;
 use crate::line::{Line, LineList, LineProcedure, LineProcedureList, LineProgram};
 use base::NoMemory;
-use mid_code::{Code, Counted, MidProcedure, MidProgram, Register, Step, StepKind, Test};
+use mid_code::{Code, CodeStep, Counted, MidProcedure, MidProgram, Register, StepKind, Test};
 use std::alloc::Global;
 
 /// The program with the code of each of its procedures as lines.
@@ -51,7 +51,7 @@ fn append_code(alloc: Global, lines: &mut LineList, code: &Code) -> Result<(), N
 }
 
 #[cycle(flat)]
-fn append_step(alloc: Global, lines: &mut LineList, step: &Step) -> Result<(), NoMemory>
+fn append_step(alloc: Global, lines: &mut LineList, step: &CodeStep) -> Result<(), NoMemory>
     ensures { OnOk result (lines.new ≡ lines.old ++ step_lines (length lines.old) step.now) }
 {
     match &step.kind {

@@ -12,10 +12,10 @@ use Rattle.lang_meaning.specs.Facts.{is_row, begins_with_built_in}
 use Rattle.lang_meaning.specs.Values.{object, symbol, named, t}
 use Rattle.lang_meaning.specs.Objects.{Object, input_stream, output_stream, class_object, built_in_classes}
 use Rattle.lang_meaning.specs.Lookup.{text}
-use Rattle.lang_meaning.specs.Layout.{objects_at_start, class_value, function_value, literal_value}
+use Rattle.lang_meaning.specs.InitialHeap.{objects_at_start, class_value, function_value, literal_value}
 use Rattle.mid_arena.specs.Places.{Spot, Places, Owner, of_object, of_symbol, of_other, spot_in, spot_of, word_of}
 use Rattle.mid_arena.specs.FixedWords.{nil_text}
-use Rattle.mid_arena.proofs.Keeping.{Extends}
+use Rattle.mid_arena.proofs.Keeping.{PlacesExtend}
 use Rattle.mid_start.specs.declared.words.ArenaWords.{ArenaWords}
 use Rattle.mid_start.specs.LaidWell.{LaidWell}
 use Rattle.mid_start.specs.Laying.{Longer}
@@ -24,12 +24,12 @@ use Rattle.mid_start.proofs.Joining.{longer_both, extends_longer}
 use Rattle.mid_start.specs.declared.slots.SlotWords.{SlotWords}
 use Rattle.lang_meaning.specs.Recipes.{Recipe, in_turn, function_recipe, literal_recipe}
 use Rattle.mid_start.specs.Recipes.{name_recipe, of_slot, slots_recipe}
-use Rattle.mid_start.specs.Making.{IsWord, IsSlot, Each, HasWord, HaveWords, AreNumbered, Made, Makes}
+use Rattle.mid_start.specs.Making.{IsWord, IsSlot, EachStandsFor, HasWord, HaveWords, AreNumbered, Made, Makes}
 use Rattle.mid_start.proofs.Reaching.{words_both, words_kept}
 use Rattle.mid_arena.proofs.Arguments.{item_there}
 use Rattle.std.proofs.lemmas.Bool.{cases_lt}
-use Rattle.mid_start.specs.Settling.{AreCounted, StillWords, Settled, Settles, class_number, ClassesWait, ClassesSettled, ClassesSettle}
-use Rattle.mid_start.specs.Start.{fixed_contents, Start}
+use Rattle.mid_start.specs.Settling.{SlotsAreCounted, StillWords, Settled, Settles, class_number, ClassesWait, ClassesSettled, ClassesSettle}
+use Rattle.mid_start.specs.StaticData.{fixed_contents, IsStaticData}
 use Rattle.mid_start.proofs.Joins.{lasts_word, lasts_slot, lasts_each, Lasts}
 use Rattle.mid_start.proofs.Settle.{extends_of}
 use Rattle.lang_meaning.proofs.WholeRecipes.{at_functions, at_literals, at_slots, all_objects, function_whole, literal_whole}
@@ -96,9 +96,9 @@ module _
     (fs ls cs : List ℕ) (ss : List (List SlotWords)) (truth input output : ℕ)
     (enough : 34 ≤ length program.classes) (true_text : slice_get names true_name.0 ≡ Some (116 ∷ [])) (no_nil : (i : ℕ) → slice_get names i ≡ Some nil_text → ⊥)
     (from : a.first ≡ 184) (none : a.symbols ≡ []) (same_from : h.first ≡ 184)
-    (functions : Makes names (Each IsWord) (in_turn function_recipe program.functions) a b fs)
-    (literals : Makes names (Each IsWord) (in_turn (literal_recipe names) program.literals) b c ls)
-    (slots : Makes names (Each (Each IsSlot)) (in_turn (slots_recipe names) program.classes) c d ss) (counted : AreCounted program.classes ss)
+    (functions : Makes names (EachStandsFor IsWord) (in_turn function_recipe program.functions) a b fs)
+    (literals : Makes names (EachStandsFor IsWord) (in_turn (literal_recipe names) program.literals) b c ls)
+    (slots : Makes names (EachStandsFor (EachStandsFor IsSlot)) (in_turn (slots_recipe names) program.classes) c d ss) (counted : SlotsAreCounted program.classes ss)
     (true_laid : Makes names IsWord (name_recipe names true_name) d e truth)
     (input_laid : Settles names program input_stream (λ places. Unit {0}) e f input)
     (output_laid : Settles names program output_stream (λ places. Unit {0}) f g output)
@@ -143,13 +143,13 @@ module _
 
     -- what is laid in turn
 
-    functions_made : Made names program (Each IsWord) (no_spots at_first) at_first a b (in_turn function_recipe program.functions (length at_first)) fs
+    functions_made : Made names program (EachStandsFor IsWord) (no_spots at_first) at_first a b (in_turn function_recipe program.functions (length at_first)) fs
     functions_made = functions.there program (no_spots at_first) at_first (nothing_stands names program at_first a (ap (λ n. n % 4) from) none)
 
-    literals_made : Made names program (Each IsWord) functions_made.places_after with_functions b c (in_turn (literal_recipe names) program.literals (length with_functions)) ls
+    literals_made : Made names program (EachStandsFor IsWord) functions_made.places_after with_functions b c (in_turn (literal_recipe names) program.literals (length with_functions)) ls
     literals_made = literals.there program functions_made.places_after with_functions functions_made.stands
 
-    slots_made : Made names program (Each (Each IsSlot)) literals_made.places_after with_literals c d (in_turn (slots_recipe names) program.classes (length with_literals)) ss
+    slots_made : Made names program (EachStandsFor (EachStandsFor IsSlot)) literals_made.places_after with_literals c d (in_turn (slots_recipe names) program.classes (length with_literals)) ss
     slots_made = slots.there program literals_made.places_after with_literals literals_made.stands
 
     true_made : Made names program IsWord slots_made.places_after store d e ([], symbol (named (text names true_name.0))) truth
@@ -195,11 +195,11 @@ module _
     still = record { word = λ v w there. output_settled.words.word v w (input_settled.words.word v w there) }
 
     -- the words of slots
-    slots_words : Each (Each IsSlot) streams (in_turn (slots_recipe names) program.classes (at_slots names built_in_classes program)).1 ss
+    slots_words : EachStandsFor (EachStandsFor IsSlot) streams (in_turn (slots_recipe names) program.classes (at_slots names built_in_classes program)).1 ss
     slots_words =
-        let lasts : Lasts (Each (Each IsSlot)) = lasts_each (Each IsSlot) (lasts_each IsSlot lasts_slot) in
+        let lasts : Lasts (EachStandsFor (EachStandsFor IsSlot)) = lasts_each (EachStandsFor IsSlot) (lasts_each IsSlot lasts_slot) in
         let values = (in_turn (slots_recipe names) program.classes (length with_literals)).1 in
-        subst (λ n. Each (Each IsSlot) streams (in_turn (slots_recipe names) program.classes n).1 ss) slots_from
+        subst (λ n. EachStandsFor (EachStandsFor IsSlot) streams (in_turn (slots_recipe names) program.classes n).1 ss) slots_from
         (lasts.kept laid streams (extends_of laid streams still) values ss
         (lasts.kept slots_made.places_after laid (extends_longer slots_made.places_after laid true_made.longer) values ss slots_made.words))
 
@@ -233,7 +233,7 @@ module _
     of_classes class w there within = ap (word_of places) (class_value_is names program class within) ∙ settled.of_classes class w there
 
     -- what was laid earlier has its words at last
-    at_last : (m : Places) → Longer m laid → Extends m places
+    at_last : (m : Places) → Longer m laid → PlacesExtend m places
     at_last m more = record {
       word = λ v w there. settled.words.word v w (still.word v w ((extends_longer m laid more).word v w there));
     }
@@ -318,23 +318,23 @@ module _
         (subst (λ n. HaveWords places n (length ll)) (sym (zero-add (length with_functions))) two)))
         (subst (λ n. HaveWords places n (length sl)) (sym (zero-add (length with_literals))) three))
 
-    functions_words : Each IsWord places (in_turn function_recipe program.functions (at_functions names built_in_classes program)).1 fs
+    functions_words : EachStandsFor IsWord places (in_turn function_recipe program.functions (at_functions names built_in_classes program)).1 fs
     functions_words =
-        subst (λ n. Each IsWord places (in_turn function_recipe program.functions n).1 fs) functions_at
+        subst (λ n. EachStandsFor IsWord places (in_turn function_recipe program.functions n).1 fs) functions_at
         ((lasts_each IsWord lasts_word).kept functions_made.places_after places
         (at_last functions_made.places_after
         (longer_both functions_made.places_after literals_made.places_after laid literals_made.longer
         (longer_both literals_made.places_after slots_made.places_after laid slots_made.longer true_made.longer)))
         (in_turn function_recipe program.functions (length at_first)).1 fs functions_made.words)
 
-    literals_words : Each IsWord places (in_turn (literal_recipe names) program.literals (at_literals names built_in_classes program)).1 ls
+    literals_words : EachStandsFor IsWord places (in_turn (literal_recipe names) program.literals (at_literals names built_in_classes program)).1 ls
     literals_words =
-        subst (λ n. Each IsWord places (in_turn (literal_recipe names) program.literals n).1 ls) literals_at
+        subst (λ n. EachStandsFor IsWord places (in_turn (literal_recipe names) program.literals n).1 ls) literals_at
         ((lasts_each IsWord lasts_word).kept literals_made.places_after places
         (at_last literals_made.places_after (longer_both literals_made.places_after slots_made.places_after laid slots_made.longer true_made.longer))
         (in_turn (literal_recipe names) program.literals (length with_functions)).1 ls literals_made.words)
 
-    pub starts : Start names program (record { arena = words; classes = cs; functions = fs; literals = ls })
+    pub starts : IsStaticData names program (record { arena = words; classes = cs; functions = fs; literals = ls })
     starts = record {
       places = with_fixed_spot places;
       first = first;

@@ -7,7 +7,7 @@ use Rattle.base.specs.Names.{slice_get-front}
 use Rattle.lang_meaning.specs.declared.program.ProgramRows.{ProgramRows}
 use Rattle.lang_meaning.specs.Values.{Value, object}
 use Rattle.lang_meaning.specs.Objects.{Object, class_object, input_stream, output_stream, built_in_classes}
-use Rattle.lang_meaning.specs.Layout.{objects_at_start, class_value, standard_input, standard_output}
+use Rattle.lang_meaning.specs.InitialHeap.{objects_at_start, class_value, standard_input, standard_output}
 use Rattle.mid_start.proofs.Lists.{item_behind}
 use Rattle.lang_meaning.specs.Recipes.{in_turn, class_recipe, classes_recipe, function_recipe, literal_recipe}
 use Rattle.mid_start.specs.Recipes.{of_slot}

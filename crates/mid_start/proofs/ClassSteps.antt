@@ -10,7 +10,7 @@ use Rattle.lang_meaning.specs.declared.program.SlotRow.{SlotRow}
 use Rattle.lang_meaning.specs.Values.{t, symbol, named, object}
 use Rattle.lang_meaning.specs.Objects.{Object, class_object, built_in_classes}
 use Rattle.lang_meaning.specs.Lookup.{text}
-use Rattle.lang_meaning.specs.Layout.{initargs_value, initform_value}
+use Rattle.lang_meaning.specs.InitialHeap.{initargs_value, initform_value}
 use Rattle.mid_arena.specs.Tags.{object_tag}
 use Rattle.mid_arena.specs.Places.{Places, word_of}
 use Rattle.mid_start.specs.declared.words.ArenaWords.{ArenaWords}

@@ -16,14 +16,14 @@ use Rattle.lang_meaning.specs.Values.{SymbolValue, named, same_symbol, Value, in
 use Rattle.lang_meaning.specs.Objects.{Object}
 use Rattle.lang_meaning.specs.Lookup.{text}
 use Rattle.lang_meaning.specs.Literals.{symbol_of}
-use Rattle.lang_meaning.specs.Layout.{class_value, standard_input, standard_output}
+use Rattle.lang_meaning.specs.InitialHeap.{class_value, standard_input, standard_output}
 use Rattle.mid_code.specs.Arena.{Arena, is_within, is_in_record, word_in, word_at}
 use Rattle.mid_arena.specs.Tags.{nil_word, symbol_header}
 use Rattle.mid_arena.specs.Places.{Spot, Places, Owner, of_object, of_symbol, of_other, same_owner, spot_of_symbol, spot_of, word_of}
 use Rattle.mid_arena.specs.Standing.{of_laid, SpotStands, Apart, in_front, behind, SameWords}
 use Rattle.mid_arena.specs.FixedWords.{nil_text, FixedStand, untouched}
 use Rattle.mid_arena.specs.Layouts.{AreBytes, byte_words, packed}
-use Rattle.mid_arena.proofs.Keeping.{Extends, symbol_kept, object_kept}
+use Rattle.mid_arena.proofs.Keeping.{PlacesExtend, symbol_kept, object_kept}
 use Rattle.mid_arena.proofs.Arguments.{item_there}
 use Rattle.mid_start.specs.declared.symbol_words.SymbolWord.{SymbolWord}
 use Rattle.mid_start.specs.declared.words.ArenaWords.{ArenaWords}
@@ -33,7 +33,7 @@ use Rattle.mid_start.proofs.Lists.{item_behind}
 use Rattle.mid_start.proofs.LaidWords.{word_laid, spot_among}
 use Rattle.mid_start.specs.Making.{AreNumbered}
 use Rattle.mid_start.proofs.Numbered.{number_kept}
-use Rattle.mid_start.specs.Start.{fixed_spot, fixed_contents}
+use Rattle.mid_start.specs.StaticData.{fixed_spot, fixed_contents}
 
 -- ---- no symbol is nil
 
@@ -107,7 +107,7 @@ module _ (fixed : List ℕ) (laid words : ArenaWords) (count : length fixed ≡ 
 abbrev pub with_fixed_spot : Places → Places
 with_fixed_spot places = record places { others = fixed_spot ∷ [] }
 
-pub same_values : (places : Places) → Extends places (with_fixed_spot places)
+pub same_values : (places : Places) → PlacesExtend places (with_fixed_spot places)
 same_values places = record { word = kept }
   where
     kept : (v : Value) (w : ℕ) → word_of places v ≡ Some w → word_of (with_fixed_spot places) v ≡ Some w

@@ -5,17 +5,17 @@ use Rattle.std.specs.Str.{bytes_eq}
 use Rattle.lang_meaning.specs.declared.program.FunctionRow.{FunctionRow}
 use Rattle.lang_meaning.specs.Values.{Value, object}
 use Rattle.lang_meaning.specs.Lookup.{text}
-use Rattle.lang_meaning.specs.Layout.{function_of, laid_out, under_key, function_things}
+use Rattle.lang_meaning.specs.InitialHeap.{function_of, laid_out, under_key, function_things}
 use Rattle.lang_meaning.specs.Recipes.{in_turn, function_recipe}
 use Rattle.lang_meaning.proofs.RecipesFound.{value_in}
 use Rattle.mid_arena.specs.Places.{Places, word_of}
-use Rattle.mid_start.specs.Making.{IsWord, Each}
-use Rattle.mid_start.specs.Start.{word_of_text}
+use Rattle.mid_start.specs.Making.{IsWord, EachStandsFor}
+use Rattle.mid_start.specs.StaticData.{word_of_text}
 
 -- functions of names
 
 pub function_found : (names : List (List ℕ)) (places : Places) (rows : List FunctionRow) (ws : List ℕ) (n : ℕ) (name : List ℕ) (w : ℕ)
-    → Each IsWord places (in_turn function_recipe rows n).1 ws → word_of_text names rows ws name ≡ Some w
+    → EachStandsFor IsWord places (in_turn function_recipe rows n).1 ws → word_of_text names rows ws name ≡ Some w
     → word_of places (under_key (function_of name) (laid_out (function_things names rows) n) n) ≡ Some w
 function_found names places [] ws n name w h e = absurd (cc e)
 function_found names places (f ∷ fs) [] n name w h e = absurd h
@@ -28,7 +28,7 @@ function_found names places (f ∷ fs) (x ∷ xs) n name w h e = by (bytes_eq na
     by false here others = others here
 
 -- the words of values by their places
-pub word_in : (places : Places) (vs : List Value) (ws : List ℕ) (i w : ℕ) → Each IsWord places vs ws → slice_get ws i ≡ Some w → word_of places (value_in vs i) ≡ Some w
+pub word_in : (places : Places) (vs : List Value) (ws : List ℕ) (i w : ℕ) → EachStandsFor IsWord places vs ws → slice_get ws i ≡ Some w → word_of places (value_in vs i) ≡ Some w
 word_in places [] [] i w h e = absurd (cc e)
 word_in places [] (x ∷ xs) i w h e = absurd h
 word_in places (v ∷ vs) [] i w h e = absurd h

@@ -8,7 +8,7 @@ use Rattle.lang_meaning.specs.declared.program.Callee.TheVariants.{Procedure, Ge
 use Rattle.lang_meaning.specs.Values.{object}
 use Rattle.lang_meaning.specs.Objects.{Object, function}
 use Rattle.lang_meaning.specs.Literals.{Laid, after_parts}
-use Rattle.lang_meaning.specs.Layout.{function_object}
+use Rattle.lang_meaning.specs.InitialHeap.{function_object}
 use Rattle.mid_code.specs.Arena.{word_at}
 use Rattle.mid_arena.specs.Tags.{object_tag, function_header, generic_header}
 use Rattle.mid_arena.specs.Places.{Spot, end_of, Places, of_object, spot_of, pointer_in, word_of, with_object}

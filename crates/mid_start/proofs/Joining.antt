@@ -10,7 +10,7 @@ use Rattle.lang_meaning.specs.Objects.{Object}
 use Rattle.mid_arena.specs.Places.{Spot, end_of, Places, Owner, of_object, of_symbol, of_other, same_owner, spot_in, spot_of_symbol, spot_of, with_object, pointer_in, word_of}
 use Rattle.mid_arena.specs.Standing.{of_laid, SpotStands, Apart, in_front, behind, AllApart, SameWords}
 use Rattle.mid_arena.specs.Layouts.{ObjectAt, SymbolAt}
-use Rattle.mid_arena.proofs.Keeping.{spot_in_tells, pointer_tells, Extends, symbol_kept, object_kept}
+use Rattle.mid_arena.proofs.Keeping.{spot_in_tells, pointer_tells, PlacesExtend, symbol_kept, object_kept}
 use Rattle.mid_arena.proofs.Owners.{FrontOrEnd, at_front, at_end, front_or_end, OldOrNew, of_old, of_new, old_or_new, object_within}
 use Rattle.mid_start.specs.declared.symbol_words.SymbolWord.{SymbolWord}
 use Rattle.mid_start.specs.declared.words.ArenaWords.{ArenaWords}
@@ -51,7 +51,7 @@ spot_stays before after g (of_symbol v) r e = rw g.symbols.begins (symbol_stays 
 spot_stays before after g (of_other n) r e = ap (λ xs. slice_get xs n) g.others ∙ e
 
 -- and a value its word
-pub extends_longer : (before after : Places) → Longer before after → Extends before after
+pub extends_longer : (before after : Places) → Longer before after → PlacesExtend before after
 extends_longer before after g = record { word = kept }
   where
     kept : (v : Value) (w : ℕ) → word_of before v ≡ Some w → word_of after v ≡ Some w
@@ -93,18 +93,18 @@ symbol_told (unnamed x s) (unnamed y r) e =
 
 -- ---- one owner more
 
-pub data OneMore (places : Places) (owner : Owner) (s : Spot) (p : Owner) (found : Spot) : Type 0 where
-  as_before : spot_of places p ≡ Some found → OneMore places owner s p found
-  joined : p ≡ owner → found ≡ s → OneMore places owner s p found
+pub data OneOwnerMore (places : Places) (owner : Owner) (s : Spot) (p : Owner) (found : Spot) : Type 0 where
+  as_before : spot_of places p ≡ Some found → OneOwnerMore places owner s p found
+  joined : p ≡ owner → found ≡ s → OneOwnerMore places owner s p found
 
 pub record Joins (places more : Places) (owner : Owner) (s : Spot) : Type 0 where
   pub longer : Longer places more
-  pub cases : (p : Owner) (found : Spot) → spot_of more p ≡ Some found → OneMore places owner s p found
+  pub cases : (p : Owner) (found : Spot) → spot_of more p ≡ Some found → OneOwnerMore places owner s p found
 
 pub joins_object : (s : Spot) (places : Places) → Joins places (with_object s places) (of_object (length places.objects)) s
 joins_object s places = record { longer = longer_object s places; cases = λ p found e. by p found (old_or_new s places p found e) }
   where
-    by : (p : Owner) (found : Spot) → OldOrNew s places p found → OneMore places (of_object (length places.objects)) s p found
+    by : (p : Owner) (found : Spot) → OldOrNew s places p found → OneOwnerMore places (of_object (length places.objects)) s p found
     by p found (of_old e) = as_before e
     by p found (of_new e same) = joined e same
 
@@ -141,11 +141,11 @@ symbol_one_more (x ∷ xs) v s r found e = by (same_symbol r x.0) refl e (symbol
 pub joins_symbol : (v : SymbolValue) (s : Spot) (places : Places) → Joins places (with_symbol v s places) (of_symbol v) s
 joins_symbol v s places = record { longer = longer_symbol v s places; cases = cases }
   where
-    by : (r : SymbolValue) (found : Spot) → SymbolOneMore places.symbols v s r found → OneMore places (of_symbol v) s (of_symbol r) found
+    by : (r : SymbolValue) (found : Spot) → SymbolOneMore places.symbols v s r found → OneOwnerMore places (of_symbol v) s (of_symbol r) found
     by r found (in_list e) = as_before e
     by r found (the_new e same) = joined (ap of_symbol e) same
 
-    cases : (p : Owner) (found : Spot) → spot_of (with_symbol v s places) p ≡ Some found → OneMore places (of_symbol v) s p found
+    cases : (p : Owner) (found : Spot) → spot_of (with_symbol v s places) p ≡ Some found → OneOwnerMore places (of_symbol v) s p found
     cases (of_object i) found e = as_before e
     cases (of_other n) found e = as_before e
     cases (of_symbol r) found e = by r found (symbol_one_more places.symbols v s r found e)
@@ -216,7 +216,7 @@ module _
       part = of_laid (omega (arith, g.first)) high;
     }
 
-    spots_stand : (p : Owner) (found : Spot) → OneMore places owner s p found → SpotStands (arena_of after) found
+    spots_stand : (p : Owner) (found : Spot) → OneOwnerMore places owner s p found → SpotStands (arena_of after) found
     spots_stand p found (as_before e) = spot_grown before after found g (h.spots p found e)
     spots_stand p found (joined e same) = rw same new_stands
 
@@ -225,7 +225,7 @@ module _
     old_in_front p old e = let among = spot_among before old (h.spots p old e) in omega (arith, among.high)
 
     spots_apart :
-        (p q : Owner) (first second : Spot) → same_owner p q ≡ false → OneMore places owner s p first → OneMore places owner s q second → Apart first second
+        (p q : Owner) (first second : Spot) → same_owner p q ≡ false → OneOwnerMore places owner s p first → OneOwnerMore places owner s q second → Apart first second
     spots_apart p q first second different (as_before d) (as_before e) = h.apart p q first second different d e
     spots_apart p q first second different (as_before d) (joined e same) = rw same (in_front (old_in_front p first d))
     spots_apart p q first second different (joined d same) (as_before e) = rw same (behind (old_in_front q second e))
@@ -251,7 +251,7 @@ module _
       once = rw same_places h.once;
     }
       where
-        by : (i : ℕ) (one : Object) (found : Spot) → FrontOrEnd store o i one → OneMore places owner s (of_object i) found
+        by : (i : ℕ) (one : Object) (found : Spot) → FrontOrEnd store o i one → OneOwnerMore places owner s (of_object i) found
             → ObjectAt names program more (arena_of after) found one
         by i one found (at_front d) (as_before e) = object_stays i one found d e
         by i one found (at_front d) (joined e same) =
@@ -277,7 +277,7 @@ module _
       once = rw more_symbols (distinct_and_one v s places.symbols h.once absent);
     }
       where
-        by : (r : SymbolValue) (found : Spot) → OneMore places owner s (of_symbol r) found → SymbolAt (arena_of after) found r
+        by : (r : SymbolValue) (found : Spot) → OneOwnerMore places owner s (of_symbol r) found → SymbolAt (arena_of after) found r
         by r found (as_before e) = symbol_at_stays r found e
         by r found (joined e same) =
             let symbols : of_symbol r ≡ of_symbol v = e ∙ own in

@@ -8,21 +8,21 @@ use Rattle.lang_meaning.specs.Values.{Value}
 use Rattle.lang_meaning.specs.Objects.{Object}
 use Rattle.lang_meaning.specs.Literals.{lay}
 use Rattle.mid_arena.specs.Places.{Places}
-use Rattle.mid_arena.proofs.Keeping.{Extends}
+use Rattle.mid_arena.proofs.Keeping.{PlacesExtend}
 use Rattle.mid_start.specs.declared.words.ArenaWords.{ArenaWords}
 use Rattle.mid_start.specs.LaidWell.{LaidWell}
 use Rattle.mid_start.specs.Laying.{Grown, LaidThere, Lays}
 use Rattle.mid_start.proofs.Joining.{longer_same, longer_both, extends_longer}
 use Rattle.lang_meaning.specs.Recipes.{Recipe, no_more, joined, in_turn, laid, initargs_recipe, initform_recipe}
 use Rattle.mid_start.specs.Recipes.{SlotValues, name_recipe, slot_recipe}
-use Rattle.mid_start.specs.Making.{IsWord, IsSlot, Each, HaveWords, Made, Makes, IsWithin}
+use Rattle.mid_start.specs.Making.{IsWord, IsSlot, EachStandsFor, HaveWords, Made, Makes, IsWithin}
 use Rattle.mid_start.proofs.Numbered.{data_no_functions, none_numbered}
 use Rattle.mid_start.proofs.Reaching.{no_words, words_both, words_kept, lies_behind, datum_reached}
 
 -- ---- what stays where more is laid
 
 pub record Lasts {V W : Type 0} (means : Places → V → W → Type 0) : Type 0 where
-  pub kept : (before after : Places) → Extends before after → (v : V) (w : W) → means before v w → means after v w
+  pub kept : (before after : Places) → PlacesExtend before after → (v : V) (w : W) → means before v w → means after v w
 
 pub lasts_word : Lasts IsWord
 lasts_word = record { kept = λ before after more v w e. more.word v w e }
@@ -37,19 +37,19 @@ lasts_slot = record {
 }
 
 pub each_kept :
-    {V W : Type 0} (means : Places → V → W → Type 0) → Lasts means → (before after : Places) → Extends before after → (vs : List V) (ws : List W)
-    → Each means before vs ws → Each means after vs ws
+    {V W : Type 0} (means : Places → V → W → Type 0) → Lasts means → (before after : Places) → PlacesExtend before after → (vs : List V) (ws : List W)
+    → EachStandsFor means before vs ws → EachStandsFor means after vs ws
 each_kept means lasts before after more [] [] h = tt
 each_kept means lasts before after more [] (w ∷ ws) h = h
 each_kept means lasts before after more (v ∷ vs) [] h = h
 each_kept means lasts before after more (v ∷ vs) (w ∷ ws) h = (lasts.kept before after more v w h.0, each_kept means lasts before after more vs ws h.1)
 
-pub lasts_each : {V W : Type 0} (means : Places → V → W → Type 0) → Lasts means → Lasts (Each means)
+pub lasts_each : {V W : Type 0} (means : Places → V → W → Type 0) → Lasts means → Lasts (EachStandsFor means)
 lasts_each means lasts = record { kept = λ before after more vs ws h. each_kept means lasts before after more vs ws h }
 
 pub each_push :
     {V W : Type 0} (means : Places → V → W → Type 0) (places : Places) (vs : List V) (ws : List W) (v : V) (w : W)
-    → Each means places vs ws → means places v w → Each means places (vs ++ v ∷ []) (ws ++ w ∷ [])
+    → EachStandsFor means places vs ws → means places v w → EachStandsFor means places (vs ++ v ∷ []) (ws ++ w ∷ [])
 each_push means places [] [] v w h g = (g, tt)
 each_push means places [] (u ∷ us) v w h g = absurd h
 each_push means places (u ∷ us) [] v w h g = absurd h
@@ -158,19 +158,19 @@ taken_more (y ∷ ys) (suc i) x h =
 
 -- a loop over a list: none, one more, and all
 module _ {X V W : Type 0} (names : List (List ℕ)) (means : Places → V → W → Type 0) (f : X → Recipe V) where
-  pub turns_none : (words : ArenaWords) → Makes names (Each means) (in_turn f []) words words []
-  turns_none words = makes_none names (Each means) [] [] words (λ places. tt)
+  pub turns_none : (words : ArenaWords) → Makes names (EachStandsFor means) (in_turn f []) words words []
+  turns_none words = makes_none names (EachStandsFor means) [] [] words (λ places. tt)
 
   pub turns_more :
       (xs : List X) (i : ℕ) (x : X) (before mid after : ArenaWords) (ws us : List W) (w : W) → Lasts means → slice_get xs i ≡ Some x → us ≡ ws ++ w ∷ []
-      → Makes names (Each means) (in_turn f (take i xs)) before mid ws → Makes names means (f x) mid after w
-      → Makes names (Each means) (in_turn f (take (i + 1) xs)) before after us
+      → Makes names (EachStandsFor means) (in_turn f (take i xs)) before mid ws → Makes names means (f x) mid after w
+      → Makes names (EachStandsFor means) (in_turn f (take (i + 1) xs)) before after us
   turns_more xs i x before mid after ws us w lasts here pushed p q =
-      let both : Makes names (Each means) (joined (λ vs v. vs ++ v ∷ []) (in_turn f (take i xs)) (f x)) before after (ws ++ w ∷ []) =
-      makes_joined names (Each means) means (Each means) (λ vs v. vs ++ v ∷ []) (in_turn f (take i xs)) (f x) before mid after ws w (ws ++ w ∷ [])
+      let both : Makes names (EachStandsFor means) (joined (λ vs v. vs ++ v ∷ []) (in_turn f (take i xs)) (f x)) before after (ws ++ w ∷ []) =
+      makes_joined names (EachStandsFor means) means (EachStandsFor means) (λ vs v. vs ++ v ∷ []) (in_turn f (take i xs)) (f x) before mid after ws w (ws ++ w ∷ [])
       (lasts_each means lasts) (λ places vs v h g. each_push means places vs ws v w h g) p q in
       rw (taken_more xs i x here, pushed)
-      (makes_as names (Each means) (joined (λ vs v. vs ++ v ∷ []) (in_turn f (take i xs)) (f x)) (in_turn f (take i xs ++ x ∷ [])) before after (ws ++ w ∷ []) (turns_push f (take i xs) x) both)
+      (makes_as names (EachStandsFor means) (joined (λ vs v. vs ++ v ∷ []) (in_turn f (take i xs)) (f x)) (in_turn f (take i xs ++ x ∷ [])) before after (ws ++ w ∷ []) (turns_push f (take i xs) x) both)
 
 -- ---- how many words
 

@@ -10,9 +10,9 @@ use Rattle.lang_meaning.specs.Facts.{begins_with_built_in}
 use Rattle.lang_meaning.specs.State.{first_state}
 use Rattle.lang_meaning.specs.Classes.{fetch}
 use Rattle.lang_meaning.specs.Objects.{class_object}
-use Rattle.lang_meaning.specs.Layout.{objects_at_start, class_value}
+use Rattle.lang_meaning.specs.InitialHeap.{objects_at_start, class_value}
 use Rattle.mid_code.specs.Arena.{Arena, is_lent, word_in, word_at}
-use Rattle.mid_code.specs.State.{State}
+use Rattle.mid_code.specs.State.{MidState}
 use Rattle.std.proofs.lemmas.Option.{slice_get_within}
 use Rattle.lang_meaning.specs.Values.{object}
 use Rattle.mid_arena.specs.Places.{spot_in, pointer_in, word_of, Spot, of_object, of_symbol, of_other}
@@ -28,15 +28,15 @@ use Rattle.mid_arena.proofs.Representing.{fixed_kept}
 use Rattle.mid_start.specs.declared.words.ArenaWords.{ArenaWords}
 use Rattle.mid_start.specs.LaidArena.{end_address, memory_of, arena_of}
 use Rattle.mid_start.proofs.LaidWords.{spot_among}
-use Rattle.mid_start.specs.declared.start.StartWords.{StartWords}
-use Rattle.mid_start.specs.Start.{fixed_spot, Start, Begins}
+use Rattle.mid_start.specs.declared.static_data.StaticData.{StaticData}
+use Rattle.mid_start.specs.StaticData.{fixed_spot, IsStaticData, BeginsWithData}
 use Rattle.mid_start.proofs.ClassPlaces.{class_value_is, class_at_start}
 use Rattle.mid_start.proofs.FixedFront.{none_between}
 
 found : (a : Arena) (at : ℕ) → is_lent a at ≡ true → word_at a at ≡ word_in (slice_get a.memory (at / 4))
 found a at e = ap (λ b. if b then word_in (slice_get a.memory (at / 4)) else None) e
 
-module _ (words : ArenaWords) (input : List ℕ) (y : State) (first : words.first ≡ 0) (begins : Begins words input y) where
+module _ (words : ArenaWords) (input : List ℕ) (y : MidState) (first : words.first ≡ 0) (begins : BeginsWithData words input y) where
   laid_from : y.arena.laid_from ≡ 0
   laid_from = begins.laid_from ∙ first
 
@@ -86,11 +86,11 @@ module _ (words : ArenaWords) (input : List ℕ) (y : State) (first : words.firs
     blocks = rw begins.blocks (omega arith);
   }
 
-pub law_start :
-    (names : List (List ℕ)) (program : ProgramRows) (words : StartWords) (input : List ℕ) (y : State)
-    → begins_with_built_in program.classes built_in_precedence built_in_slots ≡ true → (start : Start names program words) → AreBytes input → Begins words.arena input y
+pub law_static_data :
+    (names : List (List ℕ)) (program : ProgramRows) (words : StaticData) (input : List ℕ) (y : MidState)
+    → begins_with_built_in program.classes built_in_precedence built_in_slots ≡ true → (start : IsStaticData names program words) → AreBytes input → BeginsWithData words.arena input y
     → Represents names program start.places (first_state (objects_at_start names program) input) y
-law_start names program words input y built_in start bytes begins = record {
+law_static_data names program words input y built_in start bytes begins = record {
   built_in = built_in;
   arena = arena_stands words.arena input y start.first begins;
   spots = λ p s e. spot_stands words.arena input y start.first begins s (start.stands.spots p s e);
@@ -124,7 +124,7 @@ none_some o w e f = cc
 
 -- no object is left without a spot
 pub no_gap :
-    (names : List (List ℕ)) (program : ProgramRows) (words : StartWords) (start : Start names program words) (i : ℕ)
+    (names : List (List ℕ)) (program : ProgramRows) (words : StaticData) (start : IsStaticData names program words) (i : ℕ)
     → slice_get start.places.objects i ≡ Some None → ⊥
 no_gap names program words start i gap =
     let inside = slice_get_within start.places.objects i None gap in

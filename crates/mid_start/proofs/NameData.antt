@@ -5,7 +5,7 @@ use Rattle.base.specs.declared.datum.Name.{Name}
 use Rattle.base.specs.declared.datum.Symbol.TheVariants.{Named}
 use Rattle.base.specs.Data.{Item, item, symbol, list, Items, items_of, no_item, no_tail}
 use Rattle.base.specs.DataMeasures.{Formed, AllFormed, NamesBelow, AllNamesBelow, size_of, sizes_of}
-use Rattle.base.specs.GoodData.{Good}
+use Rattle.base.specs.WellFormedData.{WellFormed}
 use Rattle.lang_meaning.specs.State.{no_place}
 
 -- the symbol of a name
@@ -15,7 +15,7 @@ name_item a = item no_place (symbol (Named a))
 abbrev pub name_items : List Name → Items
 name_items ns = items_of (map name_item ns)
 
-pub symbol_good : (n : ℕ) (a : Name) → a.0 < n → Good n (name_item a)
+pub symbol_good : (n : ℕ) (a : Name) → a.0 < n → WellFormed n (name_item a)
 unfolding Formed NamesBelow
 symbol_good n a h = record { formed = tt; named = h }
 
@@ -46,7 +46,7 @@ some_items : (ns : List Name) → (length ns ≡ 0 → ⊥) → name_items ns �
 some_items [] h = absurd (h refl)
 some_items (a ∷ ns) h = λ e. absurd (cc e)
 
-pub list_good : (n : ℕ) (ns : List Name) → (length ns ≡ 0 → ⊥) → ((i : ℕ) (a : Name) → slice_get ns i ≡ Some a → a.0 < n) → Good n (name_list ns)
+pub list_good : (n : ℕ) (ns : List Name) → (length ns ≡ 0 → ⊥) → ((i : ℕ) (a : Name) → slice_get ns i ≡ Some a → a.0 < n) → WellFormed n (name_list ns)
 unfolding Formed NamesBelow
 list_good n ns some h = record { formed = (some_items ns some, names_formed ns, tt); named = (names_below n ns h, tt) }
 

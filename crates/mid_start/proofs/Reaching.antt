@@ -12,7 +12,7 @@ use Rattle.mid_code.specs.Arena.{Arena}
 use Rattle.mid_arena.specs.Places.{Places, of_object, spot_of, word_of}
 use Rattle.mid_arena.specs.Standing.{ValueAt, ValuesAt}
 use Rattle.mid_arena.specs.Layouts.{ConsAt, VectorAt}
-use Rattle.mid_arena.proofs.Keeping.{Extends, pointer_tells}
+use Rattle.mid_arena.proofs.Keeping.{PlacesExtend, pointer_tells}
 use Rattle.mid_start.specs.declared.words.ArenaWords.{ArenaWords}
 use Rattle.mid_start.specs.LaidArena.{arena_of}
 use Rattle.mid_start.specs.LaidWell.{LaidWell}
@@ -42,7 +42,7 @@ words_both places from m n g h = record {
       (cases_lt i m);
 }
 
-pub words_kept : (before after : Places) → Extends before after → (from n : ℕ) → HaveWords before from n → HaveWords after from n
+pub words_kept : (before after : Places) → PlacesExtend before after → (from n : ℕ) → HaveWords before from n → HaveWords after from n
 words_kept before after more from n h = record {
   each = λ i low. let old = h.each i low in record { word = old.word; of_value = more.word (object (from + i)) old.word old.of_value };
 }

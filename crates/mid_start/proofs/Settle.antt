@@ -9,14 +9,14 @@ use Rattle.lang_meaning.specs.Objects.{Object, function}
 use Rattle.mid_arena.specs.Places.{Spot, end_of, Places, Owner, of_object, of_symbol, of_other, same_owner, spot_in, spot_of, pointer_in, word_of}
 use Rattle.mid_arena.specs.Standing.{of_laid, SpotStands, Apart, in_front, behind, SameWords}
 use Rattle.mid_arena.specs.Layouts.{ObjectAt}
-use Rattle.mid_arena.proofs.Keeping.{spot_in_tells, pointer_tells, Extends, symbol_kept, object_kept}
+use Rattle.mid_arena.proofs.Keeping.{spot_in_tells, pointer_tells, PlacesExtend, symbol_kept, object_kept}
 use Rattle.mid_arena.proofs.Owners.{SetOrNot, at_place, elsewhere, set_or_not}
 use Rattle.mid_start.specs.declared.words.ArenaWords.{ArenaWords}
 use Rattle.mid_start.specs.LaidArena.{end_address, arena_of}
 use Rattle.mid_start.specs.LaidWell.{LaidWell}
 use Rattle.mid_arena.proofs.Lists.{set_here, set_elsewhere}
 use Rattle.mid_start.proofs.LaidWords.{Appended, appended_grown, spot_among, spot_grown, words_grown}
-use Rattle.mid_start.proofs.Joining.{OneMore, as_before, joined}
+use Rattle.mid_start.proofs.Joining.{OneOwnerMore, as_before, joined}
 use Rattle.mid_start.proofs.Made.{spot_behind}
 use Rattle.mid_start.specs.Making.{IsNumbered, AreNumbered}
 use Rattle.mid_start.specs.Settling.{StillWords, Settled}
@@ -26,10 +26,10 @@ use Rattle.mid_start.proofs.Numbered.{IsNoFunction, number_kept}
 abbrev pub with_spot : ℕ → Spot → Places → Places
 with_spot i s places = record places { objects = slice_set places.objects i (Some s) }
 
-pub extends_of : (before after : Places) → StillWords before after → Extends before after
+pub extends_of : (before after : Places) → StillWords before after → PlacesExtend before after
 extends_of before after h = record { word = h.word }
 
-pub still_of : (before after : Places) → Extends before after → StillWords before after
+pub still_of : (before after : Places) → PlacesExtend before after → StillWords before after
 still_of before after h = record { word = h.word }
 
 module _
@@ -43,12 +43,12 @@ module _
     abbrev now : Places
     now = with_spot i new places
 
-    cases : (p : Owner) (found : Spot) → spot_of now p ≡ Some found → OneMore places (of_object i) new p found
+    cases : (p : Owner) (found : Spot) → spot_of now p ≡ Some found → OneOwnerMore places (of_object i) new p found
     cases (of_symbol v) found e = as_before e
     cases (of_other n) found e = as_before e
     cases (of_object j) found e = by (set_or_not places.objects i (Some new) j (Some found) (spot_in_tells _ found e))
       where
-        by : SetOrNot places.objects i (Some new) j (Some found) → OneMore places (of_object i) new (of_object j) found
+        by : SetOrNot places.objects i (Some new) j (Some found) → OneOwnerMore places (of_object i) new (of_object j) found
         by (at_place same is) = joined (ap of_object same) (cc is)
         by (elsewhere other there) = as_before (ap spot_in there)
 
@@ -65,7 +65,7 @@ module _
             let gone : slice_get places.objects j ≡ Some None = ap (slice_get places.objects) (sym same) ∙ none in
             cc
 
-    pub words_stay : Extends places now
+    pub words_stay : PlacesExtend places now
     words_stay = record { word = kept }
       where
         kept : (v : Value) (w : ℕ) → word_of places v ≡ Some w → word_of now v ≡ Some w
@@ -92,7 +92,7 @@ module _
     new_stands : SpotStands (arena_of after) new
     new_stands = record { aligned = omega (arith, h.aligned); some = some; tag = small; part = of_laid (omega (arith, more.first)) (omega (arith, more.first, count)) }
 
-    spots_stand : (p : Owner) (found : Spot) → OneMore places (of_object i) new p found → SpotStands (arena_of after) found
+    spots_stand : (p : Owner) (found : Spot) → OneOwnerMore places (of_object i) new p found → SpotStands (arena_of after) found
     spots_stand p found (as_before e) = spot_grown before after found (appended_grown before after ws more) (h.spots p found e)
     spots_stand p found (joined e same) = rw same new_stands
 
@@ -101,7 +101,7 @@ module _
     old_in_front p old e = let among = spot_among before old (h.spots p old e) in among.high
 
     spots_apart :
-        (p q : Owner) (first second : Spot) → same_owner p q ≡ false → OneMore places (of_object i) new p first → OneMore places (of_object i) new q second → Apart first second
+        (p q : Owner) (first second : Spot) → same_owner p q ≡ false → OneOwnerMore places (of_object i) new p first → OneOwnerMore places (of_object i) new q second → Apart first second
     spots_apart p q first second different (as_before d) (as_before e) = h.apart p q first second different d e
     spots_apart p q first second different (as_before d) (joined e same) = rw same (in_front (old_in_front p first d))
     spots_apart p q first second different (joined d same) (as_before e) = rw same (behind (old_in_front q second e))
@@ -123,7 +123,7 @@ module _
       once = h.once;
     }
       where
-        by : (j : ℕ) (p : Object) (found : Spot) → slice_get store j ≡ Some p → OneMore places (of_object i) new (of_object j) found → ObjectAt names program now (arena_of after) found p
+        by : (j : ℕ) (p : Object) (found : Spot) → slice_get store j ≡ Some p → OneOwnerMore places (of_object i) new (of_object j) found → ObjectAt names program now (arena_of after) found p
         by j p found there (as_before e) = object_stays j p found there e
         by j p found there (joined e same) =
             let number : j ≡ i = cc in
@@ -145,7 +145,7 @@ module _
       numbered = λ numbered. record { each = λ j p s there e. by numbered j p s there (cases (of_object j) s e) };
     }
       where
-        by : AreNumbered places store before → (j p : ℕ) (s : Spot) → slice_get store j ≡ Some (function p) → OneMore places (of_object i) new (of_object j) s → IsNumbered after s p
+        by : AreNumbered places store before → (j p : ℕ) (s : Spot) → slice_get store j ≡ Some (function p) → OneOwnerMore places (of_object i) new (of_object j) s → IsNumbered after s p
         by numbered j p s there (as_before e) = number_kept before after s p (same_words (of_object j) s e) (numbered.each j p s there e)
         by numbered j p s there (joined e same) =
             let number : j ≡ i = cc in

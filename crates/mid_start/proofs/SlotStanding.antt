@@ -10,9 +10,9 @@ use Rattle.mid_arena.specs.Places.{Places, word_of}
 use Rattle.mid_start.specs.declared.slots.SlotWords.{SlotWords}
 use Rattle.lang_meaning.specs.Recipes.{Recipe, in_turn}
 use Rattle.mid_start.specs.Recipes.{SlotValues, of_slot, slot_recipe, slots_recipe}
-use Rattle.mid_start.specs.Making.{IsSlot, Each}
-use Rattle.mid_start.specs.Settling.{SlotStands, SlotsStand, AreCounted}
-use Rattle.lang_meaning.proofs.SlotPlaces.{Part, args, form, Reading, value_at, value_in_class, slot_under}
+use Rattle.mid_start.specs.Making.{IsSlot, EachStandsFor}
+use Rattle.mid_start.specs.Settling.{SlotStands, SlotsStand, SlotsAreCounted}
+use Rattle.lang_meaning.proofs.SlotPlaces.{SlotPart, args, form, Reading, value_at, value_in_class, slot_under}
 use Rattle.lang_meaning.proofs.WholeRecipes.{at_slots, initargs_whole, initform_whole}
 
 -- as many values as there are in the list
@@ -28,20 +28,20 @@ turn_at f (y ∷ ys) n (suc i) x e = turn_at f ys (n + length (f y n).0) i x e
 
 each_at :
     {V W : Type 0} (means : Places → V → W → Type 0) (places : Places) (vs : List V) (ws : List W) (i : ℕ) (v : V) (w : W)
-    → Each means places vs ws → slice_get vs i ≡ Some v → slice_get ws i ≡ Some w → means places v w
+    → EachStandsFor means places vs ws → slice_get vs i ≡ Some v → slice_get ws i ≡ Some w → means places v w
 each_at means places [] ws i v w h e f = absurd (cc)
 each_at means places (u ∷ us) [] i v w h e f = absurd (cc)
 each_at means places (u ∷ us) (x ∷ xs) zero v w h e f = let one : u ≡ v = cc in let other : x ≡ w = cc in rw (← one, ← other) h.0
 each_at means places (u ∷ us) (x ∷ xs) (suc i) v w h e f = each_at means places us xs i v w h.1 e f
 
-pub each_length : {V W : Type 0} (means : Places → V → W → Type 0) (places : Places) (vs : List V) (ws : List W) → Each means places vs ws → length ws ≡ length vs
+pub each_length : {V W : Type 0} (means : Places → V → W → Type 0) (places : Places) (vs : List V) (ws : List W) → EachStandsFor means places vs ws → length ws ≡ length vs
 each_length means places [] [] h = refl
 each_length means places [] (w ∷ ws) h = absurd h
 each_length means places (v ∷ vs) [] h = absurd h
 each_length means places (v ∷ vs) (w ∷ ws) h = ap (λ n. suc n) (each_length means places vs ws h.1)
 
 -- what is read of what stands for a slot
-abbrev read_of : Part → SlotValues → Value
+abbrev read_of : SlotPart → SlotValues → Value
 read_of args v = v.initargs
 read_of form v = v.initform
 
@@ -61,8 +61,8 @@ value_in_there read (us ∷ uss) (suc c) i vs e = value_in_there read uss c i vs
 
 module _
     (names : List (List ℕ)) (program : ProgramRows) (places : Places) (slots : List (List SlotWords))
-    (counted : AreCounted program.classes slots)
-    (words : Each (Each IsSlot) places (in_turn (slots_recipe names) program.classes (at_slots names built_in_classes program)).1 slots)
+    (counted : SlotsAreCounted program.classes slots)
+    (words : EachStandsFor (EachStandsFor IsSlot) places (in_turn (slots_recipe names) program.classes (at_slots names built_in_classes program)).1 slots)
   where
     abbrev values : List (List SlotValues)
     values = (in_turn (slots_recipe names) program.classes (at_slots names built_in_classes program)).1
@@ -78,7 +78,7 @@ module _
             let vs : List SlotValues = (slots_recipe names row of_class.0).1 in
             let of_one = turn_at (slot_recipe names) row.slots of_class.0 i r e in
             let v : SlotValues = (slot_recipe names r of_one.0).1 in
-            let all : Each IsSlot places vs ss = each_at (Each IsSlot) places values slots class vs ss words of_class.1 found in
+            let all : EachStandsFor IsSlot places vs ss = each_at (EachStandsFor IsSlot) places values slots class vs ss words of_class.1 found in
             let one : IsSlot places v s = each_at IsSlot places vs ss i v s all of_one.1 f in
             record {
               name = one.name;

@@ -8,5 +8,5 @@ pub mod Recipes
 pub mod Making
 pub mod Rows
 pub mod Settling
-pub mod Start
+pub mod StaticData
 pub mod Law

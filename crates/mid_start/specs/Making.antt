@@ -24,11 +24,11 @@ pub record IsSlot (places : Places) (v : SlotValues) (s : SlotWords) : Type 0 wh
   pub initform : word_of places v.initform ≡ Some s.initform
 
 -- the same of each of a list
-abbrev pub Each : {V W : Type 0} → (Places → V → W → Type 0) → Places → List V → List W → Type 0
-Each means places [] [] = Unit {0}
-Each means places [] (w ∷ ws) = ⊥
-Each means places (v ∷ vs) [] = ⊥
-Each means places (v ∷ vs) (w ∷ ws) = means places v w × Each means places vs ws
+abbrev pub EachStandsFor : {V W : Type 0} → (Places → V → W → Type 0) → Places → List V → List W → Type 0
+EachStandsFor means places [] [] = Unit {0}
+EachStandsFor means places [] (w ∷ ws) = ⊥
+EachStandsFor means places (v ∷ vs) [] = ⊥
+EachStandsFor means places (v ∷ vs) (w ∷ ws) = means places v w × EachStandsFor means places vs ws
 
 -- a value has a word: an object that is a value has a spot
 pub record HasWord (places : Places) (v : Value) : Type 0 where

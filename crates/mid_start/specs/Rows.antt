@@ -4,7 +4,7 @@ use Rattle.std.specs.List.{sum_by}
 use Rattle.base.specs.declared.datum.Name.{Name}
 use Rattle.base.specs.DataMeasures.{NamesBelow, size_of}
 use Rattle.base.specs.Data.{Item}
-use Rattle.base.specs.GoodData.{Good}
+use Rattle.base.specs.WellFormedData.{WellFormed}
 use Rattle.lang_meaning.specs.declared.program.ProgramRows.{ProgramRows}
 use Rattle.lang_meaning.specs.declared.program.SlotRow.{SlotRow}
 use Rattle.lang_meaning.specs.declared.program.ClassRow.{ClassRow}
@@ -37,8 +37,8 @@ abbrev pub class_size : ClassRow → ℕ
 class_size c = 2 + length c.precedence + length c.slots
 
 -- all together, with the symbol t and the streams: at most so many, by the nodes of the literals and of the classes
-abbrev pub start_size : List ClassRow → List FunctionRow → List LiteralRow → ℕ
-start_size classes functions literals =
+abbrev pub static_size : List ClassRow → List FunctionRow → List LiteralRow → ℕ
+static_size classes functions literals =
     2 + length functions + sum_by row_nodes literals + 4 * sum_by class_nodes classes + 2 * length classes
 
 -- ---- rows
@@ -50,7 +50,7 @@ CalleeFits (callee.Generic g) = g < 2 ^ 28
 
 -- data are in form, and their names in the table
 abbrev pub LiteralFits : (names : ℕ) → LiteralRow → Type 0
-LiteralFits names (row.Datum d) = Good names d
+LiteralFits names (row.Datum d) = WellFormed names d
 LiteralFits names (row.Class c) = Unit {0}
 LiteralFits names (row.Function name) = Unit {0}
 

@@ -6,7 +6,7 @@ use Rattle.lang_meaning.specs.declared.program.SlotRow.{SlotRow}
 use Rattle.lang_meaning.specs.Values.{Value, object, symbol, named, t}
 use Rattle.lang_meaning.specs.Objects.{Object, class_object, built_in_classes, serious_condition_class}
 use Rattle.lang_meaning.specs.Lookup.{text, is_in}
-use Rattle.lang_meaning.specs.Layout.{initargs_value, initform_value}
+use Rattle.lang_meaning.specs.InitialHeap.{initargs_value, initform_value}
 use Rattle.mid_arena.specs.Tags.{class_header, nil_word}
 use Rattle.mid_arena.specs.Places.{Places, word_of}
 use Rattle.mid_start.specs.declared.words.ArenaWords.{ArenaWords}
@@ -55,7 +55,7 @@ pub record SlotsStand (names : List (List ℕ)) (program : ProgramRows) (places 
       → SlotStands names program places class i row slot
 
 -- each class has words for as many slots as it has
-pub record AreCounted (classes : List ClassRow) (slots : List (List SlotWords)) : Type 0 where
+pub record SlotsAreCounted (classes : List ClassRow) (slots : List (List SlotWords)) : Type 0 where
   pub many : length slots ≡ length classes
   pub each :
       (class : ℕ) (row : ClassRow) (ss : List SlotWords) → slice_get classes class ≡ Some row → slice_get slots class ≡ Some ss

@@ -9,7 +9,7 @@ ghost use Rattle.mid_start.specs.Laying.{HasRoom};
 ghost use Rattle.mid_start.specs.Making.{IsWithin};
 ghost use Rattle.mid_start.specs.Rows.{ClassFits, class_size};
 ghost use Rattle.mid_start.specs.Settling as settling;
-ghost use Rattle.mid_start.specs.Settling.{truth_word, slot_words, precedence_words, class_heading, class_words, AreCounted, Settles, ClassGiven, ClassesSettle};
+ghost use Rattle.mid_start.specs.Settling.{truth_word, slot_words, precedence_words, class_heading, class_words, SlotsAreCounted, Settles, ClassGiven, ClassesSettle};
 
 use crate::ArenaWords;
 use crate::names::lay_name;
@@ -57,7 +57,7 @@ pub fn lay_classes(
 ) -> Result<WordList, NoMemory>
     requires fits { (i : ℕ) (c : ClassRow) → slice_get rows.now i ≡ Some c → ClassFits (length names.now) (length rows.now) c }
     requires many { length rows.now < 2 ^ 28 }
-    requires counted { AreCounted rows.now slots.now }
+    requires counted { SlotsAreCounted rows.now slots.now }
     requires room { HasRoom words.old (160 * sum_by class_size rows.now) }
     ensures within { OnOk result (IsWithin words.old words.new (160 * sum_by class_size rows.now)) }
     ensures many { IfOk result (λ ws. length ws ≡ length rows.now) }

@@ -1,7 +1,7 @@
 // The words at fixed addresses.
 
 ghost use Rattle.std.specs.Prelude.{◌≡◌, ◌≤◌, ◌++◌, length, OnOk, IfOk};
-ghost use Rattle.mid_start.specs.Start.{fixed_contents};
+ghost use Rattle.mid_start.specs.StaticData.{fixed_contents};
 
 use base::{NoMemory, WordList};
 use lang_meaning::BUILT_IN_CLASSES;

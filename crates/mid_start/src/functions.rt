@@ -4,7 +4,7 @@ ghost use Rattle.std.specs.Prelude.{◌≡◌, ℕ, ◌*◌, ◌<◌, Some, leng
 ghost use Rattle.lang_meaning.specs.declared.program.FunctionRow.{FunctionRow};
 ghost use Rattle.mid_start.specs.Laying.{HasRoom};
 ghost use Rattle.lang_meaning.specs.Recipes.{callee_recipe, function_recipe, in_turn};
-ghost use Rattle.mid_start.specs.Making.{IsWord, Each, Makes, IsWithin};
+ghost use Rattle.mid_start.specs.Making.{IsWord, EachStandsFor, Makes, IsWithin};
 ghost use Rattle.mid_start.specs.Rows.{CalleeFits};
 
 use crate::ArenaWords;
@@ -43,7 +43,7 @@ pub fn lay_functions(
     requires fits { (i : ℕ) (f : FunctionRow) → slice_get rows.now i ≡ Some f → CalleeFits f.callee }
     requires room { HasRoom words.old (160 * length rows.now) }
     ensures within { OnOk result (IsWithin words.old words.new (160 * length rows.now)) }
-    ensures made { IfOk result (λ ws. (names : List (List ℕ)) → Makes names (Each IsWord) (in_turn function_recipe rows.now) words.old words.new ws) }
+    ensures made { IfOk result (λ ws. (names : List (List ℕ)) → Makes names (EachStandsFor IsWord) (in_turn function_recipe rows.now) words.old words.new ws) }
 {
     let mut laid = WordList::new(alloc);
     for at in 0..rows.len() {

@@ -6,7 +6,7 @@ ghost use Rattle.base.specs.Data as data_specs;
 ghost use Rattle.base.specs.DataMeasures.{SymbolBelow, size_of, sizes_of, size_of_tail};
 ghost use Rattle.base.specs.AllOf.{AllOf};
 ghost use Rattle.base.specs.DataParts.{OfDotted};
-ghost use Rattle.base.specs.GoodData.{Good};
+ghost use Rattle.base.specs.WellFormedData.{WellFormed};
 ghost use Rattle.base.specs.Names.{IsTable};
 ghost use Rattle.base.specs.model.DataView.{tail_of};
 ghost use Rattle.lang_meaning.specs.Literals as literals;
@@ -31,7 +31,7 @@ pub fn lay_datum(
     names: &Names,
     words: &mut ArenaWords,
 ) -> Result<u32, NoMemory>
-    requires good { Good (length names.now) datum.now }
+    requires good { WellFormed (length names.now) datum.now }
     requires room { HasRoom words.old (160 * size_of datum.now) }
     ensures grown { OnOk result (Grown words.old words.new) }
     ensures count { OnOk result (length words.new.words ≤ length words.old.words + 160 * size_of datum.now) }
@@ -57,7 +57,7 @@ fn lay_item(
     names: &Names,
     words: &mut ArenaWords,
 ) -> Result<u32, NoMemory>
-    requires good { Good (length names.now) datum.now }
+    requires good { WellFormed (length names.now) datum.now }
     requires room { HasRoom words.old (160 * size_of datum.now) }
     ensures grown { Grown words.old words.new }
     ensures count { OnOk result (length words.new.words + 2 ≤ length words.old.words + 160 * size_of datum.now) }
@@ -122,7 +122,7 @@ fn lay_vector(
     names: &Names,
     words: &mut ArenaWords,
 ) -> Result<u32, NoMemory>
-    requires good { AllOf (Good (length names.now)) items.now }
+    requires good { AllOf (WellFormed (length names.now)) items.now }
     requires room { HasRoom words.old (160 + 160 * sizes_of (items_of items.now)) }
     ensures grown { Grown words.old words.new }
     ensures count { OnOk result (length words.new.words ≤ length words.old.words + 2 + 160 * sizes_of (items_of items.now)) }
@@ -143,7 +143,7 @@ fn lay_items(
     names: &Names,
     words: &mut ArenaWords,
 ) -> Result<WordList, NoMemory>
-    requires good { AllOf (Good (length names.now)) items.now }
+    requires good { AllOf (WellFormed (length names.now)) items.now }
     requires room { HasRoom words.old (160 * sizes_of (items_of items.now)) }
     ensures grown { Grown words.old words.new }
     ensures each { IfOk result (λ ws. length ws ≡ length items.now) }
@@ -170,8 +170,8 @@ fn lay_list(
     names: &Names,
     words: &mut ArenaWords,
 ) -> Result<u32, NoMemory>
-    requires good { AllOf (Good (length names.now)) items.now }
-    requires tail { OfDotted (Good (length names.now)) (tail_of tail.now) }
+    requires good { AllOf (WellFormed (length names.now)) items.now }
+    requires tail { OfDotted (WellFormed (length names.now)) (tail_of tail.now) }
     requires room { HasRoom words.old (160 * (sizes_of (items_of items.now) + size_of_tail (tail_of tail.now))) }
     ensures grown { Grown words.old words.new }
     ensures count { OnOk result (length words.new.words
@@ -191,7 +191,7 @@ fn lay_tail(
     names: &Names,
     words: &mut ArenaWords,
 ) -> Result<u32, NoMemory>
-    requires good { OfDotted (Good (length names.now)) (tail_of tail.now) }
+    requires good { OfDotted (WellFormed (length names.now)) (tail_of tail.now) }
     requires room { HasRoom words.old (160 * size_of_tail (tail_of tail.now)) }
     ensures grown { Grown words.old words.new }
     ensures count { OnOk result (length words.new.words ≤ length words.old.words + 160 * size_of_tail (tail_of tail.now)) }

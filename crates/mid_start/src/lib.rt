@@ -10,12 +10,12 @@ pub mod laying;
 pub mod literals;
 pub mod names;
 pub mod slots;
-pub mod start;
+pub mod static_data;
 pub mod symbol_words;
 pub mod words;
 
-pub use laws::{law_start, law_whole_rows};
+pub use laws::{law_static_data, law_whole_rows};
 pub use laying::lay_datum;
-pub use start::{StartFault, StartWords, lay_rows, lay_start};
+pub use static_data::{StaticData, StaticDataFault, lay_rows, lay_static_data};
 pub use symbol_words::{SymbolWord, SymbolWords};
 pub use words::ArenaWords;

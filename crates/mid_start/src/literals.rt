@@ -5,7 +5,7 @@ ghost use Rattle.std.specs.List.{sum_by};
 ghost use Rattle.lang_meaning.specs.declared.program.LiteralRow.{LiteralRow};
 ghost use Rattle.mid_start.specs.Laying.{HasRoom};
 ghost use Rattle.lang_meaning.specs.Recipes.{literal_recipe, in_turn};
-ghost use Rattle.mid_start.specs.Making.{IsWord, Each, Makes, IsWithin};
+ghost use Rattle.mid_start.specs.Making.{IsWord, EachStandsFor, Makes, IsWithin};
 ghost use Rattle.mid_start.specs.Rows.{LiteralFits, literal_size};
 
 use crate::{ArenaWords, lay_datum};
@@ -24,7 +24,7 @@ pub fn lay_literals(
     requires fits { (i : ℕ) (l : LiteralRow) → slice_get rows.now i ≡ Some l → LiteralFits (length names.now) l }
     requires room { HasRoom words.old (160 * sum_by literal_size rows.now) }
     ensures within { OnOk result (IsWithin words.old words.new (160 * sum_by literal_size rows.now)) }
-    ensures made { IfOk result (λ ws. Makes names.now (Each IsWord) (in_turn (literal_recipe names.now) rows.now) words.old words.new ws) }
+    ensures made { IfOk result (λ ws. Makes names.now (EachStandsFor IsWord) (in_turn (literal_recipe names.now) rows.now) words.old words.new ws) }
 {
     let mut laid = WordList::new(alloc);
     for at in 0..rows.len() {

@@ -7,13 +7,13 @@ ghost use Rattle.base.specs.declared.datum.Symbol.TheVariants.{Named};
 ghost use Rattle.base.specs.Data as data_specs;
 ghost use Rattle.lang_meaning.specs.declared.program.ClassRow.{ClassRow};
 ghost use Rattle.lang_meaning.specs.declared.program.SlotRow.{SlotRow};
-ghost use Rattle.lang_meaning.specs.Layout.{initargs_list};
+ghost use Rattle.lang_meaning.specs.InitialHeap.{initargs_list};
 ghost use Rattle.lang_meaning.specs.State.{no_place};
 ghost use Rattle.mid_start.specs.Laying.{HasRoom};
 ghost use Rattle.lang_meaning.specs.Recipes.{initargs_recipe, initform_recipe, in_turn};
 ghost use Rattle.mid_start.specs.Recipes.{slot_recipe, slots_recipe};
-ghost use Rattle.mid_start.specs.Making.{IsWord, IsSlot, Each, Makes, IsWithin};
-ghost use Rattle.mid_start.specs.Settling.{AreCounted};
+ghost use Rattle.mid_start.specs.Making.{IsWord, IsSlot, EachStandsFor, Makes, IsWithin};
+ghost use Rattle.mid_start.specs.Settling.{SlotsAreCounted};
 ghost use Rattle.mid_start.specs.Rows.{SlotFits, slot_size, slots_size};
 
 use crate::functions::lay_function;
@@ -47,8 +47,8 @@ pub fn lay_slots(
         → SlotFits (length names.now) s }
     requires room { HasRoom words.old (160 * sum_by slots_size classes.now) }
     ensures within { OnOk result (IsWithin words.old words.new (160 * sum_by slots_size classes.now)) }
-    ensures counted { IfOk result (λ wss. AreCounted classes.now wss) }
-    ensures made { IfOk result (λ wss. Makes names.now (Each (Each IsSlot)) (in_turn (slots_recipe names.now) classes.now) words.old words.new wss) }
+    ensures counted { IfOk result (λ wss. SlotsAreCounted classes.now wss) }
+    ensures made { IfOk result (λ wss. Makes names.now (EachStandsFor (EachStandsFor IsSlot)) (in_turn (slots_recipe names.now) classes.now) words.old words.new wss) }
 {
     let mut laid = ItemList::new(alloc);
     for at in 0..classes.len() {
@@ -72,7 +72,7 @@ fn lay_slots_of(
     requires room { HasRoom words.old (160 * sum_by slot_size rows.now) }
     ensures within { OnOk result (IsWithin words.old words.new (160 * sum_by slot_size rows.now)) }
     ensures many { IfOk result (λ ws. length ws ≡ length rows.now) }
-    ensures made { IfOk result (λ ws. Makes names.now (Each IsSlot) (in_turn (slot_recipe names.now) rows.now) words.old words.new ws) }
+    ensures made { IfOk result (λ ws. Makes names.now (EachStandsFor IsSlot) (in_turn (slot_recipe names.now) rows.now) words.old words.new ws) }
 {
     let mut laid = SlotWordsList::new(alloc);
     for at in 0..rows.len() {

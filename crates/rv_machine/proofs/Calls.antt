@@ -8,7 +8,7 @@ use Rattle.rv_machine.specs.declared.ending.TrapKind.TheVariants.{BadCall}
 use Rattle.rv_machine.specs.declared.ending.StepEnd.{StepEnd}
 use Rattle.rv_machine.specs.declared.ending.StepEnd.TheVariants.{Call}
 use Rattle.rv_machine.specs.State.{State, Counted, register}
-use Rattle.rv_machine.specs.Step.{next, environment_call, trapped, branch, load, store, execute, Does}
+use Rattle.rv_machine.specs.Step.{next, environment_call, trapped, branch, load, store, execute, ResultIs}
 
 next-none : (s : State) (w : ℕ) → next s ≡ environment_call w → w < 5
 next-none s w e = absurd (cc)
@@ -50,7 +50,7 @@ one_of_five Ebreak s w e = absurd (cc)
 one_of_five other s w e = next-none _ w e
 
 -- so is a call that a step answers
-pub answered : (i : Instr) (old new : Counted) (end : StepEnd) (w : ℕ) → Does (execute i old.state) old end new → end ≡ Call w → w < 5
+pub answered : (i : Instr) (old new : Counted) (end : StepEnd) (w : ℕ) → ResultIs (execute i old.state) old end new → end ≡ Call w → w < 5
 answered i old new end w does e =
-    let here : Does (execute i old.state) old (Call w) new = subst (λ (x : StepEnd). Does (execute i old.state) old x new) e does in
+    let here : ResultIs (execute i old.state) old (Call w) new = subst (λ (x : StepEnd). ResultIs (execute i old.state) old x new) e does in
     one_of_five i old.state w here.0

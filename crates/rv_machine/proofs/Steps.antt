@@ -30,27 +30,27 @@ word-fits memory address word small e =
     omega arith
 
 -- what is read of a word is its instruction
-abbrev pub Reads : Type 0
-Reads = (i : Instr) (w : ℕ) → Encodes i w → decode_of w ≡ Some i
+abbrev pub InstructionRead : Type 0
+InstructionRead = (i : Instr) (w : ℕ) → Encodes i w → decode_of w ≡ Some i
 
 abbrev pub Writes : Type 0
 Writes = (i : Instr) (w : ℕ) → w < 2 ^ 32 → decode_of w ≡ Some i → Encodes i w
 
 by-decode :
-    (reads : Reads) (writes : Writes) (s : State) (word : ℕ) → number_at 4 s.pc s.memory ≡ Some word → word < 2 ^ 32
+    (reads : InstructionRead) (writes : Writes) (s : State) (word : ℕ) → number_at 4 s.pc s.memory ≡ Some word → word < 2 ^ 32
     → (d : Option Instr) → decode_of word ≡ d → Step s (decoded d s)
 by-decode reads writes s word there small None e =
     unknown word there (λ i encodes. let found = reads i word encodes in cc) refl
 by-decode reads writes s word there small (Some i) e = known word i there (writes i word small e) refl
 
 by-fetch :
-    (reads : Reads) (writes : Writes) (s : State) → ((at : ℕ) → get_or s.memory at 0 < 256)
+    (reads : InstructionRead) (writes : Writes) (s : State) → ((at : ℕ) → get_or s.memory at 0 < 256)
     → (o : Option ℕ) → number_at 4 s.pc s.memory ≡ o → Step s (fetched o s)
 by-fetch reads writes s small None e = unfetched e refl
 by-fetch reads writes s small (Some word) e =
     by-decode reads writes s word e (word-fits s.memory s.pc word small e) (decode_of word) refl
 
-pub is_row : (reads : Reads) (writes : Writes) (s : State) → ((at : ℕ) → get_or s.memory at 0 < 256) → Step s (step_of s)
+pub is_row : (reads : InstructionRead) (writes : Writes) (s : State) → ((at : ℕ) → get_or s.memory at 0 < 256) → Step s (step_of s)
 unfolding step_of
 is_row reads writes s small = by-fetch reads writes s small (number_at 4 s.pc s.memory) refl
 
@@ -58,7 +58,7 @@ none-read : (writes : Writes) (word : ℕ) → word < 2 ^ 32 → ((i : Instr) �
 none-read writes word small none None e = refl
 none-read writes word small none (Some i) e = absurd (none i (writes i word small e))
 
-pub only_row : (reads : Reads) (writes : Writes) (s : State) (r : Result) → ((at : ℕ) → get_or s.memory at 0 < 256) → Step s r → r ≡ step_of s
+pub only_row : (reads : InstructionRead) (writes : Writes) (s : State) (r : Result) → ((at : ℕ) → get_or s.memory at 0 < 256) → Step s r → r ≡ step_of s
 unfolding step_of
 only_row reads writes s r small (unfetched e is) = is ∙ sym (ap (λ o. fetched o s) e)
 only_row reads writes s r small (unknown word there none is) =

@@ -155,7 +155,7 @@ append-none [] ys e = (refl, e)
 append-none (x ∷ xs) ys e = cc
 
 -- where everything stands after one turn more
-pub record OneMore (told : Option Ending) (i : ℕ) (input : List ℕ) (old new : Counted) (o o' : Outside) (Same : Type 0) : Type 0 where
+pub record OneTurnMore (told : Option Ending) (i : ℕ) (input : List ℕ) (old new : Counted) (o o' : Outside) (Same : Type 0) : Type 0 where
   pub tells : Tells told (run_from (i + 1) (first old.state input))
   pub stands : StandsAt (run_from (i + 1) (first old.state input)).at input old new o o'
   pub unwritten : (run_from (i + 1) (first old.state input)).at.printed ≡ [] → Same
@@ -167,7 +167,7 @@ tells-after (Some ending) m e t = t
 pub one_more :
     (told : Option Ending) (i : ℕ) (input : List ℕ) (old mid new : Counted) (o o' o'' : Outside) (A B C : Type 0)
     → (A → B → C) → Passed i input old mid o o' A → Turned (step_of mid.state) told mid new o' o'' B
-    → Feeds o.left input (run_from (i + 1) (first old.state input)) → OneMore told i input old new o o'' C
+    → Feeds o.left input (run_from (i + 1) (first old.state input)) → OneTurnMore told i input old new o o'' C
 one_more told i input old mid new o o' o'' A B C both p t fed =
     let m : Moment = (run_from i (first old.state input)).at in
     let e : Ended = turn_of mid.state m.input in

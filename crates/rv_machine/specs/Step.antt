@@ -130,11 +130,11 @@ step_of s = fetched (number_at 4 s.pc s.memory) s
 
 -- what a call answers and leaves where it does what a step comes to: the count rises with each step
 -- that went, up to its type's end
-abbrev pub Does : Result → Counted → StepEnd → Counted → Type 0
-Does r old Went new = (r ≡ next new.state) × (new.count ≡ min (old.count + 1) 18446744073709551615)
-Does r old (Call which) new = (r ≡ environment_call which) × (new ≡ old)
-Does r old (Trap kind address) new = (r ≡ trapped kind address) × (new ≡ old)
+abbrev pub ResultIs : Result → Counted → StepEnd → Counted → Type 0
+ResultIs r old Went new = (r ≡ next new.state) × (new.count ≡ min (old.count + 1) 18446744073709551615)
+ResultIs r old (Call which) new = (r ≡ environment_call which) × (new ≡ old)
+ResultIs r old (Trap kind address) new = (r ≡ trapped kind address) × (new ≡ old)
 
 -- what a call of `step` answers and leaves
 abbrev pub Steps : Counted → StepEnd → Counted → Type 0
-Steps old end new = Does (step_of old.state) old end new
+Steps old end new = ResultIs (step_of old.state) old end new

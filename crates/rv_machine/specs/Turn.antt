@@ -22,8 +22,8 @@ pub record Turned (r : Result) (told : Option Ending) (old new : Counted) (o o' 
       (input : List ℕ) → Feeds o.left input (acted r old input) → (acted r old input).at.printed ≡ [] → SinkSame
 
 -- nothing is told of a turn that ends in a fault
-abbrev pub IsPlain : Option Ending → Type 0
-IsPlain told = IfSome told IsNoFault
+abbrev pub IsFaultless : Option Ending → Type 0
+IsFaultless told = IfSome told IsNoFault
 
 -- how far the count rises
 abbrev pub Counts : Option Ending → ℕ → ℕ → Type 0

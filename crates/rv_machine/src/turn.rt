@@ -4,7 +4,7 @@ ghost use Rattle.std.specs.Prelude.{◌≡◌, ◌≢◌, ℕ, ◌+◌, ◌<◌,
 ghost use Rattle.base.specs.Outside.{Rose};
 ghost use Rattle.rv_machine.specs.Step.{environment_call, step_of};
 ghost use Rattle.rv_machine.specs.Run.{Gave, got, outside};
-ghost use Rattle.rv_machine.specs.Turn.{Counts, IsPlain, StandsBefore, Turned, acted};
+ghost use Rattle.rv_machine.specs.Turn.{Counts, IsFaultless, StandsBefore, Turned, acted};
 
 use crate::ending::{Ending, StepEnd};
 use crate::machine::Machine;
@@ -19,11 +19,11 @@ impl Machine {
         sink: &mut K,
     ) -> Option<Ending>
         requires { self.old.count + 1 < 2 ^ 64 }
-        ensures turned { IsPlain result → Turned (step_of self.old.state) result self.old self.new
+        ensures turned { IsFaultless result → Turned (step_of self.old.state) result self.old self.new
             (outside (S.left source.old) (K.given sink.old) (K.writes sink.old))
             (outside (S.left source.new) (K.given sink.new) (K.writes sink.new))
             (sink.new ≡ sink.old) }
-        ensures unread { IsPlain result → (input : List ℕ) →
+        ensures unread { IsFaultless result → (input : List ℕ) →
             (acted (step_of self.old.state) self.old input).at.gets ≡ 0 → source.new ≡ source.old }
         ensures count { Counts result self.old.count self.new.count }
 

@@ -2,7 +2,7 @@
 
 ghost use Rattle.std.specs.Prelude.{◌≡◌, ◌==◌, ◌++◌, filter, option_to_list, IfOk, OnOk};
 ghost use Rattle.std.specs.List.{list_any};
-ghost use Rattle.lang_meaning.specs.declared.part.Part.TheVariants.{Variable, Exit};
+ghost use Rattle.lang_meaning.specs.declared.capture.Capture.TheVariants.{Variable, Exit};
 ghost use Rattle.lang_meaning.specs.Mentions.{same_part, variables_bound};
 ghost use Rattle.lang_meaning.specs.Standing.{alone, with_bound, with_around, is_variable, exit_around, is_block, is_segment, is_bound, seen};
 ghost use Rattle.lang_meaning.specs.Form.{parameters};
@@ -11,7 +11,7 @@ ghost use Rattle.lang_meaning.specs.model.View.{bindings_of};
 use crate::parts::has_part;
 use base::NoMemory;
 use lang_meaning::{
-    Around, BindingList, ExitAround, ExitVar, ExitsAround, LexicalScope, Part, Var, VarList,
+    BindingList, Capture, ExitForm, ExitVar, LexicalScope, NamedExit, NamedExits, Var, VarList,
 };
 use std::alloc::Global;
 
@@ -21,7 +21,7 @@ pub fn alone(alloc: Global, variables: VarList, in_method: bool) -> LexicalScope
 {
     LexicalScope {
         variables,
-        exits: ExitsAround::new(alloc),
+        exits: NamedExits::new(alloc),
         in_method,
     }
 }
@@ -36,7 +36,7 @@ pub fn with_variables(
 {
     let mut variables = variables;
     push_variables(&mut variables, scope.variables.as_slice())?;
-    let mut exits = ExitsAround::new(alloc);
+    let mut exits = NamedExits::new(alloc);
     push_exits(&mut exits, scope.exits.as_slice())?;
     Ok(LexicalScope {
         variables,
@@ -50,14 +50,14 @@ pub fn with_around(
     alloc: Global,
     scope: &LexicalScope,
     exit: ExitVar,
-    around: Around,
+    around: ExitForm,
 ) -> Result<LexicalScope, NoMemory>
     ensures { IfOk result (λ inside. inside ≡ with_around exit around scope.now) }
 {
     let mut variables = VarList::new(alloc);
     push_variables(&mut variables, scope.variables.as_slice())?;
-    let mut exits = ExitsAround::new(alloc);
-    exits.push(ExitAround { exit, around })?;
+    let mut exits = NamedExits::new(alloc);
+    exits.push(NamedExit { exit, around })?;
     push_exits(&mut exits, scope.exits.as_slice())?;
     Ok(LexicalScope {
         variables,
@@ -67,13 +67,17 @@ pub fn with_around(
 }
 
 // What a function sees that captures these parts.
-pub fn seen(alloc: Global, scope: &LexicalScope, parts: &[Part]) -> Result<LexicalScope, NoMemory>
+pub fn seen(
+    alloc: Global,
+    scope: &LexicalScope,
+    parts: &[Capture],
+) -> Result<LexicalScope, NoMemory>
     ensures { IfOk result (λ inside. inside ≡ seen parts.now scope.now) }
 {
     Ok(LexicalScope {
         variables: seen_variables(alloc, scope.variables.as_slice(), parts)?,
         exits: seen_exits(alloc, scope.exits.as_slice(), parts)?,
-        in_method: scope.in_method && has_part(Part::Method, parts),
+        in_method: scope.in_method && has_part(Capture::Method, parts),
     })
 }
 
@@ -93,8 +97,8 @@ pub fn has_block(scope: &LexicalScope, exit: ExitVar) -> bool
     ensures { result ≡ is_block (exit_around exit scope.now.exits) }
 {
     match exit_around(exit, scope.exits.as_slice()) {
-        None | Some(Around::Tagbody(_)) => false,
-        Some(Around::Block) => true,
+        None | Some(ExitForm::Tagbody(_)) => false,
+        Some(ExitForm::Block) => true,
     }
 }
 
@@ -103,8 +107,8 @@ pub fn has_segment(scope: &LexicalScope, exit: ExitVar, segment: u32) -> bool
     ensures { result ≡ is_segment segment (exit_around exit scope.now.exits) }
 {
     match exit_around(exit, scope.exits.as_slice()) {
-        None | Some(Around::Block) => false,
-        Some(Around::Tagbody(segments)) => (segment as usize) < segments,
+        None | Some(ExitForm::Block) => false,
+        Some(ExitForm::Tagbody(segments)) => (segment as usize) < segments,
     }
 }
 
@@ -120,18 +124,18 @@ fn has_exit(scope: &LexicalScope, exit: ExitVar) -> bool
 }
 
 // Whether the part is bound.
-pub fn binds(scope: &LexicalScope, part: Part) -> bool
+pub fn binds(scope: &LexicalScope, part: Capture) -> bool
     ensures { result ≡ is_bound scope.now part }
 {
     match part {
-        Part::Variable(var) => has_variable(scope, var),
-        Part::Exit(exit) => has_exit(scope, exit),
-        Part::Method => scope.in_method,
+        Capture::Variable(var) => has_variable(scope, var),
+        Capture::Exit(exit) => has_exit(scope, exit),
+        Capture::Method => scope.in_method,
     }
 }
 
 // The innermost exit of that name.
-fn exit_around(exit: ExitVar, exits: &[ExitAround]) -> Option<Around>
+fn exit_around(exit: ExitVar, exits: &[NamedExit]) -> Option<ExitForm>
     ensures { result ≡ exit_around exit exits.now }
 {
     for e in exits {
@@ -142,24 +146,24 @@ fn exit_around(exit: ExitVar, exits: &[ExitAround]) -> Option<Around>
     None
 }
 
-fn seen_variables(alloc: Global, vars: &[Var], parts: &[Part]) -> Result<VarList, NoMemory>
+fn seen_variables(alloc: Global, vars: &[Var], parts: &[Capture]) -> Result<VarList, NoMemory>
     ensures { IfOk result (λ list. list ≡ filter (λ v. list_any (same_part (Variable v)) parts.now) vars.now) }
 {
     let mut list = VarList::new(alloc);
     for var in vars {
-        if has_part(Part::Variable(*var), parts) {
+        if has_part(Capture::Variable(*var), parts) {
             list.push(*var)?;
         }
     }
     Ok(list)
 }
 
-fn seen_exits(alloc: Global, exits: &[ExitAround], parts: &[Part]) -> Result<ExitsAround, NoMemory>
+fn seen_exits(alloc: Global, exits: &[NamedExit], parts: &[Capture]) -> Result<NamedExits, NoMemory>
     ensures { IfOk result (λ list. list ≡ filter (λ e. list_any (same_part (Exit e.exit)) parts.now) exits.now) }
 {
-    let mut list = ExitsAround::new(alloc);
+    let mut list = NamedExits::new(alloc);
     for exit in exits {
-        if has_part(Part::Exit(exit.exit), parts) {
+        if has_part(Capture::Exit(exit.exit), parts) {
             list.push(*exit)?;
         }
     }
@@ -205,7 +209,7 @@ fn push_variables(list: &mut VarList, more: &[Var]) -> Result<(), NoMemory>
     Ok(())
 }
 
-fn push_exits(list: &mut ExitsAround, more: &[ExitAround]) -> Result<(), NoMemory>
+fn push_exits(list: &mut NamedExits, more: &[NamedExit]) -> Result<(), NoMemory>
     ensures { OnOk result (list.new ≡ list.old ++ more.now) }
 {
     for exit in more {

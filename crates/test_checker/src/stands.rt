@@ -12,7 +12,8 @@ use crate::scope::{
 };
 use base::NoMemory;
 use lang_meaning::{
-    Around, Core, CoreForm, LexicalScope, Part, PartList, Subforms, Var, VarList, mentions, owns,
+    Capture, CaptureList, Core, CoreForm, ExitForm, LexicalScope, Subforms, Var, VarList, mentions,
+    owns,
 };
 use std::alloc::Global;
 
@@ -63,9 +64,9 @@ fn around_inner(
             let seen = seen(alloc, scope, parts.as_slice())?;
             Ok(Some(with_variables(alloc, &seen, own)?))
         }
-        CoreForm::Block(exit, _) => Ok(Some(with_around(alloc, scope, *exit, Around::Block)?)),
+        CoreForm::Block(exit, _) => Ok(Some(with_around(alloc, scope, *exit, ExitForm::Block)?)),
         CoreForm::Tagbody(exit, list) => {
-            let around = Around::Tagbody(list.len());
+            let around = ExitForm::Tagbody(list.len());
             Ok(Some(with_around(alloc, scope, *exit, around)?))
         }
         _ => Ok(None),
@@ -90,13 +91,13 @@ fn stands_itself(form: &Core, alloc: Global, scope: &LexicalScope) -> Result<boo
 }
 
 // Whether they stand in their order, are bound, and are what the body mentions besides its own variables.
-fn are_captured(scope: &LexicalScope, own: &[Var], body: &Core, parts: &[Part]) -> bool
+fn are_captured(scope: &LexicalScope, own: &[Var], body: &Core, parts: &[Capture]) -> bool
     ensures { result ≡ are_captured scope.now own.now body.now parts.now }
 {
     in_order(parts) && are_bound(scope, parts) && are_free(own, body, parts)
 }
 
-fn are_bound(scope: &LexicalScope, parts: &[Part]) -> bool
+fn are_bound(scope: &LexicalScope, parts: &[Capture]) -> bool
     ensures { result ≡ list_all (is_bound scope.now) parts.now }
 {
     for part in parts {
@@ -107,7 +108,7 @@ fn are_bound(scope: &LexicalScope, parts: &[Part]) -> bool
     true
 }
 
-fn are_free(own: &[Var], body: &Core, parts: &[Part]) -> bool
+fn are_free(own: &[Var], body: &Core, parts: &[Capture]) -> bool
     ensures { result ≡ list_all (is_free own.now body.now) parts.now }
 {
     for part in parts {
@@ -118,14 +119,14 @@ fn are_free(own: &[Var], body: &Core, parts: &[Part]) -> bool
     true
 }
 
-fn is_free(own: &[Var], body: &Core, part: Part) -> bool
+fn is_free(own: &[Var], body: &Core, part: Capture) -> bool
     ensures { result ≡ is_free own.now body.now part }
 {
     !owns(own, part) && mentions(body, part)
 }
 
 // Variables by rising number, then exits by rising number, then the method.
-fn in_order(parts: &[Part]) -> bool
+fn in_order(parts: &[Capture]) -> bool
     ensures { result ≡ in_order parts.now }
 {
     let mut left = parts;
@@ -138,7 +139,7 @@ fn in_order(parts: &[Part]) -> bool
     true
 }
 
-fn is_next(part: Part, parts: &[Part]) -> bool
+fn is_next(part: Capture, parts: &[Capture]) -> bool
     ensures { result ≡ is_next part parts.now }
 {
     match parts {

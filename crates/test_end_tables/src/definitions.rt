@@ -6,10 +6,10 @@ use lang_meaning::{
     BUILT_IN_CLASSES, Callee, ClassRow, FunctionRow, GenericRow, MethodRow, ProgramRows, Qualifier,
     SlotRow,
 };
-use test_rows::Answer;
+use test_rows::RowAnswer;
 
 /// Appends what a program defines, each behind `;`: its classes but for the built-in ones, its generic functions, and its functions.
-pub fn put_definitions(got: &mut Answer, names: &Names, rows: &ProgramRows) -> Option<()> {
+pub fn put_definitions(got: &mut RowAnswer, names: &Names, rows: &ProgramRows) -> Option<()> {
     for class in rows.classes.as_slice().get(BUILT_IN_CLASSES..)? {
         got.put(" ; ");
         put_class(got, names, class)?;
@@ -26,7 +26,7 @@ pub fn put_definitions(got: &mut Answer, names: &Names, rows: &ProgramRows) -> O
 }
 
 // Appends a class: its name, its precedence list, its slots, and whether it is abstract.
-fn put_class(got: &mut Answer, names: &Names, class: &ClassRow) -> Option<()> {
+fn put_class(got: &mut RowAnswer, names: &Names, class: &ClassRow) -> Option<()> {
     put_named(got, names, "(class ", class.name)?;
     got.put(" ");
     got.put_list(class.precedence.as_slice());
@@ -42,7 +42,7 @@ fn put_class(got: &mut Answer, names: &Names, class: &ClassRow) -> Option<()> {
 }
 
 // Appends a slot: its name, the names that give it a value, and the procedure that does otherwise.
-fn put_slot(got: &mut Answer, names: &Names, slot: &SlotRow) -> Option<()> {
+fn put_slot(got: &mut RowAnswer, names: &Names, slot: &SlotRow) -> Option<()> {
     put_named(got, names, " (", slot.name)?;
     for name in slot.initargs.as_slice() {
         put_named(got, names, " ", *name)?;
@@ -56,7 +56,7 @@ fn put_slot(got: &mut Answer, names: &Names, slot: &SlotRow) -> Option<()> {
 }
 
 // Appends a generic function: its name, how many arguments it requires, `&` where it takes more, and its methods.
-fn put_generic(got: &mut Answer, names: &Names, generic: &GenericRow) -> Option<()> {
+fn put_generic(got: &mut RowAnswer, names: &Names, generic: &GenericRow) -> Option<()> {
     put_named(got, names, "(generic ", generic.name)?;
     got.put(" ");
     got.put(generic.required);
@@ -69,7 +69,7 @@ fn put_generic(got: &mut Answer, names: &Names, generic: &GenericRow) -> Option<
 }
 
 // Appends a method: its qualifier, its classes and its procedure.
-fn put_method(got: &mut Answer, method: &MethodRow) {
+fn put_method(got: &mut RowAnswer, method: &MethodRow) {
     got.put(" (");
     got.put(qualifier_text(method.qualifier));
     got.put_list(method.classes.as_slice());
@@ -89,7 +89,7 @@ fn qualifier_text(qualifier: Qualifier) -> &'static str {
 }
 
 // Appends a name, and the procedure or the generic function that it calls.
-fn put_function(got: &mut Answer, names: &Names, function: &FunctionRow) -> Option<()> {
+fn put_function(got: &mut RowAnswer, names: &Names, function: &FunctionRow) -> Option<()> {
     put_named(got, names, "(function ", function.name)?;
     match function.callee {
         Callee::Procedure(procedure) => {

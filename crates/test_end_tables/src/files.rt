@@ -6,7 +6,7 @@ use base::Stop;
 use front_files::{Mode, Whole, read_program};
 use lang_meaning::ProgramRows;
 use test_checker::is_whole;
-use test_rows::{Answer, Table};
+use test_rows::{RowAnswer, Table};
 
 /// What is told of the program of a file. A refusal is told by its reason and its place.
 #[derive(Clone, Copy)]
@@ -29,7 +29,7 @@ pub enum Told {
 pub struct Files(pub Told);
 
 impl Table for Files {
-    fn put(&self, got: &mut Answer, input: &[u8]) -> Option<()> {
+    fn answer_row(&self, got: &mut RowAnswer, input: &[u8]) -> Option<()> {
         let read = read_program(got.alloc, input, b"", Mode::Run);
         put_read(got, self.0, read)
     }
@@ -39,7 +39,7 @@ impl Table for Files {
 pub struct Preludes(pub Told);
 
 impl Table for Preludes {
-    fn put(&self, got: &mut Answer, input: &[u8]) -> Option<()> {
+    fn answer_row(&self, got: &mut RowAnswer, input: &[u8]) -> Option<()> {
         let (mode, rest) = line_of(input)?;
         let (prelude, text) = line_of(rest)?;
         let read = read_program(got.alloc, text, prelude, mode_of(mode)?);
@@ -47,7 +47,7 @@ impl Table for Preludes {
     }
 }
 
-fn put_read(got: &mut Answer, told: Told, read: Result<Whole, Stop>) -> Option<()> {
+fn put_read(got: &mut RowAnswer, told: Told, read: Result<Whole, Stop>) -> Option<()> {
     match read {
         Ok(whole) => {
             let answered = put_whole(got, told, &whole);
@@ -61,7 +61,7 @@ fn put_read(got: &mut Answer, told: Told, read: Result<Whole, Stop>) -> Option<(
     }
 }
 
-fn put_whole(got: &mut Answer, told: Told, whole: &Whole) -> Option<()> {
+fn put_whole(got: &mut RowAnswer, told: Told, whole: &Whole) -> Option<()> {
     let rows = whole.program.rows();
     match told {
         Told::Taken => got.put("taken"),
@@ -77,20 +77,20 @@ fn put_whole(got: &mut Answer, told: Told, whole: &Whole) -> Option<()> {
     Some(())
 }
 
-fn put_counts(got: &mut Answer, rows: &ProgramRows) {
+fn put_counts(got: &mut RowAnswer, rows: &ProgramRows) {
     got.put("taken");
     got.push(rows.main.len());
     got.push(rows.functions.len());
     got.push(rows.literals.len());
 }
 
-fn put_wholeness(got: &mut Answer, rows: &ProgramRows) -> Option<()> {
+fn put_wholeness(got: &mut RowAnswer, rows: &ProgramRows) -> Option<()> {
     let is_whole = got.kept(is_whole(got.alloc, rows))?;
     got.put(if is_whole { "whole" } else { "not whole" });
     Some(())
 }
 
-fn put_sites(got: &mut Answer, rows: &ProgramRows) {
+fn put_sites(got: &mut RowAnswer, rows: &ProgramRows) {
     for place in rows.sites.as_slice() {
         got.begin();
         got.put_place(*place);

@@ -2,13 +2,13 @@
 
 use crate::primitives::text;
 use base::{Name, Names};
-use lang_meaning::{Core, CoreForm, Part, Var};
-use test_rows::Answer;
+use lang_meaning::{Capture, Core, CoreForm, Var};
+use test_rows::RowAnswer;
 
 /// Appends a form whose forms stand inside one another at most so deep; none of a deeper one. It is written as a list of what it
 /// is, its numbers and names, and the forms right inside it: `l0` is a literal, `v0` a variable, `x0` an exit.
 #[cycle(forms)]
-pub fn put_form(got: &mut Answer, names: &Names, core: &Core, depth: u32) -> Option<()> {
+pub fn put_form(got: &mut RowAnswer, names: &Names, core: &Core, depth: u32) -> Option<()> {
     if depth == 0 {
         return None;
     }
@@ -27,7 +27,7 @@ pub fn put_form(got: &mut Answer, names: &Names, core: &Core, depth: u32) -> Opt
 }
 
 // What a form is, with its numbers and names.
-fn put_head(got: &mut Answer, names: &Names, form: &CoreForm) -> Option<()> {
+fn put_head(got: &mut RowAnswer, names: &Names, form: &CoreForm) -> Option<()> {
     match form {
         CoreForm::Literal(row) => put_number(got, "l", *row),
         CoreForm::Local(var) => put_number(got, "v", *var),
@@ -54,7 +54,7 @@ fn put_head(got: &mut Answer, names: &Names, form: &CoreForm) -> Option<()> {
 }
 
 // The same of those that have neither a number nor a name, or lists of them.
-fn put_other_head(got: &mut Answer, names: &Names, form: &CoreForm) -> Option<()> {
+fn put_other_head(got: &mut RowAnswer, names: &Names, form: &CoreForm) -> Option<()> {
     match form {
         CoreForm::Clauses(list) => {
             got.put("clauses");
@@ -97,7 +97,7 @@ fn put_other_head(got: &mut Answer, names: &Names, form: &CoreForm) -> Option<()
 }
 
 /// Appends variables, each behind a blank, and `&` in front of one of the rest.
-pub fn put_variables(got: &mut Answer, required: &[Var], rest: Option<Var>) {
+pub fn put_variables(got: &mut RowAnswer, required: &[Var], rest: Option<Var>) {
     for var in required {
         put_number(got, " v", *var);
     }
@@ -107,25 +107,25 @@ pub fn put_variables(got: &mut Answer, required: &[Var], rest: Option<Var>) {
 }
 
 // Appends the parts that a function captures, in brackets.
-fn put_parts(got: &mut Answer, parts: &[Part]) {
+fn put_parts(got: &mut RowAnswer, parts: &[Capture]) {
     for part in parts {
         match part {
-            Part::Variable(var) => put_number(got, " [v", *var),
-            Part::Exit(exit) => put_number(got, " [x", *exit),
-            Part::Method => got.put(" [method"),
+            Capture::Variable(var) => put_number(got, " [v", *var),
+            Capture::Exit(exit) => put_number(got, " [x", *exit),
+            Capture::Method => got.put(" [method"),
         }
         got.put("]");
     }
 }
 
 // Appends a number behind a word.
-fn put_number(got: &mut Answer, word: &'static str, number: usize) {
+fn put_number(got: &mut RowAnswer, word: &'static str, number: usize) {
     got.put(word);
     got.put(number);
 }
 
 /// Appends a name behind a word.
-pub fn put_named(got: &mut Answer, names: &Names, word: &'static str, name: Name) -> Option<()> {
+pub fn put_named(got: &mut RowAnswer, names: &Names, word: &'static str, name: Name) -> Option<()> {
     got.put(word);
     got.put_bytes(names.text(name)?);
     Some(())

@@ -3,7 +3,7 @@
 use crate::machine::Running;
 use base::{Bytes, CallList, MemShelf, MemSink, MemSource, Words};
 use rv_machine::{Image, Machine};
-use test_rows::Answer;
+use test_rows::RowAnswer;
 use top_main::{Kept, isl_main};
 
 // The name of the file with the program.
@@ -15,7 +15,7 @@ const ROOM: usize = 64;
 /// The text of a program, whose image is kept by the main call and loaded into an arena of its own
 /// length, ` : `, and what is done with the machine then (`Running::act_all`); none for a text that is
 /// no program.
-pub fn put(got: &mut Answer, line: &str) -> Option<()> {
+pub fn answer_row(got: &mut RowAnswer, line: &str) -> Option<()> {
     let (text, actions) = line.split_once(" : ")?;
     let mut kept = Kept::new();
     if build(got, text, &mut kept).is_none() {
@@ -29,7 +29,7 @@ pub fn put(got: &mut Answer, line: &str) -> Option<()> {
 }
 
 // What is done with a machine that has the image loaded.
-fn run_image(got: &mut Answer, image: &Image, actions: &str) -> Option<()> {
+fn run_image(got: &mut RowAnswer, image: &Image, actions: &str) -> Option<()> {
     let mut machine = got.kept(Machine::new(got.alloc, image.words()))?;
     if machine.load(image).is_err() {
         drop(machine);
@@ -50,7 +50,7 @@ fn run_image(got: &mut Answer, image: &Image, actions: &str) -> Option<()> {
 }
 
 // The main call with that text in its file.
-fn build(got: &mut Answer, text: &str, kept: &mut Kept) -> Option<()> {
+fn build(got: &mut RowAnswer, text: &str, kept: &mut Kept) -> Option<()> {
     let mut shelf = shelf_of(got, text)?;
     let called = call(got, &mut shelf, kept);
     drop(shelf);
@@ -58,7 +58,7 @@ fn build(got: &mut Answer, text: &str, kept: &mut Kept) -> Option<()> {
 }
 
 // The shelf with the file of that text.
-fn shelf_of(got: &mut Answer, text: &str) -> Option<MemShelf> {
+fn shelf_of(got: &mut RowAnswer, text: &str) -> Option<MemShelf> {
     let text = got.kept(Bytes::from_slice(got.alloc, text.as_bytes()))?;
     let Some(name) = got.kept(Bytes::from_slice(got.alloc, NAME.as_bytes())) else {
         drop(text);
@@ -67,7 +67,7 @@ fn shelf_of(got: &mut Answer, text: &str) -> Option<MemShelf> {
     Some(MemShelf::new(name, text, CallList::new(got.alloc)))
 }
 
-fn call(got: &mut Answer, shelf: &mut MemShelf, kept: &mut Kept) -> Option<()> {
+fn call(got: &mut RowAnswer, shelf: &mut MemShelf, kept: &mut Kept) -> Option<()> {
     let words = words_of(got)?;
     let called = call_with(got, &words, shelf, kept);
     drop(words);
@@ -75,7 +75,7 @@ fn call(got: &mut Answer, shelf: &mut MemShelf, kept: &mut Kept) -> Option<()> {
 }
 
 // The words of the command.
-fn words_of(got: &mut Answer) -> Option<Words> {
+fn words_of(got: &mut RowAnswer) -> Option<Words> {
     let mut words = Words::new(got.alloc);
     let is_named = got.kept(words.push("run")).is_some() && got.kept(words.push(NAME)).is_some();
     if !is_named {
@@ -85,7 +85,12 @@ fn words_of(got: &mut Answer) -> Option<Words> {
     Some(words)
 }
 
-fn call_with(got: &mut Answer, words: &Words, shelf: &mut MemShelf, kept: &mut Kept) -> Option<()> {
+fn call_with(
+    got: &mut RowAnswer,
+    words: &Words,
+    shelf: &mut MemShelf,
+    kept: &mut Kept,
+) -> Option<()> {
     let mut out = output(got)?;
     let Some(mut err) = output(got) else {
         drop(out);
@@ -101,10 +106,10 @@ fn call_with(got: &mut Answer, words: &Words, shelf: &mut MemShelf, kept: &mut K
     Some(())
 }
 
-fn no_input(got: &Answer) -> MemSource {
+fn no_input(got: &RowAnswer) -> MemSource {
     MemSource::new(Bytes::new(got.alloc), CallList::new(got.alloc))
 }
 
-fn output(got: &mut Answer) -> Option<MemSink> {
+fn output(got: &mut RowAnswer) -> Option<MemSink> {
     got.kept(MemSink::new(got.alloc, ROOM, CallList::new(got.alloc)))
 }

@@ -3,10 +3,10 @@
 
 use rv_encode::{Bits4, Instr, Register};
 use std::fmt::Debug;
-use test_rows::Answer;
+use test_rows::RowAnswer;
 
 /// Appends an instruction: its name, and its fields by their names.
-pub fn put_instruction(got: &mut Answer, instruction: &Instr) {
+pub fn put_instruction(got: &mut RowAnswer, instruction: &Instr) {
     got.put(name_of(instruction));
     match *instruction {
         Instr::Lui { rd, immediate } | Instr::Auipc { rd, immediate } => {
@@ -132,7 +132,7 @@ fn name_of(instruction: &Instr) -> &'static str {
 }
 
 // Two fields, each with its name in front.
-fn put_two<A: Debug, B: Debug>(got: &mut Answer, first: (&str, &A), second: (&str, &B)) {
+fn put_two<A: Debug, B: Debug>(got: &mut RowAnswer, first: (&str, &A), second: (&str, &B)) {
     put_field(got, " { ", first.0, first.1);
     put_field(got, ", ", second.0, second.1);
     got.put(" }");
@@ -140,7 +140,7 @@ fn put_two<A: Debug, B: Debug>(got: &mut Answer, first: (&str, &A), second: (&st
 
 // Three fields, each with its name in front.
 fn put_three<A: Debug, B: Debug, C: Debug>(
-    got: &mut Answer,
+    got: &mut RowAnswer,
     first: (&str, &A),
     second: (&str, &B),
     third: (&str, &C),
@@ -152,7 +152,7 @@ fn put_three<A: Debug, B: Debug, C: Debug>(
 }
 
 fn put_fence(
-    got: &mut Answer,
+    got: &mut RowAnswer,
     rd: Register,
     rs1: Register,
     mode: Bits4,
@@ -168,7 +168,7 @@ fn put_fence(
 }
 
 // A field with its name in front, behind what stands before it.
-fn put_field<T: Debug>(got: &mut Answer, before: &str, name: &str, field: &T) {
+fn put_field<T: Debug>(got: &mut RowAnswer, before: &str, name: &str, field: &T) {
     got.put(before);
     got.put(name);
     got.put(": ");

@@ -2,7 +2,7 @@
 
 use base::{MemSink, MemSource};
 use rv_machine::Machine;
-use test_rows::Answer;
+use test_rows::RowAnswer;
 
 // The most instructions that were executed before a run.
 const MOST_BEFORE: u64 = 1_000_000;
@@ -20,7 +20,7 @@ impl Running {
     /// before each but the first. They are `steps=N`, the end of the last of so many steps; `run=N`,
     /// the ending of a run of at most so many instructions; `pc`; `count`; `xN`, the value of that
     /// register, and `wN`, that word of the arena, in hexadecimal; `output`, the bytes that were put.
-    pub fn act_all(&mut self, got: &mut Answer, actions: &str) -> Option<()> {
+    pub fn act_all(&mut self, got: &mut RowAnswer, actions: &str) -> Option<()> {
         for action in actions.split(' ') {
             got.begin();
             match action.split_once('=') {
@@ -32,7 +32,7 @@ impl Running {
         Some(())
     }
 
-    fn step(&mut self, got: &mut Answer, steps: u32) {
+    fn step(&mut self, got: &mut RowAnswer, steps: u32) {
         for _step in 1..steps {
             let _ = self.machine.step();
         }
@@ -40,7 +40,7 @@ impl Running {
         got.put_debug(&end);
     }
 
-    fn run(&mut self, got: &mut Answer, most: u32) -> Option<()> {
+    fn run(&mut self, got: &mut RowAnswer, most: u32) -> Option<()> {
         if self.machine.count() > MOST_BEFORE {
             return None;
         }
@@ -51,7 +51,7 @@ impl Running {
     }
 
     // What the machine is asked for.
-    fn show(&self, got: &mut Answer, asked: &str) -> Option<()> {
+    fn show(&self, got: &mut RowAnswer, asked: &str) -> Option<()> {
         got.put(asked);
         got.put("=");
         match asked {

@@ -3,14 +3,14 @@
 use crate::forms::{put_form, put_named, put_variables};
 use base::Names;
 use lang_meaning::{LiteralRow, Procedure, ProgramRows};
-use test_rows::{Answer, Style, show};
+use test_rows::{RowAnswer, Style, show};
 
 // How deep forms and data stand inside one another in a row.
 const DEPTH: u32 = 100;
 
 /// Appends a program: its main forms; behind `;` its literals, each a datum, `#'` and the name of a function, or `class` and a number;
 /// and behind one more each of its procedures, with its name, its variables and its body.
-pub fn put_program(got: &mut Answer, names: &Names, rows: &ProgramRows) -> Option<()> {
+pub fn put_program(got: &mut RowAnswer, names: &Names, rows: &ProgramRows) -> Option<()> {
     for form in rows.main.as_slice() {
         got.begin();
         put_form(got, names, form, DEPTH)?;
@@ -29,7 +29,7 @@ pub fn put_program(got: &mut Answer, names: &Names, rows: &ProgramRows) -> Optio
     Some(())
 }
 
-fn put_literal(got: &mut Answer, names: &Names, row: &LiteralRow) -> Option<()> {
+fn put_literal(got: &mut RowAnswer, names: &Names, row: &LiteralRow) -> Option<()> {
     match row {
         LiteralRow::Datum(datum) => show(got, names, datum, Style::Plain, DEPTH),
         LiteralRow::Function(name) => put_named(got, names, "#'", *name),
@@ -41,7 +41,7 @@ fn put_literal(got: &mut Answer, names: &Names, row: &LiteralRow) -> Option<()> 
     }
 }
 
-fn put_procedure(got: &mut Answer, names: &Names, procedure: &Procedure) -> Option<()> {
+fn put_procedure(got: &mut RowAnswer, names: &Names, procedure: &Procedure) -> Option<()> {
     got.put("(");
     if let Some(name) = procedure.name {
         put_named(got, names, "", name)?;

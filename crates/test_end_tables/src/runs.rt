@@ -5,7 +5,7 @@ ghost use Rattle.std.specs.Prelude.{◌≤◌};
 use crate::machine::Running;
 use base::{Bytes, CallList, MemSink, MemSource, WordList};
 use rv_machine::{Image, Machine};
-use test_rows::Answer;
+use test_rows::RowAnswer;
 
 // The bytes that an output keeps.
 const ROOM: usize = 64;
@@ -18,9 +18,9 @@ const MOST_WORDS: u32 = 1_000;
 /// (`arena=N`, and 16 without that), an input (`input=TEXT`), and the numbers of calls of the input
 /// and of the output that fail, counted from 0 (`input_fails=N`, `output_fails=N`). An image that
 /// is too big is the first answer.
-pub fn put(got: &mut Answer, line: &str) -> Option<()> {
+pub fn answer_row(got: &mut RowAnswer, line: &str) -> Option<()> {
     let (given, actions) = line.split_once(" : ")?;
-    let mut all = Given {
+    let mut all = RunInput {
         words: WordList::new(got.alloc),
         arena: 16,
         input: Bytes::new(got.alloc),
@@ -39,7 +39,7 @@ pub fn put(got: &mut Answer, line: &str) -> Option<()> {
 
 // What a machine is given.
 #[derive(Drop)]
-struct Given {
+struct RunInput {
     words: WordList,
     arena: u32,
     input: Bytes,
@@ -47,9 +47,9 @@ struct Given {
     output_fails: CallList,
 }
 
-impl Given {
+impl RunInput {
     // Takes all that the machine is given.
-    fn take_all(&mut self, got: &mut Answer, given: &str) -> Option<()> {
+    fn take_all(&mut self, got: &mut RowAnswer, given: &str) -> Option<()> {
         for word in given.split(' ') {
             self.take(got, word)?;
         }
@@ -57,7 +57,7 @@ impl Given {
     }
 
     // Takes one thing more.
-    fn take(&mut self, got: &mut Answer, word: &str) -> Option<()> {
+    fn take(&mut self, got: &mut RowAnswer, word: &str) -> Option<()> {
         match word.split_once('=') {
             None => {
                 let word = u32::from_str_radix(word, 16).ok()?;
@@ -73,13 +73,13 @@ impl Given {
     }
 
     // The machine with the program at address 0; that the image is too big is told.
-    fn loaded(self, got: &mut Answer) -> Option<Running> {
+    fn loaded(self, got: &mut RowAnswer) -> Option<Running> {
         let is_fit = self.words.len() != 0 && self.words.len() <= MOST_WORDS as usize;
         if !is_fit || self.arena == 0 || self.arena > MOST_WORDS {
             drop(self);
             return None;
         }
-        let Given {
+        let RunInput {
             words,
             arena,
             input,
@@ -106,7 +106,7 @@ impl Given {
     }
 }
 
-fn loaded_machine(got: &mut Answer, arena: u32, image: Image) -> Option<Machine>
+fn loaded_machine(got: &mut RowAnswer, arena: u32, image: Image) -> Option<Machine>
     requires some { 1 ≤ arena }
     requires bounded { arena ≤ 1000 }
 {

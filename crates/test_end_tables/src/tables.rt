@@ -2,7 +2,7 @@
 
 use crate::{fields, images, runs, words};
 use std::str;
-use test_rows::{Answer, Table};
+use test_rows::{RowAnswer, Table};
 
 /// A table, whose inputs are lines.
 pub enum MachineTable {
@@ -13,13 +13,13 @@ pub enum MachineTable {
 }
 
 impl Table for MachineTable {
-    fn put(&self, got: &mut Answer, input: &[u8]) -> Option<()> {
+    fn answer_row(&self, got: &mut RowAnswer, input: &[u8]) -> Option<()> {
         let line = str::from_utf8(input).ok()?;
         match self {
-            MachineTable::Words => words::put(got, line),
-            MachineTable::Fields => fields::put(got, line),
-            MachineTable::Runs => runs::put(got, line),
-            MachineTable::Images => images::put(got, line),
+            MachineTable::Words => words::answer_row(got, line),
+            MachineTable::Fields => fields::answer_row(got, line),
+            MachineTable::Runs => runs::answer_row(got, line),
+            MachineTable::Images => images::answer_row(got, line),
         }
     }
 }

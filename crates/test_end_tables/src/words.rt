@@ -2,11 +2,11 @@
 
 use crate::instructions::put_instruction;
 use rv_encode::{decode, encode};
-use test_rows::Answer;
+use test_rows::RowAnswer;
 
 /// A word in hexadecimal, and behind it the text of which an assembler made it. The answer is the
 /// instruction or `none`, and the word of that instruction where it is another.
-pub fn put(got: &mut Answer, line: &str) -> Option<()> {
+pub fn answer_row(got: &mut RowAnswer, line: &str) -> Option<()> {
     let (digits, _) = line.split_once(' ').unwrap_or((line, ""));
     let word = u32::from_str_radix(digits, 16).ok()?;
     let Some(instr) = decode(word) else {

@@ -2,7 +2,7 @@
 
 use base::{Datum, ItemList, Kind, Name, Names, Symbol};
 use std::str;
-use test_rows::Answer;
+use test_rows::RowAnswer;
 
 /// The items of a proper list.
 pub fn items(datum: &Datum) -> Option<&[Datum]> {
@@ -61,7 +61,7 @@ pub fn id(datum: &Datum) -> Option<usize> {
 }
 
 /// The rows' numbers that stand in these places.
-pub fn ids(got: &mut Answer, data: &[Datum]) -> Option<ItemList<usize>> {
+pub fn ids(got: &mut RowAnswer, data: &[Datum]) -> Option<ItemList<usize>> {
     let mut list = ItemList::new(got.alloc);
     for datum in data {
         got.add(&mut list, id(datum)?);

@@ -3,7 +3,7 @@
 use crate::inputs::{found, id, ids, items, word};
 use base::{Datum, Names};
 use lang_meaning::{MethodRow, Qualifier};
-use test_rows::Answer;
+use test_rows::RowAnswer;
 
 const QUALIFIERS: &[(&str, Qualifier)] = &[
     ("primary", Qualifier::Primary),
@@ -13,7 +13,7 @@ const QUALIFIERS: &[(&str, Qualifier)] = &[
 ];
 
 /// The method of a qualifier, classes and a procedure.
-pub fn method(got: &mut Answer, names: &Names, parts: &[Datum]) -> Option<MethodRow> {
+pub fn method(got: &mut RowAnswer, names: &Names, parts: &[Datum]) -> Option<MethodRow> {
     let [kind, classes, procedure] = parts else {
         return None;
     };

@@ -6,25 +6,35 @@ mod setting;
 use crate::inputs::command;
 use base::{Datum, Names};
 use questions::ask;
-use setting::Setting;
-use test_rows::Answer;
+use setting::MethodRows;
+use test_rows::RowAnswer;
 
 /// Classes, generic functions, methods and questions, in order. A method that is refused answers so.
-pub fn put(got: &mut Answer, names: &Names, data: &[Datum]) -> Option<()> {
-    let mut setting = Setting::nothing(got.alloc);
+pub fn answer_row(got: &mut RowAnswer, names: &Names, data: &[Datum]) -> Option<()> {
+    let mut setting = MethodRows::nothing(got.alloc);
     let answered = put_all(got, names, &mut setting, data);
     drop(setting);
     answered
 }
 
-fn put_all(got: &mut Answer, names: &Names, setting: &mut Setting, data: &[Datum]) -> Option<()> {
+fn put_all(
+    got: &mut RowAnswer,
+    names: &Names,
+    setting: &mut MethodRows,
+    data: &[Datum],
+) -> Option<()> {
     for datum in data {
         put_one(got, names, setting, datum)?;
     }
     Some(())
 }
 
-fn put_one(got: &mut Answer, names: &Names, setting: &mut Setting, datum: &Datum) -> Option<()> {
+fn put_one(
+    got: &mut RowAnswer,
+    names: &Names,
+    setting: &mut MethodRows,
+    datum: &Datum,
+) -> Option<()> {
     let (head, parts) = command(names, datum)?;
     match head {
         "classes" => setting.take_classes(got, parts),

@@ -15,24 +15,34 @@ use built_in::no_rows;
 use lang_meaning::ProgramRows;
 use questions::ask;
 use rows::take;
-use test_rows::Answer;
+use test_rows::RowAnswer;
 
 /// Rows of a program behind those of the built-in classes, and questions, in order.
-pub fn put(got: &mut Answer, names: &mut Names, data: &[Datum]) -> Option<()> {
+pub fn answer_row(got: &mut RowAnswer, names: &mut Names, data: &[Datum]) -> Option<()> {
     let mut rows = no_rows(got, names)?;
     let answered = put_all(got, names, &mut rows, data);
     drop(rows);
     answered
 }
 
-fn put_all(got: &mut Answer, names: &Names, rows: &mut ProgramRows, data: &[Datum]) -> Option<()> {
+fn put_all(
+    got: &mut RowAnswer,
+    names: &Names,
+    rows: &mut ProgramRows,
+    data: &[Datum],
+) -> Option<()> {
     for datum in data {
         put_one(got, names, rows, datum)?;
     }
     Some(())
 }
 
-fn put_one(got: &mut Answer, names: &Names, rows: &mut ProgramRows, datum: &Datum) -> Option<()> {
+fn put_one(
+    got: &mut RowAnswer,
+    names: &Names,
+    rows: &mut ProgramRows,
+    datum: &Datum,
+) -> Option<()> {
     let (head, parts) = command(names, datum)?;
     match head {
         "whole" | "nodes" | "frame" | "depth" | "arity" => ask(got, names, rows, head, parts),

@@ -3,10 +3,10 @@
 use crate::inputs::{id, items, name, word};
 use base::{Datum, NameList, Names};
 use lang_meaning::{SlotRow, SlotRows};
-use test_rows::Answer;
+use test_rows::RowAnswer;
 
 /// The slots that these data describe.
-pub fn slot_rows(got: &mut Answer, names: &Names, data: &[Datum]) -> Option<SlotRows> {
+pub fn slot_rows(got: &mut RowAnswer, names: &Names, data: &[Datum]) -> Option<SlotRows> {
     let mut rows = SlotRows::new(got.alloc);
     for datum in data {
         let slot = slot_row(got, names, datum)?;
@@ -16,7 +16,7 @@ pub fn slot_rows(got: &mut Answer, names: &Names, data: &[Datum]) -> Option<Slot
 }
 
 /// The slot that a datum describes.
-pub fn slot_row(got: &mut Answer, names: &Names, datum: &Datum) -> Option<SlotRow> {
+pub fn slot_row(got: &mut RowAnswer, names: &Names, datum: &Datum) -> Option<SlotRow> {
     match items(datum) {
         Some([own, options @ ..]) => with_options(got, names, own, options),
         _ => with_options(got, names, datum, &[]),
@@ -25,7 +25,7 @@ pub fn slot_row(got: &mut Answer, names: &Names, datum: &Datum) -> Option<SlotRo
 
 // A slot with its options: `:initarg NAME` and `:initform PROCEDURE`.
 fn with_options(
-    got: &mut Answer,
+    got: &mut RowAnswer,
     names: &Names,
     own: &Datum,
     options: &[Datum],
@@ -43,7 +43,7 @@ fn with_options(
 }
 
 fn take_options(
-    got: &mut Answer,
+    got: &mut RowAnswer,
     names: &Names,
     slot: &mut SlotRow,
     options: &[Datum],
@@ -55,7 +55,7 @@ fn take_options(
 }
 
 fn take_option(
-    got: &mut Answer,
+    got: &mut RowAnswer,
     names: &Names,
     slot: &mut SlotRow,
     option: &[Datum],

@@ -2,7 +2,7 @@
 
 use crate::{classes, methods, programs};
 use base::{Datum, Names};
-use test_rows::{Answer, Table, read_data};
+use test_rows::{RowAnswer, Table, read_data};
 
 /// A table, whose inputs are data.
 pub enum ProgramTable {
@@ -12,7 +12,7 @@ pub enum ProgramTable {
 }
 
 impl Table for ProgramTable {
-    fn put(&self, got: &mut Answer, input: &[u8]) -> Option<()> {
+    fn answer_row(&self, got: &mut RowAnswer, input: &[u8]) -> Option<()> {
         let mut names = Names::new(got.alloc);
         let answered = self.put_text(got, &mut names, input);
         drop(names);
@@ -21,18 +21,18 @@ impl Table for ProgramTable {
 }
 
 impl ProgramTable {
-    fn put_text(&self, got: &mut Answer, names: &mut Names, text: &[u8]) -> Option<()> {
+    fn put_text(&self, got: &mut RowAnswer, names: &mut Names, text: &[u8]) -> Option<()> {
         let read = read_data(got, names, text)?;
         let answered = self.put_data(got, names, read.as_slice());
         drop(read);
         answered
     }
 
-    fn put_data(&self, got: &mut Answer, names: &mut Names, data: &[Datum]) -> Option<()> {
+    fn put_data(&self, got: &mut RowAnswer, names: &mut Names, data: &[Datum]) -> Option<()> {
         match self {
-            ProgramTable::Classes => classes::put(got, names, data),
-            ProgramTable::Methods => methods::put(got, names, data),
-            ProgramTable::Programs => programs::put(got, names, data),
+            ProgramTable::Classes => classes::answer_row(got, names, data),
+            ProgramTable::Methods => methods::answer_row(got, names, data),
+            ProgramTable::Programs => programs::answer_row(got, names, data),
         }
     }
 }

@@ -6,16 +6,16 @@ use std::fmt::{Debug, Display};
 
 /// The answer of a row so far, and where memory comes from. Once memory was wanting, it stays so.
 #[derive(Drop)]
-pub struct Answer {
+pub struct RowAnswer {
     pub alloc: Global,
     text: String,
     lacks_memory: bool,
 }
 
-impl Answer {
+impl RowAnswer {
     /// Nothing yet.
-    pub fn new(alloc: Global) -> Answer {
-        Answer {
+    pub fn new(alloc: Global) -> RowAnswer {
+        RowAnswer {
             alloc,
             text: String::new(alloc),
             lacks_memory: false,

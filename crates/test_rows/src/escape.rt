@@ -1,26 +1,26 @@
 // Bytes as the tables write them.
 
-use crate::answer::Answer;
+use crate::answer::RowAnswer;
 use base::Bytes;
 
 /// Appends the bytes that a text stands for: `\n` is byte 10, `\t` byte 9, `\s` a blank, `\\` a
 /// backslash, `\#` a number sign, `\xHH` the byte of that hexadecimal number, and `\{N TEXT\}` what
 /// TEXT stands for, N times.
-pub fn unescape(got: &mut Answer, bytes: &mut Bytes, text: &str) -> Option<()> {
+pub fn unescape(got: &mut RowAnswer, bytes: &mut Bytes, text: &str) -> Option<()> {
     let mut repetition = Repetition { times: 1, start: 0 };
-    let mut state = State::Plain;
+    let mut state = EscapeState::Plain;
     for byte in text.as_bytes() {
         state = take(got, bytes, &mut repetition, state, *byte)?;
     }
     match state {
-        State::Plain => Some(()),
+        EscapeState::Plain => Some(()),
         _ => None,
     }
 }
 
 // What the next byte is part of.
 #[derive(Clone, Copy)]
-enum State {
+enum EscapeState {
     // Nothing that has begun.
     Plain,
     // An escape, behind its backslash.
@@ -42,72 +42,82 @@ struct Repetition {
 
 // Takes the next byte, and says what the one behind it is part of.
 fn take(
-    got: &mut Answer,
+    got: &mut RowAnswer,
     bytes: &mut Bytes,
     repetition: &mut Repetition,
-    state: State,
+    state: EscapeState,
     byte: u8,
-) -> Option<State> {
+) -> Option<EscapeState> {
     match state {
-        State::Plain => Some(take_plain(got, bytes, byte)),
-        State::Escape => take_escape(got, bytes, repetition, byte),
-        State::HighDigit => Some(State::LowDigit(char::from(byte).to_digit(16)?)),
-        State::LowDigit(high) => take_low_digit(got, bytes, high, byte),
-        State::Times(times) => take_times(bytes, repetition, times, byte),
+        EscapeState::Plain => Some(take_plain(got, bytes, byte)),
+        EscapeState::Escape => take_escape(got, bytes, repetition, byte),
+        EscapeState::HighDigit => Some(EscapeState::LowDigit(char::from(byte).to_digit(16)?)),
+        EscapeState::LowDigit(high) => take_low_digit(got, bytes, high, byte),
+        EscapeState::Times(times) => take_times(bytes, repetition, times, byte),
     }
 }
 
-fn take_plain(got: &mut Answer, bytes: &mut Bytes, byte: u8) -> State {
+fn take_plain(got: &mut RowAnswer, bytes: &mut Bytes, byte: u8) -> EscapeState {
     if byte == b'\\' {
-        return State::Escape;
+        return EscapeState::Escape;
     }
     got.add(bytes, byte);
-    State::Plain
+    EscapeState::Plain
 }
 
 fn take_escape(
-    got: &mut Answer,
+    got: &mut RowAnswer,
     bytes: &mut Bytes,
     repetition: &Repetition,
     byte: u8,
-) -> Option<State> {
+) -> Option<EscapeState> {
     match byte {
-        b'x' => Some(State::HighDigit),
-        b'{' => Some(State::Times(0)),
+        b'x' => Some(EscapeState::HighDigit),
+        b'{' => Some(EscapeState::Times(0)),
         b'}' => repeat(got, bytes, repetition),
         _ => {
             got.add(bytes, escaped(byte)?);
-            Some(State::Plain)
+            Some(EscapeState::Plain)
         }
     }
 }
 
-fn take_low_digit(got: &mut Answer, bytes: &mut Bytes, high: u32, byte: u8) -> Option<State> {
+fn take_low_digit(
+    got: &mut RowAnswer,
+    bytes: &mut Bytes,
+    high: u32,
+    byte: u8,
+) -> Option<EscapeState> {
     let low = char::from(byte).to_digit(16)?;
     let number = high.saturating_mul(16).saturating_add(low);
     got.add(bytes, u8::try_from(number).ok()?);
-    Some(State::Plain)
+    Some(EscapeState::Plain)
 }
 
-fn take_times(bytes: &Bytes, repetition: &mut Repetition, times: u32, byte: u8) -> Option<State> {
+fn take_times(
+    bytes: &Bytes,
+    repetition: &mut Repetition,
+    times: u32,
+    byte: u8,
+) -> Option<EscapeState> {
     if byte == b' ' {
         repetition.times = times;
         repetition.start = bytes.len();
-        return Some(State::Plain);
+        return Some(EscapeState::Plain);
     }
     let digit = char::from(byte).to_digit(10)?;
-    Some(State::Times(times.saturating_mul(10).saturating_add(digit)))
+    Some(EscapeState::Times(times.saturating_mul(10).saturating_add(digit)))
 }
 
 // The end of a repetition, whose part stands there once already.
-fn repeat(got: &mut Answer, bytes: &mut Bytes, repetition: &Repetition) -> Option<State> {
+fn repeat(got: &mut RowAnswer, bytes: &mut Bytes, repetition: &Repetition) -> Option<EscapeState> {
     let part = bytes.as_slice().get(repetition.start..)?;
     let part = got.kept(Bytes::from_slice(got.alloc, part))?;
     for _ in 1..repetition.times {
         got.add_bytes(bytes, part.as_slice());
     }
     drop(part);
-    Some(State::Plain)
+    Some(EscapeState::Plain)
 }
 
 // The byte that stands for itself or another one behind a backslash.

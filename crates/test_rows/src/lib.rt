@@ -7,7 +7,7 @@ mod read;
 mod shown;
 mod table;
 
-pub use answer::Answer;
+pub use answer::RowAnswer;
 pub use read::read_data;
 pub use shown::{Style, show, show_symbol};
 pub use table::{Table, put_table};

@@ -3,12 +3,12 @@
 ghost use Rattle.std.specs.Prelude.{◌≤◌, length};
 ghost use Rattle.base.specs.Limits.{longest_text};
 
-use crate::answer::Answer;
+use crate::answer::RowAnswer;
 use base::{DatumList, LONGEST_TEXT, Names, Origin};
 use front_reader::Reader;
 
 /// All data of a text of a file; none where the text is refused.
-pub fn read_data(got: &mut Answer, names: &mut Names, text: &[u8]) -> Option<DatumList> {
+pub fn read_data(got: &mut RowAnswer, names: &mut Names, text: &[u8]) -> Option<DatumList> {
     if text.len() > LONGEST_TEXT {
         return None;
     }
@@ -21,7 +21,7 @@ pub fn read_data(got: &mut Answer, names: &mut Names, text: &[u8]) -> Option<Dat
 }
 
 // Appends the data of a text.
-fn add_data(got: &mut Answer, names: &mut Names, data: &mut DatumList, text: &[u8]) -> Option<()>
+fn add_data(got: &mut RowAnswer, names: &mut Names, data: &mut DatumList, text: &[u8]) -> Option<()>
     requires { length text.now ≤ longest_text }
 {
     let mut reader = Reader::new(text, Origin::File);

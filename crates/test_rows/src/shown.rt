@@ -1,6 +1,6 @@
 // Data as the tables write them.
 
-use crate::answer::Answer;
+use crate::answer::RowAnswer;
 use base::{Datum, Kind, Names, Place, Symbol};
 
 /// How a datum is written.
@@ -28,7 +28,7 @@ impl Style {
 /// Appends a datum whose parts are inside one another at most so deep; none of a deeper one.
 #[cycle(shown)]
 pub fn show(
-    got: &mut Answer,
+    got: &mut RowAnswer,
     names: &Names,
     datum: &Datum,
     style: Style,
@@ -45,7 +45,13 @@ pub fn show(
 
 // Appends what stands at a place.
 #[cycle(shown)]
-fn show_kind(got: &mut Answer, names: &Names, kind: &Kind, style: Style, depth: u32) -> Option<()> {
+fn show_kind(
+    got: &mut RowAnswer,
+    names: &Names,
+    kind: &Kind,
+    style: Style,
+    depth: u32,
+) -> Option<()> {
     match kind {
         Kind::Sym(symbol) => {
             got.put(style.mark("s", ""));
@@ -74,7 +80,7 @@ fn show_kind(got: &mut Answer, names: &Names, kind: &Kind, style: Style, depth: 
 // Appends data with a blank between them.
 #[cycle(shown)]
 fn show_all(
-    got: &mut Answer,
+    got: &mut RowAnswer,
     names: &Names,
     items: &[Datum],
     style: Style,
@@ -92,7 +98,7 @@ fn show_all(
 // Appends the tail of a list.
 #[cycle(shown)]
 fn show_tail(
-    got: &mut Answer,
+    got: &mut RowAnswer,
     names: &Names,
     tail: &Option<Box<Datum>>,
     style: Style,
@@ -108,7 +114,7 @@ fn show_tail(
 }
 
 // Appends what has no datum and no symbol inside.
-fn put_single(got: &mut Answer, kind: &Kind, style: Style) {
+fn put_single(got: &mut RowAnswer, kind: &Kind, style: Style) {
     match kind {
         Kind::Int(number) => {
             got.put(style.mark("i", ""));
@@ -128,14 +134,14 @@ fn put_single(got: &mut Answer, kind: &Kind, style: Style) {
 }
 
 // Appends a place that stands in front.
-fn begin(got: &mut Answer, place: Place, style: Style) {
+fn begin(got: &mut RowAnswer, place: Place, style: Style) {
     if let Style::Placed = style {
         got.put_place(place);
     }
 }
 
 // Appends a place that stands behind.
-fn end(got: &mut Answer, place: Place, style: Style) {
+fn end(got: &mut RowAnswer, place: Place, style: Style) {
     match style {
         Style::Besides(usual) if place != usual => {
             got.put("@");
@@ -146,7 +152,7 @@ fn end(got: &mut Answer, place: Place, style: Style) {
 }
 
 /// Appends a symbol: its name, or `#` and its serial.
-pub fn show_symbol(got: &mut Answer, names: &Names, symbol: Symbol) -> Option<()> {
+pub fn show_symbol(got: &mut RowAnswer, names: &Names, symbol: Symbol) -> Option<()> {
     match symbol {
         Symbol::Named(name) => got.put_bytes(names.text(name)?),
         Symbol::Fresh {

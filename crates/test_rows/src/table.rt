@@ -1,6 +1,6 @@
 // The one way in which a table is gone through: row after row.
 
-use crate::answer::Answer;
+use crate::answer::RowAnswer;
 use crate::escape::unescape;
 use base::Bytes;
 use std::rt::Files;
@@ -10,7 +10,7 @@ use std::{fs, io};
 pub trait Table {
     /// Puts an input to the calls, and appends what they answer; none for an input that is none of
     /// this table's, or where memory was wanting.
-    fn put(&self, got: &mut Answer, input: &[u8]) -> Option<()>;
+    fn answer_row(&self, got: &mut RowAnswer, input: &[u8]) -> Option<()>;
 }
 
 /// Prints the name of the table's file and, for each row `INPUT => EXPECTED` of the file, the row
@@ -46,7 +46,7 @@ fn put_rows<R: Print + AllocGlobal, T: Table>(
 // Puts the input of a row and prints it with its answer.
 fn put_row<R: Print + AllocGlobal, T: Table>(rt: &R, table: &T, line: &str) -> io::Result<()> {
     let (input, _) = line.split_once(" => ").unwrap_or((line, ""));
-    let mut got = Answer::new(rt.alloc());
+    let mut got = RowAnswer::new(rt.alloc());
     let is_answered = put_escaped(table, &mut got, input).is_some();
     let printed = println!(rt; "{input} => {}", got.told(is_answered));
     drop(got);
@@ -54,10 +54,10 @@ fn put_row<R: Print + AllocGlobal, T: Table>(rt: &R, table: &T, line: &str) -> i
 }
 
 // Puts an input whose escapes are still to be resolved.
-fn put_escaped<T: Table>(table: &T, got: &mut Answer, input: &str) -> Option<()> {
+fn put_escaped<T: Table>(table: &T, got: &mut RowAnswer, input: &str) -> Option<()> {
     let mut bytes = Bytes::new(got.alloc);
     let answered = match unescape(got, &mut bytes, input) {
-        Some(()) => table.put(got, bytes.as_slice()),
+        Some(()) => table.answer_row(got, bytes.as_slice()),
         None => None,
     };
     drop(bytes);

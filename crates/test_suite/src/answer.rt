@@ -6,15 +6,15 @@ use std::{fmt, str};
 
 /// The exit status of a call, what it printed, and the line that it wrote to the error output.
 #[derive(Drop)]
-pub struct Answer<'a> {
+pub struct CallAnswer<'a> {
     pub status: u8,
     pub printed: &'a [u8],
     pub line: &'a [u8],
 }
 
-impl Answer<'_> {
+impl CallAnswer<'_> {
     /// Whether the other is the same.
-    pub fn is(&self, other: &Answer) -> bool
+    pub fn is(&self, other: &CallAnswer) -> bool
         ensures { IsTrue result ↔ ((self.now.status ≡ other.now.status)
             × (self.now.printed.now ≡ other.now.printed.now)
             × (self.now.line.now ≡ other.now.line.now)) }
@@ -23,7 +23,7 @@ impl Answer<'_> {
     }
 }
 
-impl fmt::Display for Answer<'_> {
+impl fmt::Display for CallAnswer<'_> {
     fn fmt<W: fmt::Write>(&self, f: &mut fmt::Formatter<W>) -> fmt::Result {
         let status = self.status;
         let printed = shown(self.printed);

@@ -1,6 +1,6 @@
 // A case of the table, made line by line.
 
-use crate::given::Given;
+use crate::given::CallInput;
 use crate::text::append;
 use base::Bytes;
 use std::alloc::Global;
@@ -9,7 +9,7 @@ use std::alloc::Global;
 #[derive(Drop)]
 pub struct Case {
     pub title: String,
-    pub given: Given,
+    pub given: CallInput,
     pub status: u8,
     pub printed: Bytes,
     pub line: Bytes,
@@ -20,7 +20,7 @@ impl Case {
     pub fn new(alloc: Global) -> Case {
         Case {
             title: String::new(alloc),
-            given: Given::nothing(alloc),
+            given: CallInput::nothing(alloc),
             status: 0,
             printed: Bytes::new(alloc),
             line: Bytes::new(alloc),
@@ -43,7 +43,7 @@ impl Case {
 }
 
 // Takes a line of what the call is given.
-fn take_given(given: &mut Given, key: &str, value: &str) -> Option<()> {
+fn take_given(given: &mut CallInput, key: &str, value: &str) -> Option<()> {
     match key {
         "word" => given.words.push(value).ok(),
         "text" => append(&mut given.text, value),

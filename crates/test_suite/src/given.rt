@@ -13,7 +13,7 @@ const ROOM: usize = 4096;
 /// The words, the text of the file `f`, the input, and which calls of the shelf, the input, the output and the
 /// error output fail, counted from 0.
 #[derive(Drop)]
-pub struct Given {
+pub struct CallInput {
     pub words: Words,
     pub text: Bytes,
     pub input: Bytes,
@@ -23,10 +23,10 @@ pub struct Given {
     pub err_fails: CallList,
 }
 
-impl Given {
+impl CallInput {
     /// No word, an empty file, no input, and no call that fails.
-    pub fn nothing(alloc: Global) -> Given {
-        Given {
+    pub fn nothing(alloc: Global) -> CallInput {
+        CallInput {
             words: Words::new(alloc),
             text: Bytes::new(alloc),
             input: Bytes::new(alloc),
@@ -39,7 +39,7 @@ impl Given {
 
     /// The call that is given this.
     pub fn call(self, alloc: Global) -> Result<Call, NoMemory> {
-        let Given {
+        let CallInput {
             words,
             text,
             input,

@@ -1,6 +1,6 @@
 // The table: one case after another, each ended by a line `end`.
 
-use crate::answer::Answer;
+use crate::answer::CallAnswer;
 use crate::case::Case;
 use crate::given::Call;
 use base::NoMemory;
@@ -58,7 +58,7 @@ fn put<R: Print + AllocGlobal>(rt: &R, case: Case) -> io::Result<bool> {
         printed,
         line,
     } = case;
-    let wanted = Answer {
+    let wanted = CallAnswer {
         status,
         printed: printed.as_slice(),
         line: line.as_slice(),
@@ -81,9 +81,9 @@ fn compare<R: Print + AllocGlobal>(
     rt: &R,
     title: &str,
     call: &mut Call,
-    wanted: &Answer,
+    wanted: &CallAnswer,
 ) -> io::Result<bool> {
-    let answer = Answer {
+    let answer = CallAnswer {
         status: call.make(rt.alloc()),
         printed: call.out.bytes(),
         line: call.err.bytes(),

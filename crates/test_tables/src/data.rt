@@ -2,10 +2,10 @@
 
 use crate::tables::DEPTH;
 use base::{Datum, Names};
-use test_rows::{Answer, Style, show};
+use test_rows::{RowAnswer, Style, show};
 
 /// Data. The answer for each is its size, its depth, whether it is in form, and a copy of it.
-pub fn put(got: &mut Answer, names: &Names, data: &[Datum]) -> Option<()> {
+pub fn answer_row(got: &mut RowAnswer, names: &Names, data: &[Datum]) -> Option<()> {
     for datum in data {
         got.put("size ");
         got.put(datum.size());

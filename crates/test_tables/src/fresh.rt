@@ -2,13 +2,13 @@
 // and `|#long|` for one whose name is longer than a text can have.
 
 use base::{Datum, DatumList, FreshList, Kind, Name, Names, Symbol};
-use test_rows::Answer;
+use test_rows::RowAnswer;
 
 // A name of one byte more than a text can have.
 const LONG: [u8; 257] = [b'x'; 257];
 
 /// The first new symbols, so many.
-pub fn fresh_symbols(got: &mut Answer, count: u64) -> FreshList {
+pub fn fresh_symbols(got: &mut RowAnswer, count: u64) -> FreshList {
     let mut fresh = FreshList::new(got.alloc);
     for serial in 0..count {
         got.add(&mut fresh, new_symbol(serial));
@@ -19,7 +19,12 @@ pub fn fresh_symbols(got: &mut Answer, count: u64) -> FreshList {
 /// The datum with those symbols where they are written; none of one whose parts are deeper inside one
 /// another than said.
 #[cycle(freshened)]
-pub fn freshened(got: &mut Answer, names: &mut Names, datum: &Datum, depth: u32) -> Option<Datum> {
+pub fn freshened(
+    got: &mut RowAnswer,
+    names: &mut Names,
+    datum: &Datum,
+    depth: u32,
+) -> Option<Datum> {
     if depth == 0 {
         return None;
     }
@@ -41,7 +46,7 @@ pub fn freshened(got: &mut Answer, names: &mut Names, datum: &Datum, depth: u32)
 
 #[cycle(freshened)]
 fn all_freshened(
-    got: &mut Answer,
+    got: &mut RowAnswer,
     names: &mut Names,
     items: &DatumList,
     depth: u32,
@@ -59,7 +64,7 @@ fn all_freshened(
 
 #[cycle(freshened)]
 fn tail_freshened(
-    got: &mut Answer,
+    got: &mut RowAnswer,
     names: &mut Names,
     tail: &Option<Box<Datum>>,
     depth: u32,
@@ -77,7 +82,7 @@ fn tail_freshened(
 }
 
 // The symbol that a name stands for.
-fn symbol_of(got: &mut Answer, names: &mut Names, name: Name) -> Option<Symbol> {
+fn symbol_of(got: &mut RowAnswer, names: &mut Names, name: Name) -> Option<Symbol> {
     match names.text(name) {
         Some([b'#', digit @ b'0'..=b'9']) => Some(new_symbol(u64::from(*digit - b'0'))),
         Some(b"#long") => Some(Symbol::Named(got.kept(names.intern(&LONG))?)),

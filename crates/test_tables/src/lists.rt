@@ -2,12 +2,12 @@
 
 use crate::fresh::fresh_symbols;
 use base::{Bytes, FreshList, Words};
-use test_rows::Answer;
+use test_rows::RowAnswer;
 
 /// `bytes` with calls of a list of bytes, `words` with the words of a list, or `fresh` with how many
 /// fresh symbols are pushed and how many of them stay in the cut; the parts stand with `|` between them.
 /// The answer is what the calls answer, and then the length and what stands there.
-pub fn put(got: &mut Answer, line: &str) -> Option<()> {
+pub fn answer_row(got: &mut RowAnswer, line: &str) -> Option<()> {
     let (kind, parts) = line.split_once(' ')?;
     match kind {
         "bytes" => put_bytes(got, parts),
@@ -18,7 +18,7 @@ pub fn put(got: &mut Answer, line: &str) -> Option<()> {
 }
 
 // A list of bytes through its calls.
-fn put_bytes(got: &mut Answer, calls: &str) -> Option<()> {
+fn put_bytes(got: &mut RowAnswer, calls: &str) -> Option<()> {
     let mut bytes = Bytes::new(got.alloc);
     let answered = put_calls(got, &mut bytes, calls);
     got.put(bytes.len());
@@ -28,7 +28,7 @@ fn put_bytes(got: &mut Answer, calls: &str) -> Option<()> {
     answered
 }
 
-fn put_calls(got: &mut Answer, bytes: &mut Bytes, calls: &str) -> Option<()> {
+fn put_calls(got: &mut RowAnswer, bytes: &mut Bytes, calls: &str) -> Option<()> {
     for call in calls.split('|') {
         let (name, argument) = call.split_once(' ')?;
         match name {
@@ -40,7 +40,7 @@ fn put_calls(got: &mut Answer, bytes: &mut Bytes, calls: &str) -> Option<()> {
 }
 
 // A call with a number.
-fn put_call(got: &mut Answer, bytes: &mut Bytes, name: &str, number: usize) -> Option<()> {
+fn put_call(got: &mut RowAnswer, bytes: &mut Bytes, name: &str, number: usize) -> Option<()> {
     match name {
         "push" => got.add(bytes, u8::try_from(number).ok()?),
         "cut" => cut(bytes, number)?,
@@ -58,7 +58,7 @@ fn cut(bytes: &mut Bytes, len: usize) -> Option<()> {
     Some(())
 }
 
-fn put_byte(got: &mut Answer, byte: Option<&u8>) {
+fn put_byte(got: &mut RowAnswer, byte: Option<&u8>) {
     match byte {
         Some(byte) => got.put_byte(*byte),
         None => got.put("none"),
@@ -67,7 +67,7 @@ fn put_byte(got: &mut Answer, byte: Option<&u8>) {
 }
 
 // A list of words, and what stands behind its end.
-fn put_words(got: &mut Answer, parts: &str) -> Option<()> {
+fn put_words(got: &mut RowAnswer, parts: &str) -> Option<()> {
     let mut words = Words::new(got.alloc);
     let added = add_words(got, &mut words, parts);
     got.put(words.len());
@@ -79,7 +79,7 @@ fn put_words(got: &mut Answer, parts: &str) -> Option<()> {
     added
 }
 
-fn add_words(got: &mut Answer, words: &mut Words, parts: &str) -> Option<()> {
+fn add_words(got: &mut RowAnswer, words: &mut Words, parts: &str) -> Option<()> {
     for word in parts.split('|') {
         got.kept(words.push(word))?;
     }
@@ -87,7 +87,7 @@ fn add_words(got: &mut Answer, words: &mut Words, parts: &str) -> Option<()> {
 }
 
 // A list of fresh symbols that is cut.
-fn put_fresh(got: &mut Answer, parts: &str) -> Option<()> {
+fn put_fresh(got: &mut RowAnswer, parts: &str) -> Option<()> {
     let (pushed, kept) = parts.split_once('|')?;
     let kept = kept.parse().ok()?;
     let mut fresh = fresh_symbols(got, pushed.parse().ok()?);
@@ -96,7 +96,7 @@ fn put_fresh(got: &mut Answer, parts: &str) -> Option<()> {
     answered
 }
 
-fn put_cut(got: &mut Answer, fresh: &mut FreshList, kept: usize) -> Option<()> {
+fn put_cut(got: &mut RowAnswer, fresh: &mut FreshList, kept: usize) -> Option<()> {
     if kept > fresh.len() {
         return None;
     }

@@ -1,18 +1,18 @@
 // The table of names: a list of texts is put into one, and each text answers its number.
 
 use base::{Name, Names};
-use test_rows::Answer;
+use test_rows::RowAnswer;
 
 /// Texts with commas between them. The answer is the number of each, and then the texts that the
 /// table of names has; none where a text is too long to be a name.
-pub fn put(got: &mut Answer, texts: &str) -> Option<()> {
+pub fn answer_row(got: &mut RowAnswer, texts: &str) -> Option<()> {
     let mut names = Names::new(got.alloc);
     let answered = put_all(got, &mut names, texts);
     drop(names);
     answered
 }
 
-fn put_all(got: &mut Answer, names: &mut Names, texts: &str) -> Option<()> {
+fn put_all(got: &mut RowAnswer, names: &mut Names, texts: &str) -> Option<()> {
     for text in texts.split(',') {
         put_number(got, names, text)?;
     }
@@ -26,7 +26,7 @@ fn put_all(got: &mut Answer, names: &mut Names, texts: &str) -> Option<()> {
 }
 
 // Puts a text into the table, and appends its number.
-fn put_number(got: &mut Answer, names: &mut Names, text: &str) -> Option<()> {
+fn put_number(got: &mut RowAnswer, names: &mut Names, text: &str) -> Option<()> {
     if text.len() > 263 {
         return None;
     }

@@ -4,7 +4,7 @@ use base::{
     Bytes, CallList, Failed, MemShelf, MemSink, MemSource, Shelf, Sink, Source, SureShelf,
     SureSink, SureSource,
 };
-use test_rows::Answer;
+use test_rows::RowAnswer;
 
 // The bytes that a read can ask for.
 const ROOM: usize = 8;
@@ -12,7 +12,7 @@ const ROOM: usize = 8;
 /// What is made, which of its calls fail, what it holds or how much it has room for, and its calls with
 /// `|` between them, as in `source 0,2 abc: 2|2`. A read of N bytes answers how many there were and then
 /// the N bytes of the buffer, which has dots in it at first.
-pub fn put(got: &mut Answer, line: &str) -> Option<()> {
+pub fn answer_row(got: &mut RowAnswer, line: &str) -> Option<()> {
     let (made, calls) = line.split_once(": ")?;
     let (kind, made) = made.split_once(' ')?;
     let (fails, held) = made.split_once(' ')?;
@@ -27,7 +27,7 @@ pub fn put(got: &mut Answer, line: &str) -> Option<()> {
     }
 }
 
-fn put_source(got: &mut Answer, fails: &str, held: &str, calls: &str) -> Option<()> {
+fn put_source(got: &mut RowAnswer, fails: &str, held: &str, calls: &str) -> Option<()> {
     let held = bytes(got, held)?;
     let Some(fails) = call_list(got, fails) else {
         drop(held);
@@ -39,7 +39,7 @@ fn put_source(got: &mut Answer, fails: &str, held: &str, calls: &str) -> Option<
     answered
 }
 
-fn put_sure_source(got: &mut Answer, held: &str, calls: &str) -> Option<()> {
+fn put_sure_source(got: &mut RowAnswer, held: &str, calls: &str) -> Option<()> {
     let mut source = SureSource::new(bytes(got, held)?);
     let answered = reads(got, &mut source, calls);
     drop(source);
@@ -47,7 +47,7 @@ fn put_sure_source(got: &mut Answer, held: &str, calls: &str) -> Option<()> {
 }
 
 // A shelf with one file, whose name is `f`.
-fn put_shelf(got: &mut Answer, fails: &str, held: &str, calls: &str) -> Option<()> {
+fn put_shelf(got: &mut RowAnswer, fails: &str, held: &str, calls: &str) -> Option<()> {
     let name = bytes(got, "f")?;
     let Some(held) = bytes(got, held) else {
         drop(name);
@@ -64,7 +64,7 @@ fn put_shelf(got: &mut Answer, fails: &str, held: &str, calls: &str) -> Option<(
     answered
 }
 
-fn put_sure_shelf(got: &mut Answer, held: &str, calls: &str) -> Option<()> {
+fn put_sure_shelf(got: &mut RowAnswer, held: &str, calls: &str) -> Option<()> {
     let mut shelf = SureShelf::new(bytes(got, held)?);
     let answered = reads_at(got, &mut shelf, calls);
     drop(shelf);
@@ -72,7 +72,7 @@ fn put_sure_shelf(got: &mut Answer, held: &str, calls: &str) -> Option<()> {
 }
 
 // A sink with room for so many bytes.
-fn put_sink(got: &mut Answer, fails: &str, room: &str, calls: &str) -> Option<()> {
+fn put_sink(got: &mut RowAnswer, fails: &str, room: &str, calls: &str) -> Option<()> {
     let room = room.parse().ok()?;
     let fails = call_list(got, fails)?;
     let mut sink = got.kept(MemSink::new(got.alloc, room, fails))?;
@@ -82,7 +82,7 @@ fn put_sink(got: &mut Answer, fails: &str, room: &str, calls: &str) -> Option<()
     Some(())
 }
 
-fn put_sure_sink(got: &mut Answer, room: &str, calls: &str) -> Option<()> {
+fn put_sure_sink(got: &mut RowAnswer, room: &str, calls: &str) -> Option<()> {
     let mut sink = got.kept(SureSink::new(got.alloc, room.parse().ok()?))?;
     writes(got, &mut sink, calls);
     got.put_bytes(sink.bytes());
@@ -90,12 +90,12 @@ fn put_sure_sink(got: &mut Answer, room: &str, calls: &str) -> Option<()> {
     Some(())
 }
 
-fn bytes(got: &mut Answer, text: &str) -> Option<Bytes> {
+fn bytes(got: &mut RowAnswer, text: &str) -> Option<Bytes> {
     got.kept(Bytes::from_slice(got.alloc, text.as_bytes()))
 }
 
 // Numbers of calls with commas between them; `-` is none.
-fn call_list(got: &mut Answer, text: &str) -> Option<CallList> {
+fn call_list(got: &mut RowAnswer, text: &str) -> Option<CallList> {
     let mut calls = CallList::new(got.alloc);
     if text == "-" {
         return Some(calls);
@@ -107,7 +107,7 @@ fn call_list(got: &mut Answer, text: &str) -> Option<CallList> {
     Some(calls)
 }
 
-fn add_calls(got: &mut Answer, calls: &mut CallList, text: &str) -> Option<()> {
+fn add_calls(got: &mut RowAnswer, calls: &mut CallList, text: &str) -> Option<()> {
     for number in text.split(',') {
         got.add(calls, number.parse().ok()?);
     }
@@ -115,7 +115,7 @@ fn add_calls(got: &mut Answer, calls: &mut CallList, text: &str) -> Option<()> {
 }
 
 // Reads, each of so many bytes.
-fn reads<S: Source>(got: &mut Answer, source: &mut S, calls: &str) -> Option<()> {
+fn reads<S: Source>(got: &mut RowAnswer, source: &mut S, calls: &str) -> Option<()> {
     let mut buffer = [b'.'; ROOM];
     for call in calls.split('|') {
         let part = buffer.get_mut(..call.parse().ok()?)?;
@@ -126,7 +126,7 @@ fn reads<S: Source>(got: &mut Answer, source: &mut S, calls: &str) -> Option<()>
 }
 
 // Reads of a shelf.
-fn reads_at<S: Shelf>(got: &mut Answer, shelf: &mut S, calls: &str) -> Option<()> {
+fn reads_at<S: Shelf>(got: &mut RowAnswer, shelf: &mut S, calls: &str) -> Option<()> {
     let mut buffer = [b'.'; ROOM];
     for call in calls.split('|') {
         let (name, call) = call.split_once(' ')?;
@@ -137,7 +137,7 @@ fn reads_at<S: Shelf>(got: &mut Answer, shelf: &mut S, calls: &str) -> Option<()
 
 // A read of that name, from a place on, of so many bytes.
 fn read_at<S: Shelf>(
-    got: &mut Answer,
+    got: &mut RowAnswer,
     shelf: &mut S,
     buffer: &mut [u8],
     name: &str,
@@ -152,7 +152,7 @@ fn read_at<S: Shelf>(
 }
 
 // What a read answers, and the bytes that it asked for.
-fn put_read(got: &mut Answer, answer: Result<usize, Failed>, part: &[u8]) {
+fn put_read(got: &mut RowAnswer, answer: Result<usize, Failed>, part: &[u8]) {
     put_count(got, answer);
     got.put(" ");
     got.put_bytes(part);
@@ -160,7 +160,7 @@ fn put_read(got: &mut Answer, answer: Result<usize, Failed>, part: &[u8]) {
 }
 
 // Writes, each of one piece.
-fn writes<S: Sink>(got: &mut Answer, sink: &mut S, calls: &str) {
+fn writes<S: Sink>(got: &mut RowAnswer, sink: &mut S, calls: &str) {
     for call in calls.split('|') {
         put_count(got, sink.write(call.as_bytes()));
         got.put("|");
@@ -168,7 +168,7 @@ fn writes<S: Sink>(got: &mut Answer, sink: &mut S, calls: &str) {
 }
 
 // How many bytes were read or written.
-fn put_count(got: &mut Answer, answer: Result<usize, Failed>) {
+fn put_count(got: &mut RowAnswer, answer: Result<usize, Failed>) {
     match answer {
         Ok(count) => got.put(count),
         Err(Failed) => got.put("failed"),

@@ -6,10 +6,10 @@ use crate::named::is_spelled;
 use crate::tables::DEPTH;
 use base::{Datum, Names};
 use front_reader::print_datum;
-use test_rows::Answer;
+use test_rows::RowAnswer;
 
 /// Data. The answer is each of them as it is printed, with a blank between them.
-pub fn put(got: &mut Answer, names: &Names, data: &[Datum]) -> Option<()> {
+pub fn answer_row(got: &mut RowAnswer, names: &Names, data: &[Datum]) -> Option<()> {
     for datum in data {
         got.begin();
         put_datum(got, names, datum)?;
@@ -19,7 +19,7 @@ pub fn put(got: &mut Answer, names: &Names, data: &[Datum]) -> Option<()> {
 
 // Prints a datum that can be printed.
 #[tactic(auto, using(base::specs::DataFormed::formed_told))]
-fn put_datum(got: &mut Answer, names: &Names, datum: &Datum) -> Option<()> {
+fn put_datum(got: &mut RowAnswer, names: &Names, datum: &Datum) -> Option<()> {
     if !datum.is_formed() || !is_spelled(datum, names, DEPTH) || datum.depth() > 256 {
         return None;
     }

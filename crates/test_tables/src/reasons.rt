@@ -1,7 +1,7 @@
 // The reasons of refusals, by their numbers.
 
 use base::Reason;
-use test_rows::Answer;
+use test_rows::RowAnswer;
 
 // All reasons.
 const REASONS: [Reason; 39] = [
@@ -47,7 +47,7 @@ const REASONS: [Reason; 39] = [
 ];
 
 /// A number. The answer is the names of the reasons that have it.
-pub fn put(got: &mut Answer, line: &str) -> Option<()> {
+pub fn answer_row(got: &mut RowAnswer, line: &str) -> Option<()> {
     let number: u8 = line.parse().ok()?;
     for reason in &REASONS {
         if reason.number() == number {

@@ -3,11 +3,11 @@
 use crate::fresh::fresh_symbols;
 use crate::steps::put_step;
 use base::{Datum, FreshList, Kind, Name, Names, Symbol};
-use test_rows::{Answer, Style, show_symbol};
+use test_rows::{RowAnswer, Style, show_symbol};
 
 /// How many new symbols there are, and then forms, one after the other. The answer for each is its step
 /// and how many new symbols there are then; and, behind all, the new symbols and the names of the forms.
-pub fn put(got: &mut Answer, names: &mut Names, data: &[Datum]) -> Option<()> {
+pub fn answer_row(got: &mut RowAnswer, names: &mut Names, data: &[Datum]) -> Option<()> {
     let [first, forms @ ..] = data else {
         return None;
     };
@@ -23,7 +23,7 @@ pub fn put(got: &mut Answer, names: &mut Names, data: &[Datum]) -> Option<()> {
 
 // The steps of forms, the new symbols then, and the first names, so many.
 fn put_all(
-    got: &mut Answer,
+    got: &mut RowAnswer,
     names: &mut Names,
     fresh: &mut FreshList,
     forms: &[Datum],
@@ -40,7 +40,7 @@ fn put_all(
 }
 
 fn put_steps(
-    got: &mut Answer,
+    got: &mut RowAnswer,
     names: &mut Names,
     fresh: &mut FreshList,
     forms: &[Datum],
@@ -54,7 +54,7 @@ fn put_steps(
     Some(())
 }
 
-fn put_symbols(got: &mut Answer, names: &Names, symbols: &[Symbol]) -> Option<()> {
+fn put_symbols(got: &mut RowAnswer, names: &Names, symbols: &[Symbol]) -> Option<()> {
     for symbol in symbols {
         show_symbol(got, names, *symbol)?;
         got.put(" ");

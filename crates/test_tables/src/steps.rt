@@ -7,7 +7,7 @@ use crate::named::is_below;
 use crate::tables::DEPTH;
 use base::{Datum, FreshList, Names};
 use lang_derived::{Step, derive};
-use test_rows::{Answer, Style, show};
+use test_rows::{RowAnswer, Style, show};
 
 /// Whether the answer has the places of the parts that do not stand at the place of the form.
 #[derive(Drop)]
@@ -18,7 +18,12 @@ pub enum Places {
 
 /// One form. The answer is its step, `plain` for what is no derived form, or the reason and the place of
 /// a refusal.
-pub fn put(got: &mut Answer, names: &mut Names, data: &[Datum], places: Places) -> Option<()> {
+pub fn answer_row(
+    got: &mut RowAnswer,
+    names: &mut Names,
+    data: &[Datum],
+    places: Places,
+) -> Option<()> {
     let [form] = data else {
         return None;
     };
@@ -34,7 +39,7 @@ pub fn put(got: &mut Answer, names: &mut Names, data: &[Datum], places: Places) 
 
 /// Appends the step of a form, which may be written with new symbols.
 pub fn put_step(
-    got: &mut Answer,
+    got: &mut RowAnswer,
     names: &mut Names,
     fresh: &mut FreshList,
     form: &Datum,
@@ -48,7 +53,7 @@ pub fn put_step(
 
 #[tactic(auto, using(base::specs::DataFormed::formed_told))]
 fn put_step_of(
-    got: &mut Answer,
+    got: &mut RowAnswer,
     names: &mut Names,
     fresh: &mut FreshList,
     form: &Datum,

@@ -6,11 +6,11 @@ ghost use Rattle.base.specs.Limits.{longest_text};
 use crate::tables::DEPTH;
 use base::{LONGEST_TEXT, Names, Origin};
 use front_reader::Reader;
-use test_rows::{Answer, Style, show};
+use test_rows::{RowAnswer, Style, show};
 
 /// A text. The answer is each datum with its places and then `end`, or `!` and the stop with its
 /// place. Where `last` says otherwise, or the stop is not answered again, it is said too.
-pub fn put(got: &mut Answer, origin: Origin, text: &[u8]) -> Option<()> {
+pub fn answer_row(got: &mut RowAnswer, origin: Origin, text: &[u8]) -> Option<()> {
     if text.len() > LONGEST_TEXT {
         return None;
     }
@@ -20,7 +20,7 @@ pub fn put(got: &mut Answer, origin: Origin, text: &[u8]) -> Option<()> {
     answered
 }
 
-fn put_all(got: &mut Answer, names: &mut Names, origin: Origin, text: &[u8]) -> Option<()>
+fn put_all(got: &mut RowAnswer, names: &mut Names, origin: Origin, text: &[u8]) -> Option<()>
     requires { length text.now ≤ longest_text }
 {
     let mut reader = Reader::new(text, origin);
@@ -33,7 +33,7 @@ fn put_all(got: &mut Answer, names: &mut Names, origin: Origin, text: &[u8]) -> 
 }
 
 // Appends the next answer of the reader, and says whether it is the last one.
-fn put_next(got: &mut Answer, names: &mut Names, reader: &mut Reader) -> Option<bool> {
+fn put_next(got: &mut RowAnswer, names: &mut Names, reader: &mut Reader) -> Option<bool> {
     let is_last = reader.last();
     match reader.next(got.alloc, names) {
         Ok(Some(datum)) => {

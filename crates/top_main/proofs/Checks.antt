@@ -6,14 +6,14 @@ use Rattle.base.specs.declared.reason.Stop.{Stop}
 use Rattle.base.specs.declared.reason.Stop.TheVariants as stop
 use Rattle.front_files.specs.declared.mode.Mode.TheVariants as mode
 use Rattle.front_files.specs.Verdicts.{Refuses, IsNoProgram}
-use Rattle.top_main.specs.declared.status.Answer.{Answer}
-use Rattle.top_main.specs.declared.status.Answer.TheVariants as answer
+use Rattle.top_main.specs.declared.status.CommandAnswer.{CommandAnswer}
+use Rattle.top_main.specs.declared.status.CommandAnswer.TheVariants as answer
 use Rattle.top_main.specs.Answers.{answer_of_stop, CheckAnswers}
-use Rattle.top_main.specs.Loads.{IsTaken}
+use Rattle.top_main.specs.Loads.{IsTextTaken}
 use Rattle.top_main.specs.Theorem.{library, IsWhole, Passes, Offends}
 
 -- the line `ok` of what is good
-pub of_ok : (a : Answer) (Good : Type 0) (Bad : Refusal → Type 0) (given given' : Option (List ℕ)) (ShelfRises Rises Same : Type 0)
+pub of_ok : (a : CommandAnswer) (Good : Type 0) (Bad : Refusal → Type 0) (given given' : Option (List ℕ)) (ShelfRises Rises Same : Type 0)
     → Good → CheckAnswers a ⊤ (λ r. ⊥) given given' ⊥ Rises ⊥ → CheckAnswers a Good Bad given given' ShelfRises Rises Same
 of_ok answer.Done Good Bad given given' ShelfRises Rises Same good h = (good, h.1)
 of_ok (answer.Refused r) Good Bad given given' ShelfRises Rises Same good h = absurd h.0
@@ -34,8 +34,8 @@ of_no_program (stop.Refused r) text given given' ShelfRises Rises Same refuses s
 of_no_program stop.NoMemory text given given' ShelfRises Rises Same refuses same = same
 
 -- the text was taken of the file
-pub of_text : (a : Answer) (held : Option (List ℕ)) (text : List ℕ) (given given' : Option (List ℕ)) (ShelfRises Rises Same : Type 0)
-    → IsTaken held text → CheckAnswers a (IsWhole text) (Refuses library text mode.Run) given given' ⊥ Rises Same
+pub of_text : (a : CommandAnswer) (held : Option (List ℕ)) (text : List ℕ) (given given' : Option (List ℕ)) (ShelfRises Rises Same : Type 0)
+    → IsTextTaken held text → CheckAnswers a (IsWhole text) (Refuses library text mode.Run) given given' ⊥ Rises Same
     → CheckAnswers a (Passes held) (Offends held) given given' ShelfRises Rises Same
 of_text answer.Done held text given given' ShelfRises Rises Same taken h = (record { text = text; taken = taken; whole = h.0 }, h.1)
 of_text (answer.Refused r) held text given given' ShelfRises Rises Same taken h = (record { text = text; taken = taken; refuses = h.0 }, h.1)

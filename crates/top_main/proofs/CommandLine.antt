@@ -11,7 +11,7 @@ use Rattle.clap.specs.Faults.{fault_of, is_simple_and_free}
 use Rattle.clap.specs.declared.parser.matches.ArgMatches.{ArgMatches}
 use Rattle.clap.specs.declared.error.Error.{Error}
 use Rattle.clap.specs.declared.error.kind.ErrorKind.TheVariants as kind
-use Rattle.top_main.specs.Command.{isl, refusals, given, Asked, asked, asked_by, asked_unless}
+use Rattle.top_main.specs.Command.{isl, refusals, given, Request, asked, asked_by, asked_unless}
 
 -- it is a simple command, and no argument has a rule on another
 isl_simple : is_simple isl ≡ true
@@ -46,7 +46,7 @@ not_taken a words e is h other =
 pub asks_none : (words : List Text) → refusals words ≢ [] → asked words ≡ None
 asks_none words h = by_kinds (refusals words) (asked_by (given words)) h
   where
-    by_kinds : (k : Kinds) (o : Option Asked) → k ≢ [] → asked_unless k o ≡ None
+    by_kinds : (k : Kinds) (o : Option Request) → k ≢ [] → asked_unless k o ≡ None
     by_kinds [] o h = absurd (h refl)
     by_kinds (k ∷ ks) o h = refl
 

@@ -7,7 +7,7 @@ use Rattle.std.proofs.Common.{subst}
 use Rattle.clap.specs.Walk.{Text, first_of}
 use Rattle.clap.specs.Kinds.{Kinds}
 use Rattle.top_main.specs.declared.command.Action.{Action}
-use Rattle.top_main.specs.Command.{is_digit, decimal_from, up_to, at_least, digits_in, action_in, steps_in, arena_in, Asked, asked_for, asked_by, asked_unless, refusals, given, asked}
+use Rattle.top_main.specs.Command.{is_digit, decimal_from, up_to, at_least, digits_in, action_in, steps_in, arena_in, Request, asked_for, asked_by, asked_unless, refusals, given, asked}
 
 -- one digit more of those that are left
 pub decimal_at : (bs : List ℕ) (i n : ℕ) → i < length bs → decimal_from n (drop i bs) ≡ (if is_digit (get_or bs i 0) then decimal_from (n * 10 + (get_or bs i 0 - 48)) (drop (i + 1) bs) else None)
@@ -49,21 +49,21 @@ arena_within : (word : Option Text) (n : ℕ) → arena_in word ≡ Some n → (
 arena_within None n e = let same : 4194304 ≡ n = cc in subst (λ x. (65536 ≤ x) × (x ≤ 16777216)) same (omega arith, omega arith)
 arena_within (Some word) n e = within 65536 16777216 (digits_in word) n e
 
-for_within : (action : Option Action) (steps : Option ℕ) (arena : Option ℕ) (file : Option Text) (c : Asked) → ((n : ℕ) → arena ≡ Some n → (65536 ≤ n) × (n ≤ 16777216)) → asked_for action steps arena file ≡ Some c → (65536 ≤ c.arena) × (c.arena ≤ 16777216)
+for_within : (action : Option Action) (steps : Option ℕ) (arena : Option ℕ) (file : Option Text) (c : Request) → ((n : ℕ) → arena ≡ Some n → (65536 ≤ n) × (n ≤ 16777216)) → asked_for action steps arena file ≡ Some c → (65536 ≤ c.arena) × (c.arena ≤ 16777216)
 for_within None steps arena file c h e = absurd (cc)
 for_within (Some action) None arena file c h e = absurd (cc)
 for_within (Some action) (Some steps) None file c h e = absurd (cc)
 for_within (Some action) (Some steps) (Some arena) None c h e = absurd (cc)
 for_within (Some action) (Some steps) (Some arena) (Some file) c h e =
     let same : record { action = action; steps = steps; arena = arena; file = file } ≡ c = cc in
-    subst (λ (x : Asked). (65536 ≤ x.arena) × (x.arena ≤ 16777216)) same (h arena refl)
+    subst (λ (x : Request). (65536 ≤ x.arena) × (x.arena ≤ 16777216)) same (h arena refl)
 
-unless_within : (k : Kinds) (o : Option Asked) (c : Asked) → asked_unless k o ≡ Some c → o ≡ Some c
+unless_within : (k : Kinds) (o : Option Request) (c : Request) → asked_unless k o ≡ Some c → o ≡ Some c
 unless_within [] o c e = e
 unless_within (k ∷ ks) o c e = absurd (cc)
 
 -- the arena of a command is one that a machine may have, and that every image of the first path fits
-pub asked_within : (words : List Text) (c : Asked) → asked words ≡ Some c → (65536 ≤ c.arena) × (c.arena ≤ 16777216)
+pub asked_within : (words : List Text) (c : Request) → asked words ≡ Some c → (65536 ≤ c.arena) × (c.arena ≤ 16777216)
 asked_within words c e =
     let rows = given words in
     for_within (action_in (first_of (codes "action") rows)) (steps_in (first_of (codes "steps") rows)) (arena_in (first_of (codes "arena") rows)) (first_of (codes "file") rows) c

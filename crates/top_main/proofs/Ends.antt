@@ -5,14 +5,14 @@ use Rattle.base.specs.declared.place.Place.{Place}
 use Rattle.base.specs.declared.reason.Refusal.{Refusal}
 use Rattle.top_main.specs.declared.status.Status.{Status}
 use Rattle.top_main.specs.declared.status.Status.TheVariants.{Done, Unhandled, Usage, Refused, ArenaFull, Budget, FileFault, ReadFault, WriteFault, NoMemory}
-use Rattle.top_main.specs.declared.status.Answer.{Answer}
-use Rattle.top_main.specs.declared.status.Answer.TheVariants as answer
+use Rattle.top_main.specs.declared.status.CommandAnswer.{CommandAnswer}
+use Rattle.top_main.specs.declared.status.CommandAnswer.TheVariants as answer
 use Rattle.top_main.specs.declared.command.Action.TheVariants.{Plain}
 use Rattle.rv_machine.specs.declared.image.Image.{Image}
 use Rattle.lang_meaning.specs.declared.program.ProgramRows.{ProgramRows}
 use Rattle.lang_meaning.specs.declared.evaluation.EvaluationEnd.{EvaluationEnd}
 use Rattle.lang_meaning.specs.declared.evaluation.EvaluationEnd.TheVariants as endings
-use Rattle.top_main.specs.Command.{Asked, asked}
+use Rattle.top_main.specs.Command.{Request, asked}
 use Rattle.top_main.specs.Answers.{RunAnswers, RunFileAnswers, was_run, was_check, was_plain, WordsAnswers, was_usage, was_untold, was_asked}
 use Rattle.top_main.specs.Lines.{line_of, status_of, unhandled_line, budget_line, refused_line, arena_full_line, spent_line, file_fault_line, read_fault_line, no_memory_line}
 use Rattle.base.specs.Given.{WasGiven}
@@ -23,7 +23,7 @@ settled : (r s : Status) → (r ≢ WriteFault → r ≡ s) → (r ≡ s) ⊎ (r
 settled WriteFault s w = inr refl
 settled other s w = inl (w (λ h. cc))
 
-first_status : (a : Answer) (r : Status) → (a ≡ answer.Usage) ⊎ (a ≡ answer.NoMemory) → (r ≡ status_of a) ⊎ (r ≡ WriteFault)
+first_status : (a : CommandAnswer) (r : Status) → (a ≡ answer.Usage) ⊎ (a ≡ answer.NoMemory) → (r ≡ status_of a) ⊎ (r ≡ WriteFault)
     → (r ≡ Usage) ⊎ ((r ≡ WriteFault) ⊎ (r ≡ NoMemory))
 first_status a r (inl e) (inl k) = inl (k ∙ ap status_of e)
 first_status a r (inr e) (inl k) = inr (inr (k ∙ ap status_of e))
@@ -31,7 +31,7 @@ first_status a r w (inr k) = inr (inl k)
 
 -- the answer for a file to run whose text is a program is that of the program's run
 pub of_run :
-    (a : Answer) (program : ProgramRows) (held : Option (List ℕ)) (kept : Option Image) (arena steps : ℕ) (sent : Sent) (ShelfRises Rises Same : Type 0)
+    (a : CommandAnswer) (program : ProgramRows) (held : Option (List ℕ)) (kept : Option Image) (arena steps : ℕ) (sent : Sent) (ShelfRises Rises Same : Type 0)
     → Accepted held program → RunAnswers a program kept arena steps sent Rises Same → RunFileAnswers a held kept arena steps sent ShelfRises Rises Same
 of_run answer.Done program held kept arena steps sent ShelfRises Rises Same accepted h = (program, (accepted, h))
 of_run (answer.Unhandled class site) program held kept arena steps sent ShelfRises Rises Same accepted h = absurd h
@@ -61,7 +61,7 @@ pub record View : Type 1 where
   pub InputSame : Type 0
   pub ShelfSame : Type 0
 
-abbrev pub Told : View → Answer → Type 0
+abbrev pub Told : View → CommandAnswer → Type 0
 Told v a = WordsAnswers a v.words v.holds v.kept v.left v.left' v.sent v.ShelfRises v.SourceRises v.Rises v.Same v.InputSame v.ShelfSame
 
 -- want of memory: nothing was touched, or an evaluation broke off
@@ -91,7 +91,7 @@ module _ (v : View) (said said' : Option (List ℕ)) where
   Says WriteFault = ⊤
   Says NoMemory = ((v.Same × v.InputSame) ⊎ IsPlainBroken v.words v.holds v.kept v.left v.left' v.sent) × Line no_memory_line
 
-  abbrev plainly : (c : Asked) (end : EvaluationEnd) → asked v.words ≡ Some c → c.action ≡ Plain → v.kept ≡ None → PlainRuns (v.holds c.file) c.steps c.arena v.left v.left' v.sent end → IsPlain v.words v.holds v.kept v.left v.left' v.sent end
+  abbrev plainly : (c : Request) (end : EvaluationEnd) → asked v.words ≡ Some c → c.action ≡ Plain → v.kept ≡ None → PlainRuns (v.holds c.file) c.steps c.arena v.left v.left' v.sent end → IsPlain v.words v.holds v.kept v.left v.left' v.sent end
   plainly c end is p k h = record { command = c; asked_for = is; is_plain = p; runs = h; unbuilt = k }
 
   done : Told v answer.Done → Line [] → Says Done
@@ -190,7 +190,7 @@ module _ (v : View) (said said' : Option (List ℕ)) where
   read_fault (was_asked c is (was_check r i k h)) line = absurd h
   read_fault (was_asked c is (was_plain p k h)) line = (h.0, record { ended = plainly c endings.ReadFault is p k h.1; line = line })
 
-  says : (a : Answer) → Told v a → Line (line_of a) → Says (status_of a)
+  says : (a : CommandAnswer) → Told v a → Line (line_of a) → Says (status_of a)
   says answer.Done w line = done w line
   says (answer.Unhandled class site) w line = unhandled class site w line
   says answer.Usage w line = usage w line
@@ -212,7 +212,7 @@ module _ (v : View) where
   abbrev Untold : Type 0
   Untold = IsSpent v.words v.holds v.kept v.sent ⊎ (IsPlainUntold v.words v.holds v.kept v.left v.left' v.sent ⊎ IsPlainBroken v.words v.holds v.kept v.left v.left' v.sent)
 
-  plain_untold : (c : Asked) (end : EvaluationEnd) → HasLine end → asked v.words ≡ Some c → c.action ≡ Plain → v.kept ≡ None → PlainRuns (v.holds c.file) c.steps c.arena v.left v.left' v.sent end → Untold
+  plain_untold : (c : Request) (end : EvaluationEnd) → HasLine end → asked v.words ≡ Some c → c.action ≡ Plain → v.kept ≡ None → PlainRuns (v.holds c.file) c.steps c.arena v.left v.left' v.sent end → Untold
   plain_untold c end l is p k h = inr (inl (record { end = end; has_line = l; ended = record { command = c; asked_for = is; is_plain = p; runs = h; unbuilt = k } }))
 
   cut : Told v answer.WriteFault → v.Rises × Cut
@@ -301,7 +301,7 @@ module _ (v : View) where
   by_line ErrRises f (inl same) = inl (f, same)
   by_line ErrRises f (inr b) = inr (inr (f, inr (inr b)))
 
-  write_fault : (a : Answer) (r : Status) (ErrRises : Type 0) → Told v a → r ≡ WriteFault → (r ≡ WriteFault → status_of a ≢ WriteFault → ErrRises) → (line_of a ≡ [] → r ≡ status_of a) → Faults ErrRises
+  write_fault : (a : CommandAnswer) (r : Status) (ErrRises : Type 0) → Told v a → r ≡ WriteFault → (r ≡ WriteFault → status_of a ≢ WriteFault → ErrRises) → (line_of a ≡ [] → r ≡ status_of a) → Faults ErrRises
   write_fault answer.Done r ErrRises w e fault quiet = absurd (done_is_none (sym (quiet refl) ∙ e))
     where
       done_is_none : Done ≡ WriteFault → ⊥
@@ -318,29 +318,29 @@ module _ (v : View) where
   write_fault answer.NoMemory r ErrRises w e fault quiet = by_line ErrRises (fault e (λ h. cc)) (wanting v w)
 
   -- where the words are no command, nothing is touched
-  untouched : (a : Answer) → Told v a → asked v.words ≡ None → ((a ≡ answer.Usage) ⊎ (a ≡ answer.NoMemory)) × v.ShelfSame × v.Same × v.InputSame × (v.kept ≡ None)
+  untouched : (a : CommandAnswer) → Told v a → asked v.words ≡ None → ((a ≡ answer.Usage) ⊎ (a ≡ answer.NoMemory)) × v.ShelfSame × v.Same × v.InputSame × (v.kept ≡ None)
   untouched a (was_usage e none shelf same i k) h = (inl e, shelf, same, i, k)
   untouched a (was_untold e shelf same i k) h = (inr e, shelf, same, i, k)
   untouched a (was_asked c is o) h = absurd (cc)
 
-  words_first : (a : Answer) (r : Status) → Told v a → (r ≢ WriteFault → r ≡ status_of a) → asked v.words ≡ None
+  words_first : (a : CommandAnswer) (r : Status) → Told v a → (r ≢ WriteFault → r ≡ status_of a) → asked v.words ≡ None
       → ((r ≡ Usage) ⊎ ((r ≡ WriteFault) ⊎ (r ≡ NoMemory))) × v.ShelfSame × v.Same × v.InputSame × (v.kept ≡ None)
   words_first a r w written h =
       let u = untouched a w h in
       (first_status a r u.0 (settled r (status_of a) written), u.1, u.2, u.3, u.4)
 
   -- where the command is not to evaluate, the input is as it was
-  input_same : (a : Answer) → Told v a → (command : Asked) → asked v.words ≡ Some command → command.action ≢ Plain → v.InputSame
+  input_same : (a : CommandAnswer) → Told v a → (command : Request) → asked v.words ≡ Some command → command.action ≢ Plain → v.InputSame
   input_same a (was_usage e none shelf same i k) command h other = i
   input_same a (was_untold e shelf same i k) command h other = i
   input_same a (was_asked c is (was_run r i o)) command h other = i
   input_same a (was_asked c is (was_check r i k o)) command h other = i
   input_same a (was_asked c is (was_plain p k o)) command h other =
       let same : command ≡ c = cc in
-      absurd (other (ap (λ (x : Asked). x.action) same ∙ p))
+      absurd (other (ap (λ (x : Request). x.action) same ∙ p))
 
 -- a call that answered a and ended with the status r, whose line was written
-pub record Ended (v : View) (ErrRises : Type 0) (said said' : Option (List ℕ)) (a : Answer) (r : Status) : Type 0 where
+pub record CallEnded (v : View) (ErrRises : Type 0) (said said' : Option (List ℕ)) (a : CommandAnswer) (r : Status) : Type 0 where
   pub told : WordsAnswers a v.words v.holds v.kept v.left v.left' v.sent v.ShelfRises v.SourceRises v.Rises v.Same v.InputSame v.ShelfSame
   pub written : r ≢ WriteFault → r ≡ status_of a
   pub line : r ≢ WriteFault → WasGiven said (line_of a) said'
@@ -348,7 +348,7 @@ pub record Ended (v : View) (ErrRises : Type 0) (said said' : Option (List ℕ))
   pub quiet : line_of a ≡ [] → r ≡ status_of a
 
 -- what stands after it
-module _ {v : View} {ErrRises : Type 0} {said said' : Option (List ℕ)} {a : Answer} {r : Status} (c : Ended v ErrRises said said' a r) where
+module _ {v : View} {ErrRises : Type 0} {said said' : Option (List ℕ)} {a : CommandAnswer} {r : Status} (c : CallEnded v ErrRises said said' a r) where
   ends : (t : Status) → r ≡ t → t ≢ WriteFault → Says v said said' t
   ends t e other =
       let no_fault : r ≢ WriteFault = λ h. other (sym e ∙ h) in
@@ -388,8 +388,8 @@ module _ {v : View} {ErrRises : Type 0} {said said' : Option (List ℕ)} {a : An
   pub ends_no_memory : r ≡ NoMemory → ((v.Same × v.InputSame) ⊎ IsPlainBroken v.words v.holds v.kept v.left v.left' v.sent) × WasGiven said no_memory_line said'
   ends_no_memory e = ends NoMemory e (λ h. cc)
 
-  pub ends_line : r ≢ WriteFault → (told : Answer) × ((r ≡ status_of told) × WasGiven said (line_of told) said')
+  pub ends_line : r ≢ WriteFault → (told : CommandAnswer) × ((r ≡ status_of told) × WasGiven said (line_of told) said')
   ends_line other = (a, (c.written other, c.line other))
 
-  pub ends_input : (command : Asked) → asked v.words ≡ Some command → command.action ≢ Plain → v.InputSame
+  pub ends_input : (command : Request) → asked v.words ≡ Some command → command.action ≢ Plain → v.InputSame
   ends_input command is other = input_same v a c.told command is other

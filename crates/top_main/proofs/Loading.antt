@@ -4,7 +4,7 @@ use Rattle.std.specs.Prelude.{Option, IfSome}
 use Rattle.std.proofs.lemmas.List.{take-append-drop, take-append-le, take_all}
 use Rattle.std.proofs.Math.Seq.{drop-append_seam}
 use Rattle.base.specs.Outside.{TakesFront}
-use Rattle.top_main.specs.Loads.{IsTaken}
+use Rattle.top_main.specs.Loads.{IsTextTaken}
 
 -- the text so far is a front of the file
 pub record IsFront (file text : List ℕ) : Type 0 where
@@ -34,7 +34,7 @@ loading_more None text n buffer piece l t b = record { front = tt; within = omeg
 loading_more (Some file) text n buffer piece l t b = record { front = front_more file text n buffer piece l.front t; within = omega (arith, length-append text (take n piece), length-take n piece) }
 
 -- the end of the file, or as many bytes as are taken
-pub loaded_end : (held : Option (List ℕ)) (text buffer piece : List ℕ) → Loading held text → IfSome held (λ file. TakesFront (drop (length text) file) 0 buffer piece) → 0 < length buffer → IsTaken held text
+pub loaded_end : (held : Option (List ℕ)) (text buffer piece : List ℕ) → Loading held text → IfSome held (λ file. TakesFront (drop (length text) file) 0 buffer piece) → 0 < length buffer → IsTextTaken held text
 loaded_end None text buffer piece l t b = tt
 loaded_end (Some file) text buffer piece l t b =
     let f = l.front in
@@ -51,7 +51,7 @@ loaded_end (Some file) text buffer piece l t b =
 front_of : (xs ys : List ℕ) → take (length xs) (xs ++ ys) ≡ xs
 front_of xs ys = take-append-le (length xs) xs ys (omega arith) ∙ take_all (length xs) xs (omega arith)
 
-pub loaded_full : (held : Option (List ℕ)) (text : List ℕ) → Loading held text → 1048577 ≤ length text → IsTaken held text
+pub loaded_full : (held : Option (List ℕ)) (text : List ℕ) → Loading held text → 1048577 ≤ length text → IsTextTaken held text
 loaded_full None text l b = tt
 loaded_full (Some file) text l b =
     let f = l.front in
@@ -60,7 +60,7 @@ loaded_full (Some file) text l b =
 
 -- the same as the code has them: what is held before the read, where it reads, and a buffer whose front
 -- was written
-pub ended_here : (held held' : Option (List ℕ)) (text buffer piece : List ℕ) (at n : ℕ) → held' ≡ held → at ≡ length text → n ≡ 0 → Loading held text → IfSome held' (λ file. TakesFront (drop at file) n buffer piece) → 0 < length buffer → IsTaken held text
+pub ended_here : (held held' : Option (List ℕ)) (text buffer piece : List ℕ) (at n : ℕ) → held' ≡ held → at ≡ length text → n ≡ 0 → Loading held text → IfSome held' (λ file. TakesFront (drop at file) n buffer piece) → 0 < length buffer → IsTextTaken held text
 ended_here held held' text buffer piece at n same here none l t b =
     let Q : Option (List ℕ) → Type 0 = λ h. IfSome h (λ file. TakesFront (drop (length text) file) 0 buffer piece) in
     let P : ℕ → ℕ → Type 0 = λ a m. IfSome held' (λ file. TakesFront (drop a file) m buffer piece) in

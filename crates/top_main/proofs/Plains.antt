@@ -7,10 +7,10 @@ use Rattle.lang_meaning.specs.declared.evaluation.EvaluationEnd.{EvaluationEnd}
 use Rattle.lang_meaning.specs.declared.evaluation.EvaluationEnd.TheVariants as endings
 use Rattle.lang_meaning.specs.Evaluation.{Evaluation, meaning_with}
 use Rattle.lang_meaning.specs.Evaluates.{Evaluates, BreaksOff, Tells}
-use Rattle.top_main.specs.declared.status.Answer.{Answer}
-use Rattle.top_main.specs.declared.status.Answer.TheVariants as answer
+use Rattle.top_main.specs.declared.status.CommandAnswer.{CommandAnswer}
+use Rattle.top_main.specs.declared.status.CommandAnswer.TheVariants as answer
 use Rattle.top_main.specs.Answers.{EndAnswers, ProgramAnswers, PlainFileAnswers}
-use Rattle.top_main.specs.Loads.{IsTaken}
+use Rattle.top_main.specs.Loads.{IsTextTaken}
 use Rattle.top_main.specs.Theorem.{Sent, IsWhole, evaluation}
 
 -- an evaluation that came to a condition gave all that the program prints, which is a beginning of it
@@ -26,7 +26,7 @@ broken e left left' given given' class site h = record {
 }
 
 -- the answer of an end is that of the program's evaluation
-pub of_end : (a : Answer) (end : EvaluationEnd) (e : Evaluation) (left left' : Option (List ℕ)) (sent : Sent) (SourceRises Rises : Type 0)
+pub of_end : (a : CommandAnswer) (end : EvaluationEnd) (e : Evaluation) (left left' : Option (List ℕ)) (sent : Sent) (SourceRises Rises : Type 0)
     → Evaluates e left left' sent.before sent.after end → Tells end SourceRises Rises → EndAnswers a end e.names e.program e.levels
     → ProgramAnswers a e left left' sent SourceRises Rises
 of_end a endings.Value e left left' sent SourceRises Rises h t is =
@@ -47,7 +47,7 @@ of_end a endings.WriteFault e left left' sent SourceRises Rises h t is =
     subst (λ x. ProgramAnswers x e left left' sent SourceRises Rises) (sym is) (t, h)
 
 -- the same where levels and words are numbers of another type
-pub of_end_within : (a : Answer) (end : EvaluationEnd) (names : List (List ℕ)) (program : ProgramRows) (levels levels' words words' : ℕ) (left left' : Option (List ℕ)) (sent : Sent) (SourceRises Rises : Type 0)
+pub of_end_within : (a : CommandAnswer) (end : EvaluationEnd) (names : List (List ℕ)) (program : ProgramRows) (levels levels' words words' : ℕ) (left left' : Option (List ℕ)) (sent : Sent) (SourceRises Rises : Type 0)
     → levels' ≡ levels → words' ≡ words
     → Evaluates (record { names = names; program = program; levels = levels'; words = words' }) left left' sent.before sent.after end
     → Tells end SourceRises Rises → EndAnswers a end names program levels
@@ -66,8 +66,8 @@ of_break_within names program levels levels' words words' left left' given given
     subst (λ n. E n words) l (subst (λ m. E levels' m) w h)
 
 -- the text that is a whole program was taken of the file
-pub of_program : (a : Answer) (held : Option (List ℕ)) (text : List ℕ) (whole : IsWhole text) (levels words : ℕ) (left left' : Option (List ℕ)) (sent : Sent) (ShelfRises SourceRises Rises Same : Type 0)
-    → IsTaken held text → ProgramAnswers a (evaluation whole levels words) left left' sent SourceRises Rises
+pub of_program : (a : CommandAnswer) (held : Option (List ℕ)) (text : List ℕ) (whole : IsWhole text) (levels words : ℕ) (left left' : Option (List ℕ)) (sent : Sent) (ShelfRises SourceRises Rises Same : Type 0)
+    → IsTextTaken held text → ProgramAnswers a (evaluation whole levels words) left left' sent SourceRises Rises
     → PlainFileAnswers a held levels words left left' sent ShelfRises SourceRises Rises Same
 of_program answer.Done held text whole levels words left left' sent ShelfRises SourceRises Rises Same taken h =
     record { text = text; taken = taken; whole = whole; evaluates = h }

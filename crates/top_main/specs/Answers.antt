@@ -11,16 +11,16 @@ use Rattle.lang_meaning.specs.declared.evaluation.EvaluationEnd.{EvaluationEnd}
 use Rattle.lang_meaning.specs.declared.evaluation.EvaluationEnd.TheVariants as endings
 use Rattle.lang_meaning.specs.Evaluation.{Evaluation}
 use Rattle.lang_meaning.specs.Evaluates.{Evaluates, BreaksOff}
-use Rattle.top_main.specs.Command.{Asked, asked}
+use Rattle.top_main.specs.Command.{Request, asked}
 use Rattle.base.specs.Given.{WasGiven, WasGivenFront}
 use Rattle.top_main.specs.Lines.{ok_line}
 use Rattle.top_main.specs.declared.command.Action.TheVariants.{Run, Check, Plain}
-use Rattle.top_main.specs.declared.status.Answer.{Answer}
-use Rattle.top_main.specs.declared.status.Answer.TheVariants as answer
+use Rattle.top_main.specs.declared.status.CommandAnswer.{CommandAnswer}
+use Rattle.top_main.specs.declared.status.CommandAnswer.TheVariants as answer
 use Rattle.top_main.specs.Theorem.{Sent, Built, Halts, Spends, GivenAll, GivenPrefix, Accepted, Declined, Passes, Offends, PlainRuns, PlainBreaks, class_text}
 
 -- the answer of a text that is no program
-abbrev pub answer_of_stop : Stop → Answer
+abbrev pub answer_of_stop : Stop → CommandAnswer
 answer_of_stop (stop.Refused r) = answer.Refused r
 answer_of_stop stop.NoMemory = answer.NoMemory
 
@@ -42,7 +42,7 @@ pub record RunIsCutOff (program : ProgramRows) (kept : Option Image) (arena step
   pub printed : GivenPrefix built steps sent
 
 -- the answer of a program's run: where the output rose in faults, and where it is the same
-abbrev pub RunAnswers : Answer → ProgramRows → Option Image → (arena steps : ℕ) → Sent → (Rises Same : Type 0) → Type 0
+abbrev pub RunAnswers : CommandAnswer → ProgramRows → Option Image → (arena steps : ℕ) → Sent → (Rises Same : Type 0) → Type 0
 RunAnswers answer.Done program kept arena steps sent Rises Same = RunHalts program kept arena steps sent
 RunAnswers (answer.Budget n) program kept arena steps sent Rises Same = (n ≡ steps) × RunSpends program kept arena steps sent
 RunAnswers answer.WriteFault program kept arena steps sent Rises Same = Rises × RunIsCutOff program kept arena steps sent
@@ -60,7 +60,7 @@ abbrev pub RunOf : Option (List ℕ) → (ProgramRows → Type 0) → Type 0
 RunOf held Stands = (program : ProgramRows) × (Accepted held program × Stands program)
 
 -- the answer for a file to run: where the shelf or the output rose in faults, and where the output is the same
-abbrev pub RunFileAnswers : Answer → Option (List ℕ) → Option Image → (arena steps : ℕ) → Sent → (ShelfRises Rises Same : Type 0) → Type 0
+abbrev pub RunFileAnswers : CommandAnswer → Option (List ℕ) → Option Image → (arena steps : ℕ) → Sent → (ShelfRises Rises Same : Type 0) → Type 0
 RunFileAnswers answer.Done held kept arena steps sent ShelfRises Rises Same = RunOf held (λ program. RunHalts program kept arena steps sent)
 RunFileAnswers (answer.Budget n) held kept arena steps sent ShelfRises Rises Same =
     (n ≡ steps) × RunOf held (λ program. RunSpends program kept arena steps sent)
@@ -77,7 +77,7 @@ RunFileAnswers answer.ReadFault held kept arena steps sent ShelfRises Rises Same
 
 -- the answer for what is checked: where it passes, which refusals it has, what an output was given before and after, where the shelf
 -- or the output rose in faults, and where the output is the same
-abbrev pub CheckAnswers : Answer → (Good : Type 0) → (Bad : Refusal → Type 0) → (given given' : Option (List ℕ)) → (ShelfRises Rises Same : Type 0) → Type 0
+abbrev pub CheckAnswers : CommandAnswer → (Good : Type 0) → (Bad : Refusal → Type 0) → (given given' : Option (List ℕ)) → (ShelfRises Rises Same : Type 0) → Type 0
 CheckAnswers answer.Done Good Bad given given' ShelfRises Rises Same = Good × WasGiven given ok_line given'
 CheckAnswers (answer.Refused r) Good Bad given given' ShelfRises Rises Same = Bad r × Same
 CheckAnswers answer.FileFault Good Bad given given' ShelfRises Rises Same = ShelfRises × Same
@@ -91,7 +91,7 @@ CheckAnswers answer.Spent Good Bad given given' ShelfRises Rises Same = ⊥
 CheckAnswers answer.ReadFault Good Bad given given' ShelfRises Rises Same = ⊥
 
 -- the answer of an evaluation that came to this end: of a program with these names, within so many levels; to name a class takes memory
-abbrev pub EndAnswers : Answer → EvaluationEnd → List (List ℕ) → ProgramRows → (levels : ℕ) → Type 0
+abbrev pub EndAnswers : CommandAnswer → EvaluationEnd → List (List ℕ) → ProgramRows → (levels : ℕ) → Type 0
 EndAnswers a endings.Value names program levels = a ≡ answer.Done
 EndAnswers a (endings.Unhandled class site) names program levels =
     (a ≡ answer.Unhandled (class_text names program class) site) ⊎ (a ≡ answer.NoMemory)
@@ -103,7 +103,7 @@ EndAnswers a endings.WriteFault names program levels = a ≡ answer.WriteFault
 
 -- the answer for what is evaluated within so many levels: where it comes to an end, or to a condition whose class has a name, at a site; where it
 -- breaks off, which refusals it has, where the shelf, the source or the output rose in faults, and where the outside is the same
-abbrev pub PlainAnswers : Answer → (levels : ℕ) → (Ends : EvaluationEnd → Type 0) → (Signals : List ℕ → Place → Type 0) → (Breaks : Type 0) → (Bad : Refusal → Type 0) → (ShelfRises SourceRises Rises Same : Type 0) → Type 0
+abbrev pub PlainAnswers : CommandAnswer → (levels : ℕ) → (Ends : EvaluationEnd → Type 0) → (Signals : List ℕ → Place → Type 0) → (Breaks : Type 0) → (Bad : Refusal → Type 0) → (ShelfRises SourceRises Rises Same : Type 0) → Type 0
 PlainAnswers answer.Done levels Ends Signals Breaks Bad ShelfRises SourceRises Rises Same = Ends endings.Value
 PlainAnswers (answer.Unhandled class site) levels Ends Signals Breaks Bad ShelfRises SourceRises Rises Same = Signals class site
 PlainAnswers (answer.ArenaFull wanted room) levels Ends Signals Breaks Bad ShelfRises SourceRises Rises Same = Ends (endings.Full wanted room)
@@ -123,7 +123,7 @@ pub record ProgramSignals (e : Evaluation) (left left' : Option (List ℕ)) (sen
   pub named : name ≡ class_text e.names e.program class
 
 -- the answer of a program's evaluation
-abbrev pub ProgramAnswers : Answer → Evaluation → (left left' : Option (List ℕ)) → Sent → (SourceRises Rises : Type 0) → Type 0
+abbrev pub ProgramAnswers : CommandAnswer → Evaluation → (left left' : Option (List ℕ)) → Sent → (SourceRises Rises : Type 0) → Type 0
 ProgramAnswers a e left left' sent SourceRises Rises =
     PlainAnswers a e.levels (Evaluates e left left' sent.before sent.after) (ProgramSignals e left left' sent) (BreaksOff e left left' sent.before sent.after) (λ _. ⊥) ⊥ SourceRises Rises ⊥
 
@@ -134,12 +134,12 @@ pub record PlainSignals (held : Option (List ℕ)) (levels words : ℕ) (left le
   pub named : name ≡ class_text runs.whole.names runs.whole.program class
 
 -- the answer for a file to evaluate
-abbrev pub PlainFileAnswers : Answer → Option (List ℕ) → (levels words : ℕ) → (left left' : Option (List ℕ)) → Sent → (ShelfRises SourceRises Rises Same : Type 0) → Type 0
+abbrev pub PlainFileAnswers : CommandAnswer → Option (List ℕ) → (levels words : ℕ) → (left left' : Option (List ℕ)) → Sent → (ShelfRises SourceRises Rises Same : Type 0) → Type 0
 PlainFileAnswers a held levels words left left' sent ShelfRises SourceRises Rises Same =
     PlainAnswers a levels (PlainRuns held levels words left left' sent) (PlainSignals held levels words left left' sent) (PlainBreaks held levels words left left' sent) (Offends held) ShelfRises SourceRises Rises Same
 
 -- the answer to a command, which is run, checked or evaluated: only to evaluate a file, the input is read
-pub data Obeys (a : Answer) (c : Asked) (held : Option (List ℕ)) (kept : Option Image) (left left' : Option (List ℕ)) (sent : Sent) (ShelfRises SourceRises Rises Same InputSame : Type 0) : Type 0 where
+pub data Obeys (a : CommandAnswer) (c : Request) (held : Option (List ℕ)) (kept : Option Image) (left left' : Option (List ℕ)) (sent : Sent) (ShelfRises SourceRises Rises Same InputSame : Type 0) : Type 0 where
   was_run : c.action ≡ Run → InputSame → RunFileAnswers a held kept c.arena c.steps sent ShelfRises Rises Same
       → Obeys a c held kept left left' sent ShelfRises SourceRises Rises Same InputSame
   was_check : c.action ≡ Check → InputSame → kept ≡ None → CheckAnswers a (Passes held) (Offends held) sent.before sent.after ShelfRises Rises Same
@@ -148,10 +148,10 @@ pub data Obeys (a : Answer) (c : Asked) (held : Option (List ℕ)) (kept : Optio
       → Obeys a c held kept left left' sent ShelfRises SourceRises Rises Same InputSame
 
 -- the answer to words: they are no command, or memory was wanting to tell, or a command was obeyed
-pub data WordsAnswers (a : Answer) (words : List (List ℕ)) (holds : List ℕ → Option (List ℕ)) (kept : Option Image) (left left' : Option (List ℕ)) (sent : Sent) (ShelfRises SourceRises Rises Same InputSame ShelfSame : Type 0) : Type 0 where
+pub data WordsAnswers (a : CommandAnswer) (words : List (List ℕ)) (holds : List ℕ → Option (List ℕ)) (kept : Option Image) (left left' : Option (List ℕ)) (sent : Sent) (ShelfRises SourceRises Rises Same InputSame ShelfSame : Type 0) : Type 0 where
   was_usage : a ≡ answer.Usage → asked words ≡ None → ShelfSame → Same → InputSame → kept ≡ None
       → WordsAnswers a words holds kept left left' sent ShelfRises SourceRises Rises Same InputSame ShelfSame
   was_untold : a ≡ answer.NoMemory → ShelfSame → Same → InputSame → kept ≡ None
       → WordsAnswers a words holds kept left left' sent ShelfRises SourceRises Rises Same InputSame ShelfSame
-  was_asked : (c : Asked) → asked words ≡ Some c → Obeys a c (holds c.file) kept left left' sent ShelfRises SourceRises Rises Same InputSame
+  was_asked : (c : Request) → asked words ≡ Some c → Obeys a c (holds c.file) kept left left' sent ShelfRises SourceRises Rises Same InputSame
       → WordsAnswers a words holds kept left left' sent ShelfRises SourceRises Rises Same InputSame ShelfSame

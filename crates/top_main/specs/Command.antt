@@ -41,13 +41,13 @@ given words = matches_of isl words
 
 -- what a command asks for: what is done with a file, how many instructions a run may execute, or how many levels an evaluation may have,
 -- and the words of its arena
-pub record Asked : Type 0 where
+pub record Request : Type 0 where
   pub action : Action
   pub steps : ℕ
   pub arena : ℕ
   pub file : Text
 
-abbrev pub parts_of : Command → Asked
+abbrev pub parts_of : Command → Request
 parts_of c = record { action = c.action; steps = c.steps; arena = c.arena; file = string_bytes c.file }
 
 abbrev pub action_in : Option Text → Option Action
@@ -88,21 +88,21 @@ arena_in None = Some usual_arena_words
 arena_in (Some word) = number_in least_arena_words most_arena_words word
 
 -- what is asked for, where each part of it is
-abbrev pub asked_for : Option Action → Option ℕ → Option ℕ → Option Text → Option Asked
+abbrev pub asked_for : Option Action → Option ℕ → Option ℕ → Option Text → Option Request
 asked_for None steps arena file = None
 asked_for (Some action) None arena file = None
 asked_for (Some action) (Some steps) None file = None
 asked_for (Some action) (Some steps) (Some arena) None = None
 asked_for (Some action) (Some steps) (Some arena) (Some file) = Some (record { action = action; steps = steps; arena = arena; file = file })
 
-abbrev pub asked_by : List Row → Option Asked
+abbrev pub asked_by : List Row → Option Request
 asked_by rows =
     asked_for (action_in (first_of (codes "action") rows)) (steps_in (first_of (codes "steps") rows)) (arena_in (first_of (codes "arena") rows)) (first_of (codes "file") rows)
 
-abbrev pub asked_unless : Kinds → Option Asked → Option Asked
+abbrev pub asked_unless : Kinds → Option Request → Option Request
 asked_unless [] command = command
 asked_unless (k ∷ ks) command = None
 
 -- what the words ask for; none where they are no command
-abbrev pub asked : List Text → Option Asked
+abbrev pub asked : List Text → Option Request
 asked words = asked_unless (refusals words) (asked_by (given words))

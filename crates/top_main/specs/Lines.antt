@@ -7,8 +7,8 @@ use Rattle.base.specs.declared.reason.Reason.{Reason}
 use Rattle.base.specs.declared.reason.Refusal.{Refusal}
 use Rattle.top_main.specs.declared.status.Status.{Status}
 use Rattle.top_main.specs.declared.status.Status.TheVariants.{Done, Unhandled, Usage, Refused, ArenaFull, Budget, FileFault, ReadFault, WriteFault, NoMemory}
-use Rattle.top_main.specs.declared.status.Answer.{Answer}
-use Rattle.top_main.specs.declared.status.Answer.TheVariants as answer
+use Rattle.top_main.specs.declared.status.CommandAnswer.{CommandAnswer}
+use Rattle.top_main.specs.declared.status.CommandAnswer.TheVariants as answer
 
 abbrev pub line : List ℕ → List ℕ
 line text = text ++ 10 ∷ []
@@ -62,7 +62,7 @@ read_fault_line = line (codes "read fault")
 abbrev pub no_memory_line : List ℕ
 no_memory_line = line (codes "no memory")
 
-abbrev pub line_of : Answer → List ℕ
+abbrev pub line_of : CommandAnswer → List ℕ
 line_of answer.Done = []
 line_of (answer.Unhandled class site) = unhandled_line class site
 line_of answer.Usage = usage_line
@@ -75,7 +75,7 @@ line_of answer.ReadFault = read_fault_line
 line_of answer.WriteFault = []
 line_of answer.NoMemory = no_memory_line
 
-abbrev pub status_of : Answer → Status
+abbrev pub status_of : CommandAnswer → Status
 status_of answer.Done = Done
 status_of (answer.Unhandled class site) = Unhandled
 status_of answer.Usage = Usage

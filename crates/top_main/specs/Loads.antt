@@ -2,5 +2,5 @@
 use Rattle.std.specs.Prelude.{◌≡◌, ℕ, ◌+◌, List, take, Option, IfSome}
 use Rattle.base.specs.Limits.{longest_text}
 
-abbrev pub IsTaken : Option (List ℕ) → List ℕ → Type 0
-IsTaken held text = IfSome held (λ file. text ≡ take (longest_text + 1) file)
+abbrev pub IsTextTaken : Option (List ℕ) → List ℕ → Type 0
+IsTextTaken held text = IfSome held (λ file. text ≡ take (longest_text + 1) file)

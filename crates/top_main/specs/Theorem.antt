@@ -21,11 +21,11 @@ use Rattle.lang_meaning.specs.declared.evaluation.EvaluationEnd.{EvaluationEnd}
 use Rattle.lang_meaning.specs.declared.evaluation.EvaluationEnd.TheVariants as endings
 use Rattle.lang_meaning.specs.Evaluation.{Evaluation}
 use Rattle.lang_meaning.specs.Evaluates.{Evaluates, BreaksOff}
-use Rattle.top_main.specs.Command.{Asked, asked}
+use Rattle.top_main.specs.Command.{Request, asked}
 use Rattle.top_main.specs.declared.command.Action.TheVariants.{Run, Check, Plain}
 use Rattle.base.specs.Given.{WasGiven, WasGivenFront}
 use Rattle.top_main.specs.Lines.{usage_line, unhandled_line, refused_line, arena_full_line, budget_line, spent_line, read_fault_line, ok_line}
-use Rattle.top_main.specs.Loads.{IsTaken}
+use Rattle.top_main.specs.Loads.{IsTextTaken}
 use Rattle.back_first_path.specs.Compiled.{IsPrefixOf, HaltsWith, Compiled}
 use Rattle.back_first_path.specs.Shapes.{names}
 use Rattle.back_first_path.specs.Verdicts.{Accepts, Refuses}
@@ -83,13 +83,13 @@ GivenPrefix {program} {kept} {arena} built steps sent =
 -- a text that was taken of the file is this program
 pub record Accepted (held : Option (List ℕ)) (program : ProgramRows) : Type 0 where
   pub text : List ℕ
-  pub taken : IsTaken held text
+  pub taken : IsTextTaken held text
   pub accepts : Accepts text program
 
 -- a text that was taken of the file is refused so
 pub record Declined (held : Option (List ℕ)) (refusal : Refusal) : Type 0 where
   pub text : List ℕ
-  pub taken : IsTaken held text
+  pub taken : IsTextTaken held text
   pub refuses : Refuses text refusal.place refusal.reason
 
 -- the library of the language, which stands in front of every file
@@ -105,13 +105,13 @@ pub record IsWhole (text : List ℕ) : Type 0 where
 -- a text that was taken of the file is one
 pub record Passes (held : Option (List ℕ)) : Type 0 where
   pub text : List ℕ
-  pub taken : IsTaken held text
+  pub taken : IsTextTaken held text
   pub whole : IsWhole text
 
 -- a text that was taken of the file is refused so, and is none
 pub record Offends (held : Option (List ℕ)) (refusal : Refusal) : Type 0 where
   pub text : List ℕ
-  pub taken : IsTaken held text
+  pub taken : IsTextTaken held text
   pub refuses : RefusesWhole library text mode.Run refusal
 
 -- The statuses of `run`. A call has these command words, a shelf that holds these files, where it can be observed, and leaves this image; its
@@ -119,7 +119,7 @@ pub record Offends (held : Option (List ℕ)) (refusal : Refusal) : Type 0 where
 
 -- Done: the command names a file to run that is a program, the run of its image halts, and all that it prints was given
 pub record IsDone (words : List (List ℕ)) (holds : List ℕ → Option (List ℕ)) (kept : Option Image) (sent : Sent) (said said' : Option (List ℕ)) : Type 0 where
-  pub command : Asked
+  pub command : Request
   pub asked_for : asked words ≡ Some command
   pub is_run : command.action ≡ Run
   pub program : ProgramRows
@@ -131,7 +131,7 @@ pub record IsDone (words : List (List ℕ)) (holds : List ℕ → Option (List �
 
 -- the same with a run that does not end within its instructions, of which a line is still to be written
 pub record IsSpent (words : List (List ℕ)) (holds : List ℕ → Option (List ℕ)) (kept : Option Image) (sent : Sent) : Type 0 where
-  pub command : Asked
+  pub command : Request
   pub asked_for : asked words ≡ Some command
   pub is_run : command.action ≡ Run
   pub program : ProgramRows
@@ -147,7 +147,7 @@ pub record IsBudget (words : List (List ℕ)) (holds : List ℕ → Option (List
 
 -- Refused: the command names a file to run that is none; the line says where its first offence stands, and which it is
 pub record IsRefused (words : List (List ℕ)) (holds : List ℕ → Option (List ℕ)) (said said' : Option (List ℕ)) : Type 0 where
-  pub command : Asked
+  pub command : Request
   pub asked_for : asked words ≡ Some command
   pub is_run : command.action ≡ Run
   pub refusal : Refusal
@@ -156,7 +156,7 @@ pub record IsRefused (words : List (List ℕ)) (holds : List ℕ → Option (Lis
 
 -- Write fault within a run: the output was cut off behind a prefix of what the run prints
 pub record IsCutOff (words : List (List ℕ)) (holds : List ℕ → Option (List ℕ)) (kept : Option Image) (sent : Sent) : Type 0 where
-  pub command : Asked
+  pub command : Request
   pub asked_for : asked words ≡ Some command
   pub is_run : command.action ≡ Run
   pub program : ProgramRows
@@ -168,7 +168,7 @@ pub record IsCutOff (words : List (List ℕ)) (holds : List ℕ → Option (List
 
 -- Done: the command names a file to check that is a whole program, and just the line `ok` was given
 pub record IsChecked (words : List (List ℕ)) (holds : List ℕ → Option (List ℕ)) (kept : Option Image) (sent : Sent) (said said' : Option (List ℕ)) : Type 0 where
-  pub command : Asked
+  pub command : Request
   pub asked_for : asked words ≡ Some command
   pub is_check : command.action ≡ Check
   pub passes : Passes (holds command.file)
@@ -178,7 +178,7 @@ pub record IsChecked (words : List (List ℕ)) (holds : List ℕ → Option (Lis
 
 -- Refused: the command names a file to check or to evaluate that is none; the line says where its first offence stands, and which it is
 pub record IsWholeRefused (words : List (List ℕ)) (holds : List ℕ → Option (List ℕ)) (said said' : Option (List ℕ)) : Type 0 where
-  pub command : Asked
+  pub command : Request
   pub asked_for : asked words ≡ Some command
   pub is_whole : command.action ≢ Run
   pub refusal : Refusal
@@ -187,7 +187,7 @@ pub record IsWholeRefused (words : List (List ℕ)) (holds : List ℕ → Option
 
 -- Write fault of the line `ok`, of which a front was given
 pub record IsCheckedCutOff (words : List (List ℕ)) (holds : List ℕ → Option (List ℕ)) (kept : Option Image) (sent : Sent) : Type 0 where
-  pub command : Asked
+  pub command : Request
   pub asked_for : asked words ≡ Some command
   pub is_check : command.action ≡ Check
   pub passes : Passes (holds command.file)
@@ -204,14 +204,14 @@ evaluation whole levels arena = record { names = whole.names; program = whole.pr
 -- the program's meaning, and so is the end
 pub record PlainRuns (held : Option (List ℕ)) (levels words : ℕ) (left left' : Option (List ℕ)) (sent : Sent) (end : EvaluationEnd) : Type 0 where
   pub text : List ℕ
-  pub taken : IsTaken held text
+  pub taken : IsTextTaken held text
   pub whole : IsWhole text
   pub evaluates : Evaluates (evaluation whole levels words) left left' sent.before sent.after end
 
 -- the same where it broke off for want of memory
 pub record PlainBreaks (held : Option (List ℕ)) (levels words : ℕ) (left left' : Option (List ℕ)) (sent : Sent) : Type 0 where
   pub text : List ℕ
-  pub taken : IsTaken held text
+  pub taken : IsTextTaken held text
   pub whole : IsWhole text
   pub breaks_off : BreaksOff (evaluation whole levels words) left left' sent.before sent.after
 
@@ -221,7 +221,7 @@ class_text names program class = class_name names (slice_get program.classes cla
 
 -- the command names a file to evaluate that is a whole program, and its evaluation comes to this end
 pub record IsPlain (words : List (List ℕ)) (holds : List ℕ → Option (List ℕ)) (kept : Option Image) (left left' : Option (List ℕ)) (sent : Sent) (end : EvaluationEnd) : Type 0 where
-  pub command : Asked
+  pub command : Request
   pub asked_for : asked words ≡ Some command
   pub is_plain : command.action ≡ Plain
   pub runs : PlainRuns (holds command.file) command.steps command.arena left left' sent end
@@ -267,7 +267,7 @@ pub record IsPlainCutOff (words : List (List ℕ)) (holds : List ℕ → Option 
 
 -- No memory: an evaluation broke off, or the class could not be named; the output was given a beginning of what the program prints
 pub record IsPlainBroken (words : List (List ℕ)) (holds : List ℕ → Option (List ℕ)) (kept : Option Image) (left left' : Option (List ℕ)) (sent : Sent) : Type 0 where
-  pub command : Asked
+  pub command : Request
   pub asked_for : asked words ≡ Some command
   pub is_plain : command.action ≡ Plain
   pub breaks : PlainBreaks (holds command.file) command.steps command.arena left left' sent

@@ -8,7 +8,7 @@ ghost use Rattle.top_main.specs.Theorem.{library, IsWhole, Passes, Offends};
 ghost use Rattle.top_main.specs.Answers.{CheckAnswers};
 
 use crate::load::{LoadStop, load};
-use crate::status::Answer;
+use crate::status::CommandAnswer;
 use base::{Failed, Shelf, Sink, write_all};
 use front_files::{Mode, read_program};
 use front_library::PRELUDE;
@@ -21,7 +21,7 @@ pub(crate) fn check_file<F: Shelf, O: Sink>(
     file: &str,
     shelf: &mut F,
     out: &mut O,
-) -> Answer
+) -> CommandAnswer
     ensures { CheckAnswers result (Passes (F.holds shelf.old file.now)) (Offends (F.holds shelf.old file.now))
         (O.given out.old) (O.given out.new)
         (Rose (F.faults shelf.old) (F.faults shelf.new))
@@ -33,13 +33,13 @@ pub(crate) fn check_file<F: Shelf, O: Sink>(
             drop(text);
             answer
         }
-        Err(LoadStop::Failed) => Answer::FileFault,
-        Err(LoadStop::NoMemory) => Answer::NoMemory,
+        Err(LoadStop::Failed) => CommandAnswer::FileFault,
+        Err(LoadStop::NoMemory) => CommandAnswer::NoMemory,
     }
 }
 
 // Judges a text, and writes `ok` where it is a whole program.
-fn check<O: Sink>(alloc: Global, text: &[u8], out: &mut O) -> Answer
+fn check<O: Sink>(alloc: Global, text: &[u8], out: &mut O) -> CommandAnswer
     ensures { CheckAnswers result (IsWhole text.now) (Refuses library text.now mode.Run)
         (O.given out.old) (O.given out.new) ⊥
         (Rose (O.faults out.old) (O.faults out.new)) (out.new ≡ out.old) }
@@ -49,17 +49,17 @@ fn check<O: Sink>(alloc: Global, text: &[u8], out: &mut O) -> Answer
             drop(whole);
             say_ok(out)
         }
-        Err(stop) => Answer::of_stop(stop),
+        Err(stop) => CommandAnswer::of_stop(stop),
     }
 }
 
 // Writes the line `ok`.
-fn say_ok<O: Sink>(out: &mut O) -> Answer
+fn say_ok<O: Sink>(out: &mut O) -> CommandAnswer
     ensures { CheckAnswers result ⊤ (λ _. ⊥) (O.given out.old) (O.given out.new) ⊥
         (Rose (O.faults out.old) (O.faults out.new)) ⊥ }
 {
     match write_all(out, b"ok\n") {
-        Ok(()) => Answer::Done,
-        Err(Failed) => Answer::WriteFault,
+        Ok(()) => CommandAnswer::Done,
+        Err(Failed) => CommandAnswer::WriteFault,
     }
 }

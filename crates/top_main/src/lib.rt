@@ -16,4 +16,4 @@ pub mod status;
 pub use back_first_path::first_build;
 pub use kept::Kept;
 pub use main_call::isl_main;
-pub use status::{Answer, Status};
+pub use status::{CommandAnswer, Status};

@@ -7,12 +7,12 @@ ghost use Rattle.base.specs.Given.{WasGiven};
 ghost use Rattle.top_main.specs.Lines.{line_of, unhandled_line, at_text, refused_line, place_text, reason_text, arena_full_line, budget_line, status_of};
 ghost use Rattle.top_main.specs.declared.status.Status.TheVariants.{WriteFault};
 
-use crate::status::{Answer, Status};
+use crate::status::{CommandAnswer, Status};
 use base::{Failed, Place, Reason, Refusal, Sink, write_all};
 
 /// Writes the line of an answer, whose status is then given; `WriteFault` where the line can't be
 /// written whole.
-pub fn end_with<E: Sink>(err: &mut E, answer: Answer) -> Status
+pub fn end_with<E: Sink>(err: &mut E, answer: CommandAnswer) -> Status
     ensures written { result ≢ WriteFault → result ≡ status_of answer }
     ensures line { result ≢ WriteFault → WasGiven (E.given err.old) (line_of answer) (E.given err.new) }
     ensures quiet { line_of answer ≡ [] → result ≡ status_of answer }
@@ -26,7 +26,7 @@ pub fn end_with<E: Sink>(err: &mut E, answer: Answer) -> Status
 }
 
 // The same of an answer that is kept.
-fn status_with<E: Sink>(err: &mut E, answer: &Answer) -> Status
+fn status_with<E: Sink>(err: &mut E, answer: &CommandAnswer) -> Status
     ensures written { result ≢ WriteFault → result ≡ status_of answer.now }
     ensures line { result ≢ WriteFault → WasGiven (E.given err.old) (line_of answer.now) (E.given err.new) }
     ensures quiet { line_of answer.now ≡ [] → result ≡ status_of answer.now }
@@ -41,23 +41,23 @@ fn status_with<E: Sink>(err: &mut E, answer: &Answer) -> Status
 }
 
 // Writes the line of an answer; nothing for those that have none.
-fn write_line<E: Sink>(err: &mut E, answer: &Answer) -> Result<(), Failed>
+fn write_line<E: Sink>(err: &mut E, answer: &CommandAnswer) -> Result<(), Failed>
     ensures given { OnOk result (WasGiven (E.given err.old) (line_of answer.now) (E.given err.new)) }
     ensures quiet { line_of answer.now ≡ [] → IsOk result }
     ensures fault { OnErr result (Rose (E.faults err.old) (E.faults err.new)) }
     ensures count { E.faults err.old ≤ E.faults err.new }
 {
     match answer {
-        Answer::Done | Answer::WriteFault => Ok(()),
-        Answer::Unhandled { class, site } => write_unhandled(err, class.as_slice(), *site),
-        Answer::Usage => write_all(err, b"usage: isl [--steps N] [--arena W] ACTION FILE\n"),
-        Answer::Refused(refusal) => write_refusal(err, *refusal),
-        Answer::ArenaFull { asked, left } => write_arena_full(err, *asked, *left),
-        Answer::Budget(steps) => write_budget(err, *steps),
-        Answer::Spent => write_all(err, b"spent 9223372036854775808\n"),
-        Answer::FileFault => write_all(err, b"file fault\n"),
-        Answer::ReadFault => write_all(err, b"read fault\n"),
-        Answer::NoMemory => write_all(err, b"no memory\n"),
+        CommandAnswer::Done | CommandAnswer::WriteFault => Ok(()),
+        CommandAnswer::Unhandled { class, site } => write_unhandled(err, class.as_slice(), *site),
+        CommandAnswer::Usage => write_all(err, b"usage: isl [--steps N] [--arena W] ACTION FILE\n"),
+        CommandAnswer::Refused(refusal) => write_refusal(err, *refusal),
+        CommandAnswer::ArenaFull { asked, left } => write_arena_full(err, *asked, *left),
+        CommandAnswer::Budget(steps) => write_budget(err, *steps),
+        CommandAnswer::Spent => write_all(err, b"spent 9223372036854775808\n"),
+        CommandAnswer::FileFault => write_all(err, b"file fault\n"),
+        CommandAnswer::ReadFault => write_all(err, b"read fault\n"),
+        CommandAnswer::NoMemory => write_all(err, b"no memory\n"),
     }
 }
 

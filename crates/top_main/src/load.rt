@@ -2,7 +2,7 @@
 
 ghost use Rattle.std.specs.Prelude.{◌≡◌, ◌≤◌, IfOk};
 ghost use Rattle.base.specs.Outside.{Rose};
-ghost use Rattle.top_main.specs.Loads.{IsTaken};
+ghost use Rattle.top_main.specs.Loads.{IsTextTaken};
 ghost use Rattle.top_main.specs.declared.load.LoadStop.TheVariants.{Failed as Stopped};
 
 use base::{Bytes, Failed, LONGEST_TEXT, Shelf};
@@ -35,7 +35,7 @@ const PIECE: usize = 4096;
 /// The file's bytes, all of them or the first 1,048,577. `Failed` only where the count of the shelf's
 /// faults rose.
 pub fn load<F: Shelf>(alloc: Global, shelf: &mut F, name: &str) -> Result<Bytes, LoadStop>
-    ensures taken { IfOk result (λ text. IsTaken (F.holds shelf.old name.now) text) }
+    ensures taken { IfOk result (λ text. IsTextTaken (F.holds shelf.old name.now) text) }
     ensures fault { result ≡ Err Stopped → Rose (F.faults shelf.old) (F.faults shelf.new) }
     ensures count { F.faults shelf.old ≤ F.faults shelf.new }
 {

@@ -5,11 +5,11 @@ ghost use Rattle.std.specs.String.{string_bytes};
 ghost use Rattle.base.specs.Outside.{Rose};
 ghost use Rattle.top_main.specs.Theorem.{IsDone, IsSpent, IsBudget, IsRefused, IsCutOff, IsUsage, IsChecked, IsWholeRefused, IsCheckedCutOff, IsPlainDone, IsUnhandled, IsArenaFull, IsPlainBudget, IsPlainSpent, IsReadFault, IsPlainCutOff, IsPlainBroken, IsPlainUntold, sent_to};
 ghost use Rattle.top_main.specs.Answers.{WordsAnswers, Obeys};
-ghost use Rattle.top_main.specs.Command.{Asked, asked as asked_of, parts_of};
+ghost use Rattle.top_main.specs.Command.{Request, asked as asked_of, parts_of};
 ghost use Rattle.top_main.specs.declared.command.Action.TheVariants.{Plain as ToEvaluate};
 ghost use Rattle.base.specs.Given.{WasGiven};
 ghost use Rattle.top_main.specs.Lines.{line_of, status_of, file_fault_line, no_memory_line};
-ghost use Rattle.top_main.specs.declared.status.Answer.{Answer as AnswerValue};
+ghost use Rattle.top_main.specs.declared.status.CommandAnswer.{CommandAnswer as AnswerValue};
 ghost use Rattle.top_main.specs.declared.status.Status.TheVariants.{Done, Unhandled, Usage, Refused, ArenaFull, Budget, FileFault, ReadFault, WriteFault, NoMemory as WantsMemory};
 
 use crate::check::check_file;
@@ -18,7 +18,7 @@ use crate::kept::Kept;
 use crate::lines::end_with;
 use crate::plain::plain_file;
 use crate::run::{Bounds, run_file};
-use crate::status::{Answer, Status};
+use crate::status::{CommandAnswer, Status};
 use base::{NoMemory, Shelf, Sink, Source, Words};
 use std::alloc::Global;
 
@@ -131,7 +131,7 @@ pub fn isl_main<F: Shelf, S: Source, O: Sink, E: Sink>(
     ensures line { result ≢ WriteFault → (told : AnswerValue) × ((result ≡ status_of told)
         × WasGiven (E.given err.old) (line_of told) (E.given err.new)) }
     // Only an evaluation reads the input.
-    ensures input { (command : Asked) → asked_of words.now ≡ Some command → command.action ≢ ToEvaluate →
+    ensures input { (command : Request) → asked_of words.now ≡ Some command → command.action ≢ ToEvaluate →
         input.new ≡ input.old }
 {
     kept.image = None;
@@ -147,7 +147,7 @@ fn answer_to<F: Shelf, S: Source, O: Sink>(
     input: &mut S,
     out: &mut O,
     kept: &mut Kept,
-) -> Answer
+) -> CommandAnswer
     requires empty { kept.old.image ≡ None }
     ensures { WordsAnswers result words.now (F.holds shelf.old) kept.new.image
         (S.left input.old) (S.left input.new)
@@ -162,8 +162,8 @@ fn answer_to<F: Shelf, S: Source, O: Sink>(
             drop(command);
             answer
         }
-        Ok(None) => Answer::Usage,
-        Err(NoMemory) => Answer::NoMemory,
+        Ok(None) => CommandAnswer::Usage,
+        Err(NoMemory) => CommandAnswer::NoMemory,
     }
 }
 
@@ -175,7 +175,7 @@ fn obey<F: Shelf, S: Source, O: Sink>(
     input: &mut S,
     out: &mut O,
     kept: &mut Kept,
-) -> Answer
+) -> CommandAnswer
     requires least { 65536 ≤ command.now.arena }
     requires most { command.now.arena ≤ 16777216 }
     requires empty { kept.old.image ≡ None }

@@ -5,11 +5,11 @@ ghost use Rattle.base.specs.Outside.{Rose};
 ghost use Rattle.lang_meaning.specs.Lookup.{text as text_of};
 ghost use Rattle.top_main.specs.Theorem.{sent_to, class_text};
 ghost use Rattle.top_main.specs.Answers.{EndAnswers, ProgramAnswers, PlainFileAnswers};
-ghost use Rattle.top_main.specs.declared.status.Answer.TheVariants.{Unhandled as Signalled, NoMemory as WantsMemory};
+ghost use Rattle.top_main.specs.declared.status.CommandAnswer.TheVariants.{Unhandled as Signalled, NoMemory as WantsMemory};
 
 use crate::load::{LoadStop, load};
 use crate::run::Bounds;
-use crate::status::Answer;
+use crate::status::CommandAnswer;
 use base::{Bytes, Name, Names, NoMemory, Place, Shelf, Sink, Source};
 use eval_run::evaluate;
 use front_files::{Mode, Whole, read_program};
@@ -26,7 +26,7 @@ pub(crate) fn plain_file<F: Shelf, S: Source, O: Sink>(
     shelf: &mut F,
     input: &mut S,
     out: &mut O,
-) -> Answer
+) -> CommandAnswer
     ensures { PlainFileAnswers result (F.holds shelf.old file.now) bounds.steps bounds.arena
         (S.left input.old) (S.left input.new)
         (sent_to (O.given out.old) (O.writes out.old) (O.given out.new) (O.writes out.new))
@@ -35,8 +35,8 @@ pub(crate) fn plain_file<F: Shelf, S: Source, O: Sink>(
 {
     let text = match load(alloc, shelf, file) {
         Ok(text) => text,
-        Err(LoadStop::Failed) => return Answer::FileFault,
-        Err(LoadStop::NoMemory) => return Answer::NoMemory,
+        Err(LoadStop::Failed) => return CommandAnswer::FileFault,
+        Err(LoadStop::NoMemory) => return CommandAnswer::NoMemory,
     };
     match read_program(alloc, text.as_slice(), PRELUDE, Mode::Run) {
         Ok(whole) => {
@@ -44,7 +44,7 @@ pub(crate) fn plain_file<F: Shelf, S: Source, O: Sink>(
             drop(whole);
             answer
         }
-        Err(stop) => Answer::of_stop(stop),
+        Err(stop) => CommandAnswer::of_stop(stop),
     }
 }
 
@@ -55,7 +55,7 @@ fn plain<S: Source, O: Sink>(
     bounds: Bounds,
     input: &mut S,
     out: &mut O,
-) -> Answer
+) -> CommandAnswer
     ensures { ProgramAnswers result
         (record { names = whole.now.names; program = whole.now.program; levels = bounds.steps; words = bounds.arena })
         (S.left input.old) (S.left input.new)
@@ -74,33 +74,33 @@ fn plain<S: Source, O: Sink>(
         out,
     ) {
         Ok(end) => answer_of(alloc, whole, bounds.steps, end),
-        Err(NoMemory) => Answer::NoMemory,
+        Err(NoMemory) => CommandAnswer::NoMemory,
     }
 }
 
 // The answer of an evaluation that came to this end; to name the class of a condition takes memory.
-fn answer_of(alloc: Global, whole: &Whole, levels: u32, end: EvaluationEnd) -> Answer
+fn answer_of(alloc: Global, whole: &Whole, levels: u32, end: EvaluationEnd) -> CommandAnswer
     ensures { EndAnswers result end whole.now.names whole.now.program levels }
 {
     match end {
-        EvaluationEnd::Value => Answer::Done,
+        EvaluationEnd::Value => CommandAnswer::Done,
         EvaluationEnd::Unhandled { class, site } => unhandled(alloc, whole, class, site),
-        EvaluationEnd::Full { asked, left } => Answer::ArenaFull { asked, left },
-        EvaluationEnd::More => Answer::Budget(levels),
-        EvaluationEnd::Spent => Answer::Spent,
-        EvaluationEnd::ReadFault => Answer::ReadFault,
-        EvaluationEnd::WriteFault => Answer::WriteFault,
+        EvaluationEnd::Full { asked, left } => CommandAnswer::ArenaFull { asked, left },
+        EvaluationEnd::More => CommandAnswer::Budget(levels),
+        EvaluationEnd::Spent => CommandAnswer::Spent,
+        EvaluationEnd::ReadFault => CommandAnswer::ReadFault,
+        EvaluationEnd::WriteFault => CommandAnswer::WriteFault,
     }
 }
 
 // The answer of a condition of that class.
-fn unhandled(alloc: Global, whole: &Whole, class: ClassId, site: Place) -> Answer
+fn unhandled(alloc: Global, whole: &Whole, class: ClassId, site: Place) -> CommandAnswer
     ensures { (result ≡ Signalled (class_text whole.now.names whole.now.program class) site)
         ⊎ (result ≡ WantsMemory) }
 {
     match Bytes::from_slice(alloc, class_name(whole, class)) {
-        Ok(class) => Answer::Unhandled { class, site },
-        Err(NoMemory) => Answer::NoMemory,
+        Ok(class) => CommandAnswer::Unhandled { class, site },
+        Err(NoMemory) => CommandAnswer::NoMemory,
     }
 }
 

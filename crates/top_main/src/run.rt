@@ -11,7 +11,7 @@ ghost use Rattle.top_main.specs.Answers.{RunAnswers, RunFileAnswers};
 
 use crate::kept::Kept;
 use crate::load::{LoadStop, load};
-use crate::status::Answer;
+use crate::status::CommandAnswer;
 use back_first_path::{first_build, read_program};
 use base::{NoMemory, Shelf, Sink, Source};
 use lang_meaning::ProgramRows;
@@ -36,7 +36,7 @@ pub(crate) fn run_file<F: Shelf, S: Source, O: Sink>(
     input: &mut S,
     out: &mut O,
     kept: &mut Kept,
-) -> Answer
+) -> CommandAnswer
     requires least { 65536 ≤ bounds.arena }
     requires most { bounds.arena ≤ 16777216 }
     requires empty { kept.old.image ≡ None }
@@ -48,8 +48,8 @@ pub(crate) fn run_file<F: Shelf, S: Source, O: Sink>(
 {
     let text = match load(alloc, shelf, file) {
         Ok(text) => text,
-        Err(LoadStop::Failed) => return Answer::FileFault,
-        Err(LoadStop::NoMemory) => return Answer::NoMemory,
+        Err(LoadStop::Failed) => return CommandAnswer::FileFault,
+        Err(LoadStop::NoMemory) => return CommandAnswer::NoMemory,
     };
     match read_program(alloc, text.as_slice()) {
         Ok(program) => {
@@ -57,7 +57,7 @@ pub(crate) fn run_file<F: Shelf, S: Source, O: Sink>(
             drop(program);
             answer
         }
-        Err(stop) => Answer::of_stop(stop),
+        Err(stop) => CommandAnswer::of_stop(stop),
     }
 }
 
@@ -70,7 +70,7 @@ fn run<S: Source, O: Sink>(
     input: &mut S,
     out: &mut O,
     kept: &mut Kept,
-) -> Answer
+) -> CommandAnswer
     requires first { IsFirstPath program.now }
     requires small { length (program_code program.now.literals (forms program.now.main)) ≤ bounds.arena }
     requires most { bounds.arena ≤ 16777216 }
@@ -84,17 +84,17 @@ fn run<S: Source, O: Sink>(
     law_budget();
     law_split();
     let Ok(image) = first_build(alloc, program) else {
-        return Answer::NoMemory;
+        return CommandAnswer::NoMemory;
     };
     let Ok(mut machine) = started(alloc, &image, bounds.arena) else {
-        return Answer::NoMemory;
+        return CommandAnswer::NoMemory;
     };
     let ending = machine.run(bounds.steps as u64, input, out);
     kept.image = Some(image);
     match ending {
-        Ending::Halt(_) => Answer::Done,
-        Ending::Budget => Answer::Budget(bounds.steps),
-        Ending::WriteFault => Answer::WriteFault,
+        Ending::Halt(_) => CommandAnswer::Done,
+        Ending::Budget => CommandAnswer::Budget(bounds.steps),
+        Ending::WriteFault => CommandAnswer::WriteFault,
         _ => unreachable!(),
     }
 }

@@ -57,7 +57,7 @@ impl Status {
 /// left; how many instructions were executed, or how many levels there were. `Spent` is the status `Budget`
 /// of an evaluation in which as many forms began as may begin.
 #[derive(Drop)]
-pub enum Answer {
+pub enum CommandAnswer {
     Done,
     Unhandled { class: Bytes, site: Place },
     Usage,
@@ -71,14 +71,14 @@ pub enum Answer {
     NoMemory,
 }
 
-impl Answer {
+impl CommandAnswer {
     // The answer of a text that is no program.
-    pub(crate) fn of_stop(stop: Stop) -> Answer
+    pub(crate) fn of_stop(stop: Stop) -> CommandAnswer
         ensures { result ≡ answer_of_stop stop }
     {
         match stop {
-            Stop::Refused(refusal) => Answer::Refused(refusal),
-            Stop::NoMemory => Answer::NoMemory,
+            Stop::Refused(refusal) => CommandAnswer::Refused(refusal),
+            Stop::NoMemory => CommandAnswer::NoMemory,
         }
     }
 
@@ -87,16 +87,16 @@ impl Answer {
         ensures { result ≡ status_of self.now }
     {
         match self {
-            Answer::Done => Status::Done,
-            Answer::Unhandled { .. } => Status::Unhandled,
-            Answer::Usage => Status::Usage,
-            Answer::Refused(_) => Status::Refused,
-            Answer::ArenaFull { .. } => Status::ArenaFull,
-            Answer::Budget(_) | Answer::Spent => Status::Budget,
-            Answer::FileFault => Status::FileFault,
-            Answer::ReadFault => Status::ReadFault,
-            Answer::WriteFault => Status::WriteFault,
-            Answer::NoMemory => Status::NoMemory,
+            CommandAnswer::Done => Status::Done,
+            CommandAnswer::Unhandled { .. } => Status::Unhandled,
+            CommandAnswer::Usage => Status::Usage,
+            CommandAnswer::Refused(_) => Status::Refused,
+            CommandAnswer::ArenaFull { .. } => Status::ArenaFull,
+            CommandAnswer::Budget(_) | CommandAnswer::Spent => Status::Budget,
+            CommandAnswer::FileFault => Status::FileFault,
+            CommandAnswer::ReadFault => Status::ReadFault,
+            CommandAnswer::WriteFault => Status::WriteFault,
+            CommandAnswer::NoMemory => Status::NoMemory,
         }
     }
 }

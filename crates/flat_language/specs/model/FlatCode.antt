@@ -10,33 +10,33 @@ use Rattle.flat_language.specs.FlatForm.{FlatBindings, no_binding, binding_and, 
 use Rattle.flat_language.specs.declared.place.Home.{Home}
 use Rattle.flat_language.specs.declared.place.Home.TheVariants as home
 use Rattle.flat_language.specs.declared.place.VariablePlace.{VariablePlace}
-use Rattle.flat_language.specs.declared.place.VariablePlace.TheVariants.{Slot, SlotCell, CapturedValue, CapturedCell}
+use Rattle.flat_language.specs.declared.place.VariablePlace.TheVariants.{Slot, SlotBox, CapturedValue, CapturedBox}
 use Rattle.flat_language.specs.declared.place.ExitPlace.{ExitPlace}
 use Rattle.flat_language.specs.declared.place.ExitPlace.TheVariants as exit_place
 use Rattle.flat_language.specs.declared.place.MethodPlace.{MethodPlace}
 use Rattle.flat_language.specs.declared.place.MethodPlace.TheVariants as method_place
-use Rattle.flat_language.specs.declared.place.FlatPart.{FlatPart}
-use Rattle.flat_language.specs.declared.place.FlatPart.TheVariants.{Variable, Exit, Method}
+use Rattle.flat_language.specs.declared.place.FlatCapture.{FlatCapture}
+use Rattle.flat_language.specs.declared.place.FlatCapture.TheVariants.{Variable, Exit, Method}
 
 -- places, captured parts and homes
 abbrev place_tree : VariablePlace → Tree
 place_tree (Slot n) = above_one 0 (leaf n)
-place_tree (SlotCell n) = above_one 1 (leaf n)
+place_tree (SlotBox n) = above_one 1 (leaf n)
 place_tree (CapturedValue n) = above_one 2 (leaf n)
-place_tree (CapturedCell n) = above_one 3 (leaf n)
+place_tree (CapturedBox n) = above_one 3 (leaf n)
 
 abbrev place_of : Tree → VariablePlace
 place_of (node zero (tree_and (node n us) ts)) = Slot n
-place_of (node (suc zero) (tree_and (node n us) ts)) = SlotCell n
+place_of (node (suc zero) (tree_and (node n us) ts)) = SlotBox n
 place_of (node (suc (suc zero)) (tree_and (node n us) ts)) = CapturedValue n
-place_of (node (suc (suc (suc m))) (tree_and (node n us) ts)) = CapturedCell n
+place_of (node (suc (suc (suc m))) (tree_and (node n us) ts)) = CapturedBox n
 place_of (node m no_tree) = Slot 0
 
 place_back : (p : VariablePlace) → place_of (place_tree p) ≡ p
 place_back (Slot n) = refl
-place_back (SlotCell n) = refl
+place_back (SlotBox n) = refl
 place_back (CapturedValue n) = refl
-place_back (CapturedCell n) = refl
+place_back (CapturedBox n) = refl
 
 abbrev exit_tree : ExitPlace → Tree
 exit_tree (exit_place.Own n) = above_one 0 (leaf n)
@@ -63,45 +63,45 @@ method_back : (p : MethodPlace) → method_of (method_tree p) ≡ p
 method_back method_place.Own = refl
 method_back (method_place.Captured n) = refl
 
-abbrev part_tree : FlatPart → Tree
+abbrev part_tree : FlatCapture → Tree
 part_tree (Variable p) = above_one 0 (place_tree p)
 part_tree (Exit p) = above_one 1 (exit_tree p)
 part_tree (Method p) = above_one 2 (method_tree p)
 
-abbrev part_of : Tree → FlatPart
+abbrev part_of : Tree → FlatCapture
 part_of (node zero (tree_and t ts)) = Variable (place_of t)
 part_of (node (suc zero) (tree_and t ts)) = Exit (exit_of t)
 part_of (node (suc (suc n)) (tree_and t ts)) = Method (method_of t)
 part_of (node n no_tree) = Method method_place.Own
 
-part_back : (p : FlatPart) → part_of (part_tree p) ≡ p
+part_back : (p : FlatCapture) → part_of (part_tree p) ≡ p
 part_back (Variable p) = ap Variable (place_back p)
 part_back (Exit p) = ap Exit (exit_back p)
 part_back (Method p) = ap Method (method_back p)
 
-abbrev parts_trees : List FlatPart → Trees
+abbrev parts_trees : List FlatCapture → Trees
 parts_trees [] = no_tree
 parts_trees (p ∷ ps) = tree_and (part_tree p) (parts_trees ps)
 
-abbrev parts_of : Trees → List FlatPart
+abbrev parts_of : Trees → List FlatCapture
 parts_of no_tree = []
 parts_of (tree_and t ts) = part_of t ∷ parts_of ts
 
-parts_back : (ps : List FlatPart) → parts_of (parts_trees ps) ≡ ps
+parts_back : (ps : List FlatCapture) → parts_of (parts_trees ps) ≡ ps
 parts_back [] = refl
 parts_back (p ∷ ps) = cc (part_back p, parts_back ps)
 
 abbrev home_number : Home → ℕ
 home_number home.Slot = 0
-home_number home.Cell = 1
+home_number home.Boxed = 1
 
 abbrev home_at : ℕ → Home
 home_at zero = home.Slot
-home_at (suc n) = home.Cell
+home_at (suc n) = home.Boxed
 
 home_back : (h : Home) → home_at (home_number h) ≡ h
 home_back home.Slot = refl
-home_back home.Cell = refl
+home_back home.Boxed = refl
 
 -- the forms of a number, of a number and a form, of two forms, of a number and forms, of a place, and of a place and a
 -- form, each at its place

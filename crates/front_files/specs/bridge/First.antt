@@ -12,7 +12,7 @@ use Rattle.lang_classes.specs.InheritedClasses.{Hierarchy}
 use Rattle.lang_classes.specs.InheritedBuiltIn.{built_in_own, own_initarg, texts_of, SaysSlots, AreBuiltIn}
 use Rattle.front_profile.specs.declared.tables.ReservedWords.{ReservedWords}
 use Rattle.front_profile.specs.declared.tables.Tables.{Tables}
-use Rattle.front_scope.specs.Scopes.{AreWords, first_tables, IsFirst}
+use Rattle.front_scope.specs.Scopes.{AreWords, first_tables, AreInitialTables}
 
 -- ---- items of lists
 
@@ -78,7 +78,7 @@ built_in_later old new h x b = record {
   };
 }
 
-pub first_later : (old new : List (List ℕ)) (t : Tables) → Extends old new → IsFirst old t → IsFirst new t
+pub first_later : (old new : List (List ℕ)) (t : Tables) → Extends old new → AreInitialTables old t → AreInitialTables new t
 first_later old new t x f = record {
   words = words_later old new t.words x f.words;
   classes = built_in_later old new t.classes x f.classes;
@@ -157,7 +157,7 @@ same_classes texts h k table a b =
     let two : List (List SlotRow) → Hierarchy = λ v. record { rows = k.rows; own = v } in
     ap one rows ∙ ap two (same_own texts h k table a b)
 
-pub one_first : (names : List (List ℕ)) (s t : Tables) → IsTable names → IsFirst names s → IsFirst names t → s ≡ t
+pub one_first : (names : List (List ℕ)) (s t : Tables) → IsTable names → AreInitialTables names s → AreInitialTables names t → s ≡ t
 one_first names s t table a b =
     a.nothing_else
     ∙ ap (λ w. first_tables w s.classes) (same_words names s.words t.words table a.words b.words)

@@ -9,13 +9,13 @@ use Rattle.base.specs.Names.{Extends, Extends-then, text_stays}
 use Rattle.base.specs.Data.{Item, item, integer, character, symbol, string, vector, nil, list, Items, no_item, item_and}
 use Rattle.base.specs.DataNames.{text_same}
 use Rattle.base.specs.DataMeasures.{NamesBelow, AllNamesBelow}
-use Rattle.base.specs.GoodData.{Good}
+use Rattle.base.specs.WellFormedData.{WellFormed}
 use Rattle.front_profile.specs.declared.tables.Tables.{Tables}
-use Rattle.front_profile.specs.Nodes.{Around, Verdict}
+use Rattle.front_profile.specs.Nodes.{StaticContext, Verdict}
 use Rattle.front_profile.specs.Promises.{FormComes}
 use Rattle.front_reader.specs.bridge.LaterReads.{next_later}
-use Rattle.front_reader.specs.bridge.GoodReads.{next_good}
-use Rattle.front_scope.specs.Scopes.{Given, IsTaken, IsTooLarge, HasManyCells, IsRefusedWhole, IsStopped}
+use Rattle.front_reader.specs.bridge.WellFormedReads.{next_good}
+use Rattle.front_scope.specs.Scopes.{IsElaborated, IsTaken, IsTooLarge, HasManyCells, IsRefusedWhole, IsFormStopped}
 use Rattle.front_files.specs.declared.mode.Mode.{Mode}
 use Rattle.front_files.specs.Shown.{first_text, head_text, not_shown, is_among, stays, IsPrinting, IsForm, runs, not_last, last_stays, last_shown}
 use Rattle.front_files.specs.Verdicts.{FormTaken, FormRefused, Judgement, Judges, at_end, form_taken, form_refused, text_stops}
@@ -37,7 +37,7 @@ head_later old new (item p (vector ds)) e h = refl
 head_later old new (item p nil) e h = refl
 head_later old new (item p (list ds t)) e h = first_text_later old new ds e h.0
 
-pub stays_later : (old new : List (List ℕ)) (d : Item) → Extends old new → Good (length old) d → stays old d ≡ stays new d
+pub stays_later : (old new : List (List ℕ)) (d : Item) → Extends old new → WellFormed (length old) d → stays old d ≡ stays new d
 unfolding stays
 stays_later old new d e g = ap (λ t. is_among not_shown t) (head_later old new d e g.named)
 
@@ -50,7 +50,7 @@ printing_later old new d f e p = record {
   is = p.is;
 }
 
-pub form_later : (old new : List (List ℕ)) (mode : Mode) (d : Item) (after : List ℕ) (f : Item) → Extends old new → Good (length old) d →
+pub form_later : (old new : List (List ℕ)) (mode : Mode) (d : Item) (after : List ℕ) (f : Item) → Extends old new → WellFormed (length old) d →
     IsForm old mode d after f → IsForm new mode d after f
 form_later old new mode d after f e g (runs x y) = runs x y
 form_later old new mode d after f e g (not_last x y n) = not_last x y n
@@ -59,10 +59,10 @@ form_later old new mode d after f e g (last_shown x y z gap s p) = last_shown x 
 
 -- what it comes to
 
-comes_later : (old new : List (List ℕ)) (a : Around) (s : Tables) (d : Item) (v : Verdict) → Extends old new → FormComes old a s d v → FormComes new a s d v
+comes_later : (old new : List (List ℕ)) (a : StaticContext) (s : Tables) (d : Item) (v : Verdict) → Extends old new → FormComes old a s d v → FormComes new a s d v
 comes_later old new a s d v e c = record { under = λ later y. c.under later (Extends-then old new later e y) }
 
-given_later : (old new : List (List ℕ)) (origin : Origin) (s : Tables) (d : Item) (t : Tables) → Extends old new → Given old origin s d t → Given new origin s d t
+given_later : (old new : List (List ℕ)) (origin : Origin) (s : Tables) (d : Item) (t : Tables) → Extends old new → IsElaborated old origin s d t → IsElaborated new origin s d t
 given_later old new origin s d t e g = record { form = g.form; found = g.found; comes = comes_later old new _ s d _ e g.comes; now = g.now }
 
 taken_later : (old new : List (List ℕ)) (origin : Origin) (s : Tables) (d : Item) (t : Tables) → Extends old new → IsTaken old origin s d t → IsTaken new origin s d t
@@ -80,12 +80,12 @@ whole_later old new origin s d r e h =
     ⊎_elim (λ l. inl (large_later old new origin s d e l.0, l.1)) (λ m. inr (many_later old new origin s d e m.0, m.1)) h
 
 stopped_later : (old new : List (List ℕ)) (origin : Origin) (s : Tables) (d : Item) (r : Refusal) → Extends old new →
-    IsStopped old origin s d (Refused r) → IsStopped new origin s d (Refused r)
+    IsFormStopped old origin s d (Refused r) → IsFormStopped new origin s d (Refused r)
 stopped_later old new origin s d r e h =
     ⊎_elim (λ c. inl (comes_later old new _ s d _ e c)) (λ w. inr (whole_later old new origin s d r e w)) h
 
 pub form_taken_later : (old new : List (List ℕ)) (origin : Origin) (mode : Mode) (s : Tables) (d : Item) (after : List ℕ) (t : Tables) → Extends old new →
-    Good (length old) d → FormTaken old origin mode s d after t → FormTaken new origin mode s d after t
+    WellFormed (length old) d → FormTaken old origin mode s d after t → FormTaken new origin mode s d after t
 form_taken_later old new origin mode s d after t e g f = record {
   form = f.form;
   is_form = form_later old new mode d after f.form e g f.is_form;
@@ -93,7 +93,7 @@ form_taken_later old new origin mode s d after t e g f = record {
 }
 
 pub form_refused_later : (old new : List (List ℕ)) (origin : Origin) (mode : Mode) (s : Tables) (d : Item) (after : List ℕ) (r : Refusal) → Extends old new →
-    Good (length old) d → FormRefused old origin mode s d after r → FormRefused new origin mode s d after r
+    WellFormed (length old) d → FormRefused old origin mode s d after r → FormRefused new origin mode s d after r
 form_refused_later old new origin mode s d after r e g f = record {
   form = f.form;
   is_form = form_later old new mode d after f.form e g f.is_form;

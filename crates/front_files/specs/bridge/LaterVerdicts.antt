@@ -2,7 +2,7 @@
 use Rattle.std.specs.Prelude.{ℕ, List}
 use Rattle.base.specs.Names.{Extends}
 use Rattle.front_files.specs.declared.mode.Mode.{Mode}
-use Rattle.front_files.specs.Verdicts.{Judgement, Outcome, BehindPrelude, Verdict, source_too_long, prelude_refused, file_refused, file_accepted}
+use Rattle.front_files.specs.Verdicts.{Judgement, FileVerdict, BehindPrelude, Verdict, source_too_long, prelude_refused, file_refused, file_accepted}
 use Rattle.front_files.specs.bridge.First.{first_later}
 use Rattle.front_files.specs.bridge.Later.{judges_later}
 
@@ -13,7 +13,7 @@ prelude_later old new prelude j e b = record {
   judges = judges_later old new _ _ b.first prelude _ j e b.judges;
 }
 
-pub verdict_later : (old new : List (List ℕ)) (prelude text : List ℕ) (mode : Mode) (v : Outcome) → Extends old new → Verdict old prelude text mode v →
+pub verdict_later : (old new : List (List ℕ)) (prelude text : List ℕ) (mode : Mode) (v : FileVerdict) → Extends old new → Verdict old prelude text mode v →
     Verdict new prelude text mode v
 verdict_later old new prelude text mode v e (source_too_long l) = source_too_long l
 verdict_later old new prelude text mode v e (prelude_refused r l b) = prelude_refused r l (prelude_later old new prelude _ e b)

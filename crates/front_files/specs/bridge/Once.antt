@@ -11,25 +11,25 @@ use Rattle.base.specs.Names.{IsTable, Extends-same}
 use Rattle.base.specs.Data.{Item, place_of}
 use Rattle.lang_meaning.specs.declared.program.ProgramRows.{ProgramRows}
 use Rattle.front_profile.specs.declared.tables.Tables.{Tables}
-use Rattle.front_profile.specs.Nodes.{Around, Standing, Verdict as Come, stands, ended, refused as refused_at}
+use Rattle.front_profile.specs.Nodes.{StaticContext, Standing, Verdict as Come, stands, ended, refused as refused_at}
 use Rattle.front_profile.specs.Rows.{node}
-use Rattle.front_profile.specs.Judged.{Comes}
+use Rattle.front_profile.specs.Judged.{Elaborates}
 use Rattle.front_profile.specs.Promises.{FormComes}
 use Rattle.front_reader.specs.Characters.{place_behind}
 use Rattle.front_reader.specs.Gaps.{Gap}
 use Rattle.front_reader.specs.Reads.{ReadsNext}
 use Rattle.front_reader.specs.Stops.{Stops, StopsFirst}
-use Rattle.front_scope.specs.Scopes.{top, with_main, rows_of, nodes_of, most_nodes, cells_of, most_cells, Given, IsTaken, IsTooLarge, HasManyCells, IsRefusedWhole, IsStopped}
+use Rattle.front_scope.specs.Scopes.{top, with_main, rows_of, nodes_of, most_nodes, cells_of, most_cells, IsElaborated, IsTaken, IsTooLarge, HasManyCells, IsRefusedWhole, IsFormStopped}
 use Rattle.front_files.specs.declared.mode.Mode.{Mode}
 use Rattle.front_files.specs.declared.mode.Mode.TheVariants.{Run}
 use Rattle.front_files.specs.Shown.{printing_at, IsPrinting, IsForm, runs, not_last, last_stays, last_shown}
-use Rattle.front_files.specs.Verdicts.{JudgesText, IsOfFile, its_length, in_it, FormTaken, FormRefused, Judgement, all_taken, one_refused, behind_next, Judges, at_end, form_taken, form_refused, text_stops, Outcome, accepted, refused, BehindPrelude, Verdict, source_too_long, prelude_refused, file_refused, file_accepted}
+use Rattle.front_files.specs.Verdicts.{JudgesText, IsOfFile, its_length, in_it, FormTaken, FormRefused, Judgement, all_taken, one_refused, behind_next, Judges, at_end, form_taken, form_refused, text_stops, FileVerdict, accepted, refused, BehindPrelude, Verdict, source_too_long, prelude_refused, file_refused, file_accepted}
 use Rattle.front_files.specs.bridge.First.{one_first, same_name}
 
 -- what is known of texts and of forms
 pub record Once (names : List (List ℕ)) : Type 0 where
   pub table : IsTable names
-  pub form : (a : Around) (s : Tables) (d : Item) (v w : Come) → Comes names (node names a s d) v → Comes names (node names a s d) w → v ≡ w
+  pub form : (a : StaticContext) (s : Tables) (d : Item) (v w : Come) → Elaborates names (node names a s d) v → Elaborates names (node names a s d) w → v ≡ w
   pub next : (text : List ℕ) (p : Place) (d e : Item) (after left : List ℕ) (x : ReadsNext names text p d after) (y : ReadsNext names text p e left) →
       (d ≡ e) × (after ≡ left) × (place_behind (place_behind p x.gap) x.bytes ≡ place_behind (place_behind p y.gap) y.bytes)
   pub stop : (p : Place) (text : List ℕ) (a b : Place) (q r : Reason) → Stops p text a q → Stops p text b r → (a ≡ b) × (q ≡ r)
@@ -63,13 +63,13 @@ same_form names mode d after e f table (last_shown a b c g s p) (last_shown a2 b
 -- ---- what it comes to
 
 -- under the table itself
-now : (names : List (List ℕ)) (a : Around) (s : Tables) (d : Item) (v : Come) → FormComes names a s d v → Comes names (node names a s d) v
+now : (names : List (List ℕ)) (a : StaticContext) (s : Tables) (d : Item) (v : Come) → FormComes names a s d v → Elaborates names (node names a s d) v
 now names a s d v c = c.under names (Extends-same names)
 
 same_standing : (m k : Standing) → stands m ≡ stands k → m ≡ k
 same_standing m k e = cc
 
-same_given : (names : List (List ℕ)) (origin : Origin) (s : Tables) (d : Item) (t u : Tables) → Once names → Given names origin s d t → Given names origin s d u → t ≡ u
+same_given : (names : List (List ℕ)) (origin : Origin) (s : Tables) (d : Item) (t u : Tables) → Once names → IsElaborated names origin s d t → IsElaborated names origin s d u → t ≡ u
 same_given names origin s d t u once g h =
     let same : stands (record { form = g.form; tables = g.found }) ≡ stands (record { form = h.form; tables = h.found }) =
     once.form (top origin) s d _ _ (now names _ s d _ g.comes) (now names _ s d _ h.comes) in
@@ -80,7 +80,7 @@ same_given names origin s d t u once g h =
     let found : g.found ≡ h.found = ap (λ (m : Standing). m.tables) one in
     g.now ∙ ap (λ f. with_main origin f g.found) form ∙ ap (λ x. with_main origin h.form x) found ∙ sym h.now
 
-given_or_ended : (names : List (List ℕ)) (origin : Origin) (s : Tables) (d : Item) (t : Tables) (r : Refusal) → Once names → Given names origin s d t →
+given_or_ended : (names : List (List ℕ)) (origin : Origin) (s : Tables) (d : Item) (t : Tables) (r : Refusal) → Once names → IsElaborated names origin s d t →
     FormComes names (top origin) s d (ended (refused_at r.place r.reason)) → ⊥
 given_or_ended names origin s d t r once g c =
     let same : stands (record { form = g.form; tables = g.found }) ≡ ended (refused_at r.place r.reason) =
@@ -122,7 +122,7 @@ same_whole names origin s d q r once g h =
     g
 
 taken_or_stopped : (names : List (List ℕ)) (origin : Origin) (s : Tables) (d : Item) (t : Tables) (r : Refusal) → Once names → IsTaken names origin s d t →
-    IsStopped names origin s d (Refused r) → ⊥
+    IsFormStopped names origin s d (Refused r) → ⊥
 taken_or_stopped names origin s d t r once g h =
     ⊎_elim
     (λ c. given_or_ended names origin s d t r once g.given c)
@@ -135,15 +135,15 @@ same_refusal q r e f =
     let two : Reason → Refusal = λ x. record { place = r.place; reason = x } in
     ap one e ∙ ap two f
 
-same_ended : (names : List (List ℕ)) (a : Around) (s : Tables) (d : Item) (q r : Refusal) → Once names → FormComes names a s d (ended (refused_at q.place q.reason)) →
+same_ended : (names : List (List ℕ)) (a : StaticContext) (s : Tables) (d : Item) (q r : Refusal) → Once names → FormComes names a s d (ended (refused_at q.place q.reason)) →
     FormComes names a s d (ended (refused_at r.place r.reason)) → q ≡ r
 same_ended names a s d q r once b c =
     let same : ended (refused_at q.place q.reason) ≡ ended (refused_at r.place r.reason) =
     once.form a s d _ _ (now names a s d _ b) (now names a s d _ c) in
     same_refusal q r (cc) (cc)
 
-same_stopped : (names : List (List ℕ)) (origin : Origin) (s : Tables) (d : Item) (q r : Refusal) → Once names → IsStopped names origin s d (Refused q) →
-    IsStopped names origin s d (Refused r) → q ≡ r
+same_stopped : (names : List (List ℕ)) (origin : Origin) (s : Tables) (d : Item) (q r : Refusal) → Once names → IsFormStopped names origin s d (Refused q) →
+    IsFormStopped names origin s d (Refused r) → q ≡ r
 same_stopped names origin s d q r once g h =
     ⊎_elim
     (λ b. ⊎_elim
@@ -176,7 +176,7 @@ same_form_refusal : (names : List (List ℕ)) (origin : Origin) (mode : Mode) (s
     FormRefused names origin mode s d after q → FormRefused names origin mode s d after r → q ≡ r
 same_form_refusal names origin mode s d after q r once f g =
     let form : f.form ≡ g.form = same_form names mode d after f.form g.form once.table f.is_form g.is_form in
-    let P : Item → Type 0 = λ x. IsStopped names origin s x (Refused q) in
+    let P : Item → Type 0 = λ x. IsFormStopped names origin s x (Refused q) in
     same_stopped names origin s g.form q r once (subst P form f.refused) g.refused
 
 -- the same of equal data
@@ -247,7 +247,7 @@ same_tables t u e = cc
 same_one_refused : (q r : Refusal) → one_refused q ≡ one_refused r → q ≡ r
 same_one_refused q r e = cc
 
-pub one_verdict : (names : List (List ℕ)) (prelude text : List ℕ) (mode : Mode) (v w : Outcome) → Once names → Verdict names prelude text mode v →
+pub one_verdict : (names : List (List ℕ)) (prelude text : List ℕ) (mode : Mode) (v w : FileVerdict) → Once names → Verdict names prelude text mode v →
     Verdict names prelude text mode w → v ≡ w
 one_verdict names prelude text mode v w once (source_too_long l) (source_too_long m) = refl
 one_verdict names prelude text mode v w once (source_too_long l) (prelude_refused r m b) = absurd (omega arith)
@@ -277,7 +277,7 @@ one_verdict names prelude text mode v w once (file_accepted s x l a g) (file_acc
     (same_tables x y (same_judgement names _ mode s text _ _ _ once g (judges_there names _ mode s t text text _ _ _ tables refl refl h)))
 
 -- a prelude that is taken once is taken in front of each file
-pub of_file : (names : List (List ℕ)) (prelude text : List ℕ) (mode : Mode) (v w : Outcome) (program : ProgramRows) (r : Refusal) → Once names →
+pub of_file : (names : List (List ℕ)) (prelude text : List ℕ) (mode : Mode) (v w : FileVerdict) (program : ProgramRows) (r : Refusal) → Once names →
     Verdict names prelude [] Run v → v ≡ accepted program → Verdict names prelude text mode w → w ≡ refused r → IsOfFile names text mode r
 of_file names prelude text mode v w program r once (source_too_long l) e b f = absurd (cc)
 of_file names prelude text mode v w program r once (prelude_refused q l a) e b f = absurd (cc)

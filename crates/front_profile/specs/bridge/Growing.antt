@@ -21,20 +21,20 @@ use Rattle.lang_meaning.specs.declared.program.Procedure.{Procedure}
 use Rattle.front_profile.specs.declared.tables.Tables.{Tables}
 use Rattle.front_profile.specs.declared.tables.GlobalRow.{GlobalRow}
 use Rattle.front_profile.specs.declared.tables.DynamicRow.{DynamicRow}
-use Rattle.front_profile.specs.declared.making.Found.{Found}
-use Rattle.front_profile.specs.declared.making.One.{One}
-use Rattle.front_profile.specs.declared.making.Making.{Making}
-use Rattle.front_profile.specs.declared.making.Making.TheVariants.{OfOne, OfFunctionNamed, OfProcedure, OfAccessor, OfMethods, OfClass}
-use Rattle.front_profile.specs.declared.making.One.TheVariants.{DefineGlobal, DefineDynamic}
-use Rattle.front_profile.specs.declared.making.Accessor.{Accessor}
-use Rattle.front_profile.specs.declared.making.Head.{Head}
-use Rattle.front_profile.specs.declared.making.Taker.{Taker}
-use Rattle.front_profile.specs.declared.making.Taker.TheVariants.{New, There}
-use Rattle.front_profile.specs.declared.making.SlotFunction.{SlotFunction}
-use Rattle.front_profile.specs.declared.making.SlotFunction.TheVariants.{Initform, Method}
-use Rattle.front_profile.specs.declared.making.NewClass.{NewClass}
-use Rattle.front_profile.specs.Makings.{with_procedure, with_callee, procedure_found, accessor_procedure, with_generic, with_method_at, with_methods, finish_methods, generic_named, arguments_of, accessor_head, with_accessor_in, with_slot_function, with_slot_functions, with_new_class, finish_one, finish}
-use Rattle.front_profile.specs.Marks.{StandsFirst, HasMore, AreThere, Grows}
+use Rattle.front_profile.specs.declared.elaboration.ElaboratedPart.{ElaboratedPart}
+use Rattle.front_profile.specs.declared.elaboration.One.{One}
+use Rattle.front_profile.specs.declared.elaboration.Elaboration.{Elaboration}
+use Rattle.front_profile.specs.declared.elaboration.Elaboration.TheVariants.{OfOne, OfFunctionNamed, OfProcedure, OfAccessor, OfMethods, OfClass}
+use Rattle.front_profile.specs.declared.elaboration.One.TheVariants.{DefineGlobal, DefineDynamic}
+use Rattle.front_profile.specs.declared.elaboration.Accessor.{Accessor}
+use Rattle.front_profile.specs.declared.elaboration.MethodHead.{MethodHead}
+use Rattle.front_profile.specs.declared.elaboration.Taker.{Taker}
+use Rattle.front_profile.specs.declared.elaboration.Taker.TheVariants.{New, There}
+use Rattle.front_profile.specs.declared.elaboration.SlotFunction.{SlotFunction}
+use Rattle.front_profile.specs.declared.elaboration.SlotFunction.TheVariants.{Initform, Method}
+use Rattle.front_profile.specs.declared.elaboration.NewClass.{NewClass}
+use Rattle.front_profile.specs.Elaborations.{with_procedure, with_callee, procedure_found, accessor_procedure, with_generic, with_method_at, with_methods, finish_methods, generic_named, arguments_of, accessor_head, with_accessor_in, with_slot_function, with_slot_functions, with_new_class, finish_one, finish}
+use Rattle.front_profile.specs.Marks.{StandsFirst, HasMore, AreThere, TablesGrow}
 
 pub first_then : {X : Type 0} (xs ys zs : List X) → StandsFirst xs ys → StandsFirst ys zs → StandsFirst xs zs
 first_then [] ys zs h k = refl
@@ -70,8 +70,8 @@ there_with [] hs more a = tt
 there_with (g ∷ gs) [] more a = absurd a
 there_with (g ∷ gs) (h ∷ hs) more a = (a.0, there_with gs hs more a.1)
 
-pub grows_then : (s t u : Tables) → Grows s t → Grows t u → Grows s u
-grows_then s t u g h = record {
+pub tables_grow_transitive : (s t u : Tables) → TablesGrow s t → TablesGrow t u → TablesGrow s u
+tables_grow_transitive s t u g h = record {
   words = h.words ∙ g.words;
   classes = first_then _ _ _ g.classes h.classes;
   slots = first_then _ _ _ g.slots h.slots;
@@ -90,8 +90,8 @@ grows_then s t u g h = record {
   exits = omega (arith, g.exits, h.exits);
 }
 
-pub grows_same : (t : Tables) → Grows t t
-grows_same t = record {
+pub tables_grow_reflexive : (t : Tables) → TablesGrow t t
+tables_grow_reflexive t = record {
   words = refl;
   classes = take-length t.classes.rows;
   slots = take-length t.classes.own;
@@ -158,8 +158,8 @@ first_with xs ys None h = h
 first_with xs ys (Some more) h = grows_at_end xs ys more h
 
 -- tables that grow still do with more at the ends of their lists, and with greater numbers
-pub grows_with : (s t : Tables) (a : Added) (variables exits : ℕ) → t.variables ≤ variables → t.exits ≤ exits → Grows s t
-    → Grows s (with_added a variables exits t)
+pub grows_with : (s t : Tables) (a : Added) (variables exits : ℕ) → t.variables ≤ variables → t.exits ≤ exits → TablesGrow s t
+    → TablesGrow s (with_added a variables exits t)
 grows_with s t a variables exits v e g = record {
   words = g.words;
   classes = g.classes;
@@ -179,13 +179,13 @@ grows_with s t a variables exits v e g = record {
   exits = omega (arith, g.exits, e);
 }
 
-pub grows_by : (s t : Tables) (a : Added) → Grows s t → Grows s (with_added a t.variables t.exits t)
+pub grows_by : (s t : Tables) (a : Added) → TablesGrow s t → TablesGrow s (with_added a t.variables t.exits t)
 grows_by s t a g = grows_with s t a t.variables t.exits (omega arith) (omega arith) g
 
-with_procedure_grows : (mark s : Tables) (p : Procedure) → Grows mark s → Grows mark (with_procedure p s)
+with_procedure_grows : (mark s : Tables) (p : Procedure) → TablesGrow mark s → TablesGrow mark (with_procedure p s)
 with_procedure_grows mark s p g = grows_by mark s (record nothing_added { procedures = Some (p ∷ []) }) g
 
-with_callee_grows : (mark s : Tables) (name : Name) (c : Callee) (of_file : Bool) → Grows mark s → Grows mark (with_callee name c of_file s)
+with_callee_grows : (mark s : Tables) (name : Name) (c : Callee) (of_file : Bool) → TablesGrow mark s → TablesGrow mark (with_callee name c of_file s)
 with_callee_grows mark s name c true g =
     grows_by mark s (record nothing_added { functions = Some ((record { name = name; callee = c }) ∷ []) }) g
 with_callee_grows mark s name c false g =
@@ -193,8 +193,8 @@ with_callee_grows mark s name c false g =
 
 -- what is changed of classes and generic functions
 
-grows_in : (mark s : Tables) (h : Hierarchy) (n : ℕ) (gs : List GenericRow) → Grows mark s → StandsFirst mark.classes.rows h.rows → StandsFirst mark.classes.own h.own
-    → AreThere mark.generics gs → Grows mark (record s { classes = h; prelude_classes = n; generics = gs })
+grows_in : (mark s : Tables) (h : Hierarchy) (n : ℕ) (gs : List GenericRow) → TablesGrow mark s → StandsFirst mark.classes.rows h.rows → StandsFirst mark.classes.own h.own
+    → AreThere mark.generics gs → TablesGrow mark (record s { classes = h; prelude_classes = n; generics = gs })
 grows_in mark s h n gs g rows own there = record {
   words = g.words;
   classes = rows;
@@ -214,10 +214,10 @@ grows_in mark s h n gs g rows own there = record {
   exits = g.exits;
 }
 
-grows_generics : (mark s : Tables) (gs : List GenericRow) → Grows mark s → AreThere mark.generics gs → Grows mark (record s { generics = gs })
+grows_generics : (mark s : Tables) (gs : List GenericRow) → TablesGrow mark s → AreThere mark.generics gs → TablesGrow mark (record s { generics = gs })
 grows_generics mark s gs g there = grows_in mark s s.classes s.prelude_classes gs g g.classes g.slots there
 
-pub with_generic_grows : (mark s : Tables) (n : Name) (required : ℕ) (rest of_file : Bool) → Grows mark s → Grows mark (with_generic n required rest of_file s)
+pub with_generic_grows : (mark s : Tables) (n : Name) (required : ℕ) (rest of_file : Bool) → TablesGrow mark s → TablesGrow mark (with_generic n required rest of_file s)
 with_generic_grows mark s n required rest of_file g =
     with_callee_grows mark _ n (callee.Generic (length s.generics)) of_file
     (grows_generics mark s (s.generics ++ new_row n required rest ∷ []) g (there_with mark.generics s.generics _ g.generics))
@@ -231,29 +231,29 @@ method_there (g ∷ gs) [] i m a = absurd a
 method_there (g ∷ gs) (h ∷ hs) zero m a = (method_more g h m a.0, a.1)
 method_there (g ∷ gs) (h ∷ hs) (suc i) m a = (a.0, method_there gs hs i m a.1)
 
-pub with_method_grows : (mark s : Tables) (i : ℕ) (h : Head) (p : ℕ) → Grows mark s → Grows mark (with_method_at i h p s)
+pub with_method_grows : (mark s : Tables) (i : ℕ) (h : MethodHead) (p : ℕ) → TablesGrow mark s → TablesGrow mark (with_method_at i h p s)
 with_method_grows mark s i h p g = grows_generics mark s _ g (method_there mark.generics s.generics i _ g.generics)
 
-with_methods_grows : (mark s : Tables) (i : ℕ) (hs : List Head) (p : ℕ) → Grows mark s → Grows mark (with_methods i hs p s)
+with_methods_grows : (mark s : Tables) (i : ℕ) (hs : List MethodHead) (p : ℕ) → TablesGrow mark s → TablesGrow mark (with_methods i hs p s)
 with_methods_grows mark s i [] p g = g
 with_methods_grows mark s i (h ∷ hs) p g =
     with_methods_grows mark (with_method_at i h p s) i hs (p + 1) (with_method_grows mark s i h p g)
 
-methods_grow : (mark s : Tables) (t : Taker) (hs : List Head) (p : ℕ) (of_file : Bool) → Grows mark s → Grows mark (finish_methods t hs p of_file s)
+methods_grow : (mark s : Tables) (t : Taker) (hs : List MethodHead) (p : ℕ) (of_file : Bool) → TablesGrow mark s → TablesGrow mark (finish_methods t hs p of_file s)
 methods_grow mark s (New n required rest) hs p of_file g =
     with_methods_grows mark _ (length s.generics) hs p (with_generic_grows mark s n required rest of_file g)
 methods_grow mark s (There i) hs p of_file g = with_methods_grows mark s i hs p g
 
-accessor_grows : (mark s : Tables) (i : Option ℕ) (n : Name) (k : Accessor) (c p : ℕ) (of_file : Bool) → Grows mark s → Grows mark (with_accessor_in i n k c p of_file s)
+accessor_grows : (mark s : Tables) (i : Option ℕ) (n : Name) (k : Accessor) (c p : ℕ) (of_file : Bool) → TablesGrow mark s → TablesGrow mark (with_accessor_in i n k c p of_file s)
 accessor_grows mark s (Some i) n k c p of_file g = with_method_grows mark s i (accessor_head k c) p g
 accessor_grows mark s None n k c p of_file g =
     with_method_grows mark _ (length s.generics) (accessor_head k c) p (with_generic_grows mark s n (arguments_of k) false of_file g)
 
-pub slot_function_grows : (mark s : Tables) (x : SlotFunction) (c p : ℕ) (of_file : Bool) → Grows mark s → Grows mark (with_slot_function x c p of_file s)
+pub slot_function_grows : (mark s : Tables) (x : SlotFunction) (c p : ℕ) (of_file : Bool) → TablesGrow mark s → TablesGrow mark (with_slot_function x c p of_file s)
 slot_function_grows mark s Initform c p of_file g = g
 slot_function_grows mark s (Method n k) c p of_file g = accessor_grows mark s (generic_named s.generics n) n k c p of_file g
 
-slot_functions_grow : (mark s : Tables) (xs : List SlotFunction) (c p : ℕ) (of_file : Bool) → Grows mark s → Grows mark (with_slot_functions xs c p of_file s)
+slot_functions_grow : (mark s : Tables) (xs : List SlotFunction) (c p : ℕ) (of_file : Bool) → TablesGrow mark s → TablesGrow mark (with_slot_functions xs c p of_file s)
 slot_functions_grow mark s [] c p of_file g = g
 slot_functions_grow mark s (x ∷ xs) c p of_file g =
     slot_functions_grow mark (with_slot_function x c p of_file s) xs c (p + 1) of_file (slot_function_grows mark s x c p of_file g)
@@ -268,19 +268,19 @@ own_with : (xs : List (List SlotRow)) (h : Hierarchy) (name : Name) (supers : Li
 unfolding with_class
 own_with xs h name supers slots a e = grows_at_end xs h.own _ e
 
-pub class_grows : (mark s : Tables) (c : NewClass) (of_file : Bool) → Grows mark s → Grows mark (with_new_class c of_file s)
+pub class_grows : (mark s : Tables) (c : NewClass) (of_file : Bool) → TablesGrow mark s → TablesGrow mark (with_new_class c of_file s)
 class_grows mark s c of_file g =
     grows_in mark s (with_class s.classes c.name c.supers (given c.slots) c.abstract_class) _ s.generics g
     (rows_with mark.classes.rows s.classes c.name c.supers (given c.slots) c.abstract_class g.classes)
     (own_with mark.classes.own s.classes c.name c.supers (given c.slots) c.abstract_class g.slots) g.generics
 
-finish_one_grows : (mark s : Tables) (k : One) → Grows mark s → Grows mark (finish_one k s)
+finish_one_grows : (mark s : Tables) (k : One) → TablesGrow mark s → TablesGrow mark (finish_one k s)
 finish_one_grows mark s (DefineGlobal row) g = grows_by mark s (record nothing_added { globals = Some (row ∷ []) }) g
 finish_one_grows mark s (DefineDynamic row) g = grows_by mark s (record nothing_added { dynamics = Some (row ∷ []) }) g
 finish_one_grows mark s k g = g
 
 -- what counts once a form is made
-pub finish_grows : (mark s : Tables) (m : Making) (rs : List Found) → Grows mark s → Grows mark (finish m rs s)
+pub finish_grows : (mark s : Tables) (m : Elaboration) (rs : List ElaboratedPart) → TablesGrow mark s → TablesGrow mark (finish m rs s)
 finish_grows mark s (OfOne k) rs g = finish_one_grows mark s k g
 finish_grows mark s (OfFunctionNamed name n rest of_file l) rs g =
     with_callee_grows mark _ name (callee.Procedure (length s.procedures)) of_file

@@ -10,21 +10,21 @@ use Rattle.base.specs.Names.{Extends}
 use Rattle.base.specs.Data.{Item, item, integer, character, symbol, string, vector, nil, list, place_of}
 use Rattle.base.specs.DataNames.{symbol_text, text_of}
 use Rattle.base.specs.AllOf.{AllOf}
-use Rattle.base.specs.GoodData.{Good}
+use Rattle.base.specs.WellFormedData.{WellFormed}
 use Rattle.lang_derived.specs.Asked.{list_items, is_word, is_text}
-use Rattle.front_profile.specs.declared.making.Accessor.{Accessor}
-use Rattle.front_profile.specs.declared.making.Accessor.TheVariants.{Reads, Writes, Asks}
+use Rattle.front_profile.specs.declared.elaboration.Accessor.{Accessor}
+use Rattle.front_profile.specs.declared.elaboration.Accessor.TheVariants.{Reads, Writes, Asks}
 use Rattle.front_profile.specs.declared.tables.Tables.{Tables}
-use Rattle.front_profile.specs.Nodes.{Around, Node, unnamed, Stays}
+use Rattle.front_profile.specs.Nodes.{StaticContext, Node, unnamed, NodeStays}
 use Rattle.front_profile.specs.Shapes.{symbol_of, name_of}
 use Rattle.front_profile.specs.RowWords.{bad_shape}
-use Rattle.front_profile.specs.Makings.{arguments_of}
+use Rattle.front_profile.specs.Elaborations.{arguments_of}
 use Rattle.front_profile.specs.DefiningRows.{named, defining, is_truth, is_of_prelude}
 use Rattle.front_profile.specs.GivenNames.{GivenName, no_name, unfit, lacking, given, given_name, setter_of_text}
 use Rattle.front_profile.specs.GenericRows.{keeps, kept_by}
 use Rattle.front_profile.specs.ClassShapes.{SlotOption, wrong_option, initform_of, initarg_of, method_of, accessor_of, initarg_by, method_by, accessor_with, accessor_by, slot_option, option_and, slot_options, WrittenSlot, slot_with, name_in, slot_in_list, slot_by, slot_and, each_slot, slots_in, WrittenSuper, supers_in, ClassOption, no_option, left_out, abstract, is_nil, abstract_option, is_left_out_option, class_option, class_options, are_options}
 use Rattle.front_profile.specs.ClassRows.{Function, for_initform, for_method, functions_of_option, functions_of, all_functions, Use, use_of, uses, is_lacking, is_of_function, is_kept_name, is_taken_class, is_reserved_class, class_checked, class_of, class_shaped, defclass_row}
-use Rattle.front_profile.specs.bridge.GoodParts.{MaybeGood, good_parts}
+use Rattle.front_profile.specs.bridge.WellFormedParts.{MaybeGood, good_parts}
 use Rattle.front_profile.specs.bridge.LaterNames.{same_text, is_some_name, GivenLater, given_later, text_setter_later, GivenKept, given_kept, text_setter_kept}
 use Rattle.front_profile.specs.bridge.LaterDefinitions.{stays_if}
 
@@ -64,7 +64,7 @@ accessor_with_later : (n : Name) (x y : GivenName) → GivenLater x y → Option
 accessor_with_later n x y h =
     ⊎_elim (λ lacked. inl (ap (λ z. lacks (functions_of_option (accessor_with n z))) lacked.0)) (λ same. inr (ap (accessor_with n) same)) h
 
-accessor_later : (old new : List (List ℕ)) (d : Item) → Extends old new → Good (length old) d → MaybeLater (accessor_by old (symbol_of d)) (accessor_by new (symbol_of d))
+accessor_later : (old new : List (List ℕ)) (d : Item) → Extends old new → WellFormed (length old) d → MaybeLater (accessor_by old (symbol_of d)) (accessor_by new (symbol_of d))
 accessor_later old new (item p (symbol (Named n))) e g =
     subst (λ (t : Option (List ℕ)). OptionLater (accessor_with n (setter_of_text old (slice_get old n.0))) (accessor_with n (setter_of_text new t)))
     (same_text old new (item p (symbol (Named n))) e g)
@@ -99,14 +99,14 @@ option_by names t d =
     else if is_text (codes ":accessor") t then accessor_by names (symbol_of d)
     else Some wrong_option
 
-option_by_later : (old new : List (List ℕ)) (t : Option (List ℕ)) (d : Item) → Extends old new → Good (length old) d → MaybeLater (option_by old t d) (option_by new t d)
+option_by_later : (old new : List (List ℕ)) (t : Option (List ℕ)) (d : Item) → Extends old new → WellFormed (length old) d → MaybeLater (option_by old t d) (option_by new t d)
 option_by_later old new t d e g =
     first_later (is_text (codes ":initform") t) (is_text (codes ":initarg") t) (is_text (codes ":reader") t) (is_text (codes ":writer") t) (is_text (codes ":boundp") t) (is_text (codes ":accessor") t)
     (Some (initform_of d)) (initarg_by (symbol_of d)) (method_by Reads (given_name old d)) (method_by Writes (given_name old d)) (method_by Asks (given_name old d)) (accessor_by old (symbol_of d)) (Some wrong_option)
     (method_by Reads (given_name new d)) (method_by Writes (given_name new d)) (method_by Asks (given_name new d)) (accessor_by new (symbol_of d))
     (method_by_later Reads _ _ (given_later old new d e g)) (method_by_later Writes _ _ (given_later old new d e g)) (method_by_later Asks _ _ (given_later old new d e g)) (accessor_later old new d e g)
 
-option_later : (old new : List (List ℕ)) (o d : Item) → Extends old new → Good (length old) o → Good (length old) d → MaybeLater (slot_option old o d) (slot_option new o d)
+option_later : (old new : List (List ℕ)) (o d : Item) → Extends old new → WellFormed (length old) o → WellFormed (length old) d → MaybeLater (slot_option old o d) (slot_option new o d)
 option_later old new o d e g h =
     subst (λ (t : Option (List ℕ)). MaybeLater (slot_option old o d) (option_by new t d)) (same_text old new o e g) (option_by_later old new (text_of old o) d e h)
 
@@ -148,7 +148,7 @@ one_more_later (Some o) (Some p) (Some os) (Some ps) g h =
     ⊎_elim (λ l. inl (any_front (functions_of_option o) (functions_in os) l))
     (λ same. ⊎_elim (λ l. inl (any_behind (functions_of_option o) (functions_in os) l)) (λ sames. inr (ap (λ x. x ∷ os) same ∙ ap (λ xs. p ∷ xs) sames)) h) g
 
-options_later : (old new : List (List ℕ)) (ds : List Item) → Extends old new → AllOf (Good (length old)) ds → OptionsLater (slot_options old ds) (slot_options new ds)
+options_later : (old new : List (List ℕ)) (ds : List Item) → Extends old new → AllOf (WellFormed (length old)) ds → OptionsLater (slot_options old ds) (slot_options new ds)
 options_later old new [] e g = inr refl
 options_later old new (o ∷ []) e g = tt
 options_later old new (o ∷ d ∷ ds) e g =
@@ -180,7 +180,7 @@ slot_list_later old new p None e g = tt
 slot_list_later old new p (Some []) e g = tt
 slot_list_later old new p (Some (d ∷ ds)) e g = slot_with_later p (name_in (symbol_of d)) (slot_options old ds) (slot_options new ds) (options_later old new ds e g.1)
 
-slot_later : (old new : List (List ℕ)) (d : Item) (x : Option Symbol) → Extends old new → Good (length old) d → SlotLater (slot_by old d x) (slot_by new d x)
+slot_later : (old new : List (List ℕ)) (d : Item) (x : Option Symbol) → Extends old new → WellFormed (length old) d → SlotLater (slot_by old d x) (slot_by new d x)
 slot_later old new d None e g = slot_list_later old new (place_of d) (list_items d) e (good_parts (length old) d g)
 slot_later old new d (Some x) e g = slot_with_later (place_of d) (name_of x) (Some []) (Some []) (inr refl)
 
@@ -195,7 +195,7 @@ one_slot_later (Some x) (Some y) (Some xs) (Some ys) g h =
     ⊎_elim (λ l. inl (any_front (functions_of x) (all_functions xs) l))
     (λ same. ⊎_elim (λ l. inl (any_behind (functions_of x) (all_functions xs) l)) (λ sames. inr (ap (λ z. z ∷ xs) same ∙ ap (λ zs. y ∷ zs) sames)) h) g
 
-each_slot_later : (old new : List (List ℕ)) (ds : List Item) → Extends old new → AllOf (Good (length old)) ds → SlotsLater (each_slot old ds) (each_slot new ds)
+each_slot_later : (old new : List (List ℕ)) (ds : List Item) → Extends old new → AllOf (WellFormed (length old)) ds → SlotsLater (each_slot old ds) (each_slot new ds)
 each_slot_later old new [] e g = inr refl
 each_slot_later old new (d ∷ ds) e g =
     one_slot_later (slot_by old d (symbol_of d)) (slot_by new d (symbol_of d)) (each_slot old ds) (each_slot new ds)
@@ -241,7 +241,7 @@ accessor_with_kept old new n unfit g h = tt
 accessor_with_kept old new n lacking g h = (g, (tt, tt))
 accessor_with_kept old new n (given m) g h = (g, (h, tt))
 
-accessor_kept : (old new : List (List ℕ)) (d : Item) → Extends old new → Good (length old) d → MaybeKept old new (accessor_by old (symbol_of d))
+accessor_kept : (old new : List (List ℕ)) (d : Item) → Extends old new → WellFormed (length old) d → MaybeKept old new (accessor_by old (symbol_of d))
 accessor_kept old new (item p (symbol (Named n))) e g =
     accessor_with_kept old new n _ (same_text old new (item p (symbol (Named n))) e g) (text_setter_kept old new (slice_get old n.0) e)
 accessor_kept old new (item p (symbol (Fresh k s))) e g = tt
@@ -263,7 +263,7 @@ first_kept old new false false false false true h o1 o2 o3 o4 o5 o6 o7 g1 g2 g3 
 first_kept old new false false false false false true o1 o2 o3 o4 o5 o6 o7 g1 g2 g3 g4 g5 g6 g7 = g6
 first_kept old new false false false false false false o1 o2 o3 o4 o5 o6 o7 g1 g2 g3 g4 g5 g6 g7 = g7
 
-option_kept : (old new : List (List ℕ)) (o d : Item) → Extends old new → Good (length old) d → MaybeKept old new (slot_option old o d)
+option_kept : (old new : List (List ℕ)) (o d : Item) → Extends old new → WellFormed (length old) d → MaybeKept old new (slot_option old o d)
 option_kept old new o d e g =
     first_kept old new (is_word old (codes ":initform") o) (is_word old (codes ":initarg") o) (is_word old (codes ":reader") o) (is_word old (codes ":writer") o) (is_word old (codes ":boundp") o) (is_word old (codes ":accessor") o)
     (Some (initform_of d)) (initarg_by (symbol_of d)) (method_by Reads (given_name old d)) (method_by Writes (given_name old d)) (method_by Asks (given_name old d)) (accessor_by old (symbol_of d)) (Some wrong_option)
@@ -287,7 +287,7 @@ one_more_kept old new None os g h = tt
 one_more_kept old new (Some o) None g h = tt
 one_more_kept old new (Some o) (Some os) g h = both_kept old new (functions_of_option o) (functions_in os) g h
 
-options_kept : (old new : List (List ℕ)) (ds : List Item) → Extends old new → AllOf (Good (length old)) ds → OptionsKept old new (slot_options old ds)
+options_kept : (old new : List (List ℕ)) (ds : List Item) → Extends old new → AllOf (WellFormed (length old)) ds → OptionsKept old new (slot_options old ds)
 options_kept old new [] e g = tt
 options_kept old new (o ∷ []) e g = tt
 options_kept old new (o ∷ d ∷ ds) e g =
@@ -303,7 +303,7 @@ slot_list_kept old new p None e g = tt
 slot_list_kept old new p (Some []) e g = tt
 slot_list_kept old new p (Some (d ∷ ds)) e g = slot_with_kept old new p (name_in (symbol_of d)) (slot_options old ds) (options_kept old new ds e g.1)
 
-slot_kept : (old new : List (List ℕ)) (d : Item) (x : Option Symbol) → Extends old new → Good (length old) d → SlotKept old new (slot_by old d x)
+slot_kept : (old new : List (List ℕ)) (d : Item) (x : Option Symbol) → Extends old new → WellFormed (length old) d → SlotKept old new (slot_by old d x)
 slot_kept old new d None e g = slot_list_kept old new (place_of d) (list_items d) e (good_parts (length old) d g)
 slot_kept old new d (Some x) e g = slot_with_kept old new (place_of d) (name_of x) (Some []) tt
 
@@ -312,7 +312,7 @@ one_slot_kept old new None xs g h = tt
 one_slot_kept old new (Some x) None g h = tt
 one_slot_kept old new (Some x) (Some xs) g h = both_kept old new (functions_of x) (all_functions xs) g h
 
-each_slot_kept : (old new : List (List ℕ)) (ds : List Item) → Extends old new → AllOf (Good (length old)) ds → SlotsKept old new (each_slot old ds)
+each_slot_kept : (old new : List (List ℕ)) (ds : List Item) → Extends old new → AllOf (WellFormed (length old)) ds → SlotsKept old new (each_slot old ds)
 each_slot_kept old new [] e g = tt
 each_slot_kept old new (d ∷ ds) e g =
     one_slot_kept old new (slot_by old d (symbol_of d)) (each_slot old ds) (slot_kept old new d (symbol_of d) e g.0) (each_slot_kept old new ds e g.1)
@@ -323,11 +323,11 @@ slots_kept old new (Some ds) e g = each_slot_kept old new ds e g
 
 -- whether the language or the prelude keeps one of the names
 
-kept_name : (old new : List (List ℕ)) (a : Around) (s : Tables) (u : Use) → slice_get old u.name.0 ≡ slice_get new u.name.0 → is_kept_name old a s u ≡ is_kept_name new a s u
+kept_name : (old new : List (List ℕ)) (a : StaticContext) (s : Tables) (u : Use) → slice_get old u.name.0 ≡ slice_get new u.name.0 → is_kept_name old a s u ≡ is_kept_name new a s u
 kept_name old new a s u h =
     ap (λ (t : Option (List ℕ)). is_truth a s u.name || (a.spot.sited && (kept_by t || is_of_prelude s u.name))) h
 
-some_kept : (old new : List (List ℕ)) (a : Around) (s : Tables) (fs : List Function) → AllKept old new fs →
+some_kept : (old new : List (List ℕ)) (a : StaticContext) (s : Tables) (fs : List Function) → AllKept old new fs →
     list_any (is_kept_name old a s) (filter_map use_of fs) ≡ list_any (is_kept_name new a s) (filter_map use_of fs)
 some_kept old new a s [] h = refl
 some_kept old new a s (for_initform d ∷ fs) h = some_kept old new a s fs h.1
@@ -340,7 +340,7 @@ some_kept old new a s (for_method (given n) k ∷ fs) h =
 
 -- options of the class
 
-nothing_else : (old new : List (List ℕ)) (ds : List Item) → Extends old new → AllOf (Good (length old)) ds → abstract_option old ds ≡ abstract_option new ds
+nothing_else : (old new : List (List ℕ)) (ds : List Item) → Extends old new → AllOf (WellFormed (length old)) ds → abstract_option old ds ≡ abstract_option new ds
 nothing_else old new [] e g = refl
 nothing_else old new (d ∷ []) e g =
     ap (λ t. if is_text (codes "t") t then abstract true else if is_nil d then abstract false else no_option) (same_text old new d e g.0)
@@ -355,7 +355,7 @@ class_option_later old new (Some (h ∷ ds)) e g =
     else no_option) (same_text old new h e g.0)
     ∙ ap (λ o. if is_word new (codes ":abstractp") h then o else if is_left_out_option new h then left_out else no_option) (nothing_else old new ds e g.1)
 
-class_options_later : (old new : List (List ℕ)) (ds : List Item) → Extends old new → AllOf (Good (length old)) ds → class_options old ds ≡ class_options new ds
+class_options_later : (old new : List (List ℕ)) (ds : List Item) → Extends old new → AllOf (WellFormed (length old)) ds → class_options old ds ≡ class_options new ds
 class_options_later old new [] e g = refl
 class_options_later old new (d ∷ ds) e g =
     ap (λ o. o ∷ class_options old ds) (class_option_later old new (list_items d) e (good_parts (length old) d g.0))
@@ -363,7 +363,7 @@ class_options_later old new (d ∷ ds) e g =
 
 -- the row
 
-lacking_class : (names : List (List ℕ)) (a : Around) (s : Tables) (p : Place) (d : Item) (n : Name) (cs : List WrittenSuper) (xs : List WrittenSlot) (os : List ClassOption) →
+lacking_class : (names : List (List ℕ)) (a : StaticContext) (s : Tables) (p : Place) (d : Item) (n : Name) (cs : List WrittenSuper) (xs : List WrittenSlot) (os : List ClassOption) →
     lacks (all_functions xs) ≡ true → class_of names a s p d n cs xs os ≡ unnamed
 lacking_class names a s p d n cs xs os h =
     ap (λ (b : Bool). if b then unnamed else defining a p
@@ -371,8 +371,8 @@ lacking_class names a s p d n cs xs os h =
     (is_reserved_class a s n || list_any (is_kept_name names a s) (uses xs))
     (class_checked a s p d n cs xs os)) h
 
-class_of_later : (old new : List (List ℕ)) (a : Around) (s : Tables) (p : Place) (d : Item) (n : Name) (cs : List WrittenSuper) (xs ys : List WrittenSlot) (os : List ClassOption) →
-    (lacks (all_functions xs) ≡ true) ⊎ (xs ≡ ys) → AllKept old new (all_functions xs) → Stays (class_of old a s p d n cs xs os) (class_of new a s p d n cs ys os)
+class_of_later : (old new : List (List ℕ)) (a : StaticContext) (s : Tables) (p : Place) (d : Item) (n : Name) (cs : List WrittenSuper) (xs ys : List WrittenSlot) (os : List ClassOption) →
+    (lacks (all_functions xs) ≡ true) ⊎ (xs ≡ ys) → AllKept old new (all_functions xs) → NodeStays (class_of old a s p d n cs xs os) (class_of new a s p d n cs ys os)
 class_of_later old new a s p d n cs xs ys os h k =
     ⊎_elim (λ l. inl (lacking_class old a s p d n cs xs os l))
     (λ same. inr (ap (λ (b : Bool). if lacks (all_functions xs) then unnamed else defining a p
@@ -380,8 +380,8 @@ class_of_later old new a s p d n cs xs ys os h k =
     (some_kept old new a s (all_functions xs) k)
     ∙ ap (λ (zs : List WrittenSlot). class_of new a s p d n cs zs os) same)) h
 
-class_shaped_later : (old new : List (List ℕ)) (a : Around) (s : Tables) (p : Place) (d : Item) (n : Option Name) (cs : Option (List WrittenSuper)) (xs ys : Option (List WrittenSlot)) (os : List ClassOption) →
-    SlotsLater xs ys → SlotsKept old new xs → Stays (class_shaped old a s p d n cs xs os) (class_shaped new a s p d n cs ys os)
+class_shaped_later : (old new : List (List ℕ)) (a : StaticContext) (s : Tables) (p : Place) (d : Item) (n : Option Name) (cs : Option (List WrittenSuper)) (xs ys : Option (List WrittenSlot)) (os : List ClassOption) →
+    SlotsLater xs ys → SlotsKept old new xs → NodeStays (class_shaped old a s p d n cs xs os) (class_shaped new a s p d n cs ys os)
 class_shaped_later old new a s p d None cs xs ys os h k = inr refl
 class_shaped_later old new a s p d (Some n) None xs ys os h k = inr refl
 class_shaped_later old new a s p d (Some n) (Some cs) None None os h k = inr refl
@@ -390,13 +390,13 @@ class_shaped_later old new a s p d (Some n) (Some cs) (Some xs) None os h k = ab
 class_shaped_later old new a s p d (Some n) (Some cs) (Some xs) (Some ys) os h k =
     stays_if (are_options os) _ _ _ _ (class_of_later old new a s p d n cs xs ys os h k) (inr refl)
 
-pub defclass_later : (old new : List (List ℕ)) (a : Around) (s : Tables) (p : Place) (ds : List Item) → Extends old new → AllOf (Good (length old)) ds →
-    Stays (defclass_row old a s p ds) (defclass_row new a s p ds)
+pub defclass_later : (old new : List (List ℕ)) (a : StaticContext) (s : Tables) (p : Place) (ds : List Item) → Extends old new → AllOf (WellFormed (length old)) ds →
+    NodeStays (defclass_row old a s p ds) (defclass_row new a s p ds)
 defclass_later old new a s p [] e g = inr refl
 defclass_later old new a s p (d ∷ []) e g = inr refl
 defclass_later old new a s p (d ∷ cs ∷ []) e g = inr refl
 defclass_later old new a s p (d ∷ cs ∷ xs ∷ os) e g =
-    subst (λ (o : List ClassOption). Stays (defclass_row old a s p (d ∷ cs ∷ xs ∷ os)) (class_shaped new a s p d (named (symbol_of d)) (supers_in (list_items cs)) (slots_in new (list_items xs)) o))
+    subst (λ (o : List ClassOption). NodeStays (defclass_row old a s p (d ∷ cs ∷ xs ∷ os)) (class_shaped new a s p d (named (symbol_of d)) (supers_in (list_items cs)) (slots_in new (list_items xs)) o))
     (class_options_later old new os e g.1.1.1)
     (class_shaped_later old new a s p d (named (symbol_of d)) (supers_in (list_items cs)) (slots_in old (list_items xs)) (slots_in new (list_items xs)) (class_options old os)
     (slots_later old new (list_items xs) e (good_parts (length old) xs g.1.1.0)) (slots_kept old new (list_items xs) e (good_parts (length old) xs g.1.1.0)))

@@ -11,17 +11,17 @@ use Rattle.base.specs.Names.{Extends}
 use Rattle.base.specs.Data.{Item, item, Content, integer, character, symbol, string, vector, nil, list}
 use Rattle.base.specs.DataNames.{symbol_text, text_of, text_same}
 use Rattle.base.specs.AllOf.{AllOf}
-use Rattle.base.specs.GoodData.{Good}
+use Rattle.base.specs.WellFormedData.{WellFormed}
 use Rattle.lang_derived.specs.Asked.{list_items, is_word, is_text, setf_text}
 use Rattle.front_profile.specs.Shapes.{symbol_of}
 use Rattle.front_profile.specs.GivenNames.{GivenName, no_name, unfit, lacking, given, number_of, in_table, longest_set, setter_of_text, setter_of_symbol, setter_in, named_by, given_name}
-use Rattle.front_profile.specs.bridge.GoodParts.{MaybeGood, good_parts}
+use Rattle.front_profile.specs.bridge.WellFormedParts.{MaybeGood, good_parts}
 
 -- the name of a datum
-pub same_text : (old new : List (List ℕ)) (d : Item) → Extends old new → Good (length old) d → text_of old d ≡ text_of new d
+pub same_text : (old new : List (List ℕ)) (d : Item) → Extends old new → WellFormed (length old) d → text_of old d ≡ text_of new d
 same_text old new d e g = text_same old new e d g.named
 
-pub same_word : (old new : List (List ℕ)) (text : List ℕ) (d : Item) → Extends old new → Good (length old) d → is_word old text d ≡ is_word new text d
+pub same_word : (old new : List (List ℕ)) (text : List ℕ) (d : Item) → Extends old new → WellFormed (length old) d → is_word old text d ≡ is_word new text d
 same_word old new text d e g = ap (is_text text) (same_text old new d e g)
 
 -- the number of a text that is there stays
@@ -88,7 +88,7 @@ text_setter_later old new (Some text) e =
 setter_by_text : (old new : List (List ℕ)) (t u : Option (List ℕ)) → Extends old new → t ≡ u → GivenLater (setter_of_text old t) (setter_of_text new u)
 setter_by_text old new t u e same = subst (λ (x : Option (List ℕ)). GivenLater (setter_of_text old t) (setter_of_text new x)) same (text_setter_later old new t e)
 
-setter_later : (old new : List (List ℕ)) (d : Item) → Extends old new → Good (length old) d → GivenLater (setter_of_symbol old (symbol_of d)) (setter_of_symbol new (symbol_of d))
+setter_later : (old new : List (List ℕ)) (d : Item) → Extends old new → WellFormed (length old) d → GivenLater (setter_of_symbol old (symbol_of d)) (setter_of_symbol new (symbol_of d))
 setter_later old new (item p (symbol x)) e g = setter_by_text old new (symbol_text old x) (symbol_text new x) e (same_text old new (item p (symbol x)) e g)
 setter_later old new (item p (integer n)) e g = inr refl
 setter_later old new (item p (character c)) e g = inr refl
@@ -109,12 +109,12 @@ setter_in_later old new (Some (h ∷ d ∷ [])) e g =
     (same_word old new (codes "setf") h e g.0) (setter_later old new d e g.1.0)
 setter_in_later old new (Some (h ∷ d ∷ f ∷ ds)) e g = inr refl
 
-named_later : (old new : List (List ℕ)) (d : Item) (x : Option Symbol) → Extends old new → Good (length old) d → GivenLater (named_by old d x) (named_by new d x)
+named_later : (old new : List (List ℕ)) (d : Item) (x : Option Symbol) → Extends old new → WellFormed (length old) d → GivenLater (named_by old d x) (named_by new d x)
 named_later old new d None e g = setter_in_later old new (list_items d) e (good_parts (length old) d g)
 named_later old new d (Some (Named n)) e g = inr refl
 named_later old new d (Some (Fresh k s)) e g = inr refl
 
-pub given_later : (old new : List (List ℕ)) (d : Item) → Extends old new → Good (length old) d → GivenLater (given_name old d) (given_name new d)
+pub given_later : (old new : List (List ℕ)) (d : Item) → Extends old new → WellFormed (length old) d → GivenLater (given_name old d) (given_name new d)
 given_later old new d e g = named_later old new d (symbol_of d) e g
 
 -- a name that is given has the same text under both tables
@@ -150,7 +150,7 @@ setter_in_kept old new (Some (h ∷ d ∷ [])) e =
     kept_if old new (is_word old (codes "setf") h) _ no_name (setter_kept old new (symbol_of d) e) tt
 setter_in_kept old new (Some (h ∷ d ∷ f ∷ ds)) e = tt
 
-pub given_kept : (old new : List (List ℕ)) (d : Item) → Extends old new → Good (length old) d → GivenKept old new (given_name old d)
+pub given_kept : (old new : List (List ℕ)) (d : Item) → Extends old new → WellFormed (length old) d → GivenKept old new (given_name old d)
 given_kept old new (item p (symbol (Named n))) e g = same_text old new (item p (symbol (Named n))) e g
 given_kept old new (item p (symbol (Fresh k s))) e g = tt
 given_kept old new (item p (integer n)) e g = setter_in_kept old new None e

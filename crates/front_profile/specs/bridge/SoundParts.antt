@@ -6,16 +6,16 @@ use Rattle.base.specs.declared.reason.Reason.TheVariants.{DepthLimit}
 use Rattle.base.specs.declared.datum.Symbol.{Symbol}
 use Rattle.base.specs.Data.{Item}
 use Rattle.base.specs.AllOf.{AllOf}
-use Rattle.base.specs.GoodData.{Good}
+use Rattle.base.specs.WellFormedData.{WellFormed}
 use Rattle.lang_meaning.specs.declared.program.LiteralRow.{LiteralRow}
-use Rattle.front_profile.specs.declared.making.Leaf.{Leaf}
+use Rattle.front_profile.specs.declared.elaboration.Leaf.{Leaf}
 use Rattle.front_profile.specs.declared.spot.Spot.{Spot}
 use Rattle.front_profile.specs.declared.tables.Tables.{Tables}
-use Rattle.front_profile.specs.Nodes.{Around, Part, Node, offends}
+use Rattle.front_profile.specs.Nodes.{StaticContext, Part, Node, offends}
 use Rattle.front_profile.specs.Shapes.{Pair}
 use Rattle.front_profile.specs.RowWords.{deeper_spot, deeper_at_top_spot, alone_spot, within_depth, made_at_once, unsited, literal_node, each_form, each_below, each_inner, each_bound, each_parameter}
 use Rattle.front_profile.specs.Sound.{weight, HasBelow, AllSound, SoundNode}
-use Rattle.front_profile.specs.bridge.GoodParts.{GoodPairs}
+use Rattle.front_profile.specs.bridge.WellFormedParts.{WellFormedPairs}
 
 -- weights
 
@@ -55,42 +55,42 @@ where_true n w true p x h = h refl
 where_true n w false p x h = tt
 
 -- what is sound where it is not too deep
-pub sound_within : (n w k : ℕ) (a : Around) (p : Place) (x : Node) → (a.spot.depth + k ≤ 1000 → SoundNode n w x) → SoundNode n w (within_depth k a p x)
+pub sound_within : (n w k : ℕ) (a : StaticContext) (p : Place) (x : Node) → (a.spot.depth + k ≤ 1000 → SoundNode n w x) → SoundNode n w (within_depth k a p x)
 sound_within n w k a p x h = where_true n w (nat_le (a.spot.depth + k) 1000) p x (λ e. h (leb-true (a.spot.depth + k) 1000 e))
 
 -- nodes without parts
 
-pub sound_unsited : (n w : ℕ) (a : Around) (p : Place) (s : Tables) (l : Leaf) → SoundNode n w (unsited a p s l)
+pub sound_unsited : (n w : ℕ) (a : StaticContext) (p : Place) (s : Tables) (l : Leaf) → SoundNode n w (unsited a p s l)
 sound_unsited n w a p s l = sound_within n w 1 a p _ (λ h. tt)
 
-pub sound_literal : (n w : ℕ) (a : Around) (p : Place) (s : Tables) (row : LiteralRow) → SoundNode n w (literal_node a p s row)
+pub sound_literal : (n w : ℕ) (a : StaticContext) (p : Place) (s : Tables) (row : LiteralRow) → SoundNode n w (literal_node a p s row)
 sound_literal n w a p s row = sound_within n w 1 a p _ (λ h. tt)
 
-pub sound_at_once : (n w : ℕ) (a : Around) (p : Place) (s : Tables) (l : Leaf) → SoundNode n w (made_at_once a p s l)
+pub sound_at_once : (n w : ℕ) (a : StaticContext) (p : Place) (s : Tables) (l : Leaf) → SoundNode n w (made_at_once a p s l)
 sound_at_once n w a p s l = sound_within n w 1 a p _ (λ h. tt)
 
 -- lists of parts
 
-pub both_sound : (n w : ℕ) (o i : Around) (xs ys : List Part) → AllSound n w o i xs → AllSound n w o i ys → AllSound n w o i (xs ++ ys)
+pub both_sound : (n w : ℕ) (o i : StaticContext) (xs ys : List Part) → AllSound n w o i xs → AllSound n w o i ys → AllSound n w o i (xs ++ ys)
 both_sound n w o i [] ys g h = h
 both_sound n w o i (x ∷ xs) ys g h = (g.0, both_sound n w o i xs ys g.1 h)
 
-pub forms_sound : (n w : ℕ) (o i : Around) (ds : List Item) → weight o.spot < w → AllOf (Good n) ds → AllSound n w o i (each_form ds)
+pub forms_sound : (n w : ℕ) (o i : StaticContext) (ds : List Item) → weight o.spot < w → AllOf (WellFormed n) ds → AllSound n w o i (each_form ds)
 forms_sound n w o i [] h g = tt
 forms_sound n w o i (d ∷ ds) h g = ((g.0, h), forms_sound n w o i ds h g.1)
 
-pub below_sound : (n w : ℕ) (o i : Around) (ds : List Item) → HasBelow w o.spot → AllOf (Good n) ds → AllSound n w o i (each_below ds)
+pub below_sound : (n w : ℕ) (o i : StaticContext) (ds : List Item) → HasBelow w o.spot → AllOf (WellFormed n) ds → AllSound n w o i (each_below ds)
 below_sound n w o i [] h g = tt
 below_sound n w o i (d ∷ ds) h g = ((g.0, h), below_sound n w o i ds h g.1)
 
-pub inner_sound : (n w : ℕ) (o i : Around) (ds : List Item) → weight i.spot < w → AllOf (Good n) ds → AllSound n w o i (each_inner ds)
+pub inner_sound : (n w : ℕ) (o i : StaticContext) (ds : List Item) → weight i.spot < w → AllOf (WellFormed n) ds → AllSound n w o i (each_inner ds)
 inner_sound n w o i [] h g = tt
 inner_sound n w o i (d ∷ ds) h g = ((g.0, h), inner_sound n w o i ds h g.1)
 
-pub bound_sound : (n w : ℕ) (o i : Around) (qs : List Pair) → weight o.spot < w → GoodPairs n qs → AllSound n w o i (each_bound qs)
+pub bound_sound : (n w : ℕ) (o i : StaticContext) (qs : List Pair) → weight o.spot < w → WellFormedPairs n qs → AllSound n w o i (each_bound qs)
 bound_sound n w o i [] h g = tt
 bound_sound n w o i (q ∷ qs) h g = ((g.0, h), bound_sound n w o i qs h g.1)
 
-pub parameters_sound : (n w : ℕ) (o i : Around) (xs : List Symbol) → AllSound n w o i (each_parameter xs)
+pub parameters_sound : (n w : ℕ) (o i : StaticContext) (xs : List Symbol) → AllSound n w o i (each_parameter xs)
 parameters_sound n w o i [] = tt
 parameters_sound n w o i (x ∷ xs) = (tt, parameters_sound n w o i xs)

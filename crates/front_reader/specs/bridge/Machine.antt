@@ -22,28 +22,28 @@ use Rattle.front_reader.specs.Meanings.{atom_content, prefix_name, list_content,
 use Rattle.front_reader.specs.bridge.Lexemes.{skip, lex, atom_of}
 
 -- what is left of a text and its place, the data so far, and those that are open, the innermost first
-pub record State : Type 0 where
+pub record LexemeState : Type 0 where
   pub rest : Seq ℕ
   pub place : Place
   pub done : Seq Item
   pub pending : Seq Pending
 
 -- the text ends; it stops at a place with a reason, where so much is left; or a name has no number
-pub data Outcome : Type 0 where
-  finished : Seq Item → Outcome
-  stopped : Place → Reason → Seq ℕ → Outcome
-  unknown : Outcome
+pub data LexemesEnd : Type 0 where
+  finished : Seq Item → LexemesEnd
+  stopped : Place → Reason → Seq ℕ → LexemesEnd
+  unknown : LexemesEnd
 
-pub data Step : Type 0 where
-  next : State → Step
-  over : Outcome → Step
+pub data LexemeStep : Type 0 where
+  next : LexemeState → LexemeStep
+  over : LexemesEnd → LexemeStep
 
 -- behind n bytes more
-abbrev pub moved : ℕ → State → State
+abbrev pub moved : ℕ → LexemeState → LexemeState
 moved n s = record s { rest = drop n s.rest; place = place_behind s.place (take n s.rest) }
 
 -- a whole datum joins the innermost open one; a prefix makes a datum of it, which joins the next
-unfoldable pub put_in : Seq ℕ → Place → Seq Item → Seq Pending → Item → State
+unfoldable pub put_in : Seq ℕ → Place → Seq Item → Seq Pending → Item → LexemeState
 put_in r p done [] d = record { rest = r; place = p; done = done ++ d ∷ []; pending = [] }
 put_in r p done (AtPrefix q n ∷ os) d = put_in r p done os (prefix_item q n.0 d)
 put_in r p done (InList q ds ∷ os) d =
@@ -55,7 +55,7 @@ put_in r p done (AtDot q ds at ∷ os) d =
 put_in r p done (AtTail q ds at e ∷ os) d =
     record { rest = r; place = p; done = done; pending = AtTail q ds at e ∷ os }
 
-abbrev pub put : State → Seq Pending → Item → Step
+abbrev pub put : LexemeState → Seq Pending → Item → LexemeStep
 put s os d = next (put_in s.rest s.place s.done os d)
 
 -- the place of the dot behind whose one datum nothing more may come
@@ -75,12 +75,12 @@ pending_place (AtTail q ds at e) = q
 pending_place (AtPrefix q n) = q
 
 -- the text ends
-abbrev pub ending : Seq Item → Seq Pending → Step
+abbrev pub ending : Seq Item → Seq Pending → LexemeStep
 ending done [] = over (finished done)
 ending done (o ∷ os) = over (stopped (pending_place o) UnclosedList [])
 
 -- a `)` at place p, where r is the text from it on
-abbrev pub closing : State → Place → Seq ℕ → Seq Pending → Step
+abbrev pub closing : LexemeState → Place → Seq ℕ → Seq Pending → LexemeStep
 closing s p r [] = over (stopped p StrayClose r)
 closing s p r (AtPrefix q n ∷ os) = over (stopped p StrayClose r)
 closing s p r (InList q ds ∷ os) = put s os (item q (list_content ds))
@@ -89,7 +89,7 @@ closing s p r (AtDot q ds at ∷ os) = over (stopped at BadDot r)
 closing s p r (AtTail q ds at d ∷ os) = put s os (item q (joined ds d))
 
 -- a dot
-abbrev pub dot_step : State → Place → Seq ℕ → Seq Pending → Step
+abbrev pub dot_step : LexemeState → Place → Seq ℕ → Seq Pending → LexemeStep
 dot_step s p r [] = over (stopped p BadDot r)
 dot_step s p r (InList q [] ∷ os) = over (stopped p BadDot r)
 dot_step s p r (InList q (d ∷ ds) ∷ os) = next (record s { pending = AtDot q (d ∷ ds) p ∷ os })
@@ -99,36 +99,36 @@ dot_step s p r (InVector q ds ∷ os) = over (stopped p BadDot r)
 dot_step s p r (AtPrefix q n ∷ os) = over (stopped p BadDot r)
 
 -- an opening
-abbrev pub prefix_step : State → Place → Option ℕ → Step
+abbrev pub prefix_step : LexemeState → Place → Option ℕ → LexemeStep
 prefix_step s p None = over unknown
 prefix_step s p (Some n) = next (record s { pending = AtPrefix p (record { 0 = n }) ∷ s.pending })
 
-abbrev pub opened : (Seq ℕ → Option ℕ) → State → Place → Opening → Step
+abbrev pub opened : (Seq ℕ → Option ℕ) → LexemeState → Place → Opening → LexemeStep
 opened number s p List = next (record s { pending = InList p [] ∷ s.pending })
 opened number s p Vector = next (record s { pending = InVector p [] ∷ s.pending })
 opened number s p (Before x) = prefix_step s p (number (prefix_name x))
 
-abbrev pub unless_full : Option Place → Seq ℕ → Step → Step
+abbrev pub unless_full : Option Place → Seq ℕ → LexemeStep → LexemeStep
 unless_full None r step = step
 unless_full (Some at) r step = over (stopped at BadDot r)
 
-abbrev pub opening_step : (Seq ℕ → Option ℕ) → State → Place → Seq ℕ → Opening → Step
+abbrev pub opening_step : (Seq ℕ → Option ℕ) → LexemeState → Place → Seq ℕ → Opening → LexemeStep
 opening_step number s p r o =
     if nat_le 256 (length s.pending) then over (stopped p NestTooDeep r)
     else unless_full (full_dot s.pending) r (opened number s p o)
 
 -- an atom
-abbrev pub content_step : State → Place → Option Content → Step
+abbrev pub content_step : LexemeState → Place → Option Content → LexemeStep
 content_step s p None = over unknown
 content_step s p (Some c) = put s s.pending (item p c)
 
-abbrev pub atom_step : (Seq ℕ → Option ℕ) → State → Place → Seq ℕ → Option Atom → Step
+abbrev pub atom_step : (Seq ℕ → Option ℕ) → LexemeState → Place → Seq ℕ → Option Atom → LexemeStep
 atom_step number s p r None = over unknown
 atom_step number s p r (Some a) =
     unless_full (full_dot s.pending) r (content_step s p (atom_content number a))
 
 -- a lexeme of the bytes w at place p; s stands behind it
-abbrev pub act : (Seq ℕ → Option ℕ) → State → Place → Seq ℕ → Seq ℕ → Lexeme → Step
+abbrev pub act : (Seq ℕ → Option ℕ) → LexemeState → Place → Seq ℕ → Seq ℕ → Lexeme → LexemeStep
 act number s p r w Close = closing s p r s.pending
 act number s p r w Dot = dot_step s p r s.pending
 act number s p r w (Open o) = opening_step number s p r o
@@ -138,25 +138,25 @@ act number s p r w Token = atom_step number s p r (atom_of Token w)
 act number s p r w Bar = atom_step number s p r (atom_of Bar w)
 act number s p r w Text = atom_step number s p r (atom_of Text w)
 
-unfoldable pub by_lexed : (Seq ℕ → Option ℕ) → State → Lexed → Step
+unfoldable pub by_lexed : (Seq ℕ → Option ℕ) → LexemeState → Lexed → LexemeStep
 by_lexed number s (Fault k r) = over (stopped (place_behind s.place (take k s.rest)) r s.rest)
 by_lexed number s (Taken n x) = act number (moved n s) s.place s.rest (take n s.rest) x
 
 -- behind the gap
-unfoldable pub by_rest : (Seq ℕ → Option ℕ) → State → Seq ℕ → Step
+unfoldable pub by_rest : (Seq ℕ → Option ℕ) → LexemeState → Seq ℕ → LexemeStep
 by_rest number s [] = ending s.done s.pending
 by_rest number s (b ∷ bs) = by_lexed number s (lex (b ∷ bs))
 
-unfoldable pub by_gap : (Seq ℕ → Option ℕ) → State → Skipped → Step
+unfoldable pub by_gap : (Seq ℕ → Option ℕ) → LexemeState → Skipped → LexemeStep
 by_gap number s (OpenFrom n) =
     over (stopped (place_behind s.place (take n s.rest)) UnclosedComment (drop n s.rest))
 by_gap number s (Ends n) = by_rest number (moved n s) (drop n s.rest)
 
 -- a gap and a lexeme more
-unfoldable pub step : (Seq ℕ → Option ℕ) → State → Step
+unfoldable pub step : (Seq ℕ → Option ℕ) → LexemeState → LexemeStep
 step number s = by_gap number s (skip Between 0 0 s.rest)
 
 -- from one state to another
-pub data Steps (number : Seq ℕ → Option ℕ) : State → State → Type 0 where
-  none : (s : State) → Steps number s s
-  more : (s t u : State) → Steps number s t → step number t ≡ next u → Steps number s u
+pub data LexemeSteps (number : Seq ℕ → Option ℕ) : LexemeState → LexemeState → Type 0 where
+  none : (s : LexemeState) → LexemeSteps number s s
+  more : (s t u : LexemeState) → LexemeSteps number s t → step number t ≡ next u → LexemeSteps number s u

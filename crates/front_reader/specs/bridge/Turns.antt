@@ -14,7 +14,7 @@ use Rattle.front_reader.specs.bridge.Lexemes.{between_quotes}
 use Rattle.front_reader.specs.Meanings.{atom_content}
 use Rattle.base.specs.Names.{IsTable, Extends}
 use Rattle.front_reader.specs.declared.pending.Pending.{Pending}
-use Rattle.front_reader.specs.bridge.Machine.{State, stopped, Step, next, over, pending_place, opened}
+use Rattle.front_reader.specs.bridge.Machine.{LexemeState, stopped, LexemeStep, next, over, pending_place, opened}
 
 -- a table of names that begins with these
 pub record IsLater (names table : List (List ℕ)) : Type 0 where
@@ -22,12 +22,12 @@ pub record IsLater (names table : List (List ℕ)) : Type 0 where
   pub extends : Extends names table
 
 -- with these data open, the outermost first; or with a whole datum more, and then none is open
-abbrev pub with_open : State → Option Item → List Pending → State
+abbrev pub with_open : LexemeState → Option Item → List Pending → LexemeState
 with_open s None os = record s { pending = reverse os }
 with_open s (Some d) os = record s { done = s.done ++ d ∷ []; pending = [] }
 
 -- the state with these data open, the outermost first
-abbrev pub open_state : State → List Pending → State
+abbrev pub open_state : LexemeState → List Pending → LexemeState
 open_state s os = record s { pending = reverse os }
 
 -- a name has at most 256 bytes
@@ -54,11 +54,11 @@ innermost_of [] = None
 innermost_of (o ∷ os) = Some (pending_place o)
 
 -- the opening begins this open datum
-abbrev pub Begins : (List ℕ → Option ℕ) → Place → Opening → Pending → Type 0
-Begins number p o u = (s : State) → opened number s p o ≡ next (record s { pending = u ∷ s.pending })
+abbrev pub OpeningBegins : (List ℕ → Option ℕ) → Place → Opening → Pending → Type 0
+OpeningBegins number p o u = (s : LexemeState) → opened number s p o ≡ next (record s { pending = u ∷ s.pending })
 
 -- the step that was to be made leads to these open data and perhaps a whole datum, or stops there
-abbrev pub Turns : (State → List ℕ → Step) → Result (Option Item) Stop → List Pending → Type 0
-Turns f (Ok o) os = (s : State) (r : List ℕ) → f s r ≡ next (with_open s o os)
-Turns f (Err (Refused x)) os = (s : State) (r : List ℕ) → f s r ≡ over (stopped x.place x.reason r)
+abbrev pub Turns : (LexemeState → List ℕ → LexemeStep) → Result (Option Item) Stop → List Pending → Type 0
+Turns f (Ok o) os = (s : LexemeState) (r : List ℕ) → f s r ≡ next (with_open s o os)
+Turns f (Err (Refused x)) os = (s : LexemeState) (r : List ℕ) → f s r ≡ over (stopped x.place x.reason r)
 Turns f (Err NoMemory) os = Unit {0}

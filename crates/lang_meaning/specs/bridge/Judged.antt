@@ -3,7 +3,7 @@ use Rattle.std.specs.Prelude.{◌≡◌, Bool, true, false, not, ◌&&◌, ◌||
 use Rattle.std.specs.List.{list_all, list_any}
 use Rattle.std.proofs.Common.{◌∙◌, ap}
 use Rattle.std.proofs.lemmas.List.Folds.{list_all-append, list_all-map}
-use Rattle.lang_meaning.specs.declared.part.Part.{Part}
+use Rattle.lang_meaning.specs.declared.capture.Capture.{Capture}
 use Rattle.lang_meaning.specs.declared.program.ProgramRows.{ProgramRows}
 use Rattle.lang_meaning.specs.declared.scope.LexicalScope.{LexicalScope}
 use Rattle.lang_meaning.specs.Form.{Form}
@@ -49,7 +49,7 @@ pub fits_folded : (rows : ProgramRows) (f : Form)
     → fits rows f ≡ (fits_itself rows f && list_all (fits rows) (outer f) && list_all (fits rows) (inner f))
 fits_folded rows f = all_inside (fits_itself rows) f
 
-pub mentions_folded : (p : Part) (f : Form)
+pub mentions_folded : (p : Capture) (f : Form)
     → mentions p f ≡ (names_part p f || list_any (mentions p) (outer f) || (not (binds p f) && list_any (mentions p) (inner f)))
 mentions_folded p f =
     folded (mentions_step p) f

@@ -7,34 +7,34 @@ use Rattle.lang_meaning.specs.model.ShapeCode.{primitive_number, primitive_at, p
 use Rattle.lang_meaning.specs.Form.{Form, literal, local, set_local, global, set_global, def_global, clauses, sequence, let_form, lambda, call, call_value, apply, prim, while_form, block, return_from, tagbody, go, catch_form, throw, unwind, dynamic_let, dynamic, set_dynamic, def_dynamic, with_handler, signal_form, continue_form, next_method, has_next, sited}
 use Rattle.lang_meaning.specs.Form.{Forms, no_form, form_and, ClauseForms, no_clause, clause_and, MaybeForm, no_body, with_body}
 use Rattle.lang_meaning.specs.Form.{BindingForms, no_binding, binding_and, DynamicForms, no_dynamic, dynamic_and}
-use Rattle.lang_meaning.specs.declared.part.Part.{Part}
-use Rattle.lang_meaning.specs.declared.part.Part.TheVariants.{Variable, Exit, Method}
+use Rattle.lang_meaning.specs.declared.capture.Capture.{Capture}
+use Rattle.lang_meaning.specs.declared.capture.Capture.TheVariants.{Variable, Exit, Method}
 
 -- captured parts, and a rest variable
-abbrev part_tree : Part → Tree
+abbrev part_tree : Capture → Tree
 part_tree (Variable v) = above_one 0 (leaf v)
 part_tree (Exit x) = above_one 1 (leaf x)
 part_tree Method = leaf 2
 
-abbrev part_of : Tree → Part
+abbrev part_of : Tree → Capture
 part_of (node zero (tree_and (node v us) ts)) = Variable v
 part_of (node (suc n) (tree_and (node x us) ts)) = Exit x
 part_of (node n no_tree) = Method
 
-part_back : (p : Part) → part_of (part_tree p) ≡ p
+part_back : (p : Capture) → part_of (part_tree p) ≡ p
 part_back (Variable v) = refl
 part_back (Exit x) = refl
 part_back Method = refl
 
-abbrev parts_trees : List Part → Trees
+abbrev parts_trees : List Capture → Trees
 parts_trees [] = no_tree
 parts_trees (p ∷ ps) = tree_and (part_tree p) (parts_trees ps)
 
-abbrev parts_of : Trees → List Part
+abbrev parts_of : Trees → List Capture
 parts_of no_tree = []
 parts_of (tree_and t ts) = part_of t ∷ parts_of ts
 
-parts_back : (ps : List Part) → parts_of (parts_trees ps) ≡ ps
+parts_back : (ps : List Capture) → parts_of (parts_trees ps) ≡ ps
 parts_back [] = refl
 parts_back (p ∷ ps) = cc (part_back p, parts_back ps)
 

@@ -4,10 +4,10 @@ ghost use Rattle.std.specs.Prelude.{◌≡◌, IfOk};
 ghost use Rattle.lang_meaning.specs.model.View.{view_form, maybe_form};
 ghost use Rattle.lang_meaning.specs.Kinds.{IsOfOne, IsOfTwo, IsOfList, IsOfBody};
 
+use crate::capture::CaptureList;
 use crate::core_form::{
     Binding, BindingList, Clause, ClauseList, Core, CoreForm, CoreList, DynBinding, DynBindings,
 };
-use crate::part::PartList;
 use crate::program::VarList;
 use base::NoMemory;
 use std::alloc::Global;
@@ -274,10 +274,10 @@ fn variables_copy(alloc: Global, list: &VarList) -> Result<VarList, NoMemory>
     Ok(copied)
 }
 
-fn parts_copy(alloc: Global, list: &PartList) -> Result<PartList, NoMemory>
+fn parts_copy(alloc: Global, list: &CaptureList) -> Result<CaptureList, NoMemory>
     ensures { IfOk result (λ copy. copy ≡ list.now) }
 {
-    let mut copied = PartList::new(alloc);
+    let mut copied = CaptureList::new(alloc);
     for part in list.as_slice() {
         copied.push(*part)?;
     }

@@ -6,7 +6,7 @@ use Rattle.mid_code.specs.MidCode.{MidStep, step_size, code_size, code_of}
 use Rattle.mid_code.specs.model.View.{view_step}
 use Rattle.mid_code.specs.declared.code.StepKind.{StepKind}
 use Rattle.mid_code.specs.declared.code.StepKind.TheVariants.{Do, Choose, Repeat, WithBlock, Return, Cut, Halt, Unhandled}
-use Rattle.mid_code.specs.declared.code.Step.TheDeep.{deep-StepKind}
+use Rattle.mid_code.specs.declared.code.CodeStep.TheDeep.{deep-StepKind}
 
 code_falls : (ss : List MidStep) → most (λ s. step_size s + 1) ss ≤ code_size (code_of ss)
 code_falls [] = omega arith

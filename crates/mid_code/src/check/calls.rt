@@ -4,7 +4,7 @@ ghost use Rattle.std.specs.Prelude.{◌≡◌, length, slice_get};
 ghost use Rattle.mid_code.specs.MidCode.{code_of};
 ghost use Rattle.mid_code.specs.Checked.{takes, call_fits, operation_calls, step_calls, code_calls};
 
-use crate::code::{Code, Step, StepKind};
+use crate::code::{Code, CodeStep, StepKind};
 use crate::operation::{Callee, Operation};
 use crate::program::ProcedureList;
 
@@ -23,7 +23,7 @@ pub fn code_calls(procedures: &ProcedureList, code: &Code) -> bool
 }
 
 #[cycle(calls)]
-fn step_calls(procedures: &ProcedureList, step: &Step) -> bool
+fn step_calls(procedures: &ProcedureList, step: &CodeStep) -> bool
     ensures { result ≡ step_calls procedures.now step.now }
 {
     match &step.kind {

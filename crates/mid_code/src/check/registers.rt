@@ -5,7 +5,7 @@ ghost use Rattle.std.specs.List.{list_all};
 ghost use Rattle.mid_code.specs.MidCode.{code_of};
 ghost use Rattle.mid_code.specs.Checked.{is_register, is_constant, is_block_size, is_offset, callee_fits, operation_fits, test_fits, step_fits, code_fits};
 
-use crate::code::{Code, Step, StepKind};
+use crate::code::{Code, CodeStep, StepKind};
 use crate::operation::{Callee, Operation, Register, RegisterList, Test};
 
 /// Whether code fits so many registers.
@@ -23,7 +23,7 @@ pub fn code_fits(count: usize, code: &Code) -> bool
 }
 
 #[cycle(fits)]
-fn step_fits(count: usize, step: &Step) -> bool
+fn step_fits(count: usize, step: &CodeStep) -> bool
     ensures { result ≡ step_fits count step.now }
 {
     match &step.kind {

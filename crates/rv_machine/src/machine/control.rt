@@ -2,7 +2,7 @@
 
 ghost use Rattle.std.specs.Prelude.{◌≡◌, ◌+◌, ◌<◌, min};
 ghost use Rattle.rv_machine.specs.State.{put as put_of, register};
-ghost use Rattle.rv_machine.specs.Step.{Does, behind, go_to as go_to_of, gives as gives_of, branch as branch_of, link as link_of, call as call_of};
+ghost use Rattle.rv_machine.specs.Step.{ResultIs, behind, go_to as go_to_of, gives as gives_of, branch as branch_of, link as link_of, call as call_of};
 
 use super::Machine;
 use crate::ending::{StepEnd, TrapKind};
@@ -19,7 +19,7 @@ impl Machine {
 
     // A result in a register, and on with the next instruction.
     pub(crate) fn gives(&mut self, rd: Register, value: u32) -> StepEnd
-        ensures { Does (gives_of rd value self.old.state) self.old result self.new }
+        ensures { ResultIs (gives_of rd value self.old.state) self.old result self.new }
     {
         self.put(rd.value(), value);
         self.go_behind();
@@ -27,7 +27,7 @@ impl Machine {
     }
 
     pub(crate) fn branch(&mut self, taken: bool, offset: Offset13) -> StepEnd
-        ensures { Does (branch_of taken offset self.old.state) self.old result self.new }
+        ensures { ResultIs (branch_of taken offset self.old.state) self.old result self.new }
     {
         if taken {
             let target = self.pc().wrapping_add(extended13(offset));
@@ -40,7 +40,7 @@ impl Machine {
 
     // The address of the next instruction in a register, and on at the target.
     pub(crate) fn link(&mut self, rd: Register, target: u32) -> StepEnd
-        ensures { Does (link_of rd target self.old.state) self.old result self.new }
+        ensures { ResultIs (link_of rd target self.old.state) self.old result self.new }
     {
         let next = self.pc().wrapping_add(4);
         self.put(rd.value(), next);
@@ -51,7 +51,7 @@ impl Machine {
     // An environment call is left to the caller of `step`.
     pub(crate) fn call(&self) -> StepEnd
         ensures { let which = register self.now.state 17 in
-            Does (call_of which self.now.state) self.now result self.now }
+            ResultIs (call_of which self.now.state) self.now result self.now }
     {
         let which = self.register(17);
         if which < 5 {

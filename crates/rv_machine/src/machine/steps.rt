@@ -1,7 +1,7 @@
 // One step: the word at the program counter, its instruction, and what that does.
 
 ghost use Rattle.std.specs.Prelude.{◌≡◌, ℕ, ◌<◌};
-ghost use Rattle.rv_machine.specs.Step.{Does, Result as AnyResult, Step, Steps, execute as execute_of};
+ghost use Rattle.rv_machine.specs.Step.{ResultIs, Result as AnyResult, Step, Steps, execute as execute_of};
 ghost use Rattle.rv_machine.specs.Effects.{result_of as effect_result};
 
 use super::Machine;
@@ -18,7 +18,7 @@ impl Machine {
     pub fn step(&mut self) -> StepEnd
         ensures exact { Steps self.old result self.new }
         ensures call { (which : ℕ) → result ≡ StepEnd.Call which → which < 5 }
-        ensures row { (r : AnyResult) × Step self.old.state r × Does r self.old result self.new }
+        ensures row { (r : AnyResult) × Step self.old.state r × ResultIs r self.old result self.new }
     {
         let Some(word) = word_at(self.arena(), self.pc()) else {
             return StepEnd::Trap(TrapKind::FetchAddress, self.pc());
@@ -31,7 +31,7 @@ impl Machine {
 
     // One row an instruction.
     fn execute(&mut self, instruction: Instr) -> StepEnd
-        ensures { Does (execute_of instruction self.old.state) self.old result self.new }
+        ensures { ResultIs (execute_of instruction self.old.state) self.old result self.new }
     {
         let effect = self.effect_of(instruction);
         self.take_effect(effect)
@@ -39,7 +39,7 @@ impl Machine {
 
     // Carries out what an instruction does.
     fn take_effect(&mut self, effect: Effect) -> StepEnd
-        ensures { Does (effect_result effect self.old.state) self.old result self.new }
+        ensures { ResultIs (effect_result effect self.old.state) self.old result self.new }
     {
         match effect {
             Effect::Gives { rd, value } => self.gives(rd, value),

@@ -2,7 +2,7 @@
 
 ghost use Rattle.std.specs.Prelude.{option_map};
 ghost use Rattle.rv_machine.specs.Memory.{number_at, stored_at};
-ghost use Rattle.rv_machine.specs.Step.{Does, load as load_of, store as store_of};
+ghost use Rattle.rv_machine.specs.Step.{ResultIs, load as load_of, store as store_of};
 
 use super::Machine;
 use super::memory::{store_byte, store_half, store_word};
@@ -12,7 +12,7 @@ use rv_encode::Register;
 impl Machine {
     // What a load found in a register, and on; a trap where it found nothing.
     pub(crate) fn load_found(&mut self, rd: Register, found: Option<u32>) -> StepEnd
-        ensures { Does (load_of rd found self.old.state) self.old result self.new }
+        ensures { ResultIs (load_of rd found self.old.state) self.old result self.new }
     {
         match found {
             Some(value) => self.gives(rd, value),
@@ -22,7 +22,7 @@ impl Machine {
 
     pub(crate) fn store_word(&mut self, address: u32, value: u32) -> StepEnd
         ensures { let memory = stored_at 4 address value self.old.state.memory in
-            Does (store_of memory self.old.state) self.old result self.new }
+            ResultIs (store_of memory self.old.state) self.old result self.new }
     {
         if store_word(&mut self.arena[..], address, value) {
             self.go_behind();
@@ -34,7 +34,7 @@ impl Machine {
 
     pub(crate) fn store_half(&mut self, address: u32, value: u32) -> StepEnd
         ensures { let memory = stored_at 2 address value self.old.state.memory in
-            Does (store_of memory self.old.state) self.old result self.new }
+            ResultIs (store_of memory self.old.state) self.old result self.new }
     {
         if store_half(&mut self.arena[..], address, value) {
             self.go_behind();
@@ -46,7 +46,7 @@ impl Machine {
 
     pub(crate) fn store_byte(&mut self, address: u32, value: u32) -> StepEnd
         ensures { let memory = stored_at 1 address value self.old.state.memory in
-            Does (store_of memory self.old.state) self.old result self.new }
+            ResultIs (store_of memory self.old.state) self.old result self.new }
     {
         if store_byte(&mut self.arena[..], address, value) {
             self.go_behind();

@@ -7,11 +7,11 @@ use crate::slots::slot_row;
 use base::{Datum, Name, Names, Place};
 use lang_classes::{Classes, SlotSpec, SlotSpecs};
 use lang_meaning::{ClassId, ClassIds};
-use test_rows::Answer;
+use test_rows::RowAnswer;
 
 /// Puts a definition: a name, superclasses and slots.
 pub fn define(
-    got: &mut Answer,
+    got: &mut RowAnswer,
     names: &Names,
     classes: &mut Classes,
     place: Place,
@@ -43,7 +43,7 @@ pub fn define(
 
 // Puts a definition of a class that there is not yet. The answer is why it is refused, if it is.
 fn put_new(
-    got: &mut Answer,
+    got: &mut RowAnswer,
     classes: &mut Classes,
     class: Name,
     place: Place,
@@ -69,7 +69,7 @@ pub fn are_below(classes: &[ClassId], count: usize) -> bool
 }
 
 /// The classes of these names.
-pub fn class_list(got: &mut Answer, classes: &Classes, data: &[Datum]) -> Option<ClassIds> {
+pub fn class_list(got: &mut RowAnswer, classes: &Classes, data: &[Datum]) -> Option<ClassIds> {
     let mut list = ClassIds::new(got.alloc);
     for datum in data {
         let class = classes.find(name(datum)?)?;
@@ -79,7 +79,7 @@ pub fn class_list(got: &mut Answer, classes: &Classes, data: &[Datum]) -> Option
 }
 
 // What a definition says of its slots: a name each, or a name with its options.
-fn slot_specs(got: &mut Answer, names: &Names, data: &[Datum]) -> Option<SlotSpecs> {
+fn slot_specs(got: &mut RowAnswer, names: &Names, data: &[Datum]) -> Option<SlotSpecs> {
     let mut slots = SlotSpecs::new(got.alloc);
     for datum in data {
         let slot = slot_row(got, names, datum)?;

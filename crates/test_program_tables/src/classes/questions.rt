@@ -7,11 +7,11 @@ use crate::inputs::{name, text};
 use base::{Datum, Names};
 use lang_classes::Classes;
 use lang_meaning::{ClassId, SlotRow};
-use test_rows::Answer;
+use test_rows::RowAnswer;
 
 /// Puts a question.
 pub fn ask(
-    got: &mut Answer,
+    got: &mut RowAnswer,
     names: &Names,
     classes: &Classes,
     question: &str,
@@ -38,14 +38,14 @@ pub fn ask(
 }
 
 // Whether the classes of these names may be the superclasses of one class.
-fn push_fit(got: &mut Answer, classes: &Classes, supers: &[Datum]) -> Option<()> {
+fn push_fit(got: &mut RowAnswer, classes: &Classes, supers: &[Datum]) -> Option<()> {
     let supers = class_list(got, classes, supers)?;
     let answered = push_fit_of(got, classes, supers.as_slice());
     drop(supers);
     answered
 }
 
-fn push_fit_of(got: &mut Answer, classes: &Classes, supers: &[ClassId]) -> Option<()> {
+fn push_fit_of(got: &mut RowAnswer, classes: &Classes, supers: &[ClassId]) -> Option<()> {
     if !are_below(supers, classes.rows().len()) {
         return None;
     }
@@ -55,7 +55,7 @@ fn push_fit_of(got: &mut Answer, classes: &Classes, supers: &[ClassId]) -> Optio
 
 // A question on one class.
 fn ask_one(
-    got: &mut Answer,
+    got: &mut RowAnswer,
     names: &Names,
     classes: &Classes,
     question: &str,
@@ -77,7 +77,7 @@ fn ask_one(
 
 // A question on a class and another one, or a slot.
 fn ask_two(
-    got: &mut Answer,
+    got: &mut RowAnswer,
     classes: &Classes,
     question: &str,
     class: ClassId,
@@ -98,7 +98,7 @@ fn ask_two(
 
 // The names of classes, as a list.
 fn push_classes(
-    got: &mut Answer,
+    got: &mut RowAnswer,
     names: &Names,
     classes: &Classes,
     list: &[ClassId],
@@ -115,7 +115,7 @@ fn push_classes(
 }
 
 // Slots as a list, each with its initargs and its initform.
-fn push_slots(got: &mut Answer, names: &Names, slots: &[SlotRow]) -> Option<()> {
+fn push_slots(got: &mut RowAnswer, names: &Names, slots: &[SlotRow]) -> Option<()> {
     got.push("(");
     let mut before = "";
     for slot in slots {
@@ -127,7 +127,7 @@ fn push_slots(got: &mut Answer, names: &Names, slots: &[SlotRow]) -> Option<()> 
     Some(())
 }
 
-fn put_slot(got: &mut Answer, names: &Names, slot: &SlotRow) -> Option<()> {
+fn put_slot(got: &mut RowAnswer, names: &Names, slot: &SlotRow) -> Option<()> {
     let is_plain = slot.initargs.len() == 0 && slot.initform.is_none();
     got.put(if is_plain { "" } else { "(" });
     got.put(text(names, slot.name)?);

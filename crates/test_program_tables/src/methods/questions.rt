@@ -1,17 +1,22 @@
 // What is asked of classes and generic functions.
 
 use crate::inputs::{id, ids, items};
-use crate::methods::setting::Setting;
+use crate::methods::setting::MethodRows;
 use base::{Datum, ItemList};
 use lang_dispatch::{
     Chain, applies, argument_groups, chain_length, generic_cells, is_below, tables, tuple_at,
     tuple_count,
 };
 use lang_meaning::{ClassIds, GenericRow};
-use test_rows::Answer;
+use test_rows::RowAnswer;
 
 /// Puts a question.
-pub fn ask(got: &mut Answer, setting: &Setting, question: &str, parts: &[Datum]) -> Option<()> {
+pub fn ask(
+    got: &mut RowAnswer,
+    setting: &MethodRows,
+    question: &str,
+    parts: &[Datum],
+) -> Option<()> {
     match (question, parts) {
         ("cells", []) => push_cells(got, setting),
         ("below", [class, above]) => push_below(got, setting, class, above),
@@ -26,18 +31,28 @@ pub fn ask(got: &mut Answer, setting: &Setting, question: &str, parts: &[Datum])
     }
 }
 
-fn push_cells(got: &mut Answer, setting: &Setting) -> Option<()> {
+fn push_cells(got: &mut RowAnswer, setting: &MethodRows) -> Option<()> {
     let cells = got.kept(setting.generics.cells(got.alloc, &setting.classes))?;
     got.push(cells);
     Some(())
 }
 
-fn push_below(got: &mut Answer, setting: &Setting, class: &Datum, above: &Datum) -> Option<()> {
+fn push_below(
+    got: &mut RowAnswer,
+    setting: &MethodRows,
+    class: &Datum,
+    above: &Datum,
+) -> Option<()> {
     got.push_yes_no(is_below(&setting.classes, id(class)?, id(above)?));
     Some(())
 }
 
-fn push_applies(got: &mut Answer, setting: &Setting, tuple: &Datum, method: &Datum) -> Option<()> {
+fn push_applies(
+    got: &mut RowAnswer,
+    setting: &MethodRows,
+    tuple: &Datum,
+    method: &Datum,
+) -> Option<()> {
     let method = items(method)?;
     let tuple = ids(got, items(tuple)?)?;
     let Some(method) = ids(got, method) else {
@@ -49,7 +64,7 @@ fn push_applies(got: &mut Answer, setting: &Setting, tuple: &Datum, method: &Dat
     Some(())
 }
 
-fn push_tuples(got: &mut Answer, parts: &[Datum]) -> Option<()> {
+fn push_tuples(got: &mut RowAnswer, parts: &[Datum]) -> Option<()> {
     let mut lists = ItemList::new(got.alloc);
     let answered = match add_lists(got, &mut lists, parts) {
         Some(()) => push_tuples_of(got, &lists),
@@ -59,7 +74,7 @@ fn push_tuples(got: &mut Answer, parts: &[Datum]) -> Option<()> {
     answered
 }
 
-fn add_lists(got: &mut Answer, lists: &mut ItemList<ClassIds>, parts: &[Datum]) -> Option<()> {
+fn add_lists(got: &mut RowAnswer, lists: &mut ItemList<ClassIds>, parts: &[Datum]) -> Option<()> {
     for part in parts {
         let list = ids(got, items(part)?)?;
         got.add(lists, list);
@@ -68,7 +83,7 @@ fn add_lists(got: &mut Answer, lists: &mut ItemList<ClassIds>, parts: &[Datum]) 
 }
 
 // How many tuples these lists have, and each tuple.
-fn push_tuples_of(got: &mut Answer, lists: &ItemList<ClassIds>) -> Option<()> {
+fn push_tuples_of(got: &mut RowAnswer, lists: &ItemList<ClassIds>) -> Option<()> {
     let count = tuple_count(lists);
     got.push(count);
     if count > 1000 {
@@ -84,8 +99,8 @@ fn push_tuples_of(got: &mut Answer, lists: &ItemList<ClassIds>) -> Option<()> {
 
 // A question on the generic function of a name, with numbers behind it.
 fn ask_generic(
-    got: &mut Answer,
-    setting: &Setting,
+    got: &mut RowAnswer,
+    setting: &MethodRows,
     question: &str,
     function: &Datum,
     numbers: &[Datum],
@@ -105,20 +120,20 @@ fn ask_generic(
     answered
 }
 
-fn push_count(got: &mut Answer, row: &GenericRow) -> Option<()> {
+fn push_count(got: &mut RowAnswer, row: &GenericRow) -> Option<()> {
     got.push(row.methods.len());
     Some(())
 }
 
-fn push_cells_of(got: &mut Answer, setting: &Setting, row: &GenericRow) -> Option<()> {
+fn push_cells_of(got: &mut RowAnswer, setting: &MethodRows, row: &GenericRow) -> Option<()> {
     let cells = got.kept(generic_cells(got.alloc, row, &setting.classes))?;
     got.push(cells);
     Some(())
 }
 
 fn push_length(
-    got: &mut Answer,
-    setting: &Setting,
+    got: &mut RowAnswer,
+    setting: &MethodRows,
     row: &GenericRow,
     classes: &ClassIds,
 ) -> Option<()> {
@@ -129,8 +144,8 @@ fn push_length(
 // The first class of each group at an argument, the group of each class, and whether the argument
 // is specialised.
 fn push_groups(
-    got: &mut Answer,
-    setting: &Setting,
+    got: &mut RowAnswer,
+    setting: &MethodRows,
     row: &GenericRow,
     numbers: &[usize],
 ) -> Option<()> {
@@ -147,8 +162,8 @@ fn push_groups(
 
 // The chain of a call, by the tables of all generic functions.
 fn push_chain(
-    got: &mut Answer,
-    setting: &Setting,
+    got: &mut RowAnswer,
+    setting: &MethodRows,
     generic: usize,
     classes: &[usize],
 ) -> Option<()> {
@@ -161,7 +176,7 @@ fn push_chain(
     Some(())
 }
 
-fn push_found(got: &mut Answer, chain: Option<&Chain>) {
+fn push_found(got: &mut RowAnswer, chain: Option<&Chain>) {
     match chain {
         Some(chain) => push_methods(got, chain),
         None => got.push("none"),
@@ -169,7 +184,7 @@ fn push_found(got: &mut Answer, chain: Option<&Chain>) {
 }
 
 // The around, before, primary and after methods.
-fn push_methods(got: &mut Answer, chain: &Chain) {
+fn push_methods(got: &mut RowAnswer, chain: &Chain) {
     got.push("(");
     got.put_list(chain.around.as_slice());
     got.put(" ");
@@ -182,7 +197,7 @@ fn push_methods(got: &mut Answer, chain: &Chain) {
 }
 
 // A list of numbers more.
-fn push_list(got: &mut Answer, numbers: &[usize]) {
+fn push_list(got: &mut RowAnswer, numbers: &[usize]) {
     got.begin();
     got.put_list(numbers);
 }

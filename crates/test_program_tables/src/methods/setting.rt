@@ -6,26 +6,26 @@ use base::{Datum, Name, Names};
 use lang_dispatch::Generics;
 use lang_meaning::{ClassIds, ClassRow, ClassRows, GenericId, SlotRows};
 use std::alloc::Global;
-use test_rows::Answer;
+use test_rows::RowAnswer;
 
 /// Classes by their precedence lists, and generic functions.
 #[derive(Drop)]
-pub struct Setting {
+pub struct MethodRows {
     pub classes: ClassRows,
     pub generics: Generics,
 }
 
-impl Setting {
+impl MethodRows {
     /// No class and no generic function.
-    pub fn nothing(alloc: Global) -> Setting {
-        Setting {
+    pub fn nothing(alloc: Global) -> MethodRows {
+        MethodRows {
             classes: ClassRows::new(alloc),
             generics: Generics::new(alloc),
         }
     }
 
     /// One class for each precedence list.
-    pub fn take_classes(&mut self, got: &mut Answer, lists: &[Datum]) -> Option<()> {
+    pub fn take_classes(&mut self, got: &mut RowAnswer, lists: &[Datum]) -> Option<()> {
         for list in lists {
             let precedence = ids(got, items(list)?)?;
             self.push_class(got, precedence);
@@ -34,7 +34,7 @@ impl Setting {
     }
 
     /// `<object>`, and so many classes right below it that they are as many as is said.
-    pub fn take_flat(&mut self, got: &mut Answer, parts: &[Datum]) -> Option<()> {
+    pub fn take_flat(&mut self, got: &mut RowAnswer, parts: &[Datum]) -> Option<()> {
         let [count] = parts else {
             return None;
         };
@@ -49,7 +49,7 @@ impl Setting {
         Some(())
     }
 
-    fn push_class(&mut self, got: &mut Answer, precedence: ClassIds) {
+    fn push_class(&mut self, got: &mut RowAnswer, precedence: ClassIds) {
         let row = ClassRow {
             name: Name(self.classes.len()),
             precedence,
@@ -60,7 +60,7 @@ impl Setting {
     }
 
     /// A new generic function: a name, its required arguments, and `rest` where it takes more.
-    pub fn define(&mut self, got: &mut Answer, names: &Names, parts: &[Datum]) -> Option<()> {
+    pub fn define(&mut self, got: &mut RowAnswer, names: &Names, parts: &[Datum]) -> Option<()> {
         let (parts, rest) = without_rest(names, parts);
         let [function, required] = parts else {
             return None;
@@ -75,7 +75,7 @@ impl Setting {
     }
 
     /// Adds methods to the generic function of a name.
-    pub fn add(&mut self, got: &mut Answer, names: &Names, parts: &[Datum]) -> Option<()> {
+    pub fn add(&mut self, got: &mut RowAnswer, names: &Names, parts: &[Datum]) -> Option<()> {
         let [function, methods @ ..] = parts else {
             return None;
         };
@@ -88,7 +88,7 @@ impl Setting {
 
     fn add_one(
         &mut self,
-        got: &mut Answer,
+        got: &mut RowAnswer,
         names: &Names,
         generic: GenericId,
         datum: &Datum,

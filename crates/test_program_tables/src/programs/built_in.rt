@@ -6,10 +6,10 @@ use lang_meaning::{
     ClassRow, ClassRows, CoreList, FunctionRows, GenericRows, LiteralRows, ProcedureList,
     ProgramRows, SlotRow, SlotRows,
 };
-use test_rows::Answer;
+use test_rows::RowAnswer;
 
 /// The rows of that program, with the names of its classes put into the table of names.
-pub fn no_rows(got: &mut Answer, names: &mut Names) -> Option<ProgramRows> {
+pub fn no_rows(got: &mut RowAnswer, names: &mut Names) -> Option<ProgramRows> {
     let alloc = got.alloc;
     let classes = built_in(got, names)?;
     Some(ProgramRows {
@@ -23,7 +23,7 @@ pub fn no_rows(got: &mut Answer, names: &mut Names) -> Option<ProgramRows> {
     })
 }
 
-fn built_in(got: &mut Answer, names: &mut Names) -> Option<ClassRows> {
+fn built_in(got: &mut RowAnswer, names: &mut Names) -> Option<ClassRows> {
     let classes = got.kept(Classes::builtin(got.alloc, names))?;
     let mut rows = ClassRows::new(got.alloc);
     for row in classes.rows().as_slice() {
@@ -39,7 +39,7 @@ fn built_in(got: &mut Answer, names: &mut Names) -> Option<ClassRows> {
     Some(rows)
 }
 
-fn slot_rows(got: &mut Answer, slots: &[SlotRow]) -> SlotRows {
+fn slot_rows(got: &mut RowAnswer, slots: &[SlotRow]) -> SlotRows {
     let mut rows = SlotRows::new(got.alloc);
     for slot in slots {
         let copy = SlotRow {
@@ -52,7 +52,7 @@ fn slot_rows(got: &mut Answer, slots: &[SlotRow]) -> SlotRows {
     rows
 }
 
-fn copied<T: Copy + Drop>(got: &mut Answer, items: &[T]) -> ItemList<T> {
+fn copied<T: Copy + Drop>(got: &mut RowAnswer, items: &[T]) -> ItemList<T> {
     let mut copies = ItemList::new(got.alloc);
     for item in items {
         got.add(&mut copies, *item);

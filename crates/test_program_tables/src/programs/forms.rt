@@ -8,11 +8,11 @@ use base::{Datum, Names};
 use lang_meaning::{
     Binding, BindingList, Clause, ClauseList, Core, CoreForm, CoreList, DynBinding, DynBindings,
 };
-use test_rows::Answer;
+use test_rows::RowAnswer;
 
 /// The form of a datum, with fewer than `depth` forms inside one another.
 #[cycle(forms)]
-pub fn form(got: &mut Answer, names: &Names, datum: &Datum, depth: u32) -> Option<Core> {
+pub fn form(got: &mut RowAnswer, names: &Names, datum: &Datum, depth: u32) -> Option<Core> {
     if depth == 0 {
         return None;
     }
@@ -24,7 +24,7 @@ pub fn form(got: &mut Answer, names: &Names, datum: &Datum, depth: u32) -> Optio
 }
 
 #[cycle(forms)]
-fn nest(got: &mut Answer, names: &Names, parts: &[Datum], depth: u32) -> Option<Core> {
+fn nest(got: &mut RowAnswer, names: &Names, parts: &[Datum], depth: u32) -> Option<Core> {
     let [count, inner] = parts else {
         return None;
     };
@@ -36,7 +36,7 @@ fn nest(got: &mut Answer, names: &Names, parts: &[Datum], depth: u32) -> Option<
 // The form of that word and these parts.
 #[cycle(forms)]
 fn kind(
-    got: &mut Answer,
+    got: &mut RowAnswer,
     names: &Names,
     word: Word,
     parts: &[Datum],
@@ -59,7 +59,7 @@ fn kind(
 
 #[cycle(forms)]
 fn numbered_form(
-    got: &mut Answer,
+    got: &mut RowAnswer,
     names: &Names,
     word: Numbered,
     parts: &[Datum],
@@ -74,7 +74,7 @@ fn numbered_form(
 
 #[cycle(forms)]
 fn named_form(
-    got: &mut Answer,
+    got: &mut RowAnswer,
     names: &Names,
     word: Named,
     parts: &[Datum],
@@ -89,7 +89,7 @@ fn named_form(
 
 #[cycle(forms)]
 fn pair_form(
-    got: &mut Answer,
+    got: &mut RowAnswer,
     names: &Names,
     word: Pair,
     parts: &[Datum],
@@ -108,7 +108,7 @@ fn pair_form(
 
 #[cycle(forms)]
 fn list_form(
-    got: &mut Answer,
+    got: &mut RowAnswer,
     names: &Names,
     word: List,
     parts: &[Datum],
@@ -119,7 +119,7 @@ fn list_form(
 
 #[cycle(forms)]
 fn headed_form(
-    got: &mut Answer,
+    got: &mut RowAnswer,
     names: &Names,
     word: Headed,
     parts: &[Datum],
@@ -133,7 +133,12 @@ fn headed_form(
 }
 
 #[cycle(forms)]
-fn clauses_form(got: &mut Answer, names: &Names, parts: &[Datum], depth: u32) -> Option<CoreForm> {
+fn clauses_form(
+    got: &mut RowAnswer,
+    names: &Names,
+    parts: &[Datum],
+    depth: u32,
+) -> Option<CoreForm> {
     let mut list = ClauseList::new(got.alloc);
     for datum in parts {
         let clause = clause(got, names, datum, depth)?;
@@ -144,7 +149,7 @@ fn clauses_form(got: &mut Answer, names: &Names, parts: &[Datum], depth: u32) ->
 
 // `(TEST BODY)`, or `(TEST)` alone.
 #[cycle(forms)]
-fn clause(got: &mut Answer, names: &Names, datum: &Datum, depth: u32) -> Option<Clause> {
+fn clause(got: &mut RowAnswer, names: &Names, datum: &Datum, depth: u32) -> Option<Clause> {
     match items(datum)? {
         [test] => {
             let test = form(got, names, test, depth)?;
@@ -166,7 +171,7 @@ fn clause(got: &mut Answer, names: &Names, datum: &Datum, depth: u32) -> Option<
 }
 
 #[cycle(forms)]
-fn let_form(got: &mut Answer, names: &Names, parts: &[Datum], depth: u32) -> Option<CoreForm> {
+fn let_form(got: &mut RowAnswer, names: &Names, parts: &[Datum], depth: u32) -> Option<CoreForm> {
     let [all, body] = parts else {
         return None;
     };
@@ -180,7 +185,7 @@ fn let_form(got: &mut Answer, names: &Names, parts: &[Datum], depth: u32) -> Opt
 
 // `(VARIABLE VALUE)` each.
 #[cycle(forms)]
-fn bindings(got: &mut Answer, names: &Names, data: &[Datum], depth: u32) -> Option<BindingList> {
+fn bindings(got: &mut RowAnswer, names: &Names, data: &[Datum], depth: u32) -> Option<BindingList> {
     let mut list = BindingList::new(got.alloc);
     for datum in data {
         let (var, value) = pair(datum)?;
@@ -193,7 +198,7 @@ fn bindings(got: &mut Answer, names: &Names, data: &[Datum], depth: u32) -> Opti
 
 #[cycle(forms)]
 fn dynamic_let_form(
-    got: &mut Answer,
+    got: &mut RowAnswer,
     names: &Names,
     parts: &[Datum],
     depth: u32,
@@ -212,7 +217,7 @@ fn dynamic_let_form(
 // `(NAME VALUE)` each.
 #[cycle(forms)]
 fn dynamic_bindings(
-    got: &mut Answer,
+    got: &mut RowAnswer,
     names: &Names,
     data: &[Datum],
     depth: u32,
@@ -229,7 +234,12 @@ fn dynamic_bindings(
 
 // Required variables, a rest variable, a body, and the captured parts.
 #[cycle(forms)]
-fn lambda_form(got: &mut Answer, names: &Names, parts: &[Datum], depth: u32) -> Option<CoreForm> {
+fn lambda_form(
+    got: &mut RowAnswer,
+    names: &Names,
+    parts: &[Datum],
+    depth: u32,
+) -> Option<CoreForm> {
     let [variables, rest, body, captured @ ..] = parts else {
         return None;
     };
@@ -243,13 +253,13 @@ fn lambda_form(got: &mut Answer, names: &Names, parts: &[Datum], depth: u32) -> 
 }
 
 #[cycle(forms)]
-fn boxed(got: &mut Answer, names: &Names, datum: &Datum, depth: u32) -> Option<Box<Core>> {
+fn boxed(got: &mut RowAnswer, names: &Names, datum: &Datum, depth: u32) -> Option<Box<Core>> {
     let core = form(got, names, datum, depth)?;
     got.kept(Box::new(got.alloc, core))
 }
 
 #[cycle(forms)]
-fn forms(got: &mut Answer, names: &Names, data: &[Datum], depth: u32) -> Option<CoreList> {
+fn forms(got: &mut RowAnswer, names: &Names, data: &[Datum], depth: u32) -> Option<CoreList> {
     let mut list = CoreList::new(got.alloc);
     for datum in data {
         let core = form(got, names, datum, depth)?;

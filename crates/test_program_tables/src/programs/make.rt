@@ -5,7 +5,7 @@ use crate::programs::primitives::primitive;
 use crate::programs::words::{Headed, Leaf, List, Named, Numbered, Pair};
 use base::{Datum, Name, Names};
 use lang_meaning::{Core, CoreForm, CoreList, ExitVar, Primitive};
-use test_rows::Answer;
+use test_rows::RowAnswer;
 
 /// A form with no form inside.
 pub fn leaf(word: Leaf, parts: &[Datum]) -> Option<CoreForm> {
@@ -111,7 +111,7 @@ pub fn under(head: Head, list: CoreList) -> CoreForm {
 }
 
 /// The form inside so many sequences of one form each.
-pub fn nested(got: &mut Answer, count: u32, inner: Core) -> Core {
+pub fn nested(got: &mut RowAnswer, count: u32, inner: Core) -> Core {
     let mut outer = inner;
     for _ in 0..count {
         let mut list = CoreList::new(got.alloc);

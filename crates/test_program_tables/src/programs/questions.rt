@@ -5,11 +5,11 @@ use crate::programs::primitives::primitive;
 use base::{Datum, Names};
 use lang_meaning::{Procedure, ProgramRows, frame_words};
 use test_checker::is_whole;
-use test_rows::Answer;
+use test_rows::RowAnswer;
 
 /// Puts a question.
 pub fn ask(
-    got: &mut Answer,
+    got: &mut RowAnswer,
     names: &Names,
     rows: &ProgramRows,
     question: &str,

@@ -10,14 +10,14 @@ use lang_meaning::{
     ProgramRows, Var,
 };
 use std::str;
-use test_rows::Answer;
+use test_rows::RowAnswer;
 
 // How many forms may stand inside one another in a row: the reader reads no more.
 const DEPTH: u32 = 300;
 
 /// Takes rows of one kind into the program, behind those that it has.
 pub fn take(
-    got: &mut Answer,
+    got: &mut RowAnswer,
     names: &Names,
     rows: &mut ProgramRows,
     head: &str,
@@ -61,7 +61,7 @@ const TABLES: &[(&str, Table)] = &[
 ];
 
 fn take_rows(
-    got: &mut Answer,
+    got: &mut RowAnswer,
     names: &Names,
     rows: &mut ProgramRows,
     table: Table,
@@ -75,7 +75,7 @@ fn take_rows(
 
 // Takes one row of that table.
 fn take_row(
-    got: &mut Answer,
+    got: &mut RowAnswer,
     names: &Names,
     rows: &mut ProgramRows,
     table: Table,
@@ -107,13 +107,13 @@ fn take_row(
 }
 
 // Appends a row, where there is one.
-fn add_found<T: Drop>(got: &mut Answer, list: &mut ItemList<T>, found: Option<T>) -> Option<()> {
+fn add_found<T: Drop>(got: &mut RowAnswer, list: &mut ItemList<T>, found: Option<T>) -> Option<()> {
     got.add(list, found?);
     Some(())
 }
 
 // A copy of each main form takes its place.
-fn copy_main(got: &mut Answer, rows: &mut ProgramRows) -> Option<()> {
+fn copy_main(got: &mut RowAnswer, rows: &mut ProgramRows) -> Option<()> {
     let mut copies = CoreList::new(got.alloc);
     for form in rows.main.as_slice() {
         let copy = got.kept(form.copy(got.alloc));
@@ -124,7 +124,7 @@ fn copy_main(got: &mut Answer, rows: &mut ProgramRows) -> Option<()> {
 }
 
 // So many sites, in the first line.
-fn take_sites(got: &mut Answer, rows: &mut ProgramRows, count: u32) -> Option<()> {
+fn take_sites(got: &mut RowAnswer, rows: &mut ProgramRows, count: u32) -> Option<()> {
     for site in 0..count {
         let place = Place {
             line: 1,
@@ -137,7 +137,7 @@ fn take_sites(got: &mut Answer, rows: &mut ProgramRows, count: u32) -> Option<()
 
 // `(datum X)`, `(integer "536870912")` for an integer that no text spells, `(class 33)` or
 // `(function f)`.
-fn literal(got: &mut Answer, names: &Names, datum: &Datum) -> Option<LiteralRow> {
+fn literal(got: &mut RowAnswer, names: &Names, datum: &Datum) -> Option<LiteralRow> {
     match command(names, datum)? {
         ("datum", [datum]) => Some(LiteralRow::Datum(got.kept(datum.copy(got.alloc))?)),
         ("integer", [digits]) => Some(LiteralRow::Datum(wide_integer(digits)?)),
@@ -156,7 +156,7 @@ fn wide_integer(datum: &Datum) -> Option<Datum> {
 }
 
 // A name or nil, variables, and a body: `(f (0 1 :rest 2) BODY)`.
-fn procedure(got: &mut Answer, names: &Names, datum: &Datum) -> Option<Procedure> {
+fn procedure(got: &mut RowAnswer, names: &Names, datum: &Datum) -> Option<Procedure> {
     let [own, variables, body] = items(datum)? else {
         return None;
     };
@@ -193,7 +193,7 @@ fn variables_of<'a>(names: &Names, variables: &'a [Datum]) -> Option<(&'a [Datum
 }
 
 // A name, a precedence list, slots, and `abstract` for an abstract class.
-fn class(got: &mut Answer, names: &Names, datum: &Datum) -> Option<ClassRow> {
+fn class(got: &mut RowAnswer, names: &Names, datum: &Datum) -> Option<ClassRow> {
     let (own, line, slots, abstract_class) = match items(datum)? {
         [own, line, slots] => (own, line, slots, false),
         [own, line, slots, kind] if word(names, kind) == Some("abstract") => {
@@ -217,7 +217,7 @@ fn class(got: &mut Answer, names: &Names, datum: &Datum) -> Option<ClassRow> {
 }
 
 // A name, the number of required arguments, `rest` where it takes more, and methods.
-fn generic(got: &mut Answer, names: &Names, datum: &Datum) -> Option<GenericRow> {
+fn generic(got: &mut RowAnswer, names: &Names, datum: &Datum) -> Option<GenericRow> {
     let [own, required, methods @ ..] = items(datum)? else {
         return None;
     };
@@ -235,7 +235,7 @@ fn generic(got: &mut Answer, names: &Names, datum: &Datum) -> Option<GenericRow>
 }
 
 fn take_methods(
-    got: &mut Answer,
+    got: &mut RowAnswer,
     names: &Names,
     row: &mut GenericRow,
     methods: &[Datum],

@@ -1,7 +1,7 @@
 -- The text is judged datum by datum.
 use Rattle.std.proofs.Common.{rules}
 use Rattle.back_first_path.proofs.Judging.{judged-init, judged-step, judged-offends, judged-stops, judged-end, judged-later}
-use Rattle.front_reader.specs.bridge.GoodReads.{next_shorter}
+use Rattle.front_reader.specs.bridge.WellFormedReads.{next_shorter}
 use Rattle.back_first_path.proofs.program.add_forms.Goals as goal
 
 pub loop-datum-init : goal.loop-datum-init

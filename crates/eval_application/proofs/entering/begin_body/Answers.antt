@@ -1,7 +1,7 @@
 -- The body begins.
 use Rattle.std.proofs.Common.{[], ◌∷◌, ◌++◌, refl, ap, ◌∙◌}
 use Rattle.eval_state.specs.declared.situation.Activation.{Activation}
-use Rattle.eval_state.specs.declared.frame.Frame.TheVariants.{RestoresSlots}
+use Rattle.eval_state.specs.declared.frame.ContinuationFrame.TheVariants.{RestoresSlots}
 use Rattle.eval_application.proofs.Bodies.{body_begun}
 use Rattle.eval_application.proofs.entering.begin_body.Goals as goal
 

@@ -3,8 +3,8 @@ use Rattle.std.proofs.Common.{◌∷◌, ap, sym, ◌∙◌, suc, length, revers
 use Rattle.std.proofs.lemmas.List.{length-reverse}
 use Rattle.std.proofs.lemmas.Result.{on_ok_weaker}
 use Rattle.flat_language.specs.FlatState.{exit_made}
-use Rattle.eval_machine.specs.Moment.{moment, evaluate}
-use Rattle.eval_state.specs.declared.frame.Frame.TheVariants as frame
+use Rattle.eval_machine.specs.Configuration.{configuration, evaluate}
+use Rattle.eval_state.specs.declared.frame.ContinuationFrame.TheVariants as frame
 use Rattle.eval_state.specs.Frames.{situation_in}
 use Rattle.eval_state.specs.Tops.{taken, below}
 use Rattle.eval_state.specs.View.{frames, state}
@@ -19,7 +19,7 @@ returns c =
     on_ok_weaker c.enter.result
     (λ x. followed _ _ _ _
     (after_store m c.new_exit.new.self c.enter.new.self
-    (λ n names s z. moment (evaluate c.args.body.now (situation_in names n.current (w ∷ reverse n.frames.items) c.inside_catch.result)) (taken names n w ∷ below names n w) z)
+    (λ n names s z. configuration (evaluate c.args.body.now (situation_in names n.current (w ∷ reverse n.frames.items) c.inside_catch.result)) (taken names n w ∷ below names n w) z)
     (λ names z. exit_made z) c.in_ok-number.ensures.same c.in_ok-number.ensures.state_is x)
     (λ names s b. catch_entered s names m.current (reverse m.frames.items) c.args.situation c.inside_catch.result c.in_ok-number.number c.args.tag c.in_ok-link.link c.args.body.now (frames names m 0) (state names m b)
     (c.in_ok-link.ensures ∙ ap (λ n. suc (length n.frames.items)) c.in_ok-number.ensures.same ∙ ap suc (sym (length-reverse m.frames.items))) c.inside_catch.ensures (c.in_ok-number.ensures.number_is names b)))

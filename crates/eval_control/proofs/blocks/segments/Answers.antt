@@ -4,7 +4,7 @@ use Rattle.std.proofs.lemmas.List.{length-reverse}
 use Rattle.std.proofs.lemmas.Result.{on_ok_weaker}
 use Rattle.lang_meaning.specs.Values.{nil}
 use Rattle.eval_machine.specs.Step.{sequence_step}
-use Rattle.eval_state.specs.declared.frame.Frame.TheVariants as frame
+use Rattle.eval_state.specs.declared.frame.ContinuationFrame.TheVariants as frame
 use Rattle.eval_state.specs.Frames.{forms_from, situation_in, frames_in, others_of}
 use Rattle.eval_state.specs.View.{state}
 use Rattle.eval_state.proofs.Going.{followed, after_push}

@@ -24,7 +24,7 @@ pub returns-in-MakeFunction : goal.returns-in-MakeFunction
 returns-in-MakeFunction c = begun_as c.make_function.result _ _ c.args.situation _ _ (ap view_form c.in-MakeFunction.is) c.make_function.ensures
 
 pub returns-in-While : goal.returns-in-While
-returns-in-While c = begun_as c.turn.result _ _ c.args.situation _ _ (ap view_form c.in-While.is ∙ ap (λ v. while_form v c.in-While.body.value) (sym c.deref-in-While.ensures) ∙ ap (λ v. while_form c.deref-in-While.result.now v) (sym c.deref-in-While-2.ensures)) c.turn.ensures
+returns-in-While c = begun_as c.loop_turn.result _ _ c.args.situation _ _ (ap view_form c.in-While.is ∙ ap (λ v. while_form v c.in-While.body.value) (sym c.deref-in-While.ensures) ∙ ap (λ v. while_form c.deref-in-While.result.now v) (sym c.deref-in-While-2.ensures)) c.loop_turn.ensures
 
 pub returns-in-Block : goal.returns-in-Block
 returns-in-Block c = begun_as c.block.result _ _ c.args.situation _ _ (ap view_form c.in-Block.is ∙ ap (λ v. block v) (sym c.deref-in-Block.ensures)) c.block.ensures
@@ -42,7 +42,7 @@ pub returns-in-HasNext : goal.returns-in-HasNext
 returns-in-HasNext c = begun_as c.has_next.result _ _ c.args.situation _ _ (ap view_form c.in-HasNext.is) c.has_next.ensures
 
 pub returns-in-Sited : goal.returns-in-Sited
-returns-in-Sited c = begun_as c.sited.result _ _ c.args.situation _ _ (ap view_form c.in-Sited.is ∙ ap (λ v. sited c.in-Sited.site v) (sym c.deref-in-Sited.ensures)) c.sited.ensures
+returns-in-Sited c = begun_as c.form_at_site.result _ _ c.args.situation _ _ (ap view_form c.in-Sited.is ∙ ap (λ v. sited c.in-Sited.site v) (sym c.deref-in-Sited.ensures)) c.form_at_site.ensures
 
 pub returns-in-SetLocal : goal.returns-in-SetLocal
 returns-in-SetLocal c = begun_as c.wait.result _ _ c.args.situation _ _ (ap view_form c.in-SetLocal.is ∙ ap (λ v. set_local c.in-SetLocal.place v) (sym c.deref-in-SetLocal.ensures)) c.wait.ensures

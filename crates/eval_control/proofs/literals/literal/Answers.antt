@@ -1,15 +1,15 @@
--- An atom, an object of the layout, or a condition.
+-- An atom, an object of the initial heap, or a condition.
 use Rattle.std.proofs.Common.{Some, None, refl, ap, ◌∙◌}
 use Rattle.std.proofs.lemmas.Option.{slice_get_past}
 use Rattle.lang_meaning.specs.declared.program.LiteralRow.TheVariants as row
 use Rattle.lang_meaning.specs.Literals.{function_row}
-use Rattle.lang_meaning.specs.Layout.{function_value}
+use Rattle.lang_meaning.specs.InitialHeap.{function_value}
 use Rattle.lang_meaning.specs.Lookup.{text}
 use Rattle.lang_meaning.specs.State.{value}
 use Rattle.flat_language.specs.FlatNodes.{tables}
 use Rattle.flat_language.specs.FlatState.{gives}
 use Rattle.eval_machine.specs.Applications.{signal_undefined}
-use Rattle.eval_machine.specs.Moment.{moment, come_to, ended}
+use Rattle.eval_machine.specs.Configuration.{configuration, come_to, ended}
 use Rattle.eval_store.specs.declared.word.Word.TheVariants.{Nil}
 use Rattle.eval_state.specs.View.{setting_of, at}
 use Rattle.eval_state.proofs.Givens.{layout}
@@ -28,7 +28,7 @@ returns-in-Some-Datum c =
     let m = c.args.machine.now in
     literal_is m c.gives-in-Some-Datum.new.self c.args.id c.args.situation (Some (row.Datum c.in-Some-Datum.field-0-0)) c.literal_word.result
     (c.in-Some-Datum.ensures ∙ ap Some c.in-Some-Datum.field-0-is)
-    (λ names fs z g. ap (λ v. moment (come_to (value v)) fs z)
+    (λ names fs z g. ap (λ v. configuration (come_to (value v)) fs z)
     (c.literal_word.ensures names (tables m.given.program.now) c.in-Some-Datum.field-0-0 (layout names m.given g)
     (c.in-Some-Datum.ensures ∙ ap Some c.in-Some-Datum.field-0-is)))
     c.gives-in-Some-Datum.ensures
@@ -38,7 +38,7 @@ returns-in-Some-Class c =
     let m = c.args.machine.now in
     literal_is m c.gives-in-Some-Class.new.self c.args.id c.args.situation (Some (row.Class c.in-Some-Class.class)) c.class_word.result
     (c.in-Some-Class.ensures ∙ ap Some c.in-Some-Class.field-0-is)
-    (λ names fs z g. ap (λ v. moment (come_to (value v)) fs z) (c.class_word.ensures names (tables m.given.program.now) (layout names m.given g)))
+    (λ names fs z g. ap (λ v. configuration (come_to (value v)) fs z) (c.class_word.ensures names (tables m.given.program.now) (layout names m.given g)))
     c.gives-in-Some-Class.ensures
 
 pub returns-in-Some : goal.returns-in-Some
@@ -49,7 +49,7 @@ returns-in-Some c =
     literal_is m c.gives-in-Some.new.self c.args.id q (Some (row.Function n)) c.function_word.result
     (c.in-Some-Function.ensures ∙ ap Some c.in-Some-Function.field-0-is)
     (λ names fs z g.
-    ap (λ v. moment (come_to (value v)) fs z) (c.function_word.ensures names (tables m.given.program.now) (layout names m.given g))
+    ap (λ v. configuration (come_to (value v)) fs z) (c.function_word.ensures names (tables m.given.program.now) (layout names m.given g))
     ∙ named_function (function_row names m.given.program.now.functions (text names n.0)) c.in-Some.field-0
     (signal_undefined (setting_of names m.given) (text names n.0) (at names m q).level (at names m q).around)
     (λ rest y. ended (gives (function_value names (tables m.given.program.now) (text names n.0)) y) rest) fs z

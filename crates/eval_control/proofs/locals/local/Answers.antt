@@ -1,7 +1,7 @@
 -- The value goes into the innermost frame.
 use Rattle.std.proofs.Common.{ap}
 use Rattle.flat_language.specs.FlatState.{gives}
-use Rattle.eval_machine.specs.Moment.{ended}
+use Rattle.eval_machine.specs.Configuration.{ended}
 use Rattle.eval_state.specs.View.{frames, state}
 use Rattle.eval_state.proofs.Going.{followed}
 use Rattle.eval_control.proofs.locals.local.Goals as goal

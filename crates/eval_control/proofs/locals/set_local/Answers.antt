@@ -1,6 +1,6 @@
 -- The variable is set, and its value goes into the innermost frame.
 use Rattle.flat_language.specs.FlatState.{gives, set_to}
-use Rattle.eval_machine.specs.Moment.{ended}
+use Rattle.eval_machine.specs.Configuration.{ended}
 use Rattle.eval_store.specs.Words.{value_of_word}
 use Rattle.eval_state.specs.View.{at}
 use Rattle.eval_state.proofs.Aside.{after_change}

@@ -1,7 +1,7 @@
 -- The main form at the place, and those behind it.
 use Rattle.std.proofs.Common.{ap, sym, ◌∙◌, drop}
 use Rattle.std.proofs.lemmas.Result.{on_ok_weaker}
-use Rattle.eval_machine.specs.Moment.{main_forms}
+use Rattle.eval_machine.specs.Configuration.{main_forms}
 use Rattle.eval_machine.specs.Step.{value_step}
 use Rattle.eval_store.specs.Words.{value_of_word}
 use Rattle.eval_state.specs.View.{frames, state}

@@ -1,7 +1,7 @@
 -- The words of the stack are set, and the value goes on.
 use Rattle.std.proofs.Common.{ap, ◌∙◌}
 use Rattle.flat_language.specs.FlatState.{gives}
-use Rattle.eval_machine.specs.Moment.{ended}
+use Rattle.eval_machine.specs.Configuration.{ended}
 use Rattle.eval_store.specs.Words.{value_of_word}
 use Rattle.eval_state.specs.Frames.{frame_slots}
 use Rattle.eval_state.specs.View.{frames}

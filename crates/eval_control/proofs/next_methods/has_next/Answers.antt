@@ -2,7 +2,7 @@
 use Rattle.std.proofs.Common.{ap, ◌∙◌}
 use Rattle.lang_meaning.specs.Values.{truth}
 use Rattle.flat_language.specs.FlatState.{gives}
-use Rattle.eval_machine.specs.Moment.{ended}
+use Rattle.eval_machine.specs.Configuration.{ended}
 use Rattle.eval_state.specs.View.{frames, state}
 use Rattle.eval_state.proofs.Going.{followed}
 use Rattle.eval_control.proofs.next_methods.has_next.Goals as goal

@@ -1,5 +1,5 @@
 -- What comes out of the exit goes on.
-use Rattle.eval_machine.specs.Moment.{ended}
+use Rattle.eval_machine.specs.Configuration.{ended}
 use Rattle.eval_state.specs.View.{frames, state}
 use Rattle.std.proofs.Common.{ap}
 use Rattle.eval_state.proofs.Going.{followed}

@@ -6,9 +6,9 @@ use Rattle.eval_control.proofs.transfers.transfer.Goals as goal
 
 pub returns-in-Some : goal.returns-in-Some
 returns-in-Some c =
-    on_ok c.leave.result _ _
-    (number_leaves c.args.machine.now c.leave.new.machine c.in-Some.number c.args.exit c.args.word (landing_of c.args.landing) c.args.level c.args.around c.in-Some.is)
-    c.leave.ensures
+    on_ok c.leave_to.result _ _
+    (number_leaves c.args.machine.now c.leave_to.new.machine c.in-Some.number c.args.exit c.args.word (landing_of c.args.landing) c.args.level c.args.around c.in-Some.is)
+    c.leave_to.ensures
 
 pub returns-in-None : goal.returns-in-None
 returns-in-None c =

@@ -1,7 +1,7 @@
 -- A level less, where there is one.
 use Rattle.std.proofs.Common.{◌≡◌, suc, refl, ap, ◌∙◌, arith}
 use Rattle.flat_language.specs.FlatForm.{while_form}
-use Rattle.eval_machine.specs.Moment.{moment, evaluate}
+use Rattle.eval_machine.specs.Configuration.{configuration, evaluate}
 use Rattle.eval_state.specs.View.{at, frames, state}
 use Rattle.eval_state.proofs.Going.{followed}
 use Rattle.eval_control.proofs.Framed.{at_another}
@@ -19,7 +19,7 @@ returns c =
     record {
       given = refl;
       comes = λ names b k.
-          ap (λ i. moment (evaluate f (at names m i)) (frames names m 0) (state names m b)) c.at_level.ensures
-          ∙ ap (λ p. moment (evaluate f p) (frames names m 0) (state names m b)) (at_another names m c.args.situation c.in-Some.below)
-          ∙ one_level_less (λ k. moment (evaluate f (record (at names m c.args.situation) { level = k }))) c.args.situation.level c.in-Some.below (frames names m 0) (state names m b) less;
+          ap (λ i. configuration (evaluate f (at names m i)) (frames names m 0) (state names m b)) c.at_level.ensures
+          ∙ ap (λ p. configuration (evaluate f p) (frames names m 0) (state names m b)) (at_another names m c.args.situation c.in-Some.below)
+          ∙ one_level_less (λ k. configuration (evaluate f (record (at names m c.args.situation) { level = k }))) c.args.situation.level c.in-Some.below (frames names m 0) (state names m b) less;
     }

@@ -1,4 +1,4 @@
--- Where there is no memory for the layout, the run breaks off before it begins.
+-- Where there is no memory for the initial heap, the run breaks off before it begins.
 use Rattle.std.proofs.lemmas.Result.{err_from_is_err_and}
 use Rattle.eval_run.proofs.Before.{stopped_before}
 use Rattle.eval_run.proofs.setting_up.run_flat.Goals as goal

@@ -5,7 +5,7 @@ use Rattle.std.proofs.lemmas.Result.{IfOk-weaker}
 use Rattle.base.specs.model.DataView.{tail_of}
 use Rattle.lang_meaning.specs.Literals.{lay}
 use Rattle.eval_store.specs.Words.{value_of_word}
-use Rattle.eval_store.specs.Recipes.{IsMade}
+use Rattle.eval_store.specs.Recipes.{IsMadeBy}
 use Rattle.lang_meaning.specs.Recipes.{laid}
 use Rattle.eval_store.proofs.Turns.{one_made_at, all_made_at}
 use Rattle.eval_store.proofs.Data.{text_made, vector_made, list_made}
@@ -13,7 +13,7 @@ use Rattle.eval_store.proofs.datum.+lay.Goals as goal
 
 pub lay_datum-returns : goal.lay_datum-returns
 lay_datum-returns t c =
-    subst (λ d. IfOk c.lay_kind.result (λ w. IsMade value_of_word (λ names. laid (lay names d)) c.args.store.now c.lay_kind.new.store w)) c.datum.view_is c.lay_kind.ensures
+    subst (λ d. IfOk c.lay_kind.result (λ w. IsMadeBy value_of_word (λ names. laid (lay names d)) c.args.store.now c.lay_kind.new.store w)) c.datum.view_is c.lay_kind.ensures
 
 pub lay_items-loop-at-preserved : goal.lay_items-loop-at-preserved
 lay_items-loop-at-preserved t c = one_made_at c.loop-at.at c.in-Some.ensures c.in_ok-push.ensures.ok c.loop-at.invariant c.in_ok-word.ensures
@@ -38,7 +38,7 @@ lay_list-returns t c =
 
 pub lay_tail-returns-in-Some : goal.lay_tail-returns-in-Some
 lay_tail-returns-in-Some t c =
-    rw c.in-Some.is (subst (λ d. IfOk c.lay_datum.result (λ w. IsMade value_of_word (λ names. laid (lay names d)) c.args.store.now c.lay_datum.new.store w)) c.deref.ensures c.lay_datum.ensures)
+    rw c.in-Some.is (subst (λ d. IfOk c.lay_datum.result (λ w. IsMadeBy value_of_word (λ names. laid (lay names d)) c.args.store.now c.lay_datum.new.store w)) c.deref.ensures c.lay_datum.ensures)
 
 pub lay_vector-returns : goal.lay_vector-returns
 lay_vector-returns t c = IfOk-weaker c.add_object.result _ _ (λ w h. vector_made c.args.items.now c.in_ok-words.ensures h) c.add_object.ensures

@@ -1,9 +1,9 @@
 -- Where no site is, the tables are as they were.
-use Rattle.front_profile.specs.bridge.Growing.{grows_same}
+use Rattle.front_profile.specs.bridge.Growing.{tables_grow_reflexive}
 use Rattle.front_drafts.proofs.take.named_form.Goals as goal
 
 pub returns-then-not-here-clause-grows : goal.returns-then-not-here-clause-grows
-returns-then-not-here-clause-grows c = grows_same _
+returns-then-not-here-clause-grows c = tables_grow_reflexive _
 
 pub returns-in_err-copy-clause-grows : goal.returns-in_err-copy-clause-grows
-returns-in_err-copy-clause-grows c = grows_same c.args.tables.now
+returns-in_err-copy-clause-grows c = tables_grow_reflexive c.args.tables.now

@@ -1,15 +1,15 @@
 -- A site stands behind the others.
 use Rattle.std.proofs.Common.{◌∷◌, [], Some}
-use Rattle.front_profile.specs.bridge.Growing.{grows_same, grows_by, nothing_added}
+use Rattle.front_profile.specs.bridge.Growing.{tables_grow_reflexive, grows_by, nothing_added}
 use Rattle.front_drafts.proofs.take.take_site.Goals as goal
 
 pub returns-then-not-here-clause-grows : goal.returns-then-not-here-clause-grows
-returns-then-not-here-clause-grows c = grows_same _
+returns-then-not-here-clause-grows c = tables_grow_reflexive _
 
 pub returns-in_err-push-clause-grows : goal.returns-in_err-push-clause-grows
-returns-in_err-push-clause-grows c = rw c.in_err-push.ensures.err (grows_same c.args.tables.now)
+returns-in_err-push-clause-grows c = rw c.in_err-push.ensures.err (tables_grow_reflexive c.args.tables.now)
 
 pub returns-clause-grows : goal.returns-clause-grows
 returns-clause-grows c =
     rw c.in_ok-push.ensures.ok
-    (grows_by c.args.tables.now c.args.tables.now (record nothing_added { sites = Some (c.args.here.place ∷ []) }) (grows_same c.args.tables.now))
+    (grows_by c.args.tables.now c.args.tables.now (record nothing_added { sites = Some (c.args.here.place ∷ []) }) (tables_grow_reflexive c.args.tables.now))

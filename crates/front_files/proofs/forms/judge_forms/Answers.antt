@@ -1,7 +1,7 @@
 -- The forms of a text, one after another.
 use Rattle.std.proofs.Common.{rules}
 use Rattle.base.specs.Names.{Extends-same, Extends-then}
-use Rattle.front_reader.specs.bridge.GoodReads.{next_shorter}
+use Rattle.front_reader.specs.bridge.WellFormedReads.{next_shorter}
 use Rattle.front_files.proofs.Going.{leads_start, leads_more, leads_end, leads_stop, leads_refused}
 use Rattle.front_files.proofs.forms.judge_forms.Goals as goal
 

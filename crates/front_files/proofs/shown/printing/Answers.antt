@@ -3,7 +3,7 @@ use Rattle.std.proofs.Common.{ap, sym}
 use Rattle.std.specs.Prelude.{codes}
 use Rattle.base.specs.Names.{text_stays, Extends-then}
 use Rattle.base.specs.Data.{place_of}
-use Rattle.base.specs.GoodData.{good_stays}
+use Rattle.base.specs.WellFormedData.{good_stays}
 use Rattle.front_files.proofs.Printing.{interned, put_together, good_printing}
 use Rattle.front_files.proofs.shown.printing.Goals as goal
 

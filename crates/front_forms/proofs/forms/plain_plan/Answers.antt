@@ -1,17 +1,17 @@
 -- The names that the form asks for were added; where nothing was taken yet, the tables are as they were.
 use Rattle.std.proofs.Common.{ap, ◌∙◌}
 use Rattle.base.specs.Names.{Extends-same}
-use Rattle.front_profile.specs.bridge.Growing.{grows_same}
+use Rattle.front_profile.specs.bridge.Growing.{tables_grow_reflexive}
 use Rattle.front_drafts.specs.Drafts.{is_unnamed}
 use Rattle.front_drafts.specs.Views.{at}
 use Rattle.front_forms.proofs.NamedRows.{form_said}
 use Rattle.front_forms.proofs.forms.plain_plan.Goals as goal
 
 pub returns-in_err-add_setters-clause-grows : goal.returns-in_err-add_setters-clause-grows
-returns-in_err-add_setters-clause-grows c = grows_same _
+returns-in_err-add_setters-clause-grows c = tables_grow_reflexive _
 
 pub returns-in_err-draft-clause-grows : goal.returns-in_err-draft-clause-grows
-returns-in_err-draft-clause-grows c = grows_same _
+returns-in_err-draft-clause-grows c = tables_grow_reflexive _
 
 pub take-requires : goal.take-requires
 take-requires c =

@@ -2,7 +2,7 @@
 use Rattle.std.proofs.lemmas.Result.{err_from_is_err_and}
 use Rattle.front_profile.specs.Promises.{settled_datum}
 use Rattle.front_forms.specs.Settled.{with_symbols}
-use Rattle.front_forms.proofs.Settling.{no_refusal, led_refused, led_same, led_step, Ended, led_ends, Stopped, led_stops}
+use Rattle.front_forms.proofs.Settling.{no_refusal, led_refused, led_same, led_step, StepsEnded, led_ends, Stopped, led_stops}
 use Rattle.front_forms.proofs.steps.settle.Goals as goal
 
 pub loop-refusal-init : goal.loop-refusal-init
@@ -20,7 +20,7 @@ loop-refusal-preserved c =
     led_step _ _ _ _ _ c.loop-refusal.tables _ _ _ _ c.derive.new.fresh c.loop-refusal.invariant c.last_datum-last.ensures (no_refusal c.class_in_front.result _ c.class_in_front.ensures c.in_default.not-Some) c.in-Derived.is
     h.names h.step_stays h.whole
 
-ended : (c : goal.In-Plain) → Ended c.args.names.now c.derive.new.names c.args.tables.now c.args.datum.now
+ended : (c : goal.In-Plain) → StepsEnded c.args.names.now c.derive.new.names c.args.tables.now c.args.datum.now
     (with_symbols c.derive.new.fresh c.loop-refusal.tables) (settled_datum c.loop-refusal.found c.args.datum.now)
 ended c =
     let h = c.in_ok-derive.ensures in

@@ -1,5 +1,5 @@
 -- Each clause is a lemma.
-use Rattle.front_reader.specs.bridge.GoodReads.{next_good, next_shorter}
+use Rattle.front_reader.specs.bridge.WellFormedReads.{next_good, next_shorter}
 use Rattle.front_reader.proofs.laws.law_good_data.Goals as goal
 
 pub returns-clause-good : goal.returns-clause-good

@@ -3,7 +3,7 @@ use Rattle.front_reader.specs.Meanings.{number_in}
 use Rattle.front_reader.proofs.step.step.Goals as goal
 use Rattle.std.proofs.Common.{subst, drop, []}
 use Rattle.base.specs.declared.reason.Reason.TheVariants.{UnclosedList, UnclosedComment}
-use Rattle.front_reader.specs.bridge.Machine.{Step}
+use Rattle.front_reader.specs.bridge.Machine.{LexemeStep}
 use Rattle.front_reader.specs.bridge.Steps.{LeadsTo}
 use Rattle.front_reader.proofs.Leading.{refusal-leads, open-leads, unclosed-leads, ends-leads, lexeme-leads}
 
@@ -29,7 +29,7 @@ returns-in-None-clause-leads c = λ T l.
 
 pub returns-clause-leads : goal.returns-clause-leads
 returns-clause-leads c = λ T l.
-    let L : Step → Type 0 = λ x. LeadsTo x [] c.next_lexeme.result c.next_lexeme.new.pending.items in
+    let L : LexemeStep → Type 0 = λ x. LeadsTo x [] c.next_lexeme.result c.next_lexeme.new.pending.items in
     subst L
     (sym (lexeme-leads (number_in T) c.args.cursor.rest.now c.moved-cursor.result.rest.now c.args.cursor.place c.moved-cursor.result.place
     (reverse c.args.pending.now.items) c.in-Ends.n (sym c.in-Ends.ensures) c.moved-cursor.ensures.rest

@@ -2,14 +2,14 @@
 use Rattle.std.proofs.Common.{◌≡◌, ◌<◌, List, ◌++◌, [], length, refl, ap, subst, sym, ◌∙◌, rules}
 use Rattle.std.proofs.lemmas.Result.{err_from_is_err_and}
 use Rattle.base.specs.Names.{Extends-same, Extends-then}
-use Rattle.base.specs.GoodData.{Good, good_stays}
+use Rattle.base.specs.WellFormedData.{WellFormed, good_stays}
 use Rattle.front_profile.specs.declared.bound.Bound.{Bound}
 use Rattle.front_profile.specs.FunctionNodes.{function_node}
 use Rattle.front_profile.specs.Rows.{plain_node}
 use Rattle.front_profile.specs.Promises.{FormStops, Settles, settled_datum}
 use Rattle.front_profile.specs.Sound.{weight, AllSound}
 use Rattle.front_profile.specs.Walks.{PartTaken, PartStops, Through}
-use Rattle.front_profile.specs.bridge.Growing.{grows_then}
+use Rattle.front_profile.specs.bridge.Growing.{tables_grow_transitive}
 use Rattle.front_profile.specs.Known.{KnownTables, MakesSuited}
 use Rattle.front_drafts.specs.Views.{at, shown, view_part, view_parts, view_inner, view_function}
 use Rattle.front_scope.specs.Walk.{FormGives, node_of}
@@ -56,7 +56,7 @@ judge-returns-in-Some c c' =
 pub judge_plain-carry_out-requires : goal.judge_plain-carry_out-requires
 judge_plain-carry_out-requires c c' =
     let row = sym (ap (λ q. shown c'.args.bound.now c'.plain_plan.new.tables q) c'.in-Whole.is) ∙ c'.in-Ok.ensures.plan in
-    let good : Good (length c'.plain_plan.new.names) c'.args.datum.now = good_stays _ _ _ c'.in-Ok.ensures.names c'.requires.good in
+    let good : WellFormed (length c'.plain_plan.new.names) c'.args.datum.now = good_stays _ _ _ c'.in-Ok.ensures.names c'.requires.good in
     let sound : AllSound (length c'.plain_plan.new.names) (weight c'.args.spot) (at c'.args.bound.now c'.in-Whole.work.outside)
     (at (c'.args.bound.now ++ c'.in-Whole.work.binds) c'.in-Whole.work.inside) (view_parts c'.in-Whole.work.parts ++ view_inner c'.in-Whole.work.inner) =
     row_sound c'.plain_plan.new.names (at c'.args.bound.now c'.args.spot) c'.args.tables.now c'.args.datum.now
@@ -138,7 +138,7 @@ judge_all-returns-in_err-judge_inner c c' =
     rw (p.1, p.2) (
     record {
       names = Extends-then _ _ _ c'.in_ok-judge_parts.ensures.names c'.in_err-judge_inner.ensures.names;
-      grows = grows_then _ _ _ c'.in_ok-judge_parts.ensures.grows c'.in_err-judge_inner.ensures.grows;
+      grows = tables_grow_transitive _ _ _ c'.in_ok-judge_parts.ensures.grows c'.in_err-judge_inner.ensures.grows;
       bound = tt;
       stands = tt;
       stops = c'.in_err-judge_inner.ensures.stops _ _ _ _ through;
@@ -151,7 +151,7 @@ judge_all-returns c c' =
     (c'.in_ok-judge_parts.ensures.stands (view_inner c'.args.inner.now)) in
     record {
       names = Extends-then _ _ _ c'.in_ok-judge_parts.ensures.names c'.in_ok-judge_inner.ensures.names;
-      grows = grows_then _ _ _ c'.in_ok-judge_parts.ensures.grows c'.in_ok-judge_inner.ensures.grows;
+      grows = tables_grow_transitive _ _ _ c'.in_ok-judge_parts.ensures.grows c'.in_ok-judge_inner.ensures.grows;
       bound = cut_back _ _ _ _ _ _ _ c'.in_ok-judge_parts.ensures.bound c'.len-base.ensures c'.in-Ok.ensures.ok c'.in_ok-judge_inner.ensures.bound c'.cut.ensures;
       stands = record { behind = _; through = c'.in_ok-judge_inner.ensures.stands _ _ _ _ through };
       stops = tt;
@@ -239,7 +239,7 @@ judge_parts-returns-in_err-judge_part c c' =
     rw (p.1, p.2) (
     record {
       names = Extends-then _ _ _ c'.loop-part.invariant.1.later c'.in_err-judge_part.ensures.names;
-      grows = grows_then _ _ _ c'.loop-part.invariant.1.grows c'.in_err-judge_part.ensures.grows;
+      grows = tables_grow_transitive _ _ _ c'.loop-part.invariant.1.grows c'.in_err-judge_part.ensures.grows;
       bound = tt;
       stands = tt;
       stops = so_far_stops _ _ _ _ _ _ _ _ _ _ _ _ _ _ _ c'.loop-part.invariant.1 (next_part c'.args.parts.now c'.loop-part.part-index c'.part-item.result (search rules) (search rules))
@@ -266,7 +266,7 @@ judge_inner-loop-datum-init c c' = (refl, inside_none _ _ _ _ _ _ _ c'.requires.
 
 pub judge_inner-judge_value-requires : goal.judge_inner-judge_value-requires
 judge_inner-judge_value-requires c c' =
-    let part : Good (length c'.loop-datum.names) c'.datum-item.result.now × (weight c'.args.spots.inside < weight c'.args.spot) =
+    let part : WellFormed (length c'.loop-datum.names) c'.datum-item.result.now × (weight c'.args.spots.inside < weight c'.args.spot) =
     inner_sound c'.loop-datum.names (weight c'.args.spot) (at c'.args.bound.now c'.args.spots.outside) (at c'.args.bound.now c'.args.spots.inside) _ c'.datum-item.result.now _
     c'.loop-datum.invariant.1.sound (next_inner c'.args.inner.now c'.loop-datum.datum-index c'.datum-item.result (search rules) (search rules)) in
     search rules
@@ -290,7 +290,7 @@ judge_inner-returns-in_err-judge_value c c' =
     rw (p.1, p.2) (
     record {
       names = Extends-then _ _ _ c'.loop-datum.invariant.1.later c'.in_err-judge_value.ensures.names;
-      grows = grows_then _ _ _ c'.loop-datum.invariant.1.grows c'.in_err-judge_value.ensures.grows;
+      grows = tables_grow_transitive _ _ _ c'.loop-datum.invariant.1.grows c'.in_err-judge_value.ensures.grows;
       bound = tt;
       stands = tt;
       stops = inside_stops _ _ _ _ _ _ _ _ _ _ _ _ _ _ _ c'.loop-datum.invariant.1 (next_inner c'.args.inner.now c'.loop-datum.datum-index c'.datum-item.result (search rules) (search rules))

@@ -1,4 +1,4 @@
-use Rattle.lang_worked.proofs.ExampleFacts.{worked_are_whole, too_few_arguments, go_outside, no_such_segment, no_segment, go_to_a_block, captured, parts_in_order, cell_of_its_own, uncalled_procedures, made_by_uncalled, not_there, nodes_of_one_application, not_reached, cells_of_methods}
+use Rattle.lang_worked.proofs.ExampleFacts.{worked_are_whole, too_few_arguments, go_outside, no_such_segment, no_segment, go_to_a_block, captured, parts_in_order, box_of_its_own, uncalled_procedures, made_by_uncalled, not_there, nodes_of_one_application, not_reached, cells_of_methods}
 use Rattle.lang_worked.proofs.worked.worked_programs.Goals as goal
 
 pub returns-clause-worked_are_whole : goal.returns-clause-worked_are_whole
@@ -25,8 +25,8 @@ returns-clause-captured c = captured
 pub returns-clause-in_order : goal.returns-clause-in_order
 returns-clause-in_order c = parts_in_order
 
-pub returns-clause-cell_of_its_own : goal.returns-clause-cell_of_its_own
-returns-clause-cell_of_its_own c = cell_of_its_own
+pub returns-clause-box_of_its_own : goal.returns-clause-box_of_its_own
+returns-clause-box_of_its_own c = box_of_its_own
 
 pub returns-clause-uncalled : goal.returns-clause-uncalled
 returns-clause-uncalled c = uncalled_procedures

@@ -2,7 +2,7 @@
 use Rattle.std.proofs.Common.{◌+◌, ◌*◌, ◌≤◌, length, subst, arith}
 use Rattle.std.proofs.lemmas.List.{take_all}
 use Rattle.lang_meaning.specs.Recipes.{function_recipe, in_turn}
-use Rattle.mid_start.specs.Making.{IsWord, Each, Makes}
+use Rattle.mid_start.specs.Making.{IsWord, EachStandsFor, Makes}
 use Rattle.mid_start.proofs.Joins.{lasts_word, turns_more, within_both}
 use Rattle.mid_start.proofs.functions.lay_functions.Goals as goal
 
@@ -18,5 +18,5 @@ loop-at-preserved c = record {
 pub returns-clause-made : goal.returns-clause-made
 returns-clause-made c names =
     let past : length c.args.rows.now ≤ c.loop-at.at = omega (arith, c.len-at-end.ensures) in
-    subst (λ xs. Makes names (Each IsWord) (in_turn function_recipe xs) c.args.words.now c.loop-at.words c.loop-at.laid) (take_all c.loop-at.at c.args.rows.now past)
+    subst (λ xs. Makes names (EachStandsFor IsWord) (in_turn function_recipe xs) c.args.words.now c.loop-at.words c.loop-at.laid) (take_all c.loop-at.at c.args.rows.now past)
     (c.loop-at.invariant.made names)

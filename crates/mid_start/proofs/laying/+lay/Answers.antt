@@ -4,7 +4,7 @@ use Rattle.std.specs.Prelude.{IfOk}
 use Rattle.std.proofs.lemmas.Result.{IfOk-weaker, on_ok_weaker}
 use Rattle.base.specs.Data as datum
 use Rattle.base.specs.Data.{items_of}
-use Rattle.base.specs.GoodData.{good_at}
+use Rattle.base.specs.WellFormedData.{good_at}
 use Rattle.base.specs.model.DataView.{tail_of}
 use Rattle.base.specs.model.DataSizes.{item_in_smaller}
 use Rattle.base.specs.declared.datum.Kind.TheVariants as kind

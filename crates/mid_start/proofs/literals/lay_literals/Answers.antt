@@ -2,7 +2,7 @@
 use Rattle.std.proofs.Common.{◌≤◌, length, subst, arith}
 use Rattle.std.proofs.lemmas.List.{take_all}
 use Rattle.lang_meaning.specs.Recipes.{literal_recipe, in_turn}
-use Rattle.mid_start.specs.Making.{IsWord, Each, Makes}
+use Rattle.mid_start.specs.Making.{IsWord, EachStandsFor, Makes}
 use Rattle.mid_start.specs.Rows.{literal_size}
 use Rattle.mid_start.proofs.Joins.{lasts_word, turns_more}
 use Rattle.mid_start.proofs.Steps.{room_next, within_next, within_all}
@@ -29,5 +29,5 @@ returns-clause-within c =
 pub returns-clause-made : goal.returns-clause-made
 returns-clause-made c =
     let past : length c.args.rows.now ≤ c.loop-at.at = omega (arith, c.len-at-end.ensures) in
-    subst (λ xs. Makes c.args.names.now (Each IsWord) (in_turn (literal_recipe c.args.names.now) xs) c.args.words.now c.loop-at.words c.loop-at.laid)
+    subst (λ xs. Makes c.args.names.now (EachStandsFor IsWord) (in_turn (literal_recipe c.args.names.now) xs) c.args.words.now c.loop-at.words c.loop-at.laid)
     (take_all c.loop-at.at c.args.rows.now past) c.loop-at.invariant.made

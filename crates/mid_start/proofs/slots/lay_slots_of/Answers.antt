@@ -3,7 +3,7 @@ use Rattle.std.proofs.Common.{◌≤◌, length, [], ◌∷◌, ap, length-appen
 use Rattle.std.proofs.lemmas.List.{take_all}
 use Rattle.lang_meaning.specs.Recipes.{in_turn}
 use Rattle.mid_start.specs.Recipes.{slot_recipe}
-use Rattle.mid_start.specs.Making.{IsSlot, Each, Makes}
+use Rattle.mid_start.specs.Making.{IsSlot, EachStandsFor, Makes}
 use Rattle.mid_start.specs.Rows.{slot_size}
 use Rattle.mid_start.proofs.Joins.{lasts_slot, turns_more}
 use Rattle.mid_start.proofs.Steps.{room_next, within_next, within_all}
@@ -31,5 +31,5 @@ returns-clause-within c =
 pub returns-clause-made : goal.returns-clause-made
 returns-clause-made c =
     let past : length c.args.rows.now ≤ c.loop-at.at = omega (arith, c.len-at-end.ensures) in
-    subst (λ xs. Makes c.args.names.now (Each IsSlot) (in_turn (slot_recipe c.args.names.now) xs) c.args.words.now c.loop-at.words c.loop-at.laid)
+    subst (λ xs. Makes c.args.names.now (EachStandsFor IsSlot) (in_turn (slot_recipe c.args.names.now) xs) c.args.words.now c.loop-at.words c.loop-at.laid)
     (take_all c.loop-at.at c.args.rows.now past) c.loop-at.invariant.made

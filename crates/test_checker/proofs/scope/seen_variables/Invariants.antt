@@ -1,7 +1,7 @@
 -- The variables so far, and those of the rest.
 use Rattle.std.proofs.Common.{◌≡◌, ◌++◌, filter, drop}
 use Rattle.std.specs.List.{list_any}
-use Rattle.lang_meaning.specs.declared.part.Part.TheVariants.{Variable}
+use Rattle.lang_meaning.specs.declared.capture.Capture.TheVariants.{Variable}
 use Rattle.lang_meaning.specs.Mentions.{same_part}
 use Rattle.test_checker.proofs.scope.seen_variables.Given as goal
 

@@ -1,10 +1,10 @@
 -- The status of a call, by the answer to its words.
-use Rattle.top_main.proofs.Ends.{Ended, ends_usage, ends_words_first, ends_done, ends_unhandled, ends_refused, ends_arena_full, ends_budget, ends_file_fault, ends_read_fault, ends_write_fault, ends_no_memory, ends_line, ends_input}
+use Rattle.top_main.proofs.Ends.{CallEnded, ends_usage, ends_words_first, ends_done, ends_unhandled, ends_refused, ends_arena_full, ends_budget, ends_file_fault, ends_read_fault, ends_write_fault, ends_no_memory, ends_line, ends_input}
 use Rattle.top_main.proofs.main_call.isl_main.Goals as goal
 
 pub returns : goal.returns
 returns g c =
-    let end : Ended (record { words = _; holds = _; kept = _; left = _; left' = _; sent = _; ShelfRises = _; SourceRises = _; Rises = _; Same = _; InputSame = _; ShelfSame = _ }) _ _ _ c.answer_to-answer.result c.end_with.result = record {
+    let end : CallEnded (record { words = _; holds = _; kept = _; left = _; left' = _; sent = _; ShelfRises = _; SourceRises = _; Rises = _; Same = _; InputSame = _; ShelfSame = _ }) _ _ _ c.answer_to-answer.result c.end_with.result = record {
       told = c.answer_to-answer.ensures;
       written = c.end_with.ensures.written;
       line = c.end_with.ensures.line;

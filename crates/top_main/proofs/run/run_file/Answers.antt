@@ -1,6 +1,6 @@
 -- The answer for a file to run, by the verdict on its text.
 use Rattle.std.proofs.Common.{arith, sym, subst}
-use Rattle.top_main.specs.Loads.{IsTaken}
+use Rattle.top_main.specs.Loads.{IsTextTaken}
 use Rattle.top_main.proofs.Ends.{of_run}
 use Rattle.top_main.proofs.run.run_file.Goals as goal
 
@@ -13,7 +13,7 @@ returns-in-Ok-read_program-clause-answers g c =
     of_run c.run-answer.result c.in-Ok-read_program.program _ _ _ _ _ _ _ _
     (record {
       text = c.as_slice.result.now;
-      taken = subst (IsTaken (g.F.Shelf.holds c.args.shelf.now c.args.file.now)) (sym c.as_slice.ensures) c.in-Ok.ensures.taken;
+      taken = subst (IsTextTaken (g.F.Shelf.holds c.args.shelf.now c.args.file.now)) (sym c.as_slice.ensures) c.in-Ok.ensures.taken;
       accepts = c.in-Ok-read_program.ensures.program;
     })
     c.run-answer.ensures.answers

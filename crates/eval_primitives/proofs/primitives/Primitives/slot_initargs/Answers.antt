@@ -1,4 +1,4 @@
--- The list stands in the layout.
+-- The list stands in the initial heap.
 use Rattle.eval_primitives.proofs.Dispatching.{initargs_told}
 use Rattle.eval_primitives.proofs.primitives.Primitives.slot_initargs.Goals as goal
 

@@ -1,4 +1,4 @@
--- The function stands in the layout.
+-- The function stands in the initial heap.
 use Rattle.eval_primitives.proofs.Dispatching.{initform_told}
 use Rattle.eval_primitives.proofs.primitives.Primitives.slot_initform.Goals as goal
 

@@ -1,4 +1,4 @@
--- The layout is that of the program.
+-- The initial heap is that of the program.
 use Rattle.eval_state.proofs.Givens.{layout}
 use Rattle.eval_state.proofs.given.Given.class_word.Goals as goal
 

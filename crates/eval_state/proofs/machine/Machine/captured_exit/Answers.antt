@@ -12,10 +12,10 @@ returns-in-Some-Value c names =
     sym (ap exit_in (slice_get-map (captured_of names) (captured_list c.args.self.now.current) c.args.number
     ∙ ap (option_map (captured_of names)) (sym c.in-Some-Value.ensures ∙ ap Some c.in-Some-Value.field-0-is)))
 
-pub returns-in-Some-Cell : goal.returns-in-Some-Cell
-returns-in-Some-Cell c names =
+pub returns-in-Some-Boxed : goal.returns-in-Some-Boxed
+returns-in-Some-Boxed c names =
     sym (ap exit_in (slice_get-map (captured_of names) (captured_list c.args.self.now.current) c.args.number
-    ∙ ap (option_map (captured_of names)) (sym c.in-Some-Cell.ensures ∙ ap Some c.in-Some-Cell.field-0-is)))
+    ∙ ap (option_map (captured_of names)) (sym c.in-Some-Boxed.ensures ∙ ap Some c.in-Some-Boxed.field-0-is)))
 
 pub returns-in-Some-Exit : goal.returns-in-Some-Exit
 returns-in-Some-Exit c names =

@@ -1,6 +1,6 @@
 -- The frames have one more on top.
 use Rattle.std.proofs.Common.{ap, ◌∙◌, reverse}
-use Rattle.eval_machine.specs.Moment.{moment, evaluate}
+use Rattle.eval_machine.specs.Configuration.{configuration, evaluate}
 use Rattle.eval_state.specs.Frames.{situation_in}
 use Rattle.eval_state.specs.View.{frames, state}
 use Rattle.eval_state.proofs.Tops.{entered}
@@ -13,6 +13,6 @@ returns c =
     record {
       given = ap (λ n. n.given) pushed.same;
       comes = λ names b k.
-          ap (λ n. moment (evaluate c.args.form.now (situation_in names n.current (reverse n.frames.items) c.args.inside)) (frames names n 0) (state names n b)) pushed.same
+          ap (λ n. configuration (evaluate c.args.form.now (situation_in names n.current (reverse n.frames.items) c.args.inside)) (frames names n 0) (state names n b)) pushed.same
           ∙ entered names m.current m.operands.items m.slots.items m.frames.items c.push_frame.new.self.frames.items c.args.frame c.args.form.now c.args.inside (state names m b) pushed.frames;
     }

@@ -10,9 +10,9 @@ pub returns-in-Some-Value : goal.returns-in-Some-Value
 returns-in-Some-Value c names =
     sym (ap value_held (slice_get-map (slot_of names) (last_of c.args.self.now.current.slots c.args.self.now.slots.items) c.args.number ∙ ap (option_map (slot_of names)) (sym c.in-Some-Value.ensures ∙ ap Some c.in-Some-Value.field-0-is)))
 
-pub returns-in-Some-Cell : goal.returns-in-Some-Cell
-returns-in-Some-Cell c names =
-    sym (ap value_held (slice_get-map (slot_of names) (last_of c.args.self.now.current.slots c.args.self.now.slots.items) c.args.number ∙ ap (option_map (slot_of names)) (sym c.in-Some-Cell.ensures ∙ ap Some c.in-Some-Cell.field-0-is)))
+pub returns-in-Some-Boxed : goal.returns-in-Some-Boxed
+returns-in-Some-Boxed c names =
+    sym (ap value_held (slice_get-map (slot_of names) (last_of c.args.self.now.current.slots c.args.self.now.slots.items) c.args.number ∙ ap (option_map (slot_of names)) (sym c.in-Some-Boxed.ensures ∙ ap Some c.in-Some-Boxed.field-0-is)))
 
 pub returns-in-None : goal.returns-in-None
 returns-in-None c names =

@@ -16,11 +16,11 @@ returns c =
     let m = e.machine in
     let p = c.args.situation in
     let f = while_form c.args.test.now c.args.body.now in
-    on_ok_weaker c.turn.result
-    (λ x. runs_from e c.charge.new.self (record e { machine = c.turn.new.machine }) _ _ (ap (λ (n : Machine). n.given) c.in_ok-charge.ensures.same)
-    (lifted (record e { machine = c.charge.new.self }) (record e { machine = c.turn.new.machine }) _ refl x)
+    on_ok_weaker c.loop_turn.result
+    (λ x. runs_from e c.charge.new.self (record e { machine = c.loop_turn.new.machine }) _ _ (ap (λ (n : Machine). n.given) c.in_ok-charge.ensures.same)
+    (lifted (record e { machine = c.charge.new.self }) (record e { machine = c.loop_turn.new.machine }) _ refl x)
     (λ names s b.
     ap (λ (n : Machine). begins s f (at names n p) (frames names n 0) (state names c.charge.new.self b)) c.in_ok-charge.ensures.same
     ∙ ap (λ z. begins s f (at names m p) (frames names m 0) z) (c.in_ok-charge.ensures.state_is names b)
     ∙ form_begins s f (at names m p) (frames names m 0) (state names m b)))
-    c.turn.ensures
+    c.loop_turn.ensures

@@ -1,7 +1,7 @@
 -- What wants more than the machine, and what wants the machine alone.
 use Rattle.std.proofs.Common.{ap, refl}
 use Rattle.flat_language.specs.model.View.{view_form, forms}
-use Rattle.eval_machine.specs.Moment.{call_name, call_first, compute}
+use Rattle.eval_machine.specs.Configuration.{call_name, call_first, compute}
 use Rattle.eval_step.proofs.Begun.{form_alone, runs_begun, arguments_begun}
 use Rattle.eval_step.proofs.Lifting.{lifted_ok}
 use Rattle.eval_step.proofs.Fed.{prim_fed}

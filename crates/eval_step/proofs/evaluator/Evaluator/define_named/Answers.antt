@@ -1,6 +1,6 @@
 -- The table has the value.
 use Rattle.flat_language.specs.FlatState.{gives}
-use Rattle.eval_machine.specs.Moment.{ended}
+use Rattle.eval_machine.specs.Configuration.{ended}
 use Rattle.eval_store.specs.declared.word.Word.TheVariants.{Symbol}
 use Rattle.eval_store.specs.Words.{value_of_word}
 use Rattle.eval_state.specs.View.{frames, state}

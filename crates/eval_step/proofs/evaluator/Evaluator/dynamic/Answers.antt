@@ -3,7 +3,7 @@ use Rattle.std.proofs.Common.{Some, subst}
 use Rattle.std.proofs.lemmas.Result.{on_ok_weaker}
 use Rattle.lang_meaning.specs.Lookup.{text, value_at}
 use Rattle.flat_language.specs.FlatState.{gives}
-use Rattle.eval_machine.specs.Moment.{ended}
+use Rattle.eval_machine.specs.Configuration.{ended}
 use Rattle.eval_state.specs.View.{at}
 use Rattle.eval_control.specs.Bindings.{IsBindingFound}
 use Rattle.eval_step.specs.declared.named.Table.TheVariants.{Dynamics}

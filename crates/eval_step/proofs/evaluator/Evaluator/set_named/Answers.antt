@@ -3,7 +3,7 @@ use Rattle.std.proofs.Common.{ap, sym, ◌∙◌}
 use Rattle.lang_meaning.specs.Lookup.{text}
 use Rattle.flat_language.specs.FlatState.{gives, on_state}
 use Rattle.eval_machine.specs.Applications.{signal_unbound}
-use Rattle.eval_machine.specs.Moment.{ended, some_or}
+use Rattle.eval_machine.specs.Configuration.{ended, some_or}
 use Rattle.eval_store.specs.Words.{value_of_word}
 use Rattle.eval_state.specs.View.{setting_of, at, frames, state}
 use Rattle.eval_step.specs.Named.{pairs_in, with_pair}

@@ -4,7 +4,7 @@ use Rattle.eval_machine.specs.Applications.{signal_under}
 use Rattle.eval_machine.specs.Step.{form_step}
 use Rattle.flat_language.specs.FlatForm.{while_form}
 use Rattle.eval_store.specs.Words.{value_of_word}
-use Rattle.eval_state.specs.View.{at, frames, state, surroundings}
+use Rattle.eval_state.specs.View.{at, frames, state, dynamic_context}
 use Rattle.eval_step.proofs.Lifting.{lifted}
 use Rattle.eval_step.proofs.Stepping.{stepped}
 use Rattle.eval_step.specs.Streams.{control_reads}
@@ -26,7 +26,7 @@ pub returns-in_ok-signal_under-in-Signals : goal.returns-in_ok-signal_under-in-S
 returns-in_ok-signal_under-in-Signals c =
     let e = c.args.self.now in
     stepped e (record e { machine = c.signal_under.new.machine }) _
-    (λ names s b. signal_under s (surroundings names e.machine c.in-Signals.around).handlers (value_of_word names c.in-Signals.condition) (value_of_word names c.in-Signals.mark) c.in-Signals.level (surroundings names e.machine c.in-Signals.around) (frames names e.machine 0) (state names e.machine b))
+    (λ names s b. signal_under s (dynamic_context names e.machine c.in-Signals.around).handlers (value_of_word names c.in-Signals.condition) (value_of_word names c.in-Signals.mark) c.in-Signals.level (dynamic_context names e.machine c.in-Signals.around) (frames names e.machine 0) (state names e.machine b))
     c.in-Signals.is (λ names s b. refl)
     (lifted e (record e { machine = c.signal_under.new.machine }) _ refl c.in_ok-signal_under-in-Signals.ensures)
 

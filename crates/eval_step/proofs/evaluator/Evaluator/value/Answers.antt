@@ -3,7 +3,7 @@ use Rattle.std.proofs.Common.{refl}
 use Rattle.lang_meaning.specs.State.{value}
 use Rattle.std.proofs.lemmas.Result.{on_ok_weaker}
 use Rattle.eval_store.specs.Words.{value_of_word, values_of, rest_of}
-use Rattle.eval_state.specs.View.{frames, state, surroundings}
+use Rattle.eval_state.specs.View.{frames, state, dynamic_context}
 use Rattle.eval_state.proofs.Going.{followed}
 use Rattle.eval_step.proofs.MethodsLeft.{before_is}
 use Rattle.eval_step.proofs.Alone.{left_alone}
@@ -11,8 +11,8 @@ use Rattle.eval_step.proofs.Lifting.{lifted_ok}
 use Rattle.eval_step.proofs.Running.{runs_framed}
 use Rattle.eval_step.proofs.evaluator.Evaluator.value.Goals as goal
 
-pub value-requires : goal.value-requires
-value-requires c = record {
+pub value_at_frame-requires : goal.value_at_frame-requires
+value_at_frame-requires c = record {
   waits = c.requires;
   alone = left_alone c.args.frame c.in_default.not-SetGlobal c.in_default.not-DefGlobal c.in_default.not-Argument c.in_default.not-AppliedList c.in_default.not-SetDynamic c.in_default.not-DefDynamic c.in_default.not-HandlerValue c.in_default.not-SignalMark c.in_default.not-Methods c.in_default.not-BeforeMethods c.in_default.not-PrimaryMethod;
 }
@@ -67,7 +67,7 @@ returns-in-BeforeMethods c =
     runs_framed c.after_before.result c.args.self.now (record c.args.self.now { machine = c.after_before.new.machine }) (λ names. value (value_of_word names c.args.word)) c.args.frame _ c.in-BeforeMethods.is
     (lifted_ok c.after_before.result c.args.self.now (record c.args.self.now { machine = c.after_before.new.machine }) _ refl
     (on_ok_weaker c.after_before.result (λ x. followed _ _ _ _ x (λ names s b.
-    before_is s (rest_of c.in-BeforeMethods.rest) (rest_of c.in-BeforeMethods.rest).primary (values_of names c.in-BeforeMethods.arguments.value) (value_of_word names c.args.word) c.in-BeforeMethods.level (surroundings names c.args.self.now.machine c.in-BeforeMethods.around)
+    before_is s (rest_of c.in-BeforeMethods.rest) (rest_of c.in-BeforeMethods.rest).primary (values_of names c.in-BeforeMethods.arguments.value) (value_of_word names c.args.word) c.in-BeforeMethods.level (dynamic_context names c.args.self.now.machine c.in-BeforeMethods.around)
     (frames names c.args.self.now.machine 0) (state names c.args.self.now.machine b))) c.after_before.ensures))
 
 pub returns-in-PrimaryMethod : goal.returns-in-PrimaryMethod
@@ -76,4 +76,4 @@ returns-in-PrimaryMethod c =
     (lifted_ok c.after_primary.result c.args.self.now (record c.args.self.now { machine = c.after_primary.new.machine }) _ refl c.after_primary.ensures)
 
 pub returns-in_default : goal.returns-in_default
-returns-in_default c = lifted_ok c.value.result c.args.self.now (record c.args.self.now { machine = c.value.new.machine }) _ refl c.value.ensures
+returns-in_default c = lifted_ok c.value_at_frame.result c.args.self.now (record c.args.self.now { machine = c.value_at_frame.new.machine }) _ refl c.value_at_frame.ensures

@@ -1,7 +1,7 @@
 -- Those that are passed are marked.
 use Rattle.std.proofs.Common.{false, take}
 use Rattle.std.specs.List.{list_any}
-use Rattle.lang_meaning.specs.declared.part.Part.TheVariants.{Variable, Method}
+use Rattle.lang_meaning.specs.declared.capture.Capture.TheVariants.{Variable, Method}
 use Rattle.lang_meaning.specs.Mentions.{same_part}
 use Rattle.flat_conversion.specs.Marks.{Adds}
 use Rattle.flat_conversion.proofs.marks.Marks.capture.Given as goal

@@ -1,5 +1,5 @@
 use Rattle.front_reader.proofs.Answering.{answer-read, answer-ended, answer-refused}
-use Rattle.front_reader.specs.bridge.GoodReads.{next_good}
+use Rattle.front_reader.specs.bridge.WellFormedReads.{next_good}
 use Rattle.front_reader.proofs.reader.Reader.next.Goals as goal
 
 pub returns-in-Ok-Some-clause-read : goal.returns-in-Ok-Some-clause-read

@@ -1,5 +1,0 @@
--- The test is evaluated, for which the loop waits.
-use Rattle.eval_control.proofs.forms.turn.Goals as goal
-
-pub returns : goal.returns
-returns c = c.wait.ensures

@@ -1,0 +1,7 @@
+-- What is left behind all is left behind the rest.
+use Rattle.std.proofs.Common.{◌≡◌, drop}
+use Rattle.front_elaboration.specs.Taken.{clauses_left}
+use Rattle.front_elaboration.proofs.elaborate.taken.clauses_left.Given as goal
+
+abbrev pub invariant-loop-length : goal.invariant-loop-length
+invariant-loop-length l = clauses_left (drop l.length-index l.lengths) l.left ≡ clauses_left l.lengths l.forms
