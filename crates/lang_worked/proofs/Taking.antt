@@ -10,7 +10,7 @@ use Rattle.front_profile.specs.Nodes.{StaticContext, refused, Verdict, stands, e
 use Rattle.front_profile.specs.Rows.{node}
 use Rattle.front_profile.specs.Judged.{Elaborates}
 use Rattle.front_profile.specs.Promises.{FormComes}
-use Rattle.front_scope.specs.Scopes.{top, with_main, nodes_of, most_nodes, boxes_of, most_cells}
+use Rattle.front_scope.specs.Scopes.{top, with_main, nodes_of, most_nodes, cells_of, most_cells}
 use Rattle.front_files.specs.declared.mode.Mode.TheVariants.{Run}
 use Rattle.front_files.specs.Shown.{runs}
 use Rattle.front_files.specs.Verdicts.{FormTaken, FormRefused}
@@ -28,7 +28,7 @@ form_comes names a s d v found = record {
 
 pub taken : (names : List (List ℕ)) (origin : Origin) (s : Tables) (d : Item) (after : List ℕ) (f : Form) (t : Tables) →
     ComesByTest names (top origin) s d (stands (record { form = f; tables = t })) →
-    nat_le (nodes_of (with_main origin f t)) most_nodes ≡ true → nat_le (boxes_of (with_main origin f t)) most_cells ≡ true →
+    nat_le (nodes_of (with_main origin f t)) most_nodes ≡ true → nat_le (cells_of (with_main origin f t)) most_cells ≡ true →
     FormTaken names origin Run s d after (with_main origin f t)
 taken names origin s d after f t found small few = record {
   form = d;
@@ -36,7 +36,7 @@ taken names origin s d after f t found small few = record {
   taken = record {
     given = record { form = f; found = t; comes = form_comes names (top origin) s d _ found; now = refl };
     small = leb-true (nodes_of (with_main origin f t)) most_nodes small;
-    few = leb-true (boxes_of (with_main origin f t)) most_cells few;
+    few = leb-true (cells_of (with_main origin f t)) most_cells few;
   };
 }
 
