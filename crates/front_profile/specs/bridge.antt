@@ -2,7 +2,7 @@
 pub mod Growing
 pub mod Turns
 pub mod Once
-pub mod GoodParts
+pub mod WellFormedParts
 pub mod SoundParts
 pub mod SoundForms
 pub mod SoundBinders

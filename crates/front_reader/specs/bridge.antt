@@ -4,4 +4,4 @@ pub mod Turns
 pub mod Steps
 pub mod Scanning
 pub mod LaterReads
-pub mod GoodReads
+pub mod WellFormedReads
