@@ -4,7 +4,7 @@ ghost use Rattle.std.specs.Prelude.{OnOk};
 ghost use Rattle.flat_language.specs.FlatState.{method_of};
 ghost use Rattle.eval_machine.specs.Configuration.{call_name};
 ghost use Rattle.eval_machine.specs.Step.{operation_step, next_method_step};
-ghost use Rattle.eval_state.specs.View.{StepsTo, at, top, frames, state};
+ghost use Rattle.eval_state.specs.View.{ContinuesAs, at, top};
 
 use crate::methods::next_method;
 use crate::values::apply_name;
@@ -20,7 +20,7 @@ pub fn call_named(
     operands: usize,
     situation: Situation,
 ) -> Result<(), NoMemory>
-    ensures { OnOk result (StepsTo machine.old machine.new (λ names s b. operation_step s (call_name name.0) (top names machine.old operands) (at names machine.old situation) (frames names machine.old operands) (state names machine.old b))) }
+    ensures { OnOk result (ContinuesAs machine.old machine.new operands (λ names s. operation_step s (call_name name.0) (top names machine.old operands) (at names machine.old situation))) }
 {
     apply_name(machine, name, operands, situation.level, situation.around)
 }
@@ -31,7 +31,7 @@ pub fn next_method_at(
     place: MethodPlace,
     situation: Situation,
 ) -> Result<(), NoMemory>
-    ensures { OnOk result (StepsTo machine.old machine.new (λ names s b. next_method_step s (method_of place (at names machine.old situation).environment) (at names machine.old situation) (frames names machine.old 0) (state names machine.old b))) }
+    ensures { OnOk result (ContinuesAs machine.old machine.new 0 (λ names s. next_method_step s (method_of place (at names machine.old situation).environment) (at names machine.old situation))) }
 {
     let called = machine.method_at(place)?;
     next_method(machine, called, situation)

@@ -8,7 +8,7 @@ ghost use Rattle.flat_language.specs.FlatNodes.{tables};
 ghost use Rattle.eval_machine.specs.Applications.{apply_generic, apply_chain};
 ghost use Rattle.lang_dispatch.specs.Chains.{seen};
 ghost use Rattle.eval_state.specs.Frames.{last_of};
-ghost use Rattle.eval_state.specs.View.{StepsTo, IsGiven, top, frames, state, dynamic_context};
+ghost use Rattle.eval_state.specs.View.{ContinuesAs, StepsTo, IsGiven, top, frames, state, dynamic_context};
 ghost use Rattle.eval_application.specs.Generics.{AreBelow, AreClassesOf, IsChainFor, chain_begins};
 
 use crate::classes::PROGRAM_ERROR;
@@ -33,7 +33,7 @@ pub fn apply_generic(
     level: u64,
     around: DynamicLinks,
 ) -> Result<(), NoMemory>
-    ensures { OnOk result (StepsTo machine.old machine.new (λ names s b. apply_generic s number (top names machine.old operands) level (dynamic_context names machine.old around) (frames names machine.old operands) (state names machine.old b))) }
+    ensures { OnOk result (ContinuesAs machine.old machine.new operands (λ names s. apply_generic s number (top names machine.old operands) level (dynamic_context names machine.old around))) }
 {
     let Some(row) = machine.given.program.generics.get(number) else {
         give_nil(machine, operands);
@@ -133,7 +133,7 @@ fn begin_chain<'p>(
     around: DynamicLinks,
 ) -> Result<(), NoMemory>
     requires { count ≤ length machine.old.operands.items }
-    ensures { OnOk result (StepsTo machine.old machine.new (λ names s b. chain_begins s (seen chain.now) (top names machine.old count) level (dynamic_context names machine.old around) (frames names machine.old count) (state names machine.old b))) }
+    ensures { OnOk result (ContinuesAs machine.old machine.new count (λ names s. chain_begins s (seen chain.now) (top names machine.old count) level (dynamic_context names machine.old around))) }
 {
     let Some(below) = level.checked_sub(1) else {
         end_levels(machine, count);

@@ -3,7 +3,7 @@
 ghost use Rattle.std.specs.Prelude.{OnOk};
 ghost use Rattle.eval_machine.specs.Step.{apply_step};
 ghost use Rattle.eval_store.specs.Words.{value_of_word};
-ghost use Rattle.eval_state.specs.View.{StepsTo, at, frames, state};
+ghost use Rattle.eval_state.specs.View.{ContinuesAs, at};
 
 use crate::classes::{FUNCTION, LIST};
 use crate::functions::is_function;
@@ -22,7 +22,7 @@ pub fn apply_list(
     list: Word,
     situation: Situation,
 ) -> Result<(), NoMemory>
-    ensures { OnOk result (StepsTo machine.old machine.new (λ names s b. apply_step s (value_of_word names function) (value_of_word names list) (at names machine.old situation) (frames names machine.old 0) (state names machine.old b))) }
+    ensures { OnOk result (ContinuesAs machine.old machine.new 0 (λ names s. apply_step s (value_of_word names function) (value_of_word names list) (at names machine.old situation))) }
 {
     if !is_function(&machine.store, function) {
         return machine.signal_domain(function, FUNCTION, situation.level, situation.around);

@@ -5,7 +5,7 @@ ghost use Rattle.eval_machine.specs.Configuration.{primary_method};
 ghost use Rattle.eval_machine.specs.Applications.{apply_method, apply_each, run_chain, run_primary};
 ghost use Rattle.eval_machine.specs.Step.{next_method_step, value_step};
 ghost use Rattle.eval_store.specs.Words.{value_of_word, values_of, called_of, called_or_none, rest_of};
-ghost use Rattle.eval_state.specs.View.{StepsTo, at, frames, state, dynamic_context};
+ghost use Rattle.eval_state.specs.View.{ContinuesAs, at, dynamic_context};
 ghost use Rattle.eval_application.specs.Methods.{IsNextAround, IsNextPrimary, IsAfterBefore, after_before, ArePushed};
 
 use crate::classes::CONTROL_ERROR;
@@ -46,7 +46,7 @@ pub fn apply_method<'p>(
     level: u64,
     around: DynamicLinks,
 ) -> Result<(), NoMemory>
-    ensures { OnOk result (StepsTo machine.old machine.new (λ names s b. apply_method s number (called_of names called.entry) level (dynamic_context names machine.old around) (frames names machine.old 0) (state names machine.old b))) }
+    ensures { OnOk result (ContinuesAs machine.old machine.new 0 (λ names s. apply_method s number (called_of names called.entry) level (dynamic_context names machine.old around))) }
 {
     let count = push_arguments(machine, &called.arguments)?;
     apply_procedure(machine, number, Some(called), count, level, around)
@@ -61,7 +61,7 @@ pub fn apply_each<'p>(
     level: u64,
     around: DynamicLinks,
 ) -> Result<(), NoMemory>
-    ensures { OnOk result (StepsTo machine.old machine.new (λ names s b. apply_each s (drop at list.now) (values_of names arguments.value) level (dynamic_context names machine.old around) (frames names machine.old 0) (state names machine.old b))) }
+    ensures { OnOk result (ContinuesAs machine.old machine.new 0 (λ names s. apply_each s (drop at list.now) (values_of names arguments.value) level (dynamic_context names machine.old around))) }
 {
     if at < list.len() {
         apply_next(machine, list, at, arguments, level, around)
@@ -82,7 +82,7 @@ fn apply_next<'p>(
     around: DynamicLinks,
 ) -> Result<(), NoMemory>
     requires { at < length list.now }
-    ensures { OnOk result (StepsTo machine.old machine.new (λ names s b. apply_each s (drop at list.now) (values_of names arguments.value) level (dynamic_context names machine.old around) (frames names machine.old 0) (state names machine.old b))) }
+    ensures { OnOk result (ContinuesAs machine.old machine.new 0 (λ names s. apply_each s (drop at list.now) (values_of names arguments.value) level (dynamic_context names machine.old around))) }
 {
     let Some(number) = list.get(at) else {
         unreachable!()
@@ -101,7 +101,7 @@ pub fn run_chain<'p>(
     level: u64,
     around: DynamicLinks,
 ) -> Result<(), NoMemory>
-    ensures { OnOk result (StepsTo machine.old machine.new (λ names s b. run_chain s (rest_of rest.entry) (values_of names arguments.value) level (dynamic_context names machine.old around) (frames names machine.old 0) (state names machine.old b))) }
+    ensures { OnOk result (ContinuesAs machine.old machine.new 0 (λ names s. run_chain s (rest_of rest.entry) (values_of names arguments.value) level (dynamic_context names machine.old around))) }
 {
     match next_around(rest) {
         Some(next) => {
@@ -123,7 +123,7 @@ fn run_primary<'p>(
     level: u64,
     around: DynamicLinks,
 ) -> Result<(), NoMemory>
-    ensures { OnOk result (StepsTo machine.old machine.new (λ names s b. run_primary s (rest_of rest.entry) (rest_of rest.entry).primary (values_of names arguments.value) level (dynamic_context names machine.old around) (frames names machine.old 0) (state names machine.old b))) }
+    ensures { OnOk result (ContinuesAs machine.old machine.new 0 (λ names s. run_primary s (rest_of rest.entry) (rest_of rest.entry).primary (values_of names arguments.value) level (dynamic_context names machine.old around))) }
 {
     if next_primary(rest).is_none() {
         drop(arguments);
@@ -143,7 +143,7 @@ pub fn after_before<'p>(
     level: u64,
     around: DynamicLinks,
 ) -> Result<(), NoMemory>
-    ensures { OnOk result (StepsTo machine.old machine.new (λ names s b. after_before s (rest_of rest.entry) (rest_of rest.entry).primary (values_of names arguments.value) level (dynamic_context names machine.old around) (frames names machine.old 0) (state names machine.old b))) }
+    ensures { OnOk result (ContinuesAs machine.old machine.new 0 (λ names s. after_before s (rest_of rest.entry) (rest_of rest.entry).primary (values_of names arguments.value) level (dynamic_context names machine.old around))) }
 {
     let next = primary_after(rest);
     let shared = arguments.clone()?;
@@ -164,7 +164,7 @@ pub fn after_primary<'p>(
     level: u64,
     around: DynamicLinks,
 ) -> Result<(), NoMemory>
-    ensures { OnOk result (StepsTo machine.old machine.new (λ names s b. value_step s (primary_method (rest_of rest.entry).after (values_of names arguments.value) level (dynamic_context names machine.old around)) (value_of_word names word) (frames names machine.old 0) (state names machine.old b))) }
+    ensures { OnOk result (ContinuesAs machine.old machine.new 0 (λ names s. value_step s (primary_method (rest_of rest.entry).after (values_of names arguments.value) level (dynamic_context names machine.old around)) (value_of_word names word))) }
 {
     let Ok(()) = machine.push_frame(ContinuationFrame::Kept(Outcome::Value(word))) else {
         drop(arguments);
@@ -180,7 +180,7 @@ pub fn next_method<'p>(
     called: Option<Called<'p>>,
     situation: Situation,
 ) -> Result<(), NoMemory>
-    ensures { OnOk result (StepsTo machine.old machine.new (λ names s b. next_method_step s (called_or_none names called.entry) (at names machine.old situation) (frames names machine.old 0) (state names machine.old b))) }
+    ensures { OnOk result (ContinuesAs machine.old machine.new 0 (λ names s. next_method_step s (called_or_none names called.entry) (at names machine.old situation))) }
 {
     match called {
         Some(called) => run_chain(

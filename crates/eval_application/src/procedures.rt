@@ -6,7 +6,7 @@ ghost use Rattle.lang_meaning.specs.State.{value, more};
 ghost use Rattle.eval_machine.specs.Configuration.{configuration, come_to};
 ghost use Rattle.eval_machine.specs.Applications.{apply_procedure, apply_function};
 ghost use Rattle.eval_store.specs.Words.{called_or_none, captured_of};
-ghost use Rattle.eval_state.specs.View.{StepsTo, top, frames, state, dynamic_context};
+ghost use Rattle.eval_state.specs.View.{ContinuesAs, top, dynamic_context};
 ghost use Rattle.eval_application.specs.Applying.{coded, entered_option, captured_values};
 
 use crate::entering::{Entering, enter_procedure};
@@ -28,7 +28,7 @@ pub fn apply_procedure<'p>(
     level: u64,
     around: DynamicLinks,
 ) -> Result<(), NoMemory>
-    ensures { OnOk result (StepsTo machine.old machine.new (λ names s b. apply_procedure s number (called_or_none names called.entry) (top names machine.old operands) level (dynamic_context names machine.old around) (frames names machine.old operands) (state names machine.old b))) }
+    ensures { OnOk result (ContinuesAs machine.old machine.new operands (λ names s. apply_procedure s number (called_or_none names called.entry) (top names machine.old operands) level (dynamic_context names machine.old around))) }
 {
     let code = machine.given.procedure(number);
     let activation = Activation {
@@ -48,7 +48,7 @@ pub fn apply_function<'p>(
     level: u64,
     around: DynamicLinks,
 ) -> Result<(), NoMemory>
-    ensures { OnOk result (StepsTo machine.old machine.new (λ names s b. apply_function s number (captured_values names captured.entry.value) (top names machine.old operands) level (dynamic_context names machine.old around) (frames names machine.old operands) (state names machine.old b))) }
+    ensures { OnOk result (ContinuesAs machine.old machine.new operands (λ names s. apply_function s number (captured_values names captured.entry.value) (top names machine.old operands) level (dynamic_context names machine.old around))) }
 {
     let code = machine.given.lambda(number);
     let activation = Activation {
@@ -68,7 +68,7 @@ fn apply_code<'p>(
     level: u64,
     around: DynamicLinks,
 ) -> Result<(), NoMemory>
-    ensures { OnOk result (StepsTo machine.old machine.new (λ names s b. coded s (entered_option names code.entry activation.entry) (top names machine.old operands) level (dynamic_context names machine.old around) (frames names machine.old operands) (state names machine.old b))) }
+    ensures { OnOk result (ContinuesAs machine.old machine.new operands (λ names s. coded s (entered_option names code.entry activation.entry) (top names machine.old operands) level (dynamic_context names machine.old around))) }
 {
     let Some(below) = level.checked_sub(1) else {
         drop(activation);
@@ -92,7 +92,7 @@ fn apply_code<'p>(
 
 /// The levels have come to an end, and so many operands go.
 pub fn end_levels(machine: &mut Machine<'_>, operands: usize)
-    ensures { StepsTo machine.old machine.new (λ names s b. configuration (come_to more) (frames names machine.old operands) (state names machine.old b)) }
+    ensures { ContinuesAs machine.old machine.new operands (λ names s. configuration (come_to more)) }
 {
     machine.drop_operands(operands);
     machine.come_to(Outcome::More);
@@ -100,7 +100,7 @@ pub fn end_levels(machine: &mut Machine<'_>, operands: usize)
 
 /// Nil comes, and so many operands go.
 pub fn give_nil(machine: &mut Machine<'_>, operands: usize)
-    ensures { StepsTo machine.old machine.new (λ names s b. configuration (come_to (value nil)) (frames names machine.old operands) (state names machine.old b)) }
+    ensures { ContinuesAs machine.old machine.new operands (λ names s. configuration (come_to (value nil))) }
 {
     machine.drop_operands(operands);
     machine.gives(Word::Nil);

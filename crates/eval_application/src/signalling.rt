@@ -5,7 +5,7 @@ ghost use Rattle.eval_machine.specs.Applications.{signal_under};
 ghost use Rattle.eval_machine.specs.Step.{signal_step, handler_step};
 ghost use Rattle.eval_store.specs.Words.{value_of_word};
 ghost use Rattle.eval_state.specs.Frames.{handler_link};
-ghost use Rattle.eval_state.specs.View.{StepsTo, at, frames, state, dynamic_context};
+ghost use Rattle.eval_state.specs.View.{ContinuesAs, StepsTo, at, state, dynamic_context};
 ghost use Rattle.eval_application.specs.Signalling.{IsSignalled, IsInnermost, handled_by};
 
 use crate::classes::{FUNCTION, SERIOUS_CONDITION};
@@ -35,7 +35,7 @@ pub fn signal_under(
     level: u64,
     around: DynamicLinks,
 ) -> Result<(), NoMemory>
-    ensures { OnOk result (StepsTo machine.old machine.new (λ names s b. signal_under s (dynamic_context names machine.old around).handlers (value_of_word names condition) (value_of_word names mark) level (dynamic_context names machine.old around) (frames names machine.old 0) (state names machine.old b))) }
+    ensures { OnOk result (ContinuesAs machine.old machine.new 0 (λ names s. signal_under s (dynamic_context names machine.old around).handlers (value_of_word names condition) (value_of_word names mark) level (dynamic_context names machine.old around))) }
 {
     let handler = innermost_handler(machine, around.handlers);
     let number = begin_signal(machine, condition, mark)?;
@@ -135,7 +135,7 @@ pub fn signal_condition(
     mark: Word,
     situation: Situation,
 ) -> Result<(), NoMemory>
-    ensures { OnOk result (StepsTo machine.old machine.new (λ names s b. signal_step s (value_of_word names condition) (value_of_word names mark) (at names machine.old situation) (frames names machine.old 0) (state names machine.old b))) }
+    ensures { OnOk result (ContinuesAs machine.old machine.new 0 (λ names s. signal_step s (value_of_word names condition) (value_of_word names mark) (at names machine.old situation))) }
 {
     if machine
         .given
@@ -166,7 +166,7 @@ pub fn with_handler<'p>(
     body: &'p FlatCore,
     situation: Situation,
 ) -> Result<(), NoMemory>
-    ensures { OnOk result (StepsTo machine.old machine.new (λ names s b. handler_step s (value_of_word names handler) body.now (at names machine.old situation) (frames names machine.old 0) (state names machine.old b))) }
+    ensures { OnOk result (ContinuesAs machine.old machine.new 0 (λ names s. handler_step s (value_of_word names handler) body.now (at names machine.old situation))) }
 {
     if is_function(&machine.store, handler) {
         let link = machine.next_link()?;

@@ -5,7 +5,7 @@ ghost use Rattle.lang_meaning.specs.Lookup.{text};
 ghost use Rattle.lang_meaning.specs.Literals.{function_row};
 ghost use Rattle.eval_machine.specs.Applications.{apply_value, apply_callee, apply_row};
 ghost use Rattle.eval_store.specs.Words.{value_of_word};
-ghost use Rattle.eval_state.specs.View.{StepsTo, at, top, frames, state, dynamic_context};
+ghost use Rattle.eval_state.specs.View.{ContinuesAs, at, top, dynamic_context};
 ghost use Rattle.eval_machine.specs.Step.{call_value_step};
 ghost use Rattle.eval_application.specs.Functions.{applied};
 ghost use Rattle.eval_application.specs.Firsts.{IsFirstArgument};
@@ -28,7 +28,7 @@ pub fn apply_value(
     level: u64,
     around: DynamicLinks,
 ) -> Result<(), NoMemory>
-    ensures { OnOk result (StepsTo machine.old machine.new (λ names s b. apply_value s (value_of_word names word) (top names machine.old operands) level (dynamic_context names machine.old around) (frames names machine.old operands) (state names machine.old b))) }
+    ensures { OnOk result (ContinuesAs machine.old machine.new operands (λ names s. apply_value s (value_of_word names word) (top names machine.old operands) level (dynamic_context names machine.old around))) }
 {
     let function = function_of(&machine.store, word)?;
     apply_found(machine, function, word, operands, level, around)
@@ -43,7 +43,7 @@ fn apply_found<'p>(
     level: u64,
     around: DynamicLinks,
 ) -> Result<(), NoMemory>
-    ensures { OnOk result (StepsTo machine.old machine.new (λ names s b. applied names s function.entry word (top names machine.old operands) level (dynamic_context names machine.old around) (frames names machine.old operands) (state names machine.old b))) }
+    ensures { OnOk result (ContinuesAs machine.old machine.new operands (λ names s. applied names s function.entry word (top names machine.old operands) level (dynamic_context names machine.old around))) }
 {
     match function {
         Function::Procedure(number) => {
@@ -68,7 +68,7 @@ pub fn apply_callee(
     level: u64,
     around: DynamicLinks,
 ) -> Result<(), NoMemory>
-    ensures { OnOk result (StepsTo machine.old machine.new (λ names s b. apply_callee s callee (top names machine.old operands) level (dynamic_context names machine.old around) (frames names machine.old operands) (state names machine.old b))) }
+    ensures { OnOk result (ContinuesAs machine.old machine.new operands (λ names s. apply_callee s callee (top names machine.old operands) level (dynamic_context names machine.old around))) }
 {
     match callee {
         Callee::Procedure(number) => {
@@ -86,7 +86,7 @@ pub fn apply_name(
     level: u64,
     around: DynamicLinks,
 ) -> Result<(), NoMemory>
-    ensures { OnOk result (StepsTo machine.old machine.new (λ names s b. apply_row s (text names name.0) (function_row names s.program.functions (text names name.0)) (top names machine.old operands) level (dynamic_context names machine.old around) (frames names machine.old operands) (state names machine.old b))) }
+    ensures { OnOk result (ContinuesAs machine.old machine.new operands (λ names s. apply_row s (text names name.0) (function_row names s.program.functions (text names name.0)) (top names machine.old operands) level (dynamic_context names machine.old around))) }
 {
     match machine.given.layout.callee(name) {
         Some(callee) => apply_callee(machine, callee, operands, level, around),
@@ -103,7 +103,7 @@ pub fn call_first(
     operands: usize,
     situation: Situation,
 ) -> Result<(), NoMemory>
-    ensures { OnOk result (StepsTo machine.old machine.new (λ names s b. call_value_step s (top names machine.old operands) (at names machine.old situation) (frames names machine.old operands) (state names machine.old b))) }
+    ensures { OnOk result (ContinuesAs machine.old machine.new operands (λ names s. call_value_step s (top names machine.old operands) (at names machine.old situation))) }
 {
     let count = machine.held_operands(operands);
     let Some(others) = count.checked_sub(1) else {

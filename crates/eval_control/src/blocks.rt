@@ -6,7 +6,7 @@ ghost use Rattle.eval_machine.specs.Step.{segments_step, value_step};
 ghost use Rattle.eval_machine.specs.Configuration.{catch_tag};
 ghost use Rattle.eval_store.specs.Words.{value_of_word};
 ghost use Rattle.eval_state.specs.Frames.{forms_from, inside_tagbody};
-ghost use Rattle.eval_state.specs.View.{StepsTo, at, frames, state};
+ghost use Rattle.eval_state.specs.View.{ContinuesAs, at};
 ghost use Rattle.eval_control.specs.Begins.{block_begins, tagbody_begins};
 
 use crate::lists::sequence;
@@ -23,7 +23,7 @@ pub fn block<'p>(
     body: &'p FlatCore,
     situation: Situation,
 ) -> Result<(), NoMemory>
-    ensures { OnOk result (StepsTo machine.old machine.new (λ names s b. block_begins s body.now (at names machine.old situation) (frames names machine.old 0) (state names machine.old b))) }
+    ensures { OnOk result (ContinuesAs machine.old machine.new 0 (λ names s. block_begins s body.now (at names machine.old situation))) }
 {
     let number = machine.new_exit()?;
     let link = machine.next_link()?;
@@ -42,7 +42,7 @@ pub fn catch<'p>(
     tag: Word,
     situation: Situation,
 ) -> Result<(), NoMemory>
-    ensures { OnOk result (StepsTo machine.old machine.new (λ names s b. value_step s (catch_tag body.now (at names machine.old situation)) (value_of_word names tag) (frames names machine.old 0) (state names machine.old b))) }
+    ensures { OnOk result (ContinuesAs machine.old machine.new 0 (λ names s. value_step s (catch_tag body.now (at names machine.old situation)) (value_of_word names tag))) }
 {
     let number = machine.new_exit()?;
     let link = machine.next_link()?;
@@ -60,7 +60,7 @@ pub fn tagbody<'p>(
     list: &'p FlatCoreList,
     situation: Situation,
 ) -> Result<(), NoMemory>
-    ensures { OnOk result (StepsTo machine.old machine.new (λ names s b. tagbody_begins s (forms list.now) (at names machine.old situation) (frames names machine.old 0) (state names machine.old b))) }
+    ensures { OnOk result (ContinuesAs machine.old machine.new 0 (λ names s. tagbody_begins s (forms list.now) (at names machine.old situation))) }
 {
     let number = machine.new_exit()?;
     segments(machine, number, list, 0, situation)
@@ -74,7 +74,7 @@ pub fn segments<'p>(
     place: usize,
     outside: Situation,
 ) -> Result<(), NoMemory>
-    ensures { OnOk result (StepsTo machine.old machine.new (λ names s b. segments_step s number (forms_from list.now place) (forms list.now) (inside_tagbody number (at names machine.old outside)) (frames names machine.old 0) (state names machine.old b))) }
+    ensures { OnOk result (ContinuesAs machine.old machine.new 0 (λ names s. segments_step s number (forms_from list.now place) (forms list.now) (inside_tagbody number (at names machine.old outside)))) }
 {
     let link = machine.next_link()?;
     machine.push_frame(ContinuationFrame::Tagbody {

@@ -5,7 +5,7 @@ ghost use Rattle.flat_language.specs.model.View.{dynamics_of};
 ghost use Rattle.eval_machine.specs.Step.{dynamic_let_step};
 ghost use Rattle.eval_state.specs.Frames.{last_of};
 ghost use Rattle.eval_state.specs.Variables.{AreVariables};
-ghost use Rattle.eval_state.specs.View.{StepsTo, at, top, frames, state};
+ghost use Rattle.eval_state.specs.View.{ContinuesAs, at, top};
 
 use base::NoMemory;
 use eval_state::frame::ContinuationFrame;
@@ -22,7 +22,7 @@ pub fn dynamic_body<'p>(
     body: &'p FlatCore,
     situation: Situation,
 ) -> Result<(), NoMemory>
-    ensures { OnOk result (StepsTo machine.old machine.new (λ names s b. dynamic_let_step s (dynamics_of list.now) body.now (top names machine.old count) (at names machine.old situation) (frames names machine.old count) (state names machine.old b))) }
+    ensures { OnOk result (ContinuesAs machine.old machine.new count (λ names s. dynamic_let_step s (dynamics_of list.now) body.now (top names machine.old count) (at names machine.old situation))) }
 {
     let first = machine.store.variable_count();
     let held = machine.held_operands(count);

@@ -3,7 +3,7 @@
 ghost use Rattle.std.specs.Prelude.{◌≡◌, false, OnOk};
 ghost use Rattle.flat_language.specs.FlatForm.{while_form};
 ghost use Rattle.flat_language.specs.model.View.{view_form};
-ghost use Rattle.eval_state.specs.View.{StepsTo, at, frames, state};
+ghost use Rattle.eval_state.specs.View.{ContinuesAs, at};
 ghost use Rattle.eval_control.specs.Begins.{begins, FormWantsMore};
 
 use crate::blocks::{block, tagbody};
@@ -28,7 +28,7 @@ pub fn loop_turn<'p>(
     body: &'p FlatCore,
     situation: Situation,
 ) -> Result<(), NoMemory>
-    ensures { OnOk result (StepsTo machine.old machine.new (λ names s b. begins s (while_form test.now body.now) (at names machine.old situation) (frames names machine.old 0) (state names machine.old b))) }
+    ensures { OnOk result (ContinuesAs machine.old machine.new 0 (λ names s. begins s (while_form test.now body.now) (at names machine.old situation))) }
 {
     machine.wait(
         ContinuationFrame::WhileTest(test, body, situation),
@@ -44,7 +44,7 @@ pub fn begin_kind<'p>(
     situation: Situation,
 ) -> Result<(), NoMemory>
     requires { FormWantsMore (view_form form.now) ≡ false }
-    ensures { OnOk result (StepsTo machine.old machine.new (λ names s b. begins s (view_form form.now) (at names machine.old situation) (frames names machine.old 0) (state names machine.old b))) }
+    ensures { OnOk result (ContinuesAs machine.old machine.new 0 (λ names s. begins s (view_form form.now) (at names machine.old situation))) }
 {
     match form {
         FlatCoreForm::Literal(id) => literal(machine, *id, situation),

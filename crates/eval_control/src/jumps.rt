@@ -8,7 +8,7 @@ ghost use Rattle.eval_machine.specs.Applications.{transfer};
 ghost use Rattle.eval_machine.specs.Configuration.{return_value};
 ghost use Rattle.eval_machine.specs.Step.{value_step};
 ghost use Rattle.eval_store.specs.Words.{value_of_word};
-ghost use Rattle.eval_state.specs.View.{StepsTo, at, frames, state};
+ghost use Rattle.eval_state.specs.View.{ContinuesAs, at};
 
 use crate::own_exits::own_exit;
 use crate::transfers::transfer;
@@ -40,7 +40,7 @@ pub fn go(
     segment: u32,
     situation: Situation,
 ) -> Result<(), NoMemory>
-    ensures { OnOk result (StepsTo machine.old machine.new (λ names s b. transfer s (exit_of exit (at names machine.old situation).environment) nil (at_segment segment) (at names machine.old situation).level (at names machine.old situation).around (frames names machine.old 0) (state names machine.old b))) }
+    ensures { OnOk result (ContinuesAs machine.old machine.new 0 (λ names s. transfer s (exit_of exit (at names machine.old situation).environment) nil (at_segment segment) (at names machine.old situation).level (at names machine.old situation).around)) }
 {
     let number = exit_at(machine, exit, situation)?;
     transfer(
@@ -60,7 +60,7 @@ pub fn return_from(
     word: Word,
     situation: Situation,
 ) -> Result<(), NoMemory>
-    ensures { OnOk result (StepsTo machine.old machine.new (λ names s b. value_step s (return_value place (at names machine.old situation)) (value_of_word names word) (frames names machine.old 0) (state names machine.old b))) }
+    ensures { OnOk result (ContinuesAs machine.old machine.new 0 (λ names s. value_step s (return_value place (at names machine.old situation)) (value_of_word names word))) }
 {
     let number = exit_at(machine, place, situation)?;
     transfer(

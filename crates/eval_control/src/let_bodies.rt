@@ -3,7 +3,7 @@
 ghost use Rattle.std.specs.Prelude.{OnOk};
 ghost use Rattle.flat_language.specs.model.View.{bindings_of};
 ghost use Rattle.eval_machine.specs.Step.{let_step};
-ghost use Rattle.eval_state.specs.View.{StepsTo, at, top, frames, state};
+ghost use Rattle.eval_state.specs.View.{ContinuesAs, at, top};
 ghost use Rattle.eval_control.specs.LetBodies.{let_enters};
 
 use base::NoMemory;
@@ -20,7 +20,7 @@ pub fn let_body<'p>(
     body: &'p FlatCore,
     situation: Situation,
 ) -> Result<(), NoMemory>
-    ensures { OnOk result (StepsTo machine.old machine.new (λ names s b. let_step s (bindings_of list.now) body.now (top names machine.old count) (at names machine.old situation) (frames names machine.old count) (state names machine.old b))) }
+    ensures { OnOk result (ContinuesAs machine.old machine.new count (λ names s. let_step s (bindings_of list.now) body.now (top names machine.old count) (at names machine.old situation))) }
 {
     if machine.take_binding_boxes(list)? {
         enter_let(machine, list, count, body, situation)
@@ -38,7 +38,7 @@ fn enter_let<'p>(
     body: &'p FlatCore,
     situation: Situation,
 ) -> Result<(), NoMemory>
-    ensures { OnOk result (StepsTo machine.old machine.new (λ names s b. let_enters (bindings_of list.now) body.now (top names machine.old count) (at names machine.old situation) (frames names machine.old count) (state names machine.old b))) }
+    ensures { OnOk result (ContinuesAs machine.old machine.new count (λ names s. let_enters (bindings_of list.now) body.now (top names machine.old count) (at names machine.old situation))) }
 {
     let before = machine.slot_count();
     let held = machine.held_operands(count);

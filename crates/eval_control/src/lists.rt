@@ -5,7 +5,7 @@ ghost use Rattle.eval_machine.specs.Step.{sequence_step, clauses_step, bindings_
 ghost use Rattle.flat_language.specs.model.View.{bindings_of, dynamics_of};
 ghost use Rattle.eval_store.specs.Words.{value_of_word};
 ghost use Rattle.eval_state.specs.Frames.{forms_from, clauses_from, bindings_from, dynamics_from};
-ghost use Rattle.eval_state.specs.View.{StepsTo, at, top, frames, state};
+ghost use Rattle.eval_state.specs.View.{ContinuesAs, at, top};
 
 use crate::dynamic_bodies::dynamic_body;
 use crate::let_bodies::let_body;
@@ -25,7 +25,7 @@ pub fn sequence<'p>(
     place: usize,
     situation: Situation,
 ) -> Result<(), NoMemory>
-    ensures { OnOk result (StepsTo machine.old machine.new (λ names s b. sequence_step s (value_of_word names last) (forms_from list.now place) (at names machine.old situation) (frames names machine.old 0) (state names machine.old b))) }
+    ensures { OnOk result (ContinuesAs machine.old machine.new 0 (λ names s. sequence_step s (value_of_word names last) (forms_from list.now place) (at names machine.old situation))) }
 {
     match list.get(place) {
         Some(form) => {
@@ -50,7 +50,7 @@ pub fn clauses<'p>(
     place: usize,
     situation: Situation,
 ) -> Result<(), NoMemory>
-    ensures { OnOk result (StepsTo machine.old machine.new (λ names s b. clauses_step s (clauses_from list.now place) (at names machine.old situation) (frames names machine.old 0) (state names machine.old b))) }
+    ensures { OnOk result (ContinuesAs machine.old machine.new 0 (λ names s. clauses_step s (clauses_from list.now place) (at names machine.old situation))) }
 {
     match list.get(place) {
         Some(clause) => machine.wait(
@@ -73,7 +73,7 @@ pub fn bindings<'p>(
     body: &'p FlatCore,
     situation: Situation,
 ) -> Result<(), NoMemory>
-    ensures { OnOk result (StepsTo machine.old machine.new (λ names s b. bindings_step s (bindings_from list.now count) (top names machine.old count) (bindings_of list.now) body.now (at names machine.old situation) (frames names machine.old count) (state names machine.old b))) }
+    ensures { OnOk result (ContinuesAs machine.old machine.new count (λ names s. bindings_step s (bindings_from list.now count) (top names machine.old count) (bindings_of list.now) body.now (at names machine.old situation))) }
 {
     match list.get(count) {
         Some(binding) => machine.hold(
@@ -93,7 +93,7 @@ pub fn dynamics<'p>(
     body: &'p FlatCore,
     situation: Situation,
 ) -> Result<(), NoMemory>
-    ensures { OnOk result (StepsTo machine.old machine.new (λ names s b. dynamics_step s (dynamics_from list.now count) (top names machine.old count) (dynamics_of list.now) body.now (at names machine.old situation) (frames names machine.old count) (state names machine.old b))) }
+    ensures { OnOk result (ContinuesAs machine.old machine.new count (λ names s. dynamics_step s (dynamics_from list.now count) (top names machine.old count) (dynamics_of list.now) body.now (at names machine.old situation))) }
 {
     match list.get(count) {
         Some(binding) => machine.hold(

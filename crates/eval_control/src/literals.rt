@@ -2,7 +2,7 @@
 
 ghost use Rattle.std.specs.Prelude.{◌≡◌, OnOk, slice_get};
 ghost use Rattle.eval_machine.specs.Step.{literal_step};
-ghost use Rattle.eval_state.specs.View.{StepsTo, at, frames, state};
+ghost use Rattle.eval_state.specs.View.{ContinuesAs, at};
 
 use base::NoMemory;
 use eval_state::machine::Machine;
@@ -16,7 +16,7 @@ pub fn literal(
     id: LiteralId,
     situation: Situation,
 ) -> Result<(), NoMemory>
-    ensures { OnOk result (StepsTo machine.old machine.new (λ names s b. literal_step s id (slice_get s.program.literals id) (at names machine.old situation) (frames names machine.old 0) (state names machine.old b))) }
+    ensures { OnOk result (ContinuesAs machine.old machine.new 0 (λ names s. literal_step s id (slice_get s.program.literals id) (at names machine.old situation))) }
 {
     let given = machine.given;
     match given.program.literals.get(id) {

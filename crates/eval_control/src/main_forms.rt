@@ -4,7 +4,7 @@ ghost use Rattle.std.specs.Prelude.{◌≡◌, OnOk, drop};
 ghost use Rattle.eval_machine.specs.Configuration.{main_form, main_forms};
 ghost use Rattle.eval_machine.specs.Step.{value_step};
 ghost use Rattle.eval_store.specs.Words.{value_of_word};
-ghost use Rattle.eval_state.specs.View.{StepsTo, frames, state};
+ghost use Rattle.eval_state.specs.View.{ContinuesAs};
 ghost use Rattle.eval_control.specs.Mains.{main_form_step};
 
 use base::{NoMemory, Place};
@@ -41,7 +41,7 @@ pub fn main_forms<'p>(
     place: usize,
     last: Word,
 ) -> Result<(), NoMemory>
-    ensures { OnOk result (StepsTo machine.old machine.new (λ names s b. value_step s (main_forms level (drop place list.now)) (value_of_word names last) (frames names machine.old 0) (state names machine.old b))) }
+    ensures { OnOk result (ContinuesAs machine.old machine.new 0 (λ names s. value_step s (main_forms level (drop place list.now)) (value_of_word names last))) }
 {
     match list.get(place) {
         Some(form) => {
@@ -63,7 +63,7 @@ fn main_form<'p>(
     left: usize,
     form: &'p FlatCore,
 ) -> Result<(), NoMemory>
-    ensures { OnOk result (StepsTo machine.old machine.new (λ names s b. main_form_step s level (drop left list.now) form.now (frames names machine.old 0) (state names machine.old b))) }
+    ensures { OnOk result (ContinuesAs machine.old machine.new 0 (λ names s. main_form_step s level (drop left list.now) form.now)) }
 {
     let words = form_words(form)?;
     let before = machine.store.stack();
@@ -86,7 +86,7 @@ fn main_form<'p>(
 
 /// The value of a main form: the words of the stack are as many as before it.
 pub fn main_value(machine: &mut Machine<'_>, stack: u64, word: Word)
-    ensures { StepsTo machine.old machine.new (λ names s b. value_step s (main_form stack) (value_of_word names word) (frames names machine.old 0) (state names machine.old b)) }
+    ensures { ContinuesAs machine.old machine.new 0 (λ names s. value_step s (main_form stack) (value_of_word names word)) }
 {
     machine.store.set_stack(stack);
     machine.gives(word);

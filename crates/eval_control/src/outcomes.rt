@@ -10,7 +10,7 @@ ghost use Rattle.eval_machine.specs.Configuration.{configuration, ended, come_to
 ghost use Rattle.eval_machine.specs.Step.{segments_step, turn_step, cleanup_step};
 ghost use Rattle.eval_state.specs.Chains.{chained};
 ghost use Rattle.eval_state.specs.Frames.{landing_of, outcome_of, exit_link, inside_tagbody};
-ghost use Rattle.eval_state.specs.View.{StepsTo, at, frames, state};
+ghost use Rattle.eval_state.specs.View.{ContinuesAs, StepsTo, at, frames, state};
 
 use crate::blocks;
 use crate::remaining::exits_from;
@@ -75,7 +75,7 @@ fn with_exits(situation: Situation, exits: usize) -> Situation
 
 /// An outcome goes on to the frames below, and so many operands go.
 pub fn pass(machine: &mut Machine<'_>, outcome: Outcome, operands: usize)
-    ensures { StepsTo machine.old machine.new (λ names s b. configuration (come_to (outcome_of names outcome)) (frames names machine.old operands) (state names machine.old b)) }
+    ensures { ContinuesAs machine.old machine.new operands (λ names s. configuration (come_to (outcome_of names outcome))) }
 {
     machine.drop_operands(operands);
     machine.come_to(outcome);
@@ -96,7 +96,7 @@ pub fn turns<'p>(
     outside: Situation,
     outcome: Outcome,
 ) -> Result<(), NoMemory>
-    ensures { OnOk result (StepsTo machine.old machine.new (λ names s b. turn_step s number (forms segments.now) (inside_tagbody number (at names machine.old outside)) (outcome_of names outcome) (frames names machine.old 0) (state names machine.old b))) }
+    ensures { OnOk result (ContinuesAs machine.old machine.new 0 (λ names s. turn_step s number (forms segments.now) (inside_tagbody number (at names machine.old outside)) (outcome_of names outcome))) }
 {
     match outcome {
         Outcome::Exit(exit, _, landing) => {
@@ -122,7 +122,7 @@ fn turns_to<'p>(
     landing: Landing,
     outside: Situation,
 ) -> Result<(), NoMemory>
-    ensures { OnOk result (StepsTo machine.old machine.new (λ names s b. descend outside.level (λ k. segments_step s number (from_segment (segment_of (landing_of landing)) (forms segments.now)) (forms segments.now) (record (inside_tagbody number (at names machine.old outside)) { level = k })) (frames names machine.old 0) (state names machine.old b))) }
+    ensures { OnOk result (ContinuesAs machine.old machine.new 0 (λ names s. descend outside.level (λ k. segments_step s number (from_segment (segment_of (landing_of landing)) (forms segments.now)) (forms segments.now) (record (inside_tagbody number (at names machine.old outside)) { level = k })))) }
 {
     let Some(below) = outside.level.checked_sub(1) else {
         machine.come_to(Outcome::More);
@@ -139,7 +139,7 @@ pub fn cleans<'p>(
     situation: Situation,
     outcome: Outcome,
 ) -> Result<(), NoMemory>
-    ensures { OnOk result (StepsTo machine.old machine.new (λ names s b. cleanup_step s cleanup.now (at names machine.old situation) (outcome_of names outcome) (frames names machine.old 0) (state names machine.old b))) }
+    ensures { OnOk result (ContinuesAs machine.old machine.new 0 (λ names s. cleanup_step s cleanup.now (at names machine.old situation) (outcome_of names outcome))) }
 {
     match outcome {
         Outcome::Value(_) => machine.wait(ContinuationFrame::Kept(outcome), cleanup, situation),

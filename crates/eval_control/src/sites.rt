@@ -3,7 +3,7 @@
 ghost use Rattle.std.specs.Prelude.{◌≡◌};
 ghost use Rattle.lang_meaning.specs.Meaning.{place_of_site};
 ghost use Rattle.eval_machine.specs.Configuration.{configuration, evaluate};
-ghost use Rattle.eval_state.specs.View.{StepsTo, at, frames, state};
+ghost use Rattle.eval_state.specs.View.{ContinuesAs, at};
 ghost use Rattle.std.specs.Prelude.{OnOk};
 
 use base::{NoMemory, Place};
@@ -19,7 +19,7 @@ pub fn form_at_site<'p>(
     form: &'p FlatCore,
     situation: Situation,
 ) -> Result<(), NoMemory>
-    ensures { OnOk result (StepsTo machine.old machine.new (λ names s b. configuration (evaluate form.now (record (at names machine.old situation) { around = record (at names machine.old situation).around { site = place_of_site s.program.sites site } })) (frames names machine.old 0) (state names machine.old b))) }
+    ensures { OnOk result (ContinuesAs machine.old machine.new 0 (λ names s. configuration (evaluate form.now (record (at names machine.old situation) { around = record (at names machine.old situation).around { site = place_of_site s.program.sites site } })))) }
 {
     let place = place_of(machine, site);
     machine.evaluate(form, at_place(situation, place));

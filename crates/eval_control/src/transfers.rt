@@ -4,7 +4,7 @@ ghost use Rattle.std.specs.Prelude.{◌≡◌, ◌∷◌, [], OnOk, IfOk, Option
 ghost use Rattle.eval_store.specs.Words.{value_of_word};
 ghost use Rattle.eval_machine.specs.Applications.{transfer, throw_to, continue_with};
 ghost use Rattle.eval_state.specs.Frames.{landing_of};
-ghost use Rattle.eval_state.specs.View.{StepsTo, frames, state, dynamic_context};
+ghost use Rattle.eval_state.specs.View.{ContinuesAs, dynamic_context};
 ghost use Rattle.eval_control.specs.Exits.{IsFound, leaving, meets};
 
 use crate::exits::{Exit, Sought, look_for};
@@ -40,7 +40,7 @@ fn leave_to(
     level: u64,
     around: DynamicLinks,
 ) -> Result<(), NoMemory>
-    ensures { OnOk result (StepsTo machine.old machine.new (λ names s b. leaving s (meets names sought) (value_of_word names word) (landing_of landing) level (dynamic_context names machine.old around) (frames names machine.old 0) (state names machine.old b))) }
+    ensures { OnOk result (ContinuesAs machine.old machine.new 0 (λ names s. leaving s (meets names sought) (value_of_word names word) (landing_of landing) level (dynamic_context names machine.old around))) }
 {
     match find_exit(machine, sought, around.exits)? {
         Some(exit) => {
@@ -60,7 +60,7 @@ pub fn transfer(
     level: u64,
     around: DynamicLinks,
 ) -> Result<(), NoMemory>
-    ensures { OnOk result (StepsTo machine.old machine.new (λ names s b. transfer s exit (value_of_word names word) (landing_of landing) level (dynamic_context names machine.old around) (frames names machine.old 0) (state names machine.old b))) }
+    ensures { OnOk result (ContinuesAs machine.old machine.new 0 (λ names s. transfer s exit (value_of_word names word) (landing_of landing) level (dynamic_context names machine.old around))) }
 {
     match exit {
         Some(number) => leave_to(
@@ -83,7 +83,7 @@ pub fn throw_to(
     level: u64,
     around: DynamicLinks,
 ) -> Result<(), NoMemory>
-    ensures { OnOk result (StepsTo machine.old machine.new (λ names s b. throw_to s (value_of_word names tag) (value_of_word names word) level (dynamic_context names machine.old around) (frames names machine.old 0) (state names machine.old b))) }
+    ensures { OnOk result (ContinuesAs machine.old machine.new 0 (λ names s. throw_to s (value_of_word names tag) (value_of_word names word) level (dynamic_context names machine.old around))) }
 {
     leave_to(
         machine,
@@ -103,7 +103,7 @@ pub fn continue_with(
     level: u64,
     around: DynamicLinks,
 ) -> Result<(), NoMemory>
-    ensures { OnOk result (StepsTo machine.old machine.new (λ names s b. continue_with s (value_of_word names condition) (value_of_word names word) level (dynamic_context names machine.old around) (frames names machine.old 0) (state names machine.old b))) }
+    ensures { OnOk result (ContinuesAs machine.old machine.new 0 (λ names s. continue_with s (value_of_word names condition) (value_of_word names word) level (dynamic_context names machine.old around))) }
 {
     match find_exit(machine, Sought::SignalOf(condition), around.exits)? {
         Some(exit) => {

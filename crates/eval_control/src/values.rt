@@ -12,7 +12,7 @@ ghost use Rattle.eval_machine.specs.Step.{value_step, bindings_step, dynamics_st
 ghost use Rattle.eval_store.specs.Words.{value_of_word};
 ghost use Rattle.eval_state.specs.Frames.{bindings_from, dynamics_from, clauses_from, clause_wait};
 ghost use Rattle.eval_state.specs.Tops.{taken, below};
-ghost use Rattle.eval_state.specs.View.{StepsTo, at, top, frames, state};
+ghost use Rattle.eval_state.specs.View.{ContinuesAs, StepsTo, at, top, state};
 ghost use Rattle.eval_control.specs.Passing.{waiting_operands, WantsMore};
 ghost use Rattle.eval_control.specs.Valued.{clause_body_of};
 
@@ -44,7 +44,7 @@ fn clause_value<'p>(
     word: Word,
     situation: Situation,
 ) -> Result<(), NoMemory>
-    ensures { OnOk result (StepsTo machine.old machine.new (λ names s b. value_step s (clause_wait (slice_get list.now place) (clauses_from list.now (suc place)) (at names machine.old situation)) (value_of_word names word) (frames names machine.old 0) (state names machine.old b))) }
+    ensures { OnOk result (ContinuesAs machine.old machine.new 0 (λ names s. value_step s (clause_wait (slice_get list.now place) (clauses_from list.now (suc place)) (at names machine.old situation)) (value_of_word names word))) }
 {
     if is_true(word) {
         clause_body(machine, list.get(place), word, situation);
@@ -62,7 +62,7 @@ fn clause_body<'p>(
     word: Word,
     situation: Situation,
 )
-    ensures { StepsTo machine.old machine.new (λ names s b. clause_body_of s (value_of_word names word) (option_copied clause.entry) (at names machine.old situation) (frames names machine.old 0) (state names machine.old b)) }
+    ensures { ContinuesAs machine.old machine.new 0 (λ names s. clause_body_of s (value_of_word names word) (option_copied clause.entry) (at names machine.old situation)) }
 {
     let Some(clause) = clause else {
         machine.gives(word);
@@ -83,7 +83,7 @@ fn binding_value<'p>(
     word: Word,
     situation: Situation,
 ) -> Result<(), NoMemory>
-    ensures { OnOk result (StepsTo machine.old machine.new (λ names s b. bindings_step s (bindings_from list.now (suc count)) (top names machine.old count ++ value_of_word names word ∷ []) (bindings_of list.now) body.now (at names machine.old situation) (frames names machine.old count) (state names machine.old b))) }
+    ensures { OnOk result (ContinuesAs machine.old machine.new count (λ names s. bindings_step s (bindings_from list.now (suc count)) (top names machine.old count ++ value_of_word names word ∷ []) (bindings_of list.now) body.now (at names machine.old situation))) }
 {
     let next = place_behind(count)?;
     machine.push_operand(word)?;
@@ -99,7 +99,7 @@ fn dynamic_value<'p>(
     word: Word,
     situation: Situation,
 ) -> Result<(), NoMemory>
-    ensures { OnOk result (StepsTo machine.old machine.new (λ names s b. dynamics_step s (dynamics_from list.now (suc count)) (top names machine.old count ++ value_of_word names word ∷ []) (dynamics_of list.now) body.now (at names machine.old situation) (frames names machine.old count) (state names machine.old b))) }
+    ensures { OnOk result (ContinuesAs machine.old machine.new count (λ names s. dynamics_step s (dynamics_from list.now (suc count)) (top names machine.old count ++ value_of_word names word ∷ []) (dynamics_of list.now) body.now (at names machine.old situation))) }
 {
     let next = place_behind(count)?;
     machine.push_operand(word)?;
@@ -114,7 +114,7 @@ fn loop_value<'p>(
     word: Word,
     situation: Situation,
 ) -> Result<(), NoMemory>
-    ensures { OnOk result (StepsTo machine.old machine.new (λ names s b. value_step s (plain.while_test test.now body.now (at names machine.old situation)) (value_of_word names word) (frames names machine.old 0) (state names machine.old b))) }
+    ensures { OnOk result (ContinuesAs machine.old machine.new 0 (λ names s. value_step s (plain.while_test test.now body.now (at names machine.old situation)) (value_of_word names word))) }
 {
     if is_true(word) {
         machine.wait(
@@ -135,7 +135,7 @@ fn goes_on<'p>(
     body: &'p FlatCore,
     situation: Situation,
 )
-    ensures { StepsTo machine.old machine.new (λ names s b. descend situation.level (λ k. configuration (evaluate (while_form test.now body.now) (record (at names machine.old situation) { level = k }))) (frames names machine.old 0) (state names machine.old b)) }
+    ensures { ContinuesAs machine.old machine.new 0 (λ names s. descend situation.level (λ k. configuration (evaluate (while_form test.now body.now) (record (at names machine.old situation) { level = k })))) }
 {
     let Some(below) = situation.level.checked_sub(1) else {
         machine.come_to(Outcome::More);

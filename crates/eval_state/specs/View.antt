@@ -67,6 +67,10 @@ pub record StepsTo (old new : Machine) (f : List (List ℕ) → Setting → Besi
   pub given : new.given ≡ old.given
   pub comes : (names : List (List ℕ)) (b : Beside) → IsGiven names old.given → configuration_of names new b ≡ f names (setting_of names old.given) b
 
+-- it has gone on as `next` says of the frames below so many operands of the old one, and of its state
+abbrev pub ContinuesAs : (old new : Machine) → ℕ → (List (List ℕ) → Setting → List machine.ContinuationFrame → FlatState → Configuration) → Type 0
+ContinuesAs old new operands next = StepsTo old new (λ names s b. next names s (frames names old operands) (state names old b))
+
 -- units were counted
 pub record IsCharged (old new : Machine) (units : ℕ) : Type 0 where
   pub same : new ≡ record old { store = new.store }

@@ -3,7 +3,7 @@
 ghost use Rattle.std.specs.Prelude.{◌≡◌, ◌-◌, false, ℕ, length, Ok, Err, OnOk};
 ghost use Rattle.eval_state.specs.declared.situation.DynamicLinks.{DynamicLinks};
 ghost use Rattle.eval_primitives.specs.Groups.{is_streaming};
-ghost use Rattle.eval_state.specs.View.{StepsTo, top, frames, state, dynamic_context};
+ghost use Rattle.eval_state.specs.View.{ContinuesAs, top, dynamic_context};
 ghost use Rattle.eval_state.specs.Computing.{IsAnswered, GoesOnWithAnswer, computed};
 
 use crate::frame::Outcome;
@@ -23,7 +23,7 @@ pub fn compute<'p>(
     around: DynamicLinks,
 ) -> Result<(), NoMemory>
     requires { is_streaming which ≡ false }
-    ensures { OnOk result (StepsTo machine.old machine.new (λ names s b. computed s which (top names machine.old count) level (dynamic_context names machine.old around) (frames names machine.old count) (state names machine.old b))) }
+    ensures { OnOk result (ContinuesAs machine.old machine.new count (λ names s. computed s which (top names machine.old count) level (dynamic_context names machine.old around))) }
 {
     let answer = answer_of(machine, which, count);
     machine.drop_operands(count);

@@ -6,7 +6,7 @@ ghost use Rattle.flat_language.specs.FlatState.{charged};
 ghost use Rattle.eval_machine.specs.Configuration.{configuration, evaluate, come_to, signals};
 ghost use Rattle.eval_store.specs.Words.{value_of_word};
 ghost use Rattle.eval_state.specs.Frames.{outcome_of};
-ghost use Rattle.eval_state.specs.View.{StepsTo, IsCharged, OnlyWaits, at, frames, state, waiting_frame_of};
+ghost use Rattle.eval_state.specs.View.{ContinuesAs, StepsTo, IsCharged, OnlyWaits, at, frames, state, waiting_frame_of};
 
 use crate::frame::{ContinuationFrame, Outcome};
 use crate::given::Given;
@@ -46,21 +46,21 @@ pub struct Machine<'p> {
 impl<'p> Machine<'p> {
     /// An outcome goes into the innermost frame.
     pub fn come_to(&mut self, outcome: Outcome)
-        ensures { StepsTo self.old self.new (λ names s b. configuration (come_to (outcome_of names outcome)) (frames names self.old 0) (state names self.old b)) }
+        ensures { ContinuesAs self.old self.new 0 (λ names s. configuration (come_to (outcome_of names outcome))) }
     {
         self.control = Control::ComeTo(outcome);
     }
 
     /// A value goes into the innermost frame, and so many operands go.
     pub fn gives(&mut self, word: Word)
-        ensures { StepsTo self.old self.new (λ names s b. configuration (come_to (value (value_of_word names word))) (frames names self.old 0) (state names self.old b)) }
+        ensures { ContinuesAs self.old self.new 0 (λ names s. configuration (come_to (value (value_of_word names word)))) }
     {
         self.control = Control::ComeTo(Outcome::Value(word));
     }
 
     /// A form is evaluated.
     pub fn evaluate(&mut self, form: &'p FlatCore, situation: Situation)
-        ensures { StepsTo self.old self.new (λ names s b. configuration (evaluate form.now (at names self.old situation)) (frames names self.old 0) (state names self.old b)) }
+        ensures { ContinuesAs self.old self.new 0 (λ names s. configuration (evaluate form.now (at names self.old situation))) }
     {
         self.control = Control::Evaluate(form, situation);
     }

@@ -4,7 +4,7 @@ ghost use Rattle.std.specs.Prelude.{◌≡◌, ◌∷◌, [], OnOk, IfOk, map, S
 ghost use Rattle.lang_meaning.specs.Lookup.{text};
 ghost use Rattle.eval_store.specs.Words.{value_of_word, values_of};
 ghost use Rattle.eval_machine.specs.Applications.{signal_class, signal_domain, signal_undefined, signal_unbound};
-ghost use Rattle.eval_state.specs.View.{StepsTo, frames, state, dynamic_context};
+ghost use Rattle.eval_state.specs.View.{ContinuesAs, dynamic_context};
 
 use crate::machine::{Control, Machine};
 use crate::situation::DynamicLinks;
@@ -41,7 +41,7 @@ impl<'p> Machine<'p> {
         level: u64,
         around: DynamicLinks,
     ) -> Result<(), NoMemory>
-        ensures { OnOk result (StepsTo self.old self.new (λ names s b. signal_class s class (values_of names words.now) level (dynamic_context names self.old around) (frames names self.old 0) (state names self.old b))) }
+        ensures { OnOk result (ContinuesAs self.old self.new 0 (λ names s. signal_class s class (values_of names words.now) level (dynamic_context names self.old around))) }
     {
         let slots = slots_with(self.given.alloc, words)?;
         let Ok(count) = u32::try_from(words.len()) else {
@@ -71,7 +71,7 @@ impl<'p> Machine<'p> {
         level: u64,
         around: DynamicLinks,
     ) -> Result<(), NoMemory>
-        ensures { OnOk result (StepsTo self.old self.new (λ names s b. signal_class s class [] level (dynamic_context names self.old around) (frames names self.old 0) (state names self.old b))) }
+        ensures { OnOk result (ContinuesAs self.old self.new 0 (λ names s. signal_class s class [] level (dynamic_context names self.old around))) }
     {
         self.signal(class, &[], level, around)
     }
@@ -84,7 +84,7 @@ impl<'p> Machine<'p> {
         level: u64,
         around: DynamicLinks,
     ) -> Result<(), NoMemory>
-        ensures { OnOk result (StepsTo self.old self.new (λ names s b. signal_domain s (value_of_word names word) expected level (dynamic_context names self.old around) (frames names self.old 0) (state names self.old b))) }
+        ensures { OnOk result (ContinuesAs self.old self.new 0 (λ names s. signal_domain s (value_of_word names word) expected level (dynamic_context names self.old around))) }
     {
         let class = self.given.class_word(expected);
         self.signal(DOMAIN_ERROR, &[word, class], level, around)
@@ -97,7 +97,7 @@ impl<'p> Machine<'p> {
         level: u64,
         around: DynamicLinks,
     ) -> Result<(), NoMemory>
-        ensures { OnOk result (StepsTo self.old self.new (λ names s b. signal_undefined s (text names name.0) level (dynamic_context names self.old around) (frames names self.old 0) (state names self.old b))) }
+        ensures { OnOk result (ContinuesAs self.old self.new 0 (λ names s. signal_undefined s (text names name.0) level (dynamic_context names self.old around))) }
     {
         self.signal(UNDEFINED_FUNCTION, &[Word::Symbol(name)], level, around)
     }
@@ -109,7 +109,7 @@ impl<'p> Machine<'p> {
         level: u64,
         around: DynamicLinks,
     ) -> Result<(), NoMemory>
-        ensures { OnOk result (StepsTo self.old self.new (λ names s b. signal_unbound s (text names name.0) level (dynamic_context names self.old around) (frames names self.old 0) (state names self.old b))) }
+        ensures { OnOk result (ContinuesAs self.old self.new 0 (λ names s. signal_unbound s (text names name.0) level (dynamic_context names self.old around))) }
     {
         self.signal(UNBOUND_VARIABLE, &[Word::Symbol(name)], level, around)
     }

@@ -2,10 +2,11 @@
 -- what an operation makes of it.
 use Rattle.std.specs.Prelude.{◌≡◌, ℕ, true, List, [], ◌++◌, drop}
 use Rattle.lang_meaning.specs.Primitives.{is_fresh_line}
-use Rattle.eval_machine.specs.Configuration.{Setting, Configuration}
+use Rattle.flat_language.specs.FlatState.{FlatState}
+use Rattle.eval_machine.specs.Configuration.{Setting, Configuration, ContinuationFrame}
 use Rattle.eval_store.specs.NamedValues.{Holds}
 use Rattle.eval_store.specs.View.{Beside}
-use Rattle.eval_state.specs.View.{IsGiven, setting_of, configuration_of}
+use Rattle.eval_state.specs.View.{IsGiven, setting_of, configuration_of, frames, state}
 use Rattle.eval_step.specs.declared.evaluator.Evaluator.{Evaluator}
 
 -- what stands beside the machine, where these bytes were written before, and these are left to read
@@ -29,3 +30,8 @@ pub record Runs (old new : Evaluator) (f : List (List ℕ) → Setting → Besid
   pub ended : new.ended ≡ old.ended
   pub comes : (names : List (List ℕ)) (written unread : List ℕ) (b : Beside) → IsGiven names old.machine.given → Stands names old written unread b
       → IsAtConfiguration names new written unread (f names (setting_of names old.machine.given) b)
+
+-- it has gone on as `next` says of the frames below so many operands of the old machine, and of its state
+abbrev pub RunsAs : (old new : Evaluator) → ℕ → (List (List ℕ) → Setting → List ContinuationFrame → FlatState → Configuration) → Type 0
+RunsAs old new operands next =
+    Runs old new (λ names s b. next names s (frames names old.machine operands) (state names old.machine b))

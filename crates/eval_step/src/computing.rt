@@ -5,8 +5,8 @@ ghost use Rattle.eval_machine.specs.Configuration.{compute};
 ghost use Rattle.eval_machine.specs.Step.{operation_step};
 ghost use Rattle.eval_primitives.specs.Groups.{is_streaming, stream_of};
 ghost use Rattle.eval_state.specs.Frames.{last_of};
-ghost use Rattle.eval_state.specs.View.{at, top, frames, state};
-ghost use Rattle.eval_step.specs.Runs.{Runs};
+ghost use Rattle.eval_state.specs.View.{at, top};
+ghost use Rattle.eval_step.specs.Runs.{RunsAs, Runs};
 ghost use Rattle.eval_step.specs.Streams.{reads, is_fed};
 
 use crate::evaluator::Evaluator;
@@ -24,7 +24,7 @@ impl<'p> Evaluator<'p> {
         situation: Situation,
     ) -> Result<(), NoMemory>
         requires { reads which (last_of count self.old.machine.operands.items) ≡ true → is_fed self.old ≡ true }
-        ensures { OnOk result (Runs self.old self.new (λ names s b. operation_step s (compute which) (top names self.old.machine count) (at names self.old.machine situation) (frames names self.old.machine count) (state names self.old.machine b))) }
+        ensures { OnOk result (RunsAs self.old self.new count (λ names s. operation_step s (compute which) (top names self.old.machine count) (at names self.old.machine situation))) }
     {
         match stream_among(which) {
             Some(stream) => self.stream(stream, count, situation.level, situation.around),
@@ -40,7 +40,7 @@ impl<'p> Evaluator<'p> {
         situation: Situation,
     ) -> Result<(), NoMemory>
         requires { is_streaming which ≡ false }
-        ensures { OnOk result (Runs self.old self.new (λ names s b. operation_step s (compute which) (top names self.old.machine count) (at names self.old.machine situation) (frames names self.old.machine count) (state names self.old.machine b))) }
+        ensures { OnOk result (RunsAs self.old self.new count (λ names s. operation_step s (compute which) (top names self.old.machine count) (at names self.old.machine situation))) }
     {
         eval_state::computing::compute(
             &mut self.machine,

@@ -4,8 +4,8 @@ ghost use Rattle.std.specs.Prelude.{OnOk};
 ghost use Rattle.lang_meaning.specs.Lookup.{text};
 ghost use Rattle.eval_machine.specs.Step.{dynamic_step, set_dynamic_step};
 ghost use Rattle.eval_store.specs.Words.{value_of_word};
-ghost use Rattle.eval_state.specs.View.{at, frames, state};
-ghost use Rattle.eval_step.specs.Runs.{Runs};
+ghost use Rattle.eval_state.specs.View.{at};
+ghost use Rattle.eval_step.specs.Runs.{RunsAs, Runs};
 
 use crate::evaluator::Evaluator;
 use crate::named::Table;
@@ -17,7 +17,7 @@ use eval_store::Word;
 impl<'p> Evaluator<'p> {
     /// The value of a dynamic variable: of its innermost binding, or its outermost value.
     pub fn dynamic(&mut self, name: Name, situation: Situation) -> Result<(), NoMemory>
-        ensures { OnOk result (Runs self.old self.new (λ names s b. dynamic_step s (text s.names name.0) (at names self.old.machine situation) (frames names self.old.machine 0) (state names self.old.machine b))) }
+        ensures { OnOk result (RunsAs self.old self.new 0 (λ names s. dynamic_step s (text s.names name.0) (at names self.old.machine situation))) }
     {
         match find_binding(&mut self.machine, name, situation.around.bindings)? {
             Some(number) => {
@@ -36,7 +36,7 @@ impl<'p> Evaluator<'p> {
         word: Word,
         situation: Situation,
     ) -> Result<(), NoMemory>
-        ensures { OnOk result (Runs self.old self.new (λ names s b. set_dynamic_step s (text s.names name.0) (value_of_word names word) (at names self.old.machine situation) (frames names self.old.machine 0) (state names self.old.machine b))) }
+        ensures { OnOk result (RunsAs self.old self.new 0 (λ names s. set_dynamic_step s (text s.names name.0) (value_of_word names word) (at names self.old.machine situation))) }
     {
         match find_binding(&mut self.machine, name, situation.around.bindings)? {
             Some(number) => {

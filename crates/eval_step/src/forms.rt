@@ -5,9 +5,9 @@ ghost use Rattle.flat_language.specs.FlatForm.{while_form};
 ghost use Rattle.flat_language.specs.model.View.{view_form};
 ghost use Rattle.eval_machine.specs.Step.{form_step, arguments_step};
 ghost use Rattle.eval_state.specs.Frames.{forms_from, last_of, operation_of};
-ghost use Rattle.eval_state.specs.View.{at, top, frames, state};
+ghost use Rattle.eval_state.specs.View.{at, top};
 ghost use Rattle.eval_control.specs.Begins.{begins};
-ghost use Rattle.eval_step.specs.Runs.{Runs};
+ghost use Rattle.eval_step.specs.Runs.{RunsAs, Runs};
 ghost use Rattle.eval_step.specs.Streams.{operation_reads, form_reads, is_fed};
 
 use crate::evaluator::Evaluator;
@@ -24,7 +24,7 @@ impl<'p> Evaluator<'p> {
     /// A form begins: it is charged, and then it does its first part. What it reads is there.
     pub fn begin(&mut self, form: &'p FlatCore, situation: Situation) -> Result<(), NoMemory>
         requires { form_reads form.now ≡ true → is_fed self.old ≡ true }
-        ensures { OnOk result (Runs self.old self.new (λ names s b. form_step s form.now (at names self.old.machine situation) (frames names self.old.machine 0) (state names self.old.machine b))) }
+        ensures { OnOk result (RunsAs self.old self.new 0 (λ names s. form_step s form.now (at names self.old.machine situation))) }
     {
         let units = own_nodes(&form.form)?;
         self.machine.charge(units)?;
@@ -38,7 +38,7 @@ impl<'p> Evaluator<'p> {
         body: &'p FlatCore,
         situation: Situation,
     ) -> Result<(), NoMemory>
-        ensures { OnOk result (Runs self.old self.new (λ names s b. form_step s (while_form test.now body.now) (at names self.old.machine situation) (frames names self.old.machine 0) (state names self.old.machine b))) }
+        ensures { OnOk result (RunsAs self.old self.new 0 (λ names s. form_step s (while_form test.now body.now) (at names self.old.machine situation))) }
     {
         self.machine.charge(1)?;
         loop_turn(&mut self.machine, test, body, situation)
@@ -47,7 +47,7 @@ impl<'p> Evaluator<'p> {
     // What a form does, once it is charged.
     fn begin_kind(&mut self, form: &'p FlatCoreForm, situation: Situation) -> Result<(), NoMemory>
         requires { form_reads (view_form form.now) ≡ true → is_fed self.old ≡ true }
-        ensures { OnOk result (Runs self.old self.new (λ names s b. begins s (view_form form.now) (at names self.old.machine situation) (frames names self.old.machine 0) (state names self.old.machine b))) }
+        ensures { OnOk result (RunsAs self.old self.new 0 (λ names s. begins s (view_form form.now) (at names self.old.machine situation))) }
     {
         match form {
             FlatCoreForm::Global(name) => self.named(Table::Globals, *name, situation),
@@ -71,7 +71,32 @@ impl<'p> Evaluator<'p> {
                 situation,
             ),
             FlatCoreForm::NextMethod(place) => next_method_at(&mut self.machine, *place, situation),
-            _ => begin_kind(&mut self.machine, form, situation),
+            FlatCoreForm::Literal(_)
+            | FlatCoreForm::Local(_)
+            | FlatCoreForm::SetLocal(_, _)
+            | FlatCoreForm::SetGlobal(_, _)
+            | FlatCoreForm::DefGlobal(_, _)
+            | FlatCoreForm::Clauses(_)
+            | FlatCoreForm::Sequence(_)
+            | FlatCoreForm::Let(_, _)
+            | FlatCoreForm::MakeFunction(_, _)
+            | FlatCoreForm::Apply(_, _)
+            | FlatCoreForm::While(_, _)
+            | FlatCoreForm::Block(_)
+            | FlatCoreForm::Return(_, _)
+            | FlatCoreForm::Tagbody(_)
+            | FlatCoreForm::Go(_, _)
+            | FlatCoreForm::Catch(_, _)
+            | FlatCoreForm::Throw(_, _)
+            | FlatCoreForm::Unwind(_, _)
+            | FlatCoreForm::DynamicLet(_, _)
+            | FlatCoreForm::SetDynamic(_, _)
+            | FlatCoreForm::DefDynamic(_, _)
+            | FlatCoreForm::WithHandler(_, _)
+            | FlatCoreForm::Signal(_, _)
+            | FlatCoreForm::Continue(_, _)
+            | FlatCoreForm::HasNext(_)
+            | FlatCoreForm::Sited(_, _) => { begin_kind(&mut self.machine, form, situation) }
         }
     }
 
@@ -84,7 +109,7 @@ impl<'p> Evaluator<'p> {
         situation: Situation,
     ) -> Result<(), NoMemory>
         requires { operation_reads operation (last_of count self.old.machine.operands.items) ≡ true → is_fed self.old ≡ true }
-        ensures { OnOk result (Runs self.old self.new (λ names s b. arguments_step s (operation_of operation) (forms_from list.now count) (top names self.old.machine count) (at names self.old.machine situation) (frames names self.old.machine count) (state names self.old.machine b))) }
+        ensures { OnOk result (RunsAs self.old self.new count (λ names s. arguments_step s (operation_of operation) (forms_from list.now count) (top names self.old.machine count) (at names self.old.machine situation))) }
     {
         match list.get(count) {
             Some(form) => self.machine.hold(

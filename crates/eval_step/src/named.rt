@@ -5,9 +5,9 @@ ghost use Rattle.lang_meaning.specs.Lookup.{text, under_text};
 ghost use Rattle.eval_machine.specs.Step.{value_step};
 ghost use Rattle.eval_store.specs.Words.{value_of_word, value_or_none};
 ghost use Rattle.eval_store.specs.View.{Beside};
-ghost use Rattle.eval_state.specs.View.{at, frames, state};
+ghost use Rattle.eval_state.specs.View.{at, state};
 ghost use Rattle.eval_step.specs.Named.{pairs_in, named_step, set_named_step, def_named, IsPut};
-ghost use Rattle.eval_step.specs.Runs.{Stands, Runs};
+ghost use Rattle.eval_step.specs.Runs.{RunsAs, Stands, Runs};
 
 use crate::evaluator::Evaluator;
 use base::{Name, NoMemory};
@@ -45,7 +45,7 @@ impl<'p> Evaluator<'p> {
 
     /// The value of a variable.
     pub fn named(&mut self, table: Table, name: Name, situation: Situation) -> Result<(), NoMemory>
-        ensures { OnOk result (Runs self.old self.new (λ names s b. named_step table s (text s.names name.0) (at names self.old.machine situation) (frames names self.old.machine 0) (state names self.old.machine b))) }
+        ensures { OnOk result (RunsAs self.old self.new 0 (λ names s. named_step table s (text s.names name.0) (at names self.old.machine situation))) }
     {
         match self.value_under(table, name) {
             Some(word) => {
@@ -66,7 +66,7 @@ impl<'p> Evaluator<'p> {
         word: Word,
         situation: Situation,
     ) -> Result<(), NoMemory>
-        ensures { OnOk result (Runs self.old self.new (λ names s b. set_named_step table s (text s.names name.0) (value_of_word names word) (at names self.old.machine situation) (frames names self.old.machine 0) (state names self.old.machine b))) }
+        ensures { OnOk result (RunsAs self.old self.new 0 (λ names s. set_named_step table s (text s.names name.0) (value_of_word names word) (at names self.old.machine situation))) }
     {
         match self.value_under(table, name) {
             Some(_) => {
@@ -82,7 +82,7 @@ impl<'p> Evaluator<'p> {
 
     /// A variable is defined.
     pub fn define_named(&mut self, table: Table, name: Name, word: Word) -> Result<(), NoMemory>
-        ensures { OnOk result (Runs self.old self.new (λ names s b. value_step s (def_named table name.0) (value_of_word names word) (frames names self.old.machine 0) (state names self.old.machine b))) }
+        ensures { OnOk result (RunsAs self.old self.new 0 (λ names s. value_step s (def_named table name.0) (value_of_word names word))) }
     {
         self.put_under(table, name, word)?;
         self.machine.gives(Word::Symbol(name));

@@ -3,8 +3,8 @@
 ghost use Rattle.std.specs.Prelude.{◌≡◌, true, OnOk};
 ghost use Rattle.eval_machine.specs.Step.{operation_step};
 ghost use Rattle.eval_state.specs.Frames.{last_of, operation_of};
-ghost use Rattle.eval_state.specs.View.{at, top, frames, state};
-ghost use Rattle.eval_step.specs.Runs.{Runs};
+ghost use Rattle.eval_state.specs.View.{at, top};
+ghost use Rattle.eval_step.specs.Runs.{RunsAs, Runs};
 ghost use Rattle.eval_step.specs.Streams.{operation_reads, is_fed};
 
 use crate::evaluator::Evaluator;
@@ -23,7 +23,7 @@ impl<'p> Evaluator<'p> {
         situation: Situation,
     ) -> Result<(), NoMemory>
         requires { operation_reads operation (last_of count self.old.machine.operands.items) ≡ true → is_fed self.old ≡ true }
-        ensures { OnOk result (Runs self.old self.new (λ names s b. operation_step s (operation_of operation) (top names self.old.machine count) (at names self.old.machine situation) (frames names self.old.machine count) (state names self.old.machine b))) }
+        ensures { OnOk result (RunsAs self.old self.new count (λ names s. operation_step s (operation_of operation) (top names self.old.machine count) (at names self.old.machine situation))) }
     {
         match operation {
             Operator::CallName(name) => call_named(&mut self.machine, name, count, situation),

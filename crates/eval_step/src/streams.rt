@@ -10,8 +10,8 @@ ghost use Rattle.eval_store.specs.declared.word.Word.TheVariants as word;
 ghost use Rattle.eval_store.specs.View.{Beside, state_of};
 ghost use Rattle.eval_primitives.specs.Groups.{stream_of};
 ghost use Rattle.eval_state.specs.Frames.{last_of};
-ghost use Rattle.eval_state.specs.View.{top, frames, state, dynamic_context};
-ghost use Rattle.eval_step.specs.Runs.{Runs};
+ghost use Rattle.eval_state.specs.View.{top, dynamic_context};
+ghost use Rattle.eval_step.specs.Runs.{RunsAs, Runs};
 ghost use Rattle.eval_state.specs.Computing.{computed};
 ghost use Rattle.eval_step.specs.Streams.{IsStreamed, IsPrinted, IsStream, IsCharacter, reads, is_fed};
 
@@ -41,7 +41,7 @@ impl<'p> Evaluator<'p> {
         around: DynamicLinks,
     ) -> Result<(), NoMemory>
         requires { reads (stream_of which) (last_of count self.old.machine.operands.items) ≡ true → is_fed self.old ≡ true }
-        ensures { OnOk result (Runs self.old self.new (λ names s b. computed s (stream_of which) (top names self.old.machine count) level (dynamic_context names self.old.machine around) (frames names self.old.machine count) (state names self.old.machine b))) }
+        ensures { OnOk result (RunsAs self.old self.new count (λ names s. computed s (stream_of which) (top names self.old.machine count) level (dynamic_context names self.old.machine around))) }
     {
         let answer = self.stream_answer(which, count)?;
         self.machine.drop_operands(count);

@@ -6,9 +6,9 @@ ghost use Rattle.eval_machine.specs.Step.{arguments_step, outcome_step};
 ghost use Rattle.eval_store.specs.Words.{value_of_word};
 ghost use Rattle.eval_state.specs.Frames.{forms_from, operation_of};
 ghost use Rattle.eval_state.specs.Tops.{taken, below};
-ghost use Rattle.eval_state.specs.View.{at, top, frames, state};
+ghost use Rattle.eval_state.specs.View.{at, top, state};
 ghost use Rattle.eval_control.specs.Passing.{waiting_operands};
-ghost use Rattle.eval_step.specs.Runs.{Runs};
+ghost use Rattle.eval_step.specs.Runs.{RunsAs, Runs};
 
 use crate::evaluator::Evaluator;
 use crate::named::Table;
@@ -33,7 +33,7 @@ impl<'p> Evaluator<'p> {
         word: Word,
         situation: Situation,
     ) -> Result<(), NoMemory>
-        ensures { OnOk result (Runs self.old self.new (λ names s b. arguments_step s (operation_of operation) (forms_from list.now (suc count)) (top names self.old.machine count ++ value_of_word names word ∷ []) (at names self.old.machine situation) (frames names self.old.machine count) (state names self.old.machine b))) }
+        ensures { OnOk result (RunsAs self.old self.new count (λ names s. arguments_step s (operation_of operation) (forms_from list.now (suc count)) (top names self.old.machine count ++ value_of_word names word ∷ []) (at names self.old.machine situation))) }
     {
         let next = place_behind(count)?;
         self.machine.push_operand(word)?;
