@@ -146,8 +146,8 @@ module _ {ps : List FlatProcedure} where
             env = env;
             procedure = p;
             captured = cs;
-            core_context = refl;
-            flat_context = refl;
+            one = refl;
+            other = refl;
             under = equal_or_not i (length b.store)
                 (λ is t. under_first i (length b.store) cs b.captured t)
                 (λ f. absurd (unequal i (length b.store) f (e ∙ sym b.related.lengths)));
