@@ -223,7 +223,7 @@ fn next_primary(rest: Rest<'_>) -> Option<Next<'_>>
 // The primary method at that place of a chain, and those behind it.
 fn primary_at(chain: &Chain, at: usize) -> Option<Next<'_>>
     ensures { MatchOption result (length chain.now.primary ≤ at)
-        (λ x. (slice_get chain.now.primary at ≡ Some x.number) × (rest_of x.rest ≡ record { around = []; before = []; primary = drop (at + 1) chain.now.primary; place_behind = [] })) }
+        (λ x. (slice_get chain.now.primary at ≡ Some x.number) × (rest_of x.rest ≡ record { around = []; before = []; primary = drop (at + 1) chain.now.primary; after = [] })) }
 {
     if at < chain.primary.len() {
         let number = *chain.primary.get(at)?;
@@ -251,7 +251,7 @@ fn primary_after(rest: Rest<'_>) -> Next<'_>
 
 // No method is left.
 fn nothing_left(rest: Rest<'_>) -> Rest<'_>
-    ensures { rest_of result ≡ record { around = []; before = []; primary = []; place_behind = [] } }
+    ensures { rest_of result ≡ record { around = []; before = []; primary = []; after = [] } }
 {
     match rest {
         Rest::Around(chain, _) | Rest::Primary(chain, _) => {
