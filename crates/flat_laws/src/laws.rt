@@ -1,0 +1,26 @@
+// What is true of all flat programs and of all their runs, as the contracts of functions that do nothing.
+
+ghost use Rattle.flat_laws.specs.Laws.{LawOfFlatGrowth, LawOfFlatRuns, LawOfFlatTransfers, LawOfPrimitives};
+
+/// The law of flat growth: along a run bytes printed stay, the input left only shrinks, units, words of the heap, their
+/// peak and the numbers of exits, fresh symbols, objects and variables never fall, objects stay of their kind and size,
+/// what a function captured stays, and each activation gives back its words and its slots.
+pub fn law_flat_growth()
+    ensures { LawOfFlatGrowth }
+{}
+
+/// The law of flat growth for main forms and whole programs, whatever their end.
+pub fn law_flat_runs()
+    ensures { LawOfFlatRuns }
+{}
+
+/// A transfer goes to one of the exits of its dynamic context, or to exit 0.
+pub fn law_flat_transfers()
+    ensures { LawOfFlatTransfers }
+{}
+
+/// A primitive leaves of the state what is not its own: it changes at most the object that a setter is given, and that
+/// one stays of its kind and size; it prints or reads a byte, or counts units, and what it makes is still to be made.
+pub fn law_primitives()
+    ensures { LawOfPrimitives }
+{}
