@@ -45,8 +45,8 @@ module _ (A : Value → State → Answer → Type 0) (k : HoldsOfAnswers A) wher
   told : {set v : Value} {z : State} → Holds set z (result v z)
   told {set} {v} {z} = at (k.value set v z)
 
-  counted : {set v : Value} {n : ℕ} {z : State} → Holds set z (result v (charged n z))
-  counted {set} {v} {n} {z} = at (k.counts set v n z)
+  counted : {set v : Value} (n : ℕ) (z : State) → Holds set z (result v (charged n z))
+  counted {set} {v} n z = at (k.counts set v n z)
 
   made : {set : Value} {size besides : ℕ} {o : Object} {z : State} → Holds set z (makes size besides o z)
   made {set} {size} {besides} {o} {z} = at (k.object_made set size besides o z)
@@ -121,7 +121,7 @@ module _ (A : Value → State → Answer → Type 0) (k : HoldsOfAnswers A) wher
 
   place_holds : (rows : List SlotRow) (p : SlotRow → Bool) (z : State) → Holds nil z (slot_place rows p z)
   place_holds rows p z =
-      needed (index_of (pos (position_or_len p rows)) (length rows)) (at (k.failed_late nil _ [] (length rows) z)) (λ i h. counted)
+      needed (index_of (pos (position_or_len p rows)) (length rows)) (at (k.failed_late nil _ [] (length rows) z)) (λ i h. counted (i + 1) z)
 
   slot_value_holds : (o : Option (Option Value)) (z : State) → Holds nil z (slot_value o z)
   slot_value_holds (Some (Some v)) z = told
@@ -211,8 +211,10 @@ module _ (A : Value → State → Answer → Type 0) (k : HoldsOfAnswers A) wher
   row names program ClassOf = one_holds (λ v z. told)
   row names program ClassName = one_holds (λ v z. needed (as_class (fetch z v)) wrong (λ c h. told))
   row names program IsSubclass = two_hold (λ v w z.
-      needed (as_class (fetch z v)) wrong (λ c h. needed (as_class (fetch z w)) wrong (λ d j. counted)))
-  row names program IsInstance = two_hold (λ v w z. needed (as_class (fetch z w)) wrong (λ d h. counted))
+      needed (as_class (fetch z v)) wrong (λ c h. needed (as_class (fetch z w)) wrong (λ d j.
+      counted (passed (λ e. d == e) (precedence program c)) z)))
+  row names program IsInstance = two_hold (λ v w z. needed (as_class (fetch z w)) wrong (λ d h.
+      counted (passed (λ e. d == e) (precedence program (class_of z v))) z))
   row names program Allocate = one_holds (λ v z.
       needed (as_class (fetch z v)) wrong (λ c h. either (can_be_made program c) made failing))
   row names program SlotCount = one_holds (λ v z. needed (as_instance (fetch z v)) wrong (λ i h. told))

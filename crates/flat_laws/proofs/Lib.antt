@@ -7,4 +7,4 @@ pub mod Combined
 pub mod Applied
 pub mod Forms
 pub mod Levels
-pub mod Laws
+pub mod Runs
