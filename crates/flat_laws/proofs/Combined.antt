@@ -179,9 +179,9 @@ module _ {R : FlatState → FlatState → Type 0} {k : IsKeptByFlatRules R} wher
         lands = x.lands;
       }
 
-  pub own_frame_left : {exits : List Exit} (z : FlatState) {body : FlatState → FlatEvaluated}
-      → ComesTo R k exits (record z { frame = [] }) (body (record z { frame = [] })) → ComesTo R k exits z (in_own_frame body z)
-  own_frame_left z {body} x = record { grows = k.own_frame [] z (body (record z { frame = [] })).state x.grows; lands = x.lands }
+  pub own_frame_left : {exits : List Exit} (z : FlatState) {r : FlatEvaluated}
+      → ComesTo R k exits (record z { frame = [] }) r → ComesTo R k exits z (with_frame z.frame r)
+  own_frame_left z {r} x = record { grows = k.own_frame [] z r.state x.grows; lands = x.lands }
 
   -- one that begins with slots
   pub own_slots_left : {exits : List Exit} (hs : List Home) (vs : List Value) (z : FlatState) {body : FlatState → FlatEvaluated}
