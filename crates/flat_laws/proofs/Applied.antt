@@ -8,8 +8,8 @@ use Rattle.lang_meaning.specs.declared.program.Callee.TheVariants as callee
 use Rattle.lang_meaning.specs.Laws.{IsExitOf}
 use Rattle.lang_meaning.specs.Counts.{application_words}
 use Rattle.lang_meaning.specs.Values.{Value, symbol, named, nil, object}
-use Rattle.lang_meaning.specs.Objects.{Chain, Called, Object, cons, string, vector, instance, function, closure, generic_function, class_object, input_stream, output_stream, fresh_symbol, control_error_class, program_error_class, undefined_function_class}
-use Rattle.lang_meaning.specs.State.{State, DynamicContext, Exit, signal_exit, Landing, at_segment, at_site, Limit}
+use Rattle.lang_meaning.specs.Objects.{Chain, Called, Object, cons, instance, function, generic_function, control_error_class, program_error_class, undefined_function_class}
+use Rattle.lang_meaning.specs.State.{DynamicContext, Exit, signal_exit, Landing, at_segment, at_site, Limit}
 use Rattle.lang_meaning.specs.Lookup.{text}
 use Rattle.lang_meaning.specs.Classes.{class_of, fetch, chain}
 use Rattle.lang_meaning.specs.Signals.{takes, marked_at, is_catch, is_signal, is_continuable}

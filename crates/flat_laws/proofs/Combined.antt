@@ -1,15 +1,15 @@
 -- What an evaluation of flat forms comes to: a later state, and among transfers only those to exits around. One lemma for each
 -- combinator of the meaning.
-use Rattle.std.proofs.Common.{◌≡◌, ℕ, ◌+◌, Bool, true, false, T, List, [], ◌∷◌, ◌++◌, refl, sym, ap, subst, ◌⊎◌, inl, inr, Option, Some, None, length, take}
+use Rattle.std.proofs.Common.{◌≡◌, ℕ, ◌+◌, Bool, true, false, T, List, [], ◌∷◌, refl, sym, subst, ◌⊎◌, inl, inr, Option, Some, None, length}
 use Rattle.std.proofs.Math.Dec.{eqb_refl}
 use Rattle.std.specs.Prelude.{◌==◌, if◌then◌else◌}
 use Rattle.lang_meaning.specs.Laws.{IsExitOf, LandsIn}
 use Rattle.lang_meaning.specs.Values.{Value, object}
 use Rattle.lang_meaning.specs.Objects.{Object}
-use Rattle.lang_meaning.specs.State.{State, DynamicContext, Exit, ExitKind, Landing, Outcome, value, exit, full, more, exits_from, Limit, has_room, room_left, with_words, stored}
+use Rattle.lang_meaning.specs.State.{DynamicContext, Exit, ExitKind, Landing, Outcome, value, exit, full, more, exits_from, Limit, has_room, room_left, with_words, stored}
 use Rattle.lang_meaning.proofs.Compared.{exits_from_all}
 use Rattle.flat_language.specs.declared.place.Home.{Home}
-use Rattle.flat_language.specs.FlatState.{FrameSlot, Captured, FlatEnvironment, FlatState, FlatEvaluated, FlatAct, on_state, charged, with_values, new_slots, new_boxes, with_slots, gives, leaves, go_on, go_on_from, landed, landed_from, caught, cleaned, cleaned_from, request, make, make_closure, with_stack, in_frame, in_new_slots, with_frame, in_own_frame}
+use Rattle.flat_language.specs.FlatState.{Captured, FlatEnvironment, FlatState, FlatEvaluated, FlatAct, on_state, charged, with_values, new_slots, new_boxes, with_slots, gives, leaves, go_on, go_on_from, landed, landed_from, caught, cleaned, cleaned_from, request, make, make_closure, with_stack, in_frame, in_new_slots, with_frame, in_own_frame}
 use Rattle.flat_language.specs.FlatSignals.{FlatTask, FlatEvaluation, with_some}
 use Rattle.flat_laws.proofs.Steps.{IsKeptByFlatRules}
 

@@ -20,8 +20,8 @@ use Rattle.flat_language.specs.FlatForm.{FlatForm, literal, local, set_local, gl
 use Rattle.flat_language.specs.FlatForm.{FlatForms, no_form, form_and, FlatClauses, no_clause, clause_and, FlatBody, no_body, with_body}
 use Rattle.flat_language.specs.FlatForm.{FlatBindings, no_binding, binding_and, FlatDynamics, no_dynamic, dynamic_and}
 use Rattle.flat_language.specs.FlatNodes.{tables, own_nodes}
-use Rattle.flat_language.specs.FlatState.{holds, FlatEnvironment, FlatState, FlatEvaluated, FlatAct, on_state, box_held, box_in, value_of, set_to, exit_of, method_of, captured_part, charged, exit_made, with_values}
-use Rattle.flat_language.specs.FlatSignals.{FlatContext, FlatTask, nothing, form, turn, methods, signal_domain_error, signal, answered, inside, apply_value, unbound_variable}
+use Rattle.flat_language.specs.FlatState.{holds, FlatEnvironment, FlatState, FlatEvaluated, FlatAct, on_state, box_held, box_in, set_to, exit_of, method_of, captured_part, charged, exit_made, with_values}
+use Rattle.flat_language.specs.FlatSignals.{FlatContext, nothing, form, turn, methods, signal_domain_error, signal, answered, inside, apply_value, unbound_variable}
 use Rattle.flat_language.specs.FlatMeaning.{charged_for, unless_nil, from_segment, binding_homes, bound_names, with_exit, mean_literal, mean_global, set_global_to, mean_dynamic, set_dynamic_to, mean_apply, mean_call_value, mean_signal, with_handler_value, mean_next, turned, mean, mean_sequence, mean_arguments, mean_clauses, mean_body, mean_bindings, mean_dynamics, mean_task}
 use Rattle.flat_laws.proofs.Steps.{IsKeptByFlatRules, primitive_step}
 use Rattle.flat_laws.proofs.Combined.{ComesTo, Follows, Acts, Tasks, given, sooner, on, tests, lands_on, catches, cleans, some, charges, made, function_made, new_slots_left}

@@ -1,6 +1,6 @@
 -- What the primitives leave of the state, by the shapes of their answers.
-use Rattle.std.proofs.Common.{◌≡◌, ◌≤◌, ℕ, ◌+◌, List, [], ◌∷◌, ◌++◌, refl, sym, ap, subst, ◌∙◌, Some, length, arith, le_refl, append-nil}
-use Rattle.std.specs.Prelude.{slice_get, slice_set}
+use Rattle.std.proofs.Common.{◌≡◌, ◌≤◌, ℕ, ◌+◌, List, [], ◌∷◌, refl, sym, ap, subst, Some, length, arith, le_refl}
+use Rattle.std.specs.Prelude.{slice_get}
 use Rattle.lang_meaning.specs.declared.primitive.Primitive.{Primitive}
 use Rattle.lang_meaning.specs.declared.program.ProgramRows.{ProgramRows}
 use Rattle.lang_meaning.specs.Values.{Value, object}
@@ -12,7 +12,7 @@ use Rattle.lang_meaning.proofs.Answers.{state_of}
 use Rattle.lang_meaning.proofs.Steps.{prefix_of_itself, prefix_of_longer}
 use Rattle.flat_language.proofs.Lists.{other_place, length-changed}
 use Rattle.flat_laws.specs.Blanks.{blank}
-use Rattle.flat_laws.specs.PrimitiveKeeps.{set_by, PrimitiveKeeps, IsCounted, AnswerKeeps}
+use Rattle.flat_laws.specs.PrimitiveKeeps.{set_by, PrimitiveKeeps, AnswerKeeps}
 use Rattle.flat_laws.specs.Laws.{LawOfPrimitives}
 use Rattle.flat_laws.proofs.Blanks.{blank_set}
 use Rattle.flat_laws.proofs.Answers.{HoldsOfAnswers, primitive_answers}

@@ -1,5 +1,5 @@
 -- Being later in a flat run is kept by each step.
-use Rattle.std.proofs.Common.{◌≡◌, ◌≤◌, ◌<◌, ◌==◌, ℕ, ◌+◌, Bool, true, false, List, [], ◌∷◌, ◌++◌, refl, sym, ap, subst, ◌∙◌, ⊎_elim, Option, Some, None, length, take, length-append, append_assoc, arith, le_refl, le_trans}
+use Rattle.std.proofs.Common.{◌≡◌, ◌≤◌, ◌<◌, ℕ, ◌+◌, Bool, List, [], ◌∷◌, ◌++◌, refl, sym, ap, subst, ◌∙◌, Some, length, take, length-append, append_assoc, arith, le_refl, le_trans}
 use Rattle.std.proofs.lemmas.List.{length-take-le}
 use Rattle.std.specs.Prelude.{slice_get, slice_set, if◌then◌else◌}
 use Rattle.lang_meaning.specs.Values.{Value}
@@ -7,10 +7,9 @@ use Rattle.lang_meaning.specs.Objects.{Object, function}
 use Rattle.lang_meaning.specs.State.{State, with_words, stored, changed}
 use Rattle.lang_meaning.specs.State as base
 use Rattle.lang_meaning.specs.Prefixes.{IsLastOf}
-use Rattle.lang_meaning.specs.Laws.{IsLater, MakesNewExits}
 use Rattle.lang_meaning.specs.Primitives.{other_bytes}
-use Rattle.lang_meaning.proofs.Steps.{IsKeptByRules, GrowsAnew, anew_kept}
-use Rattle.flat_language.specs.FlatState.{FrameSlot, Captured, FlatState, on_state, under, charged, exit_made, with_values}
+use Rattle.lang_meaning.proofs.Steps.{GrowsAnew, anew_kept}
+use Rattle.flat_language.specs.FlatState.{FrameSlot, Captured, FlatState, on_state, under}
 use Rattle.flat_language.proofs.Lists.{equal_or_not, length-changed}
 use Rattle.flat_laws.specs.Blanks.{blank}
 use Rattle.flat_laws.specs.FlatLater.{MakesNewFunctions, FlatLater}

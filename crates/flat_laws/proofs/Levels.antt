@@ -4,13 +4,13 @@ use Rattle.std.specs.Prelude.{if◌then◌else◌}
 use Rattle.lang_meaning.specs.Laws.{LandsIn}
 use Rattle.lang_meaning.specs.Counts.{application_words}
 use Rattle.lang_meaning.specs.Values.{Value}
-use Rattle.lang_meaning.specs.State.{State, DynamicContext, Exit, main_context, Outcome, value, exit, full, more, Limit, has_room, room_left, with_words}
+use Rattle.lang_meaning.specs.State.{State, Exit, main_context, Outcome, value, exit, full, more, Limit, has_room, room_left, with_words}
 use Rattle.flat_language.specs.declared.program.FlatProgram.{FlatProgram}
 use Rattle.flat_language.specs.FlatForm.{FlatForm}
 use Rattle.flat_language.specs.FlatNodes.{nodes}
 use Rattle.flat_language.specs.FlatState.{no_environment, FlatState, FlatEvaluated, on_state, gives, go_on, go_on_from, with_stack, in_own_frame}
-use Rattle.flat_language.specs.FlatSignals.{FlatTask, form, FlatEvaluation}
-use Rattle.flat_language.specs.FlatMeaning.{mean_task, none_below, context_of, flat_meaning_at, mean_main, mean_mains}
+use Rattle.flat_language.specs.FlatSignals.{form}
+use Rattle.flat_language.specs.FlatMeaning.{none_below, context_of, flat_meaning_at, mean_mains}
 use Rattle.flat_laws.proofs.Steps.{IsKeptByFlatRules}
 use Rattle.flat_laws.proofs.Combined.{ComesTo, Tasks, itself, sooner, own_frame_left}
 use Rattle.flat_laws.proofs.Forms.{tasks}

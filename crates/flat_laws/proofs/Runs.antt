@@ -7,12 +7,12 @@ use Rattle.flat_language.specs.declared.program.FlatProgram.{FlatProgram}
 use Rattle.flat_language.specs.FlatForm.{FlatForm}
 use Rattle.flat_language.specs.FlatNodes.{tables}
 use Rattle.flat_language.specs.FlatState.{FlatEnvironment, FlatState, with_stack}
-use Rattle.flat_language.specs.FlatSignals.{FlatContext, FlatTask}
-use Rattle.flat_language.specs.FlatMeaning.{flat_meaning_at, mean, mean_mains, flat_meaning}
+use Rattle.flat_language.specs.FlatSignals.{FlatContext}
+use Rattle.flat_language.specs.FlatMeaning.{mean, mean_mains, flat_meaning}
 use Rattle.flat_laws.specs.FlatLater.{FlatLater}
 use Rattle.flat_laws.specs.Laws.{LawOfFlatGrowth, RunKeeps, LawOfFlatRuns, LawOfFlatTransfers}
 use Rattle.flat_laws.proofs.Later.{later_kept}
-use Rattle.flat_laws.proofs.Combined.{ComesTo, Tasks}
+use Rattle.flat_laws.proofs.Combined.{Tasks}
 use Rattle.flat_laws.proofs.Forms.{means}
 use Rattle.flat_laws.proofs.Levels.{levels_come, mains_come}
 

@@ -6,7 +6,6 @@ use Rattle.lang_meaning.specs.declared.program.ProgramRows.{ProgramRows}
 use Rattle.lang_meaning.specs.Values.{Value}
 use Rattle.lang_meaning.specs.Objects.{Object, function}
 use Rattle.lang_meaning.specs.State.{State, with_words, stored, changed}
-use Rattle.lang_meaning.specs.Lookup.{set_at}
 use Rattle.lang_meaning.specs.Primitives.{Answer, other_bytes, primitive}
 use Rattle.lang_meaning.proofs.Answers.{state_of}
 use Rattle.flat_language.specs.FlatState.{FrameSlot, Captured, FlatState, on_state, charged, exit_made, with_values}

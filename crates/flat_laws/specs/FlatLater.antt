@@ -3,7 +3,6 @@ use Rattle.std.specs.Prelude.{◌≡◌, ◌≤◌, ◌<◌, ℕ, List, ◌++◌
 use Rattle.lang_meaning.specs.Objects.{Object}
 use Rattle.lang_meaning.specs.Prefixes.{IsLastOf}
 use Rattle.lang_meaning.specs.Laws.{IsLater, MakesNewExits}
-use Rattle.lang_meaning.specs.State.{State}
 use Rattle.flat_language.specs.FlatState.{Captured, FlatState, under}
 use Rattle.flat_laws.specs.Blanks.{blank}
 

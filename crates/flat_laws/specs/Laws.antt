@@ -1,10 +1,10 @@
 -- What holds of all flat programs and of all their runs, as the laws say it.
-use Rattle.std.specs.Prelude.{◌≡◌, ◌≤◌, ◌<◌, ℕ, List, [], length, slice_get}
+use Rattle.std.specs.Prelude.{◌≡◌, ◌≤◌, ◌<◌, ℕ, List, length, slice_get}
 use Rattle.lang_meaning.specs.declared.primitive.Primitive.{Primitive}
 use Rattle.lang_meaning.specs.declared.program.ProgramRows.{ProgramRows}
 use Rattle.lang_meaning.specs.Values.{Value}
 use Rattle.lang_meaning.specs.Objects.{Object}
-use Rattle.lang_meaning.specs.State.{State, DynamicContext, main_context, Limit}
+use Rattle.lang_meaning.specs.State.{State, DynamicContext, Limit}
 use Rattle.lang_meaning.specs.InitialHeap.{objects_at_start}
 use Rattle.lang_meaning.specs.Prefixes.{IsLastOf}
 use Rattle.lang_meaning.specs.Laws.{LandsIn}

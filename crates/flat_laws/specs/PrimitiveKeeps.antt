@@ -1,5 +1,5 @@
 -- What a primitive leaves of the state as it was.
-use Rattle.std.specs.Prelude.{◌≡◌, ◌≤◌, ℕ, List, [], ◌∷◌, length, slice_get}
+use Rattle.std.specs.Prelude.{◌≡◌, ◌≤◌, ℕ, List, ◌∷◌, length, slice_get}
 use Rattle.lang_meaning.specs.declared.primitive.Primitive.{Primitive}
 use Rattle.lang_meaning.specs.declared.primitive.Primitive.TheVariants.{SetCar, SetCdr, SetCharAt, SetVectorRef, SlotSet}
 use Rattle.lang_meaning.specs.Values.{Value, nil, object}
