@@ -66,7 +66,7 @@ module _ {R : FlatState → FlatState → Type 0} {k : IsKeptByFlatRules R} wher
       (charges 1 z (f x (charged 1 z)))
       (charges 1 z (searches exits p f o xs (charged 1 z)))
 
-  exit_searches : (exits : List Exit) (p : Exit → Bool) {found : Exit → FlatState → FlatEvaluated} {otherwise : FlatState → FlatEvaluated}
+  pub exit_searches : (exits : List Exit) (p : Exit → Bool) {found : Exit → FlatState → FlatEvaluated} {otherwise : FlatState → FlatEvaluated}
       → ((x : Exit) → IsExitOf x.number exits → Follows R k exits (found x)) → Follows R k exits otherwise
       → (xs : List Exit) → ((e : ℕ) → IsExitOf e xs → IsExitOf e exits) → (z : FlatState)
       → ComesTo R k exits z (search p found otherwise xs z)
@@ -115,7 +115,7 @@ module _ {R : FlatState → FlatState → Type 0} {k : IsKeptByFlatRules R} (con
     each_applies [] vs around z = given around.exits nil z (k.none z)
     each_applies (m ∷ ms) vs around z = on (applies m None vs around z) (λ v after. each_applies ms vs around after)
 
-    primary_runs : (c : Chain) (ps : List ℕ) (vs : List Value) → Acts R k (run_primary context wrong c ps vs)
+    pub primary_runs : (c : Chain) (ps : List ℕ) (vs : List Value) → Acts R k (run_primary context wrong c ps vs)
     primary_runs c [] vs around z = s control_error_class [] around z
     primary_runs c (p ∷ ps) vs around z =
         on (each_applies c.before vs around z) (λ ignored before.
@@ -123,7 +123,7 @@ module _ {R : FlatState → FlatState → Type 0} {k : IsKeptByFlatRules R} (con
         on (each_applies c.after vs around primary) (λ ignored after.
         given around.exits v after (k.none after))))
 
-    around_runs : (c : Chain) (ms : List ℕ) (vs : List Value) → Acts R k (run_around context wrong c ms vs)
+    pub around_runs : (c : Chain) (ms : List ℕ) (vs : List Value) → Acts R k (run_around context wrong c ms vs)
     around_runs c [] vs around z = primary_runs c c.primary vs around z
     around_runs c (m ∷ ms) vs around z = method_applies m (record { arguments = vs; rest = record c { around = ms } }) around z
 
@@ -133,14 +133,14 @@ module _ {R : FlatState → FlatState → Type 0} {k : IsKeptByFlatRules R} (con
     pub undefined : (name : List ℕ) → Acts R k (undefined_function wrong name)
     undefined name around z = s undefined_function_class (symbol (named name) ∷ []) around z
 
-    chain_applies : (g : GenericRow) (c : Option Chain) (vs : List Value) → Acts R k (apply_chain context wrong g c vs)
+    pub chain_applies : (g : GenericRow) (c : Option Chain) (vs : List Value) → Acts R k (apply_chain context wrong g c vs)
     chain_applies g None vs around z = undefined (text context.names g.name.0) around z
     chain_applies g (Some c) vs around z =
         descends w around z (λ entered.
         framed context.limit (16 + length vs) entered (λ inner.
         charges (length vs) inner (w (methods c vs) no_environment around (charged (length vs) inner))))
 
-    generic_row_applies : (g : Option GenericRow) (vs : List Value) → Acts R k (apply_generic_row context wrong g vs)
+    pub generic_row_applies : (g : Option GenericRow) (vs : List Value) → Acts R k (apply_generic_row context wrong g vs)
     generic_row_applies None vs around z = given around.exits nil z (k.none z)
     generic_row_applies (Some g) vs around z =
         tests (takes g.required g.rest (length vs))
@@ -150,7 +150,7 @@ module _ {R : FlatState → FlatState → Type 0} {k : IsKeptByFlatRules R} (con
     pub generic_applies : (i : ℕ) (vs : List Value) → Acts R k (apply_generic context wrong i vs)
     generic_applies i vs around z = generic_row_applies (slice_get context.program.generics i) vs around z
 
-    object_applies : (o : Option Object) (captured : Option (List Captured)) (f : Value) (vs : List Value)
+    pub object_applies : (o : Option Object) (captured : Option (List Captured)) (f : Value) (vs : List Value)
         → Acts R k (apply_object context wrong o captured f vs)
     object_applies (Some (function p)) None f vs around z = applies p None vs around z
     object_applies (Some (function p)) (Some captured) f vs around z = function_applies p captured vs around z
@@ -160,7 +160,7 @@ module _ {R : FlatState → FlatState → Type 0} {k : IsKeptByFlatRules R} (con
     pub value_applies : (f : Value) (vs : List Value) → Acts R k (apply_value context wrong f vs)
     value_applies f vs around z = object_applies (fetch z.state f) (captured_by f z) f vs around z
 
-    callee_applies : (c : Callee) (vs : List Value) → Acts R k (apply_callee context wrong c vs)
+    pub callee_applies : (c : Callee) (vs : List Value) → Acts R k (apply_callee context wrong c vs)
     callee_applies (callee.Procedure p) vs around z = applies p None vs around z
     callee_applies (callee.Generic g) vs around z = generic_applies g vs around z
 
@@ -172,7 +172,7 @@ module _ {R : FlatState → FlatState → Type 0} {k : IsKeptByFlatRules R} (con
       → Continues R k exits next → ComesTo R k exits z (new_condition context class slots z next)
   conditions exits class slots z c = made context.limit _ 0 _ z c
 
-  marks : (c mark : Value) (z : FlatState) → R z (marked c mark z)
+  pub marks : (c mark : Value) (z : FlatState) → R z (marked c mark z)
   marks c mark z = by c (fetch z.state c) refl
     where
       by : (v : Value) (o : Option Object) → fetch z.state v ≡ o → R z (on_state (λ y. marked_at v mark o y) z)
@@ -200,7 +200,7 @@ module _ {R : FlatState → FlatState → Type 0} {k : IsKeptByFlatRules R} (con
       conditions around.exits class slots z (λ c made. signals_under around.handlers c nil around made)
 
   -- transfers
-  exit_left : (p : Exit → Bool) (go : Exit → FlatAct)
+  pub exit_left : (p : Exit → Bool) (go : Exit → FlatAct)
       → ((x : Exit) (around : DynamicContext) (z : FlatState) → IsExitOf x.number around.exits → ComesTo R k around.exits z (go x around z))
       → Acts R k (to_exit context p go)
   exit_left p go f around z =

@@ -36,7 +36,7 @@ module _ {R : FlatState → FlatState → Type 0} {k : IsKeptByFlatRules R} (con
   domains = domain_signals context w (signal context) wrongs
 
   -- the answer of a primitive, whose state is a later one
-  answers : (a : Answer) (around : DynamicContext) (z : FlatState) → R z (record z { state = state_of a })
+  pub answers : (a : Answer) (around : DynamicContext) (z : FlatState) → R z (record z { state = state_of a })
       → ComesTo R k around.exits z (answered context a around z)
   answers (result v after) around z g = given around.exits v (record z { state = after }) g
   answers (makes size besides o after) around z g =
@@ -47,7 +47,7 @@ module _ {R : FlatState → FlatState → Type 0} {k : IsKeptByFlatRules R} (con
   answers (fails class vs after) around z g = sooner g (wrongs class vs around (record z { state = after }))
   answers (domain_error v expected after) around z g = sooner g (domains v expected around (record z { state = after }))
 
-  literals : (id : ℕ) (r : Option LiteralRow) → Acts R k (mean_literal context id r)
+  pub literals : (id : ℕ) (r : Option LiteralRow) → Acts R k (mean_literal context id r)
   literals id None around z = given around.exits nil z (k.none z)
   literals id (Some (row.Datum d)) around z = given around.exits _ z (k.none z)
   literals id (Some (row.Class c)) around z = given around.exits _ z (k.none z)
@@ -60,33 +60,33 @@ module _ {R : FlatState → FlatState → Type 0} {k : IsKeptByFlatRules R} (con
   unbound : (name : List ℕ) → Acts R k (unbound_variable (signal context) name)
   unbound name = wrongs unbound_variable_class (symbol (named name) ∷ [])
 
-  globals : (name : List ℕ) → Acts R k (mean_global context name)
+  pub globals : (name : List ℕ) → Acts R k (mean_global context name)
   globals name around z =
       some (under_text name z.state.globals) (unbound name) (λ v a y. given a.exits v y (k.none y)) around z
 
-  globals_set : (name : List ℕ) (v : Value) → Acts R k (set_global_to context name v)
+  pub globals_set : (name : List ℕ) (v : Value) → Acts R k (set_global_to context name v)
   globals_set name v around z =
       some (under_text name z.state.globals) (unbound name)
       (λ old a y. given a.exits v (on_state (λ (x : State). record x { globals = (name, v) ∷ x.globals }) y) (k.globals _ y)) around z
 
-  dynamics : (name : List ℕ) → Acts R k (mean_dynamic context name)
+  pub dynamics : (name : List ℕ) → Acts R k (mean_dynamic context name)
   dynamics name around z =
       searches around.exits (λ (b : List ℕ × ℕ). bytes_eq name b.0)
       (λ b y. given around.exits (value_at (Some b.1) y.state) y (k.none y))
       (λ y. some (under_text name y.state.dynamics) (unbound name) (λ v a x. given a.exits v x (k.none x)) around y)
       around.bindings z
 
-  box_set : (i : Option ℕ) (v : Value) (z : FlatState) → R z (on_state (λ y. set_at i v y) z)
+  pub box_set : (i : Option ℕ) (v : Value) (z : FlatState) → R z (on_state (λ y. set_at i v y) z)
   box_set (Some i) v z = k.set i v z
   box_set None v z = k.none z
 
-  variable_set : (p : VariablePlace) (v : Value) (env : FlatEnvironment) (z : FlatState) → R z (set_to p v env z)
+  pub variable_set : (p : VariablePlace) (v : Value) (env : FlatEnvironment) (z : FlatState) → R z (set_to p v env z)
   variable_set (Slot n) v env z = k.slot n (holds v) z
   variable_set (SlotBox n) v env z = box_set (box_held (slice_get z.frame n)) v z
   variable_set (CapturedValue n) v env z = k.none z
   variable_set (CapturedBox n) v env z = box_set (box_in (slice_get env.captured n)) v z
 
-  dynamics_set : (name : List ℕ) (v : Value) → Acts R k (set_dynamic_to context name v)
+  pub dynamics_set : (name : List ℕ) (v : Value) → Acts R k (set_dynamic_to context name v)
   dynamics_set name v around z =
       searches around.exits (λ (b : List ℕ × ℕ). bytes_eq name b.0)
       (λ b y. given around.exits v (on_state (λ x. set_at (Some b.1) v x) y) (box_set (Some b.1) v y))
@@ -97,7 +97,7 @@ module _ {R : FlatState → FlatState → Type 0} {k : IsKeptByFlatRules R} (con
   value_applies : (f : Value) (vs : List Value) → Acts R k (apply_value context (signal context) f vs)
   value_applies f vs = applied.value_applies context w (signal context) wrongs f vs
 
-  lists_apply : (f list : Value) → Acts R k (mean_apply context f list)
+  pub lists_apply : (f list : Value) → Acts R k (mean_apply context f list)
   lists_apply f list around z =
       tests (is_function (fetch z.state f))
       (tests (spread (length z.state.store + 1) z.state [] list).proper
@@ -105,34 +105,34 @@ module _ {R : FlatState → FlatState → Type 0} {k : IsKeptByFlatRules R} (con
       (charges (length (spread (length z.state.store + 1) z.state [] list).elements) z (domains list list_class around _)))
       (domains f function_class around z)
 
-  calls : (vs : List Value) → Acts R k (mean_call_value context vs)
+  pub calls : (vs : List Value) → Acts R k (mean_call_value context vs)
   calls [] around z = given around.exits nil z (k.none z)
   calls (f ∷ vs) around z = value_applies f vs around z
 
-  condition_signals : (c mark : Value) → Acts R k (mean_signal context c mark)
+  pub condition_signals : (c mark : Value) → Acts R k (mean_signal context c mark)
   condition_signals c mark around z =
       tests (is_condition (tables context.program) z.state c)
       (signals_under context w around.handlers c mark around z)
       (domains c serious_condition_class around z)
 
-  handlers : (h : Value) (around : DynamicContext) (z : FlatState) {body : FlatAct} → Acts R k body
+  pub handlers : (h : Value) (around : DynamicContext) (z : FlatState) {body : FlatAct} → Acts R k body
       → ComesTo R k around.exits z (with_handler_value context h body around z)
   handlers h around z c =
       tests (is_function (fetch z.state h)) (c (record around { handlers = h ∷ around.handlers }) z)
       (domains h function_class around z)
 
-  nexts : (m : Option Called) → Acts R k (mean_next context m)
+  pub nexts : (m : Option Called) → Acts R k (mean_next context m)
   nexts None around z = wrongs control_error_class [] around z
   nexts (Some called) around z = chain_runs context w (signal context) wrongs called.rest called.arguments around z
 
-  turns : (e : ℕ) (all : FlatForms) (env : FlatEnvironment) (around : DynamicContext) {y : FlatState} {r : FlatEvaluated}
+  pub turns : (e : ℕ) (all : FlatForms) (env : FlatEnvironment) (around : DynamicContext) {y : FlatState} {r : FlatEvaluated}
       → ComesTo R k (with_turns e around).exits y r → ComesTo R k around.exits y (turned context e all env around r)
   turns e all env around x =
       lands_on e tagbody_exit
       (λ v landing z. w (turn e (from_segment (segment_of landing) all) all) env around z)
       (on x (λ v after. given _ nil after (k.none after)))
 
-  truths : {exits : List Exit} {z : FlatState} (v : Value) {r s : FlatEvaluated} → ComesTo R k exits z r → ComesTo R k exits z s
+  pub truths : {exits : List Exit} {z : FlatState} (v : Value) {r s : FlatEvaluated} → ComesTo R k exits z r → ComesTo R k exits z s
       → ComesTo R k exits z (unless_nil v r s)
   truths v x y = tests (is_true v) x y
 

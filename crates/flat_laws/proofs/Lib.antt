@@ -3,6 +3,7 @@ pub mod Answers
 pub mod Keeps
 pub mod Steps
 pub mod Later
+pub mod SameKind
 pub mod Combined
 pub mod Applied
 pub mod Forms

@@ -1,5 +1,5 @@
 -- What holds of all flat programs and of all their runs, as the laws say it.
-use Rattle.std.specs.Prelude.{◌≡◌, ◌≤◌, ◌<◌, ℕ, List, length, slice_get}
+use Rattle.std.specs.Prelude.{◌≡◌, ◌≤◌, ◌<◌, ℕ, List, Option, length, slice_get}
 use Rattle.lang_meaning.specs.declared.primitive.Primitive.{Primitive}
 use Rattle.lang_meaning.specs.declared.program.ProgramRows.{ProgramRows}
 use Rattle.lang_meaning.specs.Values.{Value}
@@ -16,7 +16,7 @@ use Rattle.flat_language.specs.FlatNodes.{tables}
 use Rattle.flat_language.specs.FlatState.{FlatEnvironment, FlatState, with_stack}
 use Rattle.flat_language.specs.FlatSignals.{FlatTask}
 use Rattle.flat_language.specs.FlatMeaning.{flat_meaning_at, mean_mains, flat_meaning}
-use Rattle.flat_laws.specs.Blanks.{blank}
+use Rattle.flat_laws.specs.Blanks.{blank, StaysOfKind}
 use Rattle.flat_laws.specs.FlatLater.{FlatLater}
 use Rattle.flat_laws.specs.PrimitiveKeeps.{set_by, AnswerKeeps}
 
@@ -46,6 +46,10 @@ LawOfFlatTransfers =
     (names : List (List ℕ)) (program : FlatProgram) (limit : Limit) (k : ℕ) (task : FlatTask) (env : FlatEnvironment)
     (around : DynamicContext) (z : FlatState)
     → LandsIn around.exits (flat_meaning_at names program limit k task env around z).outcome
+
+-- the law of blanks: of an object with the same blank as before the kind and the size are the same
+abbrev pub LawOfBlanks : Type 0
+LawOfBlanks = (before after : Option Object) → blank after ≡ blank before → StaysOfKind before after
 
 -- the law of primitives, at any values and in any state
 abbrev pub LawOfPrimitives : Type 0

@@ -1,6 +1,13 @@
 // What is true of all flat programs and of all their runs, as the contracts of functions that do nothing.
 
-ghost use Rattle.flat_laws.specs.Laws.{LawOfFlatGrowth, LawOfFlatRuns, LawOfFlatTransfers, LawOfPrimitives};
+ghost use Rattle.flat_laws.specs.Laws.{LawOfBlanks, LawOfFlatGrowth, LawOfFlatRuns, LawOfFlatTransfers, LawOfPrimitives};
+
+/// The law of blanks: an object that has the blank of another one, which is what the law of flat growth says of an object
+/// before and after, is of its class and kind, has as many characters, elements or slots, and is the same where nothing can
+/// be set in it.
+pub fn law_blanks()
+    ensures { LawOfBlanks }
+{}
 
 /// The law of flat growth: along a run bytes printed stay, the input left only shrinks, units, words of the heap, their
 /// peak and the numbers of exits, fresh symbols, objects and variables never fall, objects stay of their kind and size,
