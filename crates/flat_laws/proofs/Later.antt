@@ -136,7 +136,7 @@ given_back_later : (n : ℕ) (z r : FlatState) → FlatLater (on_state (λ y. wi
     → FlatLater z (on_state (λ (y : State). record y { stack = z.state.stack }) r)
 given_back_later n z r x =
     let g : GrowsAnew z.state (record r.state { stack = z.state.stack }) =
-        anew_kept.both (anew_kept.both (anew_kept.words 0 n z.state) (anew x)) (anew_kept.stack z.state.stack r.state) in record {
+    anew_kept.both (anew_kept.both (anew_kept.words 0 n z.state) (anew x)) (anew_kept.stack z.state.stack r.state) in record {
       later = g.later;
       exits = g.exits;
       input = x.input;

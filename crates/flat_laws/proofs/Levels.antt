@@ -55,9 +55,9 @@ module _ {R : FlatState → FlatState → Type 0} {k : IsKeptByFlatRules R} wher
       let size : ℕ = application_words (nodes f) in
       let entered : FlatState = on_state (λ y. with_words 0 size y) z in
       let r : FlatEvaluated =
-          in_own_frame (λ inner. flat_meaning_at names program limit n (form f) no_environment main_context inner) entered in
+      in_own_frame (λ inner. flat_meaning_at names program limit n (form f) no_environment main_context inner) entered in
       let x : ComesTo R k main_context.exits entered r =
-          own_frame_left entered (levels_come names program limit n (form f) no_environment main_context (record entered { frame = [] })) in
+      own_frame_left entered (levels_come names program limit n (form f) no_environment main_context (record entered { frame = [] })) in
       if_room main_context.exits z (has_room limit (z.state.heap + z.state.stack + 0 + size))
       (go_on r (λ v after. gives v (restored z after))) (0 + size) (room_left limit (z.state.heap + z.state.stack))
       (λ v after. mean_mains names program limit n fs v after)

@@ -42,7 +42,7 @@ unfolding flat_meaning
 runs_keep names program input k limit =
     let start : FlatState = record { state = first_state (objects_at_start names (tables program)) input; frame = []; captured = [] } in
     let g : FlatLater start (with_stack 0 (mean_mains names program limit k program.main nil start)).state =
-        mains_grow names program limit k program.main nil start in record {
+    mains_grow names program limit k program.main nil start in record {
       input = g.input;
       store = g.store;
       objects = g.objects;
