@@ -1,7 +1,6 @@
 -- What an evaluation of flat forms comes to: a later state, and among transfers only those to exits around. One lemma for each
 -- combinator of the meaning.
-use Rattle.std.proofs.Common.{◌≡◌, ℕ, ◌+◌, Bool, true, false, T, List, [], ◌∷◌, refl, sym, subst, ◌⊎◌, inl, inr, Option, Some, None, length}
-use Rattle.std.proofs.Math.Dec.{eqb_refl}
+use Rattle.std.proofs.Common.{◌≡◌, ℕ, ◌+◌, Bool, true, false, List, [], ◌∷◌, refl, sym, ◌⊎◌, inl, inr, Option, Some, None, length}
 use Rattle.std.specs.Prelude.{◌==◌, if◌then◌else◌}
 use Rattle.lang_meaning.specs.Laws.{IsExitOf, LandsIn}
 use Rattle.lang_meaning.specs.Values.{Value, object}
@@ -11,14 +10,12 @@ use Rattle.lang_meaning.proofs.Compared.{exits_from_all}
 use Rattle.flat_language.specs.declared.place.Home.{Home}
 use Rattle.flat_language.specs.FlatState.{Captured, FlatEnvironment, FlatState, FlatEvaluated, FlatAct, on_state, charged, with_values, new_slots, new_boxes, with_slots, gives, leaves, go_on, go_on_from, landed, landed_from, caught, cleaned, cleaned_from, request, make, make_closure, with_stack, in_frame, in_new_slots, with_frame, in_own_frame}
 use Rattle.flat_language.specs.FlatSignals.{FlatTask, FlatEvaluation, with_some}
+use Rattle.flat_language.proofs.Lists.{unequal}
 use Rattle.flat_laws.proofs.Steps.{IsKeptByFlatRules}
-
-other_number : (m n : ℕ) → (m == n) ≡ false → n ≡ m → ⊥
-other_number m n h e = subst T h (subst (λ i. T (m == i)) (sym e) (eqb_refl m))
 
 -- an exit after the first one
 other_exit : (e x : ℕ) (exits : List Exit) → (e == x) ≡ false → x ≡ e ⊎ IsExitOf e exits → IsExitOf e exits
-other_exit e x exits h (inl same) = absurd (other_number e x h same)
+other_exit e x exits h (inl same) = absurd (unequal e x h (sym same))
 other_exit e x exits h (inr i) = i
 
 wider_landing : (few many : List Exit) → ((e : ℕ) → IsExitOf e few → IsExitOf e many) → (o : Outcome) → LandsIn few o → LandsIn many o

@@ -26,8 +26,9 @@ pub fn law_flat_transfers()
     ensures { LawOfFlatTransfers }
 {}
 
-/// A primitive leaves of the state what is not its own: it changes at most the object that a setter is given, and that
-/// one stays of its kind and size; it prints or reads a byte, or counts units, and what it makes is still to be made.
+/// A primitive leaves of the state all but units, bytes and the object that a setter is given, which stays of its kind and
+/// size: bytes printed stay, the input left only shrinks, and units never fall. Where an object is to be made or an argument
+/// is of another class than expected it leaves all, and where another condition is to be signalled all but units.
 pub fn law_primitives()
     ensures { LawOfPrimitives }
 {}
