@@ -89,7 +89,7 @@ module _ (registers lines : ℕ) where
     step_fit (return_word r) at h le = one_line fits (Return r) h
     step_fit (cut_to block word) at h le = one_line fits (Cut block word) h
     step_fit (halt_with r) at h le = one_line fits (Halt r) h
-    step_fit (end_unhandled class site) at h le = one_line fits (Unhandled class site) h
+    step_fit (end_unhandled class site condition) at h le = one_line fits (Unhandled class site condition) h
 
     code_fit : (c : MidCode) (at : ℕ) → tree.code_fits registers c ≡ true → at + line_count c ≤ lines → AllPass fits (code_lines at c)
     code_fit no_step at h le = none fits
@@ -149,7 +149,7 @@ module _ (procedures : List MidProcedure) where
     step_call (return_word r) at h = one_line calls (Return r) refl
     step_call (cut_to block word) at h = one_line calls (Cut block word) refl
     step_call (halt_with r) at h = one_line calls (Halt r) refl
-    step_call (end_unhandled class site) at h = one_line calls (Unhandled class site) refl
+    step_call (end_unhandled class site condition) at h = one_line calls (Unhandled class site condition) refl
 
     code_call : (c : MidCode) (at : ℕ) → tree.code_calls procedures c ≡ true → AllPass calls (code_lines at c)
     code_call no_step at h = none calls

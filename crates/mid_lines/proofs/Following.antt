@@ -239,7 +239,7 @@ module _ (program : LineProgram) where
       from no_level rs z m = m
       from no_turn rs z m = m
       from (halts w) rs z m = m
-      from (unhandled class site) rs z m = m
+      from (unhandled class site condition) rs z m = m
       from exhausted rs z m = m
       from stuck rs z m = m
 
@@ -296,7 +296,7 @@ module _ (program : LineProgram) where
       from no_level rs z m = m
       from no_turn rs z m = m
       from (halts w) rs z m = m
-      from (unhandled class site) rs z m = m
+      from (unhandled class site condition) rs z m = m
       from exhausted rs z m = m
       from stuck rs z m = m
 
@@ -318,7 +318,7 @@ module _ (program : LineProgram) where
       from no_level z m = m
       from no_turn z m = m
       from (halts w) z m = m
-      from (unhandled class site) z m = m
+      from (unhandled class site condition) z m = m
       from exhausted z m = m
       from stuck z m = m
 
@@ -539,8 +539,8 @@ module _ (mid : MidProgram) (b : ℕ) (below further : Task → MidState → Mid
     step_meets (halt_with r) at a rs callers z h =
         simple_meets (halt_with r) (Halt r) a at rs callers z h
         refl (some_reached _ _ rs _ (λ w. tt))
-    step_meets (end_unhandled class site) at a rs callers z h =
-        simple_meets (end_unhandled class site) (Unhandled class site) a at rs callers z h
+    step_meets (end_unhandled class site condition) at a rs callers z h =
+        simple_meets (end_unhandled class site condition) (Unhandled class site condition) a at rs callers z h
         refl (some_reached _ _ rs _ (λ v. some_reached _ _ rs _ (λ w. tt)))
 
   -- tasks

@@ -44,7 +44,7 @@ arrive_grown z a line callers r g = from r.end
     from no_level = g
     from no_turn = g
     from (halts w) = g
-    from (unhandled class site) = g
+    from (unhandled class site condition) = g
     from exhausted = g
     from stuck = g
 
@@ -66,7 +66,7 @@ land_at_grown (Some (GiveBack words)) word s a rs callers z = same_grown z
 land_at_grown (Some (Return r)) word s a rs callers z = same_grown z
 land_at_grown (Some (Cut block w)) word s a rs callers z = same_grown z
 land_at_grown (Some (Halt r)) word s a rs callers z = same_grown z
-land_at_grown (Some (Unhandled class site)) word s a rs callers z = same_grown z
+land_at_grown (Some (Unhandled class site condition)) word s a rs callers z = same_grown z
 
 land_grown :
     (program : LineProgram) (word : ℕ) (records : List Standing) (a : Activation) (rs : Registers) (callers : List Caller) (z : MidState) (otherwise : Stage)
@@ -151,7 +151,7 @@ line_grown program (Some (GiveBack words)) a line rs callers z = give_back_at_gr
 line_grown program (Some (Return r)) a line rs callers z = proceed_grown program z a (line + 1) callers _ (step_grown (return_word r) rs z)
 line_grown program (Some (Cut block word)) a line rs callers z = proceed_grown program z a (line + 1) callers _ (step_grown (cut_to block word) rs z)
 line_grown program (Some (Halt r)) a line rs callers z = proceed_grown program z a (line + 1) callers _ (step_grown (halt_with r) rs z)
-line_grown program (Some (Unhandled class site)) a line rs callers z = proceed_grown program z a (line + 1) callers _ (step_grown (end_unhandled class site) rs z)
+line_grown program (Some (Unhandled class site condition)) a line rs callers z = proceed_grown program z a (line + 1) callers _ (step_grown (end_unhandled class site condition) rs z)
 
 entry_grown :
     (o : Option LineProcedure) (number : ℕ) (arguments : List ℕ) (callers : List Caller) (z : MidState)

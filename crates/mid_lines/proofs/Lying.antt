@@ -96,7 +96,7 @@ abbrev mutual
   StepLies lines at (return_word r) = slice_get lines at ≡ Some (Return r)
   StepLies lines at (cut_to block word) = slice_get lines at ≡ Some (Cut block word)
   StepLies lines at (halt_with r) = slice_get lines at ≡ Some (Halt r)
-  StepLies lines at (end_unhandled class site) = slice_get lines at ≡ Some (Unhandled class site)
+  StepLies lines at (end_unhandled class site condition) = slice_get lines at ≡ Some (Unhandled class site condition)
 
   pub CodeLies : List Line → ℕ → MidCode → Type 0
   CodeLies lines at no_step = Unit {0}

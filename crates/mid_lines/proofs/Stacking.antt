@@ -25,7 +25,7 @@ IfFalls (no_room asked left) T = Unit {0}
 IfFalls no_level T = Unit {0}
 IfFalls no_turn T = Unit {0}
 IfFalls (halts w) T = Unit {0}
-IfFalls (unhandled class site) T = Unit {0}
+IfFalls (unhandled class site condition) T = Unit {0}
 IfFalls exhausted T = Unit {0}
 IfFalls stuck T = Unit {0}
 
@@ -126,7 +126,7 @@ module _ (program : LineProgram) (first : List Block) where
       from no_level kept = tt
       from no_turn kept = tt
       from (halts w) kept = tt
-      from (unhandled class site) kept = tt
+      from (unhandled class site condition) kept = tt
       from exhausted kept = tt
       from stuck kept = tt
 
@@ -161,7 +161,7 @@ module _ (program : LineProgram) (first : List Block) where
   landing_stands (Some (Return r)) word s records a rs callers z e n counted k = tt
   landing_stands (Some (Cut block w)) word s records a rs callers z e n counted k = tt
   landing_stands (Some (Halt r)) word s records a rs callers z e n counted k = tt
-  landing_stands (Some (Unhandled class site)) word s records a rs callers z e n counted k = tt
+  landing_stands (Some (Unhandled class site condition)) word s records a rs callers z e n counted k = tt
 
   -- a cut that leaves the blocks from an open record on, in an activation and outside it
 
@@ -327,7 +327,7 @@ module _ (program : LineProgram) (first : List Block) where
       some_stands _ _ a (line + 1) rs callers _ (λ v. some_stands _ _ a (line + 1) rs callers _ (λ w.
       cut_stands a (line + 1) rs callers _ z.arena.blocks w (blocks_from (length z.arena.memory) z.arena.blocks v) (cut_part (length z.arena.memory) z.arena.blocks v) h k))
   line_stands (Some (Halt r)) a line rs callers z h k = keeps_stands a (line + 1) callers z.arena.blocks _ (some_keeps _ _ _ rs _ (λ w. tt)) h k
-  line_stands (Some (Unhandled class site)) a line rs callers z h k =
+  line_stands (Some (Unhandled class site condition)) a line rs callers z h k =
       keeps_stands a (line + 1) callers z.arena.blocks _ (some_keeps _ _ _ rs _ (λ v. some_keeps _ _ _ rs _ (λ w. tt))) h k
 
   entry_stands :

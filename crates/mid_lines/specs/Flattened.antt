@@ -19,7 +19,7 @@ abbrev mutual
   step_line_count (return_word r) = 1
   step_line_count (cut_to block word) = 1
   step_line_count (halt_with r) = 1
-  step_line_count (end_unhandled class site) = 1
+  step_line_count (end_unhandled class site condition) = 1
 
   pub line_count : MidCode → ℕ
   line_count no_step = 0
@@ -53,7 +53,7 @@ abbrev mutual
   step_lines at (return_word r) = Return r ∷ []
   step_lines at (cut_to block word) = Cut block word ∷ []
   step_lines at (halt_with r) = Halt r ∷ []
-  step_lines at (end_unhandled class site) = Unhandled class site ∷ []
+  step_lines at (end_unhandled class site condition) = Unhandled class site condition ∷ []
 
   pub code_lines : (at : ℕ) → MidCode → List Line
   code_lines at no_step = []

@@ -116,7 +116,7 @@ proceed_from program (no_room asked left) a line rs callers z = ended (no_room a
 proceed_from program no_level a line rs callers z = ended no_level z
 proceed_from program no_turn a line rs callers z = ended no_turn z
 proceed_from program (halts w) a line rs callers z = ended (halts w) z
-proceed_from program (unhandled class site) a line rs callers z = ended (unhandled class site) z
+proceed_from program (unhandled class site condition) a line rs callers z = ended (unhandled class site condition) z
 proceed_from program exhausted a line rs callers z = ended exhausted z
 proceed_from program stuck a line rs callers z = ended stuck z
 
@@ -204,7 +204,7 @@ do_line program (Some (GiveBack words)) a line rs callers z = give_back_at words
 do_line program (Some (Return r)) a line rs callers z = proceed program a (line + 1) callers (exec_step alone (return_word r) rs z)
 do_line program (Some (Cut block word)) a line rs callers z = proceed program a (line + 1) callers (exec_step alone (cut_to block word) rs z)
 do_line program (Some (Halt r)) a line rs callers z = proceed program a (line + 1) callers (exec_step alone (halt_with r) rs z)
-do_line program (Some (Unhandled class site)) a line rs callers z = proceed program a (line + 1) callers (exec_step alone (end_unhandled class site) rs z)
+do_line program (Some (Unhandled class site condition)) a line rs callers z = proceed program a (line + 1) callers (exec_step alone (end_unhandled class site condition) rs z)
 
 -- the stage one step later; an end stays
 abbrev pub next : LineProgram → Stage → Stage

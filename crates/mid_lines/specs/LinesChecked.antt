@@ -29,7 +29,7 @@ line_fits registers lines (GiveBack words) = is_block_size words
 line_fits registers lines (Return r) = is_register registers r
 line_fits registers lines (Cut block word) = is_register registers block && is_register registers word
 line_fits registers lines (Halt r) = is_register registers r
-line_fits registers lines (Unhandled class site) = is_register registers class && is_register registers site
+line_fits registers lines (Unhandled class site condition) = is_register registers class && is_register registers site
 
 -- whether there is a procedure, which takes so many arguments
 abbrev pub takes : Option LineProcedure → ℕ → Bool
@@ -63,7 +63,7 @@ line_calls procedures (GiveBack words) = true
 line_calls procedures (Return r) = true
 line_calls procedures (Cut block word) = true
 line_calls procedures (Halt r) = true
-line_calls procedures (Unhandled class site) = true
+line_calls procedures (Unhandled class site condition) = true
 
 -- whether a procedure of lines, and a program, is in form
 abbrev pub is_sound_in : List LineProcedure → LineProcedure → Bool
