@@ -38,7 +38,7 @@ abbrev mutual
   step_size (switch r codes) = codes_size codes + 2
   step_size (repeat c head t body) = code_size head + code_size body + 1
   step_size (with_block b n w inside landing) = code_size inside + code_size landing + 1
-  step_size (lend b n inside) = code_size inside + 1
+  step_size (lend b n inside) = code_size inside + 2
   step_size (return_word r) = 1
   step_size (cut_to b w) = 1
   step_size (halt_with r) = 1
