@@ -1,5 +1,5 @@
 -- The machine of lines does what the tree of steps does: a lemma for each kind of line, and a case for each step.
-use Rattle.std.proofs.Common.{◌≡◌, ℕ, zero, suc, ◌+◌, ◌≤◌, Bool, true, false, List, [], ◌∷◌, length, Option, Some, None, option_map, refl, sym, ap, ◌∙◌, subst, arith, ◌==◌, if◌then◌else◌, eq-eqb}
+use Rattle.std.proofs.Common.{◌≡◌, ℕ, zero, suc, ◌+◌, ◌≤◌, Bool, true, false, List, [], ◌∷◌, length, Option, Some, None, option_map, refl, sym, ap, ◌∙◌, subst, arith, ◌==◌, if◌then◌else◌, eq-eqb, le-leb}
 use Rattle.std.specs.Prelude.{slice_get, slice_set}
 use Rattle.std.proofs.lemmas.Option.{slice_get-map, slice_get_past}
 use Rattle.mid_code.specs.declared.operation.Counted.{Counted}
@@ -23,6 +23,7 @@ use Rattle.mid_lines.specs.declared.line.Line.{Line}
 use Rattle.mid_lines.specs.declared.line.Line.TheVariants.{Do, Branch, Switch, Jump, Lay, Landed, GiveBack, Lend, GiveBackLent, Return, Cut, Halt, Unhandled}
 use Rattle.mid_lines.specs.declared.line.LineProgram.{LineProgram}
 use Rattle.mid_lines.specs.Lines.{lines_in, lines_of, line_of}
+use Rattle.mid_lines.specs.Weights.{line_weight}
 use Rattle.mid_lines.specs.LineMeaning.{Standing, Activation, with_standing, Caller, Stage, running, entering, ended, standing_from, arrive, land_at, land, cut_outwards, proceed, enter_at, both, branch, words_before, words_in, callee_in, call, target_in, switch_to, lend_at, is_record_of, is_only_lent, give_back_at, do_line, next, after}
 use Rattle.mid_lines.specs.Flattened.{step_line_count, line_count, codes_line_count, code_targets, code_lines, procedure_lines, program_lines}
 use Rattle.mid_lines.proofs.Lying.{StepLies, CodeLies, CodesLie, all_lies, code_length}
@@ -44,7 +45,7 @@ standing_at outside words landing is_open = record { outside = outside; words = 
 abbrev lent_at : (outside words : ℕ) → Standing
 lent_at outside words = record { outside = outside; words = words; landing = None; is_open = false }
 
--- what tasks do is done by the machine, with at least so many steps before an end for want of levels or turns
+-- what tasks do is done by the machine, with steps that weigh at least so much before an end for want of levels or turns
 pub record TasksMeet (mid : MidProgram) (least : ℕ) (f : Task → MidState → MidOutcome) : Type 0 where
   pub enters :
       (n : ℕ) (p : MidProcedure) → slice_get mid.procedures n ≡ Some p → (arguments : List ℕ) (callers : List Caller) (z : MidState)
@@ -456,7 +457,7 @@ module _ (mid : MidProgram) (b : ℕ) (below further : Task → MidState → Mid
       → FollowsOutcome flat (suc b) (running a line rs callers z) a (line + 1) callers
       (with_registers arguments (λ words. with_callee c callee (λ p rs' y. called (count c p.counted (enter p words) y) to rs')) rs (charged (operation_cost (Call to callee arguments)) z))
   call_meets to callee arguments a line rs callers z e =
-      after_step flat (at_line flat a line rs callers z (Do (Call to callee arguments)) e)
+      after_step flat (at_line flat a line rs callers z (Do (Call to callee arguments)) e) (ap (line_weight line) e)
       (subst
       (λ r. FollowsOutcome flat b
       (call (words_in arguments rs) (callee_in callee rs) (record { activation = a; line = line + 1; registers = rs; result = to } ∷ callers)
@@ -522,6 +523,7 @@ module _ (mid : MidProgram) (b : ℕ) (below further : Task → MidState → Mid
       (code_on flat (suc b) _ a (at + line_count head + 1 + line_count body) (at + step_line_count (repeat how head t body)) callers (exec c body rs z)
       (λ rs' y. count c how (again (repeat how head t body) rs') (charged jump_cost y)) m
       (λ rs' y. after_step flat (at_line flat a (at + line_count head + 1 + line_count body) rs' callers y (Jump at) h.3)
+      (ap (line_weight (at + line_count head + 1 + line_count body)) h.3 ∙ ap (λ t. if t then 1 else 0) (le-leb at (at + line_count head + 1 + line_count body) (omega arith)))
       (count_goes_again how (repeat how head t body) at a rs' callers (charged jump_cost y) h)))
 
   -- a control record, of whose inside and landing it is known

@@ -8,22 +8,22 @@ use Rattle.mid_lines.specs.declared.line.Line.{Line}
 use Rattle.mid_lines.specs.declared.line.Line.TheVariants.{Do, Branch, Switch, Jump, Lay, Landed, GiveBack, Lend, GiveBackLent, Return, Cut, Halt, Unhandled}
 use Rattle.mid_lines.specs.Flattened.{step_line_count, line_count, codes_line_count, code_targets, step_lines, code_lines, codes_lines}
 
--- these lines stand among the lines from there on
-abbrev pub HasAt : List Line → ℕ → List Line → Type 0
+-- these items, as lines, stand among the items of a list from there on
+abbrev pub HasAt : {X : Type 0} → List X → ℕ → List X → Type 0
 HasAt lines at [] = Unit {0}
 HasAt lines at (x ∷ xs) = (slice_get lines at ≡ Some x) × HasAt lines (at + 1) xs
 
-has_front : (lines : List Line) (at : ℕ) (a b : List Line) → HasAt lines at (a ++ b) → HasAt lines at a
+pub has_front : {X : Type 0} (lines : List X) (at : ℕ) (a b : List X) → HasAt lines at (a ++ b) → HasAt lines at a
 has_front lines at [] b h = tt
 has_front lines at (x ∷ a) b h = (h.0, has_front lines (at + 1) a b h.1)
 
-has_back : (lines : List Line) (at n : ℕ) (a b : List Line) → length a ≡ n → HasAt lines at (a ++ b) → HasAt lines (at + n) b
+pub has_back : {X : Type 0} (lines : List X) (at n : ℕ) (a b : List X) → length a ≡ n → HasAt lines at (a ++ b) → HasAt lines (at + n) b
 has_back lines at n [] b e h = let same : at ≡ at + n = omega arith in subst (λ k. HasAt lines k b) same h
 has_back lines at n (x ∷ a) b e h =
     let same : at + 1 + length a ≡ at + n = omega arith in
     subst (λ k. HasAt lines k b) same (has_back lines (at + 1) (length a) a b refl h.1)
 
-has_all : (xs before : List Line) → HasAt (before ++ xs) (length before) xs
+pub has_all : {X : Type 0} (xs before : List X) → HasAt (before ++ xs) (length before) xs
 has_all [] before = tt
 has_all (x ∷ xs) before =
     let within : length before < length (before ++ x ∷ xs) = omega (arith, length-append before (x ∷ xs)) in
