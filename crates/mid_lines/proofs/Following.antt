@@ -25,7 +25,7 @@ use Rattle.mid_lines.specs.declared.line.LineProgram.{LineProgram}
 use Rattle.mid_lines.specs.Lines.{lines_in, lines_of, line_of}
 use Rattle.mid_lines.specs.Weights.{line_weight}
 use Rattle.mid_lines.specs.LineMeaning.{Standing, Activation, with_standing, Caller, Stage, running, entering, ended, standing_from, arrive, land_at, land, cut_outwards, proceed, enter_at, both, branch, words_before, words_in, callee_in, call, target_in, switch_to, lend_at, is_record_of, is_only_lent, give_back_at, do_line, next, after}
-use Rattle.mid_lines.specs.Flattened.{step_line_count, line_count, codes_line_count, code_targets, code_lines, procedure_lines, program_lines}
+use Rattle.mid_lines.specs.Flattened.{step_line_count, line_count, code_targets, code_lines, procedure_lines, program_lines}
 use Rattle.mid_lines.proofs.Lying.{StepLies, CodeLies, CodesLie, all_lies, code_length}
 use Rattle.mid_lines.proofs.Coming.{ReachesStage, Meets, left_from, after_coming, after_step, then_meets, meets_to, meets_from, ended_here, met_here, land_same, go_on_meets, code_on, jumped_on}
 

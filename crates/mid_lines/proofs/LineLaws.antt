@@ -17,7 +17,7 @@ use Rattle.mid_lines.specs.Lines.{line_of}
 use Rattle.mid_lines.specs.Weights.{line_weight, weight, weights}
 use Rattle.mid_lines.specs.LineMeaning.{Stage, running, entering, ended, state_of, begin, enter_at, do_line, next, after}
 use Rattle.mid_lines.specs.Flattened.{program_lines}
-use Rattle.mid_lines.specs.LineLaw.{LawOfLines, OutcomeEnds, LawOfLineEnds, LawOfLinePrinting, LawOfWeightedEnds, LawOfWeightedPrinting, IsStuck, IsThere, LawOfLinesThere}
+use Rattle.mid_lines.specs.LineLaw.{LawOfLines, OutcomeEnds, LawOfLineEnds, LawOfLinePrinting, LawOfWeightedEnds, LawOfWeightedPrinting, IsStuck, LawOfLinesThere}
 use Rattle.mid_lines.proofs.Coming.{IsWanting, StageGoesOn, Meets, left_from, after_sum, after_end, weights_sum, with_fewer, then_meets, ended_here}
 use Rattle.mid_lines.proofs.Following.{TasksMeet, procedure_at, tasks_meet}
 use Rattle.mid_lines.proofs.Growing.{after_grown}

@@ -1,5 +1,5 @@
 -- The records that an activation has are those of its line: each kind of line keeps that.
-use Rattle.std.proofs.Common.{◌≡◌, ℕ, zero, suc, ◌+◌, Bool, true, false, ◌&&◌, ◌==◌, List, [], ◌∷◌, map, length, Option, Some, None, refl, sym, ap, ◌∙◌, subst, if◌then◌else◌}
+use Rattle.std.proofs.Common.{◌≡◌, ℕ, zero, suc, ◌+◌, Bool, true, false, ◌&&◌, ◌==◌, List, [], ◌∷◌, map, Option, Some, None, refl, sym, ap, ◌∙◌, subst, if◌then◌else◌}
 use Rattle.std.specs.Prelude.{slice_get}
 use Rattle.mid_code.specs.declared.operation.Operation.{Operation}
 use Rattle.mid_code.specs.declared.operation.Operation.TheVariants.{Move, Constant, Compute, Load, Store, Request, Draw, Put, Get, Call}
@@ -11,8 +11,8 @@ use Rattle.mid_lines.specs.declared.line.Line.TheVariants.{Do, Branch, Switch, J
 use Rattle.mid_lines.specs.declared.line.LineProcedure.{LineProcedure}
 use Rattle.mid_lines.specs.declared.line.LineProgram.{LineProgram}
 use Rattle.mid_lines.specs.Lines.{line_of}
-use Rattle.mid_lines.specs.LineMeaning.{Standing, Activation, with_standing, Caller, Stage, running, entering, ended, return_to, standing_from, closed, arrive, arrive_from, land_at, land_in, land, cut_outwards, cut_from, proceed, proceed_from, enter_at, begin, holds, branch, words_in, callee_in, call, perform_at, target_in, switch_to, lend_at, is_record_of, is_only_lent, give_back_at, do_line, next, after}
-use Rattle.mid_lines.specs.StaticRecords.{StaticRecord, of_landing, only_lent, static_in, static_of, LineFlows, RecordsFlow, ActivationHas, CallersHave, StageHas, LawOfStandingRecords}
+use Rattle.mid_lines.specs.LineMeaning.{Standing, Activation, with_standing, Caller, Stage, running, entering, ended, return_to, standing_from, closed, arrive, arrive_from, land_at, land_in, land, cut_outwards, proceed, proceed_from, enter_at, begin, holds, branch, words_in, callee_in, call, perform_at, target_in, switch_to, lend_at, is_record_of, is_only_lent, give_back_at, do_line, next, after}
+use Rattle.mid_lines.specs.StaticRecords.{StaticRecord, of_landing, only_lent, static_in, static_of, RecordsFlow, ActivationHas, CallersHave, StageHas, LawOfStandingRecords}
 
 module _ (program : LineProgram) (at : ℕ → ℕ → List StaticRecord) (flow : RecordsFlow program at) where
   -- at the landing of each of these records, it and those outside it stand

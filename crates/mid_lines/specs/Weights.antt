@@ -1,6 +1,6 @@
 -- What the steps of lines weigh: a call, and a jump to its own line or an earlier one, weigh 1, and nothing else weighs anything. So whoever
 -- makes instructions of lines has to give instructions to what weighs alone.
-use Rattle.std.specs.Prelude.{ℕ, zero, suc, ◌+◌, nat_le, Option, Some, None, if◌then◌else◌}
+use Rattle.std.specs.Prelude.{ℕ, zero, suc, ◌+◌, nat_le, Option, Some, if◌then◌else◌}
 use Rattle.mid_code.specs.declared.operation.Operation.TheVariants.{Call}
 use Rattle.mid_lines.specs.declared.line.Line.{Line}
 use Rattle.mid_lines.specs.declared.line.Line.TheVariants.{Do, Jump}
