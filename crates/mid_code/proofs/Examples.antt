@@ -3,7 +3,7 @@ use Rattle.std.proofs.Common.{refl}
 use Rattle.base.specs.Arithmetic.{low_word}
 use Rattle.mid_code.specs.State.{go_on, with_some, choose_by, with_registers, landed}
 use Rattle.mid_code.specs.Meaning.{called, leaves, exec, exec_step, exec_number, turns, levels, at_top, runs}
-use Rattle.mid_code.specs.Worked.{Added, ArgumentWanting, Printed, TooFewTurns, Copied, Doubled, TooFewLevels, NoRoomForAFrame, CutAndLanded, NoRoomForARecord, PassedTheInner, FellOut, CutAgain, CutNowhere, CutFromTheTop, Requested, NoRoom, Loaded, NotLent, Stored, NotStored, Drawn, Exhausted, Switched, PastTheLast, Lent, NoRoomForABlock, TooManyWords, CutToLent}
+use Rattle.mid_code.specs.Worked.{Added, ArgumentWanting, Printed, TooFewTurns, Copied, GivenUp, Doubled, TooFewLevels, NoRoomForAFrame, CutAndLanded, NoRoomForARecord, PassedTheInner, FellOut, CutAgain, CutNowhere, CutFromTheTop, Requested, NoRoom, Loaded, NotLent, Stored, NotStored, Drawn, Exhausted, Switched, PastTheLast, Lent, NoRoomForABlock, TooManyWords, CutToLent}
 
 pub added : Added
 unfolding low_word go_on with_some choose_by with_registers landed called leaves exec exec_step exec_number turns levels at_top runs
@@ -24,6 +24,10 @@ too_few_turns = (refl, refl)
 pub copied : Copied
 unfolding low_word go_on with_some choose_by with_registers landed called leaves exec exec_step exec_number turns levels at_top runs
 copied = (refl, refl)
+
+pub given_up : GivenUp
+unfolding low_word go_on with_some choose_by with_registers landed called leaves exec exec_step exec_number turns levels at_top runs
+given_up = (refl, refl)
 
 pub doubled : Doubled
 unfolding low_word go_on with_some choose_by with_registers landed called leaves exec exec_step exec_number turns levels at_top runs

@@ -7,9 +7,9 @@ use Rattle.mid_code.specs.declared.operation.Counted.TheVariants.{Level, Turn}
 use Rattle.mid_code.specs.declared.operation.Operation.TheVariants.{Constant, Compute, Load, Store, Request, Draw, Put, Get, Call}
 use Rattle.mid_code.specs.declared.program.MidProcedure.{MidProcedure}
 use Rattle.mid_code.specs.declared.program.MidProgram.{MidProgram}
-use Rattle.mid_code.specs.MidCode.{MidStep, perform, switch, repeat, with_block, lend, return_word, cut_to, halt_with, no_step, no_code, code_and, code_of}
+use Rattle.mid_code.specs.MidCode.{MidStep, perform, switch, repeat, with_block, lend, return_word, cut_to, halt_with, end_unhandled, no_step, no_code, code_and, code_of}
 use Rattle.mid_code.specs.Arena.{activation_frame, closed_record, record_of}
-use Rattle.mid_code.specs.State.{MidState, returns, no_room, no_level, no_turn, halts, exhausted, stuck, MidOutcome}
+use Rattle.mid_code.specs.State.{MidState, returns, no_room, no_level, no_turn, halts, unhandled, exhausted, stuck, MidOutcome}
 use Rattle.mid_code.specs.Meaning.{enter, levels, runs}
 
 -- a procedure of the program with so many parameters, registers and words for a frame
@@ -81,6 +81,15 @@ abbrev pub Copied : Type 0
 Copied =
     ((runs (program copying) 0 0 0 [] (start 8 (90 ∷ []))).end ≡ returns 4294967295)
     × ((runs (program copying) 0 0 0 [] (start 8 (90 ∷ []))).state.printed ≡ 90 ∷ [])
+
+-- a condition that is not handled, with its three words
+abbrev pub giving_up : List MidProcedure
+giving_up = procedure 3 3 0 (end_unhandled 0 1 2 ∷ []) ∷ []
+
+abbrev pub GivenUp : Type 0
+GivenUp =
+    ((run giving_up 0 0 (7 ∷ 8 ∷ 9 ∷ []) 8).end ≡ unhandled 7 8 9)
+    × ((run giving_up 0 0 (7 ∷ 8 ∷ 9 ∷ []) 8).state.cost ≡ 20 + 3 * 6 + 14)
 
 -- seven doubled by a procedure of another number, which stands in a register in the second program
 abbrev pub doubling : MidProcedure

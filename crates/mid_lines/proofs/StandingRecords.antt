@@ -16,7 +16,7 @@ use Rattle.mid_lines.specs.StaticRecords.{StaticRecord, of_landing, only_lent, s
 
 module _ (program : LineProgram) (at : ℕ → ℕ → List StaticRecord) (flow : RecordsFlow program at) where
   -- at the landing of each of these records, it and those outside it stand
-  abbrev LandingsHave : (number : ℕ) → List StaticRecord → Type 0
+  abbrev pub LandingsHave : (number : ℕ) → List StaticRecord → Type 0
   LandingsHave number [] = Unit {0}
   LandingsHave number (of_landing words landing ∷ records) = (at number landing ≡ of_landing words landing ∷ records) × LandingsHave number records
   LandingsHave number (only_lent ∷ records) = LandingsHave number records
@@ -26,15 +26,16 @@ module _ (program : LineProgram) (at : ℕ → ℕ → List StaticRecord) (flow 
   rest_have number only_lent records h = h
 
   -- an activation at a line
-  record Known (a : Activation) (line : ℕ) : Type 0 where
-    same : ActivationHas at a line
-    landings : LandingsHave a.procedure (map static_of a.standing)
+  pub record Known (a : Activation) (line : ℕ) : Type 0 where
+    pub same : ActivationHas at a line
+    pub landings : LandingsHave a.procedure (map static_of a.standing)
 
-  abbrev CallersKnown : List Caller → Type 0
+  abbrev pub CallersKnown : List Caller → Type 0
   CallersKnown [] = Unit {0}
   CallersKnown (c ∷ callers) = Known c.activation c.line × CallersKnown callers
 
-  abbrev StageKnown : Stage → Type 0
+  -- what each step keeps: the records are those of the lines, and of the landings too
+  abbrev pub StageKnown : Stage → Type 0
   StageKnown (running a line rs callers z) = Known a line × CallersKnown callers
   StageKnown (entering number arguments callers z) = CallersKnown callers
   StageKnown (ended e z) = Unit {0}
@@ -246,12 +247,12 @@ module _ (program : LineProgram) (at : ℕ → ℕ → List StaticRecord) (flow 
   entry_known (Some p) number arguments callers z k =
       arrive_known _ 0 callers _ (record { same = sym (flow.entry number); landings = tt }) k
 
-  next_known : (s : Stage) → StageKnown s → StageKnown (next program s)
+  pub next_known : (s : Stage) → StageKnown s → StageKnown (next program s)
   next_known (running a line rs callers z) h = line_known (line_of program a.procedure line) a line rs callers z refl h.0 h.1
   next_known (entering number arguments callers z) h = entry_known (slice_get program.procedures number) number arguments callers z h
   next_known (ended e z) h = tt
 
-  after_known : (n : ℕ) (s : Stage) → StageKnown s → StageKnown (after program n s)
+  pub after_known : (n : ℕ) (s : Stage) → StageKnown s → StageKnown (after program n s)
   unfolding after
   after_known zero s h = h
   after_known (suc n) s h = after_known n (next program s) (next_known s h)
@@ -262,7 +263,7 @@ module _ (program : LineProgram) (at : ℕ → ℕ → List StaticRecord) (flow 
   callers_have [] k = tt
   callers_have (c ∷ callers) k = (k.0.same, callers_have callers k.1)
 
-  stage_has : (s : Stage) → StageKnown s → StageHas at s
+  pub stage_has : (s : Stage) → StageKnown s → StageHas at s
   stage_has (running a line rs callers z) h = (h.0.same, callers_have callers h.1)
   stage_has (entering number arguments callers z) h = callers_have callers h
   stage_has (ended e z) h = tt
