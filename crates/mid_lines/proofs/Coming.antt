@@ -4,6 +4,7 @@ use Rattle.mid_code.specs.State.{Registers, MidState, End, falls, returns, cuts,
 use Rattle.mid_code.specs.Costs.{jump_cost}
 use Rattle.mid_code.specs.Law.{IsReached}
 use Rattle.mid_lines.specs.declared.line.LineProgram.{LineProgram}
+use Rattle.mid_lines.specs.Weights.{weight, weights}
 use Rattle.mid_lines.specs.LineMeaning.{Standing, Activation, with_standing, Caller, Stage, running, entering, ended, state_of, return_to, standing_from, land, cut_outwards, proceed, next, after}
 
 -- an end for want of levels or turns
@@ -29,15 +30,15 @@ StageGoesOn (running a line rs callers z) = Unit {0}
 StageGoesOn (entering number arguments callers z) = Unit {0}
 StageGoesOn (ended e z) = ⊥
 
--- after at least so many steps the machine is in a state, and its run has not ended
+-- after steps that weigh at least so much the machine is in a state, and its run has not ended
 pub record Pauses (program : LineProgram) (least : ℕ) (from : Stage) (z : MidState) : Type 0 where
   pub steps : ℕ
-  pub enough : least ≤ steps
+  pub enough : least ≤ weights program steps from
   pub there : state_of (after program steps from) ≡ z
   pub goes_on : StageGoesOn (after program steps from)
 
 -- The machine meets an end and a state: where the end was reached it comes to a stage, and where it is for want of levels or turns it
--- comes to the state, after at least so many steps.
+-- comes to the state, after steps that weigh at least so much.
 pub record Meets (program : LineProgram) (least : ℕ) (from to : Stage) (e : End) (z : MidState) : Type 0 where
   pub comes : IsReached e → ReachesStage program from to
   pub pauses : IsWanting e → Pauses program least from z
@@ -51,7 +52,7 @@ left_from program (no_room asked left) callers z = ended (no_room asked left) z
 left_from program no_level callers z = ended no_level z
 left_from program no_turn callers z = ended no_turn z
 left_from program (halts w) callers z = ended (halts w) z
-left_from program (unhandled class site) callers z = ended (unhandled class site) z
+left_from program (unhandled class site condition) callers z = ended (unhandled class site condition) z
 left_from program exhausted callers z = ended exhausted z
 left_from program stuck callers z = ended stuck z
 
@@ -64,6 +65,17 @@ module _ (program : LineProgram) where
   after_sum (suc m) n s =
       let e : suc m + n ≡ suc (m + n) = omega arith in
       ap (λ k. after program k s) e ∙ after_sum m n (next program s)
+
+  pub weights_sum : (m n : ℕ) (s : Stage) → weights program (m + n) s ≡ weights program m s + weights program n (after program m s)
+  unfolding after weights
+  weights_sum zero n s =
+      let e : zero + n ≡ n = omega arith in
+      let same = ap (λ k. weights program k s) e in
+      omega (arith, same)
+  weights_sum (suc m) n s =
+      let e : suc m + n ≡ suc (m + n) = omega arith in
+      let same = ap (λ k. weights program k s) e in
+      omega (arith, same, weights_sum m n (next program s))
 
   pub after_end : (n : ℕ) (e : End) (z : MidState) → after program n (ended e z) ≡ ended e z
   unfolding after
@@ -91,20 +103,20 @@ module _ (program : LineProgram) where
     comes = λ h. comes_on c (m.comes h);
     pauses = λ h. let p = m.pauses h in record {
       steps = c.steps + p.steps;
-      enough = omega (arith, p.enough);
+      enough = omega (arith, p.enough, weights_sum c.steps p.steps s, ap (λ k. weights program p.steps k) c.there);
       there = ap state_of (after_sum c.steps p.steps s) ∙ ap (λ k. state_of (after program p.steps k)) c.there ∙ p.there;
       goes_on = subst StageGoesOn (sym (after_sum c.steps p.steps s ∙ ap (after program p.steps) c.there)) p.goes_on;
     };
   }
 
-  -- a step counts
-  pub after_step : {b : ℕ} {s t u : Stage} {e : End} {z : MidState} → next program s ≡ t → Meets program b t u e z → Meets program (suc b) s u e z
-  unfolding after
-  after_step {b} {s} {t} {u} {e} {z} step m = record {
+  -- a step that weighs 1 counts
+  pub after_step : {b : ℕ} {s t u : Stage} {e : End} {z : MidState} → next program s ≡ t → weight program s ≡ 1 → Meets program b t u e z → Meets program (suc b) s u e z
+  unfolding after weights
+  after_step {b} {s} {t} {u} {e} {z} step one m = record {
     comes = λ h. comes_on (one_step s t step) (m.comes h);
     pauses = λ h. let p = m.pauses h in record {
       steps = suc p.steps;
-      enough = omega (arith, p.enough);
+      enough = omega (arith, p.enough, one, ap (λ k. weights program p.steps k) step);
       there = ap (λ k. state_of (after program p.steps k)) step ∙ p.there;
       goes_on = subst (λ k. StageGoesOn (after program p.steps k)) (sym step) p.goes_on;
     };
@@ -170,7 +182,7 @@ module _ (program : LineProgram) where
       from no_level rs z m = m
       from no_turn rs z m = m
       from (halts w) rs z m = m
-      from (unhandled class site) rs z m = m
+      from (unhandled class site condition) rs z m = m
       from exhausted rs z m = m
       from stuck rs z m = m
 

@@ -6,5 +6,7 @@ pub mod Following
 pub mod Growing
 pub mod LineLaws
 pub mod Stacking
+pub mod StandingRecords
+pub mod TreeRecords
 pub mod Appending
 pub mod Checking

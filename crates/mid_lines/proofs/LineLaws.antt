@@ -1,6 +1,6 @@
 -- The laws of lines: tasks with so many levels and turns, and whole runs.
 use Rattle.std.proofs.Common.{◌≡◌, ◌⊎◌, inl, inr, ℕ, zero, suc, ◌+◌, ◌-◌, ◌<◌, ◌≤◌, List, [], ◌++◌, Option, Some, None, refl, sym, ap, ◌∙◌, subst, ⊎_elim, arith}
-use Rattle.std.specs.Prelude.{slice_get}
+use Rattle.std.specs.Prelude.{Bool, true, false, nat_le, if◌then◌else◌, slice_get}
 use Rattle.std.proofs.lemmas.Bool.{cases_lt}
 use Rattle.std.proofs.lemmas.List.{append-nil}
 use Rattle.mid_code.specs.declared.program.MidProcedure.{MidProcedure}
@@ -8,11 +8,17 @@ use Rattle.mid_code.specs.declared.program.MidProgram.{MidProgram}
 use Rattle.mid_code.specs.State.{Registers, MidState, End, falls, returns, cuts, no_room, no_level, no_turn, halts, unhandled, exhausted, stuck, MidOutcome, ends, with_some}
 use Rattle.mid_code.specs.Meaning.{Task, enter, turns, levels, at_top, runs}
 use Rattle.mid_code.specs.Law.{IsReached}
+use Rattle.mid_code.specs.declared.operation.Operation.TheVariants.{Call}
+use Rattle.mid_lines.specs.declared.line.Line.{Line}
+use Rattle.mid_lines.specs.declared.line.Line.TheVariants.{Do, Jump}
+use Rattle.mid_lines.specs.declared.line.LineProcedure.{LineProcedure}
 use Rattle.mid_lines.specs.declared.line.LineProgram.{LineProgram}
-use Rattle.mid_lines.specs.LineMeaning.{Stage, running, entering, ended, state_of, begin, enter_at, after}
+use Rattle.mid_lines.specs.Lines.{line_of}
+use Rattle.mid_lines.specs.Weights.{line_weight, weight, weights}
+use Rattle.mid_lines.specs.LineMeaning.{Stage, running, entering, ended, state_of, begin, enter_at, do_line, next, after}
 use Rattle.mid_lines.specs.Flattened.{program_lines}
-use Rattle.mid_lines.specs.LineLaw.{LawOfLines, LawOfLineEnds, LawOfLinePrinting}
-use Rattle.mid_lines.proofs.Coming.{IsWanting, StageGoesOn, Meets, left_from, after_sum, after_end, with_fewer, then_meets, ended_here}
+use Rattle.mid_lines.specs.LineLaw.{LawOfLines, OutcomeEnds, LawOfLineEnds, LawOfLinePrinting, LawOfWeightedEnds, LawOfWeightedPrinting, IsStuck, LawOfLinesThere}
+use Rattle.mid_lines.proofs.Coming.{IsWanting, StageGoesOn, Meets, left_from, after_sum, after_end, weights_sum, with_fewer, then_meets, ended_here}
 use Rattle.mid_lines.proofs.Following.{TasksMeet, procedure_at, tasks_meet}
 use Rattle.mid_lines.proofs.Growing.{after_grown}
 
@@ -24,7 +30,7 @@ fewer mid b c f le x = record {
 
 -- where nothing is done for want of levels or turns, the machine is where it is
 waiting : (program : LineProgram) (s to : Stage) (e : End) → StageGoesOn s → (IsReached e → ⊥) → Meets program 0 s to e (state_of s)
-unfolding after
+unfolding after weights
 waiting program s to e g h = record { comes = λ k. absurd (h k); pauses = λ k. record { steps = 0; enough = omega arith; there = refl; goes_on = g } }
 
 no_turns_meet : (mid : MidProgram) → TasksMeet mid 0 (λ task z. ends no_turn [] z)
@@ -39,7 +45,7 @@ no_levels_meet mid = record {
   goes_again = λ s at a rs callers z h. waiting (program_lines mid) (running a at rs callers z) _ no_level tt (λ k. k);
 }
 
--- so many turns are at least so many steps, where what is one level below is almost as many
+-- so many turns are steps that weigh at least so much, where what is one level below weighs almost as much
 turns_meet :
     (mid : MidProgram) (below : Task → MidState → MidOutcome) (n c : ℕ) → TasksMeet mid (c - 1) below → c ≤ n
     → TasksMeet mid c (turns mid.procedures below n)
@@ -53,7 +59,7 @@ turns_meet mid below (suc n) (suc c) x le =
     tasks_meet mid c below (turns mid.procedures below n) (fewer mid c (suc c - 1) below (omega arith) x)
     (turns_meet mid below n c (fewer mid (c - 1) (suc c - 1) below (omega arith) x) (omega arith))
 
--- so many levels, and turns at each of them, are at least so many steps
+-- so many levels, and turns at each of them, are steps that weigh at least so much
 levels_meet : (mid : MidProgram) (turns_each k c : ℕ) → c ≤ k → c ≤ turns_each → TasksMeet mid c (levels mid.procedures turns_each k)
 unfolding levels
 levels_meet mid turns_each zero zero le lt = no_levels_meet mid
@@ -79,7 +85,7 @@ top_meets program c s r m = from r.end r.registers r.state m
     from no_level rs z m = m
     from no_turn rs z m = m
     from (halts w) rs z m = m
-    from (unhandled class site) rs z m = m
+    from (unhandled class site condition) rs z m = m
     from exhausted rs z m = m
     from stuck rs z m = m
 
@@ -94,9 +100,10 @@ entry_task_meets mid c f x entry arguments z None e =
     then_meets (program_lines mid) (ap (λ o. enter_at o entry arguments [] z) (procedure_at mid entry None e)) (ended_here (program_lines mid) c stuck z tt)
 entry_task_meets mid c f x entry arguments z (Some p) e = x.enters entry p e arguments [] z
 
--- a run of the tree is met, after at least so many steps where it ended for want of levels or turns
+-- A run of the tree is met, after steps that weigh at least so much where it ended for want of levels or turns: one more than there were, for
+-- the call or the turn that wanted one.
 run_meets :
-    (mid : MidProgram) (k turns_each c entry : ℕ) (arguments : List ℕ) (z : MidState) → c ≤ k → c ≤ turns_each
+    (mid : MidProgram) (k turns_each c entry : ℕ) (arguments : List ℕ) (z : MidState) → c ≤ k + 1 → c ≤ turns_each + 1
     → Meets (program_lines mid) c (begin entry arguments z)
     (ended (runs mid k turns_each entry arguments z).end (runs mid k turns_each entry arguments z).state)
     (runs mid k turns_each entry arguments z).end (runs mid k turns_each entry arguments z).state
@@ -143,22 +150,6 @@ printed_at_end program n m s e z lt h =
     let same : after program n s ≡ ended e z = ap (λ k. after program k s) sum ∙ after_sum program m (n - m) s ∙ ap (after program (n - m)) h ∙ after_end program (n - m) e z in
     ([], ap (λ t. (state_of t).printed) (sym same) ∙ sym (append-nil _))
 
-pub law_of_line_printing : LawOfLinePrinting
-law_of_line_printing program n entry arguments z =
-    let r = runs program n n entry arguments z in
-    let flat = program_lines program in
-    let s = begin entry arguments z in
-    let m = run_meets program n n n entry arguments z (omega arith) (omega arith) in
-    ⊎_elim
-    (λ h. let c = m.comes h in
-    ⊎_elim
-    (λ lt. printed_at_end flat n c.steps s r.end r.state lt c.there)
-    (λ le. let p = printed_so_far flat n c.steps s le in (p.0, ap (λ t. (state_of t).printed) (sym c.there) ∙ p.1))
-    (cases_lt c.steps n))
-    (λ h. let w = m.pauses h in
-    let p = printed_so_far flat n w.steps s w.enough in (p.0, ap (λ y. y.printed) (sym w.there) ∙ p.1))
-    (reached_or_wanting r.end)
-
 -- the end of a run is one
 ended_twice :
     (program : LineProgram) (n m : ℕ) (s : Stage) (e f : End) (y z : MidState) → after program n s ≡ ended e y → after program m s ≡ ended f z
@@ -177,15 +168,107 @@ not_paused program n m s e y le h g =
     let same : after program m s ≡ ended e y = ap (λ k. after program k s) sum ∙ after_sum program n (m - n) s ∙ ap (after program (m - n)) h ∙ after_end program (m - n) e y in
     subst StageGoesOn same g
 
-pub law_of_line_ends : LawOfLineEnds
-law_of_line_ends program n entry arguments z e y h =
-    let r = runs program n n entry arguments z in
+-- Of a run of the tree that is met by steps that weigh at least c, where steps that weigh that much are at least n, what the machine has printed
+-- after n steps is a beginning, and the end that it has come to then is the run's.
+module _
+    (flat : LineProgram) (n c : ℕ) (s : Stage) (r : MidOutcome) (m : Meets flat c s (ended r.end r.state) r.end r.state)
+    (long : (steps : ℕ) → c ≤ weights flat steps s → n ≤ steps)
+  where
+    beginning_of : (more : List ℕ) × (r.state.printed ≡ (state_of (after flat n s)).printed ++ more)
+    beginning_of =
+        ⊎_elim
+        (λ h. let c = m.comes h in
+        ⊎_elim
+        (λ lt. printed_at_end flat n c.steps s r.end r.state lt c.there)
+        (λ le. let p = printed_so_far flat n c.steps s le in (p.0, ap (λ t. (state_of t).printed) (sym c.there) ∙ p.1))
+        (cases_lt c.steps n))
+        (λ h. let w = m.pauses h in
+        let p = printed_so_far flat n w.steps s (long w.steps w.enough) in (p.0, ap (λ y. y.printed) (sym w.there) ∙ p.1))
+        (reached_or_wanting r.end)
+
+    end_of : (e : End) (y : MidState) → after flat n s ≡ ended e y → OutcomeEnds r e y
+    end_of e y h =
+        ⊎_elim
+        (λ k. let c = m.comes k in
+        let same = ended_twice flat n c.steps s e r.end y r.state h c.there in
+        record { reached = k; end = same.0; state = same.1 })
+        (λ k. let w = m.pauses k in absurd (not_paused flat n w.steps s e y (long w.steps w.enough) h w.goes_on))
+        (reached_or_wanting r.end)
+
+-- steps weigh no more than their number
+
+line_weighs : (line : ℕ) (o : Option Line) → line_weight line o ≤ 1
+line_weighs line (Some (Do (Call to callee arguments))) = omega arith
+line_weighs line (Some (Jump to)) = by (nat_le to line)
+  where
+    by : (t : Bool) → (if t then 1 else 0) ≤ 1
+    by true = omega arith
+    by false = omega arith
+line_weighs line other = omega arith
+
+step_weighs : (program : LineProgram) (s : Stage) → weight program s ≤ 1
+step_weighs program (running a line rs callers z) = line_weighs line (line_of program a.procedure line)
+step_weighs program (entering number arguments callers z) = omega arith
+step_weighs program (ended e z) = omega arith
+
+steps_weigh : (program : LineProgram) (n : ℕ) (s : Stage) → weights program n s ≤ n
+unfolding weights
+steps_weigh program zero s = omega arith
+steps_weigh program (suc n) s = omega (arith, step_weighs program s, steps_weigh program n (next program s))
+
+-- steps that weigh more are more
+more_steps : (program : LineProgram) (n m : ℕ) (s : Stage) → suc (weights program n s) ≤ weights program m s → n ≤ m
+more_steps program n m s h =
+    ⊎_elim
+    (λ lt. let sum : n ≡ m + (n - m) = omega arith in
+    let same : weights program n s ≡ weights program m s + weights program (n - m) (after program m s) = ap (λ k. weights program k s) sum ∙ weights_sum program m (n - m) s in
+    absurd (omega (arith, h, same)))
+    (λ le. le)
+    (cases_lt m n)
+
+pub law_of_line_printing : LawOfLinePrinting
+law_of_line_printing program n entry arguments z =
     let flat = program_lines program in
     let s = begin entry arguments z in
-    let m = run_meets program n n n entry arguments z (omega arith) (omega arith) in
-    ⊎_elim
-    (λ k. let c = m.comes k in
-    let same = ended_twice flat n c.steps s e r.end y r.state h c.there in
-    record { reached = k; end = same.0; state = same.1 })
-    (λ k. let w = m.pauses k in absurd (not_paused flat n w.steps s e y w.enough h w.goes_on))
-    (reached_or_wanting r.end)
+    beginning_of flat n n s (runs program n n entry arguments z) (run_meets program n n n entry arguments z (omega arith) (omega arith))
+    (λ steps h. omega (arith, h, steps_weigh flat steps s))
+
+pub law_of_line_ends : LawOfLineEnds
+law_of_line_ends program n entry arguments z e y h =
+    let flat = program_lines program in
+    let s = begin entry arguments z in
+    end_of flat n n s (runs program n n entry arguments z) (run_meets program n n n entry arguments z (omega arith) (omega arith))
+    (λ steps h. omega (arith, h, steps_weigh flat steps s)) e y h
+
+pub law_of_weighted_printing : LawOfWeightedPrinting
+law_of_weighted_printing program n entry arguments z =
+    let flat = program_lines program in
+    let s = begin entry arguments z in
+    let w = weights flat n s in
+    beginning_of flat n (suc w) s (runs program w w entry arguments z) (run_meets program w w (suc w) entry arguments z (omega arith) (omega arith))
+    (λ steps h. more_steps flat n steps s h)
+
+pub law_of_weighted_ends : LawOfWeightedEnds
+law_of_weighted_ends program n entry arguments z e y h =
+    let flat = program_lines program in
+    let s = begin entry arguments z in
+    let w = weights flat n s in
+    end_of flat n (suc w) s (runs program w w entry arguments z) (run_meets program w w (suc w) entry arguments z (omega arith) (omega arith))
+    (λ steps h. more_steps flat n steps s h) e y h
+
+pub law_of_lines_there : LawOfLinesThere
+law_of_lines_there program (running a line rs callers z) h = by (line_of program a.procedure line) refl h
+  where
+    by :
+        (o : Option Line) → line_of program a.procedure line ≡ o → ¬ (IsStuck (do_line program o a line rs callers z))
+        → (x : Line) × (line_of program a.procedure line ≡ Some x)
+    by None e h = absurd (h tt)
+    by (Some x) e h = (x, e)
+law_of_lines_there program (entering number arguments callers z) h = by (slice_get program.procedures number) refl h
+  where
+    by :
+        (o : Option LineProcedure) → slice_get program.procedures number ≡ o → ¬ (IsStuck (enter_at o number arguments callers z))
+        → (p : LineProcedure) × (slice_get program.procedures number ≡ Some p)
+    by None e h = absurd (h tt)
+    by (Some p) e h = (p, e)
+law_of_lines_there program (ended e z) h = tt

@@ -1,7 +1,9 @@
 pub mod Lines
 pub mod LineMeaning
 pub mod Flattened
+pub mod Weights
 pub mod LineLaw
 pub mod StackLaw
+pub mod StaticRecords
 pub mod LinesChecked
 pub mod Worked

@@ -7,6 +7,9 @@ pub mod line;
 pub mod worked;
 
 pub use flattening::{lines_of, program_lines};
-pub use laws::{law_form, law_line_ends, law_line_printing, law_lines, law_stack};
-pub use line::{Line, LineList, LineProcedure, LineProcedureList, LineProgram};
-pub use worked::{worked_landings, worked_lines};
+pub use laws::{
+    law_form, law_line_ends, law_line_printing, law_lines, law_lines_there, law_records, law_stack,
+    law_standing_records, law_weighted_ends, law_weighted_printing,
+};
+pub use line::{Line, LineList, LineProcedure, LineProcedureList, LineProgram, TargetList};
+pub use worked::{worked_landings, worked_lines, worked_switches_and_lent};

@@ -1,4 +1,4 @@
-use Rattle.mid_code.proofs.Examples.{added, argument_wanting, printed, too_few_turns, copied}
+use Rattle.mid_code.proofs.Examples.{added, argument_wanting, printed, too_few_turns, copied, given_up}
 use Rattle.mid_code.proofs.worked.worked_operations.Goals as goal
 
 pub returns-clause-added : goal.returns-clause-added
@@ -15,3 +15,6 @@ returns-clause-too_few_turns c = too_few_turns
 
 pub returns-clause-copied : goal.returns-clause-copied
 returns-clause-copied c = copied
+
+pub returns-clause-given_up : goal.returns-clause-given_up
+returns-clause-given_up c = given_up
