@@ -1,6 +1,6 @@
 -- An arena that grows or changes in a spot: what stands in it goes on standing, and keeps its words.
-use Rattle.std.proofs.Common.{◌≡◌, ℕ, ◌<◌, ◌≤◌, length, refl, arith}
-use Rattle.mid_code.specs.Arena.{Arena, word_at}
+use Rattle.std.proofs.Common.{◌≡◌, ◌≤◌, refl, arith}
+use Rattle.mid_code.specs.Arena.{Arena}
 use Rattle.mid_arena.specs.Places.{Spot, end_of}
 use Rattle.mid_arena.specs.Standing.{ArenaStands, IsLentPart, of_laid, of_heap, SpotStands, Apart, in_front, behind, SameWords}
 use Rattle.mid_arena.specs.Growing.{HeapGrows, Grows, Changes}

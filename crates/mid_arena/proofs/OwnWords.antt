@@ -1,5 +1,5 @@
 -- Words that code has for itself: a spot of them changes, or a new one is taken at the heap's end; and a function that code makes there.
-use Rattle.std.proofs.Common.{◌≡◌, ℕ, suc, ◌+◌, ◌*◌, ◌/◌, ◌%◌, ◌<◌, ◌≤◌, false, List, [], ◌∷◌, length, Some, refl, sym, ap, ◌∙◌, arith}
+use Rattle.std.proofs.Common.{◌≡◌, ℕ, suc, ◌+◌, ◌*◌, ◌/◌, ◌%◌, ◌<◌, ◌≤◌, List, [], ◌∷◌, length, Some, refl, sym, ap, ◌∙◌, arith}
 use Rattle.std.specs.Prelude.{slice_get}
 use Rattle.std.proofs.Math.ListN.{length-set}
 use Rattle.std.proofs.lemmas.Bool.{ne_eqb}
@@ -11,10 +11,10 @@ use Rattle.lang_meaning.specs.State as meaning
 use Rattle.mid_code.specs.Arena.{Arena, stack_from, left, word_at, with_word}
 use Rattle.mid_code.specs.State.{MidState}
 use Rattle.mid_arena.specs.Tags.{object_tag, function_header}
-use Rattle.mid_arena.specs.Places.{Spot, end_of, pointer_to, Places, Owner, of_object, of_symbol, of_other, same_owner, spot_of, with_object, with_other, pointer_in, word_of}
-use Rattle.mid_arena.specs.Standing.{ArenaStands, SpotStands, SameWords}
+use Rattle.mid_arena.specs.Places.{Spot, end_of, pointer_to, Places, Owner, of_object, of_symbol, of_other, spot_of, with_object, with_other, pointer_in, word_of}
+use Rattle.mid_arena.specs.Standing.{ArenaStands, SpotStands}
 use Rattle.mid_arena.specs.Growing.{HeapGrows, Grows, Changes}
-use Rattle.mid_arena.specs.Layouts.{FunctionAt, ObjectAt}
+use Rattle.mid_arena.specs.Layouts.{FunctionAt}
 use Rattle.mid_arena.specs.Represents.{Represents}
 use Rattle.mid_arena.specs.Law.{SameStreams, KeepsOthers, LawOfGrowth, LawOfOwnWords, LawOfNewOwnWords, LawOfNewFunctions}
 use Rattle.mid_arena.proofs.Growing.{changes_part, spot_below, spot_changed}

@@ -1,6 +1,5 @@
 -- Further words of a program's own, laid behind all that was there before the first form.
-use Rattle.std.proofs.Common.{◌≡◌, ℕ, zero, suc, ◌+◌, ◌*◌, ◌%◌, ◌<◌, ◌≤◌, true, false, List, [], ◌∷◌, ◌++◌, length, Some, refl, sym, ◌∙◌, ap, subst, lit<, length-append, append-nil, arith}
-use Rattle.std.specs.Prelude.{slice_get}
+use Rattle.std.proofs.Common.{◌≡◌, ℕ, zero, suc, ◌+◌, ◌*◌, ◌≤◌, true, false, List, [], ◌∷◌, ◌++◌, length, Some, refl, sym, ◌∙◌, ap, subst, lit<, length-append, append-nil, arith}
 use Rattle.lang_meaning.specs.declared.program.ProgramRows.{ProgramRows}
 use Rattle.lang_meaning.specs.Objects.{Object}
 use Rattle.lang_meaning.specs.InitialHeap.{objects_at_start, class_value, function_value, literal_value}
@@ -16,7 +15,6 @@ use Rattle.mid_start.specs.declared.static_data.StaticData.{StaticData}
 use Rattle.mid_start.specs.LaidArena.{end_address, arena_of}
 use Rattle.mid_start.specs.LaidWell.{LaidWell}
 use Rattle.mid_start.specs.Laying.{Grown}
-use Rattle.mid_start.specs.Making.{HasWord, AreNumbered}
 use Rattle.mid_start.specs.StaticData.{fixed_spot, spot_for, own_spots, OwnWordsAt, IsStaticData}
 use Rattle.mid_start.proofs.LaidWords.{Appended, appended_grown, spot_among, spot_grown, words_grown, word_behind}
 use Rattle.mid_start.proofs.Numbered.{number_kept}
