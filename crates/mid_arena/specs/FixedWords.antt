@@ -53,6 +53,10 @@ no_name_address = 176
 abbrev pub fixed_words : ℕ
 fixed_words = 46
 
+-- the address behind them, where a program's own words begin, if it has any
+abbrev pub low_address : ℕ
+low_address = 184
+
 -- the text of nil, which is no symbol of a program
 abbrev pub nil_text : List ℕ
 nil_text = 110 ∷ 105 ∷ 108 ∷ []

@@ -1,5 +1,5 @@
 -- All that is laid, one after another, and the classes and streams at last: **the words are those of the objects at the start**.
-use Rattle.std.proofs.Common.{length-append, ◌≡◌, ℕ, zero, suc, ◌+◌, ◌%◌, ◌<◌, ◌≤◌, Bool, true, false, List, [], ◌∷◌, ◌++◌, length, Option, Some, None, refl, sym, ◌∙◌, ap, subst, append-nil, zero-add, arith, ◌-◌, ⊎_elim}
+use Rattle.std.proofs.Common.{length-append, ◌≡◌, ℕ, zero, suc, ◌+◌, ◌*◌, ◌%◌, ◌<◌, ◌≤◌, Bool, true, false, List, [], ◌∷◌, ◌++◌, length, Option, Some, None, refl, sym, ◌∙◌, ap, subst, append-nil, zero-add, arith, ◌-◌, ⊎_elim}
 use Rattle.std.specs.Prelude.{slice_get, replicate, ◌&&◌}
 use Rattle.std.proofs.lemmas.List.{length-replicate}
 use Rattle.std.proofs.lemmas.Option.{slice_get_within, get_or_from_slice_get}
@@ -12,9 +12,9 @@ use Rattle.lang_meaning.specs.Facts.{is_row, begins_with_built_in}
 use Rattle.lang_meaning.specs.Values.{object, symbol, named, t}
 use Rattle.lang_meaning.specs.Objects.{Object, input_stream, output_stream, class_object, built_in_classes}
 use Rattle.lang_meaning.specs.Lookup.{text}
-use Rattle.lang_meaning.specs.InitialHeap.{objects_at_start, class_value, function_value, literal_value}
+use Rattle.lang_meaning.specs.InitialHeap.{objects_at_start, class_value, function_value, literal_value, standard_input, standard_output}
 use Rattle.mid_arena.specs.Places.{Spot, Places, Owner, of_object, of_symbol, of_other, spot_in, spot_of, word_of}
-use Rattle.mid_arena.specs.FixedWords.{nil_text}
+use Rattle.mid_arena.specs.FixedWords.{low_address, nil_text}
 use Rattle.mid_arena.proofs.Keeping.{PlacesExtend}
 use Rattle.mid_start.specs.declared.words.ArenaWords.{ArenaWords}
 use Rattle.mid_start.specs.LaidWell.{LaidWell}
@@ -29,7 +29,8 @@ use Rattle.mid_start.proofs.Reaching.{words_both, words_kept}
 use Rattle.mid_arena.proofs.Arguments.{item_there}
 use Rattle.std.proofs.lemmas.Bool.{cases_lt}
 use Rattle.mid_start.specs.Settling.{SlotsAreCounted, StillWords, Settled, Settles, class_number, ClassesWait, ClassesSettled, ClassesSettle}
-use Rattle.mid_start.specs.StaticData.{fixed_contents, IsStaticData}
+use Rattle.mid_start.specs.LaidArena.{end_address}
+use Rattle.mid_start.specs.StaticData.{fixed_spot, spot_for, front_contents, IsStaticData}
 use Rattle.mid_start.proofs.Joins.{lasts_word, lasts_slot, lasts_each, Lasts}
 use Rattle.mid_start.proofs.Settle.{extends_of}
 use Rattle.lang_meaning.proofs.WholeRecipes.{at_functions, at_literals, at_slots, all_objects, function_whole, literal_whole}
@@ -37,7 +38,7 @@ use Rattle.mid_start.proofs.Found.{function_found, word_in}
 use Rattle.lang_meaning.proofs.LiteralPlaces.{literal_found}
 use Rattle.mid_start.proofs.ClassPlaces.{first_objects, first_count, input_object, output_object, class_number_is, class_there, input_is, output_is, class_value_is}
 use Rattle.mid_start.proofs.SlotStanding.{turn_length, each_length, slots_stand_there}
-use Rattle.mid_start.proofs.FixedFront.{with_fixed_spot, same_values, no_nil_there, front_laid, front_numbered, fixed_count, fixed_stand}
+use Rattle.mid_start.proofs.FixedFront.{with_front, same_values, no_nil_there, front_laid, front_numbered, front_count, low_there, fixed_stand}
 
 -- a program has at least the classes that are built in
 both_true : (a b : Bool) → (a && b) ≡ true → b ≡ true
@@ -93,9 +94,9 @@ behind r os = ap (λ n. os ++ (r n).0) (zero-add (length os))
 
 module _
     (names : List (List ℕ)) (program : ProgramRows) (true_name : Name) (a b c d e f g h words : ArenaWords)
-    (fs ls cs : List ℕ) (ss : List (List SlotWords)) (truth input output : ℕ)
+    (fs ls cs : List ℕ) (ss : List (List SlotWords)) (truth input output low_count : ℕ)
     (enough : 34 ≤ length program.classes) (true_text : slice_get names true_name.0 ≡ Some (116 ∷ [])) (no_nil : (i : ℕ) → slice_get names i ≡ Some nil_text → ⊥)
-    (from : a.first ≡ 184) (none : a.symbols ≡ []) (same_from : h.first ≡ 184)
+    (from : a.first ≡ 184 + 4 * low_count) (none : a.symbols ≡ []) (same_from : h.first ≡ 184 + 4 * low_count)
     (functions : Makes names (EachStandsFor IsWord) (in_turn function_recipe program.functions) a b fs)
     (literals : Makes names (EachStandsFor IsWord) (in_turn (literal_recipe names) program.literals) b c ls)
     (slots : Makes names (EachStandsFor (EachStandsFor IsSlot)) (in_turn (slots_recipe names) program.classes) c d ss) (counted : SlotsAreCounted program.classes ss)
@@ -103,7 +104,7 @@ module _
     (input_laid : Settles names program input_stream (λ places. Unit {0}) e f input)
     (output_laid : Settles names program output_stream (λ places. Unit {0}) f g output)
     (classes : ClassesSettle names program truth ss g h (length program.classes) cs)
-    (first : words.first ≡ 0) (all : words.words ≡ fixed_contents cs input output truth ++ h.words) (symbols : words.symbols ≡ h.symbols)
+    (first : words.first ≡ 0) (all : words.words ≡ front_contents cs input output truth low_count ++ h.words) (symbols : words.symbols ≡ h.symbols)
   where
     abbrev at_first : List Object
     at_first = first_objects (length program.classes)
@@ -144,7 +145,7 @@ module _
     -- what is laid in turn
 
     functions_made : Made names program (EachStandsFor IsWord) (no_spots at_first) at_first a b (in_turn function_recipe program.functions (length at_first)) fs
-    functions_made = functions.there program (no_spots at_first) at_first (nothing_stands names program at_first a (ap (λ n. n % 4) from) none)
+    functions_made = functions.there program (no_spots at_first) at_first (nothing_stands names program at_first a (omega (arith, from)) none)
 
     literals_made : Made names program (EachStandsFor IsWord) functions_made.places_after with_functions b c (in_turn (literal_recipe names) program.literals (length with_functions)) ls
     literals_made = literals.there program functions_made.places_after with_functions functions_made.stands
@@ -334,29 +335,46 @@ module _
         (at_last literals_made.places_after (longer_both literals_made.places_after slots_made.places_after laid slots_made.longer true_made.longer))
         (in_turn (literal_recipe names) program.literals (length with_functions)).1 ls literals_made.words)
 
-    pub starts : IsStaticData names program (record { arena = words; classes = cs; functions = fs; literals = ls })
+    -- the streams and t
+
+    input_there : word_of places (standard_input names program) ≡ Some input
+    input_there = ap (word_of places) (input_is names program) ∙ settled.words.word (object 34) input (output_settled.words.word (object 34) input input_settled.of_object)
+
+    output_there : word_of places (standard_output names program) ≡ Some output
+    output_there = ap (word_of places) (output_is names program) ∙ settled.words.word (object 35) output output_settled.of_object
+
+    truth_there : word_of places t ≡ Some truth
+    truth_there = settled.words.word t truth classes_wait.truth_stands
+
+    pub starts : IsStaticData names program low_count [] (record { arena = words; classes = cs; functions = fs; literals = ls })
     starts = record {
-      places = with_fixed_spot places;
+      places = with_front low_count places;
       first = first;
-      others = refl;
+      further_at = end_address words;
+      further_end = omega arith;
+      others = ap (λ ss. fixed_spot ∷ ss) (sym (append-nil (spot_for low_address low_count)));
+      own = record {
+        low_words =
+            low_there names program places low_count h words cs input output truth enough_words same_from first all
+            (λ class w there low. of_classes class w there (omega arith)) input_there output_there truth_there;
+        further_words = λ i w there. absurd (cc there);
+      };
       no_nil = no_nil_there names no_nil h.symbols places.symbols settled.stands.listed;
       stands =
-          subst (λ os. LaidWell names program (with_fixed_spot places) os words) store_same
-          (front_laid names program places store (fixed_contents cs input output truth) h words (fixed_count cs input output truth enough_words) same_from first all symbols settled.stands);
+          subst (λ os. LaidWell names program (with_front low_count places) os words) store_same
+          (front_laid names program places store low_count (front_contents cs input output truth low_count) h words (front_count cs input output truth low_count enough_words) same_from first all symbols
+          settled.stands);
       fixed = λ left.
-          fixed_stand names program places h words cs input output truth enough_words same_from first all
-          (λ class w there low. of_classes class w there (omega arith))
-          (ap (word_of places) (input_is names program) ∙ settled.words.word (object 34) input (output_settled.words.word (object 34) input input_settled.of_object))
-          (ap (word_of places) (output_is names program) ∙ settled.words.word (object 35) output output_settled.of_object)
-          (settled.words.word t truth classes_wait.truth_stands) left;
+          fixed_stand names program places low_count h words cs input output truth enough_words same_from first all
+          (λ class w there low. of_classes class w there (omega arith)) input_there output_there truth_there left;
       all = λ i low.
           let within : i < length store = subst (λ (os : List Object). i < length os) (sym store_same) low in
           let old : HasWord places (object i) = subst (λ n. HasWord places (object n)) (zero-add i) (all_words.each i within) in
-          record { word = old.word; of_value = (same_values places).word (object i) old.word old.of_value };
+          record { word = old.word; of_value = (same_values low_count places).word (object i) old.word old.of_value };
       numbered =
-          subst (λ os. AreNumbered (with_fixed_spot places) os words) store_same
-          (front_numbered names program places store (fixed_contents cs input output truth) h words (fixed_count cs input output truth enough_words) same_from first all symbols settled.stands
-          all_numbered);
+          subst (λ os. AreNumbered (with_front low_count places) os words) store_same
+          (front_numbered names program places store low_count (front_contents cs input output truth low_count) h words (front_count cs input output truth low_count enough_words) same_from first all symbols
+          settled.stands all_numbered);
       class_count = settled.many;
       function_count =
           each_length IsWord functions_made.places_after (in_turn function_recipe program.functions (length at_first)).1 fs functions_made.words
@@ -366,13 +384,13 @@ module _
           ∙ turn_length (literal_recipe names) program.literals (length with_functions);
       class_words = λ class w there.
           let within = slice_get_within cs class w there in
-          (same_values places).word (class_value names program class) w (of_classes class w there (omega (arith, settled.many)));
+          (same_values low_count places).word (class_value names program class) w (of_classes class w there (omega (arith, settled.many)));
       function_words = λ name w there.
-          (same_values places).word (function_value names program name) w
+          (same_values low_count places).word (function_value names program name) w
           (ap (word_of places) (sym (function_whole names built_in_classes program name))
           ∙ function_found names places program.functions fs (at_functions names built_in_classes program) name w functions_words there);
       literal_words = λ literal w d here there.
-          (same_values places).word (literal_value names program literal d) w
+          (same_values low_count places).word (literal_value names program literal d) w
           (ap (word_of places) (sym (literal_found names program (at_literals names built_in_classes program) literal d here (literal_whole names built_in_classes program literal)))
           ∙ word_in places (in_turn (literal_recipe names) program.literals (at_literals names built_in_classes program)).1 ls literal w literals_words there);
     }

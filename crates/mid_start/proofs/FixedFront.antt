@@ -1,11 +1,11 @@
--- The fixed words in front of those that were laid behind them.
+-- The fixed words, and low words of a program's own, in front of those that were laid behind them.
 use Rattle.std.proofs.Common.{◌≡◌, ℕ, zero, suc, ◌+◌, ◌-◌, ◌*◌, ◌/◌, ◌%◌, ◌<◌, ◌≤◌, Bool, true, false, List, [], ◌∷◌, ◌++◌, length}
 use Rattle.std.proofs.Common.{take, Some, None, refl, sym, ◌∙◌, ap, length-append, lit<, lit≤, arith}
-use Rattle.std.specs.Prelude.{◌==◌, ◌&&◌, ◌||◌, slice_get, if◌then◌else◌}
+use Rattle.std.specs.Prelude.{◌==◌, ◌&&◌, ◌||◌, replicate, slice_get, if◌then◌else◌}
 use Rattle.std.specs.Str.{bytes_eq}
 use Rattle.std.proofs.lemmas.Slice.Eq.{bytes_eq-Decides}
 use Rattle.std.proofs.lemmas.Bool.Decides.{nat_tests}
-use Rattle.std.proofs.lemmas.List.{length-take-le}
+use Rattle.std.proofs.lemmas.List.{length-take-le, length-replicate}
 use Rattle.std.proofs.lemmas.Option.{slice_get-get_or}
 use Rattle.base.specs.Names.{slice_get-front}
 use Rattle.base.specs.DataMeasures.{SymbolBelow}
@@ -21,10 +21,11 @@ use Rattle.mid_code.specs.Arena.{Arena, is_within, is_in_record, word_in, word_a
 use Rattle.mid_arena.specs.Tags.{nil_word, symbol_header}
 use Rattle.mid_arena.specs.Places.{Spot, Places, Owner, of_object, of_symbol, of_other, same_owner, spot_of_symbol, spot_of, word_of}
 use Rattle.mid_arena.specs.Standing.{of_laid, SpotStands, Apart, in_front, behind, SameWords}
-use Rattle.mid_arena.specs.FixedWords.{nil_text, FixedStand, untouched}
+use Rattle.mid_arena.specs.FixedWords.{low_address, nil_text, FixedStand, untouched}
 use Rattle.mid_arena.specs.Layouts.{AreBytes, byte_words, packed}
 use Rattle.mid_arena.proofs.Keeping.{PlacesExtend, symbol_kept, object_kept}
 use Rattle.mid_arena.proofs.Arguments.{item_there}
+use Rattle.mid_arena.proofs.Lists.{replicated}
 use Rattle.mid_start.specs.declared.symbol_words.SymbolWord.{SymbolWord}
 use Rattle.mid_start.specs.declared.words.ArenaWords.{ArenaWords}
 use Rattle.mid_start.specs.LaidArena.{end_address, arena_of}
@@ -33,7 +34,7 @@ use Rattle.mid_start.proofs.Lists.{item_behind}
 use Rattle.mid_start.proofs.LaidWords.{word_laid, spot_among}
 use Rattle.mid_start.specs.Making.{AreNumbered}
 use Rattle.mid_start.proofs.Numbered.{number_kept}
-use Rattle.mid_start.specs.StaticData.{fixed_spot, fixed_contents}
+use Rattle.mid_start.specs.StaticData.{fixed_spot, spot_for, fixed_contents, front_contents}
 
 -- ---- no symbol is nil
 
@@ -68,49 +69,51 @@ none_between a x e =
     (λ b. if b && (is_within a.laid_from a.laid_to x || is_within a.heap_from a.heap_to x || is_in_record (length a.memory) a.blocks x)
     then word_in (slice_get a.memory (x / 4)) else None) e
 
-module _ (fixed : List ℕ) (laid words : ArenaWords) (count : length fixed ≡ 46) (from : laid.first ≡ 184) (first : words.first ≡ 0) (all : words.words ≡ fixed ++ laid.words) where
-  pub end_same : end_address words ≡ end_address laid
-  end_same = omega (arith, ap (λ ws. length ws) all, length-append fixed laid.words)
-
-  -- a fixed word
-  pub fixed_word : (i w : ℕ) → slice_get fixed i ≡ Some w → word_at (arena_of words) (4 * i) ≡ Some w
-  fixed_word i w e =
-      let address : 4 * i ≡ words.first + 4 * i = omega (arith, first) in
-      ap (word_at (arena_of words)) address
-      ∙ word_laid words i w (ap (λ n. n % 4) first) (ap (λ ws. slice_get ws i) all ∙ slice_get-front fixed laid.words i w e)
-
-  laid_word : (i w : ℕ) → slice_get laid.words i ≡ Some w → word_at (arena_of words) (184 + 4 * i) ≡ Some w
-  laid_word i w e =
-      let address : 184 + 4 * i ≡ words.first + 4 * (46 + i) = omega (arith, first) in
-      let place : 46 + i ≡ length fixed + i = omega (arith, count) in
-      ap (word_at (arena_of words)) address
-      ∙ word_laid words (46 + i) w (ap (λ n. n % 4) first) (ap (λ ws. slice_get ws (46 + i)) all ∙ ap (slice_get (fixed ++ laid.words)) place ∙ item_behind fixed laid.words i ∙ e)
-
-  -- what was laid has the same words
-  same_words : (s : Spot) → SpotStands (arena_of laid) s → SameWords (arena_of laid) (arena_of words) s
-  same_words s h x low high = by (x % 4 == 0) refl
-    where
-      by : (b : Bool) → (x % 4 == 0) ≡ b → word_at (arena_of words) x ≡ word_at (arena_of laid) x
-      by false between = none_between (arena_of words) x between ∙ sym (none_between (arena_of laid) x between)
-      by true aligned =
-          let among = spot_among laid s h in
-          let exact : x % 4 ≡ 0 = grind (arith, nat_tests) in
-          let i : ℕ = (x - 184) / 4 in
-          let address : x ≡ 184 + 4 * i = omega (arith, among.low, from) in
-          let there = item_there laid.words i (omega (arith, among.low, among.high, from)) in
-          let was : word_at (arena_of laid) (laid.first + 4 * i) ≡ Some there.0 = word_laid laid i there.0 (ap (λ n. n % 4) from) there.1 in
-          let now : word_at (arena_of words) (184 + 4 * i) ≡ Some there.0 = laid_word i there.0 there.1 in
-          rw address (now ∙ sym (ap (λ n. word_at (arena_of laid) (n + 4 * i)) (sym from) ∙ was))
-
--- ---- places with the fixed spot
-
-abbrev pub with_fixed_spot : Places → Places
-with_fixed_spot places = record places { others = fixed_spot ∷ [] }
-
-pub same_values : (places : Places) → PlacesExtend places (with_fixed_spot places)
-same_values places = record { word = kept }
+module _
+    (low_count : ℕ) (fixed : List ℕ) (laid words : ArenaWords) (count : length fixed ≡ 46 + low_count) (from : laid.first ≡ 184 + 4 * low_count)
+    (first : words.first ≡ 0) (all : words.words ≡ fixed ++ laid.words)
   where
-    kept : (v : Value) (w : ℕ) → word_of places v ≡ Some w → word_of (with_fixed_spot places) v ≡ Some w
+    pub end_same : end_address words ≡ end_address laid
+    end_same = omega (arith, ap (λ ws. length ws) all, length-append fixed laid.words)
+
+    -- a word in front
+    pub fixed_word : (i w : ℕ) → slice_get fixed i ≡ Some w → word_at (arena_of words) (4 * i) ≡ Some w
+    fixed_word i w e =
+        let address : 4 * i ≡ words.first + 4 * i = omega (arith, first) in
+        ap (word_at (arena_of words)) address
+        ∙ word_laid words i w (ap (λ n. n % 4) first) (ap (λ ws. slice_get ws i) all ∙ slice_get-front fixed laid.words i w e)
+
+    laid_word : (i w : ℕ) → slice_get laid.words i ≡ Some w → word_at (arena_of words) (laid.first + 4 * i) ≡ Some w
+    laid_word i w e =
+        let address : laid.first + 4 * i ≡ words.first + 4 * (length fixed + i) = omega (arith, first, from, count) in
+        ap (word_at (arena_of words)) address
+        ∙ word_laid words (length fixed + i) w (ap (λ n. n % 4) first) (ap (λ ws. slice_get ws (length fixed + i)) all ∙ item_behind fixed laid.words i ∙ e)
+
+    -- what was laid has the same words
+    same_words : (s : Spot) → SpotStands (arena_of laid) s → SameWords (arena_of laid) (arena_of words) s
+    same_words s h x low high = by (x % 4 == 0) refl
+      where
+        by : (b : Bool) → (x % 4 == 0) ≡ b → word_at (arena_of words) x ≡ word_at (arena_of laid) x
+        by false between = none_between (arena_of words) x between ∙ sym (none_between (arena_of laid) x between)
+        by true aligned =
+            let among = spot_among laid s h in
+            let exact : x % 4 ≡ 0 = grind (arith, nat_tests) in
+            let i : ℕ = (x - laid.first) / 4 in
+            let address : x ≡ laid.first + 4 * i = omega (arith, among.low, from) in
+            let there = item_there laid.words i (omega (arith, among.low, among.high, from)) in
+            let was : word_at (arena_of laid) (laid.first + 4 * i) ≡ Some there.0 = word_laid laid i there.0 (omega (arith, from)) there.1 in
+            let now : word_at (arena_of words) (laid.first + 4 * i) ≡ Some there.0 = laid_word i there.0 there.1 in
+            rw address (now ∙ sym was)
+
+-- ---- places with the spots in front
+
+abbrev pub with_front : (low : ℕ) → Places → Places
+with_front low places = record places { others = fixed_spot ∷ spot_for low_address low }
+
+pub same_values : (low : ℕ) (places : Places) → PlacesExtend places (with_front low places)
+same_values low places = record { word = kept }
+  where
+    kept : (v : Value) (w : ℕ) → word_of places v ≡ Some w → word_of (with_front low places) v ≡ Some w
     kept (integer n) w e = e
     kept (character c) w e = e
     kept (symbol v) w e = e
@@ -118,63 +121,79 @@ same_values places = record { word = kept }
     kept (object i) w e = e
 
 -- whose spot one is
-data FixedOrNot (places : Places) (p : Owner) (s : Spot) : Type 0 where
-  of_laid_one : spot_of places p ≡ Some s → FixedOrNot places p s
-  of_fixed : p ≡ of_other 0 → s ≡ fixed_spot → FixedOrNot places p s
+data InFrontOrNot (low : ℕ) (places : Places) (p : Owner) (s : Spot) : Type 0 where
+  of_laid_one : spot_of places p ≡ Some s → InFrontOrNot low places p s
+  of_fixed : p ≡ of_other 0 → s ≡ fixed_spot → InFrontOrNot low places p s
+  of_low : p ≡ of_other 1 → 1 ≤ low → s ≡ record { address = low_address; words = low; tag = 0 } → InFrontOrNot low places p s
 
-fixed_or_not : (places : Places) (p : Owner) (s : Spot) → spot_of (with_fixed_spot places) p ≡ Some s → FixedOrNot places p s
-fixed_or_not places (of_object i) s e = of_laid_one e
-fixed_or_not places (of_symbol v) s e = of_laid_one e
-fixed_or_not places (of_other zero) s e = of_fixed refl (cc e)
-fixed_or_not places (of_other (suc n)) s e = absurd (cc e)
+in_front_or_not : (low : ℕ) (places : Places) (p : Owner) (s : Spot) → spot_of (with_front low places) p ≡ Some s → InFrontOrNot low places p s
+in_front_or_not low places (of_object i) s e = of_laid_one e
+in_front_or_not low places (of_symbol v) s e = of_laid_one e
+in_front_or_not low places (of_other zero) s e = of_fixed refl (cc e)
+in_front_or_not zero places (of_other (suc n)) s e = absurd (cc e)
+in_front_or_not (suc low) places (of_other (suc zero)) s e = of_low refl (omega arith) (cc e)
+in_front_or_not (suc low) places (of_other (suc (suc n))) s e = absurd (cc e)
 
 module _
-    (names : List (List ℕ)) (program : ProgramRows) (places : Places) (store : List Object) (fixed : List ℕ) (laid words : ArenaWords)
-    (count : length fixed ≡ 46) (from : laid.first ≡ 184) (first : words.first ≡ 0) (all : words.words ≡ fixed ++ laid.words) (symbols : words.symbols ≡ laid.symbols)
-    (h : LaidWell names program places store laid)
+    (names : List (List ℕ)) (program : ProgramRows) (places : Places) (store : List Object) (low : ℕ) (fixed : List ℕ) (laid words : ArenaWords)
+    (count : length fixed ≡ 46 + low) (from : laid.first ≡ 184 + 4 * low) (first : words.first ≡ 0) (all : words.words ≡ fixed ++ laid.words)
+    (symbols : words.symbols ≡ laid.symbols) (h : LaidWell names program places store laid)
   where
     kept : (p : Owner) (s : Spot) → spot_of places p ≡ Some s → SameWords (arena_of laid) (arena_of words) s
-    kept p s e = same_words fixed laid words count from first all s (h.spots p s e)
+    kept p s e = same_words low fixed laid words count from first all s (h.spots p s e)
 
     high : end_address words ≡ end_address laid
-    high = end_same fixed laid words count from first all
+    high = end_same low fixed laid words count from first all
 
-    spot_stands : (p : Owner) (s : Spot) → FixedOrNot places p s → SpotStands (arena_of words) s
+    -- all words in front are among the words
+    front_ends : 184 + 4 * low ≤ end_address words
+    front_ends = omega (arith, first, count, ap (λ ws. length ws) all, length-append fixed laid.words)
+
+    spot_stands : (p : Owner) (s : Spot) → InFrontOrNot low places p s → SpotStands (arena_of words) s
     spot_stands p s (of_laid_one e) =
         let stands = h.spots p s e in
         let among = spot_among laid s stands in
         record { aligned = stands.aligned; some = stands.some; tag = stands.tag; part = of_laid (omega (arith, first)) (omega (arith, among.high, high)) }
     spot_stands p s (of_fixed e same) =
         rw same
-        (record { aligned = refl; some = lit≤ tt; tag = lit< tt; part = of_laid (omega (arith, first)) (omega (arith, first, ap (λ ws. length ws) all, length-append fixed laid.words)) })
+        (record { aligned = refl; some = lit≤ tt; tag = lit< tt; part = of_laid (omega (arith, first)) (omega (arith, front_ends)) })
+    spot_stands p s (of_low e some same) =
+        rw same (record { aligned = refl; some = some; tag = lit< tt; part = of_laid (omega (arith, first)) (omega (arith, front_ends)) })
 
-    -- what was laid stands behind the fixed words
-    behind_fixed : (p : Owner) (s : Spot) → spot_of places p ≡ Some s → 184 ≤ s.address
-    behind_fixed p s e = let among = spot_among laid s (h.spots p s e) in omega (arith, among.low, from)
+    -- what was laid stands behind the words in front
+    behind_front : (p : Owner) (s : Spot) → spot_of places p ≡ Some s → 184 + 4 * low ≤ s.address
+    behind_front p s e = let among = spot_among laid s (h.spots p s e) in omega (arith, among.low, from)
 
-    apart : (p q : Owner) (s r : Spot) → same_owner p q ≡ false → FixedOrNot places p s → FixedOrNot places q r → Apart s r
+    apart : (p q : Owner) (s r : Spot) → same_owner p q ≡ false → InFrontOrNot low places p s → InFrontOrNot low places q r → Apart s r
     apart p q s r different (of_laid_one d) (of_laid_one e) = h.apart p q s r different d e
-    apart p q s r different (of_laid_one d) (of_fixed e same) = rw same (behind (behind_fixed p s d))
-    apart p q s r different (of_fixed d same) (of_laid_one e) = rw same (in_front (behind_fixed q r e))
+    apart p q s r different (of_laid_one d) (of_fixed e same) = rw same (behind (omega (arith, behind_front p s d)))
+    apart p q s r different (of_fixed d same) (of_laid_one e) = rw same (in_front (omega (arith, behind_front q r e)))
+    apart p q s r different (of_laid_one d) (of_low e some same) = rw same (behind (omega (arith, behind_front p s d)))
+    apart p q s r different (of_low d some same) (of_laid_one e) = rw same (in_front (omega (arith, behind_front q r e)))
+    apart p q s r different (of_fixed d same) (of_low e some also) = rw (same, also) (in_front (lit≤ tt))
+    apart p q s r different (of_low d some same) (of_fixed e also) = rw (same, also) (behind (lit≤ tt))
+    apart p q s r different (of_low d some same) (of_low e more also) =
+        let self : same_owner p q ≡ true = rw (d, e) refl in
+        absurd (cc)
     apart p q s r different (of_fixed d same) (of_fixed e also) =
         let self : same_owner p q ≡ true = rw (d, e) refl in
         absurd (cc)
 
-    pub front_laid : LaidWell names program (with_fixed_spot places) store words
+    pub front_laid : LaidWell names program (with_front low places) store words
     front_laid = record {
       aligned = ap (λ n. n % 4) first;
-      spots = λ p s e. spot_stands p s (fixed_or_not places p s e);
-      apart = λ p q s r different d e. apart p q s r different (fixed_or_not places p s d) (fixed_or_not places q r e);
+      spots = λ p s e. spot_stands p s (in_front_or_not low places p s e);
+      apart = λ p q s r different d e. apart p q s r different (in_front_or_not low places p s d) (in_front_or_not low places q r e);
       count = h.count;
       objects = λ i o s stored e.
-          object_kept (arena_of laid) (arena_of words) s (kept (of_object i) s e) places (with_fixed_spot places) (same_values places) names program o (h.objects i o s stored e);
+          object_kept (arena_of laid) (arena_of words) s (kept (of_object i) s e) places (with_front low places) (same_values low places) names program o (h.objects i o s stored e);
       symbols = λ v s e. symbol_kept (arena_of laid) (arena_of words) s (kept (of_symbol v) s e) v (h.symbols v s e);
       listed = rw symbols h.listed;
       once = h.once;
     }
 
     -- functions keep their numbers
-    pub front_numbered : AreNumbered places store laid → AreNumbered (with_fixed_spot places) store words
+    pub front_numbered : AreNumbered places store laid → AreNumbered (with_front low places) store words
     front_numbered numbered = record {
       each = λ i p s there e. number_kept laid words s p (kept (of_object i) s e) (numbered.each i p s there e);
     }
@@ -187,6 +206,15 @@ fixed_count classes input output truth enough =
       arith,
       length-take-le 34 classes enough,
       length-append (take 34 classes) (input ∷ output ∷ truth ∷ 0 ∷ truth ∷ nil_word ∷ nil_word ∷ symbol_header ∷ 12 ∷ 7104878 ∷ symbol_header ∷ 0 ∷ []),
+    )
+
+pub front_count : (classes : List ℕ) (input output truth low : ℕ) → 34 ≤ length classes → length (front_contents classes input output truth low) ≡ 46 + low
+front_count classes input output truth low enough =
+    omega (
+      arith,
+      fixed_count classes input output truth enough,
+      length-append (fixed_contents classes input output truth) (replicate low 0),
+      length-replicate {A = ℕ} low 0,
     )
 
 taken_at : {X : Type 0} (n : ℕ) (xs : List X) (i : ℕ) → i < n → slice_get (take n xs) i ≡ slice_get xs i
@@ -202,8 +230,9 @@ nil_bytes (suc (suc zero)) h = lit< tt
 nil_bytes (suc (suc (suc i))) h = absurd (omega arith)
 
 module _
-    (names : List (List ℕ)) (program : ProgramRows) (places : Places) (laid words : ArenaWords) (classes : List ℕ) (input output truth : ℕ)
-    (enough : 34 ≤ length classes) (from : laid.first ≡ 184) (first : words.first ≡ 0) (all : words.words ≡ fixed_contents classes input output truth ++ laid.words)
+    (names : List (List ℕ)) (program : ProgramRows) (places : Places) (low_count : ℕ) (laid words : ArenaWords) (classes : List ℕ) (input output truth : ℕ)
+    (enough : 34 ≤ length classes) (from : laid.first ≡ 184 + 4 * low_count) (first : words.first ≡ 0)
+    (all : words.words ≡ front_contents classes input output truth low_count ++ laid.words)
     (of_classes : (class w : ℕ) → slice_get classes class ≡ Some w → class < 34 → word_of places (class_value names program class) ≡ Some w)
     (of_input : word_of places (standard_input names program) ≡ Some input)
     (of_output : word_of places (standard_output names program) ≡ Some output)
@@ -212,11 +241,21 @@ module _
     abbrev fixed : List ℕ
     fixed = fixed_contents classes input output truth
 
-    count : length fixed ≡ 46
-    count = fixed_count classes input output truth enough
+    count : length (front_contents classes input output truth low_count) ≡ 46 + low_count
+    count = front_count classes input output truth low_count enough
 
     word_there : (i w : ℕ) → slice_get fixed i ≡ Some w → word_at (arena_of words) (4 * i) ≡ Some w
-    word_there i w e = fixed_word fixed laid words count from first all i w e
+    word_there i w e =
+        fixed_word low_count (front_contents classes input output truth low_count) laid words count from first all i w (slice_get-front fixed (replicate low_count 0) i w e)
+
+    -- the low words are clear
+    pub low_there : (i : ℕ) → i < low_count → word_at (arena_of words) (low_address + 4 * i) ≡ Some 0
+    low_there i h =
+        let fixed_many : length fixed ≡ 46 = fixed_count classes input output truth enough in
+        let address : low_address + 4 * i ≡ 4 * (length fixed + i) = omega (arith, fixed_many) in
+        ap (word_at (arena_of words)) address
+        ∙ fixed_word low_count (front_contents classes input output truth low_count) laid words count from first all (length fixed + i) 0
+        (item_behind fixed (replicate low_count 0) i ∙ replicated low_count i 0 h)
 
     -- behind the classes
     behind_classes : (i w : ℕ) → slice_get (input ∷ output ∷ truth ∷ 0 ∷ truth ∷ nil_word ∷ nil_word ∷ symbol_header ∷ 12 ∷ 7104878 ∷ symbol_header ∷ 0 ∷ []) i ≡ Some w
@@ -225,7 +264,7 @@ module _
         let place : 34 + i ≡ length (take 34 classes) + i = omega (arith, length-take-le 34 classes enough) in
         ap (slice_get fixed) place ∙ item_behind (take 34 classes) _ i ∙ e
 
-    pub fixed_stand : (left : List ℕ) → FixedStand names program (with_fixed_spot places) (arena_of words) 0 [] left left
+    pub fixed_stand : (left : List ℕ) → FixedStand names program (with_front low_count places) (arena_of words) 0 [] left left
     fixed_stand left = record {
       spot = refl;
       classes = λ class low.
@@ -233,7 +272,7 @@ module _
           let w : ℕ = there.0 in
           record {
             word = w;
-            of_value = (same_values places).word (class_value names program class) w (of_classes class w there.1 low);
+            of_value = (same_values low_count places).word (class_value names program class) w (of_classes class w there.1 low);
             stands =
                 word_there class w
                 (slice_get-front (take 34 classes) (input ∷ output ∷ truth ∷ 0 ∷ truth ∷ nil_word ∷ nil_word ∷ symbol_header ∷ 12 ∷ 7104878 ∷ symbol_header ∷ 0 ∷ []) class w
@@ -241,17 +280,17 @@ module _
           };
       input_stream = record {
         word = input;
-        of_value = (same_values places).word (standard_input names program) input of_input;
+        of_value = (same_values low_count places).word (standard_input names program) input of_input;
         stands = word_there 34 input (behind_classes 0 input refl);
       };
       output_stream = record {
         word = output;
-        of_value = (same_values places).word (standard_output names program) output of_output;
+        of_value = (same_values low_count places).word (standard_output names program) output of_output;
         stands = word_there 35 output (behind_classes 1 output refl);
       };
-      true_value = record { word = truth; of_value = (same_values places).word t truth of_truth; stands = word_there 36 truth (behind_classes 2 truth refl) };
+      true_value = record { word = truth; of_value = (same_values low_count places).word t truth of_truth; stands = word_there 36 truth (behind_classes 2 truth refl) };
       serial = word_there 37 0 (behind_classes 3 0 refl);
-      line = record { word = truth; of_value = (same_values places).word t truth of_truth; stands = word_there 38 truth (behind_classes 4 truth refl) };
+      line = record { word = truth; of_value = (same_values low_count places).word t truth of_truth; stands = word_there 38 truth (behind_classes 4 truth refl) };
       input = untouched (word_there 39 nil_word (behind_classes 5 nil_word refl));
       nil_name = record {
         size = record { words = refl; tag = refl };

@@ -29,7 +29,9 @@ use Rattle.mid_start.specs.declared.words.ArenaWords.{ArenaWords}
 use Rattle.mid_start.specs.LaidArena.{end_address, memory_of, arena_of}
 use Rattle.mid_start.proofs.LaidWords.{spot_among}
 use Rattle.mid_start.specs.declared.static_data.StaticData.{StaticData}
-use Rattle.mid_start.specs.StaticData.{fixed_spot, IsStaticData, BeginsWithData}
+use Rattle.mid_start.specs.StaticData.{fixed_spot, OwnWordsAt, IsStaticData, BeginsWithData}
+use Rattle.mid_start.specs.Law.{LawOfStaticData}
+use Rattle.mid_start.proofs.OwnSpots.{own_words_kept}
 use Rattle.mid_start.proofs.ClassPlaces.{class_value_is, class_at_start}
 use Rattle.mid_start.proofs.FixedFront.{none_between}
 
@@ -86,11 +88,12 @@ module _ (words : ArenaWords) (input : List ℕ) (y : MidState) (first : words.f
     blocks = rw begins.blocks (omega arith);
   }
 
-pub law_static_data :
-    (names : List (List ℕ)) (program : ProgramRows) (words : StaticData) (input : List ℕ) (y : MidState)
-    → begins_with_built_in program.classes built_in_precedence built_in_slots ≡ true → (start : IsStaticData names program words) → AreBytes input → BeginsWithData words.arena input y
-    → Represents names program start.places (first_state (objects_at_start names program) input) y
-law_static_data names program words input y built_in start bytes begins = record {
+-- the state is represented
+start_represented :
+    (names : List (List ℕ)) (program : ProgramRows) (low : ℕ) (further : List ℕ) (words : StaticData) (input : List ℕ) (y : MidState)
+    → begins_with_built_in program.classes built_in_precedence built_in_slots ≡ true → (start : IsStaticData names program low further words) → AreBytes input
+    → BeginsWithData words.arena input y → Represents names program start.places (first_state (objects_at_start names program) input) y
+start_represented names program low further words input y built_in start bytes begins = record {
   built_in = built_in;
   arena = arena_stands words.arena input y start.first begins;
   spots = λ p s e. spot_stands words.arena input y start.first begins s (start.stands.spots p s e);
@@ -112,6 +115,18 @@ law_static_data names program words input y built_in start bytes begins = record
   printed = begins.printed;
 }
 
+-- and the program's own words stand
+own_words_begin :
+    (names : List (List ℕ)) (program : ProgramRows) (low : ℕ) (further : List ℕ) (words : StaticData) (input : List ℕ) (y : MidState)
+    → (start : IsStaticData names program low further words) → BeginsWithData words.arena input y → OwnWordsAt low further start.further_at y.arena
+own_words_begin names program low further words input y start begins =
+    own_words_kept low further start.further_at start.places (arena_of words.arena) y.arena start.others
+    (λ n s e. same_words words.arena input y start.first begins s (start.stands.spots (of_other n) s e)) start.own
+
+pub law_static_data : LawOfStaticData
+law_static_data names program low further words input y built_in start bytes begins =
+    (start_represented names program low further words input y built_in start bytes begins, own_words_begin names program low further words input y start begins)
+
 -- what stands for a class is its object
 pub class_fetched :
     (names : List (List ℕ)) (program : ProgramRows) (input : List ℕ) (class : ℕ) → class < length program.classes
@@ -124,9 +139,9 @@ none_some o w e f = cc
 
 -- no object is left without a spot
 pub no_gap :
-    (names : List (List ℕ)) (program : ProgramRows) (words : StaticData) (start : IsStaticData names program words) (i : ℕ)
+    (names : List (List ℕ)) (program : ProgramRows) (low : ℕ) (further : List ℕ) (words : StaticData) (start : IsStaticData names program low further words) (i : ℕ)
     → slice_get start.places.objects i ≡ Some None → ⊥
-no_gap names program words start i gap =
+no_gap names program low further words start i gap =
     let inside = slice_get_within start.places.objects i None gap in
     let there = start.all i (omega (arith, inside, start.stands.count)) in
     let gone : word_of start.places (object i) ≡ None = ap (λ o. pointer_in (spot_in o)) gap in

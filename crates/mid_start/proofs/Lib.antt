@@ -22,6 +22,8 @@ pub mod Found
 pub mod ClassPlaces
 pub mod SlotStanding
 pub mod FixedFront
+pub mod OwnSpots
+pub mod FurtherWords
 pub mod Chain
 pub mod Law
 pub mod WholeRows

@@ -1,5 +1,5 @@
--- The law of the start: a state of middle code that begins with the words before the first form represents the state of the meaning there. And
--- what `lay_static_data` asks of rows holds of whole programs.
+-- The law of the start: a state of middle code that begins with the words before the first form represents the state of the meaning there, and
+-- the program's own words stand in it. And what `lay_static_data` asks of rows holds of whole programs.
 use Rattle.std.specs.Prelude.{◌≡◌, ℕ, true, List}
 use Rattle.base.specs.declared.datum.Name.{Name}
 use Rattle.lang_meaning.specs.declared.program.ProgramRows.{ProgramRows}
@@ -12,13 +12,14 @@ use Rattle.mid_arena.specs.Layouts.{AreBytes}
 use Rattle.mid_arena.specs.Represents.{Represents}
 use Rattle.mid_start.specs.declared.static_data.StaticData.{StaticData}
 use Rattle.mid_start.specs.Rows.{RowsFit, NamesThere}
-use Rattle.mid_start.specs.StaticData.{IsStaticData, BeginsWithData}
+use Rattle.mid_start.specs.StaticData.{OwnWordsAt, IsStaticData, BeginsWithData}
 
 abbrev pub LawOfStaticData : Type 0
 LawOfStaticData =
-    (names : List (List ℕ)) (program : ProgramRows) (words : StaticData) (input : List ℕ) (y : MidState)
-    → begins_with_built_in program.classes built_in_precedence built_in_slots ≡ true → (start : IsStaticData names program words) → AreBytes input
-    → BeginsWithData words.arena input y → Represents names program start.places (first_state (objects_at_start names program) input) y
+    (names : List (List ℕ)) (program : ProgramRows) (low : ℕ) (further : List ℕ) (words : StaticData) (input : List ℕ) (y : MidState)
+    → begins_with_built_in program.classes built_in_precedence built_in_slots ≡ true → (start : IsStaticData names program low further words)
+    → AreBytes input → BeginsWithData words.arena input y
+    → Represents names program start.places (first_state (objects_at_start names program) input) y × OwnWordsAt low further start.further_at y.arena
 
 abbrev pub LawOfWholeRows : Type 0
 LawOfWholeRows =

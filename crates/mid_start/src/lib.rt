@@ -5,6 +5,7 @@ pub mod classes;
 mod contents;
 pub mod fixed;
 pub mod functions;
+pub mod further;
 pub mod laws;
 pub mod laying;
 pub mod literals;
@@ -14,6 +15,7 @@ pub mod static_data;
 pub mod symbol_words;
 pub mod words;
 
+pub use further::lay_further;
 pub use laws::{law_static_data, law_whole_rows};
 pub use laying::lay_datum;
 pub use static_data::{StaticData, StaticDataFault, lay_rows, lay_static_data};
