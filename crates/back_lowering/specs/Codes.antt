@@ -22,7 +22,7 @@ use Rattle.flat_language.specs.FlatNodes.{count_forms, count_dynamics}
 use Rattle.mid_code.specs.declared.operation.Arithmetic.TheVariants as which
 use Rattle.mid_code.specs.declared.operation.Comparison.TheVariants.{Different}
 use Rattle.mid_code.specs.declared.operation.Counted.TheVariants.{Level}
-use Rattle.mid_code.specs.MidCode.{repeat, with_block, choose, code_of, MidCodes, no_code, code_and}
+use Rattle.mid_code.specs.MidCode.{repeat, with_block, choose, MidCode, no_step, code_of, MidCodes, no_code, code_and}
 use Rattle.mid_arena.specs.Tags.{nil_word, unbound_word, object_tag, function_header}
 use Rattle.mid_arena.specs.FixedWords.{true_address}
 use Rattle.back_lowering.specs.ControlWords.{current_address, handlers_address, bindings_address, handler_function, handler_outer, handler_words, binding_variable, binding_value, binding_outer, binding_words, function_number, chain_end}

@@ -117,10 +117,14 @@ element_where asked d t slow =
       []
     ++ (constant (t + 1) 0 ∷ if_different t (t + 1) slow [] ∷ []))
 
+abbrev pub behind_first : FlatForms → FlatForms
+behind_first no_form = no_form
+behind_first (form_and f fs) = fs
+
 module _ (at : Placement) (literals : List LiteralRow) where
   -- A primitive is applied to the arguments of these forms, whose words are in registers from d on.
   abbrev pub apply_primitive : Primitive → FlatForms → (count d : ℕ) → SitePlace → Steps
-  apply_primitive which fs count d site = by which (d + count) (by_procedure at which count d site)
+  apply_primitive p fs count d site = by p (d + count) (by_procedure at p count d site)
     where
       by : Primitive → (t : ℕ) → Steps → Steps
       by primitive.Add t slow = where_integers (asked_integers at literals d fs) t (sum_where (second_known at literals fs) d t slow) slow
@@ -140,10 +144,6 @@ module _ (at : Placement) (literals : List LiteralRow) where
       by primitive.Cdr t slow = where_tag d t cons_tag (cdr_into d d) slow
       by primitive.VectorRef t slow = element_where (asked_integers at literals (d + 1) (behind_first fs)) d t slow
       by other t slow = slow
-
-      behind_first : FlatForms → FlatForms
-      behind_first no_form = no_form
-      behind_first (form_and f gs) = gs
 
 -- what is judged where a form branches: steps that make it ready, and the test
 pub record Judged : Type 0 where
@@ -166,7 +166,7 @@ comparison_judged test so other asked d t slow = record {
 
 module _ (at : Placement) (literals : List LiteralRow) where
   abbrev pub judge_primitive : Primitive → FlatForms → (count d : ℕ) → SitePlace → Judged
-  judge_primitive which fs count d site = by which (d + count) (asked_integers at literals d fs) (by_procedure at which count d site)
+  judge_primitive p fs count d site = by p (d + count) (asked_integers at literals d fs) (by_procedure at p count d site)
     where
       by : Primitive → (t : ℕ) → List ℕ → Steps → Judged
       by primitive.NumberEqual t asked slow = comparison_judged (test_of Equal d (d + 1)) (0, 0) (0, 1) asked d t slow
@@ -182,4 +182,4 @@ module _ (at : Placement) (literals : List LiteralRow) where
       by primitive.IsInteger t asked slow =
           record { ready = constant t 3 ∷ compute t which.And d t ∷ constant (t + 1) 0 ∷ []; test = test_of Equal t (t + 1) }
       by other t asked slow =
-          record { ready = apply_primitive at literals which fs count d site ++ (value_judged d).ready; test = (value_judged d).test }
+          record { ready = apply_primitive at literals p fs count d site ++ (value_judged d).ready; test = (value_judged d).test }

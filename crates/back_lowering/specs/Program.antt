@@ -168,7 +168,7 @@ module _ (names : List (List ℕ)) (at : Placement) (program : FlatProgram) wher
 
   abbrev pub routines : List MidProcedure
   routines =
-      procedure_with Turn 2 transfer_code
+      procedure_with Turn 2 (transfer_code at)
       ∷ procedure_with Turn 3 (leave_code at)
       ∷ procedure_with Turn 2 (throw_code at)
       ∷ procedure_with Turn 2 (continue_code at)
@@ -183,12 +183,12 @@ module _ (names : List (List ℕ)) (at : Placement) (program : FlatProgram) wher
       ∷ procedure_with Turn 3 (generic_code at)
       ∷ procedure_with Level 3 (chain_code at)
       ∷ procedure_with Turn 3 (next_code at)
-      ∷ procedure_with Level 0 level_code
-      ∷ procedure_with Turn 2 list_code
-      ∷ procedure_with Turn 3 method_code
-      ∷ procedure_with Turn 1 binding_code
-      ∷ procedure_with Turn 1 is_function_code
-      ∷ procedure_with Turn 1 class_code
+      ∷ procedure_with Level 0 (level_code at)
+      ∷ procedure_with Turn 2 (list_code at)
+      ∷ procedure_with Turn 3 (method_code at)
+      ∷ procedure_with Turn 1 (binding_code at)
+      ∷ procedure_with Turn 1 (is_function_code at)
+      ∷ procedure_with Turn 1 (class_code at)
       ∷ []
 
   abbrev pub mains_from : ℕ

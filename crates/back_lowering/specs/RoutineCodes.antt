@@ -253,14 +253,14 @@ module _ (at : Placement) where
   abbrev pub kind_into : (to word address : ℕ) → Steps
   kind_into to word address = load word address 0 ∷ constant to 7 ∷ compute to which.And word to ∷ []
 
-  abbrev pub number_into : (to word : ℕ) → Steps
-  number_into to word = constant to 3 ∷ compute to which.ShiftRight word to ∷ []
+  abbrev pub number_into : (to word t : ℕ) → Steps
+  number_into to word t = constant t 3 ∷ compute to which.ShiftRight word t ∷ []
 
   -- Methods of a kind from the address in 7 on are called, each without a chain, at the site in 9; 3 to 6 are used.
   abbrev pub methods_called : (kind : ℕ) → Steps
   methods_called kind =
       repeat Turn (code_of (kind_into 4 3 7 ++ (constant 5 kind ∷ []))) (test_of Equal 4 5)
-        (code_of (number_into 3 3
+        (code_of (number_into 3 3 5
           ++ (constant 5 0 ∷ store 9 5 site_address ∷ call_number 6 3 (5 ∷ 5 ∷ 1 ∷ 2 ∷ []) ∷ add_to 7 4 4)))
       ∷ []
 
@@ -272,14 +272,14 @@ module _ (at : Placement) where
       ∷ (kind_into 4 3 0
       ++ (constant 5 around_method
       ∷ if_equal 4 5
-        (number_into 3 3 ++ (constant 4 4 ∷ compute 4 which.Add 0 4 ∷ constant 5 0 ∷ call_number 6 3 (5 ∷ 4 ∷ 1 ∷ 2 ∷ []) ∷ return_word 6 ∷ []))
+        (number_into 3 3 4 ++ (constant 4 4 ∷ compute 4 which.Add 0 4 ∷ constant 5 0 ∷ call_number 6 3 (5 ∷ 4 ∷ 1 ∷ 2 ∷ []) ∷ return_word 6 ∷ []))
         []
       ∷ move 8 0
       ∷ repeat Turn (code_of (kind_into 4 3 8 ++ (constant 5 primary_method ∷ []))) (test_of LessUnsigned 4 5) (code_of (add_to 8 4 4))
       ∷ move 7 0
       ∷ (methods_called before_method
       ++ (load 3 8 0
-      ∷ (number_into 3 3
+      ∷ (number_into 3 3 4
       ++ (constant 4 4 ∷ compute 4 which.Add 8 4 ∷ constant 5 0 ∷ store 9 5 site_address ∷ call_number 8 3 (5 ∷ 4 ∷ 1 ∷ 2 ∷ [])
       ∷ (methods_called after_method ++ (return_word 8 ∷ []))))))))
 
