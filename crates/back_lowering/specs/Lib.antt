@@ -1,0 +1,14 @@
+pub mod ControlWords
+pub mod Scope
+pub mod Placement
+pub mod Steps
+pub mod Routines
+pub mod Sites
+pub mod Leaves
+pub mod Primitives
+pub mod Records
+pub mod Calls
+pub mod Codes
+pub mod Registers
+pub mod RoutineCodes
+pub mod Program

@@ -1,0 +1,2 @@
+// The lowering of flat programs to middle code, as a definition.
+#![tactic(auto)]

@@ -1,0 +1,6 @@
+mod SmallPrograms
+mod Transfers
+mod Handlers
+mod Values
+mod Chains
+mod Lists

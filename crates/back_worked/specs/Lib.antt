@@ -1,0 +1,4 @@
+pub mod Small
+pub mod Start
+pub mod Methods
+pub mod Lists
