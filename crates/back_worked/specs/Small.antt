@@ -150,19 +150,24 @@ throwing = one_form (catch_form (literal 1) (body (catch_form (literal 2) (body 
 abbrev pub going : FlatProgram
 going = one_form (let_form (binding_and Slot (literal 0) no_binding) (body (
     tagbody (forms (body [] ∷ body (
-      set_local (variable.Slot 0) (prim p.Add (forms (slot 0 ∷ literal 1 ∷ [])))
-      ∷ if_form (prim p.NumberLess (forms (slot 0 ∷ literal 4 ∷ []))) (go (exit_place.Own 0) 1) (slot 0) ∷ []) ∷ []))
+    set_local (variable.Slot 0) (prim p.Add (forms (slot 0 ∷ literal 1 ∷ [])))
+    ∷ if_form (prim p.NumberLess (forms (slot 0 ∷ literal 4 ∷ []))) (go (exit_place.Own 0) 1) (slot 0) ∷ []) ∷ []))
     ∷ slot 0 ∷ [])))
 
 -- (let ((n 0)) (let ((f (lambda () (setq n (+ n 2))))) (while (< n 5) (funcall f)) n))
 abbrev pub counting : FlatProgram
 counting = program_of []
-    (record { captured = kind.Boxed ∷ []; required = []; rest = None; keeps_method = false;
-      body = body (set_local (variable.CapturedBox 0) (prim p.Add (forms (local (variable.CapturedBox 0) ∷ literal 2 ∷ []))) ∷ []) } ∷ [])
+    (record {
+      captured = kind.Boxed ∷ [];
+      required = [];
+      rest = None;
+      keeps_method = false;
+      body = body (set_local (variable.CapturedBox 0) (prim p.Add (forms (local (variable.CapturedBox 0) ∷ literal 2 ∷ []))) ∷ []);
+    } ∷ [])
     (let_form (binding_and Boxed (literal 0) no_binding) (body (
-      let_form (binding_and Slot (make_function 0 (part.Variable (variable.SlotBox 0) ∷ [])) no_binding) (body (
-        while_form (prim p.NumberLess (forms (local (variable.SlotBox 0) ∷ literal 5 ∷ []))) (body (call_value (forms (slot 1 ∷ [])) ∷ []))
-        ∷ local (variable.SlotBox 0) ∷ [])) ∷ [])) ∷ [])
+    let_form (binding_and Slot (make_function 0 (part.Variable (variable.SlotBox 0) ∷ [])) no_binding) (body (
+    while_form (prim p.NumberLess (forms (local (variable.SlotBox 0) ∷ literal 5 ∷ []))) (body (call_value (forms (slot 1 ∷ [])) ∷ []))
+    ∷ local (variable.SlotBox 0) ∷ [])) ∷ [])) ∷ [])
 
 -- (defdynamic d 1) (defun f () (dynamic d)) (+ (dynamic-let ((d 2)) (f)) (f))
 abbrev pub binding : FlatProgram
@@ -173,6 +178,11 @@ binding = program_of (function_of [] (body (dynamic 2 ∷ [])) ∷ []) []
 -- (defun f (a . r) (+ a (car (cdr r)))) (f 1 2 3)
 abbrev pub resting : FlatProgram
 resting = program_of
-    (record { captured = []; required = Slot ∷ []; rest = Some Slot; keeps_method = false;
-      body = body (prim p.Add (forms (slot 0 ∷ prim p.Car (forms (prim p.Cdr (forms (slot 1 ∷ [])) ∷ [])) ∷ [])) ∷ []) } ∷ [])
+    (record {
+      captured = [];
+      required = Slot ∷ [];
+      rest = Some Slot;
+      keeps_method = false;
+      body = body (prim p.Add (forms (slot 0 ∷ prim p.Car (forms (prim p.Cdr (forms (slot 1 ∷ [])) ∷ [])) ∷ [])) ∷ []);
+    } ∷ [])
     [] (call 0 (forms (literal 1 ∷ literal 2 ∷ literal 3 ∷ [])) ∷ [])
