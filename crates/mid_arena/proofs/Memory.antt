@@ -3,7 +3,7 @@ use Rattle.std.proofs.Common.{◌≡◌, ℕ, zero, suc, ◌+◌, ◌*◌, ◌/�
 use Rattle.std.specs.Prelude.{◌==◌, ◌&&◌, ◌||◌, if◌then◌else◌, slice_get, slice_set}
 use Rattle.std.proofs.lemmas.Bool.Decides.{nat_tests}
 use Rattle.std.proofs.Math.ListN.{length-set}
-use Rattle.mid_code.specs.Arena.{Block, is_record, Arena, words_of, begin_of, lent_from, stack_from, left, is_within, is_in_record}
+use Rattle.mid_code.specs.Arena.{Block, is_record, closed_record, Arena, words_of, begin_of, lent_from, stack_from, left, is_within, is_in_record}
 use Rattle.mid_code.specs.Arena.{is_lent, word_in, word_at, with_word, emptied, with_heap, with_blocks, with_new_block}
 use Rattle.mid_code.proofs.Growth.{length-emptied}
 use Rattle.mid_arena.specs.Places.{Spot, end_of}
@@ -323,6 +323,34 @@ grows_with_blocks {a} inner bs h e =
 -- the innermost block is given back
 pub grows_given_back : {a : Arena} (b : Block) (bs : List Block) → ArenaStands a → a.blocks ≡ b ∷ bs → Grows a (with_blocks bs a)
 grows_given_back {a} b bs h e = grows_with_blocks (b ∷ []) bs h e
+
+-- the innermost block, a record, is closed
+pub grows_closed :
+    {a : Arena} (b : Block) (bs : List Block) → ArenaStands a → a.blocks ≡ b ∷ bs → is_record b.kind ≡ true
+    → Grows a (with_blocks (record b { kind = closed_record } ∷ bs) a)
+grows_closed {a} b bs h e recorded =
+    let fewer : words_of (record b { kind = closed_record } ∷ bs) ≤ words_of a.blocks = omega (arith, ap words_of e) in
+    record {
+      heap = record {
+        size = refl;
+        laid_from = refl;
+        laid_to = refl;
+        heap_from = refl;
+        heap_to = omega arith;
+        stands = stands_with_blocks (record b { kind = closed_record } ∷ bs) h fewer;
+        words = λ x low. words_below a (with_blocks (record b { kind = closed_record } ∷ bs) a) x h refl refl refl (omega arith) (omega (arith, h.room, fewer)) refl low;
+      };
+      stack = λ x from to.
+          words_above a (with_blocks (record b { kind = closed_record } ∷ bs) a) x h (stands_with_blocks (record b { kind = closed_record } ∷ bs) h fewer) from to
+          (same_records x) refl;
+    }
+  where
+    same_records : (x : ℕ) → is_in_record (length a.memory) (record b { kind = closed_record } ∷ bs) x ≡ is_in_record (length a.memory) a.blocks x
+    same_records x =
+        ap
+        (λ k. (k && is_within (lent_from (length a.memory) (b ∷ bs)) (begin_of (length a.memory) bs) x) || is_in_record (length a.memory) bs x)
+        (sym recorded)
+        ∙ sym (ap (λ l. is_in_record (length a.memory) l x) e)
 
 -- a word is stored above where the heap ended before
 pub heap_grows_stored : {a b : Arena} (x w : ℕ) → HeapGrows a b → x % 4 ≡ 0 → a.heap_to ≤ x → HeapGrows a (with_word x w b)

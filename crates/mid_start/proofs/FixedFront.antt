@@ -103,7 +103,7 @@ module _
             let there = item_there laid.words i (omega (arith, among.low, among.high, from)) in
             let was : word_at (arena_of laid) (laid.first + 4 * i) ≡ Some there.0 = word_laid laid i there.0 (omega (arith, from)) there.1 in
             let now : word_at (arena_of words) (laid.first + 4 * i) ≡ Some there.0 = laid_word i there.0 there.1 in
-            rw address (now ∙ sym was)
+            rw address (◌∙◌ {b = Some there.0} now (sym {b = Some there.0} was))
 
 -- ---- places with the spots in front
 
