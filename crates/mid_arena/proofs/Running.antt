@@ -38,7 +38,7 @@ go_on_last (no_room asked left) rs z next h = refl
 go_on_last no_level rs z next h = refl
 go_on_last no_turn rs z next h = refl
 go_on_last (halts w) rs z next h = refl
-go_on_last (unhandled class site) rs z next h = refl
+go_on_last (unhandled class site condition) rs z next h = refl
 go_on_last exhausted rs z next h = refl
 go_on_last stuck rs z next h = refl
 

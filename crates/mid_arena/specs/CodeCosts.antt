@@ -4,23 +4,29 @@ use Rattle.std.specs.Prelude.{ℕ, ◌+◌}
 use Rattle.lang_meaning.specs.declared.primitive.Primitive.{Primitive}
 use Rattle.lang_meaning.specs.declared.primitive.Primitive.TheVariants.{Add, Subtract, Multiply, Divide, Modulo, NumberEqual, NumberNotEqual, NumberLess, NumberAtMost, NumberGreater, NumberAtLeast, Same, IsNull, IsCons, IsInteger, IsSymbol, IsCharacter, IsString, IsVector, IsFunction, IsGeneric, Cons, Car, Cdr, SetCar, SetCdr, MakeString, MakeVector, StringLength, VectorLength, CharAt, VectorRef, SetCharAt, SetVectorRef, CharCode, CodeChar, SymbolName, SymbolSerial, Gensym, ClassOf, ClassName, IsSubclass, IsInstance, Allocate, SlotCount, SlotPlace, SlotRef, SlotSet, SlotBound, SlotInitargs, SlotInitform, Continuable, StandardInput, StandardOutput, PutChar, IsFreshLine, GetByte, PeekByte}
 use Rattle.mid_code.specs.declared.program.MidProcedure.{MidProcedure}
-use Rattle.mid_code.specs.MidCode.{MidStep, perform, choose, repeat, with_block, return_word, cut_to, halt_with, end_unhandled, MidCode, no_step, step_and, code_of}
-use Rattle.mid_code.specs.Costs.{operation_cost, test_cost, jump_cost, record_cost, give_back_cost, return_cost, cut_cost, halt_cost, unhandled_cost, entry_cost}
+use Rattle.mid_code.specs.MidCode.{MidStep, perform, choose, switch, repeat, with_block, lend, return_word, cut_to, halt_with, end_unhandled, MidCode, no_step, step_and, MidCodes, no_code, code_and, code_of}
+use Rattle.mid_code.specs.Costs.{operation_cost, test_cost, table_cost, jump_cost, record_cost, give_back_cost, return_cost, cut_cost, halt_cost, unhandled_cost, entry_cost}
 
 abbrev mutual
   pub step_cost : MidStep → ℕ
   step_cost (perform o) = operation_cost o
   step_cost (choose t first second) = test_cost + code_cost first + jump_cost + code_cost second + jump_cost
+  step_cost (switch r codes) = test_cost + codes_cost codes
   step_cost (repeat c head t body) = code_cost head + test_cost + code_cost body + jump_cost
   step_cost (with_block b n w inside landing) = record_cost + code_cost inside + give_back_cost + jump_cost + code_cost landing + give_back_cost
+  step_cost (lend b n inside) = record_cost + code_cost inside + give_back_cost
   step_cost (return_word r) = return_cost
   step_cost (cut_to b w) = cut_cost
   step_cost (halt_with r) = halt_cost
-  step_cost (end_unhandled class site) = unhandled_cost
+  step_cost (end_unhandled class site condition) = unhandled_cost
 
   pub code_cost : MidCode → ℕ
   code_cost no_step = 0
   code_cost (step_and s c) = step_cost s + code_cost c
+
+  pub codes_cost : MidCodes → ℕ
+  codes_cost no_code = 0
+  codes_cost (code_and c codes) = table_cost + code_cost c + jump_cost + codes_cost codes
 
 abbrev pub procedure_cost : MidProcedure → ℕ
 procedure_cost p = entry_cost p.parameters + code_cost (code_of p.body)

@@ -11,10 +11,10 @@ use Rattle.mid_code.specs.declared.operation.Operation.TheVariants.{Move, Consta
 use Rattle.mid_code.specs.declared.operation.Test.{Test}
 use Rattle.mid_code.specs.declared.program.MidProcedure.{MidProcedure}
 use Rattle.mid_code.specs.declared.program.MidProgram.{MidProgram}
-use Rattle.mid_code.specs.MidCode.{MidStep, perform, choose, repeat, with_block, return_word, cut_to, halt_with, end_unhandled, MidCode, no_step, step_and, code_of}
-use Rattle.mid_code.specs.Arena.{Block, activation_frame, closed_record, is_record, is_open, record_of, lent_from, with_blocks, blocks_from, outside_of, blocks_outside, blocks_closed}
+use Rattle.mid_code.specs.MidCode.{MidStep, perform, choose, switch, repeat, with_block, lend, return_word, cut_to, halt_with, end_unhandled, MidCode, no_step, step_and, MidCodes, no_code, code_and, code_of}
+use Rattle.mid_code.specs.Arena.{Block, activation_frame, closed_record, is_record, is_open, record_of, lent_block, lent_from, with_blocks, blocks_from, outside_of, blocks_outside, blocks_closed}
 use Rattle.mid_code.specs.State.{Registers, MidState, End, falls, returns, cuts, no_level, no_turn, stuck, MidOutcome, Next, ends, with_arena, gives, go_on, with_some, choose_by, with_registers, jumped, landed}
-use Rattle.mid_code.specs.Meaning.{store, cut, give_back, run_landing, with_record, get_from, test, Task, enter, again, Context, context_of, called, leaves, count, with_callee, operate, exec, exec_step, run_procedure, run_task, turns, levels, at_top, runs}
+use Rattle.mid_code.specs.Meaning.{store, cut, give_back, run_landing, with_record, with_lent, get_from, test, Task, enter, again, Context, context_of, called, leaves, count, with_callee, operate, exec, exec_step, exec_number, run_procedure, run_task, turns, levels, at_top, runs}
 use Rattle.mid_code.specs.BlockLaw.{OuterPart, is_innermost_open, CutBlocks, CodeEnded, ProcedureEnded, TaskEnded, context_in, LawOfBlocks}
 
 -- blocks
@@ -234,6 +234,17 @@ with_record_ended block words word inside landing rs z g h =
     (λ w rs' y same. run_landing_ended (length z.arena.blocks) word landing (record_of words) z.arena.blocks w rs' y h same))
     (λ t. record { blocks = tt })
 
+-- a block that is lent is passed by cuts, as a record that is closed
+with_lent_ended :
+    (block words : ℕ) (inside : Next) (rs : Registers) (z : MidState) → ((rs : Registers) (y : MidState) → CodeEnded y.arena.blocks (inside rs y))
+    → CodeEnded z.arena.blocks (with_lent block words inside rs z)
+with_lent_ended block words inside rs z h =
+    choose_ended (CodeEnded z.arena.blocks) _ _ _ rs z
+    (λ t. choose_ended (CodeEnded z.arena.blocks) _ _ _ rs z
+    (λ u. closed_ended (length z.arena.blocks) (lent_block words) z.arena.blocks _ refl (h _ _))
+    (λ u. record { blocks = tt }))
+    (λ t. stuck_there z.arena.blocks rs z)
+
 -- operations
 
 store_ended : (a w : ℕ) (next : Next) (rs : Registers) (z : MidState) → ((rs : Registers) (y : MidState) → CodeEnded y.arena.blocks (next rs y)) → CodeEnded z.arena.blocks (store a w next rs z)
@@ -303,6 +314,8 @@ module _ (c : Context) (below : TasksEnd c.below) (further : TasksEnd c.further)
     step_ended (perform o) rs z = operate_ended o rs _
     step_ended (choose t first second) rs z =
         test_ended t _ _ rs z (λ rs' y. jumped_ended y.arena.blocks _ (exec_ended first rs' y)) (λ rs' y. jumped_ended y.arena.blocks _ (exec_ended second rs' y))
+    step_ended (switch r codes) rs z =
+        some_ended z.arena.blocks _ _ rs _ (λ n. jumped_ended z.arena.blocks _ (number_ended codes n rs _))
     step_ended (repeat how head t body) rs z =
         go_on_ended z.arena.blocks _ _ (exec_ended head rs z) (λ rs' y. test_ended t _ _ rs' y
         (λ rs'' x. go_on_ended x.arena.blocks _ _ (jumped_ended x.arena.blocks _ (exec_ended body rs'' x))
@@ -310,13 +323,20 @@ module _ (c : Context) (below : TasksEnd c.below) (further : TasksEnd c.further)
         (λ rs'' x. fell rs'' x))
     step_ended (with_block block words word inside landing) rs z =
         with_record_ended block words word (λ rs' y. exec c inside rs' y) (λ rs' y. exec c landing rs' y) rs z (λ rs' y. exec_ended inside rs' y) (λ rs' y. exec_ended landing rs' y)
+    step_ended (lend block words inside) rs z =
+        some_ended z.arena.blocks _ _ rs _ (λ n. with_lent_ended block n (λ rs' y. exec c inside rs' y) rs _ (λ rs' y. exec_ended inside rs' y))
     step_ended (return_word r) rs z =
         some_ended z.arena.blocks _ _ rs _ (λ w. record { blocks = record { inner = []; parts = refl } })
     step_ended (cut_to block word) rs z =
         some_ended z.arena.blocks _ _ rs _ (λ b. some_ended z.arena.blocks _ _ rs _ (λ w. cut_ended b w rs _))
     step_ended (halt_with r) rs z = some_ended z.arena.blocks _ _ rs _ (λ w. record { blocks = tt })
-    step_ended (end_unhandled class site) rs z =
-        some_ended z.arena.blocks _ _ rs _ (λ a. some_ended z.arena.blocks _ _ rs _ (λ b. record { blocks = tt }))
+    step_ended (end_unhandled class site condition) rs z =
+        some_ended z.arena.blocks _ _ rs _ (λ a. some_ended z.arena.blocks _ _ rs _ (λ b. some_ended z.arena.blocks _ _ rs _ (λ w. record { blocks = tt })))
+
+    number_ended : (codes : MidCodes) (n : ℕ) (rs : Registers) (z : MidState) → CodeEnded z.arena.blocks (exec_number c codes n rs z)
+    number_ended no_code n rs z = stuck_there z.arena.blocks rs z
+    number_ended (code_and code codes) zero rs z = exec_ended code rs z
+    number_ended (code_and code codes) (suc n) rs z = number_ended codes n rs z
 
   procedure_ended : (p : MidProcedure) (arguments : List ℕ) (z : MidState) → ProcedureEnded z.arena.blocks (run_procedure c p arguments z)
   procedure_ended p arguments z =

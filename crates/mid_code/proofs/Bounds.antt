@@ -13,11 +13,11 @@ use Rattle.mid_code.specs.declared.operation.Operation.{Operation}
 use Rattle.mid_code.specs.declared.operation.Operation.TheVariants.{Move, Constant, Compute, Load, Store, Request, Draw, Put, Get, Call}
 use Rattle.mid_code.specs.declared.operation.Test.{Test}
 use Rattle.mid_code.specs.declared.program.MidProcedure.{MidProcedure}
-use Rattle.mid_code.specs.MidCode.{MidStep, perform, choose, repeat, with_block, return_word, cut_to, halt_with, end_unhandled, MidCode, no_step, step_and, code_of}
-use Rattle.mid_code.specs.Arena.{Arena, Block, activation_frame, record_of, begin_of, lent_from, left, is_lent, word_at, emptied, with_word, with_heap, with_new_block, with_blocks}
+use Rattle.mid_code.specs.MidCode.{MidStep, perform, choose, switch, repeat, with_block, lend, return_word, cut_to, halt_with, end_unhandled, MidCode, no_step, step_and, MidCodes, no_code, code_and, code_of}
+use Rattle.mid_code.specs.Arena.{Arena, Block, activation_frame, header_words, record_of, lent_block, begin_of, lent_from, left, is_lent, word_at, emptied, with_word, with_heap, with_new_block, with_blocks}
 use Rattle.mid_code.specs.State.{Registers, MidState, End, falls, returns, cuts, stuck, MidOutcome, Next, ends, charged, gives, go_on, go_on_from, with_some, choose_by, with_arena, with_register, with_registers, jumped, landed, landed_from}
-use Rattle.mid_code.specs.Checked.{is_register, is_block_size, operation_fits, test_fits, step_fits, code_fits, is_checked, is_sound_in}
-use Rattle.mid_code.specs.Meaning.{store, where_left, lay, request, draw, cut, give_back, run_inside, run_landing, with_record, get_from, test, Task, enter, again, Context, context_of, called, called_from, left_from, leaves, count, with_callee, operate, exec, exec_step, run_procedure, run_task, turns, levels, at_top, at_top_from, runs}
+use Rattle.mid_code.specs.Checked.{is_register, is_block_size, operation_fits, test_fits, step_fits, code_fits, codes_fit, is_checked, is_sound_in}
+use Rattle.mid_code.specs.Meaning.{store, where_left, lay, request, draw, cut, give_back, run_inside, run_landing, with_record, run_lent, with_lent, get_from, test, Task, enter, again, Context, context_of, called, called_from, left_from, leaves, count, with_callee, operate, exec, exec_step, exec_number, run_procedure, run_task, turns, levels, at_top, at_top_from, runs}
 use Rattle.mid_code.specs.Bounds.{IsWord, AreWords, AreWordsOrNone, BoundedArena, BoundedState, BoundedEnd, BoundedPoint, BoundedOutcome}
 use Rattle.mid_code.specs.Law.{LawOfWords}
 use Rattle.mid_code.proofs.Growth.{length-emptied}
@@ -220,13 +220,13 @@ run_landing_bounded outside word landing w rs z b h k =
     (k _ _ (set_point rs _ word w (with_arena_bounded _ rs z b (blocks_arena bs z.arena b.state.arena)) h))
     (λ rs' y c. give_back_bounded outside rs' y c))
 
--- the address of a record that was laid where there was room
-record_bounded :
-    (words : ℕ) (arena : Arena) → BoundedArena arena → (record_of words).words ≤ left arena
-    → IsWord (lent_from (length (with_new_block (record_of words) arena).memory) (with_new_block (record_of words) arena).blocks)
-record_bounded words arena b h =
-    let same : length (with_new_block (record_of words) arena).memory ≡ length arena.memory = length-emptied _ (words + 2) arena.memory in
-    omega (arith, same, b.size, h)
+-- the address of the words that a new block lends, where there was room
+address_bounded :
+    (block : Block) (arena : Arena) → BoundedArena arena → header_words ≤ block.words → block.words ≤ left arena
+    → IsWord (lent_from (length (with_new_block block arena).memory) (with_new_block block arena).blocks)
+address_bounded block arena b some h =
+    let same : length (with_new_block block arena).memory ≡ length arena.memory = length-emptied _ block.words arena.memory in
+    omega (arith, same, b.size, some, h)
 
 with_record_bounded :
     (block words word : ℕ) (inside landing : Next) (rs : Registers) (z : MidState) → BoundedPoint rs z → words < 2 ^ 24
@@ -237,8 +237,24 @@ with_record_bounded block words word inside landing rs z b h k l =
     (λ rs' y. landed (length z.arena.blocks) (run_landing (length z.arena.blocks) word landing) (run_inside (length z.arena.blocks) block inside rs' y)) rs _
     (charged_bounded _ rs z b) (omega (arith, h))
     (λ t c. landed_bounded (length z.arena.blocks) _ _
-    (run_inside_bounded _ block inside rs _ c (record_bounded words z.arena b.state.arena t) k)
+    (run_inside_bounded _ block inside rs _ c (address_bounded (record_of words) z.arena b.state.arena (omega arith) t) k)
     (λ w rs'' x g d. run_landing_bounded _ word landing w rs'' x d g l))
+
+run_lent_bounded :
+    (outside block : ℕ) (inside : Next) (rs : Registers) (z : MidState) → BoundedPoint rs z → IsWord (lent_from (length z.arena.memory) z.arena.blocks)
+    → ((rs : Registers) (y : MidState) → BoundedPoint rs y → BoundedOutcome (inside rs y)) → BoundedOutcome (run_lent outside block inside rs z)
+run_lent_bounded outside block inside rs z b h k =
+    go_on_bounded _ (give_back outside) (k _ z (set_point rs z block _ b h)) (λ rs' y c. give_back_bounded outside rs' y c)
+
+with_lent_bounded :
+    (block words : ℕ) (inside : Next) (rs : Registers) (z : MidState) → BoundedPoint rs z
+    → ((rs : Registers) (y : MidState) → BoundedPoint rs y → BoundedOutcome (inside rs y)) → BoundedOutcome (with_lent block words inside rs z)
+with_lent_bounded block words inside rs z b k =
+    choose_bounded (is_block_size words) _ (ends stuck) rs z
+    (λ t. let small : words < 2 ^ 24 = ltb-true words (2 ^ 24) t in
+    lay_bounded (lent_block words) (run_lent (length z.arena.blocks) block inside) rs z b (omega (arith, small))
+    (λ room c. run_lent_bounded _ block inside rs _ c (address_bounded (lent_block words) z.arena b.state.arena (omega arith) room) k))
+    (λ t. stuck_bounded rs z b)
 
 test_bounded :
     (t : Test) (first second : Next) (rs : Registers) (z : MidState) → BoundedPoint rs z → ((y : MidState) → BoundedPoint rs y → BoundedOutcome (first rs y))
@@ -309,6 +325,9 @@ module _ (c : Context) (checked : AreChecked c.procedures) (below : TasksBounded
         test_bounded t _ _ rs z b
         (λ y d. jumped_bounded _ (exec_bounded n first rs y (second_true (test_fits n t) _ two) d))
         (λ y d. jumped_bounded _ (exec_bounded n second rs y (second_true (test_fits n t && code_fits n first) _ h) d))
+    step_bounded n (switch r codes) rs z h b =
+        let d = charged_bounded _ rs z b in
+        with_register_bounded r _ rs _ d (λ m e. jumped_bounded _ (number_bounded n codes m rs _ (second_true (is_register n r) _ h) d))
     step_bounded n (repeat how head t body) rs z h b =
         let two : (code_fits n head && test_fits n t) ≡ true = first_true _ (code_fits n body) h in
         go_on_bounded _ _ (exec_bounded n head rs z (first_true _ (test_fits n t) two) b)
@@ -325,6 +344,10 @@ module _ (c : Context) (checked : AreChecked c.procedures) (below : TasksBounded
         (λ rs' y d. exec_bounded n inside rs' y (second_true (is_register n block && is_block_size words && is_register n word) _ four) d)
         (λ rs' y d.
         exec_bounded n landing rs' y (second_true (is_register n block && is_block_size words && is_register n word && code_fits n inside) _ h) d)
+    step_bounded n (lend block words inside) rs z h b =
+        let d = charged_bounded _ rs z b in
+        with_register_bounded words _ rs _ d (λ m e. with_lent_bounded block m (λ rs' y. exec c inside rs' y) rs _ d
+        (λ rs' y f. exec_bounded n inside rs' y (second_true (is_register n block && is_register n words) _ h) f))
     step_bounded n (return_word r) rs z h b =
         with_register_bounded r _ rs _ (charged_bounded _ rs z b) (λ w e. record { end = e; point = charged_bounded _ rs z b })
     step_bounded n (cut_to block word) rs z h b =
@@ -332,9 +355,17 @@ module _ (c : Context) (checked : AreChecked c.procedures) (below : TasksBounded
         with_register_bounded block _ rs _ d (λ a e. with_register_bounded word _ rs _ d (λ w f. cut_bounded a w rs _ d f))
     step_bounded n (halt_with r) rs z h b =
         with_register_bounded r _ rs _ (charged_bounded _ rs z b) (λ w e. record { end = e; point = charged_bounded _ rs z b })
-    step_bounded n (end_unhandled class site) rs z h b =
+    step_bounded n (end_unhandled class site condition) rs z h b =
         let d = charged_bounded _ rs z b in
-        with_register_bounded class _ rs _ d (λ a e. with_register_bounded site _ rs _ d (λ w f. record { end = (e, f); point = d }))
+        with_register_bounded class _ rs _ d (λ a e. with_register_bounded site _ rs _ d (λ w f.
+        with_register_bounded condition _ rs _ d (λ v g. record { end = (e, f, g); point = d })))
+
+    number_bounded :
+        (n : ℕ) (codes : MidCodes) (m : ℕ) (rs : Registers) (z : MidState) → codes_fit n codes ≡ true → BoundedPoint rs z
+        → BoundedOutcome (exec_number c codes m rs z)
+    number_bounded n no_code m rs z h b = stuck_bounded rs z b
+    number_bounded n (code_and code codes) zero rs z h b = exec_bounded n code rs z (first_true _ (codes_fit n codes) h) b
+    number_bounded n (code_and code codes) (suc m) rs z h b = number_bounded n codes m rs z (second_true (code_fits n code) _ h) b
 
   enter_bounded : (p : MidProcedure) (arguments : List ℕ) (z : MidState) → is_checked p ≡ true → AreWords arguments → BoundedState z → BoundedOutcome (run_procedure c p arguments z)
   enter_bounded p arguments z h g b =

@@ -11,10 +11,10 @@ use Rattle.mid_code.specs.declared.operation.Operation.{Operation}
 use Rattle.mid_code.specs.declared.operation.Operation.TheVariants.{Move, Constant, Compute, Load, Store, Request, Draw, Put, Get, Call}
 use Rattle.mid_code.specs.declared.operation.Test.{Test}
 use Rattle.mid_code.specs.declared.program.MidProcedure.{MidProcedure}
-use Rattle.mid_code.specs.MidCode.{MidStep, perform, choose, repeat, with_block, return_word, cut_to, halt_with, end_unhandled, MidCode, no_step, step_and, code_of}
-use Rattle.mid_code.specs.Arena.{Arena, Block, activation_frame, record_of, emptied, with_word, with_heap, with_new_block, with_blocks}
+use Rattle.mid_code.specs.MidCode.{MidStep, perform, choose, switch, repeat, with_block, lend, return_word, cut_to, halt_with, end_unhandled, MidCode, no_step, step_and, MidCodes, no_code, code_and, code_of}
+use Rattle.mid_code.specs.Arena.{Arena, Block, activation_frame, record_of, lent_block, emptied, with_word, with_heap, with_new_block, with_blocks}
 use Rattle.mid_code.specs.State.{Registers, MidState, End, falls, returns, cuts, MidOutcome, Next, ends, charged, gives, go_on, go_on_from, with_some, choose_by, with_arena, with_registers, jumped, landed, landed_from}
-use Rattle.mid_code.specs.Meaning.{store, where_left, lay, give_back, close, run_inside, run_landing, with_record, get_from, test, Task, enter, again, Context, context_of, called, called_from, left_from, leaves, count, with_callee, operate, exec, exec_step, run_task, turns, levels, at_top, at_top_from}
+use Rattle.mid_code.specs.Meaning.{store, where_left, lay, give_back, close, run_inside, run_landing, with_record, run_lent, with_lent, get_from, test, Task, enter, again, Context, context_of, called, called_from, left_from, leaves, count, with_callee, operate, exec, exec_step, exec_number, run_task, turns, levels, at_top, at_top_from}
 use Rattle.mid_code.specs.Law.{Enlarged, Grown}
 
 pub same_enlarged : (a : Arena) → Enlarged a a
@@ -171,6 +171,15 @@ with_record_grown block words word inside landing rs z g h =
     (λ rs' y. landed_grown (length z.arena.blocks) _ _ y (run_inside_grown _ block inside rs' y g)
     (λ w rs'' x. run_landing_grown _ word landing w rs'' x h)))
 
+run_lent_grown : (outside block : ℕ) (inside : Next) (rs : Registers) (z : MidState) → ((rs : Registers) (y : MidState) → Grown y (inside rs y).state) → Grown z (run_lent outside block inside rs z).state
+run_lent_grown outside block inside rs z h = go_on_grown _ (give_back outside) z (h _ z) (λ rs' y. give_back_grown outside rs' y)
+
+with_lent_grown : (block words : ℕ) (inside : Next) (rs : Registers) (z : MidState) → ((rs : Registers) (y : MidState) → Grown y (inside rs y).state) → Grown z (with_lent block words inside rs z).state
+with_lent_grown block words inside rs z h =
+    choose_grown _ _ _ rs z
+    (lay_grown (lent_block words) (run_lent (length z.arena.blocks) block inside) rs z (λ rs' y. run_lent_grown _ block inside rs' y h))
+    (same_grown z)
+
 get_grown : (bytes : List ℕ) (to : ℕ) (rs : Registers) (z : MidState) → Grown z (get_from bytes to rs z).state
 get_grown [] to rs z = same_grown z
 get_grown (byte ∷ bytes) to rs z = record { arena = same_enlarged z.arena; printed = ([], sym (append-nil z.printed)); cost = omega arith }
@@ -228,19 +237,30 @@ module _ (c : Context) (below : TasksGrow c.below) (further : TasksGrow c.furthe
     step_grown (perform o) rs z = both_grown (charged_grown _ z) (operate_grown o rs _)
     step_grown (choose t first second) rs z =
         test_grown t _ _ rs z (λ rs' y. jumped_grown _ y (exec_grown first rs' y)) (λ rs' y. jumped_grown _ y (exec_grown second rs' y))
+    step_grown (switch r codes) rs z =
+        both_grown (charged_grown _ z) (with_some_grown _ _ rs _ (λ n. jumped_grown _ _ (number_grown codes n rs _)))
     step_grown (repeat how head t body) rs z =
         go_on_grown _ _ z (exec_grown head rs z) (λ rs' y. test_grown t _ _ rs' y
         (λ rs'' x. go_on_grown _ _ x (jumped_grown _ x (exec_grown body rs'' x)) (λ rs''' w. count_grown how _ w))
         (λ rs'' x. same_grown x))
     step_grown (with_block block words word inside landing) rs z =
         with_record_grown block words word (λ rs' y. exec c inside rs' y) (λ rs' y. exec c landing rs' y) rs z (λ rs' y. exec_grown inside rs' y) (λ rs' y. exec_grown landing rs' y)
+    step_grown (lend block words inside) rs z =
+        both_grown (charged_grown _ z)
+        (with_some_grown _ _ rs _ (λ n. with_lent_grown block n (λ rs' y. exec c inside rs' y) rs _ (λ rs' y. exec_grown inside rs' y)))
     step_grown (return_word r) rs z = both_grown (charged_grown _ z) (with_some_grown _ _ rs _ (λ w. same_grown _))
     step_grown (cut_to block word) rs z =
         both_grown (charged_grown _ z)
         (with_some_grown _ _ rs _ (λ b. with_some_grown _ _ rs _ (λ w. with_some_grown _ _ rs _ (λ bs. arena_grown _ _ (blocks_enlarged bs z.arena)))))
     step_grown (halt_with r) rs z = both_grown (charged_grown _ z) (with_some_grown _ _ rs _ (λ w. same_grown _))
-    step_grown (end_unhandled class site) rs z =
-        both_grown (charged_grown _ z) (with_some_grown _ _ rs _ (λ a. with_some_grown _ _ rs _ (λ b. same_grown _)))
+    step_grown (end_unhandled class site condition) rs z =
+        both_grown (charged_grown _ z)
+        (with_some_grown _ _ rs _ (λ a. with_some_grown _ _ rs _ (λ b. with_some_grown _ _ rs _ (λ w. same_grown _))))
+
+    number_grown : (codes : MidCodes) (n : ℕ) (rs : Registers) (z : MidState) → Grown z (exec_number c codes n rs z).state
+    number_grown no_code n rs z = same_grown z
+    number_grown (code_and code codes) zero rs z = exec_grown code rs z
+    number_grown (code_and code codes) (suc n) rs z = number_grown codes n rs z
 
   pub task_grown : (task : Task) (z : MidState) → Grown z (run_task c task z).state
   task_grown (enter p arguments) z =

@@ -10,10 +10,10 @@ use Rattle.mid_code.specs.declared.operation.Operation.TheVariants.{Call}
 use Rattle.mid_code.specs.declared.operation.Test.{Test}
 use Rattle.mid_code.specs.declared.program.MidProcedure.{MidProcedure}
 use Rattle.mid_code.specs.declared.program.MidProgram.{MidProgram}
-use Rattle.mid_code.specs.MidCode.{MidStep, perform, choose, repeat, with_block, MidCode, no_step, step_and, code_of}
-use Rattle.mid_code.specs.Arena.{Block, activation_frame, record_of}
+use Rattle.mid_code.specs.MidCode.{MidStep, perform, choose, switch, repeat, with_block, lend, MidCode, no_step, step_and, MidCodes, no_code, code_and, code_of}
+use Rattle.mid_code.specs.Arena.{Block, activation_frame, record_of, lent_block}
 use Rattle.mid_code.specs.State.{Registers, MidState, End, falls, returns, cuts, no_room, no_level, no_turn, halts, unhandled, exhausted, stuck, MidOutcome, Next, ends, go_on, with_some, choose_by, with_registers, jumped, landed}
-use Rattle.mid_code.specs.Meaning.{lay, give_back, run_inside, run_landing, with_record, test, Task, enter, again, Context, context_of, called, leaves, count, with_callee, operate, exec, exec_step, run_task, turns, levels, at_top, runs}
+use Rattle.mid_code.specs.Meaning.{lay, give_back, run_inside, run_landing, with_record, run_lent, with_lent, test, Task, enter, again, Context, context_of, called, leaves, count, with_callee, operate, exec, exec_step, exec_number, run_task, turns, levels, at_top, runs}
 use Rattle.mid_code.specs.Law.{Grown, OutcomeExtends, LawOfPrinting, LawOfCosts, LawOfArenas, LawOfLevels}
 use Rattle.mid_code.proofs.Growth.{same_grown, charged_grown, go_on_grown, with_some_grown, jumped_grown, landed_grown, called_grown, leaves_grown, at_top_grown, run_landing_grown, give_back_grown, after_inside_grown, test_grown, TasksGrow, exec_grown, count_grown, turns_grow, levels_grow}
 
@@ -46,7 +46,7 @@ go_on_extends r s f g x h k = from r.end r.registers r.state s x
     from no_level rs z s x = no_level_extends rs z _ (go_on_grown s g z x.later k)
     from no_turn rs z s x = no_turn_extends rs z _ (go_on_grown s g z x.later k)
     from (halts w) rs z s x = reached_extends (halts w) rs z (λ v. go_on v g) _ s (x.same tt) (same_extends _)
-    from (unhandled class site) rs z s x = reached_extends (unhandled class site) rs z (λ v. go_on v g) _ s (x.same tt) (same_extends _)
+    from (unhandled class site condition) rs z s x = reached_extends (unhandled class site condition) rs z (λ v. go_on v g) _ s (x.same tt) (same_extends _)
     from exhausted rs z s x = reached_extends exhausted rs z (λ v. go_on v g) _ s (x.same tt) (same_extends _)
     from stuck rs z s x = reached_extends stuck rs z (λ v. go_on v g) _ s (x.same tt) (same_extends _)
 
@@ -91,7 +91,7 @@ landed_extends outside f g r s x h k = from r.end r.registers r.state s x
     from no_level rs z s x = no_level_extends rs z _ (landed_grown outside g s z x.later k)
     from no_turn rs z s x = no_turn_extends rs z _ (landed_grown outside g s z x.later k)
     from (halts w) rs z s x = reached_extends (halts w) rs z (landed outside g) _ s (x.same tt) (same_extends _)
-    from (unhandled class site) rs z s x = reached_extends (unhandled class site) rs z (landed outside g) _ s (x.same tt) (same_extends _)
+    from (unhandled class site condition) rs z s x = reached_extends (unhandled class site condition) rs z (landed outside g) _ s (x.same tt) (same_extends _)
     from exhausted rs z s x = reached_extends exhausted rs z (landed outside g) _ s (x.same tt) (same_extends _)
     from stuck rs z s x = reached_extends stuck rs z (landed outside g) _ s (x.same tt) (same_extends _)
 
@@ -107,7 +107,7 @@ called_extends r s to own x = from r.end r.registers r.state s x
     from no_level rs z s x = no_level_extends own z _ (called_grown s to own z x.later)
     from no_turn rs z s x = no_turn_extends own z _ (called_grown s to own z x.later)
     from (halts w) rs z s x = reached_extends (halts w) rs z (λ v. called v to own) _ s (x.same tt) (same_extends _)
-    from (unhandled class site) rs z s x = reached_extends (unhandled class site) rs z (λ v. called v to own) _ s (x.same tt) (same_extends _)
+    from (unhandled class site condition) rs z s x = reached_extends (unhandled class site condition) rs z (λ v. called v to own) _ s (x.same tt) (same_extends _)
     from exhausted rs z s x = reached_extends exhausted rs z (λ v. called v to own) _ s (x.same tt) (same_extends _)
     from stuck rs z s x = reached_extends stuck rs z (λ v. called v to own) _ s (x.same tt) (same_extends _)
 
@@ -123,7 +123,7 @@ leaves_extends bs r s x = from r.end r.registers r.state s x
     from no_level rs z s x = no_level_extends rs z _ (leaves_grown bs s z x.later)
     from no_turn rs z s x = no_turn_extends rs z _ (leaves_grown bs s z x.later)
     from (halts w) rs z s x = reached_extends (halts w) rs z (leaves bs) _ s (x.same tt) (same_extends _)
-    from (unhandled class site) rs z s x = reached_extends (unhandled class site) rs z (leaves bs) _ s (x.same tt) (same_extends _)
+    from (unhandled class site condition) rs z s x = reached_extends (unhandled class site condition) rs z (leaves bs) _ s (x.same tt) (same_extends _)
     from exhausted rs z s x = reached_extends exhausted rs z (leaves bs) _ s (x.same tt) (same_extends _)
     from stuck rs z s x = reached_extends stuck rs z (leaves bs) _ s (x.same tt) (same_extends _)
 
@@ -161,6 +161,21 @@ with_record_extends block words word f f' g g' rs z h k e =
     (run_inside_extends _ block f g rs' y h) (λ w rs'' x. run_landing_extends _ word f' g' w rs'' x k)
     (λ w rs'' x. run_landing_grown _ word g' w rs'' x e))
 
+run_lent_extends :
+    (outside block : ℕ) (f g : Next) (rs : Registers) (z : MidState) → ((rs : Registers) (y : MidState) → OutcomeExtends (f rs y) (g rs y))
+    → OutcomeExtends (run_lent outside block f rs z) (run_lent outside block g rs z)
+run_lent_extends outside block f g rs z h =
+    go_on_extends _ _ (give_back outside) (give_back outside) (h _ z) (λ rs' y. same_extends _) (λ rs' y. give_back_grown outside rs' y)
+
+with_lent_extends :
+    (block words : ℕ) (f g : Next) (rs : Registers) (z : MidState) → ((rs : Registers) (y : MidState) → OutcomeExtends (f rs y) (g rs y))
+    → OutcomeExtends (with_lent block words f rs z) (with_lent block words g rs z)
+with_lent_extends block words f g rs z h =
+    choose_extends _ _ (ends stuck) _ (ends stuck) rs z
+    (lay_extends (lent_block words) (run_lent (length z.arena.blocks) block f) (run_lent (length z.arena.blocks) block g) rs z
+    (λ rs' y. run_lent_extends _ block f g rs' y h))
+    (same_extends _)
+
 at_top_extends : (r s : MidOutcome) → OutcomeExtends r s → OutcomeExtends (at_top r) (at_top s)
 unfolding at_top
 at_top_extends r s x = from r.end r.registers r.state s x
@@ -173,7 +188,7 @@ at_top_extends r s x = from r.end r.registers r.state s x
     from no_level rs z s x = no_level_extends rs z _ (at_top_grown s z x.later)
     from no_turn rs z s x = no_turn_extends rs z _ (at_top_grown s z x.later)
     from (halts w) rs z s x = reached_extends (halts w) rs z at_top _ s (x.same tt) (same_extends _)
-    from (unhandled class site) rs z s x = reached_extends (unhandled class site) rs z at_top _ s (x.same tt) (same_extends _)
+    from (unhandled class site condition) rs z s x = reached_extends (unhandled class site condition) rs z at_top _ s (x.same tt) (same_extends _)
     from exhausted rs z s x = reached_extends exhausted rs z at_top _ s (x.same tt) (same_extends _)
     from stuck rs z s x = reached_extends stuck rs z at_top _ s (x.same tt) (same_extends _)
 
@@ -219,6 +234,8 @@ module _ (procedures : List MidProcedure) (f f' g g' : Task → MidState → Mid
     step_extends (perform o) rs z = operate_extends o rs _
     step_extends (choose t first second) rs z =
         test_extends t _ _ _ _ rs z (λ rs' y. jumped_extends _ _ (exec_extends first rs' y)) (λ rs' y. jumped_extends _ _ (exec_extends second rs' y))
+    step_extends (switch r codes) rs z =
+        with_some_extends _ _ _ rs _ (λ n. jumped_extends _ _ (number_extends codes n rs _))
     step_extends (repeat how head t body) rs z =
         go_on_extends _ _ _ _ (exec_extends head rs z)
         (λ rs' y. test_extends t _ _ _ _ rs' y
@@ -233,7 +250,15 @@ module _ (procedures : List MidProcedure) (f f' g g' : Task → MidState → Mid
         with_record_extends block words word (λ rs' y. exec one inside rs' y) (λ rs' y. exec one landing rs' y)
         (λ rs' y. exec other inside rs' y) (λ rs' y. exec other landing rs' y) rs z (λ rs' y. exec_extends inside rs' y) (λ rs' y. exec_extends landing rs' y)
         (λ rs' y. exec_grown other below_grows further_grows landing rs' y)
+    step_extends (lend block words inside) rs z =
+        with_some_extends _ _ _ rs _ (λ n.
+        with_lent_extends block n (λ rs' y. exec one inside rs' y) (λ rs' y. exec other inside rs' y) rs _ (λ rs' y. exec_extends inside rs' y))
     step_extends w rs z = same_extends _
+
+    number_extends : (codes : MidCodes) (n : ℕ) (rs : Registers) (z : MidState) → OutcomeExtends (exec_number one codes n rs z) (exec_number other codes n rs z)
+    number_extends no_code n rs z = same_extends _
+    number_extends (code_and code codes) zero rs z = exec_extends code rs z
+    number_extends (code_and code codes) (suc n) rs z = number_extends codes n rs z
 
   pub task_extends : (task : Task) (z : MidState) → OutcomeExtends (run_task one task z) (run_task other task z)
   task_extends (enter p arguments) z =

@@ -2,7 +2,8 @@
 -- the code, the heap, which grows up, words that are left, and the stack, which grows down from the arena's end.
 use Rattle.std.specs.Prelude.{ℕ, zero, suc, ◌+◌, ◌-◌, ◌*◌, ◌/◌, ◌%◌, Bool, true, false, ◌&&◌, ◌||◌, ◌==◌, nat_lt, nat_le, List, [], ◌∷◌, length, slice_get, slice_set, Option, Some, None, if◌then◌else◌}
 
--- a frame, which an activation has for itself, or a control record, which a cut may go to as long as it is open
+-- a frame, which an activation has for itself, or a control record, which a cut may go to as long as it is open; a block that is only lent
+-- is closed from the start
 pub data BlockKind : Type 0 where
   activation_frame : BlockKind
   open_record : BlockKind
@@ -31,6 +32,10 @@ header_words = 2
 -- a control record with so many words that are lent
 abbrev pub record_of : ℕ → Block
 record_of words = record { words = words + header_words; kind = open_record }
+
+-- a block that lends so many words, and that no cut goes to
+abbrev pub lent_block : ℕ → Block
+lent_block words = record { words = words + header_words; kind = closed_record }
 
 -- The word at an address stands in `memory` at a fourth of the address; it is none as long as nothing was stored there since
 -- the words were lent, so what code loads it has stored. The others but `blocks` are addresses: where the words laid beside the code

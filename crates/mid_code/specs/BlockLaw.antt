@@ -35,7 +35,7 @@ CodeBlocks (no_room asked left) before after = Unit {0}
 CodeBlocks no_level before after = Unit {0}
 CodeBlocks no_turn before after = Unit {0}
 CodeBlocks (halts w) before after = Unit {0}
-CodeBlocks (unhandled class site) before after = Unit {0}
+CodeBlocks (unhandled class site condition) before after = Unit {0}
 CodeBlocks exhausted before after = Unit {0}
 CodeBlocks stuck before after = Unit {0}
 
@@ -48,7 +48,7 @@ ProcedureBlocks (no_room asked left) before after = Unit {0}
 ProcedureBlocks no_level before after = Unit {0}
 ProcedureBlocks no_turn before after = Unit {0}
 ProcedureBlocks (halts w) before after = Unit {0}
-ProcedureBlocks (unhandled class site) before after = Unit {0}
+ProcedureBlocks (unhandled class site condition) before after = Unit {0}
 ProcedureBlocks exhausted before after = Unit {0}
 ProcedureBlocks stuck before after = Unit {0}
 

@@ -38,7 +38,7 @@ BoundedEnd (no_room asked left) = IsWord asked × IsWord left
 BoundedEnd no_level = Unit {0}
 BoundedEnd no_turn = Unit {0}
 BoundedEnd (halts w) = IsWord w
-BoundedEnd (unhandled class site) = IsWord class × IsWord site
+BoundedEnd (unhandled class site condition) = IsWord class × IsWord site × IsWord condition
 BoundedEnd exhausted = Unit {0}
 BoundedEnd stuck = Unit {0}
 

@@ -9,7 +9,7 @@ use Rattle.mid_code.specs.declared.operation.Operation.TheVariants.{Move, Consta
 use Rattle.mid_code.specs.declared.operation.Test.{Test}
 use Rattle.mid_code.specs.declared.program.MidProcedure.{MidProcedure}
 use Rattle.mid_code.specs.declared.program.MidProgram.{MidProgram}
-use Rattle.mid_code.specs.MidCode.{MidStep, perform, choose, repeat, with_block, return_word, cut_to, halt_with, end_unhandled, MidCode, no_step, step_and, code_of}
+use Rattle.mid_code.specs.MidCode.{MidStep, perform, choose, switch, repeat, with_block, lend, return_word, cut_to, halt_with, end_unhandled, MidCode, no_step, step_and, MidCodes, no_code, code_and, code_of}
 
 -- a register among so many
 abbrev pub is_register : ℕ → ℕ → Bool
@@ -19,7 +19,7 @@ is_register count r = nat_lt r count
 abbrev pub is_constant : ℕ → Bool
 is_constant word = nat_lt word (2 ^ 32)
 
--- how many words a block may have
+-- how many words a block may have; a number in a register is tested when the block is lent
 abbrev pub is_block_size : ℕ → Bool
 is_block_size words = nat_lt words (2 ^ 24)
 
@@ -53,17 +53,23 @@ abbrev mutual
   pub step_fits : ℕ → MidStep → Bool
   step_fits count (perform o) = operation_fits count o
   step_fits count (choose t first second) = test_fits count t && code_fits count first && code_fits count second
+  step_fits count (switch r codes) = is_register count r && codes_fit count codes
   step_fits count (repeat c head t body) = code_fits count head && test_fits count t && code_fits count body
   step_fits count (with_block block words word inside landing) =
       is_register count block && is_block_size words && is_register count word && code_fits count inside && code_fits count landing
+  step_fits count (lend block words inside) = is_register count block && is_register count words && code_fits count inside
   step_fits count (return_word r) = is_register count r
   step_fits count (cut_to block word) = is_register count block && is_register count word
   step_fits count (halt_with r) = is_register count r
-  step_fits count (end_unhandled class site) = is_register count class && is_register count site
+  step_fits count (end_unhandled class site condition) = is_register count class && is_register count site && is_register count condition
 
   pub code_fits : ℕ → MidCode → Bool
   code_fits count no_step = true
   code_fits count (step_and s c) = step_fits count s && code_fits count c
+
+  pub codes_fit : ℕ → MidCodes → Bool
+  codes_fit count no_code = true
+  codes_fit count (code_and c codes) = code_fits count c && codes_fit count codes
 
 -- whether a procedure is in form
 abbrev pub is_checked : MidProcedure → Bool
@@ -95,16 +101,22 @@ abbrev mutual
   pub step_calls : List MidProcedure → MidStep → Bool
   step_calls procedures (perform o) = operation_calls procedures o
   step_calls procedures (choose t first second) = code_calls procedures first && code_calls procedures second
+  step_calls procedures (switch r codes) = codes_call procedures codes
   step_calls procedures (repeat c head t body) = code_calls procedures head && code_calls procedures body
   step_calls procedures (with_block block words word inside landing) = code_calls procedures inside && code_calls procedures landing
+  step_calls procedures (lend block words inside) = code_calls procedures inside
   step_calls procedures (return_word r) = true
   step_calls procedures (cut_to block word) = true
   step_calls procedures (halt_with r) = true
-  step_calls procedures (end_unhandled class site) = true
+  step_calls procedures (end_unhandled class site condition) = true
 
   pub code_calls : List MidProcedure → MidCode → Bool
   code_calls procedures no_step = true
   code_calls procedures (step_and s c) = step_calls procedures s && code_calls procedures c
+
+  pub codes_call : List MidProcedure → MidCodes → Bool
+  codes_call procedures no_code = true
+  codes_call procedures (code_and c codes) = code_calls procedures c && codes_call procedures codes
 
 -- whether a program is in form: each of its procedures is, and so is each call
 abbrev pub is_sound_in : List MidProcedure → MidProcedure → Bool

@@ -15,14 +15,19 @@ operation_cost (Put from) = 8
 operation_cost (Get to) = 8
 operation_cost (Call to callee arguments) = 40 + 6 * length arguments
 
+-- a test, or the choice of a code by its number
 abbrev pub test_cost : ℕ
 test_cost = 12
 
--- the jump behind a branch, behind a turn, and behind the inside of a control record
+-- a code of a switch has a word in a table, which no run executes
+abbrev pub table_cost : ℕ
+table_cost = 1
+
+-- the jump behind a branch, behind a code of a switch, behind a turn, and behind the inside of a control record
 abbrev pub jump_cost : ℕ
 jump_cost = 2
 
--- a control record is laid, and its header written
+-- a control record is laid, or a block is lent, and its header written
 abbrev pub record_cost : ℕ
 record_cost = 20 + 16
 
@@ -40,7 +45,7 @@ abbrev pub halt_cost : ℕ
 halt_cost = 6
 
 abbrev pub unhandled_cost : ℕ
-unhandled_cost = 10
+unhandled_cost = 14
 
 -- the entry of a procedure with so many parameters
 abbrev pub entry_cost : ℕ → ℕ

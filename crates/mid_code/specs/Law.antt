@@ -31,7 +31,7 @@ IsReached (no_room asked left) = Unit {0}
 IsReached no_level = ⊥
 IsReached no_turn = ⊥
 IsReached (halts w) = Unit {0}
-IsReached (unhandled class site) = Unit {0}
+IsReached (unhandled class site condition) = Unit {0}
 IsReached exhausted = Unit {0}
 IsReached stuck = Unit {0}
 

@@ -9,10 +9,11 @@ use Rattle.mid_code.specs.declared.operation.Operation.TheVariants.{Move, Consta
 use Rattle.mid_code.specs.declared.operation.Test.{Test}
 use Rattle.mid_code.specs.declared.program.MidProcedure.{MidProcedure}
 use Rattle.mid_code.specs.declared.program.MidProgram.{MidProgram}
-use Rattle.mid_code.specs.MidCode.{MidStep, perform, choose, repeat, with_block, return_word, cut_to, halt_with, end_unhandled, MidCode, no_step, step_and, code_of}
+use Rattle.mid_code.specs.MidCode.{MidStep, perform, choose, switch, repeat, with_block, lend, return_word, cut_to, halt_with, end_unhandled, MidCode, no_step, step_and, MidCodes, no_code, code_and, code_of}
 use Rattle.mid_code.specs.Words.{computed, compares, address}
-use Rattle.mid_code.specs.Arena.{Block, activation_frame, record_of, lent_from, left, is_lent, word_at, with_word, with_heap, with_blocks, with_new_block, blocks_from, outside_of, blocks_outside, blocks_closed}
+use Rattle.mid_code.specs.Arena.{Block, activation_frame, record_of, lent_block, lent_from, left, is_lent, word_at, with_word, with_heap, with_blocks, with_new_block, blocks_from, outside_of, blocks_outside, blocks_closed}
 use Rattle.mid_code.specs.Costs.{operation_cost, test_cost, record_cost, give_back_cost, return_cost, cut_cost, halt_cost, unhandled_cost, entry_cost}
+use Rattle.mid_code.specs.Checked.{is_block_size}
 use Rattle.mid_code.specs.State.{Registers, first_registers, MidState, End, falls, returns, cuts, no_room, no_level, no_turn, halts, unhandled, exhausted, stuck, MidOutcome, Next, ends, charged, with_arena, gives, go_on, with_some, choose_by, where_true, with_register, with_registers, jumped, landed}
 
 -- operations on the arena
@@ -87,6 +88,18 @@ with_record block words word inside landing rs z =
     (λ rs' y. landed (length z.arena.blocks) (run_landing (length z.arena.blocks) word landing)
     (run_inside (length z.arena.blocks) block inside rs' y)) rs (charged record_cost z)
 
+-- The inside of a block that was lent, with so many blocks outside, with the address in a register. Where it falls out, the block is
+-- given back.
+abbrev pub run_lent : (outside block : ℕ) → Next → Next
+run_lent outside block inside rs z =
+    go_on (inside (slice_set rs block (Some (lent_from (length z.arena.memory) z.arena.blocks))) z) (give_back outside)
+
+-- A block of so many words is lent, with its address in a register, and the inside runs. No cut goes to it. It is stuck where a block
+-- may not have so many words.
+abbrev pub with_lent : (block words : ℕ) → (inside : Next) → Next
+with_lent block words inside rs z =
+    where_true (is_block_size words) (lay (lent_block words) (run_lent (length z.arena.blocks) block inside)) rs z
+
 -- operations on what is outside
 
 abbrev pub put : ℕ → Next
@@ -124,7 +137,7 @@ called_from (no_room asked left) to rs z = ends (no_room asked left) rs z
 called_from no_level to rs z = ends no_level rs z
 called_from no_turn to rs z = ends no_turn rs z
 called_from (halts w) to rs z = ends (halts w) rs z
-called_from (unhandled class site) to rs z = ends (unhandled class site) rs z
+called_from (unhandled class site condition) to rs z = ends (unhandled class site condition) rs z
 called_from exhausted to rs z = ends exhausted rs z
 called_from stuck to rs z = ends stuck rs z
 
@@ -140,7 +153,7 @@ left_from (no_room asked left) bs r = r
 left_from no_level bs r = r
 left_from no_turn bs r = r
 left_from (halts w) bs r = r
-left_from (unhandled class site) bs r = r
+left_from (unhandled class site condition) bs r = r
 left_from exhausted bs r = r
 left_from stuck bs r = r
 
@@ -186,18 +199,28 @@ module _ (context : Context) where
     exec_step (perform o) rs z = operate o rs (charged (operation_cost o) z)
     exec_step (choose t first second) rs z =
         test t (λ rs' y. jumped (exec first rs' y)) (λ rs' y. jumped (exec second rs' y)) rs z
+    exec_step (switch r codes) rs z =
+        with_register r (λ n rs' y. jumped (exec_number codes n rs' y)) rs (charged test_cost z)
     exec_step (repeat counted head t body) rs z =
         go_on (exec head rs z) (test t
         (λ rs' y. go_on (jumped (exec body rs' y)) (λ rs'' x. count counted (again (repeat counted head t body) rs'') x))
         (ends falls))
     exec_step (with_block block words word inside landing) rs z =
         with_record block words word (λ rs' y. exec inside rs' y) (λ rs' y. exec landing rs' y) rs z
+    exec_step (lend block words inside) rs z =
+        with_register words (λ n. with_lent block n (λ rs' y. exec inside rs' y)) rs (charged record_cost z)
     exec_step (return_word r) rs z = with_register r (λ w. ends (returns w)) rs (charged return_cost z)
     exec_step (cut_to block word) rs z =
         with_register block (λ b. with_register word (λ w. cut b w)) rs (charged cut_cost z)
     exec_step (halt_with r) rs z = with_register r (λ w. ends (halts w)) rs (charged halt_cost z)
-    exec_step (end_unhandled class site) rs z =
-        with_register class (λ c. with_register site (λ s. ends (unhandled c s))) rs (charged unhandled_cost z)
+    exec_step (end_unhandled class site condition) rs z =
+        with_register class (λ c. with_register site (λ s. with_register condition (λ w. ends (unhandled c s w)))) rs (charged unhandled_cost z)
+
+    -- the code of a number; it is stuck past the last one
+    pub exec_number : MidCodes → ℕ → Next
+    exec_number no_code n rs z = ends stuck rs z
+    exec_number (code_and c codes) zero rs z = exec c rs z
+    exec_number (code_and c codes) (suc n) rs z = exec_number codes n rs z
 
   -- a procedure is entered with arguments: its frame is laid, and the body runs
   abbrev pub run_procedure : MidProcedure → List ℕ → MidState → MidOutcome
@@ -234,7 +257,7 @@ at_top_from (no_room asked left) r = r
 at_top_from no_level r = r
 at_top_from no_turn r = r
 at_top_from (halts w) r = r
-at_top_from (unhandled class site) r = r
+at_top_from (unhandled class site condition) r = r
 at_top_from exhausted r = r
 at_top_from stuck r = r
 

@@ -30,7 +30,7 @@ pub data End : Type 0 where
   no_level : End
   no_turn : End
   halts : (word : ℕ) → End
-  unhandled : (class site : ℕ) → End
+  unhandled : (class site condition : ℕ) → End
   exhausted : End
   stuck : End
 
@@ -66,7 +66,7 @@ go_on_from (no_room asked left) r next = r
 go_on_from no_level r next = r
 go_on_from no_turn r next = r
 go_on_from (halts w) r next = r
-go_on_from (unhandled class site) r next = r
+go_on_from (unhandled class site condition) r next = r
 go_on_from exhausted r next = r
 go_on_from stuck r next = r
 
@@ -113,7 +113,7 @@ landed_from (no_room asked left) outside catch r = r
 landed_from no_level outside catch r = r
 landed_from no_turn outside catch r = r
 landed_from (halts w) outside catch r = r
-landed_from (unhandled class site) outside catch r = r
+landed_from (unhandled class site condition) outside catch r = r
 landed_from exhausted outside catch r = r
 landed_from stuck outside catch r = r
 

@@ -7,7 +7,7 @@ use Rattle.mid_code.specs.declared.operation.Counted.TheVariants.{Level, Turn}
 use Rattle.mid_code.specs.declared.operation.Operation.TheVariants.{Constant, Compute, Load, Store, Request, Draw, Put, Get, Call}
 use Rattle.mid_code.specs.declared.program.MidProcedure.{MidProcedure}
 use Rattle.mid_code.specs.declared.program.MidProgram.{MidProgram}
-use Rattle.mid_code.specs.MidCode.{MidStep, perform, repeat, with_block, return_word, cut_to, halt_with, no_step, code_of}
+use Rattle.mid_code.specs.MidCode.{MidStep, perform, switch, repeat, with_block, lend, return_word, cut_to, halt_with, no_step, no_code, code_and, code_of}
 use Rattle.mid_code.specs.Arena.{activation_frame, closed_record, record_of}
 use Rattle.mid_code.specs.State.{MidState, returns, no_room, no_level, no_turn, halts, exhausted, stuck, MidOutcome}
 use Rattle.mid_code.specs.Meaning.{enter, levels, runs}
@@ -18,7 +18,7 @@ procedure parameters registers frame body =
     record { counted = Level; parameters = parameters; registers = registers; frame = frame; body = body }
 
 abbrev pub program : List MidProcedure → MidProgram
-program procedures = record { procedures = procedures }
+program procedures = record { procedures = procedures; laid = [] }
 
 -- an arena of so many words with an input; the first word is laid beside the code and is 0, nothing is in heap and stack
 abbrev pub start : ℕ → List ℕ → MidState
@@ -243,3 +243,47 @@ drawing_last = procedure 0 2 0
 
 abbrev pub Exhausted : Type 0
 Exhausted = (run drawing_last 0 0 [] 8).end ≡ exhausted
+
+-- one of two codes, by the number that is the argument
+abbrev pub switching : List MidProcedure
+switching = procedure 1 2 0
+    (switch 0
+    (code_and (code_of (perform (Constant 1 8) ∷ [])) (code_and (code_of (perform (Constant 1 9) ∷ [])) no_code))
+    ∷ return_word 1 ∷ []) ∷ []
+
+-- The code of the number runs, and a jump behind it is charged. Past the last code it is stuck.
+abbrev pub Switched : Type 0
+Switched =
+    ((run switching 0 0 (0 ∷ []) 8).end ≡ returns 8)
+    × ((run switching 0 0 (1 ∷ []) 8).end ≡ returns 9)
+    × ((run switching 0 0 (1 ∷ []) 8).state.cost ≡ 20 + 6 + 12 + 6 + 2 + 14)
+
+abbrev pub PastTheLast : Type 0
+PastTheLast = (run switching 0 0 (2 ∷ []) 8).end ≡ stuck
+
+-- a block of as many words as the argument says, in whose second word the argument is stored and loaded
+abbrev pub lending : List MidProcedure
+lending = procedure 1 3 1
+    (lend 1 0 (code_of (perform (Store 0 1 (pos 4)) ∷ perform (Load 2 1 (pos 4)) ∷ [])) ∷ halt_with 2 ∷ []) ∷ []
+
+-- Of two words the second is lent, and of one word it is not. Where the inside falls out, the block is given back.
+abbrev pub Lent : Type 0
+Lent =
+    ((run lending 0 0 (2 ∷ []) 8).end ≡ halts 2)
+    × ((run lending 0 0 (2 ∷ []) 8).state.arena.blocks ≡ record { words = 1; kind = activation_frame } ∷ [])
+    × ((run lending 0 0 (2 ∷ []) 8).state.cost ≡ 20 + 6 + 36 + 8 + 8 + 10 + 6)
+    × ((run lending 0 0 (1 ∷ []) 8).end ≡ stuck)
+
+-- beside a frame of one word there is no room for six words and a header, and no block has 2 ^ 24 words
+abbrev pub NoRoomForABlock : Type 0
+NoRoomForABlock = (run lending 0 0 (6 ∷ []) 8).end ≡ no_room 8 7
+
+abbrev pub TooManyWords : Type 0
+TooManyWords = (run lending 0 0 (16777216 ∷ []) 8).end ≡ stuck
+
+-- a cut to a block that is only lent
+abbrev pub cutting_lent : MidProcedure
+cutting_lent = procedure 0 2 0 (perform (Constant 0 1) ∷ lend 1 0 (code_of (cut_to 1 1 ∷ [])) ∷ return_word 0 ∷ [])
+
+abbrev pub CutToLent : Type 0
+CutToLent = (run_alone cutting_lent).end ≡ stuck

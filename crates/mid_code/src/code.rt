@@ -21,6 +21,11 @@ pub enum StepKind {
     Do(Operation),
     /// The first code where the test holds, else the second.
     Choose(Test, Code, Code),
+    /// The code of the number in the register, the first being number 0; a number past the last is not allowed.
+    Switch {
+        register: Register,
+        codes: CaseList,
+    },
     /// The head, and then the test; while it holds, the body and all of it again.
     Repeat {
         counted: Counted,
@@ -38,6 +43,13 @@ pub enum StepKind {
         inside: Code,
         landing: Code,
     },
+    /// A block of as many words on the stack as the register `words` says, fewer than 16,777,216, whose address is in the
+    /// register `block`, for the code inside. No cut goes to it. Where the inside falls out, it is given back.
+    Lend {
+        block: Register,
+        words: Register,
+        inside: Code,
+    },
     /// The activation ends with the word.
     Return(Register),
     /// The activations and blocks above that block end, and its landing runs with the word.
@@ -47,12 +59,23 @@ pub enum StepKind {
     },
     /// The program ends with the word.
     Halt(Register),
-    /// The program ends with a condition that is not handled: the words for its class and its site.
+    /// The program ends with a condition that is not handled: the words for its class and its site, and its own.
     Unhandled {
         class: Register,
         site: Register,
+        condition: Register,
     },
 }
+
+/// One of the codes of a switch.
+#[derive(Drop)]
+#[cycle(code)]
+pub struct SwitchCase {
+    pub code: Code,
+}
+
+/// The codes of a switch, by their numbers from 0.
+pub type CaseList = ItemList<SwitchCase>;
 
 /// Steps in order.
 pub type Code = ItemList<CodeStep>;

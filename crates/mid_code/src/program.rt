@@ -2,7 +2,7 @@
 
 use crate::code::Code;
 use crate::operation::Counted;
-use base::ItemList;
+use base::{ItemList, WordList};
 
 /// A procedure: what a call of it takes, its numbers of parameters and of registers, the parameters among them, how many words
 /// of the stack an activation of it has for itself, and its code.
@@ -18,8 +18,9 @@ pub struct MidProcedure {
 /// Procedures, by their numbers from 0.
 pub type ProcedureList = ItemList<MidProcedure>;
 
-/// A program of middle code.
+/// A program of middle code: its procedures, and the words laid beside its code.
 #[derive(Drop)]
 pub struct MidProgram {
     pub procedures: ProcedureList,
+    pub laid: WordList,
 }

@@ -1,6 +1,6 @@
 // Worked programs: what some programs that are written out do, as the contract of a function that does nothing.
 
-ghost use Rattle.mid_code.specs.Worked.{Added, ArgumentWanting, Printed, TooFewTurns, Copied, Doubled, TooFewLevels, NoRoomForAFrame, CutAndLanded, NoRoomForARecord, PassedTheInner, FellOut, CutAgain, CutNowhere, CutFromTheTop, Requested, NoRoom, Loaded, NotLent, Stored, NotStored, Drawn, Exhausted};
+ghost use Rattle.mid_code.specs.Worked.{Added, ArgumentWanting, Printed, TooFewTurns, Copied, Doubled, TooFewLevels, NoRoomForAFrame, CutAndLanded, NoRoomForARecord, PassedTheInner, FellOut, CutAgain, CutNowhere, CutFromTheTop, Requested, NoRoom, Loaded, NotLent, Stored, NotStored, Drawn, Exhausted, Switched, PastTheLast, Lent, NoRoomForABlock, TooManyWords, CutToLent};
 
 /// Programs of single operations and loops do what their comments in `specs/Worked.antt` say.
 pub fn worked_operations()
@@ -39,4 +39,18 @@ pub fn worked_words()
     ensures not_stored { NotStored }
     ensures drawn { Drawn }
     ensures exhausted { Exhausted }
+{}
+
+/// So do programs that choose a code by its number.
+pub fn worked_switches()
+    ensures switched { Switched }
+    ensures past_the_last { PastTheLast }
+{}
+
+/// So do programs of blocks that are lent.
+pub fn worked_lent()
+    ensures lent { Lent }
+    ensures no_room_for_a_block { NoRoomForABlock }
+    ensures too_many_words { TooManyWords }
+    ensures cut_to_lent { CutToLent }
 {}

@@ -1,15 +1,17 @@
 -- Lines appended, with jumps that are written again.
-use Rattle.std.proofs.Common.{◌≡◌, ℕ, suc, ◌+◌, ◌<◌, ◌≤◌, List, [], ◌∷◌, ◌++◌, length, drop, get_or, sym, ap, ◌∙◌, arith, append_assoc, length-append, drop-cons, add-one}
+use Rattle.std.proofs.Common.{◌≡◌, ℕ, zero, suc, refl, ◌+◌, ◌<◌, ◌≤◌, List, [], ◌∷◌, ◌++◌, length, drop, get_or, sym, ap, ◌∙◌, arith, append_assoc, length-append, drop-cons, add-one}
 use Rattle.std.specs.Prelude.{slice_set}
 use Rattle.std.proofs.Math.Seq.{set-append_seam}
 use Rattle.std.proofs.lemmas.List.{length-set}
 use Rattle.mid_code.specs.declared.operation.Counted.{Counted}
 use Rattle.mid_code.specs.declared.operation.Test.{Test}
-use Rattle.mid_code.specs.MidCode.{MidStep, choose, repeat, with_block, MidCode, step_and, code_size, code_of}
+use Rattle.mid_code.specs.MidCode.{MidStep, choose, switch, repeat, with_block, MidCode, step_and, MidCodes, no_code, code_and, code_size, code_of}
+use Rattle.mid_code.specs.model.View.{codes_of}
+use Rattle.mid_code.specs.declared.code.SwitchCase.{SwitchCase}
 use Rattle.mid_lines.specs.declared.line.Line.{Line}
-use Rattle.mid_lines.specs.declared.line.Line.TheVariants.{Branch, Jump, Lay, Landed, GiveBack}
-use Rattle.mid_lines.specs.Flattened.{step_line_count, line_count, step_lines, code_lines}
-use Rattle.mid_lines.proofs.Lying.{step_length, code_length}
+use Rattle.mid_lines.specs.declared.line.Line.TheVariants.{Branch, Switch, Jump, Lay, Landed, GiveBack}
+use Rattle.mid_lines.specs.Flattened.{step_line_count, line_count, codes_line_count, code_targets, code_jumps, jumps_written, step_lines, code_lines, codes_lines}
+use Rattle.mid_lines.proofs.Lying.{step_length, code_length, codes_length}
 
 -- a size is never nothing
 pub code_size_above : (ss : List MidStep) → 0 < code_size (code_of ss)
@@ -33,13 +35,17 @@ step_more old s c new e =
     let n : length new ≡ length old + step_line_count s = omega (arith, ap length e, length-append old (step_lines (length old) s), step_length s (length old)) in
     ap (λ k. new ++ code_lines k c) n ∙ ap (λ l. l ++ code_lines (length old + step_line_count s) c) e ∙ append_assoc old (step_lines (length old) s) _
 
+-- what is left of a list, from a place where something stands
+rest_at : {X : Type 0} (list items : List X) (i : ℕ) (x : X) → items ≡ list → i < length items → x ≡ get_or items i x → drop i list ≡ x ∷ drop (i + 1) list
+rest_at list items i x same lt e =
+    ap (drop i) (sym same) ∙ drop-cons items i x lt ∙ ap (λ y. y ∷ drop (suc i) items) (sym e) ∙ ap (λ l. x ∷ drop (suc i) l) same ∙ ap (λ k. x ∷ drop k list) (sym (add-one i))
+
 pub appended_more :
     (lines new all : List Line) (code items : List MidStep) (i : ℕ) (s : MidStep) → items ≡ code → i < length items → s ≡ get_or items i s
     → new ≡ lines ++ step_lines (length lines) s → lines ++ code_lines (length lines) (code_of (drop i code)) ≡ all
     → new ++ code_lines (length new) (code_of (drop (i + 1) code)) ≡ all
 appended_more lines new all code items i s same lt e m h =
-    let here : drop i code ≡ s ∷ drop (i + 1) code =
-    ap (drop i) (sym same) ∙ drop-cons items i s lt ∙ ap (λ x. x ∷ drop (suc i) items) (sym e) ∙ ap (λ l. s ∷ drop (suc i) l) same ∙ ap (λ k. s ∷ drop k code) (sym (add-one i)) in
+    let here = rest_at code items i s same lt e in
     step_more lines s (code_of (drop (i + 1) code)) new m ∙ ap (λ l. lines ++ code_lines (length lines) (code_of l)) (sym here) ∙ h
 
 -- writing again
@@ -164,3 +170,129 @@ record_written block words word inside landing old l1 l2 l3 l4 l5 l6 l7 l8 l9 x 
     ∙ ap (λ n. old ++ Lay block words (at + 1 + line_count inside + 2) ∷ (a ++ g ∷ Jump n ∷ Landed word ∷ (b ++ g ∷ []))) n7
     ∙ ap (λ n. old ++ lay ∷ (code_lines n inside ++ g ∷ over ∷ Landed word ∷ (b ++ g ∷ []))) n1
     ∙ ap (λ n. old ++ lay ∷ (code_lines (at + 1) inside ++ g ∷ over ∷ Landed word ∷ (code_lines n landing ++ g ∷ []))) n5
+
+-- switches
+
+-- one more code of a switch, with the jump behind it
+module _ (lines l1 l2 : List Line) (c : MidCode) (rest : MidCodes) (e1 : l1 ≡ lines ++ code_lines (length lines) c) (e2 : l2 ≡ l1 ++ Jump 0 ∷ []) where
+  behind_code : length l1 ≡ length lines + line_count c
+  behind_code = omega (arith, ap length e1, length-append lines (code_lines (length lines) c), code_length c (length lines))
+
+  behind_jump : length l2 ≡ length lines + line_count c + 1
+  behind_jump = omega (arith, behind_code, ap length e2, length-append l1 (Jump 0 ∷ []))
+
+  codes_more : l2 ++ codes_lines (length l2) 0 rest ≡ lines ++ codes_lines (length lines) 0 (code_and c rest)
+  codes_more =
+      let a = code_lines (length lines) c in
+      let r = codes_lines (length lines + line_count c + 1) 0 rest in
+      ap (λ k. l2 ++ codes_lines k 0 rest) behind_jump
+      ∙ ap (λ l. l ++ r) (e2 ∙ ap (λ l. l ++ Jump 0 ∷ []) e1)
+      ∙ append_assoc (lines ++ a) (Jump 0 ∷ []) r
+      ∙ append_assoc lines a (Jump 0 ∷ r)
+
+  targets_more :
+      (targets more : List ℕ) → more ≡ targets ++ length lines ∷ []
+      → more ++ code_targets (length l2) rest ≡ targets ++ code_targets (length lines) (code_and c rest)
+  targets_more targets more e =
+      let r = code_targets (length lines + line_count c + 1) rest in
+      ap (λ k. more ++ code_targets k rest) behind_jump ∙ ap (λ l. l ++ r) e ∙ append_assoc targets (length lines ∷ []) r
+
+  jumps_more :
+      (jumps more : List ℕ) → more ≡ jumps ++ length l1 ∷ []
+      → more ++ code_jumps (length l2) rest ≡ jumps ++ code_jumps (length lines) (code_and c rest)
+  jumps_more jumps more e =
+      let r = code_jumps (length lines + line_count c + 1) rest in
+      ap (λ k. more ++ code_jumps k rest) behind_jump ∙ ap (λ l. l ++ r) e ∙ append_assoc jumps (length l1 ∷ []) r
+      ∙ ap (λ k. jumps ++ k ∷ r) behind_code
+
+-- what a loop over the codes of a switch leaves to do: lines, targets and jumps to append
+abbrev pub CodesLeft : (lines all : List Line) → (targets all_targets jumps all_jumps : List ℕ) → MidCodes → Type 0
+CodesLeft lines all targets all_targets jumps all_jumps codes =
+    (lines ++ codes_lines (length lines) 0 codes ≡ all)
+    × (targets ++ code_targets (length lines) codes ≡ all_targets)
+    × (jumps ++ code_jumps (length lines) codes ≡ all_jumps)
+
+pub code_appended :
+    (lines l1 l2 all : List Line) (targets more_targets all_targets jumps more_jumps all_jumps : List ℕ) (codes items : List SwitchCase) (i : ℕ) (c : SwitchCase) (n m : ℕ)
+    → items ≡ codes → i < length items → c ≡ get_or items i c
+    → n ≡ length lines → more_targets ≡ targets ++ n ∷ [] → l1 ≡ lines ++ code_lines (length lines) (code_of c.code)
+    → m ≡ length l1 → more_jumps ≡ jumps ++ m ∷ [] → l2 ≡ l1 ++ Jump 0 ∷ []
+    → CodesLeft lines all targets all_targets jumps all_jumps (codes_of (drop i codes))
+    → CodesLeft l2 all more_targets all_targets more_jumps all_jumps (codes_of (drop (i + 1) codes))
+code_appended lines l1 l2 all targets more_targets all_targets jumps more_jumps all_jumps codes items i c n m same lt e en t e1 em j e2 h =
+    let here : codes_of (drop i codes) ≡ code_and (code_of c.code) (codes_of (drop (i + 1) codes)) = ap codes_of (rest_at codes items i c same lt e) in
+    let rest = codes_of (drop (i + 1) codes) in
+    let begun = targets_more lines l1 l2 (code_of c.code) rest e1 e2 targets more_targets (t ∙ ap (λ k. targets ++ k ∷ []) en) in
+    let behind = jumps_more lines l1 l2 (code_of c.code) rest e1 e2 jumps more_jumps (j ∙ ap (λ k. jumps ++ k ∷ []) em) in (
+      codes_more lines l1 l2 (code_of c.code) rest e1 e2 ∙ ap (λ k. lines ++ codes_lines (length lines) 0 k) (sym here) ∙ h.0,
+      begun ∙ ap (λ k. targets ++ code_targets (length lines) k) (sym here) ∙ h.1,
+      behind ∙ ap (λ k. jumps ++ code_jumps (length lines) k) (sym here) ∙ h.2,
+    )
+
+-- the jumps of a switch that are written again
+codes_written :
+    (codes : MidCodes) (end : ℕ) (before : List Line) (n : ℕ) → length before ≡ n
+    → jumps_written (code_jumps n codes) end (before ++ codes_lines n 0 codes) ≡ before ++ codes_lines n end codes
+codes_written no_code end before n e = refl
+codes_written (code_and c codes) end before n e =
+    let a = code_lines n c in
+    let rest = codes_lines (n + line_count c + 1) 0 codes in
+    let last = codes_lines (n + line_count c + 1) end codes in
+    let js = code_jumps (n + line_count c + 1) codes in
+    let m : length (before ++ a) ≡ n + line_count c = omega (arith, e, length-append before a, code_length c n) in
+    let longer : length ((before ++ a) ++ Jump end ∷ []) ≡ n + line_count c + 1 = omega (arith, m, length-append (before ++ a) (Jump end ∷ [])) in
+    ap (λ l. jumps_written js end (slice_set l (n + line_count c) (Jump end))) (sym (append_assoc before a (Jump 0 ∷ rest)))
+    ∙ ap (λ k. jumps_written js end (slice_set ((before ++ a) ++ Jump 0 ∷ rest) k (Jump end))) (sym m)
+    ∙ ap (jumps_written js end) (set-append_seam (before ++ a) (Jump 0) rest (Jump end) ∙ sym (append_assoc (before ++ a) (Jump end ∷ []) rest))
+    ∙ codes_written codes end ((before ++ a) ++ Jump end ∷ []) (n + line_count c + 1) longer
+    ∙ append_assoc (before ++ a) (Jump end ∷ []) last
+    ∙ append_assoc before a (Jump end ∷ last)
+
+-- they stand among the lines of the codes
+jump_within : (codes : MidCodes) (at k : ℕ) → k < length (code_jumps at codes) → get_or (code_jumps at codes) k 0 < at + codes_line_count codes
+jump_within no_code at k lt = absurd (omega arith)
+jump_within (code_and c codes) at zero lt = omega arith
+jump_within (code_and c codes) at (suc k) lt = omega (arith, jump_within codes (at + line_count c + 1) k (omega (arith, lt)))
+
+pub jumps_within :
+    (codes : MidCodes) (l1 l2 : List Line) (empty jumps : List ℕ) → empty ≡ [] → l2 ≡ l1 ++ codes_lines (length l1) 0 codes
+    → jumps ≡ empty ++ code_jumps (length l1) codes → (k : ℕ) → k < length jumps → get_or jumps k 0 < length l2
+jumps_within codes l1 l2 empty jumps none e2 j k lt =
+    let same : jumps ≡ code_jumps (length l1) codes = j ∙ ap (λ l. l ++ code_jumps (length l1) codes) none in
+    let n : length l2 ≡ length l1 + codes_line_count codes =
+    omega (arith, ap length e2, length-append l1 (codes_lines (length l1) 0 codes), codes_length codes (length l1) 0) in
+    omega (arith, n, ap (λ l. get_or l k 0) same, jump_within codes (length l1) k (omega (arith, lt, ap length same)))
+
+as_long_written : (jumps : List ℕ) (end : ℕ) (lines : List Line) → length (jumps_written jumps end lines) ≡ length lines
+as_long_written [] end lines = refl
+as_long_written (j ∷ jumps) end lines = as_long_written jumps end (slice_set lines j (Jump end)) ∙ length-set lines j (Jump end)
+
+pub written_as_long : (jumps : List ℕ) (end : ℕ) (old new : List Line) → new ≡ jumps_written jumps end old → length new ≡ length old
+written_as_long jumps end old new e = ap length e ∙ as_long_written jumps end old
+
+pub codes_grown : (codes : MidCodes) (old new : List Line) → new ≡ old ++ codes_lines (length old) 0 codes → length old ≤ length new
+codes_grown codes old new e = omega (arith, ap length e, length-append old (codes_lines (length old) 0 codes))
+
+pub switch_written :
+    (register : ℕ) (codes : MidCodes) (old l1 l2 l3 l4 : List Line) (x : Line) (none_yet targets none jumps : List ℕ) (switch_at end : ℕ)
+    → switch_at ≡ length old → l1 ≡ old ++ x ∷ [] → none_yet ≡ [] → none ≡ []
+    → l2 ≡ l1 ++ codes_lines (length l1) 0 codes → targets ≡ none_yet ++ code_targets (length l1) codes → jumps ≡ none ++ code_jumps (length l1) codes
+    → end ≡ length l2 → l3 ≡ jumps_written jumps end l2 → l4 ≡ slice_set l3 switch_at (Switch register targets)
+    → l4 ≡ old ++ step_lines (length old) (switch register codes)
+switch_written register codes old l1 l2 l3 l4 x none_yet targets none jumps switch_at end m0 e1 n1 n2 e2 t j m2 e3 e4 =
+    let at = length old in
+    let first : length l1 ≡ at + 1 = omega (arith, ap length e1, length-append old (x ∷ [])) in
+    let size : length l2 ≡ length l1 + codes_line_count codes =
+    omega (arith, ap length e2, length-append l1 (codes_lines (length l1) 0 codes), codes_length codes (length l1) 0) in
+    let last : end ≡ at + (1 + codes_line_count codes) = omega (arith, m2, size, first) in
+    let all_targets : targets ≡ code_targets (at + 1) codes = t ∙ ap (λ l. l ++ code_targets (length l1) codes) n1 ∙ ap (λ n. code_targets n codes) first in
+    let all_jumps : jumps ≡ code_jumps (length l1) codes = j ∙ ap (λ l. l ++ code_jumps (length l1) codes) n2 in
+    let written : l3 ≡ l1 ++ codes_lines (length l1) end codes =
+    e3 ∙ ap (λ js. jumps_written js end l2) all_jumps ∙ ap (jumps_written (code_jumps (length l1) codes) end) e2 ∙ codes_written codes end l1 (length l1) refl in
+    e4
+    ∙ ap (λ l. slice_set l switch_at (Switch register targets)) (written ∙ ap (λ l. l ++ codes_lines (length l1) end codes) e1 ∙ append_assoc old (x ∷ []) (codes_lines (length l1) end codes))
+    ∙ ap (λ n. slice_set (old ++ x ∷ codes_lines (length l1) end codes) n (Switch register targets)) m0
+    ∙ set-append_seam old x (codes_lines (length l1) end codes) (Switch register targets)
+    ∙ ap (λ n. old ++ Switch register targets ∷ codes_lines n end codes) first
+    ∙ ap (λ n. old ++ Switch register targets ∷ codes_lines (at + 1) n codes) last
+    ∙ ap (λ ts. old ++ Switch register ts ∷ codes_lines (at + 1) (at + (1 + codes_line_count codes)) codes) all_targets

@@ -9,14 +9,14 @@ use Rattle.mid_code.specs.declared.operation.Callee.TheVariants.{Procedure, Word
 use Rattle.mid_code.specs.declared.operation.Operation.{Operation}
 use Rattle.mid_code.specs.declared.operation.Operation.TheVariants.{Call}
 use Rattle.mid_code.specs.declared.program.MidProcedure.{MidProcedure}
-use Rattle.mid_code.specs.MidCode.{MidStep, perform, choose, repeat, with_block, return_word, cut_to, halt_with, end_unhandled, MidCode, no_step, step_and, code_of}
+use Rattle.mid_code.specs.MidCode.{MidStep, perform, choose, switch, repeat, with_block, lend, return_word, cut_to, halt_with, end_unhandled, MidCode, no_step, step_and, MidCodes, no_code, code_and, code_of}
 use Rattle.mid_code.specs.Checked as tree
 use Rattle.mid_lines.proofs.Conjunctions.{front_true, back_true, both_true}
 use Rattle.mid_lines.specs.declared.line.Line.{Line}
-use Rattle.mid_lines.specs.declared.line.Line.TheVariants.{Do, Return, Cut, Halt, Unhandled}
+use Rattle.mid_lines.specs.declared.line.Line.TheVariants.{Do, Jump, Return, Cut, Halt, Unhandled}
 use Rattle.mid_lines.specs.declared.line.LineProcedure.{LineProcedure}
-use Rattle.mid_lines.specs.Flattened.{step_line_count, line_count, step_lines, code_lines, procedure_lines}
-use Rattle.mid_lines.specs.LinesChecked.{line_fits, takes, call_fits, operation_calls, line_calls, is_sound_in, LawOfForm}
+use Rattle.mid_lines.specs.Flattened.{step_line_count, line_count, codes_line_count, code_targets, step_lines, code_lines, codes_lines, procedure_lines}
+use Rattle.mid_lines.specs.LinesChecked.{is_target, line_fits, takes, call_fits, operation_calls, line_calls, is_sound_in, LawOfForm}
 use Rattle.mid_lines.proofs.Lying.{code_length}
 
 -- lines of which each passes
@@ -45,6 +45,12 @@ module _ (registers lines : ℕ) where
   target : (to : ℕ) → to ≤ lines → nat_le to lines ≡ true
   target to h = le-leb to lines h
 
+  targets_fit : (codes : MidCodes) (at : ℕ) → at + codes_line_count codes ≤ lines → list_all (is_target lines) (code_targets at codes) ≡ true
+  targets_fit no_code at le = refl
+  targets_fit (code_and c codes) at le =
+      both_true (nat_le at lines) (list_all (is_target lines) (code_targets (at + line_count c + 1) codes)) (target at (omega (arith, le)))
+      (targets_fit codes (at + line_count c + 1) (omega (arith, le)))
+
   mutual
     step_fit : (s : MidStep) (at : ℕ) → tree.step_fits registers s ≡ true → at + step_line_count s ≤ lines → AllPass fits (step_lines at s)
     step_fit (perform o) at h le = one_line fits (Do o) h
@@ -58,6 +64,12 @@ module _ (registers lines : ℕ) where
         (one_more fits _ _ (target _ le)
         (appended fits (code_lines (at + 1 + line_count first + 1) second) _ (code_fit second (at + 1 + line_count first + 1) other (omega (arith, le)))
         (one_line fits _ (target _ le)))))
+    step_fit (switch r codes) at h le =
+        let one = front_true (tree.is_register registers r) (tree.codes_fit registers codes) h in
+        let other = back_true (tree.is_register registers r) (tree.codes_fit registers codes) h in
+        one_more fits _ _
+        (both_true (tree.is_register registers r) (list_all (is_target lines) (code_targets (at + 1) codes)) one (targets_fit codes (at + 1) (omega (arith, le))))
+        (codes_fit codes (at + 1) (at + (1 + codes_line_count codes)) other (omega (arith, le)) le)
     step_fit (repeat counted head t body) at h le =
         let head_tests = front_true (tree.code_fits registers head && tree.test_fits registers t) (tree.code_fits registers body) h in
         let one = front_true (tree.code_fits registers head) (tree.test_fits registers t) head_tests in
@@ -86,10 +98,23 @@ module _ (registers lines : ℕ) where
         (one_more fits _ _ (back_true (b && w) r h3)
         (appended fits (code_lines (at + 1 + line_count inside + 3) landing) _ (code_fit landing (at + 1 + line_count inside + 3) (back_true (b && w && r && i) l h) (omega (arith, le)))
         (one_line fits _ size))))))
+    step_fit (lend block words inside) at h le =
+        let b = tree.is_register registers block in
+        let w = tree.is_register registers words in
+        let i = tree.code_fits registers inside in
+        one_more fits _ _ (front_true (b && w) i h)
+        (appended fits (code_lines (at + 1) inside) _ (code_fit inside (at + 1) (back_true (b && w) i h) (omega (arith, le)))
+        (one_line fits _ refl))
     step_fit (return_word r) at h le = one_line fits (Return r) h
     step_fit (cut_to block word) at h le = one_line fits (Cut block word) h
     step_fit (halt_with r) at h le = one_line fits (Halt r) h
-    step_fit (end_unhandled class site) at h le = one_line fits (Unhandled class site) h
+    step_fit (end_unhandled class site condition) at h le =
+        let k = tree.is_register registers class in
+        let s = tree.is_register registers site in
+        let w = tree.is_register registers condition in
+        let two = front_true (k && s) w h in
+        one_line fits (Unhandled class site condition)
+        (both_true k (s && w) (front_true k s two) (both_true s w (back_true k s two) (back_true (k && s) w h)))
 
     code_fit : (c : MidCode) (at : ℕ) → tree.code_fits registers c ≡ true → at + line_count c ≤ lines → AllPass fits (code_lines at c)
     code_fit no_step at h le = none fits
@@ -97,6 +122,16 @@ module _ (registers lines : ℕ) where
         appended fits (step_lines at s) (code_lines (at + step_line_count s) c)
         (step_fit s at (front_true (tree.step_fits registers s) (tree.code_fits registers c) h) (omega (arith, le)))
         (code_fit c (at + step_line_count s) (back_true (tree.step_fits registers s) (tree.code_fits registers c) h) (omega (arith, le)))
+
+    codes_fit :
+        (codes : MidCodes) (at end : ℕ) → tree.codes_fit registers codes ≡ true → at + codes_line_count codes ≤ lines → end ≤ lines
+        → AllPass fits (codes_lines at end codes)
+    codes_fit no_code at end h le last = none fits
+    codes_fit (code_and c codes) at end h le last =
+        appended fits (code_lines at c) _
+        (code_fit c at (front_true (tree.code_fits registers c) (tree.codes_fit registers codes) h) (omega (arith, le)))
+        (one_more fits (Jump end) _ (target end last)
+        (codes_fit codes (at + line_count c + 1) end (back_true (tree.code_fits registers c) (tree.codes_fit registers codes) h) (omega (arith, le)) last))
 
 -- calls of procedures that are there
 
@@ -131,6 +166,7 @@ module _ (procedures : List MidProcedure) where
         (one_more calls _ _ refl
         (appended calls (code_lines (at + 1 + line_count first + 1) second) _ (code_call second (at + 1 + line_count first + 1) other)
         (one_line calls _ refl))))
+    step_call (switch r codes) at h = one_more calls _ _ refl (codes_call codes (at + 1) (at + (1 + codes_line_count codes)) h)
     step_call (repeat counted head t body) at h =
         let one = front_true (tree.code_calls procedures head) (tree.code_calls procedures body) h in
         let other = back_true (tree.code_calls procedures head) (tree.code_calls procedures body) h in
@@ -146,10 +182,12 @@ module _ (procedures : List MidProcedure) where
         (one_more calls _ _ refl (one_more calls _ _ refl (one_more calls _ _ refl
         (appended calls (code_lines (at + 1 + line_count inside + 3) landing) _ (code_call landing (at + 1 + line_count inside + 3) other)
         (one_line calls _ refl))))))
+    step_call (lend block words inside) at h =
+        one_more calls _ _ refl (appended calls (code_lines (at + 1) inside) _ (code_call inside (at + 1) h) (one_line calls _ refl))
     step_call (return_word r) at h = one_line calls (Return r) refl
     step_call (cut_to block word) at h = one_line calls (Cut block word) refl
     step_call (halt_with r) at h = one_line calls (Halt r) refl
-    step_call (end_unhandled class site) at h = one_line calls (Unhandled class site) refl
+    step_call (end_unhandled class site condition) at h = one_line calls (Unhandled class site condition) refl
 
     code_call : (c : MidCode) (at : ℕ) → tree.code_calls procedures c ≡ true → AllPass calls (code_lines at c)
     code_call no_step at h = none calls
@@ -157,6 +195,13 @@ module _ (procedures : List MidProcedure) where
         appended calls (step_lines at s) (code_lines (at + step_line_count s) c)
         (step_call s at (front_true (tree.step_calls procedures s) (tree.code_calls procedures c) h))
         (code_call c (at + step_line_count s) (back_true (tree.step_calls procedures s) (tree.code_calls procedures c) h))
+
+    codes_call : (codes : MidCodes) (at end : ℕ) → tree.codes_call procedures codes ≡ true → AllPass calls (codes_lines at end codes)
+    codes_call no_code at end h = none calls
+    codes_call (code_and c codes) at end h =
+        appended calls (code_lines at c) _ (code_call c at (front_true (tree.code_calls procedures c) (tree.codes_call procedures codes) h))
+        (one_more calls (Jump end) _ refl
+        (codes_call codes (at + line_count c + 1) end (back_true (tree.code_calls procedures c) (tree.codes_call procedures codes) h)))
 
   -- a procedure of the program
   sound : (p : MidProcedure) → tree.is_sound_in procedures p ≡ true → is_sound_in flat (procedure_lines p) ≡ true

@@ -51,7 +51,7 @@ left_from program (no_room asked left) callers z = ended (no_room asked left) z
 left_from program no_level callers z = ended no_level z
 left_from program no_turn callers z = ended no_turn z
 left_from program (halts w) callers z = ended (halts w) z
-left_from program (unhandled class site) callers z = ended (unhandled class site) z
+left_from program (unhandled class site condition) callers z = ended (unhandled class site condition) z
 left_from program exhausted callers z = ended exhausted z
 left_from program stuck callers z = ended stuck z
 
@@ -170,7 +170,7 @@ module _ (program : LineProgram) where
       from no_level rs z m = m
       from no_turn rs z m = m
       from (halts w) rs z m = m
-      from (unhandled class site) rs z m = m
+      from (unhandled class site condition) rs z m = m
       from exhausted rs z m = m
       from stuck rs z m = m
 

@@ -1,5 +1,5 @@
 -- The machine of lines does what the tree of steps does: a lemma for each kind of line, and a case for each step.
-use Rattle.std.proofs.Common.{◌≡◌, ℕ, suc, ◌+◌, ◌≤◌, Bool, true, false, List, [], ◌∷◌, length, Option, Some, None, option_map, refl, sym, ap, ◌∙◌, subst, arith, ◌==◌, if◌then◌else◌, eq-eqb}
+use Rattle.std.proofs.Common.{◌≡◌, ℕ, zero, suc, ◌+◌, ◌≤◌, Bool, true, false, List, [], ◌∷◌, length, Option, Some, None, option_map, refl, sym, ap, ◌∙◌, subst, arith, ◌==◌, if◌then◌else◌, eq-eqb}
 use Rattle.std.specs.Prelude.{slice_get, slice_set}
 use Rattle.std.proofs.lemmas.Option.{slice_get-map, slice_get_past}
 use Rattle.mid_code.specs.declared.operation.Counted.{Counted}
@@ -11,20 +11,21 @@ use Rattle.mid_code.specs.declared.operation.Operation.TheVariants.{Move, Consta
 use Rattle.mid_code.specs.declared.operation.Test.{Test}
 use Rattle.mid_code.specs.declared.program.MidProcedure.{MidProcedure}
 use Rattle.mid_code.specs.declared.program.MidProgram.{MidProgram}
-use Rattle.mid_code.specs.MidCode.{MidStep, perform, choose, repeat, with_block, return_word, cut_to, halt_with, end_unhandled, MidCode, no_step, step_and, code_of}
+use Rattle.mid_code.specs.MidCode.{MidStep, perform, choose, switch, repeat, with_block, lend, return_word, cut_to, halt_with, end_unhandled, MidCode, no_step, step_and, MidCodes, no_code, code_and, code_of}
 use Rattle.mid_code.specs.Words.{compares}
-use Rattle.mid_code.specs.Arena.{Block, activation_frame, record_of, lent_from, left, with_blocks, with_new_block, blocks_outside, blocks_closed}
+use Rattle.mid_code.specs.Arena.{Block, activation_frame, record_of, lent_block, lent_from, left, with_blocks, with_new_block, blocks_outside, blocks_closed}
+use Rattle.mid_code.specs.Checked.{is_block_size}
 use Rattle.mid_code.specs.Costs.{operation_cost, test_cost, jump_cost, record_cost, give_back_cost, entry_cost}
 use Rattle.mid_code.specs.State.{Registers, first_registers, MidState, End, falls, returns, cuts, no_room, no_level, no_turn, halts, unhandled, exhausted, stuck, MidOutcome, Next, ends, charged, with_arena, go_on, with_some, choose_by, register, with_register, with_registers, jumped, landed}
 use Rattle.mid_code.specs.Law.{IsReached}
-use Rattle.mid_code.specs.Meaning.{lay, get_from, give_back, run_inside, run_landing, with_record, test, Task, enter, again, Context, context_of, called, leaves, count, with_callee, exec, exec_step, run_task}
+use Rattle.mid_code.specs.Meaning.{lay, get_from, give_back, run_inside, run_landing, with_record, run_lent, with_lent, test, Task, enter, again, Context, context_of, called, leaves, count, with_callee, exec, exec_step, exec_number, run_task}
 use Rattle.mid_lines.specs.declared.line.Line.{Line}
-use Rattle.mid_lines.specs.declared.line.Line.TheVariants.{Do, Branch, Jump, Lay, Landed, GiveBack, Return, Cut, Halt, Unhandled}
+use Rattle.mid_lines.specs.declared.line.Line.TheVariants.{Do, Branch, Switch, Jump, Lay, Landed, GiveBack, Lend, GiveBackLent, Return, Cut, Halt, Unhandled}
 use Rattle.mid_lines.specs.declared.line.LineProgram.{LineProgram}
 use Rattle.mid_lines.specs.Lines.{lines_in, lines_of, line_of}
-use Rattle.mid_lines.specs.LineMeaning.{Standing, Activation, with_standing, Caller, Stage, running, entering, ended, standing_from, arrive, land_at, land, cut_outwards, proceed, enter_at, both, branch, words_before, words_in, callee_in, call, do_line, next, after}
-use Rattle.mid_lines.specs.Flattened.{step_line_count, line_count, code_lines, procedure_lines, program_lines}
-use Rattle.mid_lines.proofs.Lying.{StepLies, CodeLies, all_lies, code_length}
+use Rattle.mid_lines.specs.LineMeaning.{Standing, Activation, with_standing, Caller, Stage, running, entering, ended, standing_from, arrive, land_at, land, cut_outwards, proceed, enter_at, both, branch, words_before, words_in, callee_in, call, target_in, switch_to, lend_at, is_record_of, is_only_lent, give_back_at, do_line, next, after}
+use Rattle.mid_lines.specs.Flattened.{step_line_count, line_count, codes_line_count, code_targets, code_lines, procedure_lines, program_lines}
+use Rattle.mid_lines.proofs.Lying.{StepLies, CodeLies, CodesLie, all_lies, code_length}
 use Rattle.mid_lines.proofs.Coming.{ReachesStage, Meets, left_from, after_coming, after_step, then_meets, meets_to, meets_from, ended_here, met_here, land_same, go_on_meets, code_on, jumped_on}
 
 -- an activation that stands in the program's lines does, from a stage on, what an outcome says, and goes on at a line where that falls out
@@ -37,7 +38,11 @@ CallersFollow program least s callers r = Meets program least s (left_from progr
 
 -- a control record with so many blocks outside, which lends so many words, with the line of its landing
 abbrev standing_at : (outside words landing : ℕ) → (is_open : Bool) → Standing
-standing_at outside words landing is_open = record { outside = outside; words = words; landing = landing; is_open = is_open }
+standing_at outside words landing is_open = record { outside = outside; words = words; landing = Some landing; is_open = is_open }
+
+-- a block that is only lent, with so many blocks outside and so many words
+abbrev lent_at : (outside words : ℕ) → Standing
+lent_at outside words = record { outside = outside; words = words; landing = None; is_open = false }
 
 -- what tasks do is done by the machine, with at least so many steps before an end for want of levels or turns
 pub record TasksMeet (mid : MidProgram) (least : ℕ) (f : Task → MidState → MidOutcome) : Type 0 where
@@ -163,12 +168,29 @@ module _ (program : LineProgram) where
 
   -- the innermost record is given back
 
-  gave_back :
-      (a : Activation) (st : Standing) (line : ℕ) (rs : Registers) (callers : List Caller) (z : MidState) → line_of program a.procedure line ≡ Some (GiveBack st.words)
+  -- the innermost record that stands at a line is given back by it
+  abbrev GivesBack : Activation → (line : ℕ) → Standing → Type 0
+  GivesBack a line st =
+      (rs : Registers) (callers : List Caller) (z : MidState)
       → next program (running (with_standing (st ∷ a.standing) a) line rs callers z) ≡ arrive a (line + 1) callers (give_back st.outside rs z)
-  gave_back a st line rs callers z e =
-      at_line (with_standing (st ∷ a.standing) a) line rs callers z (GiveBack st.words) e
-      ∙ ap (λ t. if t then arrive a (line + 1) callers (give_back st.outside rs z) else ended stuck z) (same_number st.words)
+
+  gives_such :
+      (is_such : Standing → Bool) (a : Activation) (st : Standing) (line : ℕ) (rs : Registers) (callers : List Caller) (z : MidState) → is_such st ≡ true
+      → give_back_at is_such (st ∷ a.standing) (with_standing (st ∷ a.standing) a) line rs callers z ≡ arrive a (line + 1) callers (give_back st.outside rs z)
+  gives_such is_such a st line rs callers z e = ap (λ t. if t then arrive a (line + 1) callers (give_back st.outside rs z) else ended stuck z) e
+
+  record_given :
+      (a : Activation) (outside words landing line : ℕ) (is_open : Bool) → line_of program a.procedure line ≡ Some (GiveBack words)
+      → GivesBack a line (standing_at outside words landing is_open)
+  record_given a outside words landing line is_open e rs callers z =
+      let st = standing_at outside words landing is_open in
+      at_line (with_standing (st ∷ a.standing) a) line rs callers z (GiveBack words) e
+      ∙ gives_such (is_record_of words) a st line rs callers z (same_number words)
+
+  lent_given : (a : Activation) (outside words line : ℕ) → line_of program a.procedure line ≡ Some GiveBackLent → GivesBack a line (lent_at outside words)
+  lent_given a outside words line e rs callers z =
+      let st = lent_at outside words in
+      at_line (with_standing (st ∷ a.standing) a) line rs callers z GiveBackLent e ∙ gives_such is_only_lent a st line rs callers z refl
 
   give_back_arrives :
       (a : Activation) (line outside : ℕ) (rs : Registers) (callers : List Caller) (z : MidState)
@@ -184,10 +206,10 @@ module _ (program : LineProgram) where
       by (Some bs) = refl
 
   give_back_meets :
-      (k : ℕ) (a : Activation) (st : Standing) (line : ℕ) (rs : Registers) (callers : List Caller) (z : MidState) → line_of program a.procedure line ≡ Some (GiveBack st.words)
+      (k : ℕ) (a : Activation) (st : Standing) (line : ℕ) (rs : Registers) (callers : List Caller) (z : MidState) → GivesBack a line st
       → FollowsOutcome program k (running (with_standing (st ∷ a.standing) a) line rs callers z) a (line + 1) callers (give_back st.outside rs z)
-  give_back_meets k a st line rs callers z e =
-      then_meets program (gave_back a st line rs callers z e ∙ give_back_arrives a (line + 1) st.outside rs callers z)
+  give_back_meets k a st line rs callers z gives =
+      then_meets program (gives rs callers z ∙ give_back_arrives a (line + 1) st.outside rs callers z)
       (met_here program k a (line + 1) callers (give_back st.outside rs z) (give_back_reached st.outside rs z))
 
   -- The inside of a control record and what catches a cut to it. Where the inside falls out, the record is given back, and the landing is
@@ -198,7 +220,7 @@ module _ (program : LineProgram) where
       → line_of program a.procedure (line + 1) ≡ Some (Jump to)
       → ((w : ℕ) (rs : Registers) (y : MidState)
       → FollowsOutcome program k
-      (land_at (line_of program a.procedure landing) w (standing_at outside words landing true)
+      (land_at (line_of program a.procedure landing) landing w outside
       (with_standing (standing_at outside words landing false ∷ a.standing) a) rs callers y)
       a to callers (catch w rs y))
       → FollowsOutcome program k s (with_standing (standing_at outside words landing true ∷ a.standing) a) line callers r
@@ -231,7 +253,7 @@ module _ (program : LineProgram) where
           → FollowsOutcome program k s a to callers (landed outside catch (go_on (ends e rs z) (λ rs y. jumped (give_back outside rs y))))
       from falls rs z m =
           after_coming program (m.comes tt)
-          (then_meets program (gave_back a (standing_at outside words landing true) line rs callers z e)
+          (then_meets program (record_given a outside words landing line true e rs callers z)
           (fell (blocks_outside outside z.arena.blocks) rs (charged give_back_cost z)))
       from (returns w) rs z m = m
       from (cuts n w) rs z m = caught (n == outside) n w rs z (m.comes tt)
@@ -239,7 +261,7 @@ module _ (program : LineProgram) where
       from no_level rs z m = m
       from no_turn rs z m = m
       from (halts w) rs z m = m
-      from (unhandled class site) rs z m = m
+      from (unhandled class site condition) rs z m = m
       from exhausted rs z m = m
       from stuck rs z m = m
 
@@ -253,13 +275,13 @@ module _ (program : LineProgram) where
       (running (with_standing (standing_at outside words landing false ∷ a.standing) a) (landing + 1) rs callers y)
       (with_standing (standing_at outside words landing false ∷ a.standing) a) line callers (code rs y))
       → FollowsOutcome program k
-      (land_at (line_of program a.procedure landing) w (standing_at outside words landing true)
+      (land_at (line_of program a.procedure landing) landing w outside
       (with_standing (standing_at outside words landing false ∷ a.standing) a) rs callers z)
       a (line + 1) callers (run_landing outside word code w rs z)
   unfolding with_some proceed
   landing_meets k a outside words landing line word w callers code rs z l g h =
       meets_from program
-      (ap (λ o. land_at o w (standing_at outside words landing true)
+      (ap (λ o. land_at o landing w outside
       (with_standing (standing_at outside words landing false ∷ a.standing) a) rs callers z) l)
       (by (blocks_closed outside z.arena.blocks))
     where
@@ -274,7 +296,49 @@ module _ (program : LineProgram) where
       by (Some bs) =
           go_on_meets program k _ a (standing_at outside words landing false ∷ a.standing) line (line + 1) callers
           (code (slice_set rs word (Some w)) (with_arena (with_blocks bs z.arena) z)) (give_back outside) (λ n. refl) (h _ _)
-          (λ rs' y. give_back_meets k a (standing_at outside words landing false) line rs' callers y g)
+          (λ rs' y. give_back_meets k a (standing_at outside words landing false) line rs' callers y (record_given a outside words landing line false g))
+
+  -- a switch to one of these lines
+  switch_meets :
+      (k : ℕ) (o : Option ℕ) (targets : List ℕ) (f : ℕ → Next) (a : Activation) (to : ℕ) (rs : Registers) (callers : List Caller) (z : MidState)
+      → ((n : ℕ) → FollowsOutcome program k (switch_to (slice_get targets n) a rs callers z) a to callers (f n rs z))
+      → FollowsOutcome program k (switch_to (target_in targets o) a rs callers z) a to callers (with_some o f rs z)
+  unfolding with_some proceed
+  switch_meets k None targets f a to rs callers z h = ended_here program k stuck z tt
+  switch_meets k (Some n) targets f a to rs callers z h = h n
+
+  past_the_last :
+      (k : ℕ) (a : Activation) (to : ℕ) (rs : Registers) (callers : List Caller) (z : MidState)
+      → FollowsOutcome program k (ended stuck z) a to callers (jumped (ends stuck rs z))
+  unfolding go_on proceed
+  past_the_last k a to rs callers z = ended_here program k stuck z tt
+
+  -- a block that is lent, and the code inside it
+  lent_meets :
+      (k : ℕ) (o : Option ℕ) (block line : ℕ) (a : Activation) (at : ℕ) (code : Next) (rs : Registers) (callers : List Caller) (z : MidState)
+      → line_of program a.procedure line ≡ Some GiveBackLent
+      → ((records : List Standing) (rs : Registers) (y : MidState)
+      → FollowsOutcome program k (running (with_standing records a) at rs callers y) (with_standing records a) line callers (code rs y))
+      → FollowsOutcome program k (lend_at block o a at rs callers z) a (line + 1) callers (with_some o (λ n. with_lent block n code) rs z)
+  unfolding with_some choose_by proceed
+  lent_meets k None block line a at code rs callers z e h = ended_here program k stuck z tt
+  lent_meets k (Some n) block line a at code rs callers z e h = by (is_block_size n)
+    where
+      by :
+          (t : Bool)
+          → FollowsOutcome program k
+          (arrive (with_standing (lent_at (length z.arena.blocks) n ∷ a.standing) a) at callers
+          (choose_by t (lay (lent_block n) (λ rs' y. ends falls (slice_set rs' block (Some (lent_from (length y.arena.memory) y.arena.blocks))) y)) (ends stuck) rs z))
+          a (line + 1) callers
+          (choose_by t (lay (lent_block n) (run_lent (length z.arena.blocks) block code)) (ends stuck) rs z)
+      by true =
+          lay_meets k (lent_block n) (λ rs' y. ends falls (slice_set rs' block (Some (lent_from (length y.arena.memory) y.arena.blocks))) y)
+          (run_lent (length z.arena.blocks) block code) (with_standing (lent_at (length z.arena.blocks) n ∷ a.standing) a) at callers
+          (λ r. proceed program a (line + 1) callers r) rs z (λ asked left rs' y. refl)
+          (λ rs' y. go_on_meets program k _ a (lent_at (length z.arena.blocks) n ∷ a.standing) line (line + 1) callers
+          (code (slice_set rs' block (Some (lent_from (length y.arena.memory) y.arena.blocks))) y) (give_back (length z.arena.blocks)) (λ m. refl) (h _ _ _)
+          (λ rs'' x. give_back_meets k a (lent_at (length z.arena.blocks) n) line rs'' callers x (lent_given a (length z.arena.blocks) n line e)))
+      by false = ended_here program k stuck z tt
 
   -- the body of a procedure, whose lines end where it falls out
   leaves_meets :
@@ -296,7 +360,7 @@ module _ (program : LineProgram) where
       from no_level rs z m = m
       from no_turn rs z m = m
       from (halts w) rs z m = m
-      from (unhandled class site) rs z m = m
+      from (unhandled class site condition) rs z m = m
       from exhausted rs z m = m
       from stuck rs z m = m
 
@@ -318,7 +382,7 @@ module _ (program : LineProgram) where
       from no_level z m = m
       from no_turn z m = m
       from (halts w) z m = m
-      from (unhandled class site) z m = m
+      from (unhandled class site condition) z m = m
       from exhausted z m = m
       from stuck z m = m
 
@@ -363,20 +427,20 @@ module _ (mid : MidProgram) (b : ℕ) (below further : Task → MidState → Mid
       called_meets flat b _ a line to rs callers _
       (count_enters p.counted n p e words (record { activation = a; line = line; registers = rs; result = to } ∷ callers) z)
 
-  number_meets :
+  callee_number_meets :
       (o : Option ℕ) (words : List ℕ) (a : Activation) (line to : ℕ) (rs : Registers) (callers : List Caller) (z : MidState)
       → FollowsOutcome flat b (call (Some words) o (record { activation = a; line = line; registers = rs; result = to } ∷ callers) z) a line callers
       (with_some o (λ n. with_some (slice_get mid.procedures n) (λ p rs' y. called (count c p.counted (enter p words) y) to rs')) rs z)
   unfolding with_some proceed
-  number_meets None words a line to rs callers z = ended_here flat b stuck z tt
-  number_meets (Some n) words a line to rs callers z = entering_meets n (slice_get mid.procedures n) words a line to rs callers z refl
+  callee_number_meets None words a line to rs callers z = ended_here flat b stuck z tt
+  callee_number_meets (Some n) words a line to rs callers z = entering_meets n (slice_get mid.procedures n) words a line to rs callers z refl
 
   callee_meets :
       (callee : Callee) (words : List ℕ) (a : Activation) (line to : ℕ) (rs : Registers) (callers : List Caller) (z : MidState)
       → FollowsOutcome flat b (call (Some words) (callee_in callee rs) (record { activation = a; line = line; registers = rs; result = to } ∷ callers) z) a line callers
       (with_callee c callee (λ p rs' y. called (count c p.counted (enter p words) y) to rs') rs z)
   callee_meets (Procedure n) words a line to rs callers z = entering_meets n (slice_get mid.procedures n) words a line to rs callers z refl
-  callee_meets (Word r) words a line to rs callers z = number_meets (register r rs) words a line to rs callers z
+  callee_meets (Word r) words a line to rs callers z = callee_number_meets (register r rs) words a line to rs callers z
 
   words_meet :
       (o : Option (List ℕ)) (callee : Callee) (a : Activation) (line to : ℕ) (rs : Registers) (callers : List Caller) (z : MidState)
@@ -485,8 +549,7 @@ module _ (mid : MidProgram) (b : ℕ) (below further : Task → MidState → Mid
       (run_landing (length z.arena.blocks) word (λ rs'' x. exec c landing rs'' x)) (exec c inside _ y) h.2 h.3
       (λ w rs'' x. subst
       (λ to. FollowsOutcome flat (suc b)
-      (land_at (line_of flat a.procedure (at + 1 + line_count inside + 2)) w
-      (standing_at (length z.arena.blocks) words (at + 1 + line_count inside + 2) true)
+      (land_at (line_of flat a.procedure (at + 1 + line_count inside + 2)) (at + 1 + line_count inside + 2) w (length z.arena.blocks)
       (with_standing (standing_at (length z.arena.blocks) words (at + 1 + line_count inside + 2) false ∷ a.standing) a) rs'' callers x)
       a to callers (run_landing (length z.arena.blocks) word (λ rs3 v. exec c landing rs3 v) w rs'' x)) last
       (landing_meets flat (suc b) a (length z.arena.blocks) words (at + 1 + line_count inside + 2) (at + 1 + line_count inside + 2 + 1 + line_count landing) word w callers
@@ -519,6 +582,11 @@ module _ (mid : MidProgram) (b : ℕ) (below further : Task → MidState → Mid
         (λ y. jumped_meets flat (suc b) _ a (at + 1 + line_count first) _ callers _ h.2 (code_meets first (at + 1) a rs callers y h.1))
         (λ y. jumped_meets flat (suc b) _ a (at + 1 + line_count first + 1 + line_count second) _ callers _ h.4
         (code_meets second (at + 1 + line_count first + 1) a rs callers y h.3))
+    step_meets (switch r codes) at a rs callers z h =
+        then_meets flat (at_line flat a at rs callers z (Switch r (code_targets (at + 1) codes)) h.0)
+        (switch_meets flat (suc b) (register r rs) (code_targets (at + 1) codes) (λ n rs' y. jumped (exec_number c codes n rs' y)) a
+        (at + step_line_count (switch r codes)) rs callers (charged test_cost z)
+        (λ n. number_meets codes (at + 1) (at + step_line_count (switch r codes)) n a rs callers (charged test_cost z) h.1))
     step_meets (repeat how head t body) at a rs callers z h =
         code_on flat (suc b) _ a (at + line_count head) (at + step_line_count (repeat how head t body)) callers (exec c head rs z) _
         (code_meets head at a rs callers z h.0)
@@ -530,6 +598,14 @@ module _ (mid : MidProgram) (b : ℕ) (below further : Task → MidState → Mid
         record_meets block words word inside landing at a rs callers z h
         (λ records rs' y. code_meets inside (at + 1) (with_standing records a) rs' callers y h.1)
         (λ records rs' y. code_meets landing (at + 1 + line_count inside + 2 + 1) (with_standing records a) rs' callers y h.5)
+    step_meets (lend block words inside) at a rs callers z h =
+        let last : at + 1 + line_count inside + 1 ≡ at + step_line_count (lend block words inside) = omega arith in
+        then_meets flat (at_line flat a at rs callers z (Lend block words) h.0)
+        (subst
+        (λ to. FollowsOutcome flat (suc b) (lend_at block (register words rs) a (at + 1) rs callers (charged record_cost z)) a to callers
+        (with_some (register words rs) (λ n. with_lent block n (λ rs' y. exec c inside rs' y)) rs (charged record_cost z))) last
+        (lent_meets flat (suc b) (register words rs) block (at + 1 + line_count inside) a (at + 1) (λ rs' y. exec c inside rs' y) rs callers (charged record_cost z) h.2
+        (λ records rs' y. code_meets inside (at + 1) (with_standing records a) rs' callers y h.1)))
     step_meets (return_word r) at a rs callers z h =
         simple_meets (return_word r) (Return r) a at rs callers z h
         refl (some_reached _ _ rs _ (λ w. tt))
@@ -539,9 +615,18 @@ module _ (mid : MidProgram) (b : ℕ) (below further : Task → MidState → Mid
     step_meets (halt_with r) at a rs callers z h =
         simple_meets (halt_with r) (Halt r) a at rs callers z h
         refl (some_reached _ _ rs _ (λ w. tt))
-    step_meets (end_unhandled class site) at a rs callers z h =
-        simple_meets (end_unhandled class site) (Unhandled class site) a at rs callers z h
-        refl (some_reached _ _ rs _ (λ v. some_reached _ _ rs _ (λ w. tt)))
+    step_meets (end_unhandled class site condition) at a rs callers z h =
+        simple_meets (end_unhandled class site condition) (Unhandled class site condition) a at rs callers z h
+        refl (some_reached _ _ rs _ (λ v. some_reached _ _ rs _ (λ w. some_reached _ _ rs _ (λ x. tt))))
+
+    -- the code of a number in a switch, and the jump behind it
+    number_meets :
+        (codes : MidCodes) (at end n : ℕ) (a : Activation) (rs : Registers) (callers : List Caller) (z : MidState) → CodesLie (lines_of flat a.procedure) at end codes
+        → FollowsOutcome flat (suc b) (switch_to (slice_get (code_targets at codes) n) a rs callers z) a end callers (jumped (exec_number c codes n rs z))
+    number_meets no_code at end n a rs callers z h = past_the_last flat (suc b) a end rs callers z
+    number_meets (code_and code codes) at end zero a rs callers z h =
+        jumped_meets flat (suc b) _ a (at + line_count code) end callers _ h.1 (code_meets code at a rs callers z h.0)
+    number_meets (code_and code codes) at end (suc n) a rs callers z h = number_meets codes (at + line_count code + 1) end n a rs callers z h.2
 
   -- tasks
 

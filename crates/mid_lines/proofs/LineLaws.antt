@@ -79,7 +79,7 @@ top_meets program c s r m = from r.end r.registers r.state m
     from no_level rs z m = m
     from no_turn rs z m = m
     from (halts w) rs z m = m
-    from (unhandled class site) rs z m = m
+    from (unhandled class site condition) rs z m = m
     from exhausted rs z m = m
     from stuck rs z m = m
 

@@ -3,10 +3,10 @@ use Rattle.std.proofs.Common.{◌≡◌, ℕ, ◌+◌, ◌<◌, List, [], ◌∷
 use Rattle.std.specs.Prelude.{slice_get}
 use Rattle.std.proofs.Math.Seq.{get_or-append_seam}
 use Rattle.std.proofs.lemmas.Option.{slice_get-get_or}
-use Rattle.mid_code.specs.MidCode.{MidStep, perform, choose, repeat, with_block, return_word, cut_to, halt_with, end_unhandled, MidCode, no_step, step_and}
+use Rattle.mid_code.specs.MidCode.{MidStep, perform, choose, switch, repeat, with_block, lend, return_word, cut_to, halt_with, end_unhandled, MidCode, no_step, step_and, MidCodes, no_code, code_and}
 use Rattle.mid_lines.specs.declared.line.Line.{Line}
-use Rattle.mid_lines.specs.declared.line.Line.TheVariants.{Do, Branch, Jump, Lay, Landed, GiveBack, Return, Cut, Halt, Unhandled}
-use Rattle.mid_lines.specs.Flattened.{step_line_count, line_count, step_lines, code_lines}
+use Rattle.mid_lines.specs.declared.line.Line.TheVariants.{Do, Branch, Switch, Jump, Lay, Landed, GiveBack, Lend, GiveBackLent, Return, Cut, Halt, Unhandled}
+use Rattle.mid_lines.specs.Flattened.{step_line_count, line_count, codes_line_count, code_targets, step_lines, code_lines, codes_lines}
 
 -- these lines stand among the lines from there on
 abbrev pub HasAt : List Line → ℕ → List Line → Type 0
@@ -45,6 +45,9 @@ mutual
           (a b : List Line) (x y z : Line) → length a ≡ line_count first → length b ≡ line_count second
           → length (x ∷ (a ++ (y ∷ (b ++ z ∷ [])))) ≡ 1 + line_count first + 1 + line_count second + 1
       choice_length a b x y z n m = omega (arith, length-append a (y ∷ (b ++ z ∷ [])), length-append b (z ∷ []))
+  step_length (switch r codes) at =
+      let n = codes_length codes (at + 1) (at + step_line_count (switch r codes)) in
+      omega (arith, n)
   step_length (repeat counted head t body) at =
       let n = code_length head at in
       let m = code_length body (at + line_count head + 1) in
@@ -61,6 +64,12 @@ mutual
           (a b : List Line) (v w x y z : Line) → length a ≡ line_count inside → length b ≡ line_count landing
           → length (v ∷ (a ++ (w ∷ x ∷ y ∷ (b ++ z ∷ [])))) ≡ 1 + line_count inside + 3 + line_count landing + 1
       record_length a b v w x y z n m = omega (arith, length-append a (w ∷ x ∷ y ∷ (b ++ z ∷ [])), length-append b (z ∷ []))
+  step_length (lend block words inside) at =
+      let n = code_length inside (at + 1) in
+      lent_length (code_lines (at + 1) inside) GiveBackLent GiveBackLent n
+    where
+      lent_length : (a : List Line) (x y : Line) → length a ≡ line_count inside → length (x ∷ (a ++ y ∷ [])) ≡ 1 + line_count inside + 1
+      lent_length a x y n = omega (arith, length-append a (y ∷ []))
   step_length w at = refl
 
   pub code_length : (c : MidCode) (at : ℕ) → length (code_lines at c) ≡ line_count c
@@ -69,6 +78,13 @@ mutual
       let n = step_length s at in
       let m = code_length c (at + step_line_count s) in
       omega (arith, length-append (step_lines at s) (code_lines (at + step_line_count s) c))
+
+  pub codes_length : (codes : MidCodes) (at end : ℕ) → length (codes_lines at end codes) ≡ codes_line_count codes
+  codes_length no_code at end = refl
+  codes_length (code_and c codes) at end =
+      let n = code_length c at in
+      let m = codes_length codes (at + line_count c + 1) end in
+      omega (arith, length-append (code_lines at c) (Jump end ∷ codes_lines (at + line_count c + 1) end codes))
 
 -- a step, and code, lies in lines
 abbrev mutual
@@ -80,6 +96,9 @@ abbrev mutual
       × (slice_get lines (at + 1 + line_count first) ≡ Some (Jump (at + (1 + line_count first + 1 + line_count second + 1))))
       × CodeLies lines (at + 1 + line_count first + 1) second
       × (slice_get lines (at + 1 + line_count first + 1 + line_count second) ≡ Some (Jump (at + (1 + line_count first + 1 + line_count second + 1))))
+  StepLies lines at (switch r codes) =
+      (slice_get lines at ≡ Some (Switch r (code_targets (at + 1) codes)))
+      × CodesLie lines (at + 1) (at + (1 + codes_line_count codes)) codes
   StepLies lines at (repeat counted head t body) =
       CodeLies lines at head
       × (slice_get lines (at + line_count head) ≡ Some (Branch t (at + (line_count head + 1 + line_count body + 1))))
@@ -93,14 +112,25 @@ abbrev mutual
       × (slice_get lines (at + 1 + line_count inside + 2) ≡ Some (Landed word))
       × CodeLies lines (at + 1 + line_count inside + 2 + 1) landing
       × (slice_get lines (at + 1 + line_count inside + 2 + 1 + line_count landing) ≡ Some (GiveBack words))
+  StepLies lines at (lend block words inside) =
+      (slice_get lines at ≡ Some (Lend block words))
+      × CodeLies lines (at + 1) inside
+      × (slice_get lines (at + 1 + line_count inside) ≡ Some GiveBackLent)
   StepLies lines at (return_word r) = slice_get lines at ≡ Some (Return r)
   StepLies lines at (cut_to block word) = slice_get lines at ≡ Some (Cut block word)
   StepLies lines at (halt_with r) = slice_get lines at ≡ Some (Halt r)
-  StepLies lines at (end_unhandled class site) = slice_get lines at ≡ Some (Unhandled class site)
+  StepLies lines at (end_unhandled class site condition) = slice_get lines at ≡ Some (Unhandled class site condition)
 
   pub CodeLies : List Line → ℕ → MidCode → Type 0
   CodeLies lines at no_step = Unit {0}
   CodeLies lines at (step_and s c) = StepLies lines at s × CodeLies lines (at + step_line_count s) c
+
+  pub CodesLie : List Line → (at end : ℕ) → MidCodes → Type 0
+  CodesLie lines at end no_code = Unit {0}
+  CodesLie lines at end (code_and c codes) =
+      CodeLies lines at c
+      × (slice_get lines (at + line_count c) ≡ Some (Jump end))
+      × CodesLie lines (at + line_count c + 1) end codes
 
 mutual
   step_lies : (lines : List Line) (s : MidStep) (at : ℕ) → HasAt lines at (step_lines at s) → StepLies lines at s
@@ -113,6 +143,7 @@ mutual
         code_lies lines second (at + 1 + line_count first + 1) (has_front lines (at + 1 + line_count first + 1) (code_lines (at + 1 + line_count first + 1) second) _ a.1),
         b.0,
       )
+  step_lies lines (switch r codes) at h = (h.0, codes_lie lines codes (at + 1) (at + (1 + codes_line_count codes)) h.1)
   step_lies lines (repeat counted head t body) at h =
       let a = has_back lines at (line_count head) (code_lines at head) _ (code_length head at) h in
       let b = has_back lines (at + line_count head + 1) (line_count body) (code_lines (at + line_count head + 1) body) _ (code_length body (at + line_count head + 1)) a.1 in (
@@ -137,6 +168,9 @@ mutual
         subst (λ k. CodeLies lines k landing) more (code_lies lines landing (i + 3) (has_front lines (i + 3) (code_lines (i + 3) landing) _ c)),
         subst (λ k. slice_get lines (k + line_count landing) ≡ Some (GiveBack words)) more b.0,
       )
+  step_lies lines (lend block words inside) at h =
+      let a = has_back lines (at + 1) (line_count inside) (code_lines (at + 1) inside) _ (code_length inside (at + 1)) h.1 in
+      (h.0, code_lies lines inside (at + 1) (has_front lines (at + 1) (code_lines (at + 1) inside) _ h.1), a.0)
   step_lies lines w at h = h.0
 
   code_lies : (lines : List Line) (c : MidCode) (at : ℕ) → HasAt lines at (code_lines at c) → CodeLies lines at c
@@ -145,6 +179,12 @@ mutual
     step_lies lines s at (has_front lines at (step_lines at s) _ h),
     code_lies lines c (at + step_line_count s) (has_back lines at (step_line_count s) (step_lines at s) _ (step_length s at) h),
   )
+
+  codes_lie : (lines : List Line) (codes : MidCodes) (at end : ℕ) → HasAt lines at (codes_lines at end codes) → CodesLie lines at end codes
+  codes_lie lines no_code at end h = tt
+  codes_lie lines (code_and c codes) at end h =
+      let a = has_back lines at (line_count c) (code_lines at c) _ (code_length c at) h in
+      (code_lies lines c at (has_front lines at (code_lines at c) _ h), a.0, codes_lie lines codes (at + line_count c + 1) end a.1)
 
 -- the code of a procedure lies in its lines
 pub all_lies : (c : MidCode) → CodeLies (code_lines 0 c) 0 c

@@ -3,17 +3,18 @@ use Rattle.std.proofs.Common.{◌≡◌, ℕ, zero, suc, ◌+◌, Bool, true, fa
 use Rattle.std.specs.Prelude.{slice_get, slice_set}
 use Rattle.mid_code.specs.declared.operation.Operation.{Operation}
 use Rattle.mid_code.specs.declared.operation.Operation.TheVariants.{Move, Constant, Compute, Load, Store, Request, Draw, Put, Get, Call}
-use Rattle.mid_code.specs.Arena.{Block, activation_frame, closed_record, is_open, is_record, record_of, lent_from, left, with_blocks, with_new_block, blocks_from, outside_of, blocks_outside, blocks_closed}
+use Rattle.mid_code.specs.Arena.{Block, activation_frame, closed_record, is_open, is_record, record_of, lent_block, lent_from, left, with_blocks, with_new_block, blocks_from, outside_of, blocks_outside, blocks_closed}
+use Rattle.mid_code.specs.Checked.{is_block_size}
 use Rattle.mid_code.specs.Costs.{give_back_cost, entry_cost}
 use Rattle.mid_code.specs.State.{Registers, first_registers, MidState, End, falls, returns, cuts, no_room, no_level, no_turn, halts, unhandled, exhausted, stuck, MidOutcome, Next, ends, charged, with_arena, with_some, choose_by, register}
 use Rattle.mid_code.specs.Meaning.{lay, get_from, give_back, exec_step}
 use Rattle.mid_lines.proofs.Conjunctions.{front_true, back_true, both_true}
 use Rattle.mid_lines.specs.declared.line.Line.{Line}
-use Rattle.mid_lines.specs.declared.line.Line.TheVariants.{Do, Branch, Jump, Lay, Landed, GiveBack, Return, Cut, Halt, Unhandled}
+use Rattle.mid_lines.specs.declared.line.Line.TheVariants.{Do, Branch, Switch, Jump, Lay, Landed, GiveBack, Lend, GiveBackLent, Return, Cut, Halt, Unhandled}
 use Rattle.mid_lines.specs.declared.line.LineProcedure.{LineProcedure}
 use Rattle.mid_lines.specs.declared.line.LineProgram.{LineProgram}
 use Rattle.mid_lines.specs.Lines.{line_of}
-use Rattle.mid_lines.specs.LineMeaning.{Standing, Activation, with_standing, Caller, Stage, running, entering, ended, return_to, standing_from, closed, arrive, arrive_from, land_at, land, cut_outwards, cut_from, proceed, proceed_from, enter_at, begin, holds, branch, words_in, callee_in, call, perform_at, give_back_at, do_line, next, after}
+use Rattle.mid_lines.specs.LineMeaning.{Standing, Activation, with_standing, Caller, Stage, running, entering, ended, return_to, standing_from, closed, arrive, arrive_from, land_at, land_in, land, cut_outwards, cut_from, proceed, proceed_from, enter_at, begin, holds, branch, words_in, callee_in, call, perform_at, target_in, switch_to, lend_at, is_record_of, is_only_lent, give_back_at, do_line, next, after}
 use Rattle.mid_lines.specs.StackLaw.{record_kind, record_block, frame_in, frame_of, blocks_of, BlocksAreCounted, StandsOn, CallersStandOn, StageStands, LawOfStack}
 
 -- where something falls out, a fact holds
@@ -25,7 +26,7 @@ IfFalls (no_room asked left) T = Unit {0}
 IfFalls no_level T = Unit {0}
 IfFalls no_turn T = Unit {0}
 IfFalls (halts w) T = Unit {0}
-IfFalls (unhandled class site) T = Unit {0}
+IfFalls (unhandled class site condition) T = Unit {0}
 IfFalls exhausted T = Unit {0}
 IfFalls stuck T = Unit {0}
 
@@ -126,7 +127,7 @@ module _ (program : LineProgram) (first : List Block) where
       from no_level kept = tt
       from no_turn kept = tt
       from (halts w) kept = tt
-      from (unhandled class site) kept = tt
+      from (unhandled class site condition) kept = tt
       from exhausted kept = tt
       from stuck kept = tt
 
@@ -135,19 +136,15 @@ module _ (program : LineProgram) (first : List Block) where
   return_stands (c ∷ callers) word z k = k
 
   -- the landing of a record, with the blocks from it on
-  landing_stands :
-      (o : Option Line) (word : ℕ) (s : Standing) (records : List Standing) (a : Activation) (rs : Registers) (callers : List Caller) (z : MidState)
+  at_landing_stands :
+      (o : Option Line) (landing word : ℕ) (s : Standing) (records : List Standing) (a : Activation) (rs : Registers) (callers : List Caller) (z : MidState)
       → z.arena.blocks ≡ record_block s ∷ blocks_of program a records → s.outside ≡ length (blocks_of program a records) → BlocksAreCounted program a records
       → CallersStandOn program first callers a.outer
-      → StageStands program first (land_at o word s (with_standing (closed s ∷ records) a) rs callers z)
+      → StageStands program first (land_at o landing word s.outside (with_standing (closed s ∷ records) a) rs callers z)
   unfolding with_some
-  landing_stands None word s records a rs callers z e n counted k = tt
-  landing_stands (Some (Do o)) word s records a rs callers z e n counted k = tt
-  landing_stands (Some (Branch t otherwise)) word s records a rs callers z e n counted k = tt
-  landing_stands (Some (Jump to)) word s records a rs callers z e n counted k = tt
-  landing_stands (Some (Lay block words landing)) word s records a rs callers z e n counted k = tt
-  landing_stands (Some (Landed r)) word s records a rs callers z e n counted k =
-      arrive_stands (with_standing (closed s ∷ records) a) (s.landing + 1) callers _
+  at_landing_stands None landing word s records a rs callers z e n counted k = tt
+  at_landing_stands (Some (Landed r)) landing word s records a rs callers z e n counted k =
+      arrive_stands (with_standing (closed s ∷ records) a) (landing + 1) callers _
       (closing (blocks_closed s.outside z.arena.blocks) (λ bs h. closed_part s.outside (record_block s) (blocks_of program a records) bs (ap (blocks_closed s.outside) (sym e) ∙ h))) k
     where
       closing :
@@ -157,11 +154,16 @@ module _ (program : LineProgram) (first : List Block) where
           (with_some o (λ bs rs' y. ends falls (slice_set rs' r (Some word)) (with_arena (with_blocks bs y.arena) y)) rs z).state.arena.blocks)
       closing None h = tt
       closing (Some bs) h = record { all = h bs refl; counted = (n, counted) }
-  landing_stands (Some (GiveBack words)) word s records a rs callers z e n counted k = tt
-  landing_stands (Some (Return r)) word s records a rs callers z e n counted k = tt
-  landing_stands (Some (Cut block w)) word s records a rs callers z e n counted k = tt
-  landing_stands (Some (Halt r)) word s records a rs callers z e n counted k = tt
-  landing_stands (Some (Unhandled class site)) word s records a rs callers z e n counted k = tt
+  at_landing_stands (Some x) landing word s records a rs callers z e n counted k = tt
+
+  landing_stands :
+      (o : Option ℕ) (word : ℕ) (s : Standing) (records : List Standing) (a : Activation) (rs : Registers) (callers : List Caller) (z : MidState)
+      → z.arena.blocks ≡ record_block s ∷ blocks_of program a records → s.outside ≡ length (blocks_of program a records) → BlocksAreCounted program a records
+      → CallersStandOn program first callers a.outer
+      → StageStands program first (land_in program o word s.outside (with_standing (closed s ∷ records) a) rs callers z)
+  landing_stands None word s records a rs callers z e n counted k = tt
+  landing_stands (Some landing) word s records a rs callers z e n counted k =
+      at_landing_stands (line_of program a.procedure landing) landing word s records a rs callers z e n counted k
 
   -- a cut that leaves the blocks from an open record on, in an activation and outside it
 
@@ -186,7 +188,7 @@ module _ (program : LineProgram) (first : List Block) where
           → StageStands program first (land program word (standing_from (length outer) records) a rs callers z otherwise))
           → StageStands program first (land program word (if t then s ∷ records else standing_from (length outer) records) a rs callers z otherwise)
       by true t [] e i =
-          landing_stands (line_of program a.procedure s.landing) word s records a rs callers z (m ∙ sym e) counted.0 counted.1 k
+          landing_stands s.landing word s records a rs callers z (m ∙ sym e) counted.0 counted.1 k
       by true t (x ∷ xs) e i =
           let rest : blocks_of program a records ≡ xs ++ b ∷ outer = cc e in
           let count : length outer ≡ s.outside = eqb-true (length outer) s.outside (back_true s.is_open (length outer == s.outside) t) in
@@ -272,12 +274,12 @@ module _ (program : LineProgram) (first : List Block) where
   perform_stands (Call to callee arguments) a line rs callers z h k = call_stands (words_in arguments rs) (callee_in callee rs) _ _ (h, k)
 
   give_back_stands :
-      (words : ℕ) (records : List Standing) (a : Activation) (line : ℕ) (rs : Registers) (callers : List Caller) (z : MidState)
+      (is_such : Standing → Bool) (records : List Standing) (a : Activation) (line : ℕ) (rs : Registers) (callers : List Caller) (z : MidState)
       → z.arena.blocks ≡ blocks_of program a records → BlocksAreCounted program a records → CallersStandOn program first callers a.outer
-      → StageStands program first (give_back_at words records a line rs callers z)
+      → StageStands program first (give_back_at is_such records a line rs callers z)
   unfolding with_some
-  give_back_stands words [] a line rs callers z e counted k = tt
-  give_back_stands words (s ∷ records) a line rs callers z e counted k = by (words == s.words)
+  give_back_stands is_such [] a line rs callers z e counted k = tt
+  give_back_stands is_such (s ∷ records) a line rs callers z e counted k = by (is_such s)
     where
       given :
           (o : Option (List Block)) → ((bs : List Block) → o ≡ Some bs → bs ≡ blocks_of program a records)
@@ -292,6 +294,29 @@ module _ (program : LineProgram) (first : List Block) where
           arrive_stands (with_standing records a) (line + 1) callers (give_back s.outside rs z)
           (given (blocks_outside s.outside z.arena.blocks)
           (λ bs h. outside_part s.outside (record_block s) (blocks_of program a records) bs (ap (blocks_outside s.outside) (sym e) ∙ h))) k
+      by false = tt
+
+  switch_stands :
+      (o : Option ℕ) (a : Activation) (rs : Registers) (callers : List Caller) (z : MidState)
+      → StandsOn program a z.arena.blocks → CallersStandOn program first callers a.outer → StageStands program first (switch_to o a rs callers z)
+  switch_stands None a rs callers z h k = tt
+  switch_stands (Some line) a rs callers z h k = (h, k)
+
+  lend_stands :
+      (block : ℕ) (o : Option ℕ) (a : Activation) (line : ℕ) (rs : Registers) (callers : List Caller) (z : MidState)
+      → StandsOn program a z.arena.blocks → CallersStandOn program first callers a.outer → StageStands program first (lend_at block o a line rs callers z)
+  unfolding choose_by
+  lend_stands block None a line rs callers z h k = tt
+  lend_stands block (Some n) a line rs callers z h k = by (is_block_size n)
+    where
+      by :
+          (t : Bool)
+          → StageStands program first
+          (arrive (with_standing (record { outside = length z.arena.blocks; words = n; landing = None; is_open = false } ∷ a.standing) a) line callers
+          (choose_by t (lay (lent_block n) (λ rs' y. ends falls (slice_set rs' block (Some (lent_from (length y.arena.memory) y.arena.blocks))) y)) (ends stuck) rs z))
+      by true =
+          laid_stands (lent_block n) (λ rs' y. ends falls (slice_set rs' block (Some (lent_from (length y.arena.memory) y.arena.blocks))) y) _ line rs callers z
+          (λ y e. record { all = e ∙ ap (λ l. lent_block n ∷ l) h.all; counted = (ap length h.all, h.counted) }) k
       by false = tt
 
   returned_stands :
@@ -316,19 +341,22 @@ module _ (program : LineProgram) (first : List Block) where
   line_stands None a line rs callers z h k = tt
   line_stands (Some (Do o)) a line rs callers z h k = perform_stands o a line rs callers z h k
   line_stands (Some (Branch t otherwise)) a line rs callers z h k = branch_stands (holds t rs) a (line + 1) otherwise rs callers _ h k
+  line_stands (Some (Switch r targets)) a line rs callers z h k = switch_stands (target_in targets (register r rs)) a rs callers _ h k
   line_stands (Some (Jump to)) a line rs callers z h k = (h, k)
   line_stands (Some (Lay block words landing)) a line rs callers z h k =
       laid_stands (record_of words) (λ rs' y. ends falls (slice_set rs' block (Some (lent_from (length y.arena.memory) y.arena.blocks))) y) _ (line + 1) rs callers _
       (λ y e. record { all = e ∙ ap (λ l. record_of words ∷ l) h.all; counted = (ap length h.all, h.counted) }) k
   line_stands (Some (Landed r)) a line rs callers z h k = tt
-  line_stands (Some (GiveBack words)) a line rs callers z h k = give_back_stands words a.standing a line rs callers z h.all h.counted k
+  line_stands (Some (GiveBack words)) a line rs callers z h k = give_back_stands (is_record_of words) a.standing a line rs callers z h.all h.counted k
+  line_stands (Some (Lend block words)) a line rs callers z h k = lend_stands block (register words rs) a (line + 1) rs callers _ h k
+  line_stands (Some GiveBackLent) a line rs callers z h k = give_back_stands is_only_lent a.standing a line rs callers z h.all h.counted k
   line_stands (Some (Return r)) a line rs callers z h k = returned_stands (register r rs) a (line + 1) rs callers _ k
   line_stands (Some (Cut block word)) a line rs callers z h k =
       some_stands _ _ a (line + 1) rs callers _ (λ v. some_stands _ _ a (line + 1) rs callers _ (λ w.
       cut_stands a (line + 1) rs callers _ z.arena.blocks w (blocks_from (length z.arena.memory) z.arena.blocks v) (cut_part (length z.arena.memory) z.arena.blocks v) h k))
   line_stands (Some (Halt r)) a line rs callers z h k = keeps_stands a (line + 1) callers z.arena.blocks _ (some_keeps _ _ _ rs _ (λ w. tt)) h k
-  line_stands (Some (Unhandled class site)) a line rs callers z h k =
-      keeps_stands a (line + 1) callers z.arena.blocks _ (some_keeps _ _ _ rs _ (λ v. some_keeps _ _ _ rs _ (λ w. tt))) h k
+  line_stands (Some (Unhandled class site condition)) a line rs callers z h k =
+      keeps_stands a (line + 1) callers z.arena.blocks _ (some_keeps _ _ _ rs _ (λ v. some_keeps _ _ _ rs _ (λ w. some_keeps _ _ _ rs _ (λ x. tt)))) h k
 
   entry_stands :
       (o : Option LineProcedure) (number : ℕ) (arguments : List ℕ) (callers : List Caller) (z : MidState) → slice_get program.procedures number ≡ o
@@ -347,7 +375,7 @@ module _ (program : LineProgram) (first : List Block) where
           (λ y m. record { all = m ∙ ap (λ o. frame_in o ∷ z.arena.blocks) (sym e); counted = tt }) k
       by false = tt
 
-  next_stands : (s : Stage) → StageStands program first s → StageStands program first (next program s)
+  pub next_stands : (s : Stage) → StageStands program first s → StageStands program first (next program s)
   next_stands (running a line rs callers z) h = line_stands (line_of program a.procedure line) a line rs callers z h.0 h.1
   next_stands (entering number arguments callers z) h = entry_stands (slice_get program.procedures number) number arguments callers z refl h
   next_stands (ended e z) h = tt

@@ -1,5 +1,5 @@
 -- What lines do: a machine with a stack of activations. It goes on line by line, over the states of middle code.
-use Rattle.std.specs.Prelude.{ℕ, zero, suc, ◌+◌, Bool, true, false, ◌&&◌, ◌==◌, List, [], ◌∷◌, length, slice_get, slice_set, Option, Some, None, if◌then◌else◌}
+use Rattle.std.specs.Prelude.{ℕ, zero, suc, ◌+◌, Bool, true, false, ◌&&◌, not, ◌==◌, List, [], ◌∷◌, length, slice_get, slice_set, Option, Some, None, if◌then◌else◌}
 use Rattle.mid_code.specs.declared.operation.Callee.{Callee}
 use Rattle.mid_code.specs.declared.operation.Callee.TheVariants.{Procedure, Word}
 use Rattle.mid_code.specs.declared.operation.Operation.{Operation}
@@ -7,25 +7,26 @@ use Rattle.mid_code.specs.declared.operation.Operation.TheVariants.{Call}
 use Rattle.mid_code.specs.declared.operation.Test.{Test}
 use Rattle.mid_code.specs.MidCode.{perform, return_word, cut_to, halt_with, end_unhandled}
 use Rattle.mid_code.specs.Words.{compares}
-use Rattle.mid_code.specs.Arena.{Block, activation_frame, record_of, lent_from, with_blocks}
+use Rattle.mid_code.specs.Arena.{Block, activation_frame, record_of, lent_block, lent_from, with_blocks}
+use Rattle.mid_code.specs.Checked.{is_block_size}
 use Rattle.mid_code.specs.Costs.{operation_cost, test_cost, jump_cost, record_cost, entry_cost}
 use Rattle.mid_code.specs.State.{Registers, first_registers, MidState, End, falls, returns, cuts, no_room, no_level, no_turn, halts, unhandled, exhausted, stuck, MidOutcome, ends, charged, with_arena, where_true, register}
 use Rattle.mid_code.specs.Meaning.{lay, give_back, close, Context, context_of, exec_step}
 use Rattle.mid_lines.specs.declared.line.Line.{Line}
-use Rattle.mid_lines.specs.declared.line.Line.TheVariants.{Do, Branch, Jump, Lay, Landed, GiveBack, Return, Cut, Halt, Unhandled}
+use Rattle.mid_lines.specs.declared.line.Line.TheVariants.{Do, Branch, Switch, Jump, Lay, Landed, GiveBack, Lend, GiveBackLent, Return, Cut, Halt, Unhandled}
 use Rattle.mid_lines.specs.declared.line.LineProcedure.{LineProcedure}
 use Rattle.mid_lines.specs.declared.line.LineProgram.{LineProgram}
 use Rattle.mid_lines.specs.Lines.{line_of}
 
--- A control record that an activation laid and did not give back: how many blocks stand outside, how many words it lends, the line
--- of its landing, and whether a cut may go to it.
+-- A control record, or a block that is only lent, which an activation laid and did not give back: how many blocks stand outside, how many
+-- words it lends, the line of its landing, which a block that is only lent has not, and whether a cut may go to it.
 pub record Standing : Type 0 where
   pub outside : ℕ
   pub words : ℕ
-  pub landing : ℕ
+  pub landing : Option ℕ
   pub is_open : Bool
 
--- an activation: the number of its procedure, the blocks of its caller, and its control records that stand, the innermost first
+-- an activation: the number of its procedure, the blocks of its caller, and its records that stand, the innermost first
 pub record Activation : Type 0 where
   pub procedure : ℕ
   pub outer : List Block
@@ -83,17 +84,23 @@ arrive_from e a line rs callers z = ended e z
 abbrev pub arrive : Activation → (line : ℕ) → List Caller → MidOutcome → Stage
 arrive a line callers r = arrive_from r.end a line r.registers callers r.state
 
--- the head of the landing of a record, with the word of the cut: the record is closed, and the word is in the register
-abbrev pub land_at : Option Line → (word : ℕ) → Standing → Activation → Registers → List Caller → MidState → Stage
-land_at (Some (Landed r)) word s a rs callers z =
-    arrive a (s.landing + 1) callers (close s.outside (λ rs' y. ends falls (slice_set rs' r (Some word)) y) rs z)
-land_at line word s a rs callers z = ended stuck z
+-- The head of the landing, at a line, of a record with so many blocks outside, with the word of the cut: the record is closed, and the word
+-- is in the register.
+abbrev pub land_at : Option Line → (landing word outside : ℕ) → Activation → Registers → List Caller → MidState → Stage
+land_at (Some (Landed r)) landing word outside a rs callers z =
+    arrive a (landing + 1) callers (close outside (λ rs' y. ends falls (slice_set rs' r (Some word)) y) rs z)
+land_at line landing word outside a rs callers z = ended stuck z
+
+-- the landing of a record, where it has one
+abbrev pub land_in : LineProgram → (landing : Option ℕ) → (word outside : ℕ) → Activation → Registers → List Caller → MidState → Stage
+land_in program None word outside a rs callers z = ended stuck z
+land_in program (Some landing) word outside a rs callers z = land_at (line_of program a.procedure landing) landing word outside a rs callers z
 
 -- the landing of the first of these records of an activation, and something else where there is none
 abbrev pub land : LineProgram → (word : ℕ) → List Standing → Activation → Registers → List Caller → MidState → (otherwise : Stage) → Stage
 land program word [] a rs callers z otherwise = otherwise
 land program word (s ∷ records) a rs callers z otherwise =
-    land_at (line_of program a.procedure s.landing) word s (with_standing (closed s ∷ records) a) rs callers z
+    land_in program s.landing word s.outside (with_standing (closed s ∷ records) a) rs callers z
 
 -- A cut to the block that has so many outside. The record is sought in the callers, from the innermost on; the activations above the one
 -- that laid it end.
@@ -116,7 +123,7 @@ proceed_from program (no_room asked left) a line rs callers z = ended (no_room a
 proceed_from program no_level a line rs callers z = ended no_level z
 proceed_from program no_turn a line rs callers z = ended no_turn z
 proceed_from program (halts w) a line rs callers z = ended (halts w) z
-proceed_from program (unhandled class site) a line rs callers z = ended (unhandled class site) z
+proceed_from program (unhandled class site condition) a line rs callers z = ended (unhandled class site condition) z
 proceed_from program exhausted a line rs callers z = ended exhausted z
 proceed_from program stuck a line rs callers z = ended stuck z
 
@@ -184,27 +191,58 @@ perform_at program (Call to callee arguments) a line rs callers z =
     (charged (operation_cost (Call to callee arguments)) z)
 perform_at program o a line rs callers z = proceed program a (line + 1) callers (exec_step alone (perform o) rs z)
 
--- the innermost record of the activation, which lends so many words, is given back
-abbrev pub give_back_at : (words : ℕ) → List Standing → Activation → (line : ℕ) → Registers → List Caller → MidState → Stage
-give_back_at words [] a line rs callers z = ended stuck z
-give_back_at words (s ∷ records) a line rs callers z =
-    if words == s.words then arrive (with_standing records a) (line + 1) callers (give_back s.outside rs z) else ended stuck z
+-- the line of a number in a table of lines; none where the register was not set, and past the last one
+abbrev pub target_in : List ℕ → Option ℕ → Option ℕ
+target_in targets None = None
+target_in targets (Some n) = slice_get targets n
+
+abbrev pub switch_to : Option ℕ → Activation → Registers → List Caller → MidState → Stage
+switch_to None a rs callers z = ended stuck z
+switch_to (Some line) a rs callers z = running a line rs callers z
+
+-- a block of as many words as a register says is lent, with its address in a register
+abbrev pub lend_at : (block : ℕ) → (words : Option ℕ) → Activation → (line : ℕ) → Registers → List Caller → MidState → Stage
+lend_at block None a line rs callers z = ended stuck z
+lend_at block (Some words) a line rs callers z =
+    arrive (with_standing (record { outside = length z.arena.blocks; words = words; landing = None; is_open = false } ∷ a.standing) a) line callers
+    (where_true (is_block_size words)
+    (lay (lent_block words) (λ rs' y. ends falls (slice_set rs' block (Some (lent_from (length y.arena.memory) y.arena.blocks))) y)) rs z)
+
+abbrev pub has_landing : Option ℕ → Bool
+has_landing None = false
+has_landing (Some landing) = true
+
+-- whether what stands is a control record that lends so many words, and whether it is only lent
+abbrev pub is_record_of : (words : ℕ) → Standing → Bool
+is_record_of words s = has_landing s.landing && (words == s.words)
+
+abbrev pub is_only_lent : Standing → Bool
+is_only_lent s = not (has_landing s.landing)
+
+-- the innermost record of the activation, which is such a one, is given back
+abbrev pub give_back_at : (is_such : Standing → Bool) → List Standing → Activation → (line : ℕ) → Registers → List Caller → MidState → Stage
+give_back_at is_such [] a line rs callers z = ended stuck z
+give_back_at is_such (s ∷ records) a line rs callers z =
+    if is_such s then arrive (with_standing records a) (line + 1) callers (give_back s.outside rs z) else ended stuck z
 
 -- What an activation does at a line. Behind the last line it is stuck, and at the head of a landing too, where only a cut leads.
 abbrev pub do_line : LineProgram → Option Line → Activation → (line : ℕ) → Registers → List Caller → MidState → Stage
 do_line program None a line rs callers z = ended stuck z
 do_line program (Some (Do o)) a line rs callers z = perform_at program o a line rs callers z
 do_line program (Some (Branch t otherwise)) a line rs callers z = branch (holds t rs) a (line + 1) otherwise rs callers (charged test_cost z)
+do_line program (Some (Switch r targets)) a line rs callers z = switch_to (target_in targets (register r rs)) a rs callers (charged test_cost z)
 do_line program (Some (Jump to)) a line rs callers z = running a to rs callers (charged jump_cost z)
 do_line program (Some (Lay block words landing)) a line rs callers z =
-    arrive (with_standing (record { outside = length z.arena.blocks; words = words; landing = landing; is_open = true } ∷ a.standing) a) (line + 1) callers
+    arrive (with_standing (record { outside = length z.arena.blocks; words = words; landing = Some landing; is_open = true } ∷ a.standing) a) (line + 1) callers
     (lay (record_of words) (λ rs' y. ends falls (slice_set rs' block (Some (lent_from (length y.arena.memory) y.arena.blocks))) y) rs (charged record_cost z))
 do_line program (Some (Landed r)) a line rs callers z = ended stuck z
-do_line program (Some (GiveBack words)) a line rs callers z = give_back_at words a.standing a line rs callers z
+do_line program (Some (GiveBack words)) a line rs callers z = give_back_at (is_record_of words) a.standing a line rs callers z
+do_line program (Some (Lend block words)) a line rs callers z = lend_at block (register words rs) a (line + 1) rs callers (charged record_cost z)
+do_line program (Some GiveBackLent) a line rs callers z = give_back_at is_only_lent a.standing a line rs callers z
 do_line program (Some (Return r)) a line rs callers z = proceed program a (line + 1) callers (exec_step alone (return_word r) rs z)
 do_line program (Some (Cut block word)) a line rs callers z = proceed program a (line + 1) callers (exec_step alone (cut_to block word) rs z)
 do_line program (Some (Halt r)) a line rs callers z = proceed program a (line + 1) callers (exec_step alone (halt_with r) rs z)
-do_line program (Some (Unhandled class site)) a line rs callers z = proceed program a (line + 1) callers (exec_step alone (end_unhandled class site) rs z)
+do_line program (Some (Unhandled class site condition)) a line rs callers z = proceed program a (line + 1) callers (exec_step alone (end_unhandled class site condition) rs z)
 
 -- the stage one step later; an end stays
 abbrev pub next : LineProgram → Stage → Stage

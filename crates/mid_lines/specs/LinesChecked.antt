@@ -9,7 +9,7 @@ use Rattle.mid_code.specs.declared.operation.Operation.TheVariants.{Move, Consta
 use Rattle.mid_code.specs.declared.program.MidProgram.{MidProgram}
 use Rattle.mid_code.specs.Checked.{is_register, is_block_size, operation_fits, test_fits, is_checked_program}
 use Rattle.mid_lines.specs.declared.line.Line.{Line}
-use Rattle.mid_lines.specs.declared.line.Line.TheVariants.{Do, Branch, Jump, Lay, Landed, GiveBack, Return, Cut, Halt, Unhandled}
+use Rattle.mid_lines.specs.declared.line.Line.TheVariants.{Do, Branch, Switch, Jump, Lay, Landed, GiveBack, Lend, GiveBackLent, Return, Cut, Halt, Unhandled}
 use Rattle.mid_lines.specs.declared.line.LineProcedure.{LineProcedure}
 use Rattle.mid_lines.specs.declared.line.LineProgram.{LineProgram}
 use Rattle.mid_lines.specs.Flattened.{program_lines}
@@ -22,14 +22,17 @@ is_target lines to = nat_le to lines
 abbrev pub line_fits : (registers lines : ℕ) → Line → Bool
 line_fits registers lines (Do o) = operation_fits registers o
 line_fits registers lines (Branch t otherwise) = test_fits registers t && is_target lines otherwise
+line_fits registers lines (Switch r targets) = is_register registers r && list_all (is_target lines) targets
 line_fits registers lines (Jump to) = is_target lines to
 line_fits registers lines (Lay block words landing) = is_register registers block && (is_block_size words && is_target lines landing)
 line_fits registers lines (Landed r) = is_register registers r
 line_fits registers lines (GiveBack words) = is_block_size words
+line_fits registers lines (Lend block words) = is_register registers block && is_register registers words
+line_fits registers lines GiveBackLent = true
 line_fits registers lines (Return r) = is_register registers r
 line_fits registers lines (Cut block word) = is_register registers block && is_register registers word
 line_fits registers lines (Halt r) = is_register registers r
-line_fits registers lines (Unhandled class site) = is_register registers class && is_register registers site
+line_fits registers lines (Unhandled class site condition) = is_register registers class && (is_register registers site && is_register registers condition)
 
 -- whether there is a procedure, which takes so many arguments
 abbrev pub takes : Option LineProcedure → ℕ → Bool
@@ -56,14 +59,17 @@ operation_calls procedures (Call to callee arguments) = call_fits procedures cal
 abbrev pub line_calls : List LineProcedure → Line → Bool
 line_calls procedures (Do o) = operation_calls procedures o
 line_calls procedures (Branch t otherwise) = true
+line_calls procedures (Switch r targets) = true
 line_calls procedures (Jump to) = true
 line_calls procedures (Lay block words landing) = true
 line_calls procedures (Landed r) = true
 line_calls procedures (GiveBack words) = true
+line_calls procedures (Lend block words) = true
+line_calls procedures GiveBackLent = true
 line_calls procedures (Return r) = true
 line_calls procedures (Cut block word) = true
 line_calls procedures (Halt r) = true
-line_calls procedures (Unhandled class site) = true
+line_calls procedures (Unhandled class site condition) = true
 
 -- whether a procedure of lines, and a program, is in form
 abbrev pub is_sound_in : List LineProcedure → LineProcedure → Bool

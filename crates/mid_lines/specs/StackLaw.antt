@@ -7,7 +7,7 @@ use Rattle.mid_lines.specs.declared.line.LineProcedure.{LineProcedure}
 use Rattle.mid_lines.specs.declared.line.LineProgram.{LineProgram}
 use Rattle.mid_lines.specs.LineMeaning.{Standing, Activation, Caller, Stage, running, entering, ended, begin, after}
 
--- the block of a control record that stands
+-- the block of a record that stands
 abbrev pub record_kind : (is_open : Bool) → BlockKind
 record_kind true = open_record
 record_kind false = closed_record

@@ -1,13 +1,13 @@
 -- Worked programs: the lines of some programs of middle code that are written out, and what the machine does with them.
-use Rattle.std.specs.Prelude.{◌≡◌, ℕ, List, [], ◌∷◌}
+use Rattle.std.specs.Prelude.{◌≡◌, ℕ, pos, List, [], ◌∷◌}
 use Rattle.mid_code.specs.declared.operation.Arithmetic.TheVariants as which
 use Rattle.mid_code.specs.declared.operation.Comparison.TheVariants as comparison
 use Rattle.mid_code.specs.declared.operation.Callee.TheVariants as callee
-use Rattle.mid_code.specs.declared.operation.Operation.TheVariants.{Constant, Compute, Put, Call}
+use Rattle.mid_code.specs.declared.operation.Operation.TheVariants.{Constant, Compute, Load, Store, Put, Call}
 use Rattle.mid_code.specs.declared.program.MidProcedure.{MidProcedure}
 use Rattle.mid_code.specs.State.{returns, halts, stuck}
-use Rattle.mid_code.specs.Worked.{program, start, run, printing, calling, cutting, nesting, falling, cutting_nowhere}
-use Rattle.mid_lines.specs.declared.line.Line.TheVariants.{Do, Branch, Jump, Lay, Landed, GiveBack, Return, Halt}
+use Rattle.mid_code.specs.Worked.{program, start, run, printing, calling, cutting, nesting, falling, cutting_nowhere, switching, lending, cutting_lent}
+use Rattle.mid_lines.specs.declared.line.Line.TheVariants.{Do, Branch, Switch, Jump, Lay, Landed, GiveBack, Lend, GiveBackLent, Return, Halt}
 use Rattle.mid_lines.specs.Lines.{lines_of}
 use Rattle.mid_lines.specs.LineMeaning.{Stage, ended, begin, after}
 use Rattle.mid_lines.specs.Flattened.{program_lines}
@@ -54,3 +54,29 @@ FellOut = steps_of falling 6 8 ≡ ended (halts 7) (run falling 0 0 [] 8).state
 -- a cut to where no control record stands any more
 abbrev pub CutNowhere : Type 0
 CutNowhere = steps_of (cutting_nowhere ∷ []) 5 8 ≡ ended stuck (run (cutting_nowhere ∷ []) 0 0 [] 8).state
+
+-- the same with an argument
+abbrev pub steps_with : List MidProcedure → (argument steps words : ℕ) → Stage
+steps_with procedures argument steps words = after (program_lines (program procedures)) steps (begin 0 (argument ∷ []) (start words []))
+
+-- the lines of a switch, which goes to the code of a number and behind it to the end
+abbrev pub SwitchingLines : Type 0
+SwitchingLines =
+    lines_of (program_lines (program switching)) 0
+    ≡ Switch 0 (1 ∷ 3 ∷ []) ∷ Do (Constant 1 8) ∷ Jump 5 ∷ Do (Constant 1 9) ∷ Jump 5 ∷ Return 1 ∷ []
+
+abbrev pub Switched : Type 0
+Switched =
+    (steps_with switching 1 5 8 ≡ ended (returns 9) (run switching 0 0 (1 ∷ []) 8).state)
+    × (steps_with switching 2 2 8 ≡ ended stuck (run switching 0 0 (2 ∷ []) 8).state)
+
+-- a block of as many words as the argument says, and the line that gives it back
+abbrev pub Lent : Type 0
+Lent =
+    (lines_of (program_lines (program lending)) 0
+    ≡ Lend 1 0 ∷ Do (Store 0 1 (pos 4)) ∷ Do (Load 2 1 (pos 4)) ∷ GiveBackLent ∷ Halt 2 ∷ [])
+    × (steps_with lending 2 6 8 ≡ ended (halts 2) (run lending 0 0 (2 ∷ []) 8).state)
+
+-- a cut to a block that is only lent
+abbrev pub CutToLent : Type 0
+CutToLent = steps_of (cutting_lent ∷ []) 4 8 ≡ ended stuck (run (cutting_lent ∷ []) 0 0 [] 8).state

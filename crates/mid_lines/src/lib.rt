@@ -8,5 +8,5 @@ pub mod worked;
 
 pub use flattening::{lines_of, program_lines};
 pub use laws::{law_form, law_line_ends, law_line_printing, law_lines, law_stack};
-pub use line::{Line, LineList, LineProcedure, LineProcedureList, LineProgram};
-pub use worked::{worked_landings, worked_lines};
+pub use line::{Line, LineList, LineProcedure, LineProcedureList, LineProgram, TargetList};
+pub use worked::{worked_landings, worked_lines, worked_switches_and_lent};

@@ -3,7 +3,7 @@ use Rattle.std.specs.Prelude.{◌≡◌, ℕ, zero, suc, ℤ, pos, negsuc, [], �
 use Rattle.std.specs.Coded.{Coded, code_by}
 use Rattle.std.proofs.Common.{ap}
 use Rattle.base.specs.model.CodedTree.{Tree, node, no_tree, tree_and, leaf, above_one, above_two, numbers_trees, numbers_of, numbers_back, tree_code}
-use Rattle.mid_code.specs.MidCode.{MidStep, perform, choose, repeat, with_block, return_word, cut_to, halt_with, end_unhandled, MidCode, no_step, step_and}
+use Rattle.mid_code.specs.MidCode.{MidStep, perform, choose, switch, repeat, with_block, lend, return_word, cut_to, halt_with, end_unhandled, MidCode, no_step, step_and, MidCodes, no_code, code_and}
 use Rattle.mid_code.specs.declared.operation.Arithmetic.{Arithmetic}
 use Rattle.mid_code.specs.declared.operation.Arithmetic.TheVariants as which
 use Rattle.mid_code.specs.declared.operation.Comparison.{Comparison}
@@ -177,11 +177,11 @@ operation_back (Compute to which first second) = ap (λ a. Compute to a first se
 operation_back (Call to callee arguments) = cc (callee_back callee, numbers_back arguments)
 
 -- steps that end an activation, each at its place
-abbrev of_end : ℕ → ℕ → ℕ → MidStep
-of_end place a b = get_or (return_word a ∷ cut_to a b ∷ halt_with a ∷ []) place (end_unhandled a b)
+abbrev of_end : ℕ → ℕ → ℕ → ℕ → MidStep
+of_end place a b c = get_or (return_word a ∷ cut_to a b ∷ halt_with a ∷ []) place (end_unhandled a b c)
 
-abbrev end_tree : ℕ → ℕ → ℕ → Tree
-end_tree place a b = node 4 (tree_and (leaf place) (tree_and (leaf a) (tree_and (leaf b) no_tree)))
+abbrev end_tree : ℕ → ℕ → ℕ → ℕ → Tree
+end_tree place a b c = node 6 (tree_and (leaf place) (tree_and (leaf a) (tree_and (leaf b) (tree_and (leaf c) no_tree))))
 
 abbrev mutual
   step_tree : MidStep → Tree
@@ -192,14 +192,20 @@ abbrev mutual
   step_tree (with_block block words word inside landing) =
       node 3 (tree_and (leaf block) (tree_and (leaf words) (tree_and (leaf word)
       (tree_and (code_tree inside) (tree_and (code_tree landing) no_tree)))))
-  step_tree (return_word r) = end_tree 0 r 0
-  step_tree (cut_to block word) = end_tree 1 block word
-  step_tree (halt_with r) = end_tree 2 r 0
-  step_tree (end_unhandled class site) = end_tree 3 class site
+  step_tree (switch r codes) = node 4 (tree_and (leaf r) (tree_and (codes_tree codes) no_tree))
+  step_tree (lend block words inside) = node 5 (tree_and (leaf block) (tree_and (leaf words) (tree_and (code_tree inside) no_tree)))
+  step_tree (return_word r) = end_tree 0 r 0 0
+  step_tree (cut_to block word) = end_tree 1 block word 0
+  step_tree (halt_with r) = end_tree 2 r 0 0
+  step_tree (end_unhandled class site condition) = end_tree 3 class site condition
 
   code_tree : MidCode → Tree
   code_tree no_step = leaf 0
   code_tree (step_and s c) = above_two 1 (step_tree s) (code_tree c)
+
+  codes_tree : MidCodes → Tree
+  codes_tree no_code = leaf 0
+  codes_tree (code_and c codes) = above_two 1 (code_tree c) (codes_tree codes)
 
 abbrev mutual
   step_of : Tree → MidStep
@@ -209,7 +215,10 @@ abbrev mutual
       repeat (counted_at n) (code_from u) (test_of t) (code_from v)
   step_of (node (suc (suc (suc zero))) (tree_and (node a us) (tree_and (node n vs) (tree_and (node b ws) (tree_and t (tree_and u ts)))))) =
       with_block a n b (code_from t) (code_from u)
-  step_of (node (suc (suc (suc (suc m)))) (tree_and (node place us) (tree_and (node a vs) (tree_and (node b ws) ts)))) = of_end place a b
+  step_of (node (suc (suc (suc (suc zero)))) (tree_and (node r us) (tree_and t ts))) = switch r (codes_from t)
+  step_of (node (suc (suc (suc (suc (suc zero))))) (tree_and (node a us) (tree_and (node n vs) (tree_and t ts)))) = lend a n (code_from t)
+  step_of (node (suc (suc (suc (suc (suc (suc m)))))) (tree_and (node place us) (tree_and (node a vs) (tree_and (node b ws) (tree_and (node c xs) ts))))) =
+      of_end place a b c
   step_of t = return_word 0
 
   code_from : Tree → MidCode
@@ -217,20 +226,31 @@ abbrev mutual
   code_from (node n (tree_and t no_tree)) = no_step
   code_from (node n (tree_and t (tree_and u ts))) = step_and (step_of t) (code_from u)
 
+  codes_from : Tree → MidCodes
+  codes_from (node n no_tree) = no_code
+  codes_from (node n (tree_and t no_tree)) = no_code
+  codes_from (node n (tree_and t (tree_and u ts))) = code_and (code_from t) (codes_from u)
+
 mutual
   step_back : (s : MidStep) → step_of (step_tree s) ≡ s
   step_back (perform o) = ap perform (operation_back o)
   step_back (choose t first second) = cc (test_back t, code_back first, code_back second)
   step_back (repeat c head t body) = cc (counted_back c, test_back t, code_back head, code_back body)
   step_back (with_block block words word inside landing) = cc (code_back inside, code_back landing)
+  step_back (switch r codes) = ap (switch r) (codes_back codes)
+  step_back (lend block words inside) = ap (lend block words) (code_back inside)
   step_back (return_word r) = refl
   step_back (cut_to block word) = refl
   step_back (halt_with r) = refl
-  step_back (end_unhandled class site) = refl
+  step_back (end_unhandled class site condition) = refl
 
   code_back : (c : MidCode) → code_from (code_tree c) ≡ c
   code_back no_step = refl
   code_back (step_and s c) = cc (step_back s, code_back c)
+
+  codes_back : (codes : MidCodes) → codes_from (codes_tree codes) ≡ codes
+  codes_back no_code = refl
+  codes_back (code_and c codes) = cc (code_back c, codes_back codes)
 
 pub step_code : Coded MidStep
 step_code = code_by Tree tree_code step_tree step_of step_back

@@ -2,9 +2,10 @@
 
 ghost use Rattle.std.specs.Prelude.{◌≡◌, length, slice_get};
 ghost use Rattle.mid_code.specs.MidCode.{code_of};
-ghost use Rattle.mid_code.specs.Checked.{takes, call_fits, operation_calls, step_calls, code_calls};
+ghost use Rattle.mid_code.specs.Checked.{takes, call_fits, operation_calls, step_calls, code_calls, codes_call};
+ghost use Rattle.mid_code.specs.model.View.{codes_of};
 
-use crate::code::{Code, CodeStep, StepKind};
+use crate::code::{CaseList, Code, CodeStep, StepKind};
 use crate::operation::{Callee, Operation};
 use crate::program::ProcedureList;
 
@@ -31,6 +32,7 @@ fn step_calls(procedures: &ProcedureList, step: &CodeStep) -> bool
         StepKind::Choose(_, first, second) => {
             code_calls(procedures, first) && code_calls(procedures, second)
         }
+        StepKind::Switch { register: _, codes } => codes_call(procedures, codes),
         StepKind::Repeat {
             counted: _,
             head,
@@ -44,11 +46,29 @@ fn step_calls(procedures: &ProcedureList, step: &CodeStep) -> bool
             inside,
             landing,
         } => code_calls(procedures, inside) && code_calls(procedures, landing),
+        StepKind::Lend {
+            block: _,
+            words: _,
+            inside,
+        } => code_calls(procedures, inside),
         StepKind::Return(_)
         | StepKind::Cut { .. }
         | StepKind::Halt(_)
         | StepKind::Unhandled { .. } => true,
     }
+}
+
+#[cycle(calls)]
+#[tactic(auto, using(crate::specs::model::Sizes::case_turn))]
+fn codes_call(procedures: &ProcedureList, codes: &CaseList) -> bool
+    ensures { result ≡ codes_call procedures.now (codes_of codes.now) }
+{
+    for case in codes.as_slice() {
+        if !code_calls(procedures, &case.code) {
+            return false;
+        }
+    }
+    true
 }
 
 fn operation_calls(procedures: &ProcedureList, operation: &Operation) -> bool

@@ -3,9 +3,10 @@
 ghost use Rattle.std.specs.Prelude.{◌≡◌, nat_lt};
 ghost use Rattle.std.specs.List.{list_all};
 ghost use Rattle.mid_code.specs.MidCode.{code_of};
-ghost use Rattle.mid_code.specs.Checked.{is_register, is_constant, is_block_size, is_offset, callee_fits, operation_fits, test_fits, step_fits, code_fits};
+ghost use Rattle.mid_code.specs.Checked.{is_register, is_constant, is_block_size, is_offset, callee_fits, operation_fits, test_fits, step_fits, code_fits, codes_fit};
+ghost use Rattle.mid_code.specs.model.View.{codes_of};
 
-use crate::code::{Code, CodeStep, StepKind};
+use crate::code::{CaseList, Code, CodeStep, StepKind};
 use crate::operation::{Callee, Operation, Register, RegisterList, Test};
 
 /// Whether code fits so many registers.
@@ -31,6 +32,9 @@ fn step_fits(count: usize, step: &CodeStep) -> bool
         StepKind::Choose(test, first, second) => {
             test_fits(count, test) && code_fits(count, first) && code_fits(count, second)
         }
+        StepKind::Switch { register, codes } => {
+            is_register(count, *register) && codes_fit(count, codes)
+        }
         StepKind::Repeat {
             counted: _,
             head,
@@ -50,12 +54,38 @@ fn step_fits(count: usize, step: &CodeStep) -> bool
                 && code_fits(count, inside)
                 && code_fits(count, landing)
         }
+        StepKind::Lend {
+            block,
+            words,
+            inside,
+        } => {
+            is_register(count, *block) && is_register(count, *words) && code_fits(count, inside)
+        }
         StepKind::Return(word) | StepKind::Halt(word) => is_register(count, *word),
         StepKind::Cut { block, word } => is_register(count, *block) && is_register(count, *word),
-        StepKind::Unhandled { class, site } => {
-            is_register(count, *class) && is_register(count, *site)
+        StepKind::Unhandled {
+            class,
+            site,
+            condition,
+        } => {
+            is_register(count, *class)
+                && is_register(count, *site)
+                && is_register(count, *condition)
         }
     }
+}
+
+#[cycle(fits)]
+#[tactic(auto, using(crate::specs::model::Sizes::case_turn))]
+fn codes_fit(count: usize, codes: &CaseList) -> bool
+    ensures { result ≡ codes_fit count (codes_of codes.now) }
+{
+    for case in codes.as_slice() {
+        if !code_fits(count, &case.code) {
+            return false;
+        }
+    }
+    true
 }
 
 fn operation_fits(count: usize, operation: &Operation) -> bool

@@ -1,8 +1,8 @@
-// Copies of operations.
+// Copies of operations and of words.
 
 ghost use Rattle.std.specs.Prelude.{◌≡◌, IfOk};
 
-use base::NoMemory;
+use base::{NoMemory, WordList};
 use mid_code::{Operation, RegisterList};
 use std::alloc::Global;
 
@@ -72,6 +72,17 @@ fn copy_of_registers(alloc: Global, registers: &RegisterList) -> Result<Register
     let mut copied = RegisterList::new(alloc);
     for register in registers.as_slice() {
         copied.push(*register)?;
+    }
+    Ok(copied)
+}
+
+/// The same words once more.
+pub fn copy_of_words(alloc: Global, words: &WordList) -> Result<WordList, NoMemory>
+    ensures { IfOk result (λ copied. copied ≡ words.now) }
+{
+    let mut copied = WordList::new(alloc);
+    for word in words.as_slice() {
+        copied.push(*word)?;
     }
     Ok(copied)
 }

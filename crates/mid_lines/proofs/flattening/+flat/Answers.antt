@@ -1,6 +1,7 @@
 use Rattle.std.proofs.Common.{arith}
 use Rattle.mid_code.specs.MidCode.{code_of}
-use Rattle.mid_lines.proofs.Appending.{code_size_above, grown, one_more, as_long, appended_more, choice_written, loop_written, record_written}
+use Rattle.mid_code.specs.model.View.{codes_of}
+use Rattle.mid_lines.proofs.Appending.{code_size_above, grown, one_more, as_long, codes_grown, written_as_long, appended_more, code_appended, jumps_within, choice_written, switch_written, loop_written, record_written}
 use Rattle.mid_lines.proofs.flattening.+flat.Goals as goal
 
 pub append_code-loop-step-preserved : goal.append_code-loop-step-preserved
@@ -26,6 +27,33 @@ append_record-returns t c =
     c.len-lay_at.ensures c.in_ok-push.ensures.ok c.in_ok-append_code.ensures c.in_ok-push-2.ensures.ok c.len-jump_at.ensures
     c.in_ok-push-3.ensures.ok c.len-landing_at.ensures c.in_ok-push-4.ensures.ok c.in_ok-append_code-2.ensures c.in_ok-push-5.ensures.ok c.len-end.ensures
     c.replace.ensures.now c.replace-2.ensures.now
+
+pub append_codes-loop-case-preserved : goal.append_codes-loop-case-preserved
+append_codes-loop-case-preserved t c =
+    code_appended _ _ _ _ _ _ _ _ _ _ _ _ _ _ _ _ c.as_slice-case-items.ensures c.loop-case-test.true c.case-item.is
+    c.len.ensures c.in_ok-push.ensures.ok c.in_ok-append_code.ensures c.len-in-loop-case.ensures c.in_ok-push-2.ensures.ok c.in_ok-push-3.ensures.ok
+    c.loop-case.invariant
+
+pub append_switch-write_jumps-requires : goal.append_switch-write_jumps-requires
+append_switch-write_jumps-requires t c =
+    jumps_within (codes_of c.args.codes.now) _ _ _ _ c.new-jumps.ensures c.in_ok-append_codes.ensures.appended c.in_ok-append_codes.ensures.left
+
+pub append_switch-returns : goal.append_switch-returns
+append_switch-returns t c =
+    switch_written c.args.register (codes_of c.args.codes.now) _ _ _ _ _ _ _ _ _ _ _ _
+    c.len-switch_at.ensures c.in_ok-push.ensures.ok c.new-targets.ensures c.new-jumps.ensures
+    c.in_ok-append_codes.ensures.appended c.in_ok-append_codes.ensures.begun c.in_ok-append_codes.ensures.left
+    c.len-end.ensures c.write_jumps.ensures c.replace.ensures.now
+
+pub append_switch-replace-requires : goal.append_switch-replace-requires
+append_switch-replace-requires t c =
+    omega (
+      arith,
+      c.len-switch_at.ensures,
+      one_more _ _ _ c.in_ok-push.ensures.ok,
+      codes_grown (codes_of c.args.codes.now) _ _ c.in_ok-append_codes.ensures.appended,
+      written_as_long c.append_codes.new.jumps c.len-end.result _ _ c.write_jumps.ensures,
+    )
 
 -- the code inside is smaller
 pub append_choice-append_code-requires : goal.append_choice-append_code-requires
