@@ -1,5 +1,5 @@
 -- What a program of lines in form says of a line that is there: its registers, constants and blocks are as they have to be.
-use Rattle.std.proofs.Common.{◌≡◌, ℕ, ◌<◌, ◌^◌, Bool, true, false, ◌&&◌, List, [], ◌∷◌, length, Option, Some, None, refl, sym, ap, subst, ◌∙◌, arith}
+use Rattle.std.proofs.Common.{◌≡◌, ℕ, zero, suc, ◌<◌, ◌^◌, Bool, true, false, ◌&&◌, List, [], ◌∷◌, length, Option, Some, None, refl, sym, ap, subst, ◌∙◌, arith}
 use Rattle.std.specs.Prelude.{nat_lt, nat_le, slice_get}
 use Rattle.std.specs.List.{list_all}
 use Rattle.std.proofs.lemmas.Bool.Decides.{nat_tests}
@@ -45,7 +45,7 @@ line_in_form program number line x i =
     let p = i.procedure in
     let rest = back_true (nat_le p.parameters p.registers) _ i.sound in
     let both = back_true (nat_lt p.frame (2 ^ 24)) _ rest in
-    all_at (line_fits p.registers (length p.lines)) p.lines line x i.line_there (front_true (list_all (line_fits p.registers (length p.lines)) p.lines) _ both)
+    all_at (line_fits p.registers (length p.lines)) p.lines line x (front_true (list_all (line_fits p.registers (length p.lines)) p.lines) _ both) i.line_there
 
 pub frame_is_small :
     (program : LineProgram) (number : ℕ) (p : LineProcedure) → is_checked_line_program program ≡ true → slice_get program.procedures number ≡ Some p

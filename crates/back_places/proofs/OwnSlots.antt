@@ -10,7 +10,7 @@ use Rattle.mid_code.specs.declared.operation.Operation.TheVariants as operation
 use Rattle.mid_code.specs.Checked.{is_register, is_constant, is_offset, is_block_size, operation_fits, callee_fits, test_fits}
 use Rattle.mid_lines.proofs.Conjunctions.{front_true, back_true}
 use Rattle.mid_lines.specs.declared.line.Line.{Line}
-use Rattle.mid_lines.specs.declared.line.Line.TheVariants.{Do, Branch, Jump, Lay, Landed, GiveBack, Return, Cut, Halt, Unhandled}
+use Rattle.mid_lines.specs.declared.line.Line.TheVariants.{Do, Branch, Switch, Jump, Lay, Landed, GiveBack, Lend, GiveBackLent, Return, Cut, Halt, Unhandled}
 use Rattle.mid_lines.specs.declared.line.LineProcedure.{LineProcedure}
 use Rattle.mid_lines.specs.declared.line.LineProgram.{LineProgram}
 use Rattle.mid_lines.specs.Lines.{line_of}
@@ -18,9 +18,10 @@ use Rattle.mid_lines.specs.LinesChecked.{line_fits, is_target, is_sound_in, is_c
 use Rattle.mid_lines.specs.StackLaw.{frame_of}
 use Rattle.back_places.specs.declared.place.Place.{Place}
 use Rattle.back_places.specs.declared.place.Place.TheVariants.{InRegister, InSlot, AsConstant}
-use Rattle.back_places.specs.Places.{StaticRecord, Located, argument_register}
-use Rattle.back_places.specs.Facts.{IsPlace, Apart, Outlasts, IsSomewhere, CanHold, Gives, Keeps, Reads, ToLanding, ToLandings, GivesWord, OnlyReads, GoodCall, Computes, GoodLay, GoodLanded, GoodGiveBack, GoodCut, GoodOperation, GoodLine, callee_registers, IsParameterPlace, AreParameterPlaces, AllApart, EachApart, GoodEntry}
-use Rattle.back_places.specs.Trivial.{own_slot, own_slots, InOwnSlot, TargetIs, ToRecords, RecordsFollow, ArgumentsFit, IsTrivial, LawOfOwnSlots}
+use Rattle.back_places.specs.Places.{StaticRecord, with_landing, only_lent, Located, way_at, reachable, argument_register}
+use Rattle.back_places.specs.Facts.{IsPlace, Apart, Outlasts, IsSomewhere, CanHold, Gives, Keeps, Reads, ToLanding, ToLandings, KeepsEach, GoodReturn, GivesWord, OnlyReads, GoodCall, Computes, GoodLay, GoodLanded, GoodGiveBack, GoodCut, GoodOperation, GoodLine, callee_registers, IsParameterPlace, AreParameterPlaces, AllApart, EachApart, GoodEntry}
+use Rattle.back_places.specs.Trivial.{own_slot, own_slots, InOwnSlot, TargetIs, ToRecords, SameRecords, RecordsFollow, ArgumentsFit, IsTrivial, LawOfOwnSlots}
+use Rattle.back_places.specs.Good.{reach_at}
 use Rattle.back_places.proofs.LinesInForm.{LineIs, line_is, line_in_form, frame_words, register_below, all_at}
 
 -- slots of different registers are apart
@@ -82,10 +83,7 @@ module _ (program : LineProgram) (l : Located) (checked : is_checked_line_progra
   -- a register of the procedure of a line has a slot in its frame
   known : (number line : ℕ) (x : Line) (i : LineIs program number line x) (r : ℕ) → is_register i.procedure.registers r ≡ true → InOwnSlot program number line r (l.source number line r)
   known number line x i r h =
-      let below = register_below i.procedure.registers r h in
-      let frame = t.frames number i.procedure i.there in
-      let words = frame_words program number i.procedure i.there in
-      record { place_is = t.sources number line r; within = omega (arith, below, frame, words) }
+      record { place_is = t.sources number line r; procedure = i.procedure; there = i.there; within = register_below i.procedure.registers r h }
 
   many_known :
       (number line : ℕ) (x : Line) (i : LineIs program number line x) (rs : List ℕ) → list_all (is_register i.procedure.registers) rs ≡ true
@@ -101,11 +99,11 @@ module _ (program : LineProgram) (l : Located) (checked : is_checked_line_progra
       by true e = let q : v ≡ to = eqb-true v to e in inl (q, f.place_is ∙ ap own_slot q ∙ sym target)
       by false e =
           let ne : v ≢ to = λ q. absurd (cc (e, eq-eqb v to q)) in
-          inr (ne, record { place_is = f.place_is; within = f.within }, slots_apart v to p (l.target number line) f.place_is target ne)
+          inr (ne, record { place_is = f.place_is; procedure = f.procedure; there = f.there; within = f.within }, slots_apart v to p (l.target number line) f.place_is target ne)
 
   keeps : (number line next : ℕ) → l.records number next ≡ l.records number line → Keeps l (InOwnSlot program) number line next
   keeps number line next h = record {
-    facts = λ v p f. record { place_is = f.place_is; within = f.within };
+    facts = λ v p f. record { place_is = f.place_is; procedure = f.procedure; there = f.there; within = f.within };
     linked = λ e. absurd (cc (e, t.unlinked number next));
     records = h;
   }
@@ -115,12 +113,17 @@ module _ (program : LineProgram) (l : Located) (checked : is_checked_line_progra
 
   to_landings : (number line : ℕ) (records : List StaticRecord) → ToRecords l number records → ToLandings l (InOwnSlot program) number line records
   to_landings number line [] h = tt
-  to_landings number line (s ∷ records) h =
+  to_landings number line (only_lent ∷ records) h = to_landings number line records h
+  to_landings number line (with_landing words landing ∷ records) h =
       (record {
-        facts = λ v p f. (record { place_is = f.place_is; within = f.within }, slot_outlasts v p f.place_is);
-        unlinked = t.unlinked number s.landing;
+        facts = λ v p f. (record { place_is = f.place_is; procedure = f.procedure; there = f.there; within = f.within }, slot_outlasts v p f.place_is);
+        unlinked = t.unlinked number landing;
         records = h.0;
       }, to_landings number line records h.1)
+
+  keeps_each : (number line : ℕ) (targets : List ℕ) → SameRecords l number line targets → KeepsEach l (InOwnSlot program) number line targets
+  keeps_each number line [] h = tt
+  keeps_each number line (next ∷ more) h = (keeps number line next h.0, keeps_each number line more h.1)
 
   gives_word :
       (number line to : ℕ) (read : List ℕ) → Reads l (InOwnSlot program) number line read → l.target number line ≡ own_slot to
@@ -152,7 +155,7 @@ module _ (program : LineProgram) (l : Located) (checked : is_checked_line_progra
       let c = i.procedure.registers in
       let front = front_true (is_register c to && is_register c first) (is_register c second) h in
       computes number line to (first ∷ second ∷ [])
-      (known number line _ i first (back_true (is_register c to) (is_register c first) front), known number line _ i second (back_true (is_register c to && is_register c first) (is_register c second) h), tt) target records
+      (known number line _ i first (back_true (is_register c to) (is_register c first) front), (known number line _ i second (back_true (is_register c to && is_register c first) (is_register c second) h), tt)) target records
   good_operation number line (operation.Load to base offset) i h target records fit =
       let c = i.procedure.registers in
       let front = front_true (is_register c to && is_register c base) (is_offset offset) h in
@@ -161,7 +164,7 @@ module _ (program : LineProgram) (l : Located) (checked : is_checked_line_progra
       let c = i.procedure.registers in
       let front = front_true (is_register c from && is_register c base) (is_offset offset) h in
       record {
-        reads = (known number line _ i from (front_true (is_register c from) (is_register c base) front), known number line _ i base (back_true (is_register c from) (is_register c base) front), tt);
+        reads = (known number line _ i from (front_true (is_register c from) (is_register c base) front), (known number line _ i base (back_true (is_register c from) (is_register c base) front), tt));
         keeps = keeps number line (line + 1) records;
       }
   good_operation number line (operation.Request to words) i h target records fit =
@@ -187,7 +190,7 @@ module _ (program : LineProgram) (l : Located) (checked : is_checked_line_progra
         ];
         unlinked = t.unlinked number (line + 1);
         saves = t.saves number;
-        landings = to_landings number line _ (t.landings number line);
+        landings = to_landings number line (l.records number line) (t.landings number line);
         records = records;
         somewhere = slot_somewhere to _ target;
       }
@@ -200,31 +203,46 @@ module _ (program : LineProgram) (l : Located) (checked : is_checked_line_progra
       let c = i.procedure.registers in
       let tests = front_true (test_fits c test) (is_target (length i.procedure.lines) otherwise) h in
       (record {
-        reads = (known number line _ i test.first (front_true (is_register c test.first) (is_register c test.second) tests), known number line _ i test.second (back_true (is_register c test.first) (is_register c test.second) tests), tt);
+        reads = (known number line _ i test.first (front_true (is_register c test.first) (is_register c test.second) tests), (known number line _ i test.second (back_true (is_register c test.first) (is_register c test.second) tests), tt));
         keeps = keeps number line (line + 1) records.0;
       }, keeps number line otherwise records.1)
+  good_line number line (Switch r targets) i h target records fit =
+      let c = i.procedure.registers in
+      ((known number line _ i r (front_true (is_register c r) (list_all (is_target (length i.procedure.lines)) targets) h), tt), keeps_each number line targets records)
   good_line number line (Jump to) i h target records fit = keeps number line to records
   good_line number line (Lay block words landing) i h target records fit = record {
-    flows = gives number line block (line + 1) target; linked = never number line (line + 1); records = records; somewhere = slot_somewhere block _ target;
+    reads = tt; flows = gives number line block (line + 1) target; linked = never number line (line + 1); records = records; somewhere = slot_somewhere block _ target;
   }
+  good_line number line (Lend block words) i h target records fit =
+      let c = i.procedure.registers in
+      record {
+        reads = (known number line _ i words (back_true (is_register c block) (is_register c words) h), tt);
+        flows = gives number line block (line + 1) target; linked = never number line (line + 1); records = records; somewhere = slot_somewhere block _ target;
+      }
   good_line number line (Landed r) i h target records fit = record {
     flows = gives number line r (line + 1) target; unlinked = t.unlinked number (line + 1); saves = t.saves number; records = records; somewhere = slot_somewhere r _ target;
   }
   good_line number line (GiveBack words) i h target records fit = record {
-    facts = λ v p f. record { place_is = f.place_is; within = f.within }; linked = never number line (line + 1); record_is = records.0; records = records.1;
+    facts = λ v p f. record { place_is = f.place_is; procedure = f.procedure; there = f.there; within = f.within }; linked = never number line (line + 1); record_is = records.0; records = records.1;
   }
-  good_line number line (Return r) i h target records fit = ((known number line _ i r h, tt), inr (t.saves number))
+  good_line number line GiveBackLent i h target records fit = record {
+    facts = λ v p f. record { place_is = f.place_is; procedure = f.procedure; there = f.there; within = f.within }; linked = never number line (line + 1); record_is = records.0; records = records.1;
+  }
+  good_line number line (Return r) i h target records fit = record { reads = (known number line _ i r h, tt); link = inr (t.saves number); way = records }
   good_line number line (Cut block word) i h target records fit =
       let c = i.procedure.registers in
       record {
-        reads = (known number line _ i block (front_true (is_register c block) (is_register c word) h), known number line _ i word (back_true (is_register c block) (is_register c word) h), tt);
-        landings = to_landings number line _ (t.landings number line);
+        reads = (known number line _ i block (front_true (is_register c block) (is_register c word) h), (known number line _ i word (back_true (is_register c block) (is_register c word) h), tt));
+        landings = to_landings number line (l.records number line) (t.landings number line);
         saves = t.saves number;
       }
   good_line number line (Halt r) i h target records fit = (known number line _ i r h, tt)
-  good_line number line (Unhandled class site) i h target records fit =
+  good_line number line (Unhandled class site condition) i h target records fit =
       let c = i.procedure.registers in
-      (known number line _ i class (front_true (is_register c class) (is_register c site) h), known number line _ i site (back_true (is_register c class) (is_register c site) h), tt)
+      let rest = back_true (is_register c class) (is_register c site && is_register c condition) h in
+      (known number line _ i class (front_true (is_register c class) (is_register c site && is_register c condition) h),
+      (known number line _ i site (front_true (is_register c site) (is_register c condition) rest),
+      (known number line _ i condition (back_true (is_register c site) (is_register c condition) rest), tt)))
 
   parameters_fit : (number : ℕ) (p : LineProcedure) → slice_get program.procedures number ≡ Some p → p.parameters ≤ p.registers
   parameters_fit number p h =
@@ -261,7 +279,16 @@ module _ (program : LineProgram) (l : Located) (checked : is_checked_line_progra
           inr (inr (ap (λ ps. slice_get ps v) (t.parameters number p h) ∙ slot_there 0 p.parameters v below ∙ ap (λ k. Some (own_slot k)) zero_is ∙ ap Some (sym f.place_is)))
 
   placed : (number line v : ℕ) (p : Place) → InOwnSlot program number line v p → IsPlace (frame_of program number).words p
-  placed number line v p f = subst (λ x. IsPlace (frame_of program number).words x) (sym f.place_is) (omega arith, f.within)
+  placed number line v p f =
+      let frame = t.frames number f.procedure f.there in
+      let words = frame_words program number f.procedure f.there in
+      subst (λ x. IsPlace (frame_of program number).words x) (sym f.place_is) (omega arith, omega (arith, f.within, frame, words))
+
+  within_reach : (number line v : ℕ) → InOwnSlot program number line v (l.source number line v) → IsPlace (reach_at program l number line) (l.source number line v)
+  within_reach number line v f =
+      let reach = t.reach number line f.procedure f.there in
+      let words = ap (λ n. reachable (way_at l number line) n) (frame_words program number f.procedure f.there) in
+      subst (λ x. IsPlace (reach_at program l number line) x) (sym f.place_is) (omega arith, omega (arith, f.within, reach, words))
 
 pub law_of_own_slots : LawOfOwnSlots
 law_of_own_slots program l checked t =
@@ -269,4 +296,5 @@ law_of_own_slots program l checked t =
       let i = line_is program number line x checked e in
       good_line program l checked t number line x i (line_in_form program number line x i) (t.targets number line x e) (t.records number line x e) (t.arguments number line x e),
     good_entry program l checked t,
-    placed program l checked t)
+    placed program l checked t,
+    within_reach program l checked t)

@@ -5,10 +5,10 @@ use Rattle.mid_code.specs.declared.operation.Callee.TheVariants.{Procedure, Word
 use Rattle.mid_code.specs.declared.operation.Operation.{Operation}
 use Rattle.mid_code.specs.declared.operation.Operation.TheVariants as operation
 use Rattle.mid_lines.specs.declared.line.Line.{Line}
-use Rattle.mid_lines.specs.declared.line.Line.TheVariants.{Do, Branch, Jump, Lay, Landed, GiveBack, Return, Cut, Halt, Unhandled}
+use Rattle.mid_lines.specs.declared.line.Line.TheVariants.{Do, Branch, Switch, Jump, Lay, Landed, GiveBack, Lend, GiveBackLent, Return, Cut, Halt, Unhandled}
 use Rattle.back_places.specs.declared.place.Place.{Place}
 use Rattle.back_places.specs.declared.place.Place.TheVariants.{InRegister, InSlot, AsConstant}
-use Rattle.back_places.specs.Places.{StaticRecord, Located, argument_register}
+use Rattle.back_places.specs.Places.{StaticRecord, with_landing, only_lent, Located, way_at, is_from_stack, argument_register}
 
 -- A place that values may have, in a frame of so many words whose first one is the return address. Registers 0 to 7 and those of
 -- environment calls have uses of their own.
@@ -68,15 +68,20 @@ module _ (l : Located) (Fact : (number line register : ℕ) → Place → Type 0
     pub linked : l.linked number next ≡ true → l.linked number line ≡ true
     pub records : l.records number next ≡ l.records number line
 
+  abbrev pub KeepsEach : (number line : ℕ) → (next : List ℕ) → Type 0
+  KeepsEach number line [] = Unit {0}
+  KeepsEach number line (next ∷ more) = Keeps number line next × KeepsEach number line more
+
   -- the landings of the records that stand at a line find their facts, wherever a cut comes from
-  pub record ToLanding (number line : ℕ) (s : StaticRecord) (outside : List StaticRecord) : Type 0 where
-    pub facts : (v : ℕ) (p : Place) → Fact number s.landing v p → Fact number line v p × Outlasts p
-    pub unlinked : l.linked number s.landing ≡ false
-    pub records : l.records number s.landing ≡ s ∷ outside
+  pub record ToLanding (number line words landing : ℕ) (outside : List StaticRecord) : Type 0 where
+    pub facts : (v : ℕ) (p : Place) → Fact number landing v p → Fact number line v p × Outlasts p
+    pub unlinked : l.linked number landing ≡ false
+    pub records : l.records number landing ≡ with_landing words landing ∷ outside
 
   abbrev pub ToLandings : (number line : ℕ) → List StaticRecord → Type 0
   ToLandings number line [] = Unit {0}
-  ToLandings number line (s ∷ records) = ToLanding number line s records × ToLandings number line records
+  ToLandings number line (with_landing words landing ∷ records) = ToLanding number line words landing records × ToLandings number line records
+  ToLandings number line (only_lent ∷ records) = ToLandings number line records
 
   -- an operation that gives a word to a register
   pub record GivesWord (number line to : ℕ) (read : List ℕ) : Type 0 where
@@ -121,11 +126,12 @@ module _ (l : Located) (Fact : (number line register : ℕ) → Place → Type 0
   GoodOperation number line (operation.Get to) = Computes number line to []
   GoodOperation number line (operation.Call to callee arguments) = GoodCall number line to callee arguments
 
-  -- the laying of a record, behind which one record more stands
-  pub record GoodLay (number line block words landing : ℕ) : Type 0 where
+  -- a line behind which one record more stands, whose address is given to a register
+  pub record GoodLay (number line block : ℕ) (read : List ℕ) (s : StaticRecord) : Type 0 where
+    pub reads : Reads number line read
     pub flows : Gives number line block (line + 1)
     pub linked : l.linked number (line + 1) ≡ true → l.linked number line ≡ true
-    pub records : l.records number (line + 1) ≡ record { words = words; landing = landing } ∷ l.records number line
+    pub records : l.records number (line + 1) ≡ s ∷ l.records number line
     pub somewhere : IsSomewhere (l.target number line)
 
   -- the head of a landing, which gives the word of the cut to a register
@@ -143,6 +149,12 @@ module _ (l : Located) (Fact : (number line register : ℕ) → Place → Type 0
     pub record_is : StaticRecord
     pub records : l.records number line ≡ record_is ∷ l.records number (line + 1)
 
+  -- a return, where the frame is found from the stack pointer
+  pub record GoodReturn (number line result : ℕ) : Type 0 where
+    pub reads : Reads number line (result ∷ [])
+    pub link : (l.linked number line ≡ true) ⊎ (l.saves number ≡ true)
+    pub way : is_from_stack (way_at l number line) ≡ true
+
   -- a cut: whatever record of its activation it goes to finds its facts
   pub record GoodCut (number line block word : ℕ) : Type 0 where
     pub reads : Reads number line (block ∷ word ∷ [])
@@ -152,14 +164,17 @@ module _ (l : Located) (Fact : (number line register : ℕ) → Place → Type 0
   abbrev pub GoodLine : (number line : ℕ) → Line → Type 0
   GoodLine number line (Do o) = GoodOperation number line o
   GoodLine number line (Branch t otherwise) = OnlyReads number line (t.first ∷ t.second ∷ []) × Keeps number line otherwise
+  GoodLine number line (Switch r targets) = Reads number line (r ∷ []) × KeepsEach number line targets
   GoodLine number line (Jump to) = Keeps number line to
-  GoodLine number line (Lay block words landing) = GoodLay number line block words landing
+  GoodLine number line (Lay block words landing) = GoodLay number line block [] (with_landing words landing)
   GoodLine number line (Landed r) = GoodLanded number line r
   GoodLine number line (GiveBack words) = GoodGiveBack number line
-  GoodLine number line (Return r) = Reads number line (r ∷ []) × ((l.linked number line ≡ true) ⊎ (l.saves number ≡ true))
+  GoodLine number line (Lend block words) = GoodLay number line block (words ∷ []) only_lent
+  GoodLine number line GiveBackLent = GoodGiveBack number line
+  GoodLine number line (Return r) = GoodReturn number line r
   GoodLine number line (Cut block word) = GoodCut number line block word
   GoodLine number line (Halt r) = Reads number line (r ∷ [])
-  GoodLine number line (Unhandled class site) = Reads number line (class ∷ site ∷ [])
+  GoodLine number line (Unhandled class site condition) = Reads number line (class ∷ site ∷ condition ∷ [])
 
   -- The entry: parameters stay in the registers where they are passed, or are put into slots, each into one of its own. What is known at the
   -- first line of a register that is no parameter is of no word.

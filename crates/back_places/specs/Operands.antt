@@ -4,6 +4,7 @@ use Rattle.rv_encode.specs.declared.instruction.Instr.{Instr}
 use Rattle.rv_encode.specs.declared.instruction.Instr.TheVariants.{Lui, Lw, Sw, Addi, Add}
 use Rattle.back_places.specs.declared.place.Place.{Place}
 use Rattle.back_places.specs.declared.place.Place.TheVariants.{InRegister, InSlot, AsConstant}
+use Rattle.back_places.specs.Places.{Way, from_stack, past_lent, no_way}
 
 -- A word in two parts: the upper 20 bits, and the lower 12 as a signed number. Their sum is the word.
 abbrev pub high_part : ℕ → ℕ
@@ -34,17 +35,20 @@ at_word position access = Lui 7 (high_part (4 * position)) ∷ access 7 (low_par
 abbrev pub slot_offset : (depth slot : ℕ) → ℕ
 slot_offset depth slot = 4 * (depth + slot)
 
--- an access of a word of the frame: far ones by an address in register 7
-abbrev pub at_slot : (depth slot : ℕ) → (access : (base offset : ℕ) → Instr) → List Instr
-at_slot depth slot access =
+-- An access of a word of the frame: far ones by an address in register 7. Past a block that was lent, register 7 gets the stack pointer of
+-- before from the second word of its header.
+abbrev pub at_slot : (way : Way) → (slot : ℕ) → (access : (base offset : ℕ) → Instr) → List Instr
+at_slot (from_stack depth) slot access =
     if nat_lt (slot_offset depth slot) 2048 then access 2 (slot_offset depth slot) ∷ []
     else Lui 7 (high_part (slot_offset depth slot)) ∷ Add 7 7 2 ∷ access 7 (low_part (slot_offset depth slot)) ∷ []
+at_slot (past_lent depth) slot access = Lw 7 2 4 ∷ access 7 (slot_offset depth slot) ∷ []
+at_slot no_way slot access = []
 
 -- a value into a register
-abbrev pub load_into : (depth to : ℕ) → Place → List Instr
-load_into depth to (InRegister r) = if r == to then [] else Addi to r 0 ∷ []
-load_into depth to (InSlot k) = at_slot depth k (Lw to)
-load_into depth to (AsConstant w) = constant_code to w
+abbrev pub load_into : (way : Way) → (to : ℕ) → Place → List Instr
+load_into way to (InRegister r) = if r == to then [] else Addi to r 0 ∷ []
+load_into way to (InSlot k) = at_slot way k (Lw to)
+load_into way to (AsConstant w) = constant_code to w
 
 -- the register in which an operand is read, and the code before: a scratch register, where the value is in none
 abbrev pub read_in : (scratch : ℕ) → Place → ℕ
@@ -53,11 +57,11 @@ read_in scratch (InSlot k) = scratch
 read_in scratch (AsConstant zero) = 0
 read_in scratch (AsConstant (suc w)) = scratch
 
-abbrev pub read_code : (depth scratch : ℕ) → Place → List Instr
-read_code depth scratch (InRegister r) = []
-read_code depth scratch (InSlot k) = at_slot depth k (Lw scratch)
-read_code depth scratch (AsConstant zero) = []
-read_code depth scratch (AsConstant (suc w)) = constant_code scratch (suc w)
+abbrev pub read_code : (way : Way) → (scratch : ℕ) → Place → List Instr
+read_code way scratch (InRegister r) = []
+read_code way scratch (InSlot k) = at_slot way k (Lw scratch)
+read_code way scratch (AsConstant zero) = []
+read_code way scratch (AsConstant (suc w)) = constant_code scratch (suc w)
 
 -- the register that an instruction gives a word to, and the code behind that brings it to its place
 abbrev pub given_in : Place → ℕ
@@ -65,13 +69,13 @@ given_in (InRegister r) = r
 given_in (InSlot k) = 5
 given_in (AsConstant w) = 0
 
-abbrev pub keep_code : (depth : ℕ) → Place → List Instr
-keep_code depth (InRegister r) = []
-keep_code depth (InSlot k) = at_slot depth k (Sw 5)
-keep_code depth (AsConstant w) = []
+abbrev pub keep_code : (way : Way) → Place → List Instr
+keep_code way (InRegister r) = []
+keep_code way (InSlot k) = at_slot way k (Sw 5)
+keep_code way (AsConstant w) = []
 
 -- a value from a place to another; to a constant nothing has to be done
-abbrev pub move_code : (depth : ℕ) → (from to : Place) → List Instr
-move_code depth from (InRegister r) = load_into depth r from
-move_code depth from (InSlot k) = read_code depth 5 from ++ at_slot depth k (Sw (read_in 5 from))
-move_code depth from (AsConstant w) = []
+abbrev pub move_code : (way : Way) → (from to : Place) → List Instr
+move_code way from (InRegister r) = load_into way r from
+move_code way from (InSlot k) = read_code way 5 from ++ at_slot way k (Sw (read_in 5 from))
+move_code way from (AsConstant w) = []

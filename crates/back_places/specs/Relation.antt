@@ -10,7 +10,7 @@ use Rattle.mid_code.specs.declared.operation.Operation.TheVariants.{Call}
 use Rattle.mid_code.specs.Arena.{Arena, Block, BlockKind, activation_frame, open_record, closed_record, words_of, stack_from, is_lent, header_words}
 use Rattle.mid_code.specs.State.{Registers, MidState, End, falls, returns, cuts, no_room, no_level, no_turn, halts, unhandled, exhausted, stuck, register}
 use Rattle.mid_lines.specs.declared.line.Line.{Line}
-use Rattle.mid_lines.specs.declared.line.Line.TheVariants.{Do}
+use Rattle.mid_lines.specs.declared.line.Line.TheVariants.{Do, Switch}
 use Rattle.mid_lines.specs.declared.line.LineProcedure.{LineProcedure}
 use Rattle.mid_lines.specs.declared.line.LineProgram.{LineProgram}
 use Rattle.mid_lines.specs.Lines.{line_of}
@@ -18,7 +18,7 @@ use Rattle.mid_lines.specs.LineMeaning.{Standing, Activation, Caller, Stage, run
 use Rattle.mid_lines.specs.StackLaw.{frame_of, blocks_of, StageStands}
 use Rattle.back_places.specs.declared.place.Place.{Place}
 use Rattle.back_places.specs.declared.place.Place.TheVariants.{InRegister, InSlot, AsConstant}
-use Rattle.back_places.specs.Places.{StaticRecord, Located, argument_register}
+use Rattle.back_places.specs.Places.{StaticRecord, with_landing, only_lent, Located, argument_register}
 use Rattle.back_places.specs.Blocks.{full_code, end_code}
 use Rattle.back_places.specs.LineCode.{line_code, behind_code, entry_code}
 
@@ -70,9 +70,13 @@ pub record InForm (a : Arena) : Type 0 where
   pub below : a.heap_to ≤ stack_from a
   pub laid : a.laid_to ≤ a.heap_from
 
--- the control records as code knows them
+-- the records of an activation as code knows them
+abbrev pub static_of : (words : ℕ) → (landing : Option ℕ) → StaticRecord
+static_of words None = only_lent
+static_of words (Some landing) = with_landing words landing
+
 abbrev pub statics : List Standing → List StaticRecord
-statics records = map (λ s. record { words = s.words; landing = s.landing }) records
+statics records = map (λ s. static_of s.words s.landing) records
 
 -- the words of the memory are those that are lent and were stored
 pub record HasArena (words : List ℕ) (a : Arena) : Type 0 where
@@ -103,6 +107,9 @@ pub record HasProgram (program : LineProgram) (l : Located) (words : List ℕ) :
   pub backs :
       (number line : ℕ) (x : Line) → line_of program number line ≡ Some x
       → Stands l words (l.back_at number line) (behind_code l number line x)
+  pub switches :
+      (number line r : ℕ) (targets : List ℕ) (i to : ℕ) → line_of program number line ≡ Some (Switch r targets) → slice_get targets i ≡ Some to
+      → Names l words (l.table_at number line + i) (l.line_at number to)
   pub entries :
       (number : ℕ) (p : LineProcedure) → slice_get program.procedures number ≡ Some p
       → Stands l words (l.entry_at number) (entry_code l number p.frame)
@@ -120,18 +127,26 @@ module _ (program : LineProgram) (l : Located) (Fact : (number line register : �
   AreThere registers words base number line rs =
       (v : ℕ) (p : Place) (w : ℕ) → Fact number line v p → register v rs ≡ Some w → IsAt registers words base p w
 
-  -- the first word of each control record is the address of its landing
+  -- The first word of a control record is the address of its landing. The second one of a block that is only lent is the stack pointer of
+  -- before.
+  abbrev pub HeadHolds : (words : List ℕ) → (at outside number : ℕ) → (landing : Option ℕ) → Type 0
+  HeadHolds words at outside number (Some landing) = slice_index words at ≡ 4 * l.line_at number landing
+  HeadHolds words at outside number None = slice_index words (at + 1) ≡ 4 * outside
+
   abbrev pub HeadsHold : (words : List ℕ) (size : ℕ) → Activation → List Standing → Type 0
   HeadsHold words size a [] = Unit {0}
   HeadsHold words size a (s ∷ records) =
-      (slice_index words (size - words_of (blocks_of program a (s ∷ records))) ≡ 4 * l.line_at a.procedure s.landing)
+      HeadHolds words (size - words_of (blocks_of program a (s ∷ records))) (size - words_of (blocks_of program a records)) a.procedure s.landing
       × HeadsHold words size a records
 
   -- what must be where at the landings of records, with no registers: a cut comes from wherever
+  abbrev pub LandingHolds : (words : List ℕ) (base number : ℕ) → Registers → (landing : Option ℕ) → Type 0
+  LandingHolds words base number rs None = Unit {0}
+  LandingHolds words base number rs (Some landing) = AreThere [] words base number landing rs
+
   abbrev pub LandingsHold : (words : List ℕ) (base number : ℕ) → Registers → List Standing → Type 0
   LandingsHold words base number rs [] = Unit {0}
-  LandingsHold words base number rs (s ∷ records) =
-      AreThere [] words base number s.landing rs × LandingsHold words base number rs records
+  LandingsHold words base number rs (s ∷ records) = LandingHolds words base number rs s.landing × LandingsHold words base number rs records
 
   -- a caller waits at a call, and the code behind its jump goes on at an address
   pub record Waits (words : List ℕ) (size : ℕ) (c : Caller) (link : ℕ) : Type 0 where
@@ -219,8 +234,9 @@ module _ (program : LineProgram) (l : Located) (Fact : (number line register : �
   abbrev pub EndsAt : End → MidState → Moment → Type 0
   EndsAt (halts w) z m = Calls 0 z m × (slice_index m.state.registers 10 ≡ w)
   EndsAt (returns w) z m = Calls 0 z m × (slice_index m.state.registers 10 ≡ w)
-  EndsAt (unhandled class site) z m =
+  EndsAt (unhandled class site condition) z m =
       Calls 3 z m × (slice_index m.state.registers 10 ≡ class) × (slice_index m.state.registers 11 ≡ site)
+      × (slice_index m.state.registers 12 ≡ condition)
   EndsAt (no_room asked left) z m =
       Calls 4 z m × (slice_index m.state.registers 10 ≡ asked) × (slice_index m.state.registers 11 ≡ left)
   EndsAt falls z m = ⊥

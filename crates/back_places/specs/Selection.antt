@@ -9,6 +9,7 @@ use Rattle.mid_code.specs.declared.operation.Comparison.{Comparison}
 use Rattle.mid_code.specs.declared.operation.Comparison.TheVariants as comparison
 use Rattle.back_places.specs.declared.place.Place.{Place}
 use Rattle.back_places.specs.declared.place.Place.TheVariants.{InRegister, InSlot, AsConstant}
+use Rattle.back_places.specs.Places.{Way}
 use Rattle.back_places.specs.Operands.{high_part, low_part, is_short, read_in, read_code, given_in, keep_code}
 
 -- what is computed of two registers
@@ -50,20 +51,20 @@ immediate_of which.Less to a w = with_short (Slti to a) w
 immediate_of which.LessUnsigned to a w = with_short (Sltiu to a) w
 
 -- two operands, an instruction, and its result to its place
-abbrev pub binary_code : (depth : ℕ) → (first second target : Place) → ((to a b : ℕ) → Instr) → List Instr
-binary_code depth first second target i =
-    read_code depth 5 first ++ (read_code depth 6 second ++ (i (given_in target) (read_in 5 first) (read_in 6 second) ∷ keep_code depth target))
+abbrev pub binary_code : (way : Way) → (first second target : Place) → ((to a b : ℕ) → Instr) → List Instr
+binary_code way first second target i =
+    read_code way 5 first ++ (read_code way 6 second ++ (i (given_in target) (read_in 5 first) (read_in 6 second) ∷ keep_code way target))
 
 -- an operand, and an instruction with the other one in it, where there is one
-abbrev pub short_code : (depth : ℕ) → (first : Place) → (word : ℕ) → (target : Place) → Arithmetic → Option Instr → List Instr
-short_code depth first word target which None = binary_code depth first (AsConstant word) target (arithmetic_of which)
-short_code depth first word target which (Some i) = read_code depth 5 first ++ (i ∷ keep_code depth target)
+abbrev pub short_code : (way : Way) → (first : Place) → (word : ℕ) → (target : Place) → Arithmetic → Option Instr → List Instr
+short_code way first word target which None = binary_code way first (AsConstant word) target (arithmetic_of which)
+short_code way first word target which (Some i) = read_code way 5 first ++ (i ∷ keep_code way target)
 
-abbrev pub compute_code : (depth : ℕ) → (first second target : Place) → Arithmetic → List Instr
-compute_code depth first (InRegister r) target which = binary_code depth first (InRegister r) target (arithmetic_of which)
-compute_code depth first (InSlot k) target which = binary_code depth first (InSlot k) target (arithmetic_of which)
-compute_code depth first (AsConstant w) target which =
-    short_code depth first w target which (immediate_of which (given_in target) (read_in 5 first) w)
+abbrev pub compute_code : (way : Way) → (first second target : Place) → Arithmetic → List Instr
+compute_code way first (InRegister r) target which = binary_code way first (InRegister r) target (arithmetic_of which)
+compute_code way first (InSlot k) target which = binary_code way first (InSlot k) target (arithmetic_of which)
+compute_code way first (AsConstant w) target which =
+    short_code way first w target which (immediate_of which (given_in target) (read_in 5 first) w)
 
 -- a branch where a comparison holds, and where it does not
 abbrev pub branch_where : Comparison → (first second offset : ℕ) → Instr

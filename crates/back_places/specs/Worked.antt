@@ -10,7 +10,7 @@ use Rattle.mid_lines.specs.declared.line.Line.{Line}
 use Rattle.mid_lines.specs.declared.line.Line.TheVariants.{Do, Branch, Return, Lay, Landed, GiveBack, Cut}
 use Rattle.back_places.specs.declared.place.Place.{Place}
 use Rattle.back_places.specs.declared.place.Place.TheVariants.{InRegister, InSlot, AsConstant}
-use Rattle.back_places.specs.Places.{StaticRecord, Located}
+use Rattle.back_places.specs.Places.{StaticRecord, with_landing, Located}
 use Rattle.back_places.specs.LineCode.{line_code, behind_code, entry_code}
 
 -- the code of lines, and what stands behind each, from a line on
@@ -56,6 +56,7 @@ fib = record {
   entry_at = λ number. 100;
   line_at = λ number line. slice_index (108 ∷ 108 ∷ 110 ∷ 112 ∷ 112 ∷ 113 ∷ 115 ∷ 117 ∷ 118 ∷ 120 ∷ 123 ∷ []) line;
   back_at = λ number line. slice_index (108 ∷ 110 ∷ 112 ∷ 112 ∷ 113 ∷ 114 ∷ 117 ∷ 118 ∷ 120 ∷ 123 ∷ []) line;
+  table_at = λ number line. 0;
   arguments_at = 30;
   argument_words = 14;
   procedures_at = 44;
@@ -94,7 +95,7 @@ record_lines =
     ∷ Return 2 ∷ []
 
 abbrev pub one_record : List StaticRecord
-one_record = record { words = 1; landing = 4 } ∷ []
+one_record = with_landing 1 4 ∷ []
 
 abbrev pub recorded : Located
 recorded = record {
@@ -108,6 +109,7 @@ recorded = record {
   entry_at = λ number. if number == 0 then 15 else 50;
   line_at = λ number line. slice_index (20 ∷ 30 ∷ 31 ∷ 32 ∷ 35 ∷ 35 ∷ 36 ∷ 39 ∷ []) line;
   back_at = λ number line. slice_index (30 ∷ 31 ∷ 32 ∷ 35 ∷ 35 ∷ 36 ∷ 39 ∷ []) line;
+  table_at = λ number line. 0;
   arguments_at = 2;
   argument_words = 2;
   procedures_at = 4;

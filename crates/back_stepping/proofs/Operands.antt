@@ -1,6 +1,6 @@
 -- What the code of operands does: a word comes from its place into a register.
 use Rattle.std.proofs.Common.{inl, inr, ◌≡◌, ◌≢◌, ℕ, zero, suc, ◌+◌, ◌-◌, ◌*◌, ◌/◌, ◌%◌, ◌^◌, ◌<◌, ◌≤◌, Bool, true, false, List, [], ◌∷◌, ◌++◌, length, refl, sym, ap, subst, ◌∙◌, arith, Some, get_or, eqb-true, eq-eqb, append-nil}
-use Rattle.std.specs.Prelude.{◌⊎◌, Option, slice_index, slice_set, slice_get, if◌then◌else◌, ◌==◌, nat_lt}
+use Rattle.std.specs.Prelude.{◌⊎◌, Option, slice_index, slice_set, slice_get, if◌then◌else◌, ◌==◌, nat_lt, nat_le}
 use Rattle.std.proofs.lemmas.Bool.Decides.{nat_tests}
 use Rattle.std.proofs.lemmas.List.{get_or-set_same, get_or-set_other, length-set}
 use Rattle.base.specs.Arithmetic.{sum32}
@@ -12,10 +12,11 @@ use Rattle.rv_machine.specs.Arithmetic.{sign_extended}
 use Rattle.rv_machine.specs.Step.{execute, gives, load}
 use Rattle.back_places.specs.declared.place.Place.{Place}
 use Rattle.back_places.specs.declared.place.Place.TheVariants.{InRegister, InSlot, AsConstant}
+use Rattle.back_places.specs.Places.{Way, from_stack, past_lent, no_way, reachable}
 use Rattle.back_places.specs.Operands.{high_part, low_part, is_short, constant_code, address_code, slot_offset, at_slot, at_word, load_into, read_in, read_code}
 use Rattle.back_places.specs.Facts.{IsPlace}
 use Rattle.back_places.specs.Relation.{IsAt}
-use Rattle.back_stepping.specs.Moments.{state_at, AreSmall, Sets, with_word_in, Ready, Prepared, Frame}
+use Rattle.back_stepping.specs.Moments.{state_at, AreSmall, Sets, with_word_in, Ready, Prepared, LeadsTo, Frame}
 use Rattle.back_stepping.proofs.Coming.{sets_none, sets_on, sets_one}
 use Rattle.back_stepping.proofs.Parts.{small_extended, parts_sum, parts_between, short_is}
 
@@ -90,11 +91,11 @@ constant_prepared words registers to word small ready some within h = by (is_sho
     by false e = parts_prepared words registers to word small ready some within h
 
 -- an access of a word of the frame: the code before it, and its base register and offset
-pub record Reached (words registers : List ℕ) (depth base k : ℕ) : Type 0 where
+pub record Reached (words registers : List ℕ) (way : Way) (base k : ℕ) : Type 0 where
   pub before : List Instr
   pub from : ℕ
   pub offset : ℕ
-  pub is_code : (access : (base offset : ℕ) → Instr) → at_slot depth k access ≡ before ++ access from offset ∷ []
+  pub is_code : (access : (base offset : ℕ) → Instr) → at_slot way k access ≡ before ++ access from offset ∷ []
   pub short : length before ≤ 2
   pub registers' : List ℕ
   pub sets : Sets words before registers registers'
@@ -111,26 +112,26 @@ far_address :
     → sum32 (sum32 (high_part (4 * (depth + k)) * 4096) sp) (sign_extended 12 (low_part (4 * (depth + k)))) ≡ 4 * (base + k)
 far_address sp depth base k e small fits = parts_between (4 * (depth + k)) sp (omega (arith, e, small)) fits ∙ omega (arith, e, small)
 
-pub reached :
-    (words registers : List ℕ) (depth base frame k : ℕ) → AreSmall words → Ready registers → Frame registers words depth base frame → k < frame
-    → Reached words registers depth base k
-reached words registers depth base frame k small ready f h = by (nat_lt (slot_offset depth k) 2048) refl
+reached_from_stack :
+    (words registers : List ℕ) (depth base frame k : ℕ) → AreSmall words → Ready registers → Frame registers words (from_stack depth) base frame → k < frame
+    → Reached words registers (from_stack depth) base k
+reached_from_stack words registers depth base frame k small ready f h = by (nat_lt (slot_offset depth k) 2048) refl
   where
     inside : base + k < 2 ^ 24
     inside = omega (arith, f.inside, h, f.memory_small)
 
     low_stack : slice_index registers 2 < 2 ^ 32
-    low_stack = omega (arith, f.pointer, inside)
+    low_stack = omega (arith, f.leads, inside)
 
     chosen : (t : Bool) → nat_lt (slot_offset depth k) 2048 ≡ t → (access : (base offset : ℕ) → Instr)
-      → at_slot depth k access
+      → at_slot (from_stack depth) k access
       ≡ (if t then access 2 (slot_offset depth k) ∷ []
         else Lui 7 (high_part (slot_offset depth k)) ∷ Add 7 7 2 ∷ access 7 (low_part (slot_offset depth k)) ∷ [])
     chosen t e access =
         ap (λ b. if b then access 2 (slot_offset depth k) ∷ []
         else Lui 7 (high_part (slot_offset depth k)) ∷ Add 7 7 2 ∷ access 7 (low_part (slot_offset depth k)) ∷ []) e
 
-    by : (t : Bool) → nat_lt (slot_offset depth k) 2048 ≡ t → Reached words registers depth base k
+    by : (t : Bool) → nat_lt (slot_offset depth k) 2048 ≡ t → Reached words registers (from_stack depth) base k
     by true e = record {
       before = [];
       from = 2;
@@ -139,7 +140,7 @@ reached words registers depth base frame k small ready f h = by (nat_lt (slot_of
       short = omega arith;
       registers' = registers;
       sets = sets_none words registers;
-      address = near_address (slice_index registers 2) depth base k f.pointer (grind (arith, nat_tests, e)) inside;
+      address = near_address (slice_index registers 2) depth base k f.leads (grind (arith, nat_tests, e)) inside;
       others = λ q ne. refl;
       bounded = λ all. all;
       ready = ready;
@@ -161,19 +162,69 @@ reached words registers depth base frame k small ready f h = by (nat_lt (slot_of
           registers' = two.registers';
           sets = sets_on one.sets two.sets;
           address = ap (λ x. sum32 x (sign_extended 12 (low_part (slot_offset depth k)))) two.holds
-              ∙ far_address (slice_index registers 2) depth base k f.pointer inside low_stack;
+              ∙ far_address (slice_index registers 2) depth base k f.leads inside low_stack;
           others = λ q ne. two.others q ne ne ∙ one.others q ne ne;
           bounded = λ all. two.bounded (one.bounded all);
           ready = two.ready;
         }
 
+-- past a block that was lent, by the stack pointer of before in its header
+reached_past_lent :
+    (words registers : List ℕ) (depth base frame k : ℕ) → AreSmall words → Ready registers → Frame registers words (past_lent depth) base frame
+    → k < frame → 4 * (depth + frame) ≤ 2048 → Reached words registers (past_lent depth) base k
+reached_past_lent words registers depth base frame k small ready f h near =
+    let block = f.leads.0 in
+    let inside : base + k < 2 ^ 24 = omega (arith, f.inside, h, f.memory_small) in
+    let four : sign_extended 12 4 ≡ 4 = small_extended 4 (omega arith) in
+    let there : sum32 (slice_index registers 2) (sign_extended 12 4) ≡ 4 * (block + 1) =
+      ap (λ x. sum32 (slice_index registers 2) x) four ∙ omega (arith, f.leads.1, f.leads.2, f.memory_small) in
+    let one = prepared_one words registers (Lw 7 2 4) 7 (slice_index words (block + 1)) small ready (omega arith) (omega arith) (small (block + 1))
+      (λ i. ap (λ x. load 7 (number_at 4 x (bytes_of words)) (state_at i registers words)) there
+      ∙ ap (λ x. load 7 x (state_at i registers words)) (word_read words (block + 1) f.leads.2 (small (block + 1)))) in
+    record {
+      before = Lw 7 2 4 ∷ [];
+      from = 7;
+      offset = slot_offset depth k;
+      is_code = λ access. refl;
+      short = omega arith;
+      registers' = one.registers';
+      sets = one.sets;
+      address = ap (λ x. sum32 x (sign_extended 12 (slot_offset depth k))) one.holds
+          ∙ near_address (slice_index words (block + 1)) depth base k f.leads.3 (omega (arith, near, h)) inside;
+      others = λ q ne. one.others q ne ne;
+      bounded = one.bounded;
+      ready = one.ready;
+    }
+
+-- a word of the frame that is within reach is in the frame
+pub reachable_few : (way : Way) (frame : ℕ) → reachable way frame ≤ frame
+reachable_few (from_stack depth) frame = omega arith
+reachable_few (past_lent depth) frame = few (nat_le (4 * (depth + frame)) 2048)
+  where
+    few : (t : Bool) → (if t then frame else 0) ≤ frame
+    few true = omega arith
+    few false = omega arith
+reachable_few no_way frame = omega arith
+
+pub reached :
+    (words registers : List ℕ) (way : Way) (base frame k : ℕ) → AreSmall words → Ready registers → Frame registers words way base frame
+    → k < reachable way frame → Reached words registers way base k
+reached words registers (from_stack depth) base frame k small ready f h = reached_from_stack words registers depth base frame k small ready f h
+reached words registers (past_lent depth) base frame k small ready f h = by (nat_le (4 * (depth + frame)) 2048) refl h
+  where
+    by : (t : Bool) → nat_le (4 * (depth + frame)) 2048 ≡ t → k < (if t then frame else 0) → Reached words registers (past_lent depth) base k
+    by true e h = reached_past_lent words registers depth base frame k small ready f h (grind (arith, nat_tests, e))
+    by false e h = absurd (omega (arith, h))
+reached words registers no_way base frame k small ready f h = absurd (omega (arith, h))
+
 -- a word of the frame is loaded
 pub slot_prepared :
-    (words registers : List ℕ) (depth base frame to k : ℕ) → AreSmall words → Ready registers → Frame registers words depth base frame
-    → k < frame → 0 < to → to < 32 → Prepared words registers (at_slot depth k (Lw to)) to (slice_index words (base + k)) to
-slot_prepared words registers depth base frame to k small ready f h some within =
-    let r = reached words registers depth base frame k small ready f h in
-    let inside : base + k < length words = omega (arith, f.inside, h) in
+    (words registers : List ℕ) (way : Way) (base frame to k : ℕ) → AreSmall words → Ready registers → Frame registers words way base frame
+    → k < reachable way frame → 0 < to → to < 32 → Prepared words registers (at_slot way k (Lw to)) to (slice_index words (base + k)) to
+slot_prepared words registers way base frame to k small ready f h some within =
+    let r = reached words registers way base frame k small ready f h in
+    let few = reachable_few way frame in
+    let inside : base + k < length words = omega (arith, f.inside, h, few) in
     let one = prepared_one words r.registers' (Lw to r.from r.offset) to (slice_index words (base + k)) small r.ready some within (small (base + k))
       (λ i. ap (λ x. load to (number_at 4 x (bytes_of words)) (state_at i r.registers' words)) r.address
       ∙ ap (λ x. load to x (state_at i r.registers' words)) (word_read words (base + k) inside (small (base + k)))) in
@@ -188,31 +239,31 @@ slot_prepared words registers depth base frame to k small ready f h some within 
     })
 
 pub read :
-    (words registers : List ℕ) (depth base frame scratch : ℕ) (p : Place) (w : ℕ) → AreSmall words → Ready registers → Frame registers words depth base frame
-    → IsPlace frame p → 0 < scratch → scratch < 7 → IsAt registers words base p w → Prepared words registers (read_code depth scratch p) (read_in scratch p) w scratch
-read words registers depth base frame scratch (InRegister r) w small ready f ok some within h = prepared_none words registers r w scratch ready h
-read words registers depth base frame scratch (InSlot k) w small ready f ok some within h =
-    subst (λ x. Prepared words registers (read_code depth scratch (InSlot k)) scratch x scratch) h
-    (slot_prepared words registers depth base frame scratch k small ready f ok.1 some (omega (arith, within)))
-read words registers depth base frame scratch (AsConstant zero) w small ready f ok some within h = prepared_none words registers 0 w scratch ready (ready.zero_is ∙ h)
-read words registers depth base frame scratch (AsConstant (suc c)) w small ready f ok some within h =
+    (words registers : List ℕ) (way : Way) (base frame scratch : ℕ) (p : Place) (w : ℕ) → AreSmall words → Ready registers → Frame registers words way base frame
+    → IsPlace (reachable way frame) p → 0 < scratch → scratch < 7 → IsAt registers words base p w → Prepared words registers (read_code way scratch p) (read_in scratch p) w scratch
+read words registers way base frame scratch (InRegister r) w small ready f ok some within h = prepared_none words registers r w scratch ready h
+read words registers way base frame scratch (InSlot k) w small ready f ok some within h =
+    subst (λ x. Prepared words registers (read_code way scratch (InSlot k)) scratch x scratch) h
+    (slot_prepared words registers way base frame scratch k small ready f ok.1 some (omega (arith, within)))
+read words registers way base frame scratch (AsConstant zero) w small ready f ok some within h = prepared_none words registers 0 w scratch ready (ready.zero_is ∙ h)
+read words registers way base frame scratch (AsConstant (suc c)) w small ready f ok some within h =
     subst (λ x. Prepared words registers (constant_code scratch (suc c)) scratch x scratch) h
     (constant_prepared words registers scratch (suc c) small ready some (omega (arith, within)) ok)
 
 pub loaded :
-    (words registers : List ℕ) (depth base frame to : ℕ) (p : Place) (w : ℕ) → AreSmall words → Ready registers → w < 2 ^ 32 → Frame registers words depth base frame
-    → IsPlace frame p → 0 < to → to < 32 → to ≢ 7 → IsAt registers words base p w → Prepared words registers (load_into depth to p) to w to
-loaded words registers depth base frame to (InRegister r) w small ready word f ok some within seven h = by (r == to) refl
+    (words registers : List ℕ) (way : Way) (base frame to : ℕ) (p : Place) (w : ℕ) → AreSmall words → Ready registers → w < 2 ^ 32 → Frame registers words way base frame
+    → IsPlace (reachable way frame) p → 0 < to → to < 32 → to ≢ 7 → IsAt registers words base p w → Prepared words registers (load_into way to p) to w to
+loaded words registers way base frame to (InRegister r) w small ready word f ok some within seven h = by (r == to) refl
   where
     by : (t : Bool) → (r == to) ≡ t → Prepared words registers (if t then [] else Addi to r 0 ∷ []) to w to
     by true e = let q = eqb-true r to e in prepared_none words registers to w to ready (ap (λ x. slice_index registers x) (sym q) ∙ h)
     by false e =
         let v : sum32 (slice_index registers r) (sign_extended 12 0) ≡ w = ap (λ x. sum32 x (sign_extended 12 0)) h ∙ omega (arith, word) in
         prepared_one words registers (Addi to r 0) to w small ready some within word (λ i. ap (λ x. gives to x (state_at i registers words)) v)
-loaded words registers depth base frame to (InSlot k) w small ready word f ok some within seven h =
-    subst (λ x. Prepared words registers (load_into depth to (InSlot k)) to x to) h
-    (slot_prepared words registers depth base frame to k small ready f ok.1 some within)
-loaded words registers depth base frame to (AsConstant c) w small ready word f ok some within seven h =
+loaded words registers way base frame to (InSlot k) w small ready word f ok some within seven h =
+    subst (λ x. Prepared words registers (load_into way to (InSlot k)) to x to) h
+    (slot_prepared words registers way base frame to k small ready f ok.1 some within)
+loaded words registers way base frame to (AsConstant c) w small ready word f ok some within seven h =
     subst (λ x. Prepared words registers (constant_code to c) to x to) h
     (constant_prepared words registers to c small ready some within ok)
 
@@ -235,11 +286,14 @@ past_scratch registers registers' words base frame r (AsConstant c) w low others
 
 -- a frame seen from registers with the same stack pointer
 pub frame_still :
-    (registers registers' words : List ℕ) (depth base frame : ℕ) → slice_index registers' 2 ≡ slice_index registers 2
-    → Frame registers words depth base frame → Frame registers' words depth base frame
-frame_still registers registers' words depth base frame e f = record {
-  pointer = ap (λ x. x + 4 * depth) e ∙ f.pointer; inside = f.inside; memory_small = f.memory_small;
-}
+    (registers registers' words : List ℕ) (way : Way) (base frame : ℕ) → slice_index registers' 2 ≡ slice_index registers 2
+    → Frame registers words way base frame → Frame registers' words way base frame
+frame_still registers registers' words way base frame e f = record { leads = leads way f.leads; inside = f.inside; memory_small = f.memory_small }
+  where
+    leads : (way : Way) → LeadsTo registers words way base → LeadsTo registers' words way base
+    leads (from_stack depth) h = ap (λ x. x + 4 * depth) e ∙ h
+    leads (past_lent depth) h = (h.0, e ∙ h.1, h.2, h.3)
+    leads no_way h = tt
 
 -- both operands are read: but for registers 5 to 7, all are as before
 pub record BothRead (words registers : List ℕ) (code : List Instr) (ra rb a b : ℕ) : Type 0 where
@@ -256,15 +310,15 @@ pub no_scratch : (q r : ℕ) → (q < 5) ⊎ (7 < q) → 4 < r → r < 8 → q �
 no_scratch q r h low high e = elim h [ | inl k ↦ omega (arith, k, e, low) | inr k ↦ omega (arith, k, e, high) ]
 
 pub both_read :
-    (words registers : List ℕ) (depth base frame : ℕ) (p q : Place) (a b : ℕ) → AreSmall words → Ready registers → Frame registers words depth base frame
-    → IsPlace frame p → IsPlace frame q → IsAt registers words base p a → IsAt registers words base q b
-    → BothRead words registers (read_code depth 5 p ++ read_code depth 6 q) (read_in 5 p) (read_in 6 q) a b
-both_read words registers depth base frame p q a b small ready f okp okq ha hb =
-    let one = read words registers depth base frame 5 p a small ready f okp (omega arith) (omega arith) ha in
-    let f' = frame_still registers one.registers' words depth base frame (one.others 2 (λ e. omega (arith, e)) (λ e. omega (arith, e))) f in
-    let two = read words one.registers' depth base frame 6 q b small one.ready f' okq (omega arith) (omega arith)
-      (past_scratch registers one.registers' words base frame 5 q b (omega arith) one.others okq hb) in
-    let apart = read_apart p frame okp in
+    (words registers : List ℕ) (way : Way) (base frame : ℕ) (p q : Place) (a b : ℕ) → AreSmall words → Ready registers → Frame registers words way base frame
+    → IsPlace (reachable way frame) p → IsPlace (reachable way frame) q → IsAt registers words base p a → IsAt registers words base q b
+    → BothRead words registers (read_code way 5 p ++ read_code way 6 q) (read_in 5 p) (read_in 6 q) a b
+both_read words registers way base frame p q a b small ready f okp okq ha hb =
+    let one = read words registers way base frame 5 p a small ready f okp (omega arith) (omega arith) ha in
+    let f' = frame_still registers one.registers' words way base frame (one.others 2 (λ e. omega (arith, e)) (λ e. omega (arith, e))) f in
+    let two = read words one.registers' way base frame 6 q b small one.ready f' okq (omega arith) (omega arith)
+      (past_scratch registers one.registers' words base (reachable way frame) 5 q b (omega arith) one.others okq hb) in
+    let apart = read_apart p (reachable way frame) okp in
     record {
       registers' = two.registers';
       sets = sets_on one.sets two.sets;

@@ -4,6 +4,7 @@ use Rattle.rv_encode.specs.declared.instruction.Instr.{Instr}
 use Rattle.rv_machine.specs.Memory.{bytes_of}
 use Rattle.rv_machine.specs.State.{State}
 use Rattle.rv_machine.specs.Run.{Moment}
+use Rattle.back_places.specs.Places.{Way, from_stack, past_lent, no_way}
 use Rattle.back_places.specs.Relation.{HasCode}
 use Rattle.back_places.specs.StepLaw.{Comes}
 
@@ -56,8 +57,15 @@ pub record Prepared (words registers : List ℕ) (code : List Instr) (to word sc
   pub bounded : AreSmall registers → AreSmall registers'
   pub ready : Ready registers'
 
--- where the frame is: so many words of control records lie between the stack pointer and its first word
-pub record Frame (registers words : List ℕ) (depth base frame : ℕ) : Type 0 where
-  pub pointer : slice_index registers 2 + 4 * depth ≡ 4 * base
+-- The first word of a frame, from the stack pointer: above it, or above that of before, which is the second word at the stack pointer.
+abbrev pub LeadsTo : (registers words : List ℕ) → Way → (base : ℕ) → Type 0
+LeadsTo registers words (from_stack depth) base = slice_index registers 2 + 4 * depth ≡ 4 * base
+LeadsTo registers words (past_lent depth) base =
+    (block : ℕ) × (slice_index registers 2 ≡ 4 * block) × (block + 1 < length words) × (slice_index words (block + 1) + 4 * depth ≡ 4 * base)
+LeadsTo registers words no_way base = Unit {0}
+
+-- where the frame is, and that its words are there
+pub record Frame (registers words : List ℕ) (way : Way) (base frame : ℕ) : Type 0 where
+  pub leads : LeadsTo registers words way base
   pub inside : base + frame ≤ length words
   pub memory_small : length words ≤ 2 ^ 24
