@@ -79,7 +79,6 @@ immediate_same which.ShiftRightSigned to a w i s small h =
     ap (λ x. execute x s) (sym is) ∙ shifted
   where
     shifted : gives to (shift_right_signed (register s a) (w % 32)) s ≡ gives to (shift_right_signed (register s a) w) s
-    unfolding shift_right_signed
     shifted = let e = twice w in rw e refl
 immediate_same which.Less to a w i s small h = by_short (Slti to a) (λ x. one_if_less_signed (register s a) x) to w i s small (λ k. refl) h
 immediate_same which.LessUnsigned to a w i s small h = by_short (Sltiu to a) (λ x. one_if_less (register s a) x) to w i s small (λ k. refl) h

@@ -17,15 +17,16 @@ use Rattle.mid_lines.specs.LineMeaning.{Standing, Activation, Caller}
 use Rattle.mid_lines.specs.StackLaw.{frame_of, blocks_of, StandsOn, CallersStandOn}
 use Rattle.back_places.specs.declared.place.Place.{Place}
 use Rattle.back_places.specs.declared.place.Place.TheVariants.{InRegister, InSlot, AsConstant}
-use Rattle.back_places.specs.Places.{StaticRecord, Located, depth_of}
+use Rattle.back_places.specs.Places.{StaticRecord, Located, Way, way_of, reachable}
 use Rattle.back_places.specs.Operands.{at_slot}
 use Rattle.back_places.specs.Facts.{IsPlace, Apart, Gives}
 use Rattle.back_places.specs.Good.{IsGood}
 use Rattle.back_places.specs.Relation.{HasCode, Stands, IsAt, base_of, AreThere, Machine, Point, Runs}
 use Rattle.back_places.specs.StepLaw.{Comes}
+use Rattle.back_stepping.specs.Arriving.{Given, Arrives}
 use Rattle.back_stepping.specs.Moments.{state_at, Beside, later, moment, beside, AreSmall, Sets, Ready, Frame}
 use Rattle.back_stepping.proofs.Coming.{next_place, stays, same_moment, and_one, sets_on}
-use Rattle.back_stepping.proofs.Operands.{Reached, reached, frame_still}
+use Rattle.back_stepping.proofs.Operands.{Reached, reached, reachable_few, frame_still}
 use Rattle.back_stepping.proofs.Going.{OwnChange, no_change, slot_change, After, goes_on}
 
 -- a register read after another was set
@@ -43,12 +44,6 @@ register_same (y ∷ ys) (suc to) w x h = register_same ys to w x h
 
 module _ (program : LineProgram) (l : Located) (Fact : (number line register : ℕ) → Place → Type 0) (first : List Block)
     (good : IsGood program l Fact) where
-
-  -- where the machine comes behind the code of a line: at another line of the activation
-  pub record Given (a : Activation) (line' : ℕ) (rs' : Registers) (callers : List Caller) (z' : MidState) (m : Moment) (count : ℕ) : Type 0 where
-    pub moment' : Moment
-    pub comes : Comes count m moment'
-    pub runs : Runs program l Fact first a line' rs' callers z' moment'
 
   -- the registers behind code that sets one, scratch registers apart
   pub record SetsOne (a : Activation) (z : MidState) (words : List ℕ) (code : List Instr) (registers : List ℕ) (target : Place) : Type 0 where
@@ -68,16 +63,11 @@ module _ (program : LineProgram) (l : Located) (Fact : (number line register : �
   stays_at a registers registers' words words' target (InSlot k) x base others slots ok ap' h = slots k ap' ∙ h
   stays_at a registers registers' words words' target (AsConstant c) x base others slots ok ap' h = h
 
-  -- each fact of a line is of the word that is given, or of one that was there and is apart
-  abbrev pub Arrives : (a : Activation) (z : MidState) (registers words : List ℕ) (line' : ℕ) (rs' : Registers) (target : Place) (w : ℕ) → Type 0
-  Arrives a z registers words line' rs' target w =
-      (v : ℕ) (p : Place) (x : ℕ) → Fact a.procedure line' v p → register v rs' ≡ Some x
-      → ((p ≡ target) × (x ≡ w)) ⊎ (IsAt registers words (base_of program (length z.arena.memory) a) p x × Apart p target)
-
+  -- a word that is given to a register of the line
   pub arrives :
       (a : Activation) (line line' to w : ℕ) (rs : Registers) (z : MidState) (registers words : List ℕ) → Gives l Fact a.procedure line to line'
       → AreThere program l Fact first registers words (base_of program (length z.arena.memory) a) a.procedure line rs
-      → Arrives a z registers words line' (slice_set rs to (Some w)) (l.target a.procedure line) w
+      → Arrives program l Fact first a z registers words line' (slice_set rs to (Some w)) (l.target a.procedure line) w
   arrives a line line' to w rs z registers words flows there v p x f e = elim (flows v p f) [
     | inl same ↦ inl (same.1, register_same rs to w x (ap (λ u. register u (slice_set rs to (Some w))) (sym same.0) ∙ e))
     | inr other ↦ inr (there v p x other.1 (sym (register_other rs to v w other.0) ∙ e), other.2)
@@ -85,7 +75,7 @@ module _ (program : LineProgram) (l : Located) (Fact : (number line register : �
 
   pub all_there :
       (a : Activation) (line' w : ℕ) (rs' : Registers) (z : MidState) (registers registers' words words' : List ℕ) (target : Place)
-      → Arrives a z registers words line' rs' target w
+      → Arrives program l Fact first a z registers words line' rs' target w
       → ((q : ℕ) → IsPlace (frame_of program a.procedure).words (InRegister q) → Apart (InRegister q) target → slice_index registers' q ≡ slice_index registers q)
       → ((k : ℕ) → Apart (InSlot k) target → slice_index words' (base_of program (length z.arena.memory) a + k) ≡ slice_index words (base_of program (length z.arena.memory) a + k))
       → IsAt registers' words' (base_of program (length z.arena.memory) a) target w
@@ -103,10 +93,10 @@ module _ (program : LineProgram) (l : Located) (Fact : (number line register : �
       (a : Activation) (at : ℕ) (known : List StaticRecord) (line' w rd : ℕ) (rs' : Registers) (callers : List Caller) (z : MidState) (cost : ℕ) (m : Moment) (code : List Instr)
       → StandsOn program a z.arena.blocks × CallersStandOn program first callers a.outer → (r : Point program l Fact first a at known callers z m)
       → Stands l r.words at code → l.line_at a.procedure line' ≡ at + length code
-      → Arrives a z m.state.registers r.words line' rs' (InRegister rd) w → (l.linked a.procedure line' ≡ true → slice_index m.state.registers 1 ≡ r.link)
+      → Arrives program l Fact first a z m.state.registers r.words line' rs' (InRegister rd) w → (l.linked a.procedure line' ≡ true → slice_index m.state.registers 1 ≡ r.link)
       → l.records a.procedure line' ≡ known
       → (s : SetsOne a z r.words code m.state.registers (InRegister rd)) → slice_index s.registers' rd ≡ w
-      → Given a line' rs' callers (charged cost z) m (length code)
+      → Given program l Fact first a line' rs' callers (charged cost z) m (length code)
   given_in_register a at known line' w rd rs' callers z cost m code st r stands behind reach linked records s holds =
       let o = beside m in
       let start = same_moment m at r.words r.pc r.machine.memory in
@@ -123,9 +113,9 @@ module _ (program : LineProgram) (l : Located) (Fact : (number line register : �
 
   -- code that sets registers, and then the address of a slot
   sets_address :
-      (a : Activation) (z : MidState) (words registers : List ℕ) (code : List Instr) (depth base k j : ℕ) (s : SetsOne a z words code registers (InSlot j))
-      → (r : Reached words s.registers' depth base k) → SetsOne a z words (code ++ r.before) registers (InSlot j)
-  sets_address a z words registers code depth base k j s r = record {
+      (a : Activation) (z : MidState) (words registers : List ℕ) (code : List Instr) (way : Way) (base k j : ℕ) (s : SetsOne a z words code registers (InSlot j))
+      → (r : Reached words s.registers' way base k) → SetsOne a z words (code ++ r.before) registers (InSlot j)
+  sets_address a z words registers code way base k j s r = record {
     registers' = r.registers';
     sets = sets_on s.sets r.sets;
     after_is = record {
@@ -143,15 +133,15 @@ module _ (program : LineProgram) (l : Located) (Fact : (number line register : �
       (a : Activation) (at : ℕ) (known : List StaticRecord) (line' w k x from offset : ℕ) (rs' : Registers) (callers : List Caller) (z : MidState) (cost : ℕ) (m : Moment) (pre : List Instr)
       → (st : StandsOn program a z.arena.blocks × CallersStandOn program first callers a.outer) → (r : Point program l Fact first a at known callers z m)
       → 0 < k → k < (frame_of program a.procedure).words
-      → Frame m.state.registers r.words (depth_of known) (base_of program (length z.arena.memory) a) (frame_of program a.procedure).words
+      → Frame m.state.registers r.words (way_of known) (base_of program (length z.arena.memory) a) (frame_of program a.procedure).words
       → Stands l r.words at (pre ++ Sw x from offset ∷ [])
       → l.line_at a.procedure line' ≡ at + length (pre ++ Sw x from offset ∷ [])
-      → Arrives a z m.state.registers r.words line' rs' (InSlot k) w → (l.linked a.procedure line' ≡ true → slice_index m.state.registers 1 ≡ r.link)
+      → Arrives program l Fact first a z m.state.registers r.words line' rs' (InSlot k) w → (l.linked a.procedure line' ≡ true → slice_index m.state.registers 1 ≡ r.link)
       → l.records a.procedure line' ≡ known
       → (s : SetsOne a z r.words pre m.state.registers (InSlot k))
       → sum32 (slice_index s.registers' from) (sign_extended 12 offset) ≡ 4 * (base_of program (length z.arena.memory) a + k)
       → slice_index s.registers' x ≡ w → w < 2 ^ 32
-      → Given a line' rs' callers (charged cost z) m (length (pre ++ Sw x from offset ∷ []))
+      → Given program l Fact first a line' rs' callers (charged cost z) m (length (pre ++ Sw x from offset ∷ []))
   stored_in_slot a at known line' w k x from offset rs' callers z cost m pre st r some within frame stands behind reach linked records s address holds small =
       let base = base_of program (length z.arena.memory) a in
       let ins = Sw x from offset in
@@ -186,34 +176,36 @@ module _ (program : LineProgram) (l : Located) (Fact : (number line register : �
   pub given_in_slot :
       (a : Activation) (at : ℕ) (known : List StaticRecord) (line' w k x : ℕ) (rs' : Registers) (callers : List Caller) (z : MidState) (cost : ℕ) (m : Moment) (pre : List Instr)
       → (st : StandsOn program a z.arena.blocks × CallersStandOn program first callers a.outer) → (r : Point program l Fact first a at known callers z m)
-      → 0 < k → k < (frame_of program a.procedure).words
-      → Frame m.state.registers r.words (depth_of known) (base_of program (length z.arena.memory) a) (frame_of program a.procedure).words
-      → Stands l r.words at (pre ++ at_slot (depth_of known) k (Sw x))
-      → l.line_at a.procedure line' ≡ at + length (pre ++ at_slot (depth_of known) k (Sw x))
-      → Arrives a z m.state.registers r.words line' rs' (InSlot k) w → (l.linked a.procedure line' ≡ true → slice_index m.state.registers 1 ≡ r.link)
+      → 0 < k → k < reachable (way_of known) (frame_of program a.procedure).words
+      → Frame m.state.registers r.words (way_of known) (base_of program (length z.arena.memory) a) (frame_of program a.procedure).words
+      → Stands l r.words at (pre ++ at_slot (way_of known) k (Sw x))
+      → l.line_at a.procedure line' ≡ at + length (pre ++ at_slot (way_of known) k (Sw x))
+      → Arrives program l Fact first a z m.state.registers r.words line' rs' (InSlot k) w → (l.linked a.procedure line' ≡ true → slice_index m.state.registers 1 ≡ r.link)
       → l.records a.procedure line' ≡ known
       → (s : SetsOne a z r.words pre m.state.registers (InSlot k)) → slice_index s.registers' x ≡ w → x ≢ 7 → w < 2 ^ 32
-      → Given a line' rs' callers (charged cost z) m (length (pre ++ at_slot (depth_of known) k (Sw x)))
+      → Given program l Fact first a line' rs' callers (charged cost z) m (length (pre ++ at_slot (way_of known) k (Sw x)))
+  unfolding sets_address
   given_in_slot a at known line' w k x rs' callers z cost m pre st r some within frame stands behind reach linked records s holds seven small =
-      let depth = depth_of known in
+      let way = way_of known in
       let base = base_of program (length z.arena.memory) a in
-      let f = frame_still m.state.registers s.registers' r.words depth base (frame_of program a.procedure).words s.after_is.stack frame in
-      let there = reached r.words s.registers' depth base (frame_of program a.procedure).words k r.machine.arena.words_small s.after_is.ready f within in
-      let same : pre ++ at_slot depth k (Sw x) ≡ (pre ++ there.before) ++ Sw x there.from there.offset ∷ [] =
+      let few = reachable_few way (frame_of program a.procedure).words in
+      let f = frame_still m.state.registers s.registers' r.words way base (frame_of program a.procedure).words s.after_is.stack frame in
+      let there = reached r.words s.registers' way base (frame_of program a.procedure).words k r.machine.arena.words_small s.after_is.ready f within in
+      let same : pre ++ at_slot way k (Sw x) ≡ (pre ++ there.before) ++ Sw x there.from there.offset ∷ [] =
         ap (λ c. pre ++ c) (there.is_code (Sw x)) ∙ sym (append_assoc pre there.before (Sw x there.from there.offset ∷ [])) in
-      subst (λ c. Given a line' rs' callers (charged cost z) m (length c)) (sym same)
-      (stored_in_slot a at known line' w k x there.from there.offset rs' callers z cost m (pre ++ there.before) st r some within frame
+      subst (λ c. Given program l Fact first a line' rs' callers (charged cost z) m (length c)) (sym same)
+      (stored_in_slot a at known line' w k x there.from there.offset rs' callers z cost m (pre ++ there.before) st r some (omega (arith, within, few)) frame
       (subst (λ c. Stands l r.words at c) same stands) (behind ∙ ap (λ c. at + length c) same) reach linked records
-      (sets_address a z r.words m.state.registers pre depth base k k s there) there.address (there.others x seven ∙ holds) small)
+      (sets_address a z r.words m.state.registers pre way base k k s there) there.address (there.others x seven ∙ holds) small)
 
   -- no code: what is given is nowhere, or nothing is
   pub given_nowhere :
       (a : Activation) (at : ℕ) (known : List StaticRecord) (line' w : ℕ) (rs' : Registers) (callers : List Caller) (z : MidState) (cost : ℕ) (m : Moment)
       → StandsOn program a z.arena.blocks × CallersStandOn program first callers a.outer → (r : Point program l Fact first a at known callers z m)
       → l.line_at a.procedure line' ≡ at
-      → Arrives a z m.state.registers r.words line' rs' (AsConstant w) w → (l.linked a.procedure line' ≡ true → slice_index m.state.registers 1 ≡ r.link)
+      → Arrives program l Fact first a z m.state.registers r.words line' rs' (AsConstant w) w → (l.linked a.procedure line' ≡ true → slice_index m.state.registers 1 ≡ r.link)
       → l.records a.procedure line' ≡ known
-      → Given a line' rs' callers (charged cost z) m 0
+      → Given program l Fact first a line' rs' callers (charged cost z) m 0
   given_nowhere a at known line' w rs' callers z cost m st r behind reach linked records =
       let o = beside m in
       let start = same_moment m at r.words r.pc r.machine.memory in

@@ -13,7 +13,7 @@ use Rattle.rv_encode.specs.declared.instruction.Instr.{Instr}
 use Rattle.back_places.specs.declared.place.Place.{Place}
 use Rattle.back_places.specs.declared.place.Place.TheVariants.{InRegister, InSlot, AsConstant}
 use Rattle.back_places.specs.Places.{StaticRecord, Located}
-use Rattle.back_places.specs.Relation.{HasCode, Stands, IsAt, base_of, own_words, IsPrivate, InForm, HasProgram, AreThere, HeadsHold, LandingsHold, Waits, CallersWait}
+use Rattle.back_places.specs.Relation.{HasCode, Stands, IsAt, base_of, own_words, IsPrivate, InForm, HasProgram, AreThere, HeadHolds, HeadsHold, LandingHolds, LandingsHold, Names, Waits, CallersWait}
 use Rattle.back_places.specs.Facts.{IsPlace}
 use Rattle.back_places.specs.Good.{IsGood}
 
@@ -108,15 +108,20 @@ outer_words program a (s ∷ records) = let h = outer_words program a records in
 abbrev pub SamePrivate : (size : ℕ) (bs : List Block) (words words' : List ℕ) → Type 0
 SamePrivate size bs words words' = (i : ℕ) → IsPrivate size bs i → slice_index words' i ≡ slice_index words i
 
-own_of_record : (t : Bool) (w : ℕ) → 0 < own_words (record { words = w + 2; kind = record_kind t }) (record_kind t)
+own_of_record : (t : Bool) (w : ℕ) → 1 < own_words (record { words = w + 2; kind = record_kind t }) (record_kind t)
 own_of_record true w = omega arith
 own_of_record false w = omega arith
 
--- the first word of a record that stands is private
+-- the first words of a record that stands are private
 head_private :
     (program : LineProgram) (size : ℕ) (a : Activation) (s : Standing) (records : List Standing)
     → IsPrivate size (blocks_of program a (s ∷ records)) (size - words_of (blocks_of program a (s ∷ records)))
 head_private program size a s records = let some = own_of_record s.is_open s.words in inl (omega arith, omega (arith, some))
+
+second_private :
+    (program : LineProgram) (size : ℕ) (a : Activation) (s : Standing) (records : List Standing)
+    → IsPrivate size (blocks_of program a (s ∷ records)) (size - words_of (blocks_of program a (s ∷ records)) + 1)
+second_private program size a s records = let some = own_of_record s.is_open s.words in inl (omega arith, omega (arith, some))
 
 inner_private :
     (program : LineProgram) (size : ℕ) (a : Activation) (records more : List Standing) (i : ℕ) → IsPrivate size (blocks_of program a more) i
@@ -134,12 +139,24 @@ module _ (program : LineProgram) (l : Located) (Fact : (number line register : �
   place_kept a bs (InSlot k) w st same ok h = same (base_of program size a + k) (on_blocks program size a bs k st ok.1) ∙ h
   place_kept a bs (AsConstant c) w st same ok h = h
 
+  landing_kept :
+      (a : Activation) (bs : List Block) (rs : Registers) (landing : Option ℕ) → StandsOn program a bs → SamePrivate size bs words words'
+      → LandingHolds program l Fact first words (base_of program size a) a.procedure rs landing → LandingHolds program l Fact first words' (base_of program size a) a.procedure rs landing
+  landing_kept a bs rs None st same h = tt
+  landing_kept a bs rs (Some landing) st same h = λ v p w f e. place_kept a bs p w st same (good.placed a.procedure landing v p f) (h v p w f e)
+
   landings_kept :
       (a : Activation) (bs : List Block) (rs : Registers) (records : List Standing) → StandsOn program a bs → SamePrivate size bs words words'
       → LandingsHold program l Fact first words (base_of program size a) a.procedure rs records → LandingsHold program l Fact first words' (base_of program size a) a.procedure rs records
   landings_kept a bs rs [] st same h = tt
-  landings_kept a bs rs (s ∷ records) st same h =
-      ((λ v p w f e. place_kept a bs p w st same (good.placed a.procedure s.landing v p f) (h.0 v p w f e)), landings_kept a bs rs records st same h.1)
+  landings_kept a bs rs (s ∷ records) st same h = (landing_kept a bs rs s.landing st same h.0, landings_kept a bs rs records st same h.1)
+
+  -- the first two words of a record
+  head_kept :
+      (at outside number : ℕ) (landing : Option ℕ) → slice_index words' at ≡ slice_index words at → slice_index words' (at + 1) ≡ slice_index words (at + 1)
+      → HeadHolds program l Fact first words at outside number landing → HeadHolds program l Fact first words' at outside number landing
+  head_kept at outside number None e e' h = e' ∙ h
+  head_kept at outside number (Some landing) e e' h = e ∙ h
 
   heads_kept :
       (a : Activation) (all : List Standing) (before records : List Standing) → all ≡ before ++ records → words_of (blocks_of program a all) ≤ size
@@ -150,7 +167,11 @@ module _ (program : LineProgram) (l : Located) (Fact : (number line register : �
       let outer = outer_words program a records in
       let part = part_words a before (s ∷ records) in
       let whole : words_of (blocks_of program a (before ++ s ∷ records)) ≤ size = subst (λ r. words_of (blocks_of program a r) ≤ size) e fits in
-      (same _ (inner_private program size a all (s ∷ records) _ (head_private program size a s records) before e) (omega (arith, outer, part, whole)) ∙ h.0,
+      let at = size - words_of (blocks_of program a (s ∷ records)) in
+      (head_kept at (size - words_of (blocks_of program a records)) a.procedure s.landing
+      (same at (inner_private program size a all (s ∷ records) at (head_private program size a s records) before e) (omega (arith, outer, part, whole)))
+      (same (at + 1) (inner_private program size a all (s ∷ records) (at + 1) (second_private program size a s records) before e) (omega (arith, outer, part, whole)))
+      h.0,
       heads_kept a all (before ++ s ∷ []) records (e ∙ sym (append_assoc before (s ∷ []) records)) fits same h.1)
     where
       part_words : (a : Activation) (before records : List Standing) → words_of (blocks_of program a records) ≤ words_of (blocks_of program a (before ++ records))
@@ -214,6 +235,9 @@ program_kept program l words words' len same h = record {
   lines = λ number line x e. kept _ _ (h.lines number line x e);
   backs = λ number line x e. kept _ _ (h.backs number line x e);
   entries = λ number p e. kept _ _ (h.entries number p e);
+  switches = λ number line r targets i to e k.
+      let n = h.switches number line r targets i to e k in
+      record { from = n.from; to = n.to; within = omega (arith, n.within, len); names = same _ n.from n.to ∙ n.names };
   table = λ number p e.
       let n = h.table number p e in
       record { from = n.from; to = n.to; within = omega (arith, n.within, len); names = same _ n.from n.to ∙ n.names };
