@@ -1,0 +1,9 @@
+// The laws of steps, a kind of line each, as the contracts of functions that do nothing.
+
+ghost use Rattle.back_places.specs.StepLaw.{LawOfLine};
+ghost use Rattle.back_emission.specs.Kinds.{IsComputation};
+
+/// Moves, constants and computations.
+pub fn law_computations()
+    ensures { LawOfLine IsComputation }
+{}

@@ -1,0 +1,6 @@
+// The law of steps: what a line does, its instructions do.
+#![tactic(auto)]
+
+pub mod laws;
+
+pub use laws::law_computations;
