@@ -5,7 +5,8 @@ use Rattle.mid_code.specs.declared.operation.Operation.TheVariants as operation
 use Rattle.mid_lines.specs.declared.line.Line.{Line}
 use Rattle.mid_lines.specs.declared.line.Line.TheVariants.{Do, Branch, Switch, Jump, Lay, Landed, GiveBack, Lend, GiveBackLent, Return, Cut, Halt, Unhandled}
 use Rattle.back_places.specs.StepLaw.{Known, LawOfLine}
-use Rattle.back_emission.specs.Kinds.{IsComputation}
+use Rattle.back_emission.specs.Kinds.{IsComputation, IsChoice}
+use Rattle.back_emission.proofs.Jumps.{jump_follows, branch_follows, switch_follows}
 use Rattle.back_emission.proofs.Moves.{move_follows, constant_follows, compute_follows}
 
 pub law_of_computations : LawOfLine IsComputation
@@ -16,3 +17,12 @@ law_of_computations program l known first checked good a line rs callers z m (Do
 law_of_computations program l known first checked good a line rs callers z m (Do (operation.Compute to which ra rb)) e kind r =
     compute_follows program l (Known known) first checked good a line to ra rb which rs callers z m e r
 law_of_computations program l known first checked good a line rs callers z m x e kind r = absurd kind
+
+pub law_of_choices : LawOfLine IsChoice
+law_of_choices program l known first checked good a line rs callers z m (Branch test otherwise) e kind r =
+    branch_follows program l (Known known) first good a line otherwise test rs callers z m e r
+law_of_choices program l known first checked good a line rs callers z m (Switch v targets) e kind r =
+    switch_follows program l (Known known) first good a line v targets rs callers z m e r
+law_of_choices program l known first checked good a line rs callers z m (Jump to) e kind r =
+    jump_follows program l (Known known) first good a line to rs callers z m e r
+law_of_choices program l known first checked good a line rs callers z m x e kind r = absurd kind

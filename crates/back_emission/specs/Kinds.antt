@@ -9,3 +9,10 @@ IsComputation (Do (operation.Move to from)) = Unit {0}
 IsComputation (Do (operation.Constant to word)) = Unit {0}
 IsComputation (Do (operation.Compute to which first second)) = Unit {0}
 IsComputation x = ⊥
+
+-- jumps, branches and switches
+abbrev pub IsChoice : Line → Type 0
+IsChoice (Branch test otherwise) = Unit {0}
+IsChoice (Switch r targets) = Unit {0}
+IsChoice (Jump to) = Unit {0}
+IsChoice x = ⊥

@@ -1,9 +1,14 @@
 // The laws of steps, a kind of line each, as the contracts of functions that do nothing.
 
 ghost use Rattle.back_places.specs.StepLaw.{LawOfLine};
-ghost use Rattle.back_emission.specs.Kinds.{IsComputation};
+ghost use Rattle.back_emission.specs.Kinds.{IsComputation, IsChoice};
 
 /// Moves, constants and computations.
 pub fn law_computations()
     ensures { LawOfLine IsComputation }
+{}
+
+/// Jumps, branches and switches, near and far.
+pub fn law_choices()
+    ensures { LawOfLine IsChoice }
 {}

@@ -50,4 +50,5 @@ pub record IsGood (program : LineProgram) (l : Located) (Fact : (number line reg
   pub targets : (number line : ℕ) → IsPlace (reach_at program l number line) (l.target number line)
   pub behind : (number line : ℕ) (x : Line) → line_of program number line ≡ Some x → LaysOne x → IsPlace (reach_at program l number (line + 1)) (l.target number line)
   pub frames : (number : ℕ) → l.saves number ≡ true → 0 < (frame_of program number).words
+  pub within : (number line : ℕ) → l.line_at number line ≤ l.code_to
   pub low : l.code_to < 2 ^ 24

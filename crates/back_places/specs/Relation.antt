@@ -184,6 +184,7 @@ module _ (program : LineProgram) (l : Located) (Fact : (number line register : �
     pub heap : slice_index m.state.registers 3 ≡ z.arena.heap_to
     pub printed : m.printed ≡ z.printed
     pub input : m.input ≡ z.input
+    pub input_small : (i : ℕ) → slice_index z.input i < 2 ^ 32
 
   -- the return address of the activation that runs
   pub record Links (registers words : List ℕ) (base number line link : ℕ) : Type 0 where

@@ -147,6 +147,7 @@ module _ (program : LineProgram) (l : Located) (Fact : (number line register : �
     heap = af.heap ∙ r.heap;
     printed = printed ∙ r.printed;
     input = input ∙ r.input;
+    input_small = r.input_small;
   }
 
   -- the same activation, in the same arena
