@@ -5,8 +5,10 @@ use Rattle.mid_code.specs.declared.operation.Operation.TheVariants as operation
 use Rattle.mid_lines.specs.declared.line.Line.{Line}
 use Rattle.mid_lines.specs.declared.line.Line.TheVariants.{Do, Branch, Switch, Jump, Lay, Landed, GiveBack, Lend, GiveBackLent, Return, Cut, Halt, Unhandled}
 use Rattle.back_places.specs.StepLaw.{Known, LawOfLine}
-use Rattle.back_emission.specs.Kinds.{IsComputation, IsChoice}
+use Rattle.back_emission.specs.Kinds.{IsComputation, IsChoice, IsEnd}
 use Rattle.back_emission.proofs.Jumps.{jump_follows, branch_follows, switch_follows}
+use Rattle.back_emission.proofs.Returns.{return_follows}
+use Rattle.back_emission.proofs.Ends.{halt_follows, unhandled_follows}
 use Rattle.back_emission.proofs.Moves.{move_follows, constant_follows, compute_follows}
 
 pub law_of_computations : LawOfLine IsComputation
@@ -26,3 +28,12 @@ law_of_choices program l known first checked good a line rs callers z m (Switch 
 law_of_choices program l known first checked good a line rs callers z m (Jump to) e kind r =
     jump_follows program l (Known known) first good a line to rs callers z m e r
 law_of_choices program l known first checked good a line rs callers z m x e kind r = absurd kind
+
+pub law_of_ends : LawOfLine IsEnd
+law_of_ends program l known first checked good a line rs callers z m (Return v) e kind r =
+    return_follows program l (Known known) first good a line v rs callers z m e r
+law_of_ends program l known first checked good a line rs callers z m (Halt v) e kind r =
+    halt_follows program l (Known known) first good a line v rs callers z m e r
+law_of_ends program l known first checked good a line rs callers z m (Unhandled class site condition) e kind r =
+    unhandled_follows program l (Known known) first good a line class site condition rs callers z m e r
+law_of_ends program l known first checked good a line rs callers z m x e kind r = absurd kind

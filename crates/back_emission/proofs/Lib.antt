@@ -3,4 +3,10 @@ pub mod Steps
 pub mod Moves
 pub mod Scratch
 pub mod Jumps
+pub mod Leaving
+pub mod Ends
+pub mod Returns
 pub mod KindLaws
+pub mod Passing
+pub mod Calls
+pub mod CallSteps

@@ -38,7 +38,7 @@ use Rattle.back_stepping.proofs.Lengths.{load_length, slot_length, raise_length,
 use Rattle.back_stepping.proofs.Going.{point_of}
 use Rattle.back_stepping.proofs.Giving.{register_other, register_same}
 use Rattle.back_stepping.proofs.Moving.{place_small, holds_somewhere, frame_is, moved}
-use Rattle.back_emission.proofs.Ends.{called}
+use Rattle.back_emission.proofs.Ends.{Called, called_with}
 use Rattle.back_emission.proofs.Leaving.{raise_prepared, machine_left}
 use Rattle.back_emission.proofs.Steps.{nothing, at_line, weighs}
 
@@ -220,7 +220,7 @@ module _ (program : LineProgram) (l : Located) (Fact : (number line register : �
   -- behind the first procedure the run ends with its word
   run_over :
       (a : Activation) (z : MidState) (w link : ℕ) (words : List ℕ) (m : Moment) → HasLeft a z w link words m → link ≡ 4 * l.end_at → (cost : ℕ)
-      → (m' : Moment) × Comes 2 m m' × Calls program l Fact first 0 (with_arena (with_blocks a.outer z.arena) (charged cost z)) m' × (slice_index m'.state.registers 10 ≡ w)
+      → (registers' : List ℕ) × Called program l Fact first 0 (charged cost (with_arena (with_blocks a.outer z.arena) z)) m 2 registers' × (slice_index registers' 10 ≡ w)
   run_over a z w link words m left at_end cost =
       let end = left.machine.code.end in
       let small = left.machine.arena.words_small in
@@ -229,11 +229,8 @@ module _ (program : LineProgram) (l : Located) (Fact : (number line register : �
       let below : w < 2 ^ 32 = let b = left.machine.registers_small 12 in omega (arith, b, left.word) in
       let v10 : sum32 (slice_index regs 12) (sign_extended 12 0) ≡ w = ap (λ k. sum32 k (sign_extended 12 0)) left.word ∙ omega (arith, below) in
       let one = prepared_one words regs (Addi 10 12 0) 10 w small ready (omega arith) (omega arith) below (λ i. ap (λ k. gives 10 k (state_at i regs words)) v10) in
-      let v17 : sum32 (slice_index one.registers' 0) (sign_extended 12 0) ≡ 0 = ap (λ k. sum32 k (sign_extended 12 0)) one.ready.zero_is in
-      let two = prepared_one words one.registers' (Addi 17 0 0) 17 0 small one.ready (omega arith) (omega arith) (omega arith) (λ i. ap (λ k. gives 17 k (state_at i one.registers' words)) v17) in
-      let both = sets_on one.sets two.sets in
-      called program l Fact first (with_arena (with_blocks a.outer z.arena) z) cost words m l.end_at (Addi 10 12 0 ∷ Addi 17 0 0 ∷ []) [] two.registers' 0 left.machine (left.pc ∙ at_end) end both (omega (arith, end.to, good.low)) (omega arith) two.holds
-      (two.others 10 (λ q. omega (arith, q)) (λ q. omega (arith, q)) ∙ one.holds)
+      let c = called_with program l Fact first (with_arena (with_blocks a.outer z.arena) z) cost words m l.end_at (Addi 10 12 0 ∷ []) [] 0 one.registers' left.machine (left.pc ∙ at_end) end one.sets one.ready (omega (arith, end.to, good.low)) (omega arith) in
+      (c.0, c.1, c.2 10 (λ k. omega (arith, k)) (λ k. omega (arith, k)) ∙ one.holds)
 
   pub return_follows :
       (a : Activation) (line v : ℕ) (rs : Registers) (callers : List Caller) (z : MidState) (m : Moment)
@@ -259,9 +256,9 @@ module _ (program : LineProgram) (l : Located) (Fact : (number line register : �
           let over = run_over a z w x.1.link x.1.words there.0 there.2 waiting 14 in
           record {
             count = length (before_return_code l a.procedure (frame_of program a.procedure).words line v) + 1 + 2;
-            moment = over.0;
-            comes = and_on there.1 over.1;
-            relates = subst (λ t. Relates program l Fact first t over.0) (sym goes) (over.2, over.3);
+            moment = over.1.moment';
+            comes = and_on there.1 over.1.comes;
+            relates = subst (λ t. Relates program l Fact first t over.1.moment') (sym goes) (over.1.calls, ap (λ k. slice_index k 10) over.1.same ∙ over.2);
             cheap = subst (λ t. length (before_return_code l a.procedure (frame_of program a.procedure).words line v) + 1 + 2 + z.cost ≤ (state_of t).cost) (sym goes) (omega (arith, few));
             heavy = λ u. omega (arith, light);
           }

@@ -16,3 +16,10 @@ IsChoice (Branch test otherwise) = Unit {0}
 IsChoice (Switch r targets) = Unit {0}
 IsChoice (Jump to) = Unit {0}
 IsChoice x = ⊥
+
+-- the ends of activations, and of the run
+abbrev pub IsEnd : Line → Type 0
+IsEnd (Return r) = Unit {0}
+IsEnd (Halt r) = Unit {0}
+IsEnd (Unhandled class site condition) = Unit {0}
+IsEnd x = ⊥

@@ -1,7 +1,7 @@
 // The laws of steps, a kind of line each, as the contracts of functions that do nothing.
 
 ghost use Rattle.back_places.specs.StepLaw.{LawOfLine};
-ghost use Rattle.back_emission.specs.Kinds.{IsComputation, IsChoice};
+ghost use Rattle.back_emission.specs.Kinds.{IsComputation, IsChoice, IsEnd};
 
 /// Moves, constants and computations.
 pub fn law_computations()
@@ -11,4 +11,9 @@ pub fn law_computations()
 /// Jumps, branches and switches, near and far.
 pub fn law_choices()
     ensures { LawOfLine IsChoice }
+{}
+
+/// Returns, to a caller and from the first procedure, halts, and conditions that are not handled.
+pub fn law_ends()
+    ensures { LawOfLine IsEnd }
 {}

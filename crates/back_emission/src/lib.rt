@@ -3,4 +3,4 @@
 
 pub mod laws;
 
-pub use laws::{law_choices, law_computations};
+pub use laws::{law_choices, law_computations, law_ends};

@@ -222,6 +222,11 @@ module _ (program : LineProgram) (l : Located) (Fact : (number line register : �
     pub passed : ArePassed l m.state.registers words 0 arguments
     pub waiting : CallersWait words (length z.arena.memory) callers (slice_index m.state.registers 1)
 
+  -- where there is no procedure of that number, lines are stuck one step later
+  abbrev pub EntersIn : Option LineProcedure → (number : ℕ) → (arguments : List ℕ) → List Caller → MidState → Moment → Type 0
+  EntersIn None number arguments callers z m = Unit {0}
+  EntersIn (Some p) number arguments callers z m = Enters number arguments callers z m
+
   -- an end: the machine is at an environment call with its words, and its memory has those of the arena
   pub record Calls (which : ℕ) (z : MidState) (m : Moment) : Type 0 where
     pub words : List ℕ
@@ -251,5 +256,5 @@ module _ (program : LineProgram) (l : Located) (Fact : (number line register : �
   abbrev pub Relates : Stage → Moment → Type 0
   Relates (running a line rs callers z) m = StageStands program first (running a line rs callers z) × Runs a line rs callers z m
   Relates (entering number arguments callers z) m =
-      StageStands program first (entering number arguments callers z) × Enters number arguments callers z m
+      StageStands program first (entering number arguments callers z) × EntersIn (slice_get program.procedures number) number arguments callers z m
   Relates (ended e z) m = EndsAt e z m

@@ -75,6 +75,17 @@ lent_apart a i f h p =
       | inr k ↦ (record_apart (length a.memory) a.blocks i f.fits k).1 p
     ]
 
+-- where a word that is lent is: among the words laid, or not below the heap
+pub lent_where : (a : Arena) (i : ℕ) → InForm a → is_lent a (4 * i) ≡ true → (4 * i < a.laid_to) ⊎ (a.heap_from ≤ 4 * i)
+lent_where a i f h =
+    elim (either_true (is_within a.laid_from a.laid_to (4 * i) || is_within a.heap_from a.heap_to (4 * i)) (is_in_record (length a.memory) a.blocks (4 * i)) (back_true (4 * i % 4 == 0) _ h)) [
+      | inl k ↦ elim (either_true (is_within a.laid_from a.laid_to (4 * i)) (is_within a.heap_from a.heap_to (4 * i)) k) [
+        | inl j ↦ let w = within_bounds a.laid_from a.laid_to (4 * i) j in inl w.1
+        | inr j ↦ let w = within_bounds a.heap_from a.heap_to (4 * i) j in inr w.0
+      ]
+      | inr k ↦ let w = record_apart (length a.memory) a.blocks i f.fits k in inr (omega (arith, w.0, f.grown, f.below))
+    ]
+
 -- a word of the frame of an activation that stands on blocks is private there
 own_of_frame : (o : Option LineProcedure) → own_words (frame_in o) (frame_in o).kind ≡ (frame_in o).words
 own_of_frame None = refl
@@ -220,7 +231,7 @@ module _ (program : LineProgram) (l : Located) (Fact : (number line register : �
       subst (λ k. CallersWait program l Fact first words' size callers k) (sym there) (callers_stay callers c.activation.outer _ (omega (arith, all_words, same_blocks, fits)) st.1 deeper w.1))
 
 -- code that stands in words stands in others that are the same there
-has_code_kept :
+pub has_code_kept :
     (words words' : List ℕ) (code : List Instr) (at : ℕ) → length words' ≡ length words
     → ((i : ℕ) → at ≤ i → i < at + length code → slice_index words' i ≡ slice_index words i) → HasCode words at code → HasCode words' at code
 has_code_kept words words' [] at len same h = tt
