@@ -54,14 +54,11 @@ stored_length at way i (p ∷ ps) =
 
 fetched_length : (at i count : ℕ) → length (fetched_code at i count) ≤ 2 * (14 - i)
 fetched_length at i zero = omega arith
-fetched_length at i (suc count) = by (nat_lt i 14) refl
+fetched_length at i (suc count) = by (fetched_length at (i + 1) count) (nat_lt i 14) refl
   where
-    rest : length (fetched_code at (i + 1) count) ≤ 2 * (14 - (i + 1))
-    rest = fetched_length at (i + 1) count
-
-    by : (t : Bool) → nat_lt i 14 ≡ t → length ((if t then at_word (at + i) (Lw (argument_register i)) else []) ++ fetched_code at (i + 1) count) ≤ 2 * (14 - i)
-    by true e = let within : i < 14 = grind (arith, nat_tests, e) in omega (arith, rest, within, length-append (at_word (at + i) (Lw (argument_register i))) (fetched_code at (i + 1) count))
-    by false e = omega (arith, rest)
+    by : length (fetched_code at (i + 1) count) ≤ 2 * (14 - (i + 1)) → (t : Bool) → nat_lt i 14 ≡ t → length ((if t then at_word (at + i) (Lw (argument_register i)) else []) ++ fetched_code at (i + 1) count) ≤ 2 * (14 - i)
+    by rest true e = let within : i < 14 = grind (arith, nat_tests, e) in omega (arith, rest, within, length-append (at_word (at + i) (Lw (argument_register i))) (fetched_code at (i + 1) count))
+    by rest false e = omega (arith, rest)
 
 pub pass_length : (at : ℕ) (way : Way) (ps : List Place) → length (pass_code at way ps) ≤ 5 * length ps + 28
 pass_length at way ps =

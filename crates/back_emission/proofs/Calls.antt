@@ -80,14 +80,15 @@ module _ (program : LineProgram) (l : Located) (Fact : (number line register : �
       → AreThere program l Fact first registers words base number line rs → ToLandings l Fact number line (statics records)
       → LandingsHold program l Fact first words base number rs records
   landings_hold words registers base number line rs [] there to = tt
-  landings_hold words registers base number line rs (s ∷ records) there to = by s.landing to
+  landings_hold words registers base number line rs (s ∷ records) there to = by (λ h. landings_hold words registers base number line rs records there h) s.landing to
     where
-      by : (landing : Option ℕ) → ToLandings l Fact number line (static_of s.words landing ∷ statics records)
+      by : (ToLandings l Fact number line (statics records) → LandingsHold program l Fact first words base number rs records)
+        → (landing : Option ℕ) → ToLandings l Fact number line (static_of s.words landing ∷ statics records)
         → LandingHolds program l Fact first words base number rs landing × LandingsHold program l Fact first words base number rs records
-      by None h = (tt, landings_hold words registers base number line rs records there h)
-      by (Some landing) h =
+      by deeper None h = (tt, deeper h)
+      by deeper (Some landing) h =
           ((λ v p w f e. let k = h.0.facts v p f in outlasting registers [] words base p w k.1 (there v p w k.0 e)),
-          landings_hold words registers base number line rs records there h.1)
+          deeper h.1)
 
   -- the caller waits
   waits :
@@ -274,7 +275,7 @@ module _ (program : LineProgram) (l : Located) (Fact : (number line register : �
       by false e k = k
 
   -- A call by number: the arguments are passed, and the machine jumps.
-  call_by_number :
+  pub call_by_number :
       (a : Activation) (line to number : ℕ) (arguments ws : List ℕ) (rs : Registers) (callers : List Caller) (z : MidState) (cost : ℕ) (m : Moment) (p : LineProcedure)
       → line_of program a.procedure line ≡ Some (Do (Call to (Procedure number) arguments)) → slice_get program.procedures number ≡ Some p
       → StageStands program first (running a line rs callers z) → (r : Runs program l Fact first a line rs callers z m) → words_in arguments rs ≡ Some ws
@@ -430,7 +431,7 @@ module _ (program : LineProgram) (l : Located) (Fact : (number line register : �
       }
 
   -- A call of the procedure whose number is in a register.
-  call_by_word :
+  pub call_by_word :
       (a : Activation) (line to n v : ℕ) (arguments ws : List ℕ) (rs : Registers) (callers : List Caller) (z : MidState) (cost : ℕ) (m : Moment) (p : LineProcedure)
       → line_of program a.procedure line ≡ Some (Do (Call to (Word v) arguments)) → slice_get program.procedures n ≡ Some p
       → StageStands program first (running a line rs callers z) → (r : Runs program l Fact first a line rs callers z m) → words_in arguments rs ≡ Some ws → register v rs ≡ Some n
@@ -455,7 +456,7 @@ module _ (program : LineProgram) (l : Located) (Fact : (number line register : �
       (still_passed s.registers' j.moment'.state.registers s.words' 0 ws (λ q high. j.others q (λ k. omega (arith, high, k)) (λ k. omega (arith, high, k)) (λ k. omega (arith, high, k))) s.passed))
 
   -- where no procedure has that number, one instruction more
-  call_of_none :
+  pub call_of_none :
       (a : Activation) (line to n v : ℕ) (arguments ws : List ℕ) (rs : Registers) (callers : List Caller) (z : MidState) (m : Moment)
       → line_of program a.procedure line ≡ Some (Do (Call to (Word v) arguments))
       → StageStands program first (running a line rs callers z) → (r : Runs program l Fact first a line rs callers z m) → words_in arguments rs ≡ Some ws → register v rs ≡ Some n

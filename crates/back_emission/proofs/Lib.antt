@@ -10,3 +10,6 @@ pub mod KindLaws
 pub mod Passing
 pub mod Calls
 pub mod CallSteps
+pub mod Addresses
+pub mod Loads
+pub mod Records

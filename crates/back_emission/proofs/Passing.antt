@@ -301,33 +301,34 @@ module _ (l : Located) (way : Way) (base frame : ℕ) where
   passes_in_order i [] [] words registers b at order few = (does_none l i words registers b.small b.ready b.bounded, tt)
   passes_in_order i [] (w ∷ ws) words registers b at order few = absurd at
   passes_in_order i (p ∷ ps) [] words registers b at order few = absurd at
-  passes_in_order i (p ∷ ps) (w ∷ ws) words registers b at order few = by (nat_lt i 14) refl
+  passes_in_order i (p ∷ ps) (w ∷ ws) words registers b at order few =
+      by (λ words' registers' b' at'. passes_in_order (i + 1) ps ws words' registers' b' at' (back_true (are_others (argument_register i) ps) (are_in_order (i + 1) ps) order) (omega (arith, few)))
+      (nat_lt i 14) refl
     where
       others_first : are_others (argument_register i) ps ≡ true
       others_first = front_true (are_others (argument_register i) ps) (are_in_order (i + 1) ps) order
 
-      later_order : are_in_order (i + 1) ps ≡ true
-      later_order = back_true (are_others (argument_register i) ps) (are_in_order (i + 1) ps) order
-
-      by : (t : Bool) → nat_lt i 14 ≡ t
+      by : ((words' registers' : List ℕ) → Before l words' registers' way base frame → AreAt registers' words' base (reachable way frame) ps ws
+        → (d : Does l (i + 1) words' registers' (arguments_code l.arguments_at way (i + 1) ps)) × ArePassed l d.registers' d.words' (i + 1) ws)
+        → (t : Bool) → nat_lt i 14 ≡ t
         → (d : Does l i words registers ((if t then load_into way (argument_register i) p else argument_word_code l.arguments_at way i p) ++ arguments_code l.arguments_at way (i + 1) ps))
           × ((if t then slice_index d.registers' (argument_register i) else slice_index d.words' (l.arguments_at + i)) ≡ w) × ArePassed l d.registers' d.words' (i + 1) ws
-      by true e =
+      by deeper true e =
           let within : i < 14 = grind (arith, nat_tests, e) in
           let is = is_value_register i within in
           let one = loaded words registers way base frame (argument_register i) p w b.small b.ready at.2 b.frame_is at.0 (omega (arith, is.0)) is.1 (λ k. omega (arith, is.0, k)) at.1 in
           let f = does_set l i words registers (load_into way (argument_register i) p) (argument_register i) w (argument_register i) b.small b.bounded (inr (within, refl)) one in
-          let rest = passes_in_order (i + 1) ps ws words one.registers' (after_one l i words registers way base frame _ b f)
-            (at_still_register registers one.registers' words base (reachable way frame) (argument_register i) ps ws others_first one.others at.3) later_order (omega (arith, few)) in
+          let rest = deeper words one.registers' (after_one l i words registers way base frame _ b f)
+            (at_still_register registers one.registers' words base (reachable way frame) (argument_register i) ps ws others_first one.others at.3) in
           let g = rest.0 in
           (does_on l i (i + 1) words registers (load_into way (argument_register i) p) (arguments_code l.arguments_at way (i + 1) ps) b.apart (omega arith) f g,
           (g.others (argument_register i) (λ k. omega (arith, is.0, k)) (λ k. omega (arith, is.0, k)) (λ j from to. others_apart i j within to (λ k. omega (arith, from, k))) ∙ one.holds, rest.1))
-      by false e =
+      by deeper false e =
           let within : i < l.argument_words = omega (arith, few) in
           let one = word_passes l i w p words registers way base frame b within at.0 at.1 at.2 in
           let f = one.0 in
-          let rest = passes_in_order (i + 1) ps ws f.words' f.registers' (after_one l i words registers way base frame _ b f)
-            (at_still_word registers f.registers' words f.words' base (reachable way frame) (l.arguments_at + l.argument_words) ps ws b.above one.2 (λ j h. f.kept j (inr h)) at.3) later_order (omega (arith, few)) in
+          let rest = deeper f.words' f.registers' (after_one l i words registers way base frame _ b f)
+            (at_still_word registers f.registers' words f.words' base (reachable way frame) (l.arguments_at + l.argument_words) ps ws b.above one.2 (λ j h. f.kept j (inr h)) at.3) in
           let g = rest.0 in
           (does_on l i (i + 1) words registers (argument_word_code l.arguments_at way i p) (arguments_code l.arguments_at way (i + 1) ps) b.apart (omega arith) f g,
           (g.kept (l.arguments_at + i) (inl (omega arith)) ∙ one.1, rest.1))
@@ -385,24 +386,27 @@ module _ (l : Located) (way : Way) (base frame : ℕ) where
   fetches zero i [] words registers b at e few = (does_none l i words registers b.small b.ready b.bounded, refl, tt)
   fetches zero i (w ∷ ws) words registers b at e few = absurd (omega (arith, e))
   fetches (suc count) i [] words registers b at e few = absurd (omega (arith, e))
-  fetches (suc count) i (w ∷ ws) words registers b at e few = by (nat_lt i 14) refl
+  fetches (suc count) i (w ∷ ws) words registers b at e few =
+      by (λ registers' b'. fetches count (i + 1) ws words registers' b' at.1 (omega (arith, e)) (omega (arith, few))) (nat_lt i 14) refl
     where
-      by : (t : Bool) → nat_lt i 14 ≡ t
+      by : ((registers' : List ℕ) → Before l words registers' way base frame
+        → (d : Does l (i + 1) words registers' (fetched_code l.arguments_at (i + 1) count)) × (d.words' ≡ words) × ArePassed l d.registers' words (i + 1) ws)
+        → (t : Bool) → nat_lt i 14 ≡ t
         → (d : Does l i words registers ((if t then at_word (l.arguments_at + i) (Lw (argument_register i)) else []) ++ fetched_code l.arguments_at (i + 1) count))
           × (d.words' ≡ words) × ((if t then slice_index d.registers' (argument_register i) else slice_index words (l.arguments_at + i)) ≡ w) × ArePassed l d.registers' words (i + 1) ws
-      by true h =
+      by deeper true h =
           let within : i < 14 = grind (arith, nat_tests, h) in
           let is = is_value_register i within in
           let one = word_fetched i w words registers b within (omega (arith, few)) at.0 in
           let code = at_word (l.arguments_at + i) (Lw (argument_register i)) in
           let f = does_set l i words registers code (argument_register i) w (argument_register i) b.small b.bounded (inr (within, refl)) one in
-          let rest = fetches count (i + 1) ws words one.registers' (after_one l i words registers way base frame _ b f) at.1 (omega (arith, e)) (omega (arith, few)) in
+          let rest = deeper one.registers' (after_one l i words registers way base frame _ b f) in
           let g = rest.0 in
           (does_on l i (i + 1) words registers code (fetched_code l.arguments_at (i + 1) count) b.apart (omega arith) f g, rest.1,
           g.others (argument_register i) (λ k. omega (arith, is.0, k)) (λ k. omega (arith, is.0, k)) (λ j from to. others_apart i j within to (λ k. omega (arith, from, k))) ∙ one.holds, rest.2)
-      by false h =
+      by deeper false h =
           let f = does_none l i words registers b.small b.ready b.bounded in
-          let rest = fetches count (i + 1) ws words registers b at.1 (omega (arith, e)) (omega (arith, few)) in
+          let rest = deeper registers b in
           (does_on l i (i + 1) words registers [] (fetched_code l.arguments_at (i + 1) count) b.apart (omega arith) f rest.0, rest.1, at.0, rest.2)
 
   -- whichever way

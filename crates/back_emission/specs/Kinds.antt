@@ -23,3 +23,19 @@ IsEnd (Return r) = Unit {0}
 IsEnd (Halt r) = Unit {0}
 IsEnd (Unhandled class site condition) = Unit {0}
 IsEnd x = ⊥
+
+-- calls
+abbrev pub IsCall : Line → Type 0
+IsCall (Do (operation.Call to callee arguments)) = Unit {0}
+IsCall x = ⊥
+
+-- loads
+abbrev pub IsLoad : Line → Type 0
+IsLoad (Do (operation.Load to base offset)) = Unit {0}
+IsLoad x = ⊥
+
+-- records and lent blocks that are given back
+abbrev pub IsGivenBack : Line → Type 0
+IsGivenBack (GiveBack words) = Unit {0}
+IsGivenBack GiveBackLent = Unit {0}
+IsGivenBack x = ⊥

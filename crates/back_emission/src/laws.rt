@@ -1,7 +1,7 @@
 // The laws of steps, a kind of line each, as the contracts of functions that do nothing.
 
 ghost use Rattle.back_places.specs.StepLaw.{LawOfLine};
-ghost use Rattle.back_emission.specs.Kinds.{IsComputation, IsChoice, IsEnd};
+ghost use Rattle.back_emission.specs.Kinds.{IsComputation, IsChoice, IsEnd, IsCall, IsLoad, IsGivenBack};
 
 /// Moves, constants and computations.
 pub fn law_computations()
@@ -16,4 +16,19 @@ pub fn law_choices()
 /// Returns, to a caller and from the first procedure, halts, and conditions that are not handled.
 pub fn law_ends()
     ensures { LawOfLine IsEnd }
+{}
+
+/// Calls, of a procedure by its number and by one in a register, with arguments in any order and any number of them.
+pub fn law_calls()
+    ensures { LawOfLine IsCall }
+{}
+
+/// Loads.
+pub fn law_loads()
+    ensures { LawOfLine IsLoad }
+{}
+
+/// Records and lent blocks that are given back.
+pub fn law_given_back()
+    ensures { LawOfLine IsGivenBack }
 {}
