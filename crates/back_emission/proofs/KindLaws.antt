@@ -5,11 +5,12 @@ use Rattle.mid_code.specs.declared.operation.Operation.TheVariants as operation
 use Rattle.mid_lines.specs.declared.line.Line.{Line}
 use Rattle.mid_lines.specs.declared.line.Line.TheVariants.{Do, Branch, Switch, Jump, Lay, Landed, GiveBack, Lend, GiveBackLent, Return, Cut, Halt, Unhandled}
 use Rattle.back_places.specs.StepLaw.{Known, LawOfLine}
-use Rattle.back_emission.specs.Kinds.{IsComputation, IsChoice, IsEnd, IsCall, IsLoad, IsGivenBack}
+use Rattle.back_emission.specs.Kinds.{IsComputation, IsChoice, IsEnd, IsCall, IsAccess, IsGivenBack}
 use Rattle.back_emission.proofs.Jumps.{jump_follows, branch_follows, switch_follows}
 use Rattle.back_emission.proofs.CallSteps.{call_follows}
 use Rattle.back_emission.proofs.Loads.{load_follows}
 use Rattle.back_emission.proofs.Records.{give_back_follows, give_back_lent_follows}
+use Rattle.back_emission.proofs.Stores.{store_follows}
 use Rattle.back_emission.proofs.Returns.{return_follows}
 use Rattle.back_emission.proofs.Ends.{halt_follows, unhandled_follows}
 use Rattle.back_emission.proofs.Moves.{move_follows, constant_follows, compute_follows}
@@ -46,10 +47,12 @@ law_of_calls program l known first checked good a line rs callers z m (Do (opera
     call_follows program l (Known known) first checked good a line to callee arguments rs callers z m e r
 law_of_calls program l known first checked good a line rs callers z m x e kind r = absurd kind
 
-pub law_of_loads : LawOfLine IsLoad
-law_of_loads program l known first checked good a line rs callers z m (Do (operation.Load to base offset)) e kind r =
+pub law_of_accesses : LawOfLine IsAccess
+law_of_accesses program l known first checked good a line rs callers z m (Do (operation.Load to base offset)) e kind r =
     load_follows program l (Known known) first checked good a line to base offset rs callers z m e r
-law_of_loads program l known first checked good a line rs callers z m x e kind r = absurd kind
+law_of_accesses program l known first checked good a line rs callers z m (Do (operation.Store from base offset)) e kind r =
+    store_follows program l (Known known) first checked good a line from base offset rs callers z m e r
+law_of_accesses program l known first checked good a line rs callers z m x e kind r = absurd kind
 
 pub law_of_given_back : LawOfLine IsGivenBack
 law_of_given_back program l known first checked good a line rs callers z m (GiveBack words) e kind r =

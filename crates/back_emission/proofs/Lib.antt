@@ -13,3 +13,4 @@ pub mod CallSteps
 pub mod Addresses
 pub mod Loads
 pub mod Records
+pub mod Stores

@@ -312,7 +312,7 @@ module _ (l : Located) (way : Way) (base frame : ℕ) where
         → (d : Does l (i + 1) words' registers' (arguments_code l.arguments_at way (i + 1) ps)) × ArePassed l d.registers' d.words' (i + 1) ws)
         → (t : Bool) → nat_lt i 14 ≡ t
         → (d : Does l i words registers ((if t then load_into way (argument_register i) p else argument_word_code l.arguments_at way i p) ++ arguments_code l.arguments_at way (i + 1) ps))
-          × ((if t then slice_index d.registers' (argument_register i) else slice_index d.words' (l.arguments_at + i)) ≡ w) × ArePassed l d.registers' d.words' (i + 1) ws
+          × (((if t then slice_index d.registers' (argument_register i) else slice_index d.words' (l.arguments_at + i)) ≡ w) × ArePassed l d.registers' d.words' (i + 1) ws)
       by deeper true e =
           let within : i < 14 = grind (arith, nat_tests, e) in
           let is = is_value_register i within in
@@ -393,7 +393,7 @@ module _ (l : Located) (way : Way) (base frame : ℕ) where
         → (d : Does l (i + 1) words registers' (fetched_code l.arguments_at (i + 1) count)) × (d.words' ≡ words) × ArePassed l d.registers' words (i + 1) ws)
         → (t : Bool) → nat_lt i 14 ≡ t
         → (d : Does l i words registers ((if t then at_word (l.arguments_at + i) (Lw (argument_register i)) else []) ++ fetched_code l.arguments_at (i + 1) count))
-          × (d.words' ≡ words) × ((if t then slice_index d.registers' (argument_register i) else slice_index words (l.arguments_at + i)) ≡ w) × ArePassed l d.registers' words (i + 1) ws
+          × (d.words' ≡ words) × (((if t then slice_index d.registers' (argument_register i) else slice_index words (l.arguments_at + i)) ≡ w) × ArePassed l d.registers' words (i + 1) ws)
       by deeper true h =
           let within : i < 14 = grind (arith, nat_tests, h) in
           let is = is_value_register i within in
@@ -403,11 +403,11 @@ module _ (l : Located) (way : Way) (base frame : ℕ) where
           let rest = deeper one.registers' (after_one l i words registers way base frame _ b f) in
           let g = rest.0 in
           (does_on l i (i + 1) words registers code (fetched_code l.arguments_at (i + 1) count) b.apart (omega arith) f g, rest.1,
-          g.others (argument_register i) (λ k. omega (arith, is.0, k)) (λ k. omega (arith, is.0, k)) (λ j from to. others_apart i j within to (λ k. omega (arith, from, k))) ∙ one.holds, rest.2)
+          (g.others (argument_register i) (λ k. omega (arith, is.0, k)) (λ k. omega (arith, is.0, k)) (λ j from to. others_apart i j within to (λ k. omega (arith, from, k))) ∙ one.holds, rest.2))
       by deeper false h =
           let f = does_none l i words registers b.small b.ready b.bounded in
           let rest = deeper registers b in
-          (does_on l i (i + 1) words registers [] (fetched_code l.arguments_at (i + 1) count) b.apart (omega arith) f rest.0, rest.1, at.0, rest.2)
+          (does_on l i (i + 1) words registers [] (fetched_code l.arguments_at (i + 1) count) b.apart (omega arith) f rest.0, rest.1, (at.0, rest.2))
 
   -- whichever way
   pub passes :

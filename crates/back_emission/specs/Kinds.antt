@@ -29,10 +29,11 @@ abbrev pub IsCall : Line → Type 0
 IsCall (Do (operation.Call to callee arguments)) = Unit {0}
 IsCall x = ⊥
 
--- loads
-abbrev pub IsLoad : Line → Type 0
-IsLoad (Do (operation.Load to base offset)) = Unit {0}
-IsLoad x = ⊥
+-- loads and stores
+abbrev pub IsAccess : Line → Type 0
+IsAccess (Do (operation.Load to base offset)) = Unit {0}
+IsAccess (Do (operation.Store from base offset)) = Unit {0}
+IsAccess x = ⊥
 
 -- records and lent blocks that are given back
 abbrev pub IsGivenBack : Line → Type 0

@@ -1,7 +1,7 @@
 // The laws of steps, a kind of line each, as the contracts of functions that do nothing.
 
 ghost use Rattle.back_places.specs.StepLaw.{LawOfLine};
-ghost use Rattle.back_emission.specs.Kinds.{IsComputation, IsChoice, IsEnd, IsCall, IsLoad, IsGivenBack};
+ghost use Rattle.back_emission.specs.Kinds.{IsComputation, IsChoice, IsEnd, IsCall, IsAccess, IsGivenBack};
 
 /// Moves, constants and computations.
 pub fn law_computations()
@@ -23,9 +23,9 @@ pub fn law_calls()
     ensures { LawOfLine IsCall }
 {}
 
-/// Loads.
-pub fn law_loads()
-    ensures { LawOfLine IsLoad }
+/// Loads and stores.
+pub fn law_accesses()
+    ensures { LawOfLine IsAccess }
 {}
 
 /// Records and lent blocks that are given back.
