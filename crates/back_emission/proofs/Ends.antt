@@ -34,7 +34,7 @@ use Rattle.back_stepping.proofs.Moving.{place_small, frame_is}
 use Rattle.back_emission.proofs.Steps.{nothing, at_line, weighs}
 
 -- the call that register 17 says
-call_is : (which n : ℕ) (registers words : List ℕ) (i : ℕ) → which < 5 → n ≡ which → call n (state_at i registers words) ≡ environment_call which
+pub call_is : (which n : ℕ) (registers words : List ℕ) (i : ℕ) → which < 5 → n ≡ which → call n (state_at i registers words) ≡ environment_call which
 call_is which n registers words i few e = by (nat_lt n 5) refl
   where
     by : (t : Bool) → nat_lt n 5 ≡ t → (if t then environment_call n else trapped BadCall (4 * i)) ≡ environment_call which
@@ -114,7 +114,7 @@ module _ (program : LineProgram) (l : Located) (Fact : (number line register : �
     (good : IsGood program l Fact) where
 
   -- a word of a register comes into a register of an environment call
-  into :
+  pub into :
       (a : Activation) (line v w to : ℕ) (rs : Registers) (callers : List Caller) (z : MidState) (m : Moment)
       → StandsOn program a z.arena.blocks → (r : Runs program l Fact first a line rs callers z m) → Fact a.procedure line v (l.source a.procedure line v) → register v rs ≡ Some w
       → 0 < to → to < 32 → to ≢ 7

@@ -14,3 +14,4 @@ pub mod Addresses
 pub mod Loads
 pub mod Records
 pub mod Stores
+pub mod Bytes

@@ -40,3 +40,8 @@ abbrev pub IsGivenBack : Line → Type 0
 IsGivenBack (GiveBack words) = Unit {0}
 IsGivenBack GiveBackLent = Unit {0}
 IsGivenBack x = ⊥
+
+-- bytes that are printed
+abbrev pub IsPut : Line → Type 0
+IsPut (Do (operation.Put from)) = Unit {0}
+IsPut x = ⊥

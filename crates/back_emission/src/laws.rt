@@ -1,7 +1,7 @@
 // The laws of steps, a kind of line each, as the contracts of functions that do nothing.
 
 ghost use Rattle.back_places.specs.StepLaw.{LawOfLine};
-ghost use Rattle.back_emission.specs.Kinds.{IsComputation, IsChoice, IsEnd, IsCall, IsAccess, IsGivenBack};
+ghost use Rattle.back_emission.specs.Kinds.{IsComputation, IsChoice, IsEnd, IsCall, IsAccess, IsGivenBack, IsPut};
 
 /// Moves, constants and computations.
 pub fn law_computations()
@@ -31,4 +31,9 @@ pub fn law_accesses()
 /// Records and lent blocks that are given back.
 pub fn law_given_back()
     ensures { LawOfLine IsGivenBack }
+{}
+
+/// Bytes that are printed.
+pub fn law_puts()
+    ensures { LawOfLine IsPut }
 {}
