@@ -53,6 +53,16 @@ past_call registers registers' words base frame r (AsConstant c) w is others ok 
 
 module _ (program : LineProgram) (l : Located) (Fact : (number line register : ℕ) → Place → Type 0) (first : List Block) where
 
+  -- the memory of the machine has the words of an arena, and what was printed and is left to read is that of a state
+  pub record Holds (z : MidState) (words : List ℕ) (m : Moment) : Type 0 where
+    pub memory : m.state.memory ≡ bytes_of words
+    pub arena : HasArena words z.arena
+    pub printed : m.printed ≡ z.printed
+    pub input : m.input ≡ z.input
+
+  pub holding : (z : MidState) (words : List ℕ) (m : Moment) → Machine program l Fact first z words m → Holds z words m
+  holding z words m r = record { memory = r.memory; arena = r.arena; printed = r.printed; input = r.input }
+
   -- The machine has come to an environment call, behind code that sets registers.
   pub record Called (which : ℕ) (z : MidState) (m : Moment) (count : ℕ) (registers' : List ℕ) : Type 0 where
     pub moment' : Moment
@@ -62,7 +72,7 @@ module _ (program : LineProgram) (l : Located) (Fact : (number line register : �
 
   pub called :
       (z : MidState) (cost : ℕ) (words : List ℕ) (m : Moment) (at : ℕ) (code more : List Instr) (registers' : List ℕ) (which : ℕ)
-      → Machine program l Fact first z words m → m.state.pc ≡ 4 * at → Stands l words at (code ++ Ecall ∷ more)
+      → Holds z words m → m.state.pc ≡ 4 * at → Stands l words at (code ++ Ecall ∷ more)
       → Sets words code m.state.registers registers' → at + length code < 2 ^ 25 → which < 5 → slice_index registers' 17 ≡ which
       → Called which (charged cost z) m (length code) registers'
   called z cost words m at code more registers' which r pc stands sets low few is =
@@ -87,7 +97,7 @@ module _ (program : LineProgram) (l : Located) (Fact : (number line register : �
   -- the number of the call comes into register 17 before it
   pub called_with :
       (z : MidState) (cost : ℕ) (words : List ℕ) (m : Moment) (at : ℕ) (code more : List Instr) (which : ℕ) (registers1 : List ℕ)
-      → Machine program l Fact first z words m → m.state.pc ≡ 4 * at → Stands l words at (code ++ (Addi 17 0 which ∷ Ecall ∷ more))
+      → Holds z words m → m.state.pc ≡ 4 * at → Stands l words at (code ++ (Addi 17 0 which ∷ Ecall ∷ more))
       → Sets words code m.state.registers registers1 → Ready registers1 → at + length code + 1 < 2 ^ 25 → which < 5
       → (registers2 : List ℕ) × Called which (charged cost z) m (length code + 1) registers2 × ((q : ℕ) → q ≢ 17 → q ≢ 7 → slice_index registers2 q ≡ slice_index registers1 q)
   called_with z cost words m at code more which registers1 r pc stands sets ready low few =
@@ -148,7 +158,7 @@ module _ (program : LineProgram) (l : Located) (Fact : (number line register : �
           let p = into a line v w 10 rs callers z m r.0.0 r.1 g.0 h (omega arith) (omega arith) (λ k. omega (arith, k)) in
           let stands = r.1.machine.code.lines a.procedure line (Halt v) e in
           let long : length (A ++ (Addi 17 0 0 ∷ Ecall ∷ [])) ≡ length A + 2 = length-append A (Addi 17 0 0 ∷ Ecall ∷ []) in
-          let c = called_with program l Fact first z 6 r.1.words m (l.line_at a.procedure line) A [] 0 p.registers' r.1.machine r.1.pc stands p.sets p.ready (omega (arith, stands.to, good.low, long)) (omega arith) in
+          let c = called_with program l Fact first z 6 r.1.words m (l.line_at a.procedure line) A [] 0 p.registers' (holding program l Fact first z r.1.words m r.1.machine) r.1.pc stands p.sets p.ready (omega (arith, stands.to, good.low, long)) (omega arith) in
           let ten : slice_index c.1.moment'.state.registers 10 ≡ w =
             ap (λ k. slice_index k 10) c.1.same ∙ c.2 10 (λ k. omega (arith, k)) (λ k. omega (arith, k)) ∙ p.holds in
           record {
@@ -254,7 +264,7 @@ module _ (program : LineProgram) (l : Located) (Fact : (number line register : �
           let same : A ++ (B ++ (C ++ end)) ≡ (A ++ (B ++ C)) ++ end = ap (λ k. A ++ k) (sym (append_assoc B C end)) ∙ sym (append_assoc A (B ++ C) end) in
           let long : length ((A ++ (B ++ C)) ++ end) ≡ length (A ++ (B ++ C)) + 2 = length-append (A ++ (B ++ C)) end in
           let stands' = subst (λ k. Stands l r.1.words (l.line_at a.procedure line) k) same stands in
-          let c3 = called_with program l Fact first z 14 r.1.words m (l.line_at a.procedure line) (A ++ (B ++ C)) [] 3 t.registers' r.1.machine r.1.pc stands' t.sets t.ready (omega (arith, stands'.to, good.low, long)) (omega arith) in
+          let c3 = called_with program l Fact first z 14 r.1.words m (l.line_at a.procedure line) (A ++ (B ++ C)) [] 3 t.registers' (holding program l Fact first z r.1.words m r.1.machine) r.1.pc stands' t.sets t.ready (omega (arith, stands'.to, good.low, long)) (omega arith) in
           let m' = c3.1.moment' in
           let is10 : slice_index m'.state.registers 10 ≡ c = ap (λ k. slice_index k 10) c3.1.same ∙ c3.2 10 (λ k. omega (arith, k)) (λ k. omega (arith, k)) ∙ t.first_is in
           let is11 : slice_index m'.state.registers 11 ≡ s = ap (λ k. slice_index k 11) c3.1.same ∙ c3.2 11 (λ k. omega (arith, k)) (λ k. omega (arith, k)) ∙ t.second_is in

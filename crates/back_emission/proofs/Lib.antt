@@ -15,3 +15,4 @@ pub mod Loads
 pub mod Records
 pub mod Stores
 pub mod Bytes
+pub mod Room

@@ -38,7 +38,7 @@ use Rattle.back_stepping.proofs.Lengths.{load_length, slot_length, raise_length,
 use Rattle.back_stepping.proofs.Going.{point_of}
 use Rattle.back_stepping.proofs.Giving.{register_other, register_same}
 use Rattle.back_stepping.proofs.Moving.{place_small, holds_somewhere, frame_is, moved}
-use Rattle.back_emission.proofs.Ends.{Called, called_with}
+use Rattle.back_emission.proofs.Ends.{holding, Called, called_with}
 use Rattle.back_emission.proofs.Leaving.{raise_prepared, machine_left}
 use Rattle.back_emission.proofs.Steps.{nothing, at_line, weighs}
 
@@ -229,7 +229,7 @@ module _ (program : LineProgram) (l : Located) (Fact : (number line register : �
       let below : w < 2 ^ 32 = let b = left.machine.registers_small 12 in omega (arith, b, left.word) in
       let v10 : sum32 (slice_index regs 12) (sign_extended 12 0) ≡ w = ap (λ k. sum32 k (sign_extended 12 0)) left.word ∙ omega (arith, below) in
       let one = prepared_one words regs (Addi 10 12 0) 10 w small ready (omega arith) (omega arith) below (λ i. ap (λ k. gives 10 k (state_at i regs words)) v10) in
-      let c = called_with program l Fact first (with_arena (with_blocks a.outer z.arena) z) cost words m l.end_at (Addi 10 12 0 ∷ []) [] 0 one.registers' left.machine (left.pc ∙ at_end) end one.sets one.ready (omega (arith, end.to, good.low)) (omega arith) in
+      let c = called_with program l Fact first (with_arena (with_blocks a.outer z.arena) z) cost words m l.end_at (Addi 10 12 0 ∷ []) [] 0 one.registers' (holding program l Fact first (with_arena (with_blocks a.outer z.arena) z) words m left.machine) (left.pc ∙ at_end) end one.sets one.ready (omega (arith, end.to, good.low)) (omega arith) in
       (c.0, c.1, c.2 10 (λ k. omega (arith, k)) (λ k. omega (arith, k)) ∙ one.holds)
 
   pub return_follows :

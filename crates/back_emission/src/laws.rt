@@ -1,6 +1,7 @@
 // The laws of steps, a kind of line each, as the contracts of functions that do nothing.
 
 ghost use Rattle.back_places.specs.StepLaw.{LawOfLine};
+ghost use Rattle.back_emission.specs.Laying.{LawOfRoom};
 ghost use Rattle.back_emission.specs.Kinds.{IsComputation, IsChoice, IsEnd, IsCall, IsAccess, IsGivenBack, IsPut};
 
 /// Moves, constants and computations.
@@ -36,4 +37,9 @@ pub fn law_given_back()
 /// Bytes that are printed.
 pub fn law_puts()
     ensures { LawOfLine IsPut }
+{}
+
+/// The code that lays a block lowers the stack pointer, where there is room, in at most four instructions.
+pub fn law_room()
+    ensures { LawOfRoom }
 {}
