@@ -1,17 +1,19 @@
 -- The laws of the kinds of lines.
-use Rattle.std.proofs.Common.{◌≡◌, ℕ, Bool, true, Some}
+use Rattle.std.proofs.Common.{◌≡◌, ◌≤◌, ℕ, Bool, true, Some, arith}
+use Rattle.mid_lines.specs.LineMeaning.{running}
 use Rattle.mid_code.specs.declared.operation.Operation.{Operation}
 use Rattle.mid_code.specs.declared.operation.Operation.TheVariants as operation
 use Rattle.mid_lines.specs.declared.line.Line.{Line}
 use Rattle.mid_lines.specs.declared.line.Line.TheVariants.{Do, Branch, Switch, Jump, Lay, Landed, GiveBack, Lend, GiveBackLent, Return, Cut, Halt, Unhandled}
 use Rattle.back_places.specs.StepLaw.{Known, LawOfLine}
-use Rattle.back_emission.specs.Kinds.{IsComputation, IsChoice, IsEnd, IsCall, IsAccess, IsGivenBack, IsPut}
+use Rattle.back_emission.specs.Kinds.{IsComputation, IsChoice, IsEnd, IsCall, IsAccess, IsGivenBack, IsPut, IsLanding}
 use Rattle.back_emission.proofs.Jumps.{jump_follows, branch_follows, switch_follows}
 use Rattle.back_emission.proofs.CallSteps.{call_follows}
 use Rattle.back_emission.proofs.Loads.{load_follows}
 use Rattle.back_emission.proofs.Records.{give_back_follows, give_back_lent_follows}
 use Rattle.back_emission.proofs.Stores.{store_follows}
 use Rattle.back_emission.proofs.Bytes.{put_follows}
+use Rattle.back_emission.proofs.Steps.{at_line, nothing}
 use Rattle.back_emission.proofs.Returns.{return_follows}
 use Rattle.back_emission.proofs.Ends.{halt_follows, unhandled_follows}
 use Rattle.back_emission.proofs.Moves.{move_follows, constant_follows, compute_follows}
@@ -66,3 +68,8 @@ pub law_of_puts : LawOfLine IsPut
 law_of_puts program l known first checked good a line rs callers z m (Do (operation.Put v)) e kind r =
     put_follows program l (Known known) first good a line v rs callers z m e r
 law_of_puts program l known first checked good a line rs callers z m x e kind r = absurd kind
+
+pub law_of_landings : LawOfLine IsLanding
+law_of_landings program l known first checked good a line rs callers z m (Landed v) e kind r =
+    nothing program l (Known known) first good (running a line rs callers z) m z (at_line program l (Known known) first good a line rs callers z (Landed v) e) (omega arith)
+law_of_landings program l known first checked good a line rs callers z m x e kind r = absurd kind

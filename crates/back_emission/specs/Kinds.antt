@@ -45,3 +45,8 @@ IsGivenBack x = ⊥
 abbrev pub IsPut : Line → Type 0
 IsPut (Do (operation.Put from)) = Unit {0}
 IsPut x = ⊥
+
+-- heads of landings: only a cut leads behind them
+abbrev pub IsLanding : Line → Type 0
+IsLanding (Landed r) = Unit {0}
+IsLanding x = ⊥

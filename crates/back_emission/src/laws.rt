@@ -2,7 +2,7 @@
 
 ghost use Rattle.back_places.specs.StepLaw.{LawOfLine};
 ghost use Rattle.back_emission.specs.Laying.{LawOfRoom};
-ghost use Rattle.back_emission.specs.Kinds.{IsComputation, IsChoice, IsEnd, IsCall, IsAccess, IsGivenBack, IsPut};
+ghost use Rattle.back_emission.specs.Kinds.{IsComputation, IsChoice, IsEnd, IsCall, IsAccess, IsGivenBack, IsPut, IsLanding};
 
 /// Moves, constants and computations.
 pub fn law_computations()
@@ -42,4 +42,9 @@ pub fn law_puts()
 /// The code that lays a block lowers the stack pointer, where there is room, in at most four instructions.
 pub fn law_room()
     ensures { LawOfRoom }
+{}
+
+/// Heads of landings, at which lines are stuck: a cut goes behind them.
+pub fn law_landings()
+    ensures { LawOfLine IsLanding }
 {}

@@ -271,12 +271,12 @@ module _ (program : LineProgram) (l : Located) (checked : is_checked_line_progra
           subst (λ x. IsPlace p.frame x) (sym a.0) (omega arith, omega (arith, a.1, few, frame))
 
       put : (v : ℕ) (q : Place) → InOwnSlot program number 0 v q → (b : Bool) → nat_le p.parameters v ≡ b
-        → (p.parameters ≤ v) ⊎ ((v < 14) × (q ≡ InRegister (argument_register v))) ⊎ (slice_get (l.parameters number) v ≡ Some q)
+        → (p.parameters ≤ v) ⊎ ((v < 14) × (q ≡ InRegister (argument_register v))) ⊎ ((slice_get (l.parameters number) v ≡ Some q) × IsSomewhere q)
       put v q f true e = inl (grind (arith, nat_tests, e))
       put v q f false e =
           let below : v < p.parameters = grind (arith, nat_tests, e) in
           let zero_is : 0 + v ≡ v = omega arith in
-          inr (inr (ap (λ ps. slice_get ps v) (t.parameters number p h) ∙ slot_there 0 p.parameters v below ∙ ap (λ k. Some (own_slot k)) zero_is ∙ ap Some (sym f.place_is)))
+          inr (inr (ap (λ ps. slice_get ps v) (t.parameters number p h) ∙ slot_there 0 p.parameters v below ∙ ap (λ k. Some (own_slot k)) zero_is ∙ ap Some (sym f.place_is), slot_somewhere v q f.place_is))
 
   placed : (number line v : ℕ) (p : Place) → InOwnSlot program number line v p → IsPlace (frame_of program number).words p
   placed number line v p f =

@@ -203,5 +203,5 @@ module _ (l : Located) (Fact : (number line register : ℕ) → Place → Type 0
     pub apart : EachApart (l.parameters number)
     pub facts :
         (v : ℕ) (p : Place) → Fact number 0 v p
-        → (parameters ≤ v) ⊎ ((v < 14) × (p ≡ InRegister (argument_register v))) ⊎ (slice_get (l.parameters number) v ≡ Some p)
+        → (parameters ≤ v) ⊎ ((v < 14) × (p ≡ InRegister (argument_register v))) ⊎ ((slice_get (l.parameters number) v ≡ Some p) × IsSomewhere p)
     pub no_records : l.records number 0 ≡ []
