@@ -16,3 +16,4 @@ pub mod Records
 pub mod Stores
 pub mod Bytes
 pub mod Room
+pub mod NewBlocks

@@ -1,7 +1,7 @@
 // The laws of steps, a kind of line each, as the contracts of functions that do nothing.
 
 ghost use Rattle.back_places.specs.StepLaw.{LawOfLine};
-ghost use Rattle.back_emission.specs.Laying.{LawOfRoom};
+ghost use Rattle.back_emission.specs.Laying.{LawOfRoom, LawOfNewBlocks};
 ghost use Rattle.back_emission.specs.Kinds.{IsComputation, IsChoice, IsEnd, IsCall, IsAccess, IsGivenBack, IsPut, IsLanding};
 
 /// Moves, constants and computations.
@@ -47,4 +47,9 @@ pub fn law_room()
 /// Heads of landings, at which lines are stuck: a cut goes behind them.
 pub fn law_landings()
     ensures { LawOfLine IsLanding }
+{}
+
+/// A block that fits is laid: the machine is that of the arena with it, with the stack pointer lower.
+pub fn law_new_blocks()
+    ensures { LawOfNewBlocks }
 {}
