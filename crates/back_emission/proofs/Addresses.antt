@@ -1,6 +1,6 @@
 -- Addresses at an offset, and the words there.
-use Rattle.std.proofs.Common.{inl, inr, ◌≡◌, ◌≢◌, ℕ, zero, suc, ◌+◌, ◌-◌, ◌*◌, ◌/◌, ◌%◌, ◌^◌, ◌<◌, ◌≤◌, ℤ, pos, Bool, true, false, ◌&&◌, List, [], ◌∷◌, length, refl, sym, ap, subst, ◌∙◌, arith, Some, None, eqb-true}
-use Rattle.std.specs.Prelude.{negsuc, ◌+ℤ◌, Option, slice_index, slice_get, nat_lt, nat_le, int_le, ◌==◌, if◌then◌else◌}
+use Rattle.std.proofs.Common.{◌≡◌, ℕ, zero, suc, ◌+◌, ◌-◌, ◌*◌, ◌/◌, ◌%◌, ◌^◌, ◌<◌, ◌≤◌, ℤ, pos, Bool, true, false, List, [], ◌∷◌, length, refl, ap, subst, ◌∙◌, arith, Some, None, eqb-true}
+use Rattle.std.specs.Prelude.{negsuc, ◌+ℤ◌, Option, slice_index, slice_get, int_le, ◌==◌, if◌then◌else◌}
 use Rattle.std.proofs.lemmas.Bool.Decides.{nat_tests}
 use Rattle.std.proofs.lemmas.Int.{ints}
 use Rattle.base.specs.Arithmetic.{sum32, low_word}

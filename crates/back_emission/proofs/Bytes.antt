@@ -1,7 +1,6 @@
 -- The steps of lines that print a byte and read one.
-use Rattle.std.proofs.Common.{inl, inr, ◌≡◌, ◌≢◌, ℕ, zero, suc, ◌+◌, ◌*◌, ◌%◌, ◌^◌, ◌<◌, ◌≤◌, Bool, true, false, List, [], ◌∷◌, ◌++◌, length, drop, refl, sym, ap, subst, ◌∙◌, arith, Some, None, append-nil, length-append, append_assoc}
-use Rattle.std.specs.Prelude.{◌⊎◌, Option, slice_index, slice_set}
-use Rattle.std.proofs.lemmas.List.{get_or-set_same, get_or-set_other, length-set}
+use Rattle.std.proofs.Common.{◌≡◌, ◌≢◌, ℕ, zero, suc, ◌+◌, ◌%◌, ◌^◌, ◌<◌, ◌≤◌, List, [], ◌∷◌, ◌++◌, length, refl, sym, ap, subst, ◌∙◌, arith, Some, None, append-nil, length-append, append_assoc}
+use Rattle.std.specs.Prelude.{Option, slice_index}
 use Rattle.base.specs.Arithmetic.{sum32}
 use Rattle.rv_encode.specs.declared.instruction.Instr.{Instr}
 use Rattle.rv_encode.specs.declared.instruction.Instr.TheVariants.{Addi, Ecall}
@@ -9,30 +8,28 @@ use Rattle.rv_machine.specs.declared.ending.Ending.TheVariants.{Budget}
 use Rattle.rv_machine.specs.Memory.{bytes_of}
 use Rattle.rv_machine.specs.Arithmetic.{sign_extended}
 use Rattle.rv_machine.specs.Step.{step_of, environment_call, gives}
-use Rattle.rv_machine.specs.Run.{Moment, act, run_from, got}
-use Rattle.mid_code.specs.declared.operation.Operation.TheVariants.{Put, Get}
+use Rattle.rv_machine.specs.Run.{Moment, act, run_from}
+use Rattle.mid_code.specs.declared.operation.Operation.TheVariants.{Put}
 use Rattle.mid_code.specs.Arena.{Block}
-use Rattle.mid_code.specs.State.{Registers, MidState, charged, register, with_some, gives as gives_word}
-use Rattle.mid_code.specs.Meaning.{exec_step, put, get_from}
-use Rattle.mid_lines.specs.declared.line.Line.{Line}
+use Rattle.mid_code.specs.State.{Registers, MidState, charged, register, with_some}
+use Rattle.mid_code.specs.Meaning.{exec_step, put}
 use Rattle.mid_lines.specs.declared.line.Line.TheVariants.{Do}
 use Rattle.mid_lines.specs.declared.line.LineProgram.{LineProgram}
 use Rattle.mid_lines.specs.Lines.{line_of}
 use Rattle.mid_lines.specs.LineMeaning.{Activation, Caller, running, next, proceed, state_of}
-use Rattle.mid_lines.specs.StackLaw.{frame_of, StageStands}
+use Rattle.mid_lines.specs.StackLaw.{StageStands}
 use Rattle.back_places.specs.declared.place.Place.{Place}
 use Rattle.back_places.specs.declared.place.Place.TheVariants.{InRegister, InSlot, AsConstant}
 use Rattle.back_places.specs.Places.{Located, way_at}
-use Rattle.back_places.specs.Operands.{load_into, move_code}
+use Rattle.back_places.specs.Operands.{load_into}
 use Rattle.back_places.specs.Facts.{IsPlace}
 use Rattle.back_places.specs.Good.{IsGood}
-use Rattle.back_places.specs.Relation.{HasCode, Stands, IsAt, base_of, Machine, Runs, Relates}
+use Rattle.back_places.specs.Relation.{HasCode, IsAt, Machine, Runs, Relates}
 use Rattle.back_places.specs.StepLaw.{Comes, Follows, weight}
 use Rattle.back_stepping.specs.Moments.{state_at, Beside, later, moment, beside, AreSmall, Sets, Ready}
 use Rattle.back_stepping.proofs.Coming.{next_place, and_on, sets_on, step_at, has_front, has_back, same_moment}
-use Rattle.back_stepping.proofs.Operands.{prepared_one, set_small}
+use Rattle.back_stepping.proofs.Operands.{prepared_one}
 use Rattle.back_stepping.proofs.Lengths.{load_length}
-use Rattle.back_stepping.proofs.Private.{SamePrivate}
 use Rattle.back_stepping.proofs.Going.{all_kept, point_of, stands_at}
 use Rattle.back_emission.proofs.Ends.{call_is, into}
 use Rattle.back_emission.proofs.Steps.{nothing, at_line, weighs, next_line}
@@ -75,7 +72,6 @@ record Asked (words registers : List ℕ) (code : List Instr) (which : ℕ) : Ty
 
 module _ (program : LineProgram) (l : Located) (Fact : (number line register : ℕ) → Place → Type 0) (first : List Block)
     (good : IsGood program l Fact) where
-
   -- what is known is in no register of environment calls
   past_env :
       (registers registers' words : List ℕ) (base frame : ℕ) (p : Place) (w : ℕ)
@@ -92,7 +88,7 @@ module _ (program : LineProgram) (l : Located) (Fact : (number line register : �
       → (st : StageStands program first (running a line rs callers z)) → (r : Runs program l Fact first a line rs callers z m)
       → (s : Asked r.words m.state.registers (load_into (way_at l a.procedure line) 10 (l.source a.procedure line v)) 1) → slice_index s.registers' 10 ≡ w
       → (m' : Moment) × Comes (length (load_into (way_at l a.procedure line) 10 (l.source a.procedure line v)) + 1 + 1) m m'
-        × Runs program l Fact first a (line + 1) rs callers (record (charged 8 z) { printed = z.printed ++ w % 256 ∷ [] }) m'
+      × Runs program l Fact first a (line + 1) rs callers (record (charged 8 z) { printed = z.printed ++ w % 256 ∷ [] }) m'
   printed_at a line v w rs callers z m e st r s ten =
       let g = good.lines a.procedure line (Do (Put v)) e in
       let A = load_into (way_at l a.procedure line) 10 (l.source a.procedure line v) in
@@ -109,13 +105,13 @@ module _ (program : LineProgram) (l : Located) (Fact : (number line register : �
       let o = later (length code) (beside m) in
       let one = s.sets.by at (beside m) (has_front words at code (Ecall ∷ []) has) (omega (arith, stands.to, good.low, whole, long)) in
       let asked = step_at (at + length code) s.registers' words Ecall [] (has_back words at code (Ecall ∷ []) has) (small (at + length code))
-        ∙ call_is 1 (slice_index s.registers' 17) s.registers' words (at + length code) (omega arith) s.asks in
+      ∙ call_is 1 (slice_index s.registers' 17) s.registers' words (at + length code) (omega arith) s.asks in
       let two = put_step (at + length code) s.registers' words o asked (omega (arith, stands.to, good.low, whole, long)) in
       let there : at + length code + 1 ≡ l.line_at a.procedure (line + 1) = omega (arith, behind, whole, long) in
       let o2 = after_print s.registers' o in
       let m' = moment (state_at (l.line_at a.procedure (line + 1)) s.registers' words) o2 in
       let comes : Comes (length code + 1) m (moment (state_at (at + length code + 1) s.registers' words) o2) =
-        subst (λ y. Comes (length code + 1) y (moment (state_at (at + length code + 1) s.registers' words) o2)) (sym (same_moment m at words r.pc r.machine.memory)) (and_on one two) in
+      subst (λ y. Comes (length code + 1) y (moment (state_at (at + length code + 1) s.registers' words) o2)) (sym (same_moment m at words r.pc r.machine.memory)) (and_on one two) in
       let h = r.machine in
       let machine : Machine program l Fact first (record (charged 8 z) { printed = z.printed ++ w % 256 ∷ [] }) words m' = record {
         memory = refl;
@@ -123,18 +119,22 @@ module _ (program : LineProgram) (l : Located) (Fact : (number line register : �
         code = h.code;
         apart = record { laid_below = h.apart.laid_below; arguments_below = h.apart.arguments_below; heap_above = h.apart.heap_above };
         form = record { small = h.form.small; fits = h.form.fits; heap = h.form.heap; grown = h.form.grown; below = h.form.below; laid = h.form.laid };
-        long = s.ready.long; zero_is = s.ready.zero_is; registers_small = s.bounded h.registers_small;
+        long = s.ready.long;
+        zero_is = s.ready.zero_is;
+        registers_small = s.bounded h.registers_small;
         stack = s.others 2 (λ k. omega (arith, k)) (λ k. omega (arith, k)) (λ k. omega (arith, k)) ∙ h.stack;
         heap = s.others 3 (λ k. omega (arith, k)) (λ k. omega (arith, k)) (λ k. omega (arith, k)) ∙ h.heap;
         printed = ap (λ k. m.printed ++ k % 256 ∷ []) ten ∙ ap (λ k. k ++ w % 256 ∷ []) h.printed;
-        input = h.input; input_small = h.input_small;
-      } in
-      (m',
-      subst (λ n. Comes (n + 1) m m') long (subst (λ n. Comes (length code + 1) m (moment (state_at n s.registers' words) o2)) there comes),
-      stands_at program l Fact first good a at (l.records a.procedure line) (line + 1) rs callers z (record (charged 8 z) { printed = z.printed ++ w % 256 ∷ [] }) m m' words st
-      (point_of program l Fact first good a line rs callers z m r) (all_kept program l Fact first good a z.arena words words st.0 (λ j k. refl)) refl machine refl
-      (λ u q x f k. past_env m.state.registers s.registers' words _ _ q x s.others (good.placed a.procedure line u q (g.keeps.facts u q f)) (r.there u q x (g.keeps.facts u q f) k))
-      (λ k. s.others 1 (λ q. omega (arith, q)) (λ q. omega (arith, q)) (λ q. omega (arith, q)) ∙ r.links.linked (g.keeps.linked k)) g.keeps.records)
+        input = h.input;
+        input_small = h.input_small;
+      } in (
+        m',
+        subst (λ n. Comes (n + 1) m m') long (subst (λ n. Comes (length code + 1) m (moment (state_at n s.registers' words) o2)) there comes),
+        stands_at program l Fact first good a at (l.records a.procedure line) (line + 1) rs callers z (record (charged 8 z) { printed = z.printed ++ w % 256 ∷ [] }) m m' words st
+            (point_of program l Fact first good a line rs callers z m r) (all_kept program l Fact first good a z.arena words words st.0 (λ j k. refl)) refl machine refl
+            (λ u q x f k. past_env m.state.registers s.registers' words _ _ q x s.others (good.placed a.procedure line u q (g.keeps.facts u q f)) (r.there u q x (g.keeps.facts u q f) k))
+            (λ k. s.others 1 (λ q. omega (arith, q)) (λ q. omega (arith, q)) (λ q. omega (arith, q)) ∙ r.links.linked (g.keeps.linked k)) g.keeps.records,
+      )
 
   pub put_follows :
       (a : Activation) (line v : ℕ) (rs : Registers) (callers : List Caller) (z : MidState) (m : Moment)

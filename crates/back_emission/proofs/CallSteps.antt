@@ -1,9 +1,8 @@
 -- The step of a call, whole.
-use Rattle.std.proofs.Common.{inl, inr, ◌≡◌, ◌≢◌, ℕ, zero, suc, ◌+◌, ◌-◌, ◌*◌, ◌^◌, ◌<◌, ◌≤◌, Bool, true, false, ◌&&◌, List, [], ◌∷◌, ◌++◌, length, refl, sym, ap, subst, ◌∙◌, arith, Some, None, length-append}
-use Rattle.std.specs.Prelude.{Option, slice_get, nat_lt, nat_le, ◌==◌, if◌then◌else◌}
+use Rattle.std.proofs.Common.{◌≡◌, ℕ, zero, suc, ◌+◌, ◌-◌, ◌*◌, ◌^◌, ◌<◌, ◌≤◌, Bool, true, false, List, [], ◌∷◌, ◌++◌, length, refl, sym, ap, subst, ◌∙◌, arith, Some, None, length-append}
+use Rattle.std.specs.Prelude.{Option, slice_get, nat_lt, nat_le, if◌then◌else◌}
 use Rattle.std.specs.List.{list_all}
 use Rattle.std.proofs.lemmas.Bool.Decides.{nat_tests}
-use Rattle.rv_encode.specs.declared.instruction.Instr.{Instr}
 use Rattle.rv_encode.specs.declared.instruction.Instr.TheVariants.{Lw, Sw}
 use Rattle.rv_machine.specs.Run.{Moment}
 use Rattle.mid_code.specs.declared.operation.Callee.{Callee}
@@ -11,7 +10,7 @@ use Rattle.mid_code.specs.declared.operation.Callee.TheVariants.{Procedure, Word
 use Rattle.mid_code.specs.declared.operation.Operation.TheVariants.{Call}
 use Rattle.mid_code.specs.Arena.{Block}
 use Rattle.mid_code.specs.State.{Registers, MidState, charged, register}
-use Rattle.mid_lines.proofs.Conjunctions.{front_true, back_true}
+use Rattle.mid_lines.proofs.Conjunctions.{back_true}
 use Rattle.mid_lines.specs.declared.line.Line.TheVariants.{Do}
 use Rattle.mid_lines.specs.declared.line.LineProcedure.{LineProcedure}
 use Rattle.mid_lines.specs.declared.line.LineProgram.{LineProgram}
@@ -27,7 +26,7 @@ use Rattle.back_places.specs.LineCode.{sources, before_call_code, call_code}
 use Rattle.back_places.specs.Good.{IsGood}
 use Rattle.back_places.specs.Relation.{EntersIn, Relates}
 use Rattle.back_places.specs.StepLaw.{Comes, Follows, weight}
-use Rattle.back_places.proofs.LinesInForm.{all_at, LineIs, line_is}
+use Rattle.back_places.proofs.LinesInForm.{all_at, line_is}
 use Rattle.back_stepping.proofs.Lengths.{either_length, load_length, read_length}
 use Rattle.back_emission.proofs.Calls.{call_by_number, call_by_word, call_of_none}
 use Rattle.back_emission.proofs.Steps.{nothing, at_line, weighs}
@@ -68,7 +67,6 @@ pass_length at way ps =
 
 module _ (program : LineProgram) (l : Located) (Fact : (number line register : ℕ) → Place → Type 0) (first : List Block)
     (checked : is_checked_line_program program ≡ true) (good : IsGood program l Fact) where
-
   sources_count : (number line : ℕ) (rs : List ℕ) → length (sources l number line rs) ≡ length rs
   sources_count number line [] = refl
   sources_count number line (r ∷ rs) = ap suc (sources_count number line rs)
@@ -97,7 +95,7 @@ module _ (program : LineProgram) (l : Located) (Fact : (number line register : �
       heavy = weighs program l Fact first good a line rs callers z (Do (Call to callee arguments)) e
 
       goes : (ws : Option (List ℕ)) (n : Option ℕ) → words_in arguments rs ≡ ws → callee_in callee rs ≡ n
-        → next program (running a line rs callers z) ≡ call ws n (record { activation = a; line = line + 1; registers = rs; result = to } ∷ callers) (charged (40 + 6 * length arguments) z)
+          → next program (running a line rs callers z) ≡ call ws n (record { activation = a; line = line + 1; registers = rs; result = to } ∷ callers) (charged (40 + 6 * length arguments) z)
       goes ws n h k =
           at_line program l Fact first good a line rs callers z (Do (Call to callee arguments)) e
           ∙ ap (λ u. call u (callee_in callee rs) (record { activation = a; line = line + 1; registers = rs; result = to } ∷ callers) (charged (40 + 6 * length arguments) z)) h

@@ -1,10 +1,9 @@
 -- The step of a call: the arguments are passed, and the caller waits.
-use Rattle.std.proofs.Common.{inl, inr, ◌≡◌, ◌≢◌, ℕ, zero, suc, ◌+◌, ◌-◌, ◌*◌, ◌/◌, ◌%◌, ◌^◌, ◌<◌, ◌≤◌, Bool, true, false, ◌&&◌, List, [], ◌∷◌, ◌++◌, length, refl, sym, ap, subst, ◌∙◌, arith, Some, None, length-append, append_assoc}
-use Rattle.std.specs.Prelude.{◌⊎◌, Option, slice_index, slice_set, slice_get, nat_lt, ◌==◌, if◌then◌else◌}
+use Rattle.std.proofs.Common.{inl, inr, ◌≡◌, ◌≢◌, ℕ, suc, ◌+◌, ◌*◌, ◌^◌, ◌<◌, ◌≤◌, Bool, true, false, List, [], ◌∷◌, ◌++◌, length, refl, sym, ap, subst, ◌∙◌, arith, Some, None, length-append}
+use Rattle.std.specs.Prelude.{◌⊎◌, Option, slice_index, slice_set, slice_get, nat_lt, if◌then◌else◌}
 use Rattle.std.proofs.lemmas.Bool.Decides.{nat_tests}
 use Rattle.std.proofs.lemmas.List.{get_or-set_same, get_or-set_other, length-set}
 use Rattle.base.specs.Arithmetic.{sum32, shift_left}
-use Rattle.rv_encode.specs.declared.instruction.Instr.{Instr}
 use Rattle.rv_encode.specs.declared.instruction.Instr.TheVariants.{Lui, Jal, Jalr, Lw, Add, Slli}
 use Rattle.rv_machine.specs.Memory.{bytes_of}
 use Rattle.rv_machine.specs.Arithmetic.{sign_extended, even}
@@ -13,56 +12,53 @@ use Rattle.rv_machine.specs.Run.{Moment}
 use Rattle.mid_code.specs.declared.operation.Callee.{Callee}
 use Rattle.mid_code.specs.declared.operation.Callee.TheVariants.{Procedure, Word}
 use Rattle.mid_code.specs.declared.operation.Operation.TheVariants.{Call}
-use Rattle.mid_code.specs.Arena.{Arena, Block, words_of, stack_from}
+use Rattle.mid_code.specs.Arena.{Block, words_of, stack_from}
 use Rattle.mid_code.specs.State.{Registers, MidState, charged, register}
 use Rattle.mid_lines.specs.declared.line.Line.{Line}
 use Rattle.mid_lines.specs.declared.line.Line.TheVariants.{Do}
 use Rattle.mid_lines.specs.declared.line.LineProcedure.{LineProcedure}
 use Rattle.mid_lines.specs.declared.line.LineProgram.{LineProgram}
 use Rattle.mid_lines.specs.Lines.{line_of}
-use Rattle.mid_lines.specs.LineMeaning.{Standing, Activation, Caller, Stage, running, entering, next, call, words_in, words_before, callee_in, state_of}
-use Rattle.mid_lines.specs.StackLaw.{frame_of, blocks_of, StandsOn, CallersStandOn, StageStands}
+use Rattle.mid_lines.specs.LineMeaning.{Standing, Activation, Caller, running, words_in, words_before}
+use Rattle.mid_lines.specs.StackLaw.{frame_of, blocks_of, StandsOn, StageStands}
 use Rattle.back_places.specs.declared.place.Place.{Place}
-use Rattle.back_places.specs.declared.place.Place.TheVariants.{InRegister, InSlot, AsConstant}
-use Rattle.back_places.specs.Places.{StaticRecord, with_landing, only_lent, Located, Way, way_at, reachable, argument_register}
-use Rattle.back_places.specs.Operands.{load_into, read_code, at_word, read_in, high_part, low_part}
-use Rattle.back_places.specs.Selection.{jump_offset, far_offset, WithinJump, jump_code, far_jump_code}
+use Rattle.back_places.specs.Places.{Located, way_at, reachable, argument_register}
+use Rattle.back_places.specs.Operands.{load_into, high_part, low_part}
+use Rattle.back_places.specs.Selection.{jump_offset, far_offset, WithinJump, jump_code}
 use Rattle.back_places.specs.Passing.{pass_code}
-use Rattle.back_places.specs.LineCode.{sources, table_jump_code, before_call_code, call_jump_code, call_code}
-use Rattle.back_places.specs.Facts.{IsPlace, GoodCall, ToLandings, Reads}
+use Rattle.back_places.specs.LineCode.{sources, table_jump_code, before_call_code, call_code}
+use Rattle.back_places.specs.Facts.{ToLandings, Reads}
 use Rattle.back_places.specs.Good.{IsGood}
-use Rattle.back_places.specs.Relation.{HasCode, Stands, IsAt, base_of, HasArena, HasProgram, AreThere, LandingHolds, LandingsHold, Machine, Runs, CallersWait, Enters, EntersIn, ArePassed, argument_in, static_of, statics, Relates}
-use Rattle.back_places.specs.StepLaw.{Comes, Follows, weight}
-use Rattle.back_stepping.specs.Moments.{state_at, Beside, later, moment, beside, AreSmall, Sets, Ready, Frame, with_word_in}
+use Rattle.back_places.specs.Relation.{HasCode, base_of, HasProgram, AreThere, LandingHolds, LandingsHold, Runs, CallersWait, Enters, ArePassed, static_of, statics}
+use Rattle.back_places.specs.StepLaw.{Comes}
+use Rattle.back_stepping.specs.Moments.{state_at, Beside, later, moment, beside, AreSmall, Ready}
 use Rattle.back_stepping.proofs.Coming.{same_moment, sets_none, one_step, step_at, and_on, and_one, has_front, has_back, next_place}
 use Rattle.back_stepping.proofs.Operands.{set_small, loaded, prepared_one, frame_still}
 use Rattle.back_stepping.proofs.Jumps.{jump_reaches, jumped_to}
-use Rattle.back_stepping.proofs.Private.{SamePrivate, private_low, lent_where, outer_words, callers_stay, program_kept, has_code_kept}
+use Rattle.back_stepping.proofs.Private.{SamePrivate, private_low, lent_where, outer_words, callers_stay, program_kept}
 use Rattle.back_stepping.proofs.Going.{point_of}
 use Rattle.back_stepping.proofs.Moving.{place_small, frame_is}
 use Rattle.back_emission.proofs.Scratch.{far_jumps, table_prepared}
-use Rattle.back_emission.proofs.Passing.{AreAt, Does, Before, passes, is_value_register, at_still_low}
+use Rattle.back_emission.proofs.Passing.{AreAt, Before, passes, is_value_register, at_still_low}
 use Rattle.back_emission.proofs.Returns.{outlasting}
-use Rattle.back_emission.proofs.Steps.{nothing, at_line, weighs}
 
 module _ (program : LineProgram) (l : Located) (Fact : (number line register : ℕ) → Place → Type 0) (first : List Block)
     (good : IsGood program l Fact) where
-
   -- the words of registers are where the line reads them
   are_at :
       (a : Activation) (line : ℕ) (rs : Registers) (callers : List Caller) (z : MidState) (m : Moment) → (r : Runs program l Fact first a line rs callers z m)
       → (arguments : List ℕ) (ws : List ℕ) → Reads l Fact a.procedure line arguments → words_in arguments rs ≡ Some ws
       → AreAt m.state.registers r.words (base_of program (length z.arena.memory) a) (reachable (way_at l a.procedure line) (frame_of program a.procedure).words) (sources l a.procedure line arguments) ws
-        × (length ws ≡ length arguments) × (length (sources l a.procedure line arguments) ≡ length arguments)
+      × (length ws ≡ length arguments) × (length (sources l a.procedure line arguments) ≡ length arguments)
   are_at a line rs callers z m r [] [] reads e = (tt, refl, refl)
   are_at a line rs callers z m r [] (w ∷ ws) reads e = absurd (cc e)
   are_at a line rs callers z m r (v ∷ more) ws reads e = by (λ ys q. are_at a line rs callers z m r more ys reads.1 q) (register v rs) (words_in more rs) refl refl e
     where
       by : ((ys : List ℕ) → words_in more rs ≡ Some ys
-        → AreAt m.state.registers r.words (base_of program (length z.arena.memory) a) (reachable (way_at l a.procedure line) (frame_of program a.procedure).words) (sources l a.procedure line more) ys
+          → AreAt m.state.registers r.words (base_of program (length z.arena.memory) a) (reachable (way_at l a.procedure line) (frame_of program a.procedure).words) (sources l a.procedure line more) ys
           × (length ys ≡ length more) × (length (sources l a.procedure line more) ≡ length more))
-        → (x : Option ℕ) (ys : Option (List ℕ)) → register v rs ≡ x → words_in more rs ≡ ys → words_before x ys ≡ Some ws
-        → AreAt m.state.registers r.words (base_of program (length z.arena.memory) a) (reachable (way_at l a.procedure line) (frame_of program a.procedure).words) (sources l a.procedure line (v ∷ more)) ws
+          → (x : Option ℕ) (ys : Option (List ℕ)) → register v rs ≡ x → words_in more rs ≡ ys → words_before x ys ≡ Some ws
+          → AreAt m.state.registers r.words (base_of program (length z.arena.memory) a) (reachable (way_at l a.procedure line) (frame_of program a.procedure).words) (sources l a.procedure line (v ∷ more)) ws
           × (length ws ≡ suc (length more)) × (length (sources l a.procedure line (v ∷ more)) ≡ suc (length more))
       by deeper None ys hx hys h = absurd (cc h)
       by deeper (Some x) None hx hys h = absurd (cc h)
@@ -83,12 +79,13 @@ module _ (program : LineProgram) (l : Located) (Fact : (number line register : �
   landings_hold words registers base number line rs (s ∷ records) there to = by (λ h. landings_hold words registers base number line rs records there h) s.landing to
     where
       by : (ToLandings l Fact number line (statics records) → LandingsHold program l Fact first words base number rs records)
-        → (landing : Option ℕ) → ToLandings l Fact number line (static_of s.words landing ∷ statics records)
-        → LandingHolds program l Fact first words base number rs landing × LandingsHold program l Fact first words base number rs records
+          → (landing : Option ℕ) → ToLandings l Fact number line (static_of s.words landing ∷ statics records)
+          → LandingHolds program l Fact first words base number rs landing × LandingsHold program l Fact first words base number rs records
       by deeper None h = (tt, deeper h)
-      by deeper (Some landing) h =
-          ((λ v p w f e. let k = h.0.facts v p f in outlasting registers [] words base p w k.1 (there v p w k.0 e)),
-          deeper h.1)
+      by deeper (Some landing) h = (
+        (λ v p w f e. let k = h.0.facts v p f in outlasting registers [] words base p w k.1 (there v p w k.0 e)),
+        deeper h.1,
+      )
 
   -- the caller waits
   waits :
@@ -97,24 +94,25 @@ module _ (program : LineProgram) (l : Located) (Fact : (number line register : �
       → (r : Runs program l Fact first a line rs callers z m)
       → CallersWait program l Fact first r.words (length z.arena.memory) (record { activation = a; line = line + 1; registers = rs; result = to } ∷ callers) (4 * l.back_at a.procedure line)
   waits a line to callee arguments rs callers z m e r =
-      let g = good.lines a.procedure line (Do (Call to callee arguments)) e in
-      (record {
-        at = line;
-        callee = callee;
-        arguments = arguments;
-        behind = refl;
-        is_call = e;
-        link_is = refl;
-        there = λ v p w f ne h. elim (g.flows v p f) [
-          | inl same ↦ absurd (ne same.0)
-          | inr other ↦ outlasting m.state.registers [] r.words _ p w other.2 (r.there v p w other.1 h)
-        ];
-        landings = landings_hold r.words m.state.registers _ a.procedure line rs a.standing r.there (subst (λ x. ToLandings l Fact a.procedure line x) r.records_are g.landings);
-        records_are = r.records_are;
-        heads = r.heads;
-        saves = g.saves;
-      },
-      subst (λ x. CallersWait program l Fact first r.words (length z.arena.memory) callers x) (sym (r.links.saved g.saves)) r.waiting)
+      let g = good.lines a.procedure line (Do (Call to callee arguments)) e in (
+        record {
+          at = line;
+          callee = callee;
+          arguments = arguments;
+          behind = refl;
+          is_call = e;
+          link_is = refl;
+          there = λ v p w f ne h. elim (g.flows v p f) [
+            | inl same ↦ absurd (ne same.0)
+            | inr other ↦ outlasting m.state.registers [] r.words _ p w other.2 (r.there v p w other.1 h)
+          ];
+          landings = landings_hold r.words m.state.registers _ a.procedure line rs a.standing r.there (subst (λ x. ToLandings l Fact a.procedure line x) r.records_are g.landings);
+          records_are = r.records_are;
+          heads = r.heads;
+          saves = g.saves;
+        },
+        subst (λ x. CallersWait program l Fact first r.words (length z.arena.memory) callers x) (sym (r.links.saved g.saves)) r.waiting,
+      )
 
   -- what is known before arguments are passed
   before :
@@ -128,7 +126,7 @@ module _ (program : LineProgram) (l : Located) (Fact : (number line register : �
       let all = outer_words program a a.standing in
       let same_words : words_of z.arena.blocks ≡ words_of (blocks_of program a a.standing) = ap words_of st.all in
       let end_low : 4 * (l.arguments_at + l.argument_words) ≤ stack_from z.arena =
-        omega (arith, stands.from, stands.to, ap'.arguments_below, ap'.heap_above, f.grown, f.below) in
+      omega (arith, stands.from, stands.to, ap'.arguments_below, ap'.heap_above, f.grown, f.below) in
       record {
         small = r.machine.arena.words_small;
         ready = record { long = r.machine.long; zero_is = r.machine.zero_is };
@@ -159,7 +157,7 @@ module _ (program : LineProgram) (l : Located) (Fact : (number line register : �
       let apart = r.machine.apart in
       let caller : Caller = record { activation = a; line = line + 1; registers = rs; result = to } in
       let private : SamePrivate (length z.arena.memory) z.arena.blocks r.words words' =
-        λ i p. let low = private_low (length z.arena.memory) z.arena.blocks i p in kept i (inr (omega (arith, low, b.stack, r.machine.stack))) in
+      λ i p. let low = private_low (length z.arena.memory) z.arena.blocks i p in kept i (inr (omega (arith, low, b.stack, r.machine.stack))) in
       record {
         words = words';
         machine = record {
@@ -207,7 +205,8 @@ module _ (program : LineProgram) (l : Located) (Fact : (number line register : �
   -- registers with a link in register 1
   linked_ready : (registers : List ℕ) (w : ℕ) → Ready registers → Ready (slice_set registers 1 w)
   linked_ready registers w r = record {
-    long = length-set registers 1 w ∙ r.long; zero_is = get_or-set_other registers 1 0 w 0 (λ e. omega (arith, e)) ∙ r.zero_is;
+    long = length-set registers 1 w ∙ r.long;
+    zero_is = get_or-set_other registers 1 0 w 0 (λ e. omega (arith, e)) ∙ r.zero_is;
   }
 
   jumps_to :
@@ -221,12 +220,12 @@ module _ (program : LineProgram) (l : Located) (Fact : (number line register : �
       let ins = Jal 1 (jump_offset from to) in
       let low_from : from < 2 ^ 24 = omega (arith, place, is_back, low) in
       let reaches : sum32 (4 * at) (sign_extended 21 (jump_offset from to)) ≡ 4 * to =
-        ap (λ x. sum32 (4 * x) (sign_extended 21 (jump_offset from to))) (sym place) ∙ jump_reaches from to low_from (omega (arith, entry.to, good.low)) (within refl) in
+      ap (λ x. sum32 (4 * x) (sign_extended 21 (jump_offset from to))) (sym place) ∙ jump_reaches from to low_from (omega (arith, entry.to, good.low)) (within refl) in
       let link_is : sum32 (4 * at) 4 ≡ 4 * back = next_place at (omega (arith, is_back, low)) ∙ ap (λ x. 4 * x) is_back in
       let r2 = slice_set registers1 1 (4 * back) in
       let does : execute ins (state_at at registers1 words') ≡ goes_to (state_at to r2 words') =
-        ap (λ x. goes_to (record { pc = x; registers = slice_set registers1 1 (sum32 (4 * at) 4); memory = bytes_of words' })) reaches
-        ∙ ap (λ x. goes_to (record { pc = 4 * to; registers = slice_set registers1 1 x; memory = bytes_of words' })) link_is in
+      ap (λ x. goes_to (record { pc = x; registers = slice_set registers1 1 (sum32 (4 * at) 4); memory = bytes_of words' })) reaches
+      ∙ ap (λ x. goes_to (record { pc = 4 * to; registers = slice_set registers1 1 x; memory = bytes_of words' })) link_is in
       record {
         moment' = moment (state_at to r2 words') (later 1 o);
         comes = one_step (state_at at registers1 words') (state_at to r2 words') o (step_at at registers1 words' ins [] has (small at) ∙ does);
@@ -270,7 +269,7 @@ module _ (program : LineProgram) (l : Located) (Fact : (number line register : �
   still_passed registers registers' words i (w ∷ ws) kept h = (by (nat_lt i 14) refl h.0, still_passed registers registers' words (i + 1) ws kept h.1)
     where
       by : (t : Bool) → nat_lt i 14 ≡ t → (if t then slice_index registers (argument_register i) else slice_index words (l.arguments_at + i)) ≡ w
-        → (if t then slice_index registers' (argument_register i) else slice_index words (l.arguments_at + i)) ≡ w
+          → (if t then slice_index registers' (argument_register i) else slice_index words (l.arguments_at + i)) ≡ w
       by true e k = let is = is_value_register i (grind (arith, nat_tests, e)) in kept (argument_register i) is.0 ∙ k
       by false e k = k
 
@@ -280,7 +279,7 @@ module _ (program : LineProgram) (l : Located) (Fact : (number line register : �
       → line_of program a.procedure line ≡ Some (Do (Call to (Procedure number) arguments)) → slice_get program.procedures number ≡ Some p
       → StageStands program first (running a line rs callers z) → (r : Runs program l Fact first a line rs callers z m) → words_in arguments rs ≡ Some ws
       → (m' : Moment) × Comes (length (call_code l a.procedure line (Procedure number) arguments)) m m'
-        × Enters program l Fact first number ws (record { activation = a; line = line + 1; registers = rs; result = to } ∷ callers) (charged cost z) m'
+      × Enters program l Fact first number ws (record { activation = a; line = line + 1; registers = rs; result = to } ∷ callers) (charged cost z) m'
   call_by_number a line to number arguments ws rs callers z cost m p e there st r has =
       let x = Do (Call to (Procedure number) arguments) in
       let g = good.lines a.procedure line x e in
@@ -301,16 +300,17 @@ module _ (program : LineProgram) (l : Located) (Fact : (number line register : �
       let code' = program_kept program l r.words d.0.words' d.0.long (λ i low high. d.0.kept i (inr (omega (arith, low, b.apart)))) r.machine.code in
       let stands' = code'.lines a.procedure line x e in
       let j = jumps_to (l.near a.procedure line) from from number (l.back_at a.procedure line) d.0.words' d.0.registers' (later (length C) (beside m)) p there code' d.0.small d.0.ready d.0.bounded refl laid.reaches
-        (has_back d.0.words' at C J stands'.has) (omega (arith, laid.back, long)) (omega (arith, back.to, good.low)) in
+      (has_back d.0.words' at C J stands'.has) (omega (arith, laid.back, long)) (omega (arith, back.to, good.low)) in
       let sp : slice_index d.0.registers' 2 ≡ slice_index m.state.registers 2 = d.0.others 2 (λ k. omega (arith, k)) (λ k. omega (arith, k)) (λ i low high k. let is = is_value_register i high in omega (arith, is.0, k)) in
-      let hp : slice_index d.0.registers' 3 ≡ slice_index m.state.registers 3 = d.0.others 3 (λ k. omega (arith, k)) (λ k. omega (arith, k)) (λ i low high k. let is = is_value_register i high in omega (arith, is.0, k)) in
-      (j.moment',
-      subst (λ n. Comes n m j.moment') (sym long)
-      (subst (λ y. Comes (length C + length J) y j.moment') (sym (same_moment m at r.words r.pc r.machine.memory)) (and_on one j.comes)),
-      at_entry a line to number (Procedure number) arguments ws rs callers z cost m j.moment' d.0.words' e st r b j.memory d.0.long d.0.small d.0.kept j.ready j.bounded
-      (j.others 2 (λ k. omega (arith, k)) (λ k. omega (arith, k)) (λ k. omega (arith, k)) ∙ sp) (j.others 3 (λ k. omega (arith, k)) (λ k. omega (arith, k)) (λ k. omega (arith, k)) ∙ hp)
-      j.link j.printed j.input j.pc
-      (still_passed d.0.registers' j.moment'.state.registers d.0.words' 0 ws (λ q high. j.others q (λ k. omega (arith, high, k)) (λ k. omega (arith, high, k)) (λ k. omega (arith, high, k))) d.1))
+      let hp : slice_index d.0.registers' 3 ≡ slice_index m.state.registers 3 = d.0.others 3 (λ k. omega (arith, k)) (λ k. omega (arith, k)) (λ i low high k. let is = is_value_register i high in omega (arith, is.0, k)) in (
+        j.moment',
+        subst (λ n. Comes n m j.moment') (sym long)
+            (subst (λ y. Comes (length C + length J) y j.moment') (sym (same_moment m at r.words r.pc r.machine.memory)) (and_on one j.comes)),
+        at_entry a line to number (Procedure number) arguments ws rs callers z cost m j.moment' d.0.words' e st r b j.memory d.0.long d.0.small d.0.kept j.ready j.bounded
+            (j.others 2 (λ k. omega (arith, k)) (λ k. omega (arith, k)) (λ k. omega (arith, k)) ∙ sp) (j.others 3 (λ k. omega (arith, k)) (λ k. omega (arith, k)) (λ k. omega (arith, k)) ∙ hp)
+            j.link j.printed j.input j.pc
+            (still_passed d.0.registers' j.moment'.state.registers d.0.words' 0 ws (λ q high. j.others q (λ k. omega (arith, high, k)) (λ k. omega (arith, high, k)) (λ k. omega (arith, high, k))) d.1),
+      )
 
   -- A call of the procedure whose number is in a register, up to the jump: the number is in register 6.
   record Ready6 (a : Activation) (line n : ℕ) (callee : ℕ) (arguments ws : List ℕ) (z : MidState) (m : Moment) (r_words : List ℕ) : Type 0 where
@@ -355,26 +355,32 @@ module _ (program : LineProgram) (l : Located) (Fact : (number line register : �
       let one = loaded r.words m.state.registers way base frame 6 p n b.small b.ready fits b.frame_is ok (omega arith) (omega arith) (λ k. omega (arith, k)) is_at in
       let sp : slice_index one.registers' 2 ≡ slice_index m.state.registers 2 = one.others 2 (λ k. omega (arith, k)) (λ k. omega (arith, k)) in
       let b1 : Before l r.words one.registers' way base frame = record {
-        small = b.small; ready = one.ready; bounded = one.bounded b.bounded; frame_is = frame_still m.state.registers one.registers' r.words way base frame sp b.frame_is;
-        stack = omega (arith, b.stack, sp); above = b.above; inside = b.inside; apart = b.apart;
+        small = b.small;
+        ready = one.ready;
+        bounded = one.bounded b.bounded;
+        frame_is = frame_still m.state.registers one.registers' r.words way base frame sp b.frame_is;
+        stack = omega (arith, b.stack, sp);
+        above = b.above;
+        inside = b.inside;
+        apart = b.apart;
       } in
       let d = passes l way base frame places ws r.words one.registers' b1
-        (at_still_low m.state.registers one.registers' r.words base (reachable way frame) places ws (λ q high. one.others q (λ k. omega (arith, high, k)) (λ k. omega (arith, high, k))) known.0)
-        (known.1 ∙ sym known.2) (omega (arith, known.2, g.few)) in
+      (at_still_low m.state.registers one.registers' r.words base (reachable way frame) places ws (λ q high. one.others q (λ k. omega (arith, high, k)) (λ k. omega (arith, high, k))) known.0)
+      (known.1 ∙ sym known.2) (omega (arith, known.2, g.few)) in
       let stands = r.machine.code.lines a.procedure line x e in
       let long2 : length (L ++ C) ≡ length L + length C = length-append L C in
       let long3 : length ((L ++ C) ++ T) ≡ length (L ++ C) + length T = length-append (L ++ C) T in
       let front = has_front r.words at (L ++ C) T stands.has in
       let first_part = one.sets.by at (beside m) (has_front r.words at L C front) (omega (arith, stands.to, long2, long3, good.low)) in
       let second = d.0.by (at + length L) (later (length L) (beside m))
-        (record { from = omega (arith, stands.from); to = omega (arith, stands.to, long2, long3); has = has_back r.words at L C front }) (omega (arith, stands.to, long2, long3, good.low)) in
+      (record { from = omega (arith, stands.from); to = omega (arith, stands.to, long2, long3); has = has_back r.words at L C front }) (omega (arith, stands.to, long2, long3, good.low)) in
       let place : at + length L + length C ≡ at + length (L ++ C) = omega (arith, long2) in
       let time : m.executed + length L + length C ≡ m.executed + length (L ++ C) = omega (arith, long2) in
       let both : Comes (length L + length C) m (moment (state_at (at + length L + length C) d.0.registers' d.0.words') (later (length C) (later (length L) (beside m)))) =
-        subst (λ y. Comes (length L + length C) y (moment (state_at (at + length L + length C) d.0.registers' d.0.words') (later (length C) (later (length L) (beside m))))) (sym (same_moment m at r.words r.pc r.machine.memory)) (and_on first_part second) in
+      subst (λ y. Comes (length L + length C) y (moment (state_at (at + length L + length C) d.0.registers' d.0.words') (later (length C) (later (length L) (beside m))))) (sym (same_moment m at r.words r.pc r.machine.memory)) (and_on first_part second) in
       let low : (q : ℕ) → q < 5 → slice_index d.0.registers' q ≡ slice_index m.state.registers q =
-        λ q h. d.0.others q (λ k. omega (arith, h, k)) (λ k. omega (arith, h, k)) (λ i from high k. let is = is_value_register i high in omega (arith, is.0, h, k))
-        ∙ one.others q (λ k. omega (arith, h, k)) (λ k. omega (arith, h, k)) in
+      λ q h. d.0.others q (λ k. omega (arith, h, k)) (λ k. omega (arith, h, k)) (λ i from high k. let is = is_value_register i high in omega (arith, is.0, h, k))
+      ∙ one.others q (λ k. omega (arith, h, k)) (λ k. omega (arith, h, k)) in
       record {
         registers' = d.0.registers';
         words' = d.0.words';
@@ -398,8 +404,8 @@ module _ (program : LineProgram) (l : Located) (Fact : (number line register : �
       → HasCode s.words' (l.line_at a.procedure line + length (before_call_code l a.procedure line (Word v) arguments)) (table_jump_code l.procedures_at)
       → l.line_at a.procedure line + length (before_call_code l a.procedure line (Word v) arguments) + 5 ≡ back → back ≤ 2 ^ 24
       → Entered 5
-        (moment (state_at (l.line_at a.procedure line + length (before_call_code l a.procedure line (Word v) arguments)) s.registers' s.words')
-        (later (length (before_call_code l a.procedure line (Word v) arguments)) (beside m))) s.words' s.registers' n back
+      (moment (state_at (l.line_at a.procedure line + length (before_call_code l a.procedure line (Word v) arguments)) s.registers' s.words')
+      (later (length (before_call_code l a.procedure line (Word v) arguments)) (beside m))) s.words' s.registers' n back
   jumps_by_table a line n v back arguments ws z m words p there s code has is_back low =
       let named = code.table n p there in
       let entry = code.entries n p there in
@@ -414,8 +420,8 @@ module _ (program : LineProgram) (l : Located) (Fact : (number line register : �
       let reaches : even (sum32 (slice_index t.registers' 6) (sign_extended 12 0)) ≡ 4 * to = jumped_to (slice_index t.registers' 6) to (omega (arith, entry.to, good.low)) (t.holds ∙ named.names) in
       let link_is : sum32 (4 * (at + 4)) 4 ≡ 4 * back = omega (arith, is_back, low) in
       let does : execute (Jalr 1 6 0) (state_at (at + 4) t.registers' s.words') ≡ goes_to (state_at to r2 s.words') =
-        ap (λ x. goes_to (record { pc = x; registers = slice_set t.registers' 1 (sum32 (4 * (at + 4)) 4); memory = bytes_of s.words' })) reaches
-        ∙ ap (λ x. goes_to (record { pc = 4 * to; registers = slice_set t.registers' 1 x; memory = bytes_of s.words' })) link_is in
+      ap (λ x. goes_to (record { pc = x; registers = slice_set t.registers' 1 (sum32 (4 * (at + 4)) 4); memory = bytes_of s.words' })) reaches
+      ∙ ap (λ x. goes_to (record { pc = 4 * to; registers = slice_set t.registers' 1 x; memory = bytes_of s.words' })) link_is in
       let comes = and_one m1 at s.words' t.registers' B [] (Jalr 1 6 0) (state_at to r2 s.words') s.small refl refl t.sets has (omega (arith, is_back, low)) does in
       record {
         moment' = moment (state_at to r2 s.words') (later 1 (later 4 o));
@@ -436,7 +442,7 @@ module _ (program : LineProgram) (l : Located) (Fact : (number line register : �
       → line_of program a.procedure line ≡ Some (Do (Call to (Word v) arguments)) → slice_get program.procedures n ≡ Some p
       → StageStands program first (running a line rs callers z) → (r : Runs program l Fact first a line rs callers z m) → words_in arguments rs ≡ Some ws → register v rs ≡ Some n
       → (m' : Moment) × Comes (length (before_call_code l a.procedure line (Word v) arguments) + 5) m m'
-        × Enters program l Fact first n ws (record { activation = a; line = line + 1; registers = rs; result = to } ∷ callers) (charged cost z) m'
+      × Enters program l Fact first n ws (record { activation = a; line = line + 1; registers = rs; result = to } ∷ callers) (charged cost z) m'
   call_by_word a line to n v arguments ws rs callers z cost m p e there st r has hv =
       let x = Do (Call to (Word v) arguments) in
       let s = ready_for_table a line to n v arguments ws rs callers z m e st r has hv in
@@ -448,12 +454,14 @@ module _ (program : LineProgram) (l : Located) (Fact : (number line register : �
       let laid = good.laid a.procedure line x e in
       let back = r.machine.code.backs a.procedure line x e in
       let long : length (C ++ T) ≡ length C + 5 = length-append C T in
-      let j = jumps_by_table a line n v (l.back_at a.procedure line) arguments ws z m r.words p there s code' (has_back s.words' (l.line_at a.procedure line) C T stands'.has) (omega (arith, laid.back, long)) (omega (arith, back.to, good.low)) in
-      (j.moment', and_on s.comes j.comes,
-      at_entry a line to n (Word v) arguments ws rs callers z cost m j.moment' s.words' e st r b j.memory s.long s.small s.kept j.ready j.bounded
-      (j.others 2 (λ k. omega (arith, k)) (λ k. omega (arith, k)) (λ k. omega (arith, k)) ∙ s.low_kept 2 (omega arith)) (j.others 3 (λ k. omega (arith, k)) (λ k. omega (arith, k)) (λ k. omega (arith, k)) ∙ s.low_kept 3 (omega arith))
-      j.link j.printed j.input j.pc
-      (still_passed s.registers' j.moment'.state.registers s.words' 0 ws (λ q high. j.others q (λ k. omega (arith, high, k)) (λ k. omega (arith, high, k)) (λ k. omega (arith, high, k))) s.passed))
+      let j = jumps_by_table a line n v (l.back_at a.procedure line) arguments ws z m r.words p there s code' (has_back s.words' (l.line_at a.procedure line) C T stands'.has) (omega (arith, laid.back, long)) (omega (arith, back.to, good.low)) in (
+        j.moment',
+        and_on s.comes j.comes,
+        at_entry a line to n (Word v) arguments ws rs callers z cost m j.moment' s.words' e st r b j.memory s.long s.small s.kept j.ready j.bounded
+            (j.others 2 (λ k. omega (arith, k)) (λ k. omega (arith, k)) (λ k. omega (arith, k)) ∙ s.low_kept 2 (omega arith)) (j.others 3 (λ k. omega (arith, k)) (λ k. omega (arith, k)) (λ k. omega (arith, k)) ∙ s.low_kept 3 (omega arith))
+            j.link j.printed j.input j.pc
+            (still_passed s.registers' j.moment'.state.registers s.words' 0 ws (λ q high. j.others q (λ k. omega (arith, high, k)) (λ k. omega (arith, high, k)) (λ k. omega (arith, high, k))) s.passed),
+      )
 
   -- where no procedure has that number, one instruction more
   pub call_of_none :
@@ -472,6 +480,7 @@ module _ (program : LineProgram) (l : Located) (Fact : (number line register : �
       let stands' = code'.lines a.procedure line x e in
       let long : length (C ++ T) ≡ length C + 5 = length-append C T in
       let one = prepared_one s.words' s.registers' (Slli 6 6 2) 6 (shift_left (slice_index s.registers' 6) 2) s.small s.ready (omega arith) (omega arith) (omega arith) (λ i. refl) in
-      let has1 = has_front s.words' (at + length C) (Slli 6 6 2 ∷ []) (Lui 7 (high_part (4 * l.procedures_at)) ∷ Add 6 6 7 ∷ Lw 6 6 (low_part (4 * l.procedures_at)) ∷ Jalr 1 6 0 ∷ []) (has_back s.words' at C T stands'.has) in
-      (moment (state_at (at + length C + 1) one.registers' s.words') (later 1 (later (length C) (beside m))),
-      and_on s.comes (one.sets.by (at + length C) (later (length C) (beside m)) has1 (omega (arith, stands'.to, long, good.low))))
+      let has1 = has_front s.words' (at + length C) (Slli 6 6 2 ∷ []) (Lui 7 (high_part (4 * l.procedures_at)) ∷ Add 6 6 7 ∷ Lw 6 6 (low_part (4 * l.procedures_at)) ∷ Jalr 1 6 0 ∷ []) (has_back s.words' at C T stands'.has) in (
+        moment (state_at (at + length C + 1) one.registers' s.words') (later 1 (later (length C) (beside m))),
+        and_on s.comes (one.sets.by (at + length C) (later (length C) (beside m)) has1 (omega (arith, stands'.to, long, good.low))),
+      )

@@ -7,7 +7,7 @@ use Rattle.rv_encode.specs.declared.instruction.Instr.TheVariants.{Addi, Ecall}
 use Rattle.rv_machine.specs.declared.ending.TrapKind.TheVariants.{BadCall}
 use Rattle.rv_machine.specs.Memory.{bytes_of}
 use Rattle.rv_machine.specs.Arithmetic.{sign_extended}
-use Rattle.rv_machine.specs.Step.{Result, execute, gives, call, step_of, environment_call, trapped}
+use Rattle.rv_machine.specs.Step.{gives, call, environment_call, trapped}
 use Rattle.rv_machine.specs.Run.{Moment}
 use Rattle.mid_code.specs.Arena.{Block}
 use Rattle.mid_code.specs.State.{Registers, MidState, charged, register, with_some, with_register, ends, halts, unhandled}
@@ -15,17 +15,17 @@ use Rattle.mid_code.specs.Meaning.{exec_step}
 use Rattle.mid_lines.specs.declared.line.Line.TheVariants.{Halt, Unhandled}
 use Rattle.mid_lines.specs.declared.line.LineProgram.{LineProgram}
 use Rattle.mid_lines.specs.Lines.{line_of}
-use Rattle.mid_lines.specs.LineMeaning.{Activation, Caller, running, ended, next, proceed, state_of}
+use Rattle.mid_lines.specs.LineMeaning.{Activation, Caller, running, next, proceed, state_of}
 use Rattle.mid_lines.specs.StackLaw.{frame_of, StandsOn}
 use Rattle.back_places.specs.declared.place.Place.{Place}
 use Rattle.back_places.specs.declared.place.Place.TheVariants.{InRegister, InSlot, AsConstant}
-use Rattle.back_places.specs.Places.{Located, way_at, reachable}
+use Rattle.back_places.specs.Places.{Located, way_at}
 use Rattle.back_places.specs.Operands.{load_into}
 use Rattle.back_places.specs.Facts.{IsPlace}
-use Rattle.back_places.specs.Good.{IsGood, reach_at}
-use Rattle.back_places.specs.Relation.{HasCode, Stands, IsAt, base_of, HasArena, Machine, Runs, Calls, Relates}
+use Rattle.back_places.specs.Good.{IsGood}
+use Rattle.back_places.specs.Relation.{Stands, IsAt, base_of, HasArena, Machine, Runs, Calls, Relates}
 use Rattle.back_places.specs.StepLaw.{Comes, Follows, weight}
-use Rattle.back_stepping.specs.Moments.{state_at, Beside, later, moment, beside, AreSmall, Sets, Ready, Prepared, Frame}
+use Rattle.back_stepping.specs.Moments.{state_at, later, moment, beside, Sets, Ready, Prepared}
 use Rattle.back_stepping.proofs.Coming.{has_front, has_back, sets_on, step_at, same_moment}
 use Rattle.back_stepping.proofs.Operands.{prepared_one, loaded, frame_still}
 use Rattle.back_stepping.proofs.Lengths.{load_length}
@@ -47,12 +47,11 @@ pub past_call :
     → ((q : ℕ) → q ≢ r → q ≢ 7 → slice_index registers' q ≡ slice_index registers q)
     → IsPlace frame p → IsAt registers words base p w → IsAt registers' words base p w
 past_call registers registers' words base frame r (InRegister q) w is others ok h =
-    others q (λ e. elim is [ | inl k ↦ ok.2 (e ∙ k) | inr k ↦ ok.3 (e ∙ k) ]) (λ e. omega (arith, ok.0, e)) ∙ h
+    others q (λ e. elim is [ inl k ↦ ok.2 (e ∙ k) | inr k ↦ ok.3 (e ∙ k) ]) (λ e. omega (arith, ok.0, e)) ∙ h
 past_call registers registers' words base frame r (InSlot k) w is others ok h = h
 past_call registers registers' words base frame r (AsConstant c) w is others ok h = h
 
 module _ (program : LineProgram) (l : Located) (Fact : (number line register : ℕ) → Place → Type 0) (first : List Block) where
-
   -- the memory of the machine has the words of an arena, and what was printed and is left to read is that of a state
   pub record Holds (z : MidState) (words : List ℕ) (m : Moment) : Type 0 where
     pub memory : m.state.memory ≡ bytes_of words
@@ -106,11 +105,12 @@ module _ (program : LineProgram) (l : Located) (Fact : (number line register : �
       let v : sum32 (slice_index registers1 0) (sign_extended 12 which) ≡ which = ap (λ k. sum32 k (sign_extended 12 which)) ready.zero_is ∙ short which few in
       let one = prepared_one words registers1 (Addi 17 0 which) 17 which small ready (omega arith) (omega arith) (omega (arith, few)) (λ i. ap (λ k. gives 17 k (state_at i registers1 words)) v) in
       let same : code ++ (Addi 17 0 which ∷ Ecall ∷ more) ≡ (code ++ Addi 17 0 which ∷ []) ++ Ecall ∷ more = sym (append_assoc code (Addi 17 0 which ∷ []) (Ecall ∷ more)) in
-      let long : length (code ++ Addi 17 0 which ∷ []) ≡ length code + 1 = length-append code (Addi 17 0 which ∷ []) in
-      (one.registers',
-      subst (λ n. Called which (charged cost z) m n one.registers') long
-      (called z cost words m at (code ++ Addi 17 0 which ∷ []) more one.registers' which r pc (subst (λ c. Stands l words at c) same stands) (sets_on sets one.sets) (omega (arith, low, long)) few one.holds),
-      one.others)
+      let long : length (code ++ Addi 17 0 which ∷ []) ≡ length code + 1 = length-append code (Addi 17 0 which ∷ []) in (
+        one.registers',
+        subst (λ n. Called which (charged cost z) m n one.registers') long
+            (called z cost words m at (code ++ Addi 17 0 which ∷ []) more one.registers' which r pc (subst (λ c. Stands l words at c) same stands) (sets_on sets one.sets) (omega (arith, low, long)) few one.holds),
+        one.others,
+      )
     where
       short : (which : ℕ) → which < 5 → sum32 0 (sign_extended 12 which) ≡ which
       short zero h = refl
@@ -122,7 +122,6 @@ module _ (program : LineProgram) (l : Located) (Fact : (number line register : �
 
 module _ (program : LineProgram) (l : Located) (Fact : (number line register : ℕ) → Place → Type 0) (first : List Block)
     (good : IsGood program l Fact) where
-
   -- a word of a register comes into a register of an environment call
   pub into :
       (a : Activation) (line v w to : ℕ) (rs : Registers) (callers : List Caller) (z : MidState) (m : Moment)
@@ -160,7 +159,7 @@ module _ (program : LineProgram) (l : Located) (Fact : (number line register : �
           let long : length (A ++ (Addi 17 0 0 ∷ Ecall ∷ [])) ≡ length A + 2 = length-append A (Addi 17 0 0 ∷ Ecall ∷ []) in
           let c = called_with program l Fact first z 6 r.1.words m (l.line_at a.procedure line) A [] 0 p.registers' (holding program l Fact first z r.1.words m r.1.machine) r.1.pc stands p.sets p.ready (omega (arith, stands.to, good.low, long)) (omega arith) in
           let ten : slice_index c.1.moment'.state.registers 10 ≡ w =
-            ap (λ k. slice_index k 10) c.1.same ∙ c.2 10 (λ k. omega (arith, k)) (λ k. omega (arith, k)) ∙ p.holds in
+          ap (λ k. slice_index k 10) c.1.same ∙ c.2 10 (λ k. omega (arith, k)) (λ k. omega (arith, k)) ∙ p.holds in
           record {
             count = length A + 1;
             moment = c.1.moment';
@@ -231,21 +230,21 @@ module _ (program : LineProgram) (l : Located) (Fact : (number line register : �
       light = weighs program l Fact first good a line rs callers z (Unhandled class site condition) e
 
       start : (x : Option ℕ) → register class rs ≡ x
-        → next program (running a line rs callers z)
-        ≡ proceed program a (line + 1) callers (with_some x (λ c. with_register site (λ s. with_register condition (λ w. ends (unhandled c s w)))) rs (charged 14 z))
+          → next program (running a line rs callers z)
+          ≡ proceed program a (line + 1) callers (with_some x (λ c. with_register site (λ s. with_register condition (λ w. ends (unhandled c s w)))) rs (charged 14 z))
       start x h =
           at_line program l Fact first good a line rs callers z (Unhandled class site condition) e
           ∙ ap (λ u. proceed program a (line + 1) callers (with_some u (λ c. with_register site (λ s. with_register condition (λ w. ends (unhandled c s w)))) rs (charged 14 z))) h
 
       second : (c : ℕ) (x : Option ℕ) → register class rs ≡ Some c → register site rs ≡ x
-        → next program (running a line rs callers z)
-        ≡ proceed program a (line + 1) callers (with_some x (λ s. with_register condition (λ w. ends (unhandled c s w))) rs (charged 14 z))
+          → next program (running a line rs callers z)
+          ≡ proceed program a (line + 1) callers (with_some x (λ s. with_register condition (λ w. ends (unhandled c s w))) rs (charged 14 z))
       second c x hc h =
           start (Some c) hc
           ∙ ap (λ u. proceed program a (line + 1) callers (with_some u (λ s. with_register condition (λ w. ends (unhandled c s w))) rs (charged 14 z))) h
 
       third : (c s : ℕ) (x : Option ℕ) → register class rs ≡ Some c → register site rs ≡ Some s → register condition rs ≡ x
-        → next program (running a line rs callers z) ≡ proceed program a (line + 1) callers (with_some x (λ w. ends (unhandled c s w)) rs (charged 14 z))
+          → next program (running a line rs callers z) ≡ proceed program a (line + 1) callers (with_some x (λ w. ends (unhandled c s w)) rs (charged 14 z))
       third c s x hc hs h = second c (Some s) hc hs ∙ ap (λ u. proceed program a (line + 1) callers (with_some u (λ w. ends (unhandled c s w)) rs (charged 14 z))) h
 
       by : (x y u : Option ℕ) → register class rs ≡ x → register site rs ≡ y → register condition rs ≡ u → Follows program l Fact first (running a line rs callers z) m

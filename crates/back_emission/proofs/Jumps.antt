@@ -1,13 +1,13 @@
 -- The steps of jumps, branches and switches.
-use Rattle.std.proofs.Common.{inl, inr, ◌≡◌, ◌≢◌, ℕ, zero, suc, ◌+◌, ◌-◌, ◌*◌, ◌/◌, ◌%◌, ◌^◌, ◌<◌, ◌≤◌, Bool, true, false, ◌&&◌, List, [], ◌∷◌, ◌++◌, length, refl, sym, ap, subst, ◌∙◌, arith, Some, None, eqb-true, length-append, append_assoc, append-nil}
-use Rattle.std.specs.Prelude.{◌⊎◌, Option, not, slice_index, slice_get, if◌then◌else◌, ◌==◌, nat_lt, nat_le}
+use Rattle.std.proofs.Common.{inr, ◌≡◌, ℕ, zero, suc, ◌+◌, ◌*◌, ◌^◌, ◌<◌, ◌≤◌, Bool, true, false, List, [], ◌∷◌, ◌++◌, length, refl, sym, ap, subst, ◌∙◌, arith, Some, None, eqb-true, length-append, append_assoc}
+use Rattle.std.specs.Prelude.{Option, not, slice_index, slice_get, if◌then◌else◌, ◌==◌, nat_lt, nat_le}
 use Rattle.std.proofs.lemmas.Bool.Decides.{nat_tests}
 use Rattle.base.specs.Arithmetic.{sum32}
 use Rattle.rv_encode.specs.declared.instruction.Instr.{Instr}
 use Rattle.rv_encode.specs.declared.instruction.Instr.TheVariants.{Lui, Jalr, Lw, Add, Slli}
 use Rattle.rv_machine.specs.Memory.{bytes_of}
 use Rattle.rv_machine.specs.Arithmetic.{sign_extended, even}
-use Rattle.rv_machine.specs.Step.{next as goes_to, execute, behind, branch as machine_branch}
+use Rattle.rv_machine.specs.Step.{next as goes_to, execute, branch as machine_branch}
 use Rattle.rv_machine.specs.Run.{Moment}
 use Rattle.mid_code.specs.declared.operation.Comparison.{Comparison}
 use Rattle.mid_code.specs.declared.operation.Test.{Test}
@@ -18,14 +18,13 @@ use Rattle.mid_lines.proofs.Conjunctions.{front_true, back_true}
 use Rattle.mid_lines.specs.declared.line.Line.TheVariants.{Branch, Switch, Jump}
 use Rattle.mid_lines.specs.declared.line.LineProgram.{LineProgram}
 use Rattle.mid_lines.specs.Lines.{line_of}
-use Rattle.mid_lines.specs.LinesChecked.{is_checked_line_program}
 use Rattle.mid_lines.specs.LineMeaning.{Activation, Caller, running, next, both, branch, target_in, switch_to}
-use Rattle.mid_lines.specs.StackLaw.{frame_of, StageStands}
+use Rattle.mid_lines.specs.StackLaw.{StageStands}
 use Rattle.back_places.specs.declared.place.Place.{Place}
 use Rattle.back_places.specs.declared.place.Place.TheVariants.{InRegister, InSlot, AsConstant}
 use Rattle.back_places.specs.Places.{Located, way_at}
 use Rattle.back_places.specs.Operands.{high_part, low_part, read_in, read_code}
-use Rattle.back_places.specs.Selection.{branch_offset, branch_unless, branch_where, jump_code, branch_code, far_jump_code, WithinBranch, WithinJump}
+use Rattle.back_places.specs.Selection.{branch_offset, branch_unless, branch_where, jump_code, branch_code, far_jump_code, WithinBranch}
 use Rattle.back_places.specs.LineCode.{is_silent_jump, tested_code}
 use Rattle.back_places.specs.Facts.{Keeps, KeepsEach, Apart}
 use Rattle.back_places.specs.Good.{IsGood}
@@ -40,7 +39,7 @@ use Rattle.back_stepping.proofs.Lengths.{read_length}
 use Rattle.back_stepping.proofs.Going.{point_of}
 use Rattle.back_stepping.proofs.Giving.{given_nowhere}
 use Rattle.back_stepping.proofs.Moving.{frame_is}
-use Rattle.back_emission.proofs.Scratch.{Scratched, scratched_none, scratched_both, scratched_on, scratched_past, table_prepared, arrived, jumped}
+use Rattle.back_emission.proofs.Scratch.{scratched_none, scratched_both, scratched_on, scratched_past, table_prepared, arrived, jumped}
 use Rattle.back_emission.proofs.Steps.{nothing, follows, at_line, weighs, next_line}
 
 abbrev piece : Bool → List Instr → List Instr
@@ -65,7 +64,6 @@ no_weight false e = omega arith
 
 module _ (program : LineProgram) (l : Located) (Fact : (number line register : ℕ) → Place → Type 0) (first : List Block)
     (good : IsGood program l Fact) where
-
   pub jump_follows :
       (a : Activation) (line to : ℕ) (rs : Registers) (callers : List Caller) (z : MidState) (m : Moment)
       → line_of program a.procedure line ≡ Some (Jump to)
@@ -147,30 +145,36 @@ module _ (program : LineProgram) (l : Located) (Fact : (number line register : �
       let at = l.line_at a.procedure line + length C in
       let off = branch_offset at (l.line_at a.procedure otherwise) in
       let ins = branch_unless c ra rb off in
-      let long : length (C ++ ins ∷ []) ≡ length C + 1 = length-append C (ins ∷ []) in
-      (length C + 1, omega arith,
-      arrived program l Fact first good a line (line + 1) rs callers z 12 m C [] ins st r keeps (scratched_both p) stands
-      (unless_is c ra rb x y off at p.registers' r.words true p.first_is p.second_is is ∙ machine_goes false off at (l.line_at a.procedure (line + 1)) p.registers' r.words (omega (arith, behind', long, stands.to, good.low))))
+      let long : length (C ++ ins ∷ []) ≡ length C + 1 = length-append C (ins ∷ []) in (
+        length C + 1,
+        omega arith,
+        arrived program l Fact first good a line (line + 1) rs callers z 12 m C [] ins st r keeps (scratched_both p) stands
+            (unless_is c ra rb x y off at p.registers' r.words true p.first_is p.second_is is ∙ machine_goes false off at (l.line_at a.procedure (line + 1)) p.registers' r.words (omega (arith, behind', long, stands.to, good.low))),
+      )
   branched true false a line otherwise c rs callers z m C ra rb x y st r p is keeps keeps' within stands behind' =
       let at = l.line_at a.procedure line + length C in
       let to = l.line_at a.procedure otherwise in
       let off = branch_offset at to in
       let ins = branch_unless c ra rb off in
       let long : length (C ++ ins ∷ []) ≡ length C + 1 = length-append C (ins ∷ []) in
-      let low_to : to < 2 ^ 24 = let w = good.within a.procedure otherwise in omega (arith, w, good.low) in
-      (length C + 1, omega arith,
-      arrived program l Fact first good a line otherwise rs callers z 12 m C [] ins st r keeps' (scratched_both p) stands
-      (unless_is c ra rb x y off at p.registers' r.words false p.first_is p.second_is is
-      ∙ machine_goes true off at to p.registers' r.words (branch_reaches at to (omega (arith, long, stands.to, good.low)) low_to (within refl))))
+      let low_to : to < 2 ^ 24 = let w = good.within a.procedure otherwise in omega (arith, w, good.low) in (
+        length C + 1,
+        omega arith,
+        arrived program l Fact first good a line otherwise rs callers z 12 m C [] ins st r keeps' (scratched_both p) stands
+            (unless_is c ra rb x y off at p.registers' r.words false p.first_is p.second_is is
+            ∙ machine_goes true off at to p.registers' r.words (branch_reaches at to (omega (arith, long, stands.to, good.low)) low_to (within refl))),
+      )
   branched false true a line otherwise c rs callers z m C ra rb x y st r p is keeps keeps' within stands behind' =
       let at = l.line_at a.procedure line + length C in
       let to = l.line_at a.procedure otherwise in
       let ins = branch_where c ra rb 12 in
       let far = far_jump_code 0 (at + 1) to in
-      let long : length (C ++ ins ∷ far) ≡ length C + 3 = length-append C (ins ∷ far) in
-      (length C + 1, omega arith,
-      arrived program l Fact first good a line (line + 1) rs callers z 12 m C far ins st r keeps (scratched_both p) stands
-      (where_is c ra rb x y 12 at p.registers' r.words true p.first_is p.second_is is ∙ machine_goes true 12 at (l.line_at a.procedure (line + 1)) p.registers' r.words (omega (arith, behind', long, stands.to, good.low))))
+      let long : length (C ++ ins ∷ far) ≡ length C + 3 = length-append C (ins ∷ far) in (
+        length C + 1,
+        omega arith,
+        arrived program l Fact first good a line (line + 1) rs callers z 12 m C far ins st r keeps (scratched_both p) stands
+            (where_is c ra rb x y 12 at p.registers' r.words true p.first_is p.second_is is ∙ machine_goes true 12 at (l.line_at a.procedure (line + 1)) p.registers' r.words (omega (arith, behind', long, stands.to, good.low))),
+      )
   branched false false a line otherwise c rs callers z m C ra rb x y st r p is keeps keeps' within stands behind' =
       let at = l.line_at a.procedure line + length C in
       let to = l.line_at a.procedure otherwise in
@@ -179,7 +183,7 @@ module _ (program : LineProgram) (l : Located) (Fact : (number line register : �
       let one : length (C ++ ins ∷ []) ≡ length C + 1 = length-append C (ins ∷ []) in
       let s = scratched_past (scratched_both p) ins r.machine.arena.words_small (λ i. where_is c ra rb x y 12 i p.registers' r.words false p.first_is p.second_is is) in
       let g = jumped program l Fact first good false a line otherwise rs callers z 12 m (C ++ ins ∷ []) (at + 1) st r keeps' s (omega (arith, one)) (λ e. absurd (cc e))
-        (subst (λ k. Stands l r.words (l.line_at a.procedure line) k) same stands) in
+      (subst (λ k. Stands l r.words (l.line_at a.procedure line) k) same stands) in
       (length (C ++ ins ∷ []) + 2, omega (arith, one), g)
 
   pub branch_follows :
@@ -192,7 +196,7 @@ module _ (program : LineProgram) (l : Located) (Fact : (number line register : �
       light = weighs program l Fact first good a line rs callers z (Branch t otherwise) e
 
       goes : (x y : Option ℕ) → register t.first rs ≡ x → register t.second rs ≡ y
-        → next program (running a line rs callers z) ≡ branch (both x y (compares t.comparison)) a (line + 1) otherwise rs callers (charged 12 z)
+          → next program (running a line rs callers z) ≡ branch (both x y (compares t.comparison)) a (line + 1) otherwise rs callers (charged 12 z)
       goes x y hx hy =
           at_line program l Fact first good a line rs callers z (Branch t otherwise) e
           ∙ ap (λ o. branch (both o (register t.second rs) (compares t.comparison)) a (line + 1) otherwise rs callers (charged 12 z)) hx
@@ -215,10 +219,10 @@ module _ (program : LineProgram) (l : Located) (Fact : (number line register : �
           let ready : Ready m.state.registers = record { long = r.1.machine.long; zero_is = r.1.machine.zero_is } in
           let f = frame_is program l Fact first good a (l.line_at a.procedure line) (l.records a.procedure line) callers z m r.0.0 (point_of program l Fact first good a line rs callers z m r.1) in
           let two = both_read r.1.words m.state.registers way _ _ p q x y r.1.machine.arena.words_small ready f
-            (good.sources a.procedure line t.first fa) (good.sources a.procedure line t.second fb) (r.1.there t.first p x fa hx) (r.1.there t.second q y fb hy) in
+          (good.sources a.procedure line t.first fa) (good.sources a.procedure line t.second fb) (r.1.there t.first p x fa hx) (r.1.there t.second q y fb hy) in
           let b = branched (l.near a.procedure line) (compares t.comparison x y) a line otherwise t.comparison rs callers z m (tested_code l a.procedure line t.first t.second) (read_in 5 p) (read_in 6 q) x y r.0 r.1 two refl
-            g.0.keeps g.1 (good.laid a.procedure line (Branch t otherwise) e).reaches
-            (r.1.machine.code.lines a.procedure line (Branch t otherwise) e) (next_line program l Fact first good a.procedure line (Branch t otherwise) e refl) in
+          g.0.keeps g.1 (good.laid a.procedure line (Branch t otherwise) e).reaches
+          (r.1.machine.code.lines a.procedure line (Branch t otherwise) e) (next_line program l Fact first good a.procedure line (Branch t otherwise) e refl) in
           let few = b.1 in
           follows program l Fact first good a line (if compares t.comparison x y then line + 1 else otherwise) rs rs callers z 12 m b.0 r.0
           (goes (Some x) (Some y) hx hy ∙ chosen (compares t.comparison x y)) b.2

@@ -1,6 +1,6 @@
 -- Code that gives a word to a register, and brings it from there to its place.
-use Rattle.std.proofs.Common.{inl, inr, ◌≡◌, ◌≢◌, ℕ, zero, suc, ◌+◌, ◌-◌, ◌*◌, ◌^◌, ◌<◌, ◌≤◌, Bool, true, false, List, [], ◌∷◌, ◌++◌, length, refl, sym, ap, subst, ◌∙◌, arith, Some, None, append-nil, append_assoc}
-use Rattle.std.specs.Prelude.{◌⊎◌, Option, slice_index}
+use Rattle.std.proofs.Common.{inl, inr, ◌≡◌, ◌≢◌, ℕ, ◌+◌, ◌^◌, ◌<◌, true, List, [], ◌∷◌, ◌++◌, length, sym, ap, subst, ◌∙◌, arith, append-nil}
+use Rattle.std.specs.Prelude.{◌⊎◌, slice_index}
 use Rattle.rv_encode.specs.declared.instruction.Instr.{Instr}
 use Rattle.rv_machine.specs.Step.{execute, gives}
 use Rattle.rv_machine.specs.Run.{Moment}
@@ -16,11 +16,10 @@ use Rattle.back_places.specs.Operands.{given_in, keep_code}
 use Rattle.back_places.specs.Facts.{IsPlace, Apart, IsSomewhere}
 use Rattle.back_places.specs.Good.{IsGood}
 use Rattle.back_places.specs.Relation.{Stands, Point}
-use Rattle.back_stepping.specs.Moments.{state_at, AreSmall, Sets, Ready, Prepared, Frame}
+use Rattle.back_stepping.specs.Moments.{state_at, AreSmall, Sets, Ready, Prepared}
 use Rattle.back_stepping.specs.Arriving.{Given, Arrives}
 use Rattle.back_stepping.proofs.Coming.{sets_on}
 use Rattle.back_stepping.proofs.Operands.{prepared_one, BothRead, no_scratch}
-use Rattle.back_stepping.proofs.Going.{After}
 use Rattle.back_stepping.proofs.Giving.{SetsOne, given_in_register, given_in_slot}
 use Rattle.back_stepping.proofs.Moving.{frame_is}
 
@@ -76,23 +75,25 @@ given_is frame (AsConstant c) ok some = absurd some
 
 module _ (program : LineProgram) (l : Located) (Fact : (number line register : ℕ) → Place → Type 0) (first : List Block)
     (good : IsGood program l Fact) where
-
   sets_target :
       (a : Activation) (z : MidState) (words registers : List ℕ) (code : List Instr) (to w : ℕ) (target : Place) → 4 < to
       → ((q : ℕ) → IsPlace (frame_of program a.procedure).words (InRegister q) → Apart (InRegister q) target → q ≢ to) → AreSmall registers
       → (c : Gave words registers code to w) → (s : SetsOne program l Fact first good a z words code registers target) × (slice_index s.registers' to ≡ w)
-  sets_target a z words registers code to w target past apart small c =
-      (record {
-        registers' = c.registers';
-        sets = c.sets;
-        after_is = record {
-          ready = c.ready; small = c.bounded small;
-          stack = c.others 2 (inl (omega arith)) (λ e. omega (arith, past, e));
-          heap = c.others 3 (inl (omega arith)) (λ e. omega (arith, past, e));
-        };
-        link = c.others 1 (inl (omega arith)) (λ e. omega (arith, past, e));
-        others = λ q ok d. c.others q (inr ok.0) (apart q ok d);
-      }, c.holds)
+  sets_target a z words registers code to w target past apart small c = (
+    record {
+      registers' = c.registers';
+      sets = c.sets;
+      after_is = record {
+        ready = c.ready;
+        small = c.bounded small;
+        stack = c.others 2 (inl (omega arith)) (λ e. omega (arith, past, e));
+        heap = c.others 3 (inl (omega arith)) (λ e. omega (arith, past, e));
+      };
+      link = c.others 1 (inl (omega arith)) (λ e. omega (arith, past, e));
+      others = λ q ok d. c.others q (inr ok.0) (apart q ok d);
+    },
+    c.holds,
+  )
 
   -- the word comes to its place, and the machine stands at a line
   pub kept :

@@ -1,10 +1,8 @@
 -- The laws of the kinds of lines.
-use Rattle.std.proofs.Common.{◌≡◌, ◌≤◌, ℕ, Bool, true, Some, arith}
+use Rattle.std.proofs.Common.{arith}
 use Rattle.mid_lines.specs.LineMeaning.{running}
-use Rattle.mid_code.specs.declared.operation.Operation.{Operation}
 use Rattle.mid_code.specs.declared.operation.Operation.TheVariants as operation
-use Rattle.mid_lines.specs.declared.line.Line.{Line}
-use Rattle.mid_lines.specs.declared.line.Line.TheVariants.{Do, Branch, Switch, Jump, Lay, Landed, GiveBack, Lend, GiveBackLent, Return, Cut, Halt, Unhandled}
+use Rattle.mid_lines.specs.declared.line.Line.TheVariants.{Do, Branch, Switch, Jump, Landed, GiveBack, GiveBackLent, Return, Halt, Unhandled}
 use Rattle.back_places.specs.StepLaw.{Known, LawOfLine}
 use Rattle.back_emission.specs.Kinds.{IsComputation, IsChoice, IsEnd, IsCall, IsAccess, IsGivenBack, IsPut, IsLanding}
 use Rattle.back_emission.proofs.Jumps.{jump_follows, branch_follows, switch_follows}

@@ -1,13 +1,12 @@
 -- The stack pointer goes up: blocks are given back, and what is lent and private beside the others is as before.
-use Rattle.std.proofs.Common.{inl, inr, ◌≡◌, ◌≢◌, ℕ, zero, suc, ◌+◌, ◌-◌, ◌*◌, ◌/◌, ◌%◌, ◌^◌, ◌<◌, ◌≤◌, Bool, true, false, List, [], ◌∷◌, ◌++◌, length, refl, sym, ap, subst, ◌∙◌, arith, Some, None, eqb-true}
-use Rattle.std.specs.Prelude.{◌⊎◌, ◌||◌, ◌&&◌, Option, slice_index, if◌then◌else◌, ◌==◌}
+use Rattle.std.proofs.Common.{◌≡◌, ℕ, ◌+◌, ◌-◌, ◌*◌, ◌%◌, ◌^◌, ◌<◌, ◌≤◌, Bool, true, false, List, [], ◌∷◌, ◌++◌, length, refl, sym, ap, subst, ◌∙◌, arith, eqb-true}
+use Rattle.std.specs.Prelude.{◌||◌, ◌&&◌, slice_index, if◌then◌else◌, ◌==◌}
 use Rattle.base.specs.Arithmetic.{sum32}
-use Rattle.rv_encode.specs.declared.instruction.Instr.{Instr}
 use Rattle.rv_encode.specs.declared.instruction.Instr.TheVariants.{Addi, Add}
 use Rattle.rv_machine.specs.Arithmetic.{sign_extended}
 use Rattle.rv_machine.specs.Step.{gives}
 use Rattle.rv_machine.specs.Run.{Moment}
-use Rattle.mid_code.specs.Arena.{Arena, Block, words_of, stack_from, is_lent, is_within, is_in_record, lent_from, begin_of, is_record, with_blocks}
+use Rattle.mid_code.specs.Arena.{Arena, Block, words_of, is_lent, is_within, is_in_record, lent_from, begin_of, is_record, with_blocks}
 use Rattle.mid_code.specs.State.{MidState, with_arena}
 use Rattle.mid_lines.specs.declared.line.LineProgram.{LineProgram}
 use Rattle.back_places.specs.declared.place.Place.{Place}
@@ -15,7 +14,7 @@ use Rattle.back_places.specs.Places.{Located}
 use Rattle.back_places.specs.Operands.{low_part, is_short, constant_code}
 use Rattle.back_places.specs.Blocks.{stack_code, raise_code}
 use Rattle.back_places.specs.Relation.{Machine}
-use Rattle.back_stepping.specs.Moments.{state_at, Beside, moment, AreSmall, Ready, Prepared}
+use Rattle.back_stepping.specs.Moments.{state_at, AreSmall, Ready, Prepared}
 use Rattle.back_stepping.proofs.Parts.{short_is}
 use Rattle.back_stepping.proofs.Operands.{prepared_one, prepared_none, prepared_on, constant_prepared}
 
@@ -36,7 +35,7 @@ stack_prepared words registers word sp' small ready fits is = by (is_short word)
         let one = constant_prepared words registers 7 word small ready (omega arith) (omega arith) fits in
         let sp : slice_index one.registers' 2 ≡ slice_index registers 2 = one.others 2 (λ h. omega (arith, h)) (λ h. omega (arith, h)) in
         let v : sum32 (slice_index one.registers' 2) (slice_index one.registers' 7) ≡ sp' =
-          ap (λ x. sum32 x (slice_index one.registers' 7)) sp ∙ ap (λ x. sum32 (slice_index registers 2) x) one.holds ∙ is in
+        ap (λ x. sum32 x (slice_index one.registers' 7)) sp ∙ ap (λ x. sum32 (slice_index registers 2) x) one.holds ∙ is in
         prepared_on one (λ q ne n7. n7)
         (prepared_one words one.registers' (Add 2 2 7) 2 sp' small one.ready (omega arith) (omega arith) below (λ i. ap (λ x. gives 2 x (state_at i one.registers' words)) v))
 
@@ -80,7 +79,6 @@ fewer_words [] bs = omega arith
 fewer_words (b ∷ before) bs = let h = fewer_words before bs in omega (arith, h)
 
 module _ (program : LineProgram) (l : Located) (Fact : (number line register : ℕ) → Place → Type 0) (first : List Block) where
-
   -- the machine of an arena with fewer blocks, whose stack pointer is where they begin
   pub machine_left :
       (z : MidState) (words : List ℕ) (m m' : Moment) (before bs : List Block) → z.arena.blocks ≡ before ++ bs → Machine program l Fact first z words m
@@ -97,8 +95,12 @@ module _ (program : LineProgram) (l : Located) (Fact : (number line register : �
         code = r.code;
         apart = record { laid_below = r.apart.laid_below; arguments_below = r.apart.arguments_below; heap_above = r.apart.heap_above };
         form = record {
-          small = r.form.small; fits = omega (arith, fewer, same, r.form.fits); heap = r.form.heap; grown = r.form.grown;
-          below = omega (arith, fewer, same, r.form.fits, r.form.below); laid = r.form.laid;
+          small = r.form.small;
+          fits = omega (arith, fewer, same, r.form.fits);
+          heap = r.form.heap;
+          grown = r.form.grown;
+          below = omega (arith, fewer, same, r.form.fits, r.form.below);
+          laid = r.form.laid;
         };
         long = ready.long;
         zero_is = ready.zero_is;
@@ -109,4 +111,3 @@ module _ (program : LineProgram) (l : Located) (Fact : (number line register : �
         input = input ∙ r.input;
         input_small = r.input_small;
       }
-

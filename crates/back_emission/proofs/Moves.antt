@@ -1,6 +1,6 @@
 -- The steps of moves, constants and computations.
-use Rattle.std.proofs.Common.{inl, inr, ◌≡◌, ◌≢◌, ℕ, zero, suc, ◌+◌, ◌*◌, ◌^◌, ◌<◌, ◌≤◌, Bool, true, false, ◌&&◌, List, [], ◌∷◌, ◌++◌, length, refl, sym, ap, subst, ◌∙◌, arith, Some, None, append_assoc, length-append}
-use Rattle.std.specs.Prelude.{Option, slice_index, slice_set, nat_lt}
+use Rattle.std.proofs.Common.{◌≡◌, ℕ, ◌+◌, ◌^◌, ◌<◌, true, List, [], ◌∷◌, ◌++◌, length, refl, sym, ap, subst, ◌∙◌, arith, Some, None, append_assoc}
+use Rattle.std.specs.Prelude.{Option, slice_index, slice_set}
 use Rattle.std.proofs.lemmas.Bool.Decides.{nat_tests}
 use Rattle.rv_encode.specs.declared.instruction.Instr.{Instr}
 use Rattle.rv_machine.specs.Step.{gives}
@@ -13,7 +13,7 @@ use Rattle.mid_code.specs.Checked.{is_register, is_constant}
 use Rattle.mid_code.specs.State.{Registers, MidState, charged, register, with_some, with_register, gives as gives_word}
 use Rattle.mid_code.specs.Meaning.{exec_step}
 use Rattle.mid_code.specs.Words.{computed}
-use Rattle.mid_lines.proofs.Conjunctions.{front_true, back_true}
+use Rattle.mid_lines.proofs.Conjunctions.{back_true}
 use Rattle.mid_lines.specs.declared.line.Line.TheVariants.{Do}
 use Rattle.mid_lines.specs.declared.line.LineProgram.{LineProgram}
 use Rattle.mid_lines.specs.Lines.{line_of}
@@ -29,7 +29,7 @@ use Rattle.back_places.specs.Facts.{IsPlace, IsSomewhere}
 use Rattle.back_places.specs.Good.{IsGood}
 use Rattle.back_places.specs.Relation.{Stands, IsAt, base_of, Point, Relates}
 use Rattle.back_places.specs.StepLaw.{Follows}
-use Rattle.back_places.proofs.LinesInForm.{LineIs, line_is, line_in_form}
+use Rattle.back_places.proofs.LinesInForm.{line_is, line_in_form}
 use Rattle.back_stepping.specs.Moments.{state_at, Ready}
 use Rattle.back_stepping.specs.Arriving.{Given, Arrives}
 use Rattle.back_stepping.proofs.Operands.{read, both_read}
@@ -43,7 +43,6 @@ use Rattle.back_emission.proofs.Steps.{nothing, follows, at_line, weighs, next_l
 
 module _ (program : LineProgram) (l : Located) (Fact : (number line register : ℕ) → Place → Type 0) (first : List Block)
     (checked : is_checked_line_program program ≡ true) (good : IsGood program l Fact) where
-
   pub move_follows :
       (a : Activation) (line to from : ℕ) (rs : Registers) (callers : List Caller) (z : MidState) (m : Moment)
       → line_of program a.procedure line ≡ Some (Do (Move to from))
@@ -121,9 +120,9 @@ module _ (program : LineProgram) (l : Located) (Fact : (number line register : �
       let is = given_is _ target ok somewhere in
       let ins = arithmetic_of o to (read_in 5 p) (read_in 6 q) in
       let c = gave_of_two r.words m.state.registers (read_code way 5 p ++ read_code way 6 q) ins to (read_in 5 p) (read_in 6 q) x y (computed o x y) ws (omega (arith, is.0)) is.1 small both
-        (λ i. arithmetic_same o to (read_in 5 p) (read_in 6 q) (state_at i both.registers' r.words)
-        ∙ ap (λ k. gives to (computed o k (slice_index both.registers' (read_in 6 q))) (state_at i both.registers' r.words)) both.first_is
-        ∙ ap (λ k. gives to (computed o x k) (state_at i both.registers' r.words)) both.second_is) in
+      (λ i. arithmetic_same o to (read_in 5 p) (read_in 6 q) (state_at i both.registers' r.words)
+      ∙ ap (λ k. gives to (computed o k (slice_index both.registers' (read_in 6 q))) (state_at i both.registers' r.words)) both.first_is
+      ∙ ap (λ k. gives to (computed o x k) (state_at i both.registers' r.words)) both.second_is) in
       let same = append_assoc (read_code way 5 p ++ read_code way 6 q) (ins ∷ []) (keep_code way target) ∙ append_assoc (read_code way 5 p) (read_code way 6 q) (ins ∷ keep_code way target) in
       subst (λ k. Given program l Fact first a line' rs' callers (charged cost z) m (length k)) same
       (kept program l Fact first good a at known line' (computed o x y) target rs' callers z cost m ((read_code way 5 p ++ read_code way 6 q) ++ ins ∷ []) st r ok somewhere small c
@@ -155,8 +154,8 @@ module _ (program : LineProgram) (l : Located) (Fact : (number line register : �
       let to = given_in target in
       let is = given_is _ target ok somewhere in
       let c = gave_of_one r.words m.state.registers (read_code way 5 p) ins 5 to (read_in 5 p) x (computed o x y) ws (omega (arith, is.0)) is.1 small (omega arith) (omega arith) one
-        (λ i. immediate_same o to (read_in 5 p) y ins (state_at i one.registers' r.words) fits h
-        ∙ ap (λ k. gives to (computed o k y) (state_at i one.registers' r.words)) one.holds) in
+      (λ i. immediate_same o to (read_in 5 p) y ins (state_at i one.registers' r.words) fits h
+      ∙ ap (λ k. gives to (computed o k y) (state_at i one.registers' r.words)) one.holds) in
       let same = append_assoc (read_code way 5 p) (ins ∷ []) (keep_code way target) in
       subst (λ k. Given program l Fact first a line' rs' callers (charged cost z) m (length k)) same
       (kept program l Fact first good a at known line' (computed o x y) target rs' callers z cost m (read_code way 5 p ++ ins ∷ []) st r ok somewhere small c
@@ -189,13 +188,13 @@ module _ (program : LineProgram) (l : Located) (Fact : (number line register : �
   compute_follows a line to ra rb o rs callers z m e r = by (register ra rs) (register rb rs) refl refl
     where
       goes : (x : Option ℕ) → register ra rs ≡ x
-        → next program (running a line rs callers z) ≡ proceed program a (line + 1) callers (with_some x (λ u. with_register rb (λ v. gives_word to (computed o u v))) rs (charged 10 z))
+          → next program (running a line rs callers z) ≡ proceed program a (line + 1) callers (with_some x (λ u. with_register rb (λ v. gives_word to (computed o u v))) rs (charged 10 z))
       goes x hx =
           at_line program l Fact first good a line rs callers z (Do (Compute to o ra rb)) e
           ∙ ap (λ u. proceed program a (line + 1) callers (with_some u (λ u. with_register rb (λ v. gives_word to (computed o u v))) rs (charged 10 z))) hx
 
       second : (x : ℕ) (y : Option ℕ) → register ra rs ≡ Some x → register rb rs ≡ y
-        → next program (running a line rs callers z) ≡ proceed program a (line + 1) callers (with_some y (λ v. gives_word to (computed o x v)) rs (charged 10 z))
+          → next program (running a line rs callers z) ≡ proceed program a (line + 1) callers (with_some y (λ v. gives_word to (computed o x v)) rs (charged 10 z))
       second x y hx hy = goes (Some x) hx ∙ ap (λ w. proceed program a (line + 1) callers (with_some w (λ v. gives_word to (computed o x v)) rs (charged 10 z))) hy
 
       by : (x y : Option ℕ) → register ra rs ≡ x → register rb rs ≡ y → Follows program l Fact first (running a line rs callers z) m

@@ -1,6 +1,6 @@
 -- A block is laid: the words of the memory are as they were, those of the block are none in the arena, and the stack begins lower.
-use Rattle.std.proofs.Common.{inl, inr, ◌≡◌, ◌≢◌, ℕ, zero, suc, ◌+◌, ◌-◌, ◌*◌, ◌/◌, ◌%◌, ◌^◌, ◌<◌, ◌≤◌, Bool, true, false, ◌&&◌, List, [], ◌∷◌, length, refl, sym, ap, subst, ◌∙◌, arith, Some, None}
-use Rattle.std.specs.Prelude.{◌⊎◌, ◌||◌, Option, slice_index, slice_get, ◌==◌, nat_le, nat_lt}
+use Rattle.std.proofs.Common.{inl, inr, ◌≡◌, ℕ, zero, suc, ◌+◌, ◌-◌, ◌*◌, ◌/◌, ◌%◌, ◌<◌, ◌≤◌, Bool, true, false, ◌&&◌, List, [], ◌∷◌, length, refl, sym, ap, subst, ◌∙◌, arith, Some}
+use Rattle.std.specs.Prelude.{◌⊎◌, ◌||◌, Option, slice_index, slice_get, ◌==◌, nat_le}
 use Rattle.std.proofs.lemmas.Bool.Decides.{nat_tests}
 use Rattle.rv_machine.specs.Run.{Moment}
 use Rattle.mid_code.specs.Arena.{Arena, Block, words_of, stack_from, begin_of, lent_from, left, is_record, is_lent, is_within, is_in_record, emptied, with_new_block}
@@ -9,7 +9,7 @@ use Rattle.mid_lines.proofs.Conjunctions.{front_true, back_true}
 use Rattle.mid_lines.specs.declared.line.LineProgram.{LineProgram}
 use Rattle.back_places.specs.declared.place.Place.{Place}
 use Rattle.back_places.specs.Places.{Located}
-use Rattle.back_places.specs.Relation.{InForm, Machine}
+use Rattle.back_places.specs.Relation.{Machine}
 use Rattle.back_stepping.specs.Moments.{AreSmall, Ready}
 
 pub length_emptied : (i n : ℕ) (ws : List (Option ℕ)) → length (emptied i n ws) ≡ length ws
@@ -41,7 +41,7 @@ either_true false b h = inr h
 
 either_from : (a b : Bool) → (a ≡ true) ⊎ (b ≡ true) → (a || b) ≡ true
 either_from true b h = refl
-either_from false b h = elim h [ | inl k ↦ absurd (cc k) | inr k ↦ k ]
+either_from false b h = elim h [ inl k ↦ absurd (cc k) | inr k ↦ k ]
 
 both_from : (a b : Bool) → a ≡ true → b ≡ true → (a && b) ≡ true
 both_from true b h k = k
@@ -60,27 +60,26 @@ lent_by_new a b i h = by (emptied (begin_of (length a.memory) (b ∷ a.blocks) /
     old t k e = both_from (4 * i % 4 == 0) _ e (either_from flat (is_in_record (length a.memory) a.blocks (4 * i)) (inr k))
 
     by : (memory : List (Option ℕ)) → length memory ≡ length a.memory
-      → ((4 * i % 4 == 0) && (flat || is_in_record (length memory) (b ∷ a.blocks) (4 * i))) ≡ true
-      → (is_lent a (4 * i) ≡ true) ⊎ ((length a.memory - words_of (b ∷ a.blocks) ≤ i) × (4 * i < begin_of (length a.memory) a.blocks))
+        → ((4 * i % 4 == 0) && (flat || is_in_record (length memory) (b ∷ a.blocks) (4 * i))) ≡ true
+        → (is_lent a (4 * i) ≡ true) ⊎ ((length a.memory - words_of (b ∷ a.blocks) ≤ i) × (4 * i < begin_of (length a.memory) a.blocks))
     by memory same k =
         let aligned = front_true (4 * i % 4 == 0) _ k in
         let rest = back_true (4 * i % 4 == 0) _ k in
         elim (either_true flat (is_in_record (length memory) (b ∷ a.blocks) (4 * i)) rest) [
           | inl j ↦ inl (both_from (4 * i % 4 == 0) _ aligned (either_from flat (is_in_record (length a.memory) a.blocks (4 * i)) (inl j)))
           | inr j ↦
-            let there = subst (λ size. is_in_record size (b ∷ a.blocks) (4 * i) ≡ true) same j in
-            elim (either_true (is_record b.kind && is_within (lent_from (length a.memory) (b ∷ a.blocks)) (begin_of (length a.memory) a.blocks) (4 * i)) (is_in_record (length a.memory) a.blocks (4 * i)) there) [
-              | inl u ↦
-                let w = back_true (is_record b.kind) _ u in
-                let from : lent_from (length a.memory) (b ∷ a.blocks) ≤ 4 * i = grind (arith, nat_tests, front_true (nat_le (lent_from (length a.memory) (b ∷ a.blocks)) (4 * i)) _ w) in
-                let to : 4 * i < begin_of (length a.memory) a.blocks = grind (arith, nat_tests, back_true (nat_le (lent_from (length a.memory) (b ∷ a.blocks)) (4 * i)) _ w) in
-                inr (omega (arith, from), to)
-              | inr u ↦ inl (old true u aligned)
-            ]
+              let there = subst (λ size. is_in_record size (b ∷ a.blocks) (4 * i) ≡ true) same j in
+              elim (either_true (is_record b.kind && is_within (lent_from (length a.memory) (b ∷ a.blocks)) (begin_of (length a.memory) a.blocks) (4 * i)) (is_in_record (length a.memory) a.blocks (4 * i)) there) [
+                | inl u ↦
+                    let w = back_true (is_record b.kind) _ u in
+                    let from : lent_from (length a.memory) (b ∷ a.blocks) ≤ 4 * i = grind (arith, nat_tests, front_true (nat_le (lent_from (length a.memory) (b ∷ a.blocks)) (4 * i)) _ w) in
+                    let to : 4 * i < begin_of (length a.memory) a.blocks = grind (arith, nat_tests, back_true (nat_le (lent_from (length a.memory) (b ∷ a.blocks)) (4 * i)) _ w) in
+                    inr (omega (arith, from), to)
+                | inr u ↦ inl (old true u aligned)
+              ]
         ]
 
 module _ (program : LineProgram) (l : Located) (Fact : (number line register : ℕ) → Place → Type 0) (first : List Block) where
-
   -- a block of so many words that are left is laid; the stack pointer is where it begins
   pub block_laid :
       (z : MidState) (words : List ℕ) (b : Block) (m m' : Moment) → Machine program l Fact first z words m → b.words ≤ left z.arena

@@ -1,6 +1,6 @@
 -- Arguments are passed: each comes into its register, or into its word of the image.
-use Rattle.std.proofs.Common.{inl, inr, ◌≡◌, ◌≢◌, ℕ, zero, suc, ◌+◌, ◌-◌, ◌*◌, ◌/◌, ◌%◌, ◌^◌, ◌<◌, ◌≤◌, Bool, true, false, ◌&&◌, List, [], ◌∷◌, ◌++◌, length, refl, sym, ap, subst, ◌∙◌, arith, Some, None, eqb-true, eq-eqb, length-append, append_assoc}
-use Rattle.std.specs.Prelude.{◌⊎◌, Option, not, slice_index, slice_set, if◌then◌else◌, ◌==◌, nat_lt}
+use Rattle.std.proofs.Common.{inl, inr, ◌≡◌, ◌≢◌, ℕ, zero, suc, ◌+◌, ◌*◌, ◌^◌, ◌<◌, ◌≤◌, Bool, true, false, List, [], ◌∷◌, ◌++◌, length, refl, sym, ap, subst, ◌∙◌, arith, eq-eqb, length-append}
+use Rattle.std.specs.Prelude.{◌⊎◌, not, slice_index, slice_set, if◌then◌else◌, ◌==◌, nat_lt}
 use Rattle.std.proofs.lemmas.Bool.Decides.{nat_tests}
 use Rattle.std.proofs.lemmas.List.{get_or-set_same, get_or-set_other, length-set}
 use Rattle.base.specs.Arithmetic.{sum32}
@@ -9,20 +9,20 @@ use Rattle.rv_encode.specs.declared.instruction.Instr.TheVariants.{Lui, Lw, Sw}
 use Rattle.rv_machine.specs.Memory.{bytes_of, number_at, stored_at}
 use Rattle.rv_machine.specs.Words.{word_read, word_stored}
 use Rattle.rv_machine.specs.Arithmetic.{sign_extended}
-use Rattle.rv_machine.specs.Step.{next, execute, gives, load, store}
+use Rattle.rv_machine.specs.Step.{next, execute, load, store}
 use Rattle.mid_lines.proofs.Conjunctions.{front_true, back_true}
 use Rattle.back_places.specs.declared.place.Place.{Place}
 use Rattle.back_places.specs.declared.place.Place.TheVariants.{InRegister, InSlot, AsConstant}
 use Rattle.back_places.specs.Places.{Located, Way, from_stack, past_lent, no_way, reachable, argument_register, value_registers}
 use Rattle.back_places.specs.Operands.{high_part, low_part, at_word, load_into, read_in, read_code}
-use Rattle.back_places.specs.Passing.{is_other, are_others, are_in_order, argument_word_code, argument_code, arguments_code, stored_code, fetched_code, pass_code}
+use Rattle.back_places.specs.Passing.{is_other, are_others, are_in_order, argument_word_code, arguments_code, stored_code, fetched_code, pass_code}
 use Rattle.back_places.specs.Facts.{IsPlace}
-use Rattle.back_places.specs.Relation.{HasCode, Stands, IsAt, argument_in, ArePassed}
+use Rattle.back_places.specs.Relation.{Stands, IsAt, ArePassed}
 use Rattle.back_places.specs.StepLaw.{Comes}
-use Rattle.back_stepping.specs.Moments.{state_at, Beside, later, moment, AreSmall, Sets, Ready, Prepared, LeadsTo, Frame}
+use Rattle.back_stepping.specs.Moments.{state_at, Beside, later, moment, AreSmall, Ready, Prepared, LeadsTo, Frame}
 use Rattle.back_stepping.proofs.Coming.{has_front, has_back, next_place, and_on, one_step, step_at, sets_none, sets_on}
 use Rattle.back_stepping.proofs.Parts.{parts_sum}
-use Rattle.back_stepping.proofs.Operands.{set_small, prepared_one, read, loaded, frame_still}
+use Rattle.back_stepping.proofs.Operands.{set_small, prepared_one, read, loaded}
 use Rattle.back_stepping.proofs.Private.{has_code_kept}
 use Rattle.back_stepping.proofs.Moving.{read_not_seven}
 
@@ -92,9 +92,15 @@ pub record Does (l : Located) (i : ℕ) (words registers : List ℕ) (code : Lis
 
 abbrev pub does_none : (l : Located) (i : ℕ) (words registers : List ℕ) → AreSmall words → Ready registers → AreSmall registers → Does l i words registers []
 does_none l i words registers small ready bounded = record {
-  registers' = registers; words' = words;
+  registers' = registers;
+  words' = words;
   by = λ at o stands room. (sets_none words registers).by at o tt room;
-  ready = ready; bounded = bounded; small = small; long = refl; kept = λ j h. refl; others = λ q n5 n7 h. refl;
+  ready = ready;
+  bounded = bounded;
+  small = small;
+  long = refl;
+  kept = λ j h. refl;
+  others = λ q n5 n7 h. refl;
 }
 
 -- code that sets one register: a scratch register, or that of an argument
@@ -102,10 +108,15 @@ abbrev pub does_set :
     (l : Located) (i : ℕ) (words registers : List ℕ) (code : List Instr) (to w s : ℕ) → AreSmall words → AreSmall registers
     → (s ≡ 5) ⊎ ((i < 14) × (s ≡ argument_register i)) → Prepared words registers code to w s → Does l i words registers code
 does_set l i words registers code to w s small bounded is p = record {
-  registers' = p.registers'; words' = words;
+  registers' = p.registers';
+  words' = words;
   by = λ at o stands room. p.sets.by at o stands.has room;
-  ready = p.ready; bounded = p.bounded bounded; small = small; long = refl; kept = λ j h. refl;
-  others = λ q n5 n7 h. p.others q (λ e. elim is [ | inl k ↦ n5 (e ∙ k) | inr k ↦ h i (omega arith) k.0 (e ∙ k.1) ]) n7;
+  ready = p.ready;
+  bounded = p.bounded bounded;
+  small = small;
+  long = refl;
+  kept = λ j h. refl;
+  others = λ q n5 n7 h. p.others q (λ e. elim is [ inl k ↦ n5 (e ∙ k) | inr k ↦ h i (omega arith) k.0 (e ∙ k.1) ]) n7;
 }
 
 -- one after the other, from a number on that is no lower
@@ -115,7 +126,8 @@ abbrev pub does_on :
 does_on l i j words registers a b apart le f g =
     let len : length (a ++ b) ≡ length a + length b = length-append a b in
     record {
-      registers' = g.registers'; words' = g.words';
+      registers' = g.registers';
+      words' = g.words';
       by = λ at o stands room.
           let first_stands : Stands l words at a = record { from = stands.from; to = omega (arith, stands.to, len); has = has_front words at a b stands.has } in
           let back = has_back words at a b stands.has in
@@ -132,8 +144,11 @@ does_on l i j words registers a b apart le f g =
           (subst (λ k. Comes (length a + length b) (moment (state_at at registers words) o) (moment (state_at k g.registers' g.words') (later (length (a ++ b)) o))) e
           (subst (λ k. Comes (length a + length b) (moment (state_at at registers words) o) (moment (state_at (at + length a + length b) g.registers' g.words') (record o { executed = k }))) x
           (and_on one two)));
-      ready = g.ready; bounded = g.bounded; small = g.small; long = g.long ∙ f.long;
-      kept = λ k h. g.kept k (elim h [ | inl u ↦ inl (omega (arith, u, le)) | inr u ↦ inr u ]) ∙ f.kept k h;
+      ready = g.ready;
+      bounded = g.bounded;
+      small = g.small;
+      long = g.long ∙ f.long;
+      kept = λ k h. g.kept k (elim h [ inl u ↦ inl (omega (arith, u, le)) | inr u ↦ inr u ]) ∙ f.kept k h;
       others = λ q n5 n7 h. g.others q n5 n7 (λ k low high. h k (omega (arith, low, le)) high) ∙ f.others q n5 n7 h;
     }
 
@@ -142,7 +157,7 @@ stores_word :
     (l : Located) (i r w : ℕ) (words registers : List ℕ) → AreSmall words → Ready registers → AreSmall registers → slice_index registers r ≡ w → r ≢ 7 → w < 2 ^ 32
     → i < l.argument_words → l.arguments_at + l.argument_words ≤ length words → length words ≤ 2 ^ 24
     → (d : Does l i words registers (at_word (l.arguments_at + i) (Sw r))) × (d.words' ≡ slice_set words (l.arguments_at + i) w)
-      × ((q : ℕ) → q ≢ 7 → slice_index d.registers' q ≡ slice_index registers q)
+    × ((q : ℕ) → q ≢ 7 → slice_index d.registers' q ≡ slice_index registers q)
 stores_word l i r w words registers small ready bounded is seven fits within inside low =
     let k = l.arguments_at + i in
     let hi = high_part (4 * k) in
@@ -151,28 +166,35 @@ stores_word l i r w words registers small ready bounded is seven fits within ins
     let parts = parts_sum (4 * k) (omega (arith, within, inside, low)) in
     let address : sum32 (slice_index one.registers' 7) (sign_extended 12 lo) ≡ 4 * k = ap (λ x. sum32 x (sign_extended 12 lo)) one.holds ∙ parts in
     let value : slice_index one.registers' r ≡ w = one.others r seven seven ∙ is in
-    let words1 = slice_set words k w in
-    (record {
-      registers' = one.registers'; words' = words1;
-      by = λ at o stands room.
-          let here = state_at (at + 1) one.registers' words in
-          let p : sum32 (4 * (at + 1)) 4 ≡ 4 * (at + 1 + 1) = next_place (at + 1) (omega (arith, room)) in
-          let stored : execute (Sw r 7 lo) here ≡ next (state_at (at + 1 + 1) one.registers' words1) =
+    let words1 = slice_set words k w in (
+      record {
+        registers' = one.registers';
+        words' = words1;
+        by = λ at o stands room.
+            let here = state_at (at + 1) one.registers' words in
+            let p : sum32 (4 * (at + 1)) 4 ≡ 4 * (at + 1 + 1) = next_place (at + 1) (omega (arith, room)) in
+            let stored : execute (Sw r 7 lo) here ≡ next (state_at (at + 1 + 1) one.registers' words1) =
             ap (λ y. store (stored_at 4 y (slice_index one.registers' r) (bytes_of words)) here) address
             ∙ ap (λ y. store (stored_at 4 (4 * k) y (bytes_of words)) here) value
             ∙ ap (λ y. store y here) (word_stored words k w (omega (arith, within, inside)))
             ∙ ap (λ y. next (record { pc = y; registers = one.registers'; memory = bytes_of words1 })) p in
-          let first_step = one.sets.by at o (has_front words at (Lui 7 hi ∷ []) (Sw r 7 lo ∷ []) stands.has) (omega (arith, room)) in
-          let second = one_step here (state_at (at + 1 + 1) one.registers' words1) (later 1 o) (step_at (at + 1) one.registers' words (Sw r 7 lo) [] stands.has.3 (small (at + 1)) ∙ stored) in
-          let e : at + 1 + 1 ≡ at + 2 = omega arith in
-          let x : o.executed + 1 + 1 ≡ o.executed + 2 = omega arith in
-          subst (λ n. Comes 2 (moment (state_at at registers words) o) (moment (state_at n one.registers' words1) (later 2 o))) e
-          (subst (λ n. Comes 2 (moment (state_at at registers words) o) (moment (state_at (at + 1 + 1) one.registers' words1) (record o { executed = n }))) x
-          (and_on first_step second));
-      ready = one.ready; bounded = one.bounded bounded; small = λ j. set_small words k w j small fits; long = length-set words k w;
-      kept = λ j h. get_or-set_other words k j w 0 (λ e. elim h [ | inl u ↦ omega (arith, u, e) | inr u ↦ omega (arith, u, e, within) ]);
-      others = λ q n5 n7 h. one.others q n7 n7;
-    }, refl, λ q n7. one.others q n7 n7)
+            let first_step = one.sets.by at o (has_front words at (Lui 7 hi ∷ []) (Sw r 7 lo ∷ []) stands.has) (omega (arith, room)) in
+            let second = one_step here (state_at (at + 1 + 1) one.registers' words1) (later 1 o) (step_at (at + 1) one.registers' words (Sw r 7 lo) [] stands.has.3 (small (at + 1)) ∙ stored) in
+            let e : at + 1 + 1 ≡ at + 2 = omega arith in
+            let x : o.executed + 1 + 1 ≡ o.executed + 2 = omega arith in
+            subst (λ n. Comes 2 (moment (state_at at registers words) o) (moment (state_at n one.registers' words1) (later 2 o))) e
+            (subst (λ n. Comes 2 (moment (state_at at registers words) o) (moment (state_at (at + 1 + 1) one.registers' words1) (record o { executed = n }))) x
+            (and_on first_step second));
+        ready = one.ready;
+        bounded = one.bounded bounded;
+        small = λ j. set_small words k w j small fits;
+        long = length-set words k w;
+        kept = λ j h. get_or-set_other words k j w 0 (λ e. elim h [ inl u ↦ omega (arith, u, e) | inr u ↦ omega (arith, u, e, within) ]);
+        others = λ q n5 n7 h. one.others q n7 n7;
+      },
+      refl,
+      λ q n7. one.others q n7 n7,
+    )
 
 -- what is in the frame, or in no scratch register, is where it was
 still_at :
@@ -188,7 +210,9 @@ frame_passed :
     → ((j : ℕ) → end ≤ j → slice_index words' j ≡ slice_index words j) → length words' ≡ length words
     → Frame registers words way base frame → Frame registers' words' way base frame
 frame_passed registers registers' words words' way base frame end e above kept long f = record {
-  leads = leads way f.leads; inside = omega (arith, f.inside, long); memory_small = omega (arith, f.memory_small, long);
+  leads = leads way f.leads;
+  inside = omega (arith, f.inside, long);
+  memory_small = omega (arith, f.memory_small, long);
 }
   where
     leads : (way : Way) → LeadsTo registers words way base → LeadsTo registers' words' way base
@@ -213,12 +237,16 @@ after_one :
     → (d : Does l i words registers code) → Before l d.words' d.registers' way base frame
 after_one l i words registers way base frame code b d =
     let sp : slice_index d.registers' 2 ≡ slice_index registers 2 =
-      d.others 2 (λ e. omega (arith, e)) (λ e. omega (arith, e)) (λ j from to e. let is = is_value_register j to in omega (arith, is.0, e)) in
+    d.others 2 (λ e. omega (arith, e)) (λ e. omega (arith, e)) (λ j from to e. let is = is_value_register j to in omega (arith, is.0, e)) in
     record {
-      small = d.small; ready = d.ready; bounded = d.bounded;
+      small = d.small;
+      ready = d.ready;
+      bounded = d.bounded;
       frame_is = frame_passed registers d.registers' words d.words' way base frame (l.arguments_at + l.argument_words) sp b.stack (λ j h. d.kept j (inr h)) d.long b.frame_is;
       stack = omega (arith, b.stack, sp);
-      above = b.above; inside = omega (arith, b.inside, d.long); apart = b.apart;
+      above = b.above;
+      inside = omega (arith, b.inside, d.long);
+      apart = b.apart;
     }
 
 -- the word of an argument into its word of the image
@@ -226,7 +254,7 @@ word_passes :
     (l : Located) (i w : ℕ) (p : Place) (words registers : List ℕ) (way : Way) (base frame : ℕ) → Before l words registers way base frame → i < l.argument_words
     → IsPlace (reachable way frame) p → IsAt registers words base p w → w < 2 ^ 32
     → (d : Does l i words registers (argument_word_code l.arguments_at way i p)) × (slice_index d.words' (l.arguments_at + i) ≡ w)
-      × ((q : ℕ) → q ≢ 5 → q ≢ 7 → slice_index d.registers' q ≡ slice_index registers q)
+    × ((q : ℕ) → q ≢ 5 → q ≢ 7 → slice_index d.registers' q ≡ slice_index registers q)
 word_passes l i w p words registers way base frame b within ok is_at fits =
     let one = read words registers way base frame 5 p w b.small b.ready b.frame_is ok (omega arith) (omega arith) is_at in
     let f = does_set l i words registers (read_code way 5 p) (read_in 5 p) w 5 b.small b.bounded (inl refl) one in
@@ -234,14 +262,15 @@ word_passes l i w p words registers way base frame b within ok is_at fits =
     passed_on f s.0 (omega (arith, within, b.inside)) s.1 (λ q n5 n7. s.2 q n7 ∙ one.others q n5 n7)
   where
     passed_on : (f : Does l i words registers (read_code way 5 p)) → (g : Does l i f.words' f.registers' (at_word (l.arguments_at + i) (Sw (read_in 5 p))))
-      → l.arguments_at + i < length f.words' → g.words' ≡ slice_set f.words' (l.arguments_at + i) w
-      → ((q : ℕ) → q ≢ 5 → q ≢ 7 → slice_index g.registers' q ≡ slice_index registers q)
-      → (d : Does l i words registers (argument_word_code l.arguments_at way i p)) × (slice_index d.words' (l.arguments_at + i) ≡ w)
+        → l.arguments_at + i < length f.words' → g.words' ≡ slice_set f.words' (l.arguments_at + i) w
+        → ((q : ℕ) → q ≢ 5 → q ≢ 7 → slice_index g.registers' q ≡ slice_index registers q)
+        → (d : Does l i words registers (argument_word_code l.arguments_at way i p)) × (slice_index d.words' (l.arguments_at + i) ≡ w)
         × ((q : ℕ) → q ≢ 5 → q ≢ 7 → slice_index d.registers' q ≡ slice_index registers q)
-    passed_on f g inside e others =
-        (does_on l i i words registers (read_code way 5 p) (at_word (l.arguments_at + i) (Sw (read_in 5 p))) b.apart (omega arith) f g,
-        ap (λ ws. slice_index ws (l.arguments_at + i)) e ∙ get_or-set_same f.words' (l.arguments_at + i) w 0 inside,
-        others)
+    passed_on f g inside e others = (
+      does_on l i i words registers (read_code way 5 p) (at_word (l.arguments_at + i) (Sw (read_in 5 p))) b.apart (omega arith) f g,
+      ap (λ ws. slice_index ws (l.arguments_at + i)) e ∙ get_or-set_same f.words' (l.arguments_at + i) w 0 inside,
+      others,
+    )
 
 -- places are where they were after an argument came into its register, and after one came into its word
 other_than : (q r : ℕ) → not (q == r) ≡ true → q ≢ r
@@ -292,7 +321,6 @@ at_still_low registers registers' words base reach (p ∷ ps) (w ∷ ws) others 
     one (AsConstant c) ok at = at
 
 module _ (l : Located) (way : Way) (base frame : ℕ) where
-
   -- in order, each right into its place
   pub passes_in_order :
       (i : ℕ) (ps : List Place) (ws words registers : List ℕ) → Before l words registers way base frame → AreAt registers words base (reachable way frame) ps ws
@@ -309,9 +337,9 @@ module _ (l : Located) (way : Way) (base frame : ℕ) where
       others_first = front_true (are_others (argument_register i) ps) (are_in_order (i + 1) ps) order
 
       by : ((words' registers' : List ℕ) → Before l words' registers' way base frame → AreAt registers' words' base (reachable way frame) ps ws
-        → (d : Does l (i + 1) words' registers' (arguments_code l.arguments_at way (i + 1) ps)) × ArePassed l d.registers' d.words' (i + 1) ws)
-        → (t : Bool) → nat_lt i 14 ≡ t
-        → (d : Does l i words registers ((if t then load_into way (argument_register i) p else argument_word_code l.arguments_at way i p) ++ arguments_code l.arguments_at way (i + 1) ps))
+          → (d : Does l (i + 1) words' registers' (arguments_code l.arguments_at way (i + 1) ps)) × ArePassed l d.registers' d.words' (i + 1) ws)
+          → (t : Bool) → nat_lt i 14 ≡ t
+          → (d : Does l i words registers ((if t then load_into way (argument_register i) p else argument_word_code l.arguments_at way i p) ++ arguments_code l.arguments_at way (i + 1) ps))
           × (((if t then slice_index d.registers' (argument_register i) else slice_index d.words' (l.arguments_at + i)) ≡ w) × ArePassed l d.registers' d.words' (i + 1) ws)
       by deeper true e =
           let within : i < 14 = grind (arith, nat_tests, e) in
@@ -319,19 +347,21 @@ module _ (l : Located) (way : Way) (base frame : ℕ) where
           let one = loaded words registers way base frame (argument_register i) p w b.small b.ready at.2 b.frame_is at.0 (omega (arith, is.0)) is.1 (λ k. omega (arith, is.0, k)) at.1 in
           let f = does_set l i words registers (load_into way (argument_register i) p) (argument_register i) w (argument_register i) b.small b.bounded (inr (within, refl)) one in
           let rest = deeper words one.registers' (after_one l i words registers way base frame _ b f)
-            (at_still_register registers one.registers' words base (reachable way frame) (argument_register i) ps ws others_first one.others at.3) in
-          let g = rest.0 in
-          (does_on l i (i + 1) words registers (load_into way (argument_register i) p) (arguments_code l.arguments_at way (i + 1) ps) b.apart (omega arith) f g,
-          (g.others (argument_register i) (λ k. omega (arith, is.0, k)) (λ k. omega (arith, is.0, k)) (λ j from to. others_apart i j within to (λ k. omega (arith, from, k))) ∙ one.holds, rest.1))
+          (at_still_register registers one.registers' words base (reachable way frame) (argument_register i) ps ws others_first one.others at.3) in
+          let g = rest.0 in (
+            does_on l i (i + 1) words registers (load_into way (argument_register i) p) (arguments_code l.arguments_at way (i + 1) ps) b.apart (omega arith) f g,
+            (g.others (argument_register i) (λ k. omega (arith, is.0, k)) (λ k. omega (arith, is.0, k)) (λ j from to. others_apart i j within to (λ k. omega (arith, from, k))) ∙ one.holds, rest.1),
+          )
       by deeper false e =
           let within : i < l.argument_words = omega (arith, few) in
           let one = word_passes l i w p words registers way base frame b within at.0 at.1 at.2 in
           let f = one.0 in
           let rest = deeper f.words' f.registers' (after_one l i words registers way base frame _ b f)
-            (at_still_word registers f.registers' words f.words' base (reachable way frame) (l.arguments_at + l.argument_words) ps ws b.above one.2 (λ j h. f.kept j (inr h)) at.3) in
-          let g = rest.0 in
-          (does_on l i (i + 1) words registers (argument_word_code l.arguments_at way i p) (arguments_code l.arguments_at way (i + 1) ps) b.apart (omega arith) f g,
-          (g.kept (l.arguments_at + i) (inl (omega arith)) ∙ one.1, rest.1))
+          (at_still_word registers f.registers' words f.words' base (reachable way frame) (l.arguments_at + l.argument_words) ps ws b.above one.2 (λ j h. f.kept j (inr h)) at.3) in
+          let g = rest.0 in (
+            does_on l i (i + 1) words registers (argument_word_code l.arguments_at way i p) (arguments_code l.arguments_at way (i + 1) ps) b.apart (omega arith) f g,
+            (g.kept (l.arguments_at + i) (inl (omega arith)) ∙ one.1, rest.1),
+          )
 
   -- all into words of the image
   abbrev AreStored : (words : List ℕ) (i : ℕ) → List ℕ → Type 0
@@ -349,10 +379,11 @@ module _ (l : Located) (way : Way) (base frame : ℕ) where
       let one = word_passes l i w p words registers way base frame b (omega (arith, few)) at.0 at.1 at.2 in
       let f = one.0 in
       let rest = stores_all (i + 1) ps ws f.words' f.registers' (after_one l i words registers way base frame _ b f)
-        (at_still_word registers f.registers' words f.words' base (reachable way frame) (l.arguments_at + l.argument_words) ps ws b.above one.2 (λ j h. f.kept j (inr h)) at.3) (omega (arith, few)) in
-      let g = rest.0 in
-      (does_on l i (i + 1) words registers (argument_word_code l.arguments_at way i p) (stored_code l.arguments_at way (i + 1) ps) b.apart (omega arith) f g,
-      (g.kept (l.arguments_at + i) (inl (omega arith)) ∙ one.1, rest.1))
+      (at_still_word registers f.registers' words f.words' base (reachable way frame) (l.arguments_at + l.argument_words) ps ws b.above one.2 (λ j h. f.kept j (inr h)) at.3) (omega (arith, few)) in
+      let g = rest.0 in (
+        does_on l i (i + 1) words registers (argument_word_code l.arguments_at way i p) (stored_code l.arguments_at way (i + 1) ps) b.apart (omega arith) f g,
+        (g.kept (l.arguments_at + i) (inl (omega arith)) ∙ one.1, rest.1),
+      )
 
   -- a word of the image into the register of an argument
   word_fetched :
@@ -368,8 +399,8 @@ module _ (l : Located) (way : Way) (base frame : ℕ) where
       let parts = parts_sum (4 * k) (omega (arith, inside, b.frame_is.memory_small)) in
       let address : sum32 (slice_index one.registers' 7) (sign_extended 12 lo) ≡ 4 * k = ap (λ x. sum32 x (sign_extended 12 lo)) one.holds ∙ parts in
       let two = prepared_one words one.registers' (Lw (argument_register i) 7 lo) (argument_register i) (slice_index words k) b.small one.ready (omega (arith, is.0)) is.1 (b.small k)
-        (λ n. ap (λ x. load (argument_register i) (number_at 4 x (bytes_of words)) (state_at n one.registers' words)) address
-        ∙ ap (λ x. load (argument_register i) x (state_at n one.registers' words)) (word_read words k inside (b.small k))) in
+      (λ n. ap (λ x. load (argument_register i) (number_at 4 x (bytes_of words)) (state_at n one.registers' words)) address
+      ∙ ap (λ x. load (argument_register i) x (state_at n one.registers' words)) (word_read words k inside (b.small k))) in
       record {
         registers' = two.registers';
         sets = sets_on one.sets two.sets;
@@ -390,9 +421,9 @@ module _ (l : Located) (way : Way) (base frame : ℕ) where
       by (λ registers' b'. fetches count (i + 1) ws words registers' b' at.1 (omega (arith, e)) (omega (arith, few))) (nat_lt i 14) refl
     where
       by : ((registers' : List ℕ) → Before l words registers' way base frame
-        → (d : Does l (i + 1) words registers' (fetched_code l.arguments_at (i + 1) count)) × (d.words' ≡ words) × ArePassed l d.registers' words (i + 1) ws)
-        → (t : Bool) → nat_lt i 14 ≡ t
-        → (d : Does l i words registers ((if t then at_word (l.arguments_at + i) (Lw (argument_register i)) else []) ++ fetched_code l.arguments_at (i + 1) count))
+          → (d : Does l (i + 1) words registers' (fetched_code l.arguments_at (i + 1) count)) × (d.words' ≡ words) × ArePassed l d.registers' words (i + 1) ws)
+          → (t : Bool) → nat_lt i 14 ≡ t
+          → (d : Does l i words registers ((if t then at_word (l.arguments_at + i) (Lw (argument_register i)) else []) ++ fetched_code l.arguments_at (i + 1) count))
           × (d.words' ≡ words) × (((if t then slice_index d.registers' (argument_register i) else slice_index words (l.arguments_at + i)) ≡ w) × ArePassed l d.registers' words (i + 1) ws)
       by deeper true h =
           let within : i < 14 = grind (arith, nat_tests, h) in
@@ -401,9 +432,11 @@ module _ (l : Located) (way : Way) (base frame : ℕ) where
           let code = at_word (l.arguments_at + i) (Lw (argument_register i)) in
           let f = does_set l i words registers code (argument_register i) w (argument_register i) b.small b.bounded (inr (within, refl)) one in
           let rest = deeper one.registers' (after_one l i words registers way base frame _ b f) in
-          let g = rest.0 in
-          (does_on l i (i + 1) words registers code (fetched_code l.arguments_at (i + 1) count) b.apart (omega arith) f g, rest.1,
-          (g.others (argument_register i) (λ k. omega (arith, is.0, k)) (λ k. omega (arith, is.0, k)) (λ j from to. others_apart i j within to (λ k. omega (arith, from, k))) ∙ one.holds, rest.2))
+          let g = rest.0 in (
+            does_on l i (i + 1) words registers code (fetched_code l.arguments_at (i + 1) count) b.apart (omega arith) f g,
+            rest.1,
+            (g.others (argument_register i) (λ k. omega (arith, is.0, k)) (λ k. omega (arith, is.0, k)) (λ j from to. others_apart i j within to (λ k. omega (arith, from, k))) ∙ one.holds, rest.2),
+          )
       by deeper false h =
           let f = does_none l i words registers b.small b.ready b.bounded in
           let rest = deeper registers b in
@@ -420,12 +453,13 @@ module _ (l : Located) (way : Way) (base frame : ℕ) where
           (s : Does l 0 words registers (stored_code l.arguments_at way 0 ps)) → (g : Does l 0 s.words' s.registers' (fetched_code l.arguments_at 0 (length ps)))
           → g.words' ≡ s.words' → ArePassed l g.registers' s.words' 0 ws
           → (d : Does l 0 words registers (stored_code l.arguments_at way 0 ps ++ fetched_code l.arguments_at 0 (length ps))) × ArePassed l d.registers' d.words' 0 ws
-      through s g e h =
-          (does_on l 0 0 words registers (stored_code l.arguments_at way 0 ps) (fetched_code l.arguments_at 0 (length ps)) b.apart (omega arith) s g,
-          subst (λ k. ArePassed l g.registers' k 0 ws) (sym e) h)
+      through s g e h = (
+        does_on l 0 0 words registers (stored_code l.arguments_at way 0 ps) (fetched_code l.arguments_at 0 (length ps)) b.apart (omega arith) s g,
+        subst (λ k. ArePassed l g.registers' k 0 ws) (sym e) h,
+      )
 
       by : (t : Bool) → are_in_order 0 ps ≡ t
-        → (d : Does l 0 words registers (if t then arguments_code l.arguments_at way 0 ps else stored_code l.arguments_at way 0 ps ++ fetched_code l.arguments_at 0 (length ps)))
+          → (d : Does l 0 words registers (if t then arguments_code l.arguments_at way 0 ps else stored_code l.arguments_at way 0 ps ++ fetched_code l.arguments_at 0 (length ps)))
           × ArePassed l d.registers' d.words' 0 ws
       by true e = passes_in_order 0 ps ws words registers b at e (omega (arith, few))
       by false e =

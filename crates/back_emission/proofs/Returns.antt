@@ -1,37 +1,35 @@
 -- The steps of returns, and of records that are given back.
-use Rattle.std.proofs.Common.{inl, inr, ◌≡◌, ◌≢◌, ℕ, zero, suc, ◌+◌, ◌-◌, ◌*◌, ◌^◌, ◌<◌, ◌≤◌, Bool, true, false, List, [], ◌∷◌, ◌++◌, length, refl, sym, ap, subst, ◌∙◌, arith, Some, None, length-append, append_assoc}
-use Rattle.std.specs.Prelude.{◌⊎◌, Option, slice_index, slice_set, slice_get}
+use Rattle.std.proofs.Common.{inl, inr, ◌≡◌, ℕ, ◌+◌, ◌-◌, ◌*◌, ◌^◌, ◌<◌, ◌≤◌, Bool, true, false, List, [], ◌∷◌, ◌++◌, length, refl, sym, ap, subst, ◌∙◌, arith, Some, None, length-append}
+use Rattle.std.specs.Prelude.{◌⊎◌, Option, slice_index, slice_set}
 use Rattle.base.specs.Arithmetic.{sum32}
-use Rattle.rv_encode.specs.declared.instruction.Instr.{Instr}
-use Rattle.rv_encode.specs.declared.instruction.Instr.TheVariants.{Addi, Jalr, Lw, Ecall}
+use Rattle.rv_encode.specs.declared.instruction.Instr.TheVariants.{Addi, Jalr, Lw}
 use Rattle.rv_machine.specs.Memory.{bytes_of}
 use Rattle.rv_machine.specs.Arithmetic.{sign_extended, even}
-use Rattle.rv_machine.specs.Step.{next as goes_to, execute, gives}
+use Rattle.rv_machine.specs.Step.{next as goes_to, gives}
 use Rattle.rv_machine.specs.Run.{Moment}
 use Rattle.mid_code.specs.declared.operation.Operation.TheVariants.{Call}
-use Rattle.mid_code.specs.Arena.{Arena, Block, words_of, stack_from, with_blocks}
+use Rattle.mid_code.specs.Arena.{Block, words_of, with_blocks}
 use Rattle.mid_code.specs.State.{Registers, MidState, charged, register, with_arena, with_some, ends, returns}
 use Rattle.mid_code.specs.Meaning.{exec_step}
-use Rattle.mid_lines.specs.declared.line.Line.{Line}
 use Rattle.mid_lines.specs.declared.line.Line.TheVariants.{Do, Return}
 use Rattle.mid_lines.specs.declared.line.LineProgram.{LineProgram}
 use Rattle.mid_lines.specs.Lines.{line_of}
-use Rattle.mid_lines.specs.LineMeaning.{Standing, Activation, Caller, Stage, running, next, proceed, return_to, state_of}
-use Rattle.mid_lines.specs.StackLaw.{record_block, frame_of, blocks_of, StandsOn, CallersStandOn, StageStands}
+use Rattle.mid_lines.specs.LineMeaning.{Standing, Activation, Caller, running, next, proceed, return_to, state_of}
+use Rattle.mid_lines.specs.StackLaw.{record_block, frame_of, blocks_of, StandsOn, CallersStandOn}
 use Rattle.back_places.specs.declared.place.Place.{Place}
 use Rattle.back_places.specs.declared.place.Place.TheVariants.{InRegister, InSlot, AsConstant}
-use Rattle.back_places.specs.Places.{StaticRecord, Located, Way, from_stack, past_lent, no_way, way_of, way_at, depth_in, is_from_stack, reachable}
-use Rattle.back_places.specs.Operands.{load_into, move_code, at_slot}
-use Rattle.back_places.specs.Blocks.{raise_code, end_code}
+use Rattle.back_places.specs.Places.{Located, Way, from_stack, past_lent, no_way, way_at, depth_in, is_from_stack}
+use Rattle.back_places.specs.Operands.{load_into, move_code}
+use Rattle.back_places.specs.Blocks.{raise_code}
 use Rattle.back_places.specs.LineCode.{link_code, before_return_code}
-use Rattle.back_places.specs.Facts.{IsPlace, Outlasts, GoodCall}
-use Rattle.back_places.specs.Good.{IsGood, reach_at}
-use Rattle.back_places.specs.Relation.{HasCode, Stands, IsAt, base_of, Machine, Point, Runs, Waits, CallersWait, Calls, Relates}
-use Rattle.back_places.specs.StepLaw.{Comes, Follows, weight, line_weight}
-use Rattle.back_stepping.specs.Moments.{state_at, Beside, later, moment, beside, AreSmall, Sets, Ready, Prepared, LeadsTo, Frame}
+use Rattle.back_places.specs.Facts.{Outlasts}
+use Rattle.back_places.specs.Good.{IsGood}
+use Rattle.back_places.specs.Relation.{IsAt, base_of, Machine, Point, Runs, Waits, CallersWait, Relates}
+use Rattle.back_places.specs.StepLaw.{Comes, Follows, weight}
+use Rattle.back_stepping.specs.Moments.{state_at, later, moment, beside, AreSmall, Sets, Ready, Prepared, Frame}
 use Rattle.back_stepping.specs.Arriving.{Given}
-use Rattle.back_stepping.proofs.Coming.{sets_on, and_one, and_on, has_back}
-use Rattle.back_stepping.proofs.Operands.{prepared_none, prepared_one, slot_prepared, loaded, frame_still, set_small}
+use Rattle.back_stepping.proofs.Coming.{sets_on, and_one, and_on}
+use Rattle.back_stepping.proofs.Operands.{prepared_none, prepared_one, slot_prepared, loaded, frame_still}
 use Rattle.back_stepping.proofs.Jumps.{jumped_to}
 use Rattle.back_stepping.proofs.Private.{outer_words}
 use Rattle.back_stepping.proofs.Lengths.{load_length, slot_length, raise_length, move_from_register}
@@ -55,7 +53,6 @@ outlasting registers registers' words base (AsConstant c) w o h = h
 
 module _ (program : LineProgram) (l : Located) (Fact : (number line register : ℕ) → Place → Type 0) (first : List Block)
     (good : IsGood program l Fact) where
-
   -- what holds of the machine when an activation has ended: its blocks are those of the callers, and the program counter is at the link
   pub record HasLeft (a : Activation) (z : MidState) (w link : ℕ) (words : List ℕ) (m : Moment) : Type 0 where
     pub machine : Machine program l Fact first (with_arena (with_blocks a.outer z.arena) z) words m
@@ -87,9 +84,9 @@ module _ (program : LineProgram) (l : Located) (Fact : (number line register : �
   by_link a line rs callers z m r keeps (from_stack depth) known false e registers ready f same = elim keeps [
     | inl t ↦ absurd (cc (t, e))
     | inr t ↦
-      let zero_is : base_of program (length z.arena.memory) a + 0 ≡ base_of program (length z.arena.memory) a = omega arith in
-      subst (λ x. Prepared r.words registers (link_code (from_stack depth) false) 1 x 1) (ap (λ i. slice_index r.words i) zero_is ∙ r.links.saved t)
-      (slot_prepared r.words registers (from_stack depth) _ _ 1 0 r.machine.arena.words_small ready f (good.frames a.procedure t) (omega arith) (omega arith))
+        let zero_is : base_of program (length z.arena.memory) a + 0 ≡ base_of program (length z.arena.memory) a = omega arith in
+        subst (λ x. Prepared r.words registers (link_code (from_stack depth) false) 1 x 1) (ap (λ i. slice_index r.words i) zero_is ∙ r.links.saved t)
+        (slot_prepared r.words registers (from_stack depth) _ _ 1 0 r.machine.arena.words_small ready f (good.frames a.procedure t) (omega arith) (omega arith))
   ]
 
   -- the stack pointer behind the frame
@@ -160,13 +157,16 @@ module _ (program : LineProgram) (l : Located) (Fact : (number line register : �
       let o = later 1 (later (length code) (beside m)) in
       let reaches : even (sum32 (slice_index s.registers' 1) (sign_extended 12 0)) ≡ 4 * k = jumped_to (slice_index s.registers' 1) k (omega (arith, low_link)) (s.link_there ∙ link_is) in
       let comes = and_one m at words s.registers' code [] (Jalr 0 1 0) there r.machine.arena.words_small r.pc r.machine.memory s.sets stands.has (omega (arith, stands.to, good.low, long))
-        (ap (λ x. goes_to (record { pc = x; registers = s.registers'; memory = bytes_of words })) reaches) in
-      let out = outside_blocks program a a.standing in
-      (moment there o, comes, record {
-        machine = machine_left program l Fact first z words m (moment there o) out.0 a.outer (st.all ∙ out.1) r.machine (sym r.machine.memory) s.ready s.small s.stack s.heap refl refl;
-        pc = sym link_is;
-        word = s.word;
-      })
+      (ap (λ x. goes_to (record { pc = x; registers = s.registers'; memory = bytes_of words })) reaches) in
+      let out = outside_blocks program a a.standing in (
+        moment there o,
+        comes,
+        record {
+          machine = machine_left program l Fact first z words m (moment there o) out.0 a.outer (st.all ∙ out.1) r.machine (sym r.machine.memory) s.ready s.small s.stack s.heap refl refl;
+          pc = sym link_is;
+          word = s.word;
+        },
+      )
 
   -- the caller goes on: the word comes to its place, behind the call
   returned :
@@ -175,7 +175,7 @@ module _ (program : LineProgram) (l : Located) (Fact : (number line register : �
       → (x : Waits program l Fact first words (length z.arena.memory) c link)
       → CallersWait program l Fact first words (length z.arena.memory) callers (slice_index words (base_of program (length z.arena.memory) c.activation))
       → Given program l Fact first c.activation c.line (slice_set c.registers c.result (Some w)) callers
-        (charged cost (with_arena (with_blocks a.outer z.arena) z)) m (length (move_code (way_at l c.activation.procedure x.at) (InRegister 12) (l.target c.activation.procedure x.at)))
+      (charged cost (with_arena (with_blocks a.outer z.arena) z)) m (length (move_code (way_at l c.activation.procedure x.at) (InRegister 12) (l.target c.activation.procedure x.at)))
   returned a c callers z w cost link words m st left x waiting =
       let number = c.activation.procedure in
       let size = length z.arena.memory in

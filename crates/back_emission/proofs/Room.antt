@@ -1,14 +1,13 @@
 -- The code that lays a block: where there is room the stack pointer goes down, and else the run ends with the words that were asked for and
 -- those that were left.
-use Rattle.std.proofs.Common.{inl, inr, ◌≡◌, ◌≢◌, ℕ, zero, suc, ◌+◌, ◌-◌, ◌*◌, ◌/◌, ◌%◌, ◌^◌, ◌<◌, ◌≤◌, Bool, true, false, List, [], ◌∷◌, ◌++◌, length, refl, sym, ap, subst, ◌∙◌, arith, Some, None, length-append, append_assoc, eqb-true, eq-eqb}
-use Rattle.std.specs.Prelude.{◌⊎◌, Option, not, slice_index, slice_set, if◌then◌else◌, ◌==◌, nat_lt}
+use Rattle.std.proofs.Common.{◌≡◌, ◌≢◌, ℕ, ◌+◌, ◌-◌, ◌*◌, ◌/◌, ◌%◌, ◌^◌, ◌<◌, ◌≤◌, Bool, true, false, List, [], ◌∷◌, ◌++◌, length, refl, sym, ap, subst, ◌∙◌, arith, length-append, append_assoc, eqb-true, eq-eqb}
+use Rattle.std.specs.Prelude.{not, slice_index, slice_set, if◌then◌else◌, ◌==◌, nat_lt}
 use Rattle.std.proofs.lemmas.Bool.Decides.{nat_tests}
-use Rattle.std.proofs.lemmas.List.{get_or-set_same, get_or-set_other, length-set}
+use Rattle.std.proofs.lemmas.List.{get_or-set_other, length-set}
 use Rattle.base.specs.Arithmetic.{sum32, difference32, shift_left, shift_right, less_signed}
 use Rattle.rv_encode.specs.declared.instruction.Instr.{Instr}
-use Rattle.rv_encode.specs.declared.instruction.Instr.TheVariants.{Lui, Bge, Addi, Add, Sub, Slli, Srli, Ecall}
+use Rattle.rv_encode.specs.declared.instruction.Instr.TheVariants.{Lui, Bge, Addi, Add, Sub, Slli, Srli}
 use Rattle.rv_machine.specs.Memory.{bytes_of}
-use Rattle.rv_machine.specs.Arithmetic.{sign_extended}
 use Rattle.rv_machine.specs.Step.{next, execute, gives, branch}
 use Rattle.rv_machine.specs.Run.{Moment}
 use Rattle.mid_code.specs.Arena.{Block}
@@ -19,12 +18,11 @@ use Rattle.back_places.specs.Places.{Located}
 use Rattle.back_places.specs.Operands.{high_part, low_part}
 use Rattle.back_places.specs.Selection.{far_offset, far_jump_code}
 use Rattle.back_places.specs.Blocks.{stack_code, room_test_code, room_code, full_code}
-use Rattle.back_places.specs.Good.{IsGood}
-use Rattle.back_places.specs.Relation.{HasCode, Stands, HasArena}
+use Rattle.back_places.specs.Relation.{HasCode, Stands}
 use Rattle.back_places.specs.StepLaw.{Comes}
 use Rattle.back_stepping.specs.Moments.{state_at, Beside, later, moment, beside, AreSmall, Sets, Ready, Prepared}
 use Rattle.back_stepping.proofs.Coming.{stays, same_moment, and_on, and_one, sets_on, has_front, has_back}
-use Rattle.back_stepping.proofs.Operands.{prepared_one, parts_prepared, set_small}
+use Rattle.back_stepping.proofs.Operands.{prepared_one, parts_prepared}
 use Rattle.back_stepping.proofs.Arithmetic.{room_test}
 use Rattle.back_stepping.proofs.Lengths.{stack_length}
 use Rattle.back_emission.specs.Laying.{Asking, Lowered}
@@ -79,13 +77,13 @@ room_there m full_at at words sp hp n more a room has inside = by (n == 0) refl 
         }
       where
         executed_same : (o : Beside) → Comes 0 (moment (state_at at m.state.registers words) o) (moment (state_at at m.state.registers words) o)
-          → Comes 0 (moment (state_at at m.state.registers words) o) (moment (state_at at m.state.registers words) (later 0 o))
+            → Comes 0 (moment (state_at at m.state.registers words) o) (moment (state_at at m.state.registers words) (later 0 o))
         executed_same o c = let x : o.executed ≡ o.executed + 0 = omega arith in subst (λ k. Comes 0 (moment (state_at at m.state.registers words) o) (moment (state_at at m.state.registers words) (record o { executed = k }))) x c
 
     by : (t : Bool) → (n == 0) ≡ t
-      → HasCode words at ((if t then [] else stack_code (2 ^ 32 - 4 * n) ++ room_test_code full_at (at + length (stack_code (2 ^ 32 - 4 * n))) n) ++ more)
-      → at + length (if t then [] else stack_code (2 ^ 32 - 4 * n) ++ room_test_code full_at (at + length (stack_code (2 ^ 32 - 4 * n))) n) < 2 ^ 25
-      → Lowered m at words sp n (length (if t then [] else stack_code (2 ^ 32 - 4 * n) ++ room_test_code full_at (at + length (stack_code (2 ^ 32 - 4 * n))) n))
+        → HasCode words at ((if t then [] else stack_code (2 ^ 32 - 4 * n) ++ room_test_code full_at (at + length (stack_code (2 ^ 32 - 4 * n))) n) ++ more)
+        → at + length (if t then [] else stack_code (2 ^ 32 - 4 * n) ++ room_test_code full_at (at + length (stack_code (2 ^ 32 - 4 * n))) n) < 2 ^ 25
+        → Lowered m at words sp n (length (if t then [] else stack_code (2 ^ 32 - 4 * n) ++ room_test_code full_at (at + length (stack_code (2 ^ 32 - 4 * n))) n))
     by true e code fits = none (eqb-true n 0 e)
     by false e code fits =
         let some : 0 < n = grind (arith, nat_tests, e) in
@@ -151,11 +149,11 @@ wanting words registers sp hp n small ready h10 h2 h3 grown low few =
     let one = prepared_one words registers (Slli 5 10 2) 5 (4 * n) small ready (omega arith) (omega arith) (omega (arith, few)) (λ i. ap (λ x. gives 5 x (state_at i registers words)) v5) in
     let r2 : slice_index one.registers' 2 ≡ (sp + (2 ^ 32 - 4 * n)) % 2 ^ 32 = one.others 2 (differ 2 5 refl) (differ 2 7 refl) ∙ h2 in
     let v2 : sum32 (slice_index one.registers' 2) (slice_index one.registers' 5) ≡ sp =
-      ap (λ x. sum32 x (slice_index one.registers' 5)) r2 ∙ ap (λ x. sum32 ((sp + (2 ^ 32 - 4 * n)) % 2 ^ 32) x) one.holds ∙ up_again sp n low few in
+    ap (λ x. sum32 x (slice_index one.registers' 5)) r2 ∙ ap (λ x. sum32 ((sp + (2 ^ 32 - 4 * n)) % 2 ^ 32) x) one.holds ∙ up_again sp n low few in
     let two = prepared_one words one.registers' (Add 2 2 5) 2 sp small one.ready (omega arith) (omega arith) (omega (arith, low)) (λ i. ap (λ x. gives 2 x (state_at i one.registers' words)) v2) in
     let r3 : slice_index two.registers' 3 ≡ hp = two.others 3 (differ 3 2 refl) (differ 3 7 refl) ∙ one.others 3 (differ 3 5 refl) (differ 3 7 refl) ∙ h3 in
     let v11 : difference32 (slice_index two.registers' 2) (slice_index two.registers' 3) ≡ sp - hp =
-      ap (λ x. difference32 x (slice_index two.registers' 3)) two.holds ∙ ap (λ x. difference32 sp x) r3 ∙ words_between sp hp low grown in
+    ap (λ x. difference32 x (slice_index two.registers' 3)) two.holds ∙ ap (λ x. difference32 sp x) r3 ∙ words_between sp hp low grown in
     let three = prepared_one words two.registers' (Sub 11 2 3) 11 (sp - hp) small two.ready (omega arith) (omega arith) (left_small sp hp low) (λ i. ap (λ x. gives 11 x (state_at i two.registers' words)) v11) in
     let v4 : shift_right (slice_index three.registers' 11) 2 ≡ (sp - hp) / 4 = ap (λ x. shift_right x 2) three.holds in
     let four = prepared_one words three.registers' (Srli 11 11 2) 11 ((sp - hp) / 4) small three.ready (omega arith) (omega arith) (quarter_small sp hp low) (λ i. ap (λ x. gives 11 x (state_at i three.registers' words)) v4) in
@@ -169,7 +167,6 @@ wanting words registers sp hp n small ready h10 h2 h3 grown low few =
     }
 
 module _ (program : LineProgram) (l : Located) (Fact : (number line register : ℕ) → Place → Type 0) (first : List Block) where
-
   -- From the jump to the end for want of words on.
   at_full :
       (z : MidState) (cost : ℕ) (words : List ℕ) (m : Moment) (registers : List ℕ) (sp hp n : ℕ) → Holds program l Fact first z words m → m.state.pc ≡ 4 * l.full_at → m.state.registers ≡ registers
@@ -190,8 +187,8 @@ module _ (program : LineProgram) (l : Located) (Fact : (number line register : �
   room_gone z cost m at words sp hp n more holds a want stands full low = by (n == 0) refl stands
     where
       by : (t : Bool) → (n == 0) ≡ t
-        → Stands l words at ((if t then [] else stack_code (2 ^ 32 - 4 * n) ++ room_test_code l.full_at (at + length (stack_code (2 ^ 32 - 4 * n))) n) ++ more)
-        → (count : ℕ) × (registers' : List ℕ) × (count ≤ 13) × Called program l Fact first 4 (charged cost z) m count registers' × (slice_index registers' 10 ≡ n) × (slice_index registers' 11 ≡ (sp - hp) / 4)
+          → Stands l words at ((if t then [] else stack_code (2 ^ 32 - 4 * n) ++ room_test_code l.full_at (at + length (stack_code (2 ^ 32 - 4 * n))) n) ++ more)
+          → (count : ℕ) × (registers' : List ℕ) × (count ≤ 13) × Called program l Fact first 4 (charged cost z) m count registers' × (slice_index registers' 10 ≡ n) × (slice_index registers' 11 ≡ (sp - hp) / 4)
       by true e code = let none = eqb-true n 0 e in absurd (omega (arith, none, want, a.grown))
       by false e code =
           let some : 0 < n = grind (arith, nat_tests, e) in
@@ -220,11 +217,15 @@ module _ (program : LineProgram) (l : Located) (Fact : (number line register : �
           let m2 = moment (state_at l.full_at r7 words) o2 in
           let holds2 : Holds program l Fact first z words m2 = record { memory = refl; arena = holds.arena; printed = holds.printed; input = holds.input } in
           let over = at_full z cost words m2 r7 sp hp n holds2 refl refl full low a.small ready7
-            (get_or-set_other q.registers' 7 10 v 0 (differ 10 7 refl) ∙ q.holds)
-            (get_or-set_other q.registers' 7 2 v 0 (differ 2 7 refl) ∙ q.others 2 (differ 2 10 refl) (differ 2 7 refl) ∙ p.holds)
-            (get_or-set_other q.registers' 7 3 v 0 (differ 3 7 refl) ∙ q.others 3 (differ 3 10 refl) (differ 3 7 refl) ∙ h3)
-            a.grown a.low a.few in
-          let n3 = stack_length (2 ^ 32 - 4 * n) in
-          (length S + 1 + (4 + 5), over.0, omega (arith, n3),
-          record { moment' = over.1.moment'; comes = and_on one (and_on far over.1.comes); calls = over.1.calls; same = over.1.same },
-          over.2, over.3)
+          (get_or-set_other q.registers' 7 10 v 0 (differ 10 7 refl) ∙ q.holds)
+          (get_or-set_other q.registers' 7 2 v 0 (differ 2 7 refl) ∙ q.others 2 (differ 2 10 refl) (differ 2 7 refl) ∙ p.holds)
+          (get_or-set_other q.registers' 7 3 v 0 (differ 3 7 refl) ∙ q.others 3 (differ 3 10 refl) (differ 3 7 refl) ∙ h3)
+          a.grown a.low a.few in
+          let n3 = stack_length (2 ^ 32 - 4 * n) in (
+            length S + 1 + (4 + 5),
+            over.0,
+            omega (arith, n3),
+            record { moment' = over.1.moment'; comes = and_on one (and_on far over.1.comes); calls = over.1.calls; same = over.1.same },
+            over.2,
+            over.3,
+          )

@@ -1,6 +1,6 @@
 -- Code that changes scratch registers alone, and a jump behind it.
-use Rattle.std.proofs.Common.{inl, inr, ◌≡◌, ◌≢◌, ℕ, zero, suc, ◌+◌, ◌-◌, ◌*◌, ◌/◌, ◌%◌, ◌^◌, ◌<◌, ◌≤◌, Bool, true, false, List, [], ◌∷◌, ◌++◌, length, refl, sym, ap, subst, ◌∙◌, arith, Some, None, length-append, append_assoc}
-use Rattle.std.specs.Prelude.{◌⊎◌, Option, slice_index, slice_set}
+use Rattle.std.proofs.Common.{inl, inr, ◌≡◌, ℕ, ◌+◌, ◌*◌, ◌^◌, ◌<◌, ◌≤◌, Bool, true, false, List, [], ◌∷◌, ◌++◌, length, refl, sym, ap, subst, ◌∙◌, arith, length-append}
+use Rattle.std.specs.Prelude.{◌⊎◌, slice_index, slice_set}
 use Rattle.std.proofs.lemmas.List.{get_or-set_same, get_or-set_other, length-set}
 use Rattle.base.specs.Arithmetic.{sum32, shift_left}
 use Rattle.rv_encode.specs.declared.instruction.Instr.{Instr}
@@ -14,7 +14,7 @@ use Rattle.mid_code.specs.Arena.{Block}
 use Rattle.mid_code.specs.State.{Registers, MidState, charged}
 use Rattle.mid_lines.specs.declared.line.LineProgram.{LineProgram}
 use Rattle.mid_lines.specs.LineMeaning.{Activation, Caller, running}
-use Rattle.mid_lines.specs.StackLaw.{frame_of, StageStands}
+use Rattle.mid_lines.specs.StackLaw.{StageStands}
 use Rattle.back_places.specs.declared.place.Place.{Place}
 use Rattle.back_places.specs.declared.place.Place.TheVariants.{InRegister, InSlot, AsConstant}
 use Rattle.back_places.specs.Places.{Located}
@@ -22,7 +22,7 @@ use Rattle.back_places.specs.Operands.{high_part, low_part}
 use Rattle.back_places.specs.Selection.{jump_offset, far_offset, WithinJump, jump_code, far_jump_code}
 use Rattle.back_places.specs.Facts.{IsPlace, Keeps}
 use Rattle.back_places.specs.Good.{IsGood}
-use Rattle.back_places.specs.Relation.{HasCode, Stands, IsAt, base_of, Runs}
+use Rattle.back_places.specs.Relation.{HasCode, Stands, IsAt, Runs}
 use Rattle.back_places.specs.StepLaw.{Comes}
 use Rattle.back_stepping.specs.Moments.{state_at, Beside, later, moment, with_word_in, beside, AreSmall, Sets, Ready, Prepared}
 use Rattle.back_stepping.specs.Arriving.{Given}
@@ -77,19 +77,19 @@ table_prepared words registers s r table n small ready low high is fits inside =
     let hi = high_part (4 * table) in
     let shifted : shift_left (slice_index registers r) 2 ≡ 4 * n = ap (λ x. shift_left x 2) is ∙ omega (arith, fits) in
     let one = prepared_one words registers (Slli s r 2) s (4 * n) small ready (omega (arith, low)) (omega (arith, high)) (omega (arith, fits))
-      (λ i. ap (λ x. gives s x (state_at i registers words)) shifted) in
+    (λ i. ap (λ x. gives s x (state_at i registers words)) shifted) in
     let two = prepared_one words one.registers' (Lui 7 hi) 7 (hi * 4096) small one.ready (omega arith) (omega arith) (omega arith) (λ i. refl) in
     let at_s : slice_index two.registers' s ≡ 4 * n = two.others s (λ e. omega (arith, high, e)) (λ e. omega (arith, high, e)) ∙ one.holds in
     let sum : sum32 (slice_index two.registers' s) (slice_index two.registers' 7) ≡ sum32 (4 * n) (hi * 4096) =
-      ap (λ x. sum32 x (slice_index two.registers' 7)) at_s ∙ ap (λ x. sum32 (4 * n) x) two.holds in
+    ap (λ x. sum32 x (slice_index two.registers' 7)) at_s ∙ ap (λ x. sum32 (4 * n) x) two.holds in
     let three = prepared_one words two.registers' (Add s s 7) s (sum32 (4 * n) (hi * 4096)) small two.ready (omega (arith, low)) (omega (arith, high)) (omega arith)
-      (λ i. ap (λ x. gives s x (state_at i two.registers' words)) sum) in
+    (λ i. ap (λ x. gives s x (state_at i two.registers' words)) sum) in
     let parts = parts_sum (4 * table) (omega (arith, fits)) in
     let address : sum32 (slice_index three.registers' s) (sign_extended 12 (low_part (4 * table))) ≡ 4 * (table + n) =
-      ap (λ x. sum32 x (sign_extended 12 (low_part (4 * table)))) three.holds ∙ omega (arith, parts, fits) in
+    ap (λ x. sum32 x (sign_extended 12 (low_part (4 * table)))) three.holds ∙ omega (arith, parts, fits) in
     let four = prepared_one words three.registers' (Lw s s (low_part (4 * table))) s (slice_index words (table + n)) small three.ready (omega (arith, low)) (omega (arith, high)) (small (table + n))
-      (λ i. ap (λ x. load s (number_at 4 x (bytes_of words)) (state_at i three.registers' words)) address
-      ∙ ap (λ x. load s x (state_at i three.registers' words)) (word_read words (table + n) inside (small (table + n)))) in
+    (λ i. ap (λ x. load s (number_at 4 x (bytes_of words)) (state_at i three.registers' words)) address
+    ∙ ap (λ x. load s x (state_at i three.registers' words)) (word_read words (table + n) inside (small (table + n)))) in
     record {
       registers' = four.registers';
       sets = sets_on {r' = one.registers'} {r'' = four.registers'} one.sets (sets_on {r' = two.registers'} {r'' = four.registers'} two.sets (sets_on {r'' = four.registers'} three.sets four.sets));
@@ -105,8 +105,8 @@ pub far_jumps :
     → m.state.pc ≡ 4 * at → m.state.memory ≡ bytes_of words → Sets words code m.state.registers registers'
     → HasCode words at (code ++ far_jump_code link from to) → at + length code + 2 ≤ 2 ^ 24 → to < 2 ^ 24 → from ≡ at + length code → Ready registers'
     → Comes (length code + 2) m
-      (moment (state_at to (with_word_in link (4 * (from + 2)) (slice_set registers' 7 (sum32 (4 * from) (high_part (far_offset from to) * 4096)))) words)
-      (later 1 (later 1 (later (length code) (beside m)))))
+    (moment (state_at to (with_word_in link (4 * (from + 2)) (slice_set registers' 7 (sum32 (4 * from) (high_part (far_offset from to) * 4096)))) words)
+    (later 1 (later 1 (later (length code) (beside m)))))
 far_jumps m at words registers' code from to link small pc memory sets has low low_to place ready =
     let off = far_offset from to in
     let upper = Auipc 7 (high_part off) in
@@ -116,25 +116,24 @@ far_jumps m at words registers' code from to link small pc memory sets has low l
     let here = at + length code in
     let one_more : sum32 (4 * here) 4 ≡ 4 * (here + 1) = next_place here (omega (arith, low)) in
     let first_does : execute upper (state_at here registers' words) ≡ next (state_at (here + 1) set7 words) =
-      ap (λ x. next (record { pc = sum32 (4 * here) 4; registers = slice_set registers' 7 (sum32 (4 * x) (high_part off * 4096)); memory = bytes_of words })) (sym place)
-      ∙ ap (λ x. next (record { pc = x; registers = set7; memory = bytes_of words })) one_more in
+    ap (λ x. next (record { pc = sum32 (4 * here) 4; registers = slice_set registers' 7 (sum32 (4 * x) (high_part off * 4096)); memory = bytes_of words })) (sym place)
+    ∙ ap (λ x. next (record { pc = x; registers = set7; memory = bytes_of words })) one_more in
     let first_part = and_one m at words registers' code (lower ∷ []) upper (state_at (here + 1) set7 words) small pc memory sets has (omega (arith, low)) first_does in
     let in7 : slice_index set7 7 ≡ v = get_or-set_same registers' 7 v 0 (omega (arith, ready.long)) in
     let reaches : even (sum32 (slice_index set7 7) (sign_extended 12 (low_part off))) ≡ 4 * to =
-      ap (λ x. even (sum32 x (sign_extended 12 (low_part off)))) in7 ∙ far_reaches from to (omega (arith, place, low)) low_to in
+    ap (λ x. even (sum32 x (sign_extended 12 (low_part off)))) in7 ∙ far_reaches from to (omega (arith, place, low)) low_to in
     let link_is : sum32 (4 * (here + 1)) 4 ≡ 4 * (from + 2) = omega (arith, place, low) in
     let second_does : execute lower (state_at (here + 1) set7 words) ≡ next (state_at to (with_word_in link (4 * (from + 2)) set7) words) =
-      ap (λ x. next (record { pc = x; registers = with_word_in link (sum32 (4 * (here + 1)) 4) set7; memory = bytes_of words })) reaches
-      ∙ ap (λ x. next (record { pc = 4 * to; registers = with_word_in link x set7; memory = bytes_of words })) link_is in
+    ap (λ x. next (record { pc = x; registers = with_word_in link (sum32 (4 * (here + 1)) 4) set7; memory = bytes_of words })) reaches
+    ∙ ap (λ x. next (record { pc = 4 * to; registers = with_word_in link x set7; memory = bytes_of words })) link_is in
     let there = has_back words at code (upper ∷ lower ∷ []) has in
     let second = one_step (state_at (here + 1) set7 words) (state_at to (with_word_in link (4 * (from + 2)) set7) words) (later 1 (later (length code) (beside m)))
-      (step_at (here + 1) set7 words lower [] there.3 (small (here + 1)) ∙ second_does) in
+    (step_at (here + 1) set7 words lower [] there.3 (small (here + 1)) ∙ second_does) in
     let count : length code + 1 + 1 ≡ length code + 2 = omega arith in
     subst (λ n. Comes n m (moment (state_at to (with_word_in link (4 * (from + 2)) set7) words) (later 1 (later 1 (later (length code) (beside m)))))) count (and_on first_part second)
 
 module _ (program : LineProgram) (l : Located) (Fact : (number line register : ℕ) → Place → Type 0) (first : List Block)
     (good : IsGood program l Fact) where
-
   -- what is known at a place that is no scratch register is still there
   past :
       (registers registers' words : List ℕ) (base frame : ℕ) (p : Place) (w : ℕ) → ((q : ℕ) → (q < 5) ⊎ (7 < q) → slice_index registers' q ≡ slice_index registers q)
@@ -192,7 +191,7 @@ module _ (program : LineProgram) (l : Located) (Fact : (number line register : �
       let long : length (code ++ Jal 0 (jump_offset from to) ∷ []) ≡ length code + 1 = length-append code (Jal 0 (jump_offset from to) ∷ []) in
       let low_from : from < 2 ^ 24 = omega (arith, place, stands.to, good.low, long) in
       let reaches : sum32 (4 * here) (sign_extended 21 (jump_offset from to)) ≡ 4 * to =
-        ap (λ x. sum32 (4 * x) (sign_extended 21 (jump_offset from to))) (sym place) ∙ jump_reaches from to low_from low_to (within refl) in
+      ap (λ x. sum32 (4 * x) (sign_extended 21 (jump_offset from to))) (sym place) ∙ jump_reaches from to low_from low_to (within refl) in
       arrived a line line' rs callers z cost m code [] (Jal 0 (jump_offset from to)) st r keeps s stands
       (ap (λ x. next (record { pc = x; registers = s.registers'; memory = bytes_of r.words })) reaches)
   jumped false a line line' rs callers z cost m code from st r keeps s place within stands =
@@ -200,7 +199,7 @@ module _ (program : LineProgram) (l : Located) (Fact : (number line register : �
       let low_to : to < 2 ^ 24 = let w = good.within a.procedure line' in omega (arith, w, good.low) in
       let long : length (code ++ far_jump_code 0 from to) ≡ length code + 2 = length-append code (far_jump_code 0 from to) in
       let far = far_jumps m (l.line_at a.procedure line) r.words s.registers' code from to 0 r.machine.arena.words_small r.pc r.machine.memory s.sets stands.has
-        (omega (arith, stands.to, good.low, long)) low_to place s.ready in
+      (omega (arith, stands.to, good.low, long)) low_to place s.ready in
       let set7 = sum32 (4 * from) (high_part (far_offset from to) * 4096) in
       given_scratched a line line' rs callers z cost m (length code + 2) (slice_set s.registers' 7 set7) _ st r keeps far refl refl
       (λ q h. get_or-set_other s.registers' 7 q set7 0 (no_scratch q 7 h (omega arith) (omega arith)) ∙ s.others q h)

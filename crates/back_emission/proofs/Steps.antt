@@ -1,6 +1,5 @@
 -- Whole steps: from what a line comes to on both sides to what the law of steps says.
-use Rattle.std.proofs.Common.{inl, inr, ◌≡◌, ◌≢◌, ℕ, zero, suc, ◌+◌, ◌*◌, ◌<◌, ◌≤◌, Bool, true, false, List, [], ◌∷◌, ◌++◌, length, refl, sym, ap, subst, ◌∙◌, arith, Some, None}
-use Rattle.std.specs.Prelude.{Option}
+use Rattle.std.proofs.Common.{◌≡◌, ℕ, ◌+◌, ◌≤◌, List, length, sym, ap, subst, arith, Some}
 use Rattle.rv_machine.specs.Run.{Moment}
 use Rattle.mid_code.specs.Arena.{Block}
 use Rattle.mid_code.specs.State.{Registers, MidState, charged, stuck}
@@ -13,14 +12,13 @@ use Rattle.back_places.specs.declared.place.Place.{Place}
 use Rattle.back_places.specs.Places.{Located}
 use Rattle.back_places.specs.LineCode.{line_code, behind_code}
 use Rattle.back_places.specs.Good.{IsGood}
-use Rattle.back_places.specs.Relation.{Stands, Relates}
+use Rattle.back_places.specs.Relation.{Relates}
 use Rattle.back_places.specs.StepLaw.{Follows, IsLawful, weight, line_weight}
 use Rattle.back_stepping.specs.Arriving.{Given}
 use Rattle.back_stepping.proofs.Coming.{stays}
 
 module _ (program : LineProgram) (l : Located) (Fact : (number line register : ℕ) → Place → Type 0) (first : List Block)
     (good : IsGood program l Fact) where
-
   -- a stage that comes to an end of which nothing is said
   pub nothing : (s : Stage) (m : Moment) (z : MidState) → next program s ≡ ended stuck z → (state_of s).cost ≤ z.cost → Follows program l Fact first s m
   nothing s m z e cheap = record {

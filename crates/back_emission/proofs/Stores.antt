@@ -1,6 +1,6 @@
 -- The step of a store.
-use Rattle.std.proofs.Common.{inl, inr, ◌≡◌, ◌≢◌, ℕ, zero, suc, ◌+◌, ◌-◌, ◌*◌, ◌/◌, ◌%◌, ◌^◌, ◌<◌, ◌≤◌, ℤ, Bool, true, false, ◌&&◌, List, [], ◌∷◌, ◌++◌, length, refl, sym, ap, subst, ◌∙◌, arith, Some, None, append_assoc, length-append, eqb-true, eq-eqb}
-use Rattle.std.specs.Prelude.{◌⊎◌, ◌||◌, Option, slice_index, slice_set, slice_get, nat_lt, nat_le, ◌==◌, if◌then◌else◌}
+use Rattle.std.proofs.Common.{inl, inr, ◌≡◌, ◌≢◌, ℕ, zero, suc, ◌+◌, ◌*◌, ◌/◌, ◌%◌, ◌^◌, ◌<◌, ◌≤◌, ℤ, Bool, true, false, ◌&&◌, List, [], ◌∷◌, ◌++◌, length, refl, sym, ap, subst, ◌∙◌, arith, Some, None, append_assoc, length-append, eqb-true, eq-eqb}
+use Rattle.std.specs.Prelude.{◌⊎◌, ◌||◌, Option, slice_index, slice_set, slice_get, nat_lt, nat_le, ◌==◌}
 use Rattle.std.proofs.lemmas.Bool.Decides.{nat_tests}
 use Rattle.std.proofs.lemmas.List.{get_or-set_same, get_or-set_other, length-set}
 use Rattle.base.specs.Arithmetic.{sum32}
@@ -12,17 +12,17 @@ use Rattle.rv_machine.specs.Arithmetic.{sign_extended}
 use Rattle.rv_machine.specs.Step.{next as goes_to, execute, store}
 use Rattle.rv_machine.specs.Run.{Moment}
 use Rattle.mid_code.specs.declared.operation.Operation.TheVariants.{Store}
-use Rattle.mid_code.specs.Arena.{Arena, Block, words_of, begin_of, lent_from, stack_from, is_record, is_within, is_in_record, is_lent, with_word}
+use Rattle.mid_code.specs.Arena.{Arena, Block, begin_of, lent_from, is_record, is_within, is_in_record, is_lent, with_word}
 use Rattle.mid_code.specs.Checked.{is_register, is_offset}
 use Rattle.mid_code.specs.Words.{address}
 use Rattle.mid_code.specs.State.{Registers, MidState, charged, with_arena, register, with_some, choose_by, ends, falls, stuck}
 use Rattle.mid_code.specs.Meaning.{exec_step, with_address, store as store_word}
-use Rattle.mid_lines.proofs.Conjunctions.{front_true, back_true}
+use Rattle.mid_lines.proofs.Conjunctions.{back_true}
 use Rattle.mid_lines.specs.declared.line.Line.TheVariants.{Do}
 use Rattle.mid_lines.specs.declared.line.LineProgram.{LineProgram}
 use Rattle.mid_lines.specs.Lines.{line_of}
 use Rattle.mid_lines.specs.LinesChecked.{is_checked_line_program}
-use Rattle.mid_lines.specs.LineMeaning.{Activation, Caller, running, ended, next, proceed, state_of}
+use Rattle.mid_lines.specs.LineMeaning.{Activation, Caller, running, next, proceed, state_of}
 use Rattle.mid_lines.specs.StackLaw.{frame_of, StageStands}
 use Rattle.back_places.specs.declared.place.Place.{Place}
 use Rattle.back_places.specs.declared.place.Place.TheVariants.{InRegister, InSlot, AsConstant}
@@ -33,13 +33,13 @@ use Rattle.back_places.specs.Facts.{IsPlace, OnlyReads}
 use Rattle.back_places.specs.Good.{IsGood}
 use Rattle.back_places.specs.Relation.{Stands, IsAt, base_of, InForm, HasArena, IsPrivate, Machine, Runs, Relates}
 use Rattle.back_places.specs.StepLaw.{Comes, Follows, weight}
-use Rattle.back_places.proofs.LinesInForm.{LineIs, line_is, line_in_form}
+use Rattle.back_places.proofs.LinesInForm.{line_is, line_in_form}
 use Rattle.back_stepping.specs.Moments.{state_at, Beside, later, moment, beside, AreSmall, Ready}
 use Rattle.back_stepping.proofs.Coming.{next_place, and_one}
 use Rattle.back_stepping.proofs.Operands.{set_small, BothRead, both_read}
-use Rattle.back_stepping.proofs.Private.{lent_apart, lent_where, on_blocks, outer_words, SamePrivate, program_kept}
+use Rattle.back_stepping.proofs.Private.{lent_apart, lent_where, on_blocks, SamePrivate, program_kept}
 use Rattle.back_stepping.proofs.Lengths.{read_length}
-use Rattle.back_stepping.proofs.Going.{OwnKept, all_kept, point_of, stands_at}
+use Rattle.back_stepping.proofs.Going.{all_kept, point_of, stands_at}
 use Rattle.back_stepping.proofs.Moving.{place_small, frame_is}
 use Rattle.back_emission.proofs.Addresses.{address_same, lent_within}
 use Rattle.back_emission.proofs.Steps.{nothing, at_line, weighs, next_line}
@@ -114,7 +114,6 @@ arena_stored a words place w has inside small = record {
 
 module _ (program : LineProgram) (l : Located) (Fact : (number line register : ℕ) → Place → Type 0) (first : List Block)
     (checked : is_checked_line_program program ≡ true) (good : IsGood program l Fact) where
-
   offset_fits : (number line from base : ℕ) (offset : ℤ) → line_of program number line ≡ Some (Do (Store from base offset)) → is_offset offset ≡ true
   offset_fits number line from base offset e =
       let i = line_is program number line (Do (Store from base offset)) checked e in
@@ -141,11 +140,15 @@ module _ (program : LineProgram) (l : Located) (Fact : (number line register : �
           lent = (arena_stored z.arena words place w r.arena (omega (arith, inside, r.arena.long)) small).lent;
         };
         code = program_kept program l words (slice_set words k w) (length-set words k w)
-            (λ j low high. get_or-set_other words k j w 0 (λ e. elim where_is [ | inl h ↦ omega (arith, h, low, e, r.apart.laid_below, r.apart.arguments_below) | inr h ↦ omega (arith, h, high, e, r.apart.heap_above) ])) r.code;
+            (λ j low high. get_or-set_other words k j w 0 (λ e. elim where_is [ inl h ↦ omega (arith, h, low, e, r.apart.laid_below, r.apart.arguments_below) | inr h ↦ omega (arith, h, high, e, r.apart.heap_above) ])) r.code;
         apart = record { laid_below = r.apart.laid_below; arguments_below = r.apart.arguments_below; heap_above = r.apart.heap_above };
         form = record {
-          small = omega (arith, size, f.small); fits = omega (arith, size, f.fits); heap = f.heap; grown = f.grown;
-          below = omega (arith, size, f.below); laid = f.laid;
+          small = omega (arith, size, f.small);
+          fits = omega (arith, size, f.fits);
+          heap = f.heap;
+          grown = f.grown;
+          below = omega (arith, size, f.below);
+          laid = f.laid;
         };
         long = ready.long;
         zero_is = ready.zero_is;
@@ -191,21 +194,21 @@ module _ (program : LineProgram) (l : Located) (Fact : (number line register : �
       let here = state_at (at + length C) p.registers' words in
       let pc : sum32 (4 * (at + length C)) 4 ≡ 4 * (at + length C + 1) = next_place (at + length C) (omega (arith, stands.to, good.low, long)) in
       let does : execute ins here ≡ goes_to (state_at (at + length C + 1) p.registers' words') =
-        ap (λ y. store (stored_at 4 (sum32 y (sign_extended 12 off)) (slice_index p.registers' ra) (bytes_of words)) here) p.second_is
-        ∙ ap (λ y. store (stored_at 4 y (slice_index p.registers' ra) (bytes_of words)) here) address
-        ∙ ap (λ y. store (stored_at 4 (4 * k) y (bytes_of words)) here) p.first_is
-        ∙ ap (λ y. store y here) (word_stored words k x inside)
-        ∙ ap (λ y. goes_to (record { pc = y; registers = p.registers'; memory = bytes_of words' })) pc in
+      ap (λ y. store (stored_at 4 (sum32 y (sign_extended 12 off)) (slice_index p.registers' ra) (bytes_of words)) here) p.second_is
+      ∙ ap (λ y. store (stored_at 4 y (slice_index p.registers' ra) (bytes_of words)) here) address
+      ∙ ap (λ y. store (stored_at 4 (4 * k) y (bytes_of words)) here) p.first_is
+      ∙ ap (λ y. store y here) (word_stored words k x inside)
+      ∙ ap (λ y. goes_to (record { pc = y; registers = p.registers'; memory = bytes_of words' })) pc in
       let comes = and_one m at words p.registers' C [] ins (state_at (at + length C + 1) p.registers' words') r.machine.arena.words_small r.pc r.machine.memory p.sets stands.has (omega (arith, stands.to, good.low, long)) does in
       let m' = moment (state_at (l.line_at a.procedure (line + 1)) p.registers' words') o in
       let same : SamePrivate size z.arena.blocks words words' = λ j h. get_or-set_other words k j x 0 (λ e. lent_apart z.arena k r.machine.form lent (subst (λ n. IsPrivate size z.arena.blocks n) e h)) in
       let machine = machine_stored z 8 words m place x p.registers' (l.line_at a.procedure (line + 1)) o r.machine at stands.from (omega (arith, stands.to)) lent small p.ready (p.bounded r.machine.registers_small)
-        (p.others 2 (inl (omega arith))) (p.others 3 (inl (omega arith))) refl refl in
+      (p.others 2 (inl (omega arith))) (p.others 3 (inl (omega arith))) refl refl in
       let runs = stands_at program l Fact first good a at (l.records a.procedure line) (line + 1) rs callers z (with_arena (with_word place x z.arena) (charged 8 z)) m m' words' st
-        (point_of program l Fact first good a line rs callers z m r) (all_kept program l Fact first good a z.arena words words' st.0 same) (length_same z.arena.memory k (Some x)) machine refl
-        (λ v q w f h. past m.state.registers p.registers' words words' base (frame_of program a.procedure).words q w p.others
-          (λ j low. same (base + j) (on_blocks program size a z.arena.blocks j st.0 low)) (good.placed a.procedure line v q (g.keeps.facts v q f)) (r.there v q w (g.keeps.facts v q f) h))
-        (λ h. p.others 1 (inl (omega arith)) ∙ r.links.linked (g.keeps.linked h)) g.keeps.records in
+      (point_of program l Fact first good a line rs callers z m r) (all_kept program l Fact first good a z.arena words words' st.0 same) (length_same z.arena.memory k (Some x)) machine refl
+      (λ v q w f h. past m.state.registers p.registers' words words' base (frame_of program a.procedure).words q w p.others
+      (λ j low. same (base + j) (on_blocks program size a z.arena.blocks j st.0 low)) (good.placed a.procedure line v q (g.keeps.facts v q f)) (r.there v q w (g.keeps.facts v q f) h))
+      (λ h. p.others 1 (inl (omega arith)) ∙ r.links.linked (g.keeps.linked h)) g.keeps.records in
       record {
         count = length C + 1;
         moment = m';
@@ -226,18 +229,18 @@ module _ (program : LineProgram) (l : Located) (Fact : (number line register : �
       light = weighs program l Fact first good a line rs callers z (Do (Store from v offset)) e
 
       start : (x : Option ℕ) → register from rs ≡ x
-        → next program (running a line rs callers z) ≡ proceed program a (line + 1) callers (with_some x (λ w. with_address v offset (λ b. store_word b w (ends falls))) rs (charged 8 z))
+          → next program (running a line rs callers z) ≡ proceed program a (line + 1) callers (with_some x (λ w. with_address v offset (λ b. store_word b w (ends falls))) rs (charged 8 z))
       start x h =
           at_line program l Fact first good a line rs callers z (Do (Store from v offset)) e
           ∙ ap (λ u. proceed program a (line + 1) callers (with_some u (λ w. with_address v offset (λ b. store_word b w (ends falls))) rs (charged 8 z))) h
 
       second : (w : ℕ) (x : Option ℕ) → register from rs ≡ Some w → register v rs ≡ x
-        → next program (running a line rs callers z) ≡ proceed program a (line + 1) callers (with_some x (λ b. store_word (address b offset) w (ends falls)) rs (charged 8 z))
+          → next program (running a line rs callers z) ≡ proceed program a (line + 1) callers (with_some x (λ b. store_word (address b offset) w (ends falls)) rs (charged 8 z))
       second w x h k = start (Some w) h ∙ ap (λ u. proceed program a (line + 1) callers (with_some u (λ b. store_word (address b offset) w (ends falls)) rs (charged 8 z))) k
 
       third : (w b : ℕ) (t : Bool) → register from rs ≡ Some w → register v rs ≡ Some b → is_lent z.arena (address b offset) ≡ t
-        → next program (running a line rs callers z)
-        ≡ proceed program a (line + 1) callers (choose_by t (λ rs' y. ends falls rs' (with_arena (with_word (address b offset) w y.arena) y)) (ends stuck) rs (charged 8 z))
+          → next program (running a line rs callers z)
+          ≡ proceed program a (line + 1) callers (choose_by t (λ rs' y. ends falls rs' (with_arena (with_word (address b offset) w y.arena) y)) (ends stuck) rs (charged 8 z))
       third w b t h k q =
           second w (Some b) h k
           ∙ ap (λ u. proceed program a (line + 1) callers (choose_by u (λ rs' y. ends falls rs' (with_arena (with_word (address b offset) w y.arena) y)) (ends stuck) rs (charged 8 z))) q

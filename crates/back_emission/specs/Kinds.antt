@@ -1,7 +1,7 @@
 -- The kinds of lines, as the laws of their steps speak of them.
 use Rattle.mid_code.specs.declared.operation.Operation.TheVariants as operation
 use Rattle.mid_lines.specs.declared.line.Line.{Line}
-use Rattle.mid_lines.specs.declared.line.Line.TheVariants.{Do, Branch, Switch, Jump, Lay, Landed, GiveBack, Lend, GiveBackLent, Return, Cut, Halt, Unhandled}
+use Rattle.mid_lines.specs.declared.line.Line.TheVariants.{Do, Branch, Switch, Jump, Landed, GiveBack, GiveBackLent, Return, Halt, Unhandled}
 
 -- moves, constants and computations
 abbrev pub IsComputation : Line → Type 0

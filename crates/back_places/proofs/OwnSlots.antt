@@ -1,5 +1,5 @@
 -- The trivial allocation is good.
-use Rattle.std.proofs.Common.{inl, inr, ◌≡◌, ◌≢◌, ℕ, zero, suc, ◌+◌, ◌<◌, ◌≤◌, Bool, true, false, ◌&&◌, List, [], ◌∷◌, length, Option, Some, None, refl, sym, ap, subst, ◌∙◌, arith, eqb-true, eq-eqb}
+use Rattle.std.proofs.Common.{inl, inr, ◌≡◌, ◌≢◌, ℕ, zero, suc, ◌+◌, ◌<◌, ◌≤◌, Bool, true, false, ◌&&◌, List, [], ◌∷◌, length, Some, refl, sym, ap, subst, ◌∙◌, arith, eqb-true, eq-eqb}
 use Rattle.std.specs.Prelude.{◌⊎◌, ◌==◌, nat_le, slice_get}
 use Rattle.std.specs.List.{list_all}
 use Rattle.std.proofs.lemmas.Bool.Decides.{nat_tests}
@@ -7,19 +7,18 @@ use Rattle.mid_code.specs.declared.operation.Callee.{Callee}
 use Rattle.mid_code.specs.declared.operation.Callee.TheVariants.{Procedure, Word}
 use Rattle.mid_code.specs.declared.operation.Operation.{Operation}
 use Rattle.mid_code.specs.declared.operation.Operation.TheVariants as operation
-use Rattle.mid_code.specs.Checked.{is_register, is_constant, is_offset, is_block_size, operation_fits, callee_fits, test_fits}
+use Rattle.mid_code.specs.Checked.{is_register, is_offset, operation_fits, callee_fits, test_fits}
 use Rattle.mid_lines.proofs.Conjunctions.{front_true, back_true}
 use Rattle.mid_lines.specs.declared.line.Line.{Line}
 use Rattle.mid_lines.specs.declared.line.Line.TheVariants.{Do, Branch, Switch, Jump, Lay, Landed, GiveBack, Lend, GiveBackLent, Return, Cut, Halt, Unhandled}
 use Rattle.mid_lines.specs.declared.line.LineProcedure.{LineProcedure}
 use Rattle.mid_lines.specs.declared.line.LineProgram.{LineProgram}
-use Rattle.mid_lines.specs.Lines.{line_of}
 use Rattle.mid_lines.specs.LinesChecked.{line_fits, is_target, is_sound_in, is_checked_line_program}
 use Rattle.mid_lines.specs.StackLaw.{frame_of}
 use Rattle.back_places.specs.declared.place.Place.{Place}
 use Rattle.back_places.specs.declared.place.Place.TheVariants.{InRegister, InSlot, AsConstant}
 use Rattle.back_places.specs.Places.{StaticRecord, with_landing, only_lent, Located, way_at, reachable, argument_register}
-use Rattle.back_places.specs.Facts.{IsPlace, Apart, Outlasts, IsSomewhere, CanHold, Gives, Keeps, Reads, ToLanding, ToLandings, KeepsEach, GoodReturn, GivesWord, OnlyReads, GoodCall, Computes, GoodLay, GoodLanded, GoodGiveBack, GoodCut, GoodOperation, GoodLine, callee_registers, IsParameterPlace, AreParameterPlaces, AllApart, EachApart, GoodEntry}
+use Rattle.back_places.specs.Facts.{IsPlace, Apart, Outlasts, IsSomewhere, CanHold, Gives, Keeps, Reads, ToLandings, KeepsEach, GivesWord, Computes, GoodOperation, GoodLine, callee_registers, AreParameterPlaces, AllApart, EachApart, GoodEntry}
 use Rattle.back_places.specs.Trivial.{own_slot, own_slots, InOwnSlot, TargetIs, ToRecords, SameRecords, RecordsFollow, ArgumentsFit, IsTrivial, LawOfOwnSlots}
 use Rattle.back_places.specs.Good.{reach_at}
 use Rattle.back_places.proofs.LinesInForm.{LineIs, line_is, line_in_form, frame_words, register_below, all_at}
@@ -114,12 +113,14 @@ module _ (program : LineProgram) (l : Located) (checked : is_checked_line_progra
   to_landings : (number line : ℕ) (records : List StaticRecord) → ToRecords l number records → ToLandings l (InOwnSlot program) number line records
   to_landings number line [] h = tt
   to_landings number line (only_lent ∷ records) h = to_landings number line records h
-  to_landings number line (with_landing words landing ∷ records) h =
-      (record {
-        facts = λ v p f. (record { place_is = f.place_is; procedure = f.procedure; there = f.there; within = f.within }, slot_outlasts v p f.place_is);
-        unlinked = t.unlinked number landing;
-        records = h.0;
-      }, to_landings number line records h.1)
+  to_landings number line (with_landing words landing ∷ records) h = (
+    record {
+      facts = λ v p f. (record { place_is = f.place_is; procedure = f.procedure; there = f.there; within = f.within }, slot_outlasts v p f.place_is);
+      unlinked = t.unlinked number landing;
+      records = h.0;
+    },
+    to_landings number line records h.1,
+  )
 
   keeps_each : (number line : ℕ) (targets : List ℕ) → SameRecords l number line targets → KeepsEach l (InOwnSlot program) number line targets
   keeps_each number line [] h = tt
@@ -129,7 +130,10 @@ module _ (program : LineProgram) (l : Located) (checked : is_checked_line_progra
       (number line to : ℕ) (read : List ℕ) → Reads l (InOwnSlot program) number line read → l.target number line ≡ own_slot to
       → l.records number (line + 1) ≡ l.records number line → GivesWord l (InOwnSlot program) number line to read
   gives_word number line to read reads target records = record {
-    reads = reads; flows = gives number line to (line + 1) target; linked = never number line (line + 1); records = records;
+    reads = reads;
+    flows = gives number line to (line + 1) target;
+    linked = never number line (line + 1);
+    records = records;
   }
 
   computes :
@@ -201,32 +205,51 @@ module _ (program : LineProgram) (l : Located) (checked : is_checked_line_progra
   good_line number line (Do o) i h target records fit = good_operation number line o i h target records fit
   good_line number line (Branch test otherwise) i h target records fit =
       let c = i.procedure.registers in
-      let tests = front_true (test_fits c test) (is_target (length i.procedure.lines) otherwise) h in
-      (record {
-        reads = (known number line _ i test.first (front_true (is_register c test.first) (is_register c test.second) tests), (known number line _ i test.second (back_true (is_register c test.first) (is_register c test.second) tests), tt));
-        keeps = keeps number line (line + 1) records.0;
-      }, keeps number line otherwise records.1)
+      let tests = front_true (test_fits c test) (is_target (length i.procedure.lines) otherwise) h in (
+        record {
+          reads = (known number line _ i test.first (front_true (is_register c test.first) (is_register c test.second) tests), (known number line _ i test.second (back_true (is_register c test.first) (is_register c test.second) tests), tt));
+          keeps = keeps number line (line + 1) records.0;
+        },
+        keeps number line otherwise records.1,
+      )
   good_line number line (Switch r targets) i h target records fit =
       let c = i.procedure.registers in
       ((known number line _ i r (front_true (is_register c r) (list_all (is_target (length i.procedure.lines)) targets) h), tt), keeps_each number line targets records)
   good_line number line (Jump to) i h target records fit = keeps number line to records
   good_line number line (Lay block words landing) i h target records fit = record {
-    reads = tt; flows = gives number line block (line + 1) target; linked = never number line (line + 1); records = records; somewhere = slot_somewhere block _ target;
+    reads = tt;
+    flows = gives number line block (line + 1) target;
+    linked = never number line (line + 1);
+    records = records;
+    somewhere = slot_somewhere block _ target;
   }
   good_line number line (Lend block words) i h target records fit =
       let c = i.procedure.registers in
       record {
         reads = (known number line _ i words (back_true (is_register c block) (is_register c words) h), tt);
-        flows = gives number line block (line + 1) target; linked = never number line (line + 1); records = records; somewhere = slot_somewhere block _ target;
+        flows = gives number line block (line + 1) target;
+        linked = never number line (line + 1);
+        records = records;
+        somewhere = slot_somewhere block _ target;
       }
   good_line number line (Landed r) i h target records fit = record {
-    flows = gives number line r (line + 1) target; unlinked = t.unlinked number (line + 1); saves = t.saves number; records = records; somewhere = slot_somewhere r _ target;
+    flows = gives number line r (line + 1) target;
+    unlinked = t.unlinked number (line + 1);
+    saves = t.saves number;
+    records = records;
+    somewhere = slot_somewhere r _ target;
   }
   good_line number line (GiveBack words) i h target records fit = record {
-    facts = λ v p f. record { place_is = f.place_is; procedure = f.procedure; there = f.there; within = f.within }; linked = never number line (line + 1); record_is = records.0; records = records.1;
+    facts = λ v p f. record { place_is = f.place_is; procedure = f.procedure; there = f.there; within = f.within };
+    linked = never number line (line + 1);
+    record_is = records.0;
+    records = records.1;
   }
   good_line number line GiveBackLent i h target records fit = record {
-    facts = λ v p f. record { place_is = f.place_is; procedure = f.procedure; there = f.there; within = f.within }; linked = never number line (line + 1); record_is = records.0; records = records.1;
+    facts = λ v p f. record { place_is = f.place_is; procedure = f.procedure; there = f.there; within = f.within };
+    linked = never number line (line + 1);
+    record_is = records.0;
+    records = records.1;
   }
   good_line number line (Return r) i h target records fit = record { reads = (known number line _ i r h, tt); link = inr (t.saves number); way = records }
   good_line number line (Cut block word) i h target records fit =
@@ -239,10 +262,13 @@ module _ (program : LineProgram) (l : Located) (checked : is_checked_line_progra
   good_line number line (Halt r) i h target records fit = (known number line _ i r h, tt)
   good_line number line (Unhandled class site condition) i h target records fit =
       let c = i.procedure.registers in
-      let rest = back_true (is_register c class) (is_register c site && is_register c condition) h in
-      (known number line _ i class (front_true (is_register c class) (is_register c site && is_register c condition) h),
-      (known number line _ i site (front_true (is_register c site) (is_register c condition) rest),
-      (known number line _ i condition (back_true (is_register c site) (is_register c condition) rest), tt)))
+      let rest = back_true (is_register c class) (is_register c site && is_register c condition) h in (
+        known number line _ i class (front_true (is_register c class) (is_register c site && is_register c condition) h),
+        (
+          known number line _ i site (front_true (is_register c site) (is_register c condition) rest),
+          (known number line _ i condition (back_true (is_register c site) (is_register c condition) rest), tt),
+        ),
+      )
 
   parameters_fit : (number : ℕ) (p : LineProcedure) → slice_get program.procedures number ≡ Some p → p.parameters ≤ p.registers
   parameters_fit number p h =
@@ -271,7 +297,7 @@ module _ (program : LineProgram) (l : Located) (checked : is_checked_line_progra
           subst (λ x. IsPlace p.frame x) (sym a.0) (omega arith, omega (arith, a.1, few, frame))
 
       put : (v : ℕ) (q : Place) → InOwnSlot program number 0 v q → (b : Bool) → nat_le p.parameters v ≡ b
-        → (p.parameters ≤ v) ⊎ ((v < 14) × (q ≡ InRegister (argument_register v))) ⊎ ((slice_get (l.parameters number) v ≡ Some q) × IsSomewhere q)
+          → (p.parameters ≤ v) ⊎ ((v < 14) × (q ≡ InRegister (argument_register v))) ⊎ ((slice_get (l.parameters number) v ≡ Some q) × IsSomewhere q)
       put v q f true e = inl (grind (arith, nat_tests, e))
       put v q f false e =
           let below : v < p.parameters = grind (arith, nat_tests, e) in
@@ -291,10 +317,11 @@ module _ (program : LineProgram) (l : Located) (checked : is_checked_line_progra
       subst (λ x. IsPlace (reach_at program l number line) x) (sym f.place_is) (omega arith, omega (arith, f.within, reach, words))
 
 pub law_of_own_slots : LawOfOwnSlots
-law_of_own_slots program l checked t =
-    (λ number line x e.
+law_of_own_slots program l checked t = (
+  λ number line x e.
       let i = line_is program number line x checked e in
       good_line program l checked t number line x i (line_in_form program number line x i) (t.targets number line x e) (t.records number line x e) (t.arguments number line x e),
-    good_entry program l checked t,
-    placed program l checked t,
-    within_reach program l checked t)
+  good_entry program l checked t,
+  placed program l checked t,
+  within_reach program l checked t,
+)

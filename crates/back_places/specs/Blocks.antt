@@ -1,5 +1,5 @@
 -- Blocks of the stack: the stack pointer goes down where there is room, and up again; and the end for want of words.
-use Rattle.std.specs.Prelude.{ℕ, ◌+◌, ◌-◌, ◌*◌, ◌^◌, Bool, ◌==◌, List, [], ◌∷◌, ◌++◌, length, if◌then◌else◌}
+use Rattle.std.specs.Prelude.{ℕ, ◌+◌, ◌-◌, ◌*◌, ◌^◌, ◌==◌, List, [], ◌∷◌, ◌++◌, length, if◌then◌else◌}
 use Rattle.rv_encode.specs.declared.instruction.Instr.{Instr}
 use Rattle.rv_encode.specs.declared.instruction.Instr.TheVariants.{Lui, Bge, Addi, Add, Sub, Slli, Srli, Ecall}
 use Rattle.back_places.specs.Operands.{high_part, low_part, is_short, constant_code}

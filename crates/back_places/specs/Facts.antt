@@ -1,5 +1,5 @@
 -- What is known of places: facts, that the word of a register is at a place when a line begins, and how they flow from line to line.
-use Rattle.std.specs.Prelude.{◌≡◌, ◌≢◌, ◌≤◌, ◌<◌, ◌⊎◌, ℕ, ◌+◌, ◌^◌, Bool, true, false, List, [], ◌∷◌, length, slice_get, Option, Some}
+use Rattle.std.specs.Prelude.{◌≡◌, ◌≢◌, ◌≤◌, ◌<◌, ◌⊎◌, ℕ, ◌+◌, ◌^◌, true, false, List, [], ◌∷◌, length, slice_get, Some}
 use Rattle.mid_code.specs.declared.operation.Callee.{Callee}
 use Rattle.mid_code.specs.declared.operation.Callee.TheVariants.{Procedure, Word}
 use Rattle.mid_code.specs.declared.operation.Operation.{Operation}
@@ -50,7 +50,6 @@ abbrev pub Facts : Type 1
 Facts = (number line register : ℕ) → Place → Type 0
 
 module _ (l : Located) (Fact : (number line register : ℕ) → Place → Type 0) where
-
   -- the registers that a line reads are where it reads them
   abbrev pub Reads : (number line : ℕ) → List ℕ → Type 0
   Reads number line [] = Unit {0}

@@ -1,5 +1,5 @@
 -- What is decided well: facts flow along all lines, and code stands where it is said to stand.
-use Rattle.std.specs.Prelude.{◌≡◌, ◌≤◌, ◌<◌, ℕ, ◌+◌, ◌*◌, ◌^◌, Bool, true, List, length, slice_get, Option, Some}
+use Rattle.std.specs.Prelude.{◌≡◌, ◌≤◌, ◌<◌, ℕ, ◌+◌, ◌^◌, true, length, slice_get, Some}
 use Rattle.mid_code.specs.declared.operation.Callee.TheVariants.{Procedure}
 use Rattle.mid_code.specs.declared.operation.Operation.TheVariants.{Call}
 use Rattle.mid_lines.specs.declared.line.Line.{Line}

@@ -1,10 +1,10 @@
 -- The relation between a stage of lines and a moment of the machine.
-use Rattle.std.specs.Prelude.{◌≡◌, ◌≢◌, ◌≤◌, ◌<◌, ◌⊎◌, ℕ, zero, suc, ◌+◌, ◌-◌, ◌*◌, ◌%◌, ◌^◌, Bool, true, false, nat_lt, List, [], ◌∷◌, length, map, slice_get, slice_index, Option, Some, None, if◌then◌else◌}
+use Rattle.std.specs.Prelude.{◌≡◌, ◌≢◌, ◌≤◌, ◌<◌, ◌⊎◌, ℕ, ◌+◌, ◌-◌, ◌*◌, ◌%◌, ◌^◌, true, nat_lt, List, [], ◌∷◌, length, map, slice_get, slice_index, Option, Some, None, if◌then◌else◌}
 use Rattle.rv_encode.specs.declared.instruction.Instr.{Instr}
 use Rattle.rv_encode.specs.Encodes.{IsInstr, word_of}
 use Rattle.rv_machine.specs.Memory.{bytes_of}
 use Rattle.rv_machine.specs.Run.{Moment}
-use Rattle.rv_machine.specs.Step.{Result, environment_call, step_of}
+use Rattle.rv_machine.specs.Step.{environment_call, step_of}
 use Rattle.mid_code.specs.declared.operation.Callee.{Callee}
 use Rattle.mid_code.specs.declared.operation.Operation.TheVariants.{Call}
 use Rattle.mid_code.specs.Arena.{Arena, Block, BlockKind, activation_frame, open_record, closed_record, words_of, stack_from, is_lent, header_words}
@@ -121,7 +121,6 @@ pub record HasProgram (program : LineProgram) (l : Located) (words : List ℕ) :
 
 -- What must be where: `Fact number line register place` says that the word of a register is at a place when the line begins.
 module _ (program : LineProgram) (l : Located) (Fact : (number line register : ℕ) → Place → Type 0) (first : List Block) where
-
   -- where register words are, at a line
   abbrev pub AreThere : (registers words : List ℕ) (base number line : ℕ) → Registers → Type 0
   AreThere registers words base number line rs =

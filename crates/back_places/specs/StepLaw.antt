@@ -1,5 +1,5 @@
 -- The law of steps: one step of lines is matched by so many instructions of the machine.
-use Rattle.std.specs.Prelude.{◌≡◌, ◌≤◌, ℕ, ◌+◌, Bool, true, nat_le, List, ◌++◌, Option, Some, None, if◌then◌else◌, IsTrue}
+use Rattle.std.specs.Prelude.{◌≡◌, ◌≤◌, ℕ, ◌+◌, Bool, true, nat_le, List, ◌++◌, Option, Some, if◌then◌else◌, IsTrue}
 use Rattle.rv_machine.specs.declared.ending.Ending.TheVariants.{Budget}
 use Rattle.rv_machine.specs.Run.{Moment, run_from}
 use Rattle.mid_code.specs.declared.operation.Operation.TheVariants.{Call}

@@ -1,14 +1,14 @@
 -- What instructions compute is what operations compute; branches; the test for room.
-use Rattle.std.proofs.Common.{inl, inr, ◌≡◌, ◌≢◌, ℕ, zero, suc, ◌+◌, ◌-◌, ◌*◌, ◌/◌, ◌%◌, ◌^◌, ◌<◌, ◌≤◌, Bool, true, false, Option, Some, None, refl, sym, ap, subst, ◌∙◌, arith}
-use Rattle.std.specs.Prelude.{not, ◌==◌, nat_lt, ℤ, pos, negsuc, int_lt, if◌then◌else◌}
-use Rattle.std.specs.Int.{cast_signed, w32}
+use Rattle.std.proofs.Common.{◌≡◌, ℕ, suc, ◌+◌, ◌-◌, ◌*◌, ◌/◌, ◌%◌, ◌^◌, ◌<◌, ◌≤◌, Bool, true, false, Some, None, refl, sym, ap, ◌∙◌, arith}
+use Rattle.std.specs.Prelude.{not, ◌==◌, nat_lt, pos, negsuc, int_lt, if◌then◌else◌}
+use Rattle.std.specs.Int.{w32}
 use Rattle.std.proofs.lemmas.Bool.Decides.{nat_tests}
 use Rattle.std.proofs.lemmas.Int.{to_z_pos}
-use Rattle.base.specs.Arithmetic.{sum32, difference32, signed, less_signed, shift_left, shift_right, shift_right_signed, one_if_less_signed, one_if_less}
+use Rattle.base.specs.Arithmetic.{sum32, difference32, signed, less_signed, shift_right_signed, one_if_less_signed, one_if_less}
 use Rattle.rv_encode.specs.declared.instruction.Instr.{Instr}
 use Rattle.rv_encode.specs.declared.instruction.Instr.TheVariants.{Addi, Slti, Sltiu, Xori, Ori, Andi, Slli, Srli, Srai}
 use Rattle.rv_machine.specs.State.{State, register}
-use Rattle.rv_machine.specs.Step.{Result, execute, gives, branch}
+use Rattle.rv_machine.specs.Step.{execute, gives, branch}
 use Rattle.rv_machine.specs.Arithmetic.{sign_extended}
 use Rattle.mid_code.specs.Words.{computed, compares}
 use Rattle.mid_code.specs.declared.operation.Arithmetic.{Arithmetic}

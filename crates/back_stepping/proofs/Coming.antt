@@ -1,18 +1,16 @@
 -- The machine from one moment to another, instruction by instruction.
-use Rattle.std.proofs.Common.{inl, inr, ◌≡◌, ◌≢◌, ℕ, zero, suc, ◌+◌, ◌*◌, ◌/◌, ◌%◌, ◌^◌, ◌<◌, ◌≤◌, Bool, true, false, List, [], ◌∷◌, ◌++◌, length, refl, sym, ap, subst, ◌∙◌, arith, Some, get_or, append_assoc, append-nil, length-append}
-use Rattle.std.specs.Prelude.{◌⊎◌, Option, slice_index, slice_set, slice_get, if◌then◌else◌, ◌==◌}
-use Rattle.std.proofs.lemmas.List.{get_or-set_same, get_or-set_other, length-set}
+use Rattle.std.proofs.Common.{inl, inr, ◌≡◌, ℕ, zero, suc, ◌+◌, ◌*◌, ◌%◌, ◌^◌, ◌<◌, ◌≤◌, List, [], ◌∷◌, ◌++◌, length, refl, sym, ap, subst, ◌∙◌, arith, append_assoc, append-nil, length-append}
+use Rattle.std.specs.Prelude.{◌⊎◌, slice_index}
 use Rattle.rv_encode.specs.declared.instruction.Instr.{Instr}
-use Rattle.rv_encode.specs.Encodes.{IsInstr, word_of}
 use Rattle.rv_encode.specs.Decode.{decode_of}
 use Rattle.rv_encode.proofs.Read.{word_of-read}
 use Rattle.rv_machine.specs.declared.ending.Ending.TheVariants.{Budget}
-use Rattle.rv_machine.specs.Memory.{number_at, bytes_of}
+use Rattle.rv_machine.specs.Memory.{bytes_of}
 use Rattle.rv_machine.specs.Words.{word_read}
 use Rattle.base.specs.Arithmetic.{sum32}
-use Rattle.rv_machine.specs.State.{State, put, register}
-use Rattle.rv_machine.specs.Step.{Result, next, execute, step_of, fetched, decoded, gives, behind}
-use Rattle.rv_machine.specs.Run.{Moment, Ended, act, run_from, stop}
+use Rattle.rv_machine.specs.State.{State}
+use Rattle.rv_machine.specs.Step.{next, execute, step_of, fetched, decoded, gives}
+use Rattle.rv_machine.specs.Run.{Moment, act, run_from}
 use Rattle.back_places.specs.Relation.{HasCode}
 use Rattle.back_places.specs.StepLaw.{Comes}
 use Rattle.back_stepping.specs.Moments.{state_at, Beside, later, moment, beside, AreSmall, Sets, with_word_in}
@@ -46,13 +44,13 @@ and_on {a} {b} {m} {m'} {m''} c d = record {
   ];
   within = λ n h. elim (split a n) [
     | inl k ↦
-      let f = c.within n k in
-      let g = d.within 0 (omega arith) in
-      (f.0 ++ g.0, sym (append_assoc _ f.0 g.0) ∙ ap (λ l. l ++ g.0) f.1 ∙ g.1)
+        let f = c.within n k in
+        let g = d.within 0 (omega arith) in
+        (f.0 ++ g.0, sym (append_assoc _ f.0 g.0) ∙ ap (λ l. l ++ g.0) f.1 ∙ g.1)
     | inr k ↦
-      let e : k.0 ≤ b = omega (arith, k.1, h) in
-      let g = d.within k.0 e in
-      (g.0, ap (λ x. (run_from x m).at.printed ++ g.0) k.1 ∙ ap (λ x. x.at.printed ++ g.0) (c.whole k.0) ∙ g.1)
+        let e : k.0 ≤ b = omega (arith, k.1, h) in
+        let g = d.within k.0 e in
+        (g.0, ap (λ x. (run_from x m).at.printed ++ g.0) k.1 ∙ ap (λ x. x.at.printed ++ g.0) (c.whole k.0) ∙ g.1)
   ];
 }
 
@@ -154,5 +152,5 @@ pub and_one :
 and_one m at words registers' code more ins s small pc memory sets has low does =
     let first_part = sets.by at (beside m) (has_front words at code (ins ∷ more) has) low in
     let second = one_step (state_at (at + length code) registers' words) s (later (length code) (beside m))
-      (step_at (at + length code) registers' words ins more (has_back words at code (ins ∷ more) has) (small (at + length code)) ∙ does) in
+    (step_at (at + length code) registers' words ins more (has_back words at code (ins ∷ more) has) (small (at + length code)) ∙ does) in
     subst (λ y. Comes (length code + 1) y (moment s (later 1 (later (length code) (beside m))))) (sym (same_moment m at words pc memory)) (and_on first_part second)

@@ -1,7 +1,7 @@
 -- A word is given to a register: it comes to its place, and all else stays where it is.
-use Rattle.std.proofs.Common.{inl, inr, ◌≡◌, ◌≢◌, ℕ, zero, suc, ◌+◌, ◌-◌, ◌*◌, ◌/◌, ◌%◌, ◌^◌, ◌<◌, ◌≤◌, Bool, true, false, List, [], ◌∷◌, ◌++◌, length, refl, sym, ap, subst, ◌∙◌, arith, Some, None, get_or, length-append, append-nil, append_assoc}
-use Rattle.std.specs.Prelude.{◌⊎◌, Option, slice_index, slice_set, slice_get, if◌then◌else◌, ◌==◌}
-use Rattle.std.proofs.lemmas.List.{get_or-set_same, get_or-set_other, length-set}
+use Rattle.std.proofs.Common.{inl, inr, ◌≡◌, ◌≢◌, ℕ, zero, suc, ◌+◌, ◌*◌, ◌^◌, ◌<◌, true, List, [], ◌∷◌, ◌++◌, length, refl, sym, ap, subst, ◌∙◌, arith, Some, length-append, append_assoc}
+use Rattle.std.specs.Prelude.{slice_index, slice_set}
+use Rattle.std.proofs.lemmas.List.{get_or-set_same, get_or-set_other}
 use Rattle.base.specs.Arithmetic.{sum32}
 use Rattle.rv_encode.specs.declared.instruction.Instr.{Instr}
 use Rattle.rv_encode.specs.declared.instruction.Instr.TheVariants.{Sw}
@@ -10,24 +10,24 @@ use Rattle.rv_machine.specs.Words.{word_stored}
 use Rattle.rv_machine.specs.Arithmetic.{sign_extended}
 use Rattle.rv_machine.specs.Step.{next, execute, store}
 use Rattle.rv_machine.specs.Run.{Moment}
-use Rattle.mid_code.specs.Arena.{Arena, Block, words_of, stack_from, is_lent}
+use Rattle.mid_code.specs.Arena.{Block}
 use Rattle.mid_code.specs.State.{Registers, MidState, charged, register}
 use Rattle.mid_lines.specs.declared.line.LineProgram.{LineProgram}
-use Rattle.mid_lines.specs.LineMeaning.{Standing, Activation, Caller}
-use Rattle.mid_lines.specs.StackLaw.{frame_of, blocks_of, StandsOn, CallersStandOn}
+use Rattle.mid_lines.specs.LineMeaning.{Activation, Caller}
+use Rattle.mid_lines.specs.StackLaw.{frame_of, StandsOn, CallersStandOn}
 use Rattle.back_places.specs.declared.place.Place.{Place}
 use Rattle.back_places.specs.declared.place.Place.TheVariants.{InRegister, InSlot, AsConstant}
 use Rattle.back_places.specs.Places.{StaticRecord, Located, Way, way_of, reachable}
 use Rattle.back_places.specs.Operands.{at_slot}
 use Rattle.back_places.specs.Facts.{IsPlace, Apart, Gives}
 use Rattle.back_places.specs.Good.{IsGood}
-use Rattle.back_places.specs.Relation.{HasCode, Stands, IsAt, base_of, AreThere, Machine, Point, Runs}
+use Rattle.back_places.specs.Relation.{Stands, IsAt, base_of, AreThere, Point}
 use Rattle.back_places.specs.StepLaw.{Comes}
 use Rattle.back_stepping.specs.Arriving.{Given, Arrives}
-use Rattle.back_stepping.specs.Moments.{state_at, Beside, later, moment, beside, AreSmall, Sets, Ready, Frame}
+use Rattle.back_stepping.specs.Moments.{state_at, later, moment, beside, Sets, Frame}
 use Rattle.back_stepping.proofs.Coming.{next_place, stays, same_moment, and_one, sets_on}
 use Rattle.back_stepping.proofs.Operands.{Reached, reached, reachable_few, frame_still}
-use Rattle.back_stepping.proofs.Going.{OwnChange, no_change, slot_change, After, goes_on}
+use Rattle.back_stepping.proofs.Going.{no_change, slot_change, After, goes_on}
 
 -- a register read after another was set
 pub register_other : (rs : Registers) (to v : ℕ) (w : ℕ) → v ≢ to → register v (slice_set rs to (Some w)) ≡ register v rs
@@ -44,7 +44,6 @@ register_same (y ∷ ys) (suc to) w x h = register_same ys to w x h
 
 module _ (program : LineProgram) (l : Located) (Fact : (number line register : ℕ) → Place → Type 0) (first : List Block)
     (good : IsGood program l Fact) where
-
   -- the registers behind code that sets one, scratch registers apart
   pub record SetsOne (a : Activation) (z : MidState) (words : List ℕ) (code : List Instr) (registers : List ℕ) (target : Place) : Type 0 where
     pub registers' : List ℕ
@@ -82,10 +81,10 @@ module _ (program : LineProgram) (l : Located) (Fact : (number line register : �
       → AreThere program l Fact first registers' words' (base_of program (length z.arena.memory) a) a.procedure line' rs'
   all_there a line' w rs' z registers registers' words words' target reach others slots given v p x f e = elim (reach v p x f e) [
     | inl same ↦
-      subst (λ q. IsAt registers' words' (base_of program (length z.arena.memory) a) q x) (sym same.0)
-      (subst (λ y. IsAt registers' words' (base_of program (length z.arena.memory) a) target y) (sym same.1) given)
+        subst (λ q. IsAt registers' words' (base_of program (length z.arena.memory) a) q x) (sym same.0)
+        (subst (λ y. IsAt registers' words' (base_of program (length z.arena.memory) a) target y) (sym same.1) given)
     | inr other ↦
-      stays_at a registers registers' words words' target p x (base_of program (length z.arena.memory) a) others slots (good.placed a.procedure line' v p f) other.1 other.0
+        stays_at a registers registers' words words' target p x (base_of program (length z.arena.memory) a) others slots (good.placed a.procedure line' v p f) other.1 other.0
   ]
 
   -- into a register
@@ -151,10 +150,10 @@ module _ (program : LineProgram) (l : Located) (Fact : (number line register : �
       let here = state_at (at + length pre) s.registers' r.words in
       let p : sum32 (4 * (at + length pre)) 4 ≡ 4 * (at + length pre + 1) = next_place (at + length pre) (omega (arith, stands.to, good.low, len)) in
       let stored : execute ins here ≡ next (state_at (at + length pre + 1) s.registers' words') =
-        ap (λ y. store (stored_at 4 y (slice_index s.registers' x) (bytes_of r.words)) here) address
-        ∙ ap (λ y. store (stored_at 4 (4 * (base + k)) y (bytes_of r.words)) here) holds
-        ∙ ap (λ y. store y here) (word_stored r.words (base + k) w inside)
-        ∙ ap (λ y. next (record { pc = y; registers = s.registers'; memory = bytes_of words' })) p in
+      ap (λ y. store (stored_at 4 y (slice_index s.registers' x) (bytes_of r.words)) here) address
+      ∙ ap (λ y. store (stored_at 4 (4 * (base + k)) y (bytes_of r.words)) here) holds
+      ∙ ap (λ y. store y here) (word_stored r.words (base + k) w inside)
+      ∙ ap (λ y. next (record { pc = y; registers = s.registers'; memory = bytes_of words' })) p in
       let o = later 1 (later (length pre) (beside m)) in
       let comes = and_one m at r.words s.registers' pre [] ins (state_at (at + length pre + 1) s.registers' words') r.machine.arena.words_small r.pc r.machine.memory s.sets stands.has (omega (arith, stands.to, good.low, len)) stored in
       let place : at + length pre + 1 ≡ l.line_at a.procedure line' = omega (arith, behind, len) in
@@ -192,7 +191,7 @@ module _ (program : LineProgram) (l : Located) (Fact : (number line register : �
       let f = frame_still m.state.registers s.registers' r.words way base (frame_of program a.procedure).words s.after_is.stack frame in
       let there = reached r.words s.registers' way base (frame_of program a.procedure).words k r.machine.arena.words_small s.after_is.ready f within in
       let same : pre ++ at_slot way k (Sw x) ≡ (pre ++ there.before) ++ Sw x there.from there.offset ∷ [] =
-        ap (λ c. pre ++ c) (there.is_code (Sw x)) ∙ sym (append_assoc pre there.before (Sw x there.from there.offset ∷ [])) in
+      ap (λ c. pre ++ c) (there.is_code (Sw x)) ∙ sym (append_assoc pre there.before (Sw x there.from there.offset ∷ [])) in
       subst (λ c. Given program l Fact first a line' rs' callers (charged cost z) m (length c)) (sym same)
       (stored_in_slot a at known line' w k x there.from there.offset rs' callers z cost m (pre ++ there.before) st r some (omega (arith, within, few)) frame
       (subst (λ c. Stands l r.words at c) same stands) (behind ∙ ap (λ c. at + length c) same) reach linked records

@@ -1,19 +1,16 @@
 -- From a line to the next: what has changed in the words, and what that keeps.
-use Rattle.std.proofs.Common.{inl, inr, ◌≡◌, ◌≢◌, ℕ, zero, suc, ◌+◌, ◌-◌, ◌*◌, ◌/◌, ◌%◌, ◌^◌, ◌<◌, ◌≤◌, Bool, true, false, List, [], ◌∷◌, ◌++◌, length, refl, sym, ap, subst, ◌∙◌, arith, Some, None, get_or}
-use Rattle.std.specs.Prelude.{◌⊎◌, Option, slice_index, slice_set, slice_get, if◌then◌else◌, ◌==◌}
-use Rattle.std.proofs.lemmas.List.{get_or-set_same, get_or-set_other, length-set}
-use Rattle.rv_machine.specs.Memory.{bytes_of}
+use Rattle.std.proofs.Common.{◌≡◌, ℕ, ◌+◌, ◌*◌, ◌^◌, ◌<◌, ◌≤◌, true, List, ◌∷◌, length, refl, sym, ap, subst, ◌∙◌, arith}
+use Rattle.std.specs.Prelude.{slice_index, slice_set}
+use Rattle.std.proofs.lemmas.List.{get_or-set_other, length-set}
 use Rattle.rv_machine.specs.Run.{Moment}
-use Rattle.mid_code.specs.Arena.{Arena, Block, words_of, stack_from, is_lent}
-use Rattle.mid_code.specs.State.{Registers, MidState, charged, register}
+use Rattle.mid_code.specs.Arena.{Arena, Block, words_of, is_lent}
+use Rattle.mid_code.specs.State.{Registers, MidState, charged}
 use Rattle.mid_lines.specs.declared.line.LineProgram.{LineProgram}
-use Rattle.mid_lines.specs.LineMeaning.{Standing, Activation, Caller, Stage, running}
-use Rattle.mid_lines.specs.StackLaw.{frame_of, blocks_of, StandsOn, CallersStandOn, StageStands}
+use Rattle.mid_lines.specs.LineMeaning.{Activation, Caller}
+use Rattle.mid_lines.specs.StackLaw.{frame_of, blocks_of, StandsOn, CallersStandOn}
 use Rattle.back_places.specs.declared.place.Place.{Place}
-use Rattle.back_places.specs.declared.place.Place.TheVariants.{InRegister, InSlot, AsConstant}
 use Rattle.back_places.specs.Places.{StaticRecord, Located}
-use Rattle.back_places.specs.Relation.{IsAt, base_of, IsPrivate, InForm, IsApart, HasArena, AreThere, HeadsHold, CallersWait, Machine, Links, Point, Runs}
-use Rattle.back_places.specs.Facts.{IsPlace}
+use Rattle.back_places.specs.Relation.{base_of, IsPrivate, InForm, IsApart, HasArena, AreThere, HeadsHold, CallersWait, Machine, Point, Runs}
 use Rattle.back_places.specs.Good.{IsGood}
 use Rattle.back_stepping.specs.Moments.{state_at, Beside, moment, AreSmall, Ready}
 use Rattle.back_stepping.proofs.Operands.{set_small}
@@ -21,7 +18,6 @@ use Rattle.back_stepping.proofs.Private.{private_low, lent_apart, on_blocks, out
 
 module _ (program : LineProgram) (l : Located) (Fact : (number line register : ℕ) → Place → Type 0) (first : List Block)
     (good : IsGood program l Fact) where
-
   -- what the code of an activation leaves in the words that are private: those of its callers, the headers of its records, and its link
   pub record OwnKept (a : Activation) (arena : Arena) (words words' : List ℕ) : Type 0 where
     pub outer : SamePrivate (length arena.memory) a.outer words words'
@@ -38,7 +34,10 @@ module _ (program : LineProgram) (l : Located) (Fact : (number line register : �
 
   pub no_change : (a : Activation) (arena : Arena) (words : List ℕ) → AreSmall words → OwnChange a arena words words
   no_change a arena words small = record {
-    long = refl; small = small; lent = λ i h. refl; code = λ i h k. refl;
+    long = refl;
+    small = small;
+    lent = λ i h. refl;
+    code = λ i h k. refl;
     kept = record { outer = λ i h. refl; heads = λ i p h. refl; link = λ h. refl };
   }
 
@@ -90,7 +89,14 @@ module _ (program : LineProgram) (l : Located) (Fact : (number line register : �
   abbrev pub point_of : (a : Activation) (line : ℕ) (rs : Registers) (callers : List Caller) (z : MidState) (m : Moment) → Runs program l Fact first a line rs callers z m
       → Point program l Fact first a (l.line_at a.procedure line) (l.records a.procedure line) callers z m
   point_of a line rs callers z m r = record {
-    words = r.words; link = r.link; machine = r.machine; pc = r.pc; saved = r.links.saved; records_are = r.records_are; heads = r.heads; waiting = r.waiting;
+    words = r.words;
+    link = r.link;
+    machine = r.machine;
+    pc = r.pc;
+    saved = r.links.saved;
+    records_are = r.records_are;
+    heads = r.heads;
+    waiting = r.waiting;
   }
 
   -- The machine stands at a line of the same activation, in an arena with the same blocks: what is left to show is where values are.

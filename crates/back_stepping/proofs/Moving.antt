@@ -1,25 +1,24 @@
 -- A word goes from one place to another, and the machine stands at a line.
-use Rattle.std.proofs.Common.{inl, inr, ◌≡◌, ◌≢◌, ℕ, zero, suc, ◌+◌, ◌-◌, ◌*◌, ◌/◌, ◌%◌, ◌^◌, ◌<◌, ◌≤◌, Bool, true, false, List, [], ◌∷◌, ◌++◌, length, refl, sym, ap, subst, ◌∙◌, arith, Some, None, get_or, length-append, append-nil, append_assoc}
-use Rattle.std.specs.Prelude.{◌⊎◌, Option, slice_index, slice_set, slice_get}
+use Rattle.std.proofs.Common.{◌≡◌, ◌≢◌, ℕ, zero, suc, ◌+◌, ◌-◌, ◌*◌, ◌^◌, ◌<◌, ◌≤◌, true, List, [], ◌∷◌, length, sym, ap, subst, ◌∙◌, arith, Some, None}
+use Rattle.std.specs.Prelude.{Option, slice_index}
 use Rattle.rv_encode.specs.declared.instruction.Instr.{Instr}
 use Rattle.rv_machine.specs.Run.{Moment}
-use Rattle.mid_code.specs.Arena.{Arena, Block, words_of, stack_from}
+use Rattle.mid_code.specs.Arena.{Block, words_of}
 use Rattle.mid_code.specs.State.{Registers, MidState, charged}
 use Rattle.mid_lines.specs.declared.line.LineProgram.{LineProgram}
 use Rattle.mid_lines.specs.LineMeaning.{Standing, Activation, Caller}
 use Rattle.mid_lines.specs.StackLaw.{frame_of, blocks_of, StandsOn, CallersStandOn}
 use Rattle.back_places.specs.declared.place.Place.{Place}
 use Rattle.back_places.specs.declared.place.Place.TheVariants.{InRegister, InSlot, AsConstant}
-use Rattle.back_places.specs.Places.{StaticRecord, with_landing, only_lent, Located, Way, from_stack, past_lent, no_way, past_record, past_block, way_of, reachable}
+use Rattle.back_places.specs.Places.{StaticRecord, Located, Way, from_stack, past_lent, no_way, past_record, past_block, way_of, reachable}
 use Rattle.back_places.specs.Operands.{read_in, read_code, move_code}
 use Rattle.back_places.specs.Facts.{IsPlace, IsSomewhere, CanHold}
 use Rattle.back_places.specs.Good.{IsGood}
-use Rattle.back_places.specs.Relation.{Stands, IsAt, base_of, HeadHolds, HeadsHold, Machine, Point, static_of, statics}
+use Rattle.back_places.specs.Relation.{Stands, IsAt, base_of, HeadHolds, HeadsHold, Point, static_of, statics}
 use Rattle.back_stepping.specs.Arriving.{Given, Arrives}
 use Rattle.back_stepping.specs.Moments.{AreSmall, Ready, Prepared, LeadsTo, Frame}
 use Rattle.back_stepping.proofs.Private.{outer_words}
 use Rattle.back_stepping.proofs.Operands.{read, loaded}
-use Rattle.back_stepping.proofs.Going.{After}
 use Rattle.back_stepping.proofs.Giving.{SetsOne, given_in_register, given_in_slot, given_nowhere}
 
 -- The way past the records of an activation leads from the begin of its blocks to its frame.
@@ -49,9 +48,9 @@ module _ (program : LineProgram) (l : Located) (Fact : (number line register : �
   spans words size a (s ∷ records) fits h = by s.landing h.0 (spans words size a records (omega (arith, fits)) h.1)
     where
       by : (landing : Option ℕ)
-        → HeadHolds program l Fact first words (size - words_of (blocks_of program a (s ∷ records))) (size - words_of (blocks_of program a records)) a.procedure landing
-        → Spans (way_of (statics records)) size (base_of program size a) (size - words_of (blocks_of program a records)) words
-        → Spans (way_of (static_of s.words landing ∷ statics records)) size (base_of program size a) (size - words_of (blocks_of program a (s ∷ records))) words
+          → HeadHolds program l Fact first words (size - words_of (blocks_of program a (s ∷ records))) (size - words_of (blocks_of program a records)) a.procedure landing
+          → Spans (way_of (statics records)) size (base_of program size a) (size - words_of (blocks_of program a records)) words
+          → Spans (way_of (static_of s.words landing ∷ statics records)) size (base_of program size a) (size - words_of (blocks_of program a (s ∷ records))) words
       by (Some landing) head deeper =
           spans_record (way_of (statics records)) s.words size (base_of program size a) (size - words_of (blocks_of program a records)) _ words deeper (omega (arith, fits))
       by None head deeper =
@@ -84,7 +83,6 @@ read_not_seven frame (AsConstant (suc c)) ok e = omega (arith, e)
 
 module _ (program : LineProgram) (l : Located) (Fact : (number line register : ℕ) → Place → Type 0) (first : List Block)
     (good : IsGood program l Fact) where
-
   -- the frame of an activation, at a point of its code
   pub frame_is :
       (a : Activation) (at : ℕ) (known : List StaticRecord) (callers : List Caller) (z : MidState) (m : Moment)
@@ -112,8 +110,10 @@ module _ (program : LineProgram) (l : Located) (Fact : (number line register : �
     registers' = p.registers';
     sets = p.sets;
     after_is = record {
-      ready = p.ready; small = p.bounded small;
-      stack = p.others 2 (λ e. omega (arith, past, e)) (λ e. omega (arith, e)); heap = p.others 3 (λ e. omega (arith, past, e)) (λ e. omega (arith, e));
+      ready = p.ready;
+      small = p.bounded small;
+      stack = p.others 2 (λ e. omega (arith, past, e)) (λ e. omega (arith, e));
+      heap = p.others 3 (λ e. omega (arith, past, e)) (λ e. omega (arith, e));
     };
     link = p.others 1 (λ e. omega (arith, past, e)) (λ e. omega (arith, e));
     others = λ q ok d. p.others q d (λ e. omega (arith, ok.0, e));
@@ -126,8 +126,10 @@ module _ (program : LineProgram) (l : Located) (Fact : (number line register : �
     registers' = p.registers';
     sets = p.sets;
     after_is = record {
-      ready = p.ready; small = p.bounded small;
-      stack = p.others 2 (λ e. omega (arith, e)) (λ e. omega (arith, e)); heap = p.others 3 (λ e. omega (arith, e)) (λ e. omega (arith, e));
+      ready = p.ready;
+      small = p.bounded small;
+      stack = p.others 2 (λ e. omega (arith, e)) (λ e. omega (arith, e));
+      heap = p.others 3 (λ e. omega (arith, e)) (λ e. omega (arith, e));
     };
     link = p.others 1 (λ e. omega (arith, e)) (λ e. omega (arith, e));
     others = λ q ok d. p.others q (λ e. omega (arith, e, ok.0)) (λ e. omega (arith, e, ok.0));

@@ -1,6 +1,6 @@
 -- What the code of operands does: a word comes from its place into a register.
-use Rattle.std.proofs.Common.{inl, inr, ◌≡◌, ◌≢◌, ℕ, zero, suc, ◌+◌, ◌-◌, ◌*◌, ◌/◌, ◌%◌, ◌^◌, ◌<◌, ◌≤◌, Bool, true, false, List, [], ◌∷◌, ◌++◌, length, refl, sym, ap, subst, ◌∙◌, arith, Some, get_or, eqb-true, eq-eqb, append-nil}
-use Rattle.std.specs.Prelude.{◌⊎◌, Option, slice_index, slice_set, slice_get, if◌then◌else◌, ◌==◌, nat_lt, nat_le}
+use Rattle.std.proofs.Common.{inl, inr, ◌≡◌, ◌≢◌, ℕ, zero, suc, ◌+◌, ◌*◌, ◌^◌, ◌<◌, ◌≤◌, Bool, true, false, List, [], ◌∷◌, ◌++◌, length, refl, sym, ap, subst, ◌∙◌, arith, eqb-true}
+use Rattle.std.specs.Prelude.{◌⊎◌, slice_index, slice_set, if◌then◌else◌, ◌==◌, nat_lt, nat_le}
 use Rattle.std.proofs.lemmas.Bool.Decides.{nat_tests}
 use Rattle.std.proofs.lemmas.List.{get_or-set_same, get_or-set_other, length-set}
 use Rattle.base.specs.Arithmetic.{sum32}
@@ -13,7 +13,7 @@ use Rattle.rv_machine.specs.Step.{execute, gives, load}
 use Rattle.back_places.specs.declared.place.Place.{Place}
 use Rattle.back_places.specs.declared.place.Place.TheVariants.{InRegister, InSlot, AsConstant}
 use Rattle.back_places.specs.Places.{Way, from_stack, past_lent, no_way, reachable}
-use Rattle.back_places.specs.Operands.{high_part, low_part, is_short, constant_code, address_code, slot_offset, at_slot, at_word, load_into, read_in, read_code}
+use Rattle.back_places.specs.Operands.{high_part, low_part, is_short, constant_code, slot_offset, at_slot, load_into, read_in, read_code}
 use Rattle.back_places.specs.Facts.{IsPlace}
 use Rattle.back_places.specs.Relation.{IsAt}
 use Rattle.back_stepping.specs.Moments.{state_at, AreSmall, Sets, with_word_in, Ready, Prepared, LeadsTo, Frame}
@@ -74,7 +74,7 @@ pub parts_prepared :
 parts_prepared words registers to word small ready some within h =
     let p = prepared_one words registers (Lui to (high_part word)) to (high_part word * 4096) small ready some within (omega arith) (λ i. refl) in
     let v : sum32 (slice_index p.registers' to) (sign_extended 12 (low_part word)) ≡ word =
-      ap (λ x. sum32 x (sign_extended 12 (low_part word))) p.holds ∙ parts_sum word h in
+    ap (λ x. sum32 x (sign_extended 12 (low_part word))) p.holds ∙ parts_sum word h in
     prepared_on p (λ q ne n7. ne) (prepared_one words p.registers' (Addi to to (low_part word)) to word small p.ready some within h (λ i. ap (λ x. gives to x (state_at i p.registers' words)) v))
 
 pub constant_prepared :
@@ -83,10 +83,10 @@ pub constant_prepared :
 constant_prepared words registers to word small ready some within h = by (is_short word) refl
   where
     by : (t : Bool) → is_short word ≡ t
-      → Prepared words registers (if t then Addi to 0 (low_part word) ∷ [] else Lui to (high_part word) ∷ Addi to to (low_part word) ∷ []) to word to
+        → Prepared words registers (if t then Addi to 0 (low_part word) ∷ [] else Lui to (high_part word) ∷ Addi to to (low_part word) ∷ []) to word to
     by true e =
         let v : sum32 (slice_index registers 0) (sign_extended 12 (low_part word)) ≡ word =
-          ap (λ x. sum32 x (sign_extended 12 (low_part word))) ready.zero_is ∙ ap (λ x. sum32 0 x) (short_is word h e) ∙ omega (arith, h) in
+        ap (λ x. sum32 x (sign_extended 12 (low_part word))) ready.zero_is ∙ ap (λ x. sum32 0 x) (short_is word h e) ∙ omega (arith, h) in
         prepared_one words registers (Addi to 0 (low_part word)) to word small ready some within h (λ i. ap (λ x. gives to x (state_at i registers words)) v)
     by false e = parts_prepared words registers to word small ready some within h
 
@@ -124,8 +124,8 @@ reached_from_stack words registers depth base frame k small ready f h = by (nat_
     low_stack = omega (arith, f.leads, inside)
 
     chosen : (t : Bool) → nat_lt (slot_offset depth k) 2048 ≡ t → (access : (base offset : ℕ) → Instr)
-      → at_slot (from_stack depth) k access
-      ≡ (if t then access 2 (slot_offset depth k) ∷ []
+        → at_slot (from_stack depth) k access
+        ≡ (if t then access 2 (slot_offset depth k) ∷ []
         else Lui 7 (high_part (slot_offset depth k)) ∷ Add 7 7 2 ∷ access 7 (low_part (slot_offset depth k)) ∷ [])
     chosen t e access =
         ap (λ b. if b then access 2 (slot_offset depth k) ∷ []
@@ -150,9 +150,9 @@ reached_from_stack words registers depth base frame k small ready f h = by (nat_
         let one = prepared_one words registers (Lui 7 hi) 7 (hi * 4096) small ready (omega arith) (omega arith) (omega arith) (λ i. refl) in
         let sp : slice_index one.registers' 2 ≡ slice_index registers 2 = one.others 2 (λ x. omega (arith, x)) (λ x. omega (arith, x)) in
         let v : sum32 (slice_index one.registers' 7) (slice_index one.registers' 2) ≡ sum32 (hi * 4096) (slice_index registers 2) =
-          ap (λ x. sum32 x (slice_index one.registers' 2)) one.holds ∙ ap (λ x. sum32 (hi * 4096) x) sp in
+        ap (λ x. sum32 x (slice_index one.registers' 2)) one.holds ∙ ap (λ x. sum32 (hi * 4096) x) sp in
         let two = prepared_one words one.registers' (Add 7 7 2) 7 (sum32 (hi * 4096) (slice_index registers 2)) small one.ready (omega arith) (omega arith) (omega arith)
-          (λ i. ap (λ x. gives 7 x (state_at i one.registers' words)) v) in
+        (λ i. ap (λ x. gives 7 x (state_at i one.registers' words)) v) in
         record {
           before = Lui 7 hi ∷ Add 7 7 2 ∷ [];
           from = 7;
@@ -177,10 +177,10 @@ reached_past_lent words registers depth base frame k small ready f h near =
     let inside : base + k < 2 ^ 24 = omega (arith, f.inside, h, f.memory_small) in
     let four : sign_extended 12 4 ≡ 4 = small_extended 4 (omega arith) in
     let there : sum32 (slice_index registers 2) (sign_extended 12 4) ≡ 4 * (block + 1) =
-      ap (λ x. sum32 (slice_index registers 2) x) four ∙ omega (arith, f.leads.1, f.leads.2, f.memory_small) in
+    ap (λ x. sum32 (slice_index registers 2) x) four ∙ omega (arith, f.leads.1, f.leads.2, f.memory_small) in
     let one = prepared_one words registers (Lw 7 2 4) 7 (slice_index words (block + 1)) small ready (omega arith) (omega arith) (small (block + 1))
-      (λ i. ap (λ x. load 7 (number_at 4 x (bytes_of words)) (state_at i registers words)) there
-      ∙ ap (λ x. load 7 x (state_at i registers words)) (word_read words (block + 1) f.leads.2 (small (block + 1)))) in
+    (λ i. ap (λ x. load 7 (number_at 4 x (bytes_of words)) (state_at i registers words)) there
+    ∙ ap (λ x. load 7 x (state_at i registers words)) (word_read words (block + 1) f.leads.2 (small (block + 1)))) in
     record {
       before = Lw 7 2 4 ∷ [];
       from = 7;
@@ -226,8 +226,8 @@ slot_prepared words registers way base frame to k small ready f h some within =
     let few = reachable_few way frame in
     let inside : base + k < length words = omega (arith, f.inside, h, few) in
     let one = prepared_one words r.registers' (Lw to r.from r.offset) to (slice_index words (base + k)) small r.ready some within (small (base + k))
-      (λ i. ap (λ x. load to (number_at 4 x (bytes_of words)) (state_at i r.registers' words)) r.address
-      ∙ ap (λ x. load to x (state_at i r.registers' words)) (word_read words (base + k) inside (small (base + k)))) in
+    (λ i. ap (λ x. load to (number_at 4 x (bytes_of words)) (state_at i r.registers' words)) r.address
+    ∙ ap (λ x. load to x (state_at i r.registers' words)) (word_read words (base + k) inside (small (base + k)))) in
     subst (λ code. Prepared words registers code to (slice_index words (base + k)) to) (sym (r.is_code (Lw to)))
     (record {
       registers' = one.registers';
@@ -307,7 +307,7 @@ pub record BothRead (words registers : List ℕ) (code : List Instr) (ra rb a b 
 
 -- a register that is no scratch register
 pub no_scratch : (q r : ℕ) → (q < 5) ⊎ (7 < q) → 4 < r → r < 8 → q ≢ r
-no_scratch q r h low high e = elim h [ | inl k ↦ omega (arith, k, e, low) | inr k ↦ omega (arith, k, e, high) ]
+no_scratch q r h low high e = elim h [ inl k ↦ omega (arith, k, e, low) | inr k ↦ omega (arith, k, e, high) ]
 
 pub both_read :
     (words registers : List ℕ) (way : Way) (base frame : ℕ) (p q : Place) (a b : ℕ) → AreSmall words → Ready registers → Frame registers words way base frame
@@ -317,7 +317,7 @@ both_read words registers way base frame p q a b small ready f okp okq ha hb =
     let one = read words registers way base frame 5 p a small ready f okp (omega arith) (omega arith) ha in
     let f' = frame_still registers one.registers' words way base frame (one.others 2 (λ e. omega (arith, e)) (λ e. omega (arith, e))) f in
     let two = read words one.registers' way base frame 6 q b small one.ready f' okq (omega arith) (omega arith)
-      (past_scratch registers one.registers' words base (reachable way frame) 5 q b (omega arith) one.others okq hb) in
+    (past_scratch registers one.registers' words base (reachable way frame) 5 q b (omega arith) one.others okq hb) in
     let apart = read_apart p (reachable way frame) okp in
     record {
       registers' = two.registers';

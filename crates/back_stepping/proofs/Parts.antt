@@ -1,6 +1,6 @@
 -- Words in two parts: their sum is the word.
-use Rattle.std.proofs.Common.{inl, inr, ◌≡◌, ◌≢◌, ℕ, zero, suc, ◌+◌, ◌-◌, ◌*◌, ◌/◌, ◌%◌, ◌^◌, ◌<◌, ◌≤◌, Bool, true, false, refl, sym, ap, subst, ◌∙◌, arith}
-use Rattle.std.specs.Prelude.{◌⊎◌, ◌||◌, if◌then◌else◌, nat_lt, nat_le}
+use Rattle.std.proofs.Common.{inl, inr, ◌≡◌, ℕ, ◌+◌, ◌-◌, ◌*◌, ◌%◌, ◌^◌, ◌<◌, ◌≤◌, Bool, true, false, refl, ap, ◌∙◌, arith}
+use Rattle.std.specs.Prelude.{◌⊎◌, ◌||◌, nat_lt, nat_le}
 use Rattle.std.proofs.lemmas.Bool.Decides.{nat_tests}
 use Rattle.base.specs.Arithmetic.{sum32}
 use Rattle.rv_machine.specs.Arithmetic.{sign_extended}
@@ -41,12 +41,12 @@ either_of false b h = inr h
 pub short_is : (word : ℕ) → word < 2 ^ 32 → is_short word ≡ true → sign_extended 12 (low_part word) ≡ word
 short_is word h e = elim (either_of (nat_lt word 2048) (nat_le 4294965248 word) e) [
   | inl k ↦
-    let below : word < 2048 = grind (arith, nat_tests, k) in
-    let same : word % 4096 ≡ word = omega (arith, below) in
-    ap (λ x. sign_extended 12 x) same ∙ small_extended word below
+      let below : word < 2048 = grind (arith, nat_tests, k) in
+      let same : word % 4096 ≡ word = omega (arith, below) in
+      ap (λ x. sign_extended 12 x) same ∙ small_extended word below
   | inr k ↦
-    let above : 4294965248 ≤ word = grind (arith, nat_tests, k) in
-    high_extended (word % 4096) (omega arith) (omega (arith, above, h)) ∙ omega (arith, above, h)
+      let above : 4294965248 ≤ word = grind (arith, nat_tests, k) in
+      high_extended (word % 4096) (omega arith) (omega (arith, above, h)) ∙ omega (arith, above, h)
 ]
 
 pub low_part_small : (word : ℕ) → low_part word < 2 ^ 12

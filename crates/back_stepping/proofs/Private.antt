@@ -1,19 +1,19 @@
 -- The words that code has for itself: they are not lent, and what callers wait with is there alone.
-use Rattle.std.proofs.Common.{inl, inr, ◌≡◌, ◌≢◌, ℕ, zero, suc, ◌+◌, ◌-◌, ◌*◌, ◌/◌, ◌%◌, ◌^◌, ◌<◌, ◌≤◌, Bool, true, false, ◌&&◌, List, [], ◌∷◌, ◌++◌, length, refl, sym, ap, subst, ◌∙◌, arith, Some, None, eqb-true, eq-eqb, append_assoc, get_or}
-use Rattle.std.specs.Prelude.{◌⊎◌, Option, slice_index, slice_set, slice_get, if◌then◌else◌, ◌==◌, ◌||◌, nat_lt, nat_le}
+use Rattle.std.proofs.Common.{inl, inr, ◌≡◌, ℕ, ◌+◌, ◌-◌, ◌*◌, ◌%◌, ◌<◌, ◌≤◌, Bool, true, false, ◌&&◌, List, [], ◌∷◌, ◌++◌, length, refl, sym, ap, subst, ◌∙◌, arith, Some, None, append_assoc}
+use Rattle.std.specs.Prelude.{◌⊎◌, Option, slice_index, slice_get, ◌==◌, ◌||◌, nat_lt, nat_le}
 use Rattle.std.proofs.lemmas.Bool.Decides.{nat_tests}
-use Rattle.mid_code.specs.Arena.{Arena, Block, BlockKind, activation_frame, open_record, closed_record, is_record, words_of, begin_of, lent_from, stack_from, is_within, is_in_record, is_lent, header_words}
-use Rattle.mid_code.specs.State.{Registers, register}
+use Rattle.mid_code.specs.Arena.{Arena, Block, BlockKind, activation_frame, open_record, closed_record, is_record, words_of, begin_of, lent_from, is_within, is_in_record, is_lent}
+use Rattle.mid_code.specs.State.{Registers}
 use Rattle.mid_lines.proofs.Conjunctions.{front_true, back_true}
 use Rattle.mid_lines.specs.declared.line.LineProcedure.{LineProcedure}
 use Rattle.mid_lines.specs.declared.line.LineProgram.{LineProgram}
 use Rattle.mid_lines.specs.LineMeaning.{Standing, Activation, Caller}
-use Rattle.mid_lines.specs.StackLaw.{record_kind, record_block, frame_in, frame_of, blocks_of, BlocksAreCounted, StandsOn, CallersStandOn}
+use Rattle.mid_lines.specs.StackLaw.{record_kind, frame_in, frame_of, blocks_of, StandsOn, CallersStandOn}
 use Rattle.rv_encode.specs.declared.instruction.Instr.{Instr}
 use Rattle.back_places.specs.declared.place.Place.{Place}
 use Rattle.back_places.specs.declared.place.Place.TheVariants.{InRegister, InSlot, AsConstant}
-use Rattle.back_places.specs.Places.{StaticRecord, Located}
-use Rattle.back_places.specs.Relation.{HasCode, Stands, IsAt, base_of, own_words, IsPrivate, InForm, HasProgram, AreThere, HeadHolds, HeadsHold, LandingHolds, LandingsHold, Names, Waits, CallersWait}
+use Rattle.back_places.specs.Places.{Located}
+use Rattle.back_places.specs.Relation.{HasCode, Stands, IsAt, base_of, own_words, IsPrivate, InForm, HasProgram, HeadHolds, HeadsHold, LandingHolds, LandingsHold, Waits, CallersWait}
 use Rattle.back_places.specs.Facts.{IsPlace}
 use Rattle.back_places.specs.Good.{IsGood}
 
@@ -43,17 +43,21 @@ record_apart :
 record_apart size [] i fits h = absurd (cc h)
 record_apart size (b ∷ bs) i fits h = elim (either_true (is_record b.kind && is_within (lent_from size (b ∷ bs)) (begin_of size bs) (4 * i)) (is_in_record size bs (4 * i)) h) [
   | inl k ↦
-    let w = within_bounds (lent_from size (b ∷ bs)) (begin_of size bs) (4 * i) (back_true (is_record b.kind) _ k) in
-    (omega (arith, w, fits), λ p. elim p [
-      | inl q ↦ own b.kind (front_true (is_record b.kind) _ k) w q
-      | inr q ↦ let low = private_low size bs i q in omega (arith, low, w.1, fits)
-    ])
+      let w = within_bounds (lent_from size (b ∷ bs)) (begin_of size bs) (4 * i) (back_true (is_record b.kind) _ k) in (
+        omega (arith, w, fits),
+        λ p. elim p [
+          | inl q ↦ own b.kind (front_true (is_record b.kind) _ k) w q
+          | inr q ↦ let low = private_low size bs i q in omega (arith, low, w.1, fits)
+        ],
+      )
   | inr k ↦
-    let deeper = record_apart size bs i (omega (arith, fits)) k in
-    (omega (arith, deeper.0, fits), λ p. elim p [
-      | inl q ↦ let few = own_few b b.kind in omega (arith, few, q.1, deeper.0, fits)
-      | inr q ↦ deeper.1 q
-    ])
+      let deeper = record_apart size bs i (omega (arith, fits)) k in (
+        omega (arith, deeper.0, fits),
+        λ p. elim p [
+          | inl q ↦ let few = own_few b b.kind in omega (arith, few, q.1, deeper.0, fits)
+          | inr q ↦ deeper.1 q
+        ],
+      )
 ]
   where
     own :
@@ -142,7 +146,6 @@ inner_private program size a records more i h (s ∷ before) e =
     subst (λ r. IsPrivate size (blocks_of program a r) i) (sym e) (inr (inner_private program size a (before ++ more) more i h before refl))
 
 module _ (program : LineProgram) (l : Located) (Fact : (number line register : ℕ) → Place → Type 0) (first : List Block) (size : ℕ) (words words' : List ℕ) (good : IsGood program l Fact) where
-
   place_kept :
       (a : Activation) (bs : List Block) (p : Place) (w : ℕ) → StandsOn program a bs → SamePrivate size bs words words'
       → IsPlace (frame_of program a.procedure).words p → IsAt [] words (base_of program size a) p w → IsAt [] words' (base_of program size a) p w
@@ -178,12 +181,13 @@ module _ (program : LineProgram) (l : Located) (Fact : (number line register : �
       let outer = outer_words program a records in
       let part = part_words a before (s ∷ records) in
       let whole : words_of (blocks_of program a (before ++ s ∷ records)) ≤ size = subst (λ r. words_of (blocks_of program a r) ≤ size) e fits in
-      let at = size - words_of (blocks_of program a (s ∷ records)) in
-      (head_kept at (size - words_of (blocks_of program a records)) a.procedure s.landing
-      (same at (inner_private program size a all (s ∷ records) at (head_private program size a s records) before e) (omega (arith, outer, part, whole)))
-      (same (at + 1) (inner_private program size a all (s ∷ records) (at + 1) (second_private program size a s records) before e) (omega (arith, outer, part, whole)))
-      h.0,
-      heads_kept a all (before ++ s ∷ []) records (e ∙ sym (append_assoc before (s ∷ []) records)) fits same h.1)
+      let at = size - words_of (blocks_of program a (s ∷ records)) in (
+        head_kept at (size - words_of (blocks_of program a records)) a.procedure s.landing
+            (same at (inner_private program size a all (s ∷ records) at (head_private program size a s records) before e) (omega (arith, outer, part, whole)))
+            (same (at + 1) (inner_private program size a all (s ∷ records) (at + 1) (second_private program size a s records) before e) (omega (arith, outer, part, whole)))
+            h.0,
+        heads_kept a all (before ++ s ∷ []) records (e ∙ sym (append_assoc before (s ∷ []) records)) fits same h.1,
+      )
     where
       part_words : (a : Activation) (before records : List Standing) → words_of (blocks_of program a records) ≤ words_of (blocks_of program a (before ++ records))
       part_words a [] records = omega arith
@@ -215,29 +219,33 @@ module _ (program : LineProgram) (l : Located) (Fact : (number line register : �
   }
 
   pub callers_stay :
-        (callers : List Caller) (bs : List Block) (link : ℕ) → words_of bs ≤ size → CallersStandOn program first callers bs → SamePrivate size bs words words'
+      (callers : List Caller) (bs : List Block) (link : ℕ) → words_of bs ≤ size → CallersStandOn program first callers bs → SamePrivate size bs words words'
       → CallersWait program l Fact first words size callers link → CallersWait program l Fact first words' size callers link
   callers_stay [] bs link fits st same w = w
   callers_stay (c ∷ callers) bs link fits st same w =
       let deeper : SamePrivate size c.activation.outer words words' =
-        λ i h. same i (subst (λ b. IsPrivate size b i) (sym st.0.all) (outer_private program size c.activation c.activation.standing i h)) in
+      λ i h. same i (subst (λ b. IsPrivate size b i) (sym st.0.all) (outer_private program size c.activation c.activation.standing i h)) in
       let zero_is : base_of program size c.activation + 0 ≡ base_of program size c.activation = omega arith in
       let own = on_blocks program size c.activation bs 0 st.0 (good.frames c.activation.procedure w.0.saves) in
       let there : slice_index words' (base_of program size c.activation) ≡ slice_index words (base_of program size c.activation) =
-        same (base_of program size c.activation) (subst (λ i. IsPrivate size bs i) zero_is own) in
+      same (base_of program size c.activation) (subst (λ i. IsPrivate size bs i) zero_is own) in
       let all_words = outer_words program c.activation c.activation.standing in
-      let same_blocks : words_of bs ≡ words_of (blocks_of program c.activation c.activation.standing) = ap words_of st.0.all in
-      (waits_kept c bs link fits st.0 same w.0,
-      subst (λ k. CallersWait program l Fact first words' size callers k) (sym there) (callers_stay callers c.activation.outer _ (omega (arith, all_words, same_blocks, fits)) st.1 deeper w.1))
+      let same_blocks : words_of bs ≡ words_of (blocks_of program c.activation c.activation.standing) = ap words_of st.0.all in (
+        waits_kept c bs link fits st.0 same w.0,
+        subst (λ k. CallersWait program l Fact first words' size callers k) (sym there) (callers_stay callers c.activation.outer _ (omega (arith, all_words, same_blocks, fits)) st.1 deeper w.1),
+      )
 
 -- code that stands in words stands in others that are the same there
 pub has_code_kept :
     (words words' : List ℕ) (code : List Instr) (at : ℕ) → length words' ≡ length words
     → ((i : ℕ) → at ≤ i → i < at + length code → slice_index words' i ≡ slice_index words i) → HasCode words at code → HasCode words' at code
 has_code_kept words words' [] at len same h = tt
-has_code_kept words words' (i ∷ more) at len same h =
-    (omega (arith, len, h.0), same at (omega arith) (omega arith) ∙ h.1, h.2,
-    has_code_kept words words' more (at + 1) len (λ j low high. same j (omega (arith, low)) (omega (arith, high))) h.3)
+has_code_kept words words' (i ∷ more) at len same h = (
+  omega (arith, len, h.0),
+  same at (omega arith) (omega arith) ∙ h.1,
+  h.2,
+  has_code_kept words words' more (at + 1) len (λ j low high. same j (omega (arith, low)) (omega (arith, high))) h.3,
+)
 
 pub program_kept :
     (program : LineProgram) (l : Located) (words words' : List ℕ) → length words' ≡ length words

@@ -1,5 +1,5 @@
 -- Where the machine comes behind the code of a line, and what has to be known to say so.
-use Rattle.std.specs.Prelude.{◌≡◌, ◌⊎◌, ℕ, List, length, Option, Some}
+use Rattle.std.specs.Prelude.{◌≡◌, ◌⊎◌, ℕ, List, length, Some}
 use Rattle.rv_machine.specs.Run.{Moment}
 use Rattle.mid_code.specs.Arena.{Block}
 use Rattle.mid_code.specs.State.{Registers, MidState, register}
@@ -12,7 +12,6 @@ use Rattle.back_places.specs.Relation.{IsAt, base_of, Runs}
 use Rattle.back_places.specs.StepLaw.{Comes}
 
 module _ (program : LineProgram) (l : Located) (Fact : (number line register : ℕ) → Place → Type 0) (first : List Block) where
-
   -- the machine comes to a line of an activation, with these registers, in so many instructions
   pub record Given (a : Activation) (line' : ℕ) (rs' : Registers) (callers : List Caller) (z' : MidState) (m : Moment) (count : ℕ) : Type 0 where
     pub moment' : Moment

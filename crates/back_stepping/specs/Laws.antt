@@ -1,5 +1,5 @@
 -- The laws of code that reads and moves words, wherever they are, and of what it leaves.
-use Rattle.std.specs.Prelude.{◌≡◌, ◌<◌, ◌≤◌, ℕ, ◌+◌, ◌-◌, ◌*◌, ◌%◌, ◌^◌, Bool, true, not, nat_lt, List, length, Option, Some, slice_index}
+use Rattle.std.specs.Prelude.{◌≡◌, ◌<◌, ◌≤◌, ℕ, ◌+◌, ◌-◌, ◌*◌, ◌%◌, ◌^◌, Bool, true, not, nat_lt, List, length, Some, slice_index}
 use Rattle.base.specs.Arithmetic.{sum32, less_signed}
 use Rattle.rv_encode.specs.declared.instruction.Instr.{Instr}
 use Rattle.rv_machine.specs.Arithmetic.{sign_extended, even}

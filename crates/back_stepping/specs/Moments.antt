@@ -1,5 +1,5 @@
 -- The machine from one moment to another: states by their position in the words of a memory, and code that changes registers alone.
-use Rattle.std.specs.Prelude.{◌≡◌, ◌<◌, ◌≤◌, ◌⊎◌, ℕ, ◌+◌, ◌*◌, ◌^◌, ◌==◌, List, length, slice_index, slice_set, if◌then◌else◌}
+use Rattle.std.specs.Prelude.{◌≡◌, ◌<◌, ◌≤◌, ℕ, ◌+◌, ◌*◌, ◌^◌, ◌==◌, List, length, slice_index, slice_set, if◌then◌else◌}
 use Rattle.rv_encode.specs.declared.instruction.Instr.{Instr}
 use Rattle.rv_machine.specs.Memory.{bytes_of}
 use Rattle.rv_machine.specs.State.{State}

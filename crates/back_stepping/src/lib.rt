@@ -3,4 +3,6 @@
 
 pub mod laws;
 
-pub use laws::{law_coming, law_instructions, law_lent_words, law_loading, law_moving, law_reach, law_reading};
+pub use laws::{
+    law_coming, law_instructions, law_lent_words, law_loading, law_moving, law_reach, law_reading,
+};
