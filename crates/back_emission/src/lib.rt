@@ -1,0 +1,9 @@
+// The law of steps: what a line does, its instructions do.
+#![tactic(auto)]
+
+pub mod laws;
+
+pub use laws::{
+    law_accesses, law_calls, law_choices, law_computations, law_ends, law_given_back, law_landings,
+    law_new_blocks, law_puts, law_room,
+};

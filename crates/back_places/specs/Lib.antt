@@ -1,0 +1,12 @@
+pub mod Places
+pub mod Operands
+pub mod Selection
+pub mod Passing
+pub mod Blocks
+pub mod LineCode
+pub mod Facts
+pub mod Good
+pub mod Relation
+pub mod StepLaw
+pub mod Trivial
+pub mod Worked

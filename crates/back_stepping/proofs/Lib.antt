@@ -1,0 +1,10 @@
+pub mod Coming
+pub mod Parts
+pub mod Operands
+pub mod Jumps
+pub mod Arithmetic
+pub mod Private
+pub mod Going
+pub mod Giving
+pub mod Lengths
+pub mod Moving
