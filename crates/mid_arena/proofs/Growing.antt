@@ -1,6 +1,6 @@
 -- An arena that grows or changes in a spot: what stands in it goes on standing, and keeps its words.
-use Rattle.std.proofs.Common.{◌≡◌, ◌≤◌, refl, arith}
-use Rattle.mid_code.specs.Arena.{Arena}
+use Rattle.std.proofs.Common.{◌≡◌, ℕ, ◌≤◌, refl, ◌∙◌, arith}
+use Rattle.mid_code.specs.Arena.{Arena, stack_from}
 use Rattle.mid_arena.specs.Places.{Spot, end_of}
 use Rattle.mid_arena.specs.Standing.{ArenaStands, IsLentPart, of_laid, of_heap, SpotStands, Apart, in_front, behind, SameWords}
 use Rattle.mid_arena.specs.Growing.{HeapGrows, Grows, Changes}
@@ -10,6 +10,56 @@ grows_same a stands = record {
   heap = record { size = refl; laid_from = refl; laid_to = refl; heap_from = refl; heap_to = omega arith; stands = stands; words = λ x h. refl };
   stack = λ x from to. refl;
 }
+
+-- ---- one after another
+
+-- the stack in between begins no higher than one of the two others
+abbrev pub IsBetween : (a b c : Arena) → Type 0
+IsBetween a b c = (x : ℕ) → stack_from a ≤ x → stack_from c ≤ x → stack_from b ≤ x
+
+pub heap_grows_both : {a b c : Arena} → HeapGrows a b → HeapGrows b c → HeapGrows a c
+heap_grows_both g h = record {
+  size = h.size ∙ g.size;
+  laid_from = h.laid_from ∙ g.laid_from;
+  laid_to = h.laid_to ∙ g.laid_to;
+  heap_from = h.heap_from ∙ g.heap_from;
+  heap_to = omega (arith, g.heap_to, h.heap_to);
+  stands = h.stands;
+  words = λ x low. h.words x (omega (arith, low, g.heap_to)) ∙ g.words x low;
+}
+
+pub grows_both : (a b c : Arena) → Grows a b → Grows b c → IsBetween a b c → Grows a c
+grows_both a b c g h between = record {
+  heap = heap_grows_both g.heap h.heap;
+  stack = λ x from to. h.stack x (between x from to) to ∙ g.stack x from (between x from to);
+}
+
+-- an arena that grows changes no spot
+pub changes_of_growing : (a b : Arena) (s : Spot) → Grows a b → end_of s ≤ a.heap_to → Changes s a b
+changes_of_growing a b s g low = record {
+  laid_from = g.laid_from;
+  laid_to = g.laid_to;
+  heap_from = g.heap_from;
+  heap_to = g.heap_to;
+  stands = g.stands;
+  before = λ x h. g.words x (omega arith);
+  after = λ x h below. g.words x below;
+  stack = g.stack;
+}
+
+pub changes_both : (a b c : Arena) (s : Spot) → Changes s a b → Changes s b c → IsBetween a b c → Changes s a c
+changes_both a b c s g h between = record {
+  laid_from = h.laid_from ∙ g.laid_from;
+  laid_to = h.laid_to ∙ g.laid_to;
+  heap_from = h.heap_from ∙ g.heap_from;
+  heap_to = omega (arith, g.heap_to, h.heap_to);
+  stands = h.stands;
+  before = λ x low. h.before x low ∙ g.before x low;
+  after = λ x high low. h.after x high (omega (arith, low, g.heap_to)) ∙ g.after x high low;
+  stack = λ x from to. h.stack x (between x from to) to ∙ g.stack x from (between x from to);
+}
+
+-- ---- spots
 
 -- a spot ends in what was laid or in the heap, and so below the stack
 pub spot_below : {a : Arena} {s : Spot} → ArenaStands a → SpotStands a s → end_of s ≤ a.heap_to

@@ -16,6 +16,7 @@ use Rattle.mid_arena.specs.Standing.{ArenaStands, SpotStands}
 use Rattle.mid_arena.specs.Growing.{HeapGrows, Grows, Changes}
 use Rattle.mid_arena.specs.Layouts.{FunctionAt}
 use Rattle.mid_arena.specs.Represents.{Represents}
+use Rattle.mid_arena.specs.Answers.{KeepsWords}
 use Rattle.mid_arena.specs.Law.{SameStreams, KeepsOthers, LawOfGrowth, LawOfOwnWords, LawOfNewOwnWords, LawOfNewFunctions}
 use Rattle.mid_arena.proofs.Growing.{changes_part, spot_below, spot_changed}
 use Rattle.mid_arena.proofs.Memory.{word_elsewhere, stands_with_word}
@@ -85,6 +86,14 @@ word_beside s places (object i) = refl
 
 pub extends_other : (s : Spot) (places : Places) → PlacesExtend places (with_other s places)
 extends_other s places = record { word = λ v w e. word_beside s places v ∙ e }
+
+-- what is kept with it is kept without it
+pub kept_beside : (places : Places) (z : meaning.State) (s : Spot) (a b : Arena) → KeepsWords (with_other s places) z a b → KeepsWords places z a b
+kept_beside places z s a b k = record {
+  functions = k.functions;
+  others = λ n one e. k.others n one (old_spot_beside s places (of_other (suc n)) one e);
+  stack = k.stack;
+}
 
 -- and the new spot is there
 pub new_other_found : (s : Spot) (places : Places) → spot_of (with_other s places) (new_other places) ≡ Some s
