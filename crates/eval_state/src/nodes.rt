@@ -25,17 +25,19 @@ pub(crate) fn own_and_listed(form: &FlatCoreForm) -> (u64, usize)
         FlatCoreForm::Let(list, _) => (1, list.len()),
         FlatCoreForm::MakeFunction(_, parts) => (1, parts.len()),
         FlatCoreForm::Call(_, list) => (2, list.len()),
-        FlatCoreForm::Prim(_, list) => (1, list.len()),
-        FlatCoreForm::CallValue(list) | FlatCoreForm::Tagbody(list) => {
-            (1, list.len().saturating_sub(1))
-        }
+        FlatCoreForm::CallValue(list) | FlatCoreForm::Prim(_, list) => (1, list.len()),
+        FlatCoreForm::Tagbody(list) => (2, list.len().saturating_sub(1)),
         FlatCoreForm::DynamicLet(list, _) => (1, list.len()),
         FlatCoreForm::Global(_)
         | FlatCoreForm::SetGlobal(..)
         | FlatCoreForm::DefGlobal(..)
         | FlatCoreForm::Dynamic(_)
         | FlatCoreForm::SetDynamic(..)
-        | FlatCoreForm::DefDynamic(..) => (2, 0),
+        | FlatCoreForm::DefDynamic(..)
+        | FlatCoreForm::Block(..)
+        | FlatCoreForm::Catch(..)
+        | FlatCoreForm::Unwind(..)
+        | FlatCoreForm::WithHandler(..) => (2, 0),
         FlatCoreForm::Sited(..) => (0, 0),
         _ => (1, 0),
     }

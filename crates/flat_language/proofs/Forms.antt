@@ -398,9 +398,9 @@ module _ (r : Both) where
         row_applies r (signal (core_context r)) (flat_signals.signal (flat_context r)) (signals r) w (text r.names name) _ vs around bound after later a))
     means s n (core.call_value fs) t w env e m around bound z y x =
         subst (λ k. Sim r.lambdas w (mean (core_context r) (core.call_value fs) env around z)
-        (flat_arguments (flat_context r) (flat_forms s n fs) [] e (flat_around around bound) (flat_state.charged (1 + (k - 1)) y) (λ vs after. flat_meaning.mean_call_value (flat_context r) vs (flat_around around bound) after)))
+        (flat_arguments (flat_context r) (flat_forms s n fs) [] e (flat_around around bound) (flat_state.charged (1 + k) y) (λ vs after. flat_meaning.mean_call_value (flat_context r) vs (flat_around around bound) after)))
         (sym (forms_counted s n fs))
-        (arguments_mean s n fs t [] w env e m around bound _ _ (charges (1 + (core_counts.count_forms fs - 1)) x) (λ vs after later a.
+        (arguments_mean s n fs t [] w env e m around bound _ _ (charges (1 + core_counts.count_forms fs) x) (λ vs after later a.
         calls w vs around bound after later a))
     means s n (core.apply f list) t w env e m around bound z y x =
         on (means s n f t.0 w env e m around bound _ _ (charges 1 x)) (λ u after later a.
@@ -424,7 +424,7 @@ module _ (r : Both) where
         at_twin (λ q. Sim r.lambdas w (mean (core_context r) (core.block v body) env around z) (flat_mean (flat_context r) (flat s n (core.block v body)) e (flat_around around bound) q)) x (λ a.
         catches z.exits
         (means (with_around v s) n body t w (with_exit v z env) (flat_meaning.with_exit (twin r.lambdas z x.store x.boxes x.frame x.captured) e) (around_matches m v z (twin r.lambdas z x.store x.boxes x.frame x.captured) refl)
-        (inside block_exit around z) bound _ _ (exits_made (charges 1 a))))
+        (inside block_exit around z) bound _ _ (exits_made (charges 2 a))))
     means s n (core.return_from v f) t w env e m around bound z y x =
         on (means s n f t.1 w env e m around bound _ _ (charges 1 x)) (λ u after later a.
         transfers_to w (under_number v env.exits) (exit_of (exit_place_of s v) e) (exit_same w s env e m v t.0) u (at_segment 0) around bound after later a)
@@ -434,15 +434,15 @@ module _ (r : Both) where
         subst (λ k. Sim r.lambdas w (mean (core_context r) (core.tagbody v fs) env around z)
         (flat_meaning.turned (flat_context r) z.exits (flat_forms (with_around v s) n fs) after_exit (flat_around around bound)
         (flat_sequence (flat_context r) nil (flat_forms (with_around v s) n fs) after_exit (with_turns z.exits (flat_around around bound))
-        (flat_state.exit_made (flat_state.charged (1 + (k - 1)) (twin r.lambdas z x.store x.boxes x.frame x.captured))))))
+        (flat_state.exit_made (flat_state.charged (2 + (k - 1)) (twin r.lambdas z x.store x.boxes x.frame x.captured))))))
         (sym (forms_counted (with_around v s) n fs))
         (turns (with_around v s) n z.exits fs t w (with_exit v z env) after_exit (around_matches m v z (twin r.lambdas z x.store x.boxes x.frame x.captured) refl) around bound
         (sequence_means nil (with_around v s) n fs t w (with_exit v z env) after_exit (around_matches m v z (twin r.lambdas z x.store x.boxes x.frame x.captured) refl) (with_turns z.exits around) bound
-        _ _ (exits_made (charges (1 + (core_counts.count_forms fs - 1)) a)))))
+        _ _ (exits_made (charges (2 + (core_counts.count_forms fs - 1)) a)))))
     means s n (core.go v segment) t w env e m around bound z y x =
         transfers_to w (under_number v env.exits) (exit_of (exit_place_of s v) e) (exit_same w s env e m v t) nil (at_segment segment) around bound _ _ (charges 1 x)
     means s n (core.catch_form tag body) t w env e m around bound z y x =
-        on (means s n tag t.0 w env e m around bound _ _ (charges 1 x)) (λ v after later a.
+        on (means s n tag t.0 w env e m around bound _ _ (charges 2 x)) (λ v after later a.
         at_twin (λ q. Sim r.lambdas w (caught after.exits (mean (core_context r) body env (inside (catch_exit v) around after) (exit_made after)))
         (flat_state.caught q.state.exits (flat_mean (flat_context r) (flat s (n + functions tag) body) e (flat_signals.inside (catch_exit v) (flat_around around bound) q) (flat_state.exit_made q)))) a (λ c.
         catches after.exits (means s (n + functions tag) body t.1 w env e m (inside (catch_exit v) around after) bound _ _ (exits_made c))))
@@ -452,7 +452,7 @@ module _ (r : Both) where
         throws r w v u around bound ready ready' c))
     means s n (core.unwind f cleanup) t w env e m around bound z y x =
         cleans around bound (λ within after. flat_mean (flat_context r) (flat s (n + functions f) cleanup) e within after) (λ within bound_within after later a. means s (n + functions f) cleanup t.1 w env e m within bound_within after later a)
-        (means s n f t.0 w env e m around bound _ _ (charges 1 x))
+        (means s n f t.0 w env e m around bound _ _ (charges 2 x))
     means s n (core.dynamic_let ds body) t w env e m around bound z y x =
         subst (λ k. Sim r.lambdas w (mean (core_context r) (core.dynamic_let ds body) env around z)
         (flat_dynamics_mean (flat_context r) (flat_dynamics s n ds) [] e (flat_around around bound) (flat_state.charged (1 + k) y) (λ vs after.
@@ -494,7 +494,7 @@ module _ (r : Both) where
         on (means s n f t w env e m around bound _ _ (charges 2 x)) (λ u after later a.
         given _ (step (λ (q : State). record q { dynamics = (text r.names name, u) ∷ q.dynamics }) a (λ q. refl) (λ q. refl) (λ q os vs. refl)))
     means s n (core.with_handler handler body) t w env e m around bound z y x =
-        on (means s n handler t.0 w env e m around bound _ _ (charges 1 x)) (λ h after later a.
+        on (means s n handler t.0 w env e m around bound _ _ (charges 2 x)) (λ h after later a.
         handlers w h around bound after later a (λ within ready. flat_mean (flat_context r) (flat s (n + functions handler) body) e within ready) (λ within bound_within ready ready' c. means s (n + functions handler) body t.1 w env e m within bound_within ready ready' c))
     means s n (core.signal_form condition mark) t w env e m around bound z y x =
         on (means s n condition t.0 w env e m around bound _ _ (charges 1 x)) (λ c after later a.

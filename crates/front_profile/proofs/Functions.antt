@@ -172,7 +172,7 @@ apt_alone n o s w has_next name ps fs b g nothing good is =
       counted = λ u rs c k.
           let p : Procedure = procedure_found name (length ps.required) (is_some ps.rest) rs in
           procedure_counted o.spot.sited (defined s) (defined u) p (counted_nodes xs rs) 0
-          (few_nodes (counted_nodes xs rs) (found_nodes rs) (nodes_in (forms_found rs)) _ (counted_at_most xs rs)
+          (few_nodes (counted_nodes xs rs) (found_nodes rs) (nodes_in (forms_found rs)) _ _ (counted_at_most xs rs)
           (forms_counted (spots (defined u) i i rs) xs rs c.match
           (both_plain (each_parameter (all_symbols ps)) (each_inner fs) (parameters_plain (all_symbols ps)) (inner_plain fs)))
           (body_nodes (forms_found rs)))
@@ -180,8 +180,8 @@ apt_alone n o s w has_next name ps fs b g nothing good is =
       numbered = λ u rs c k. record { numbers = refl };
     }
   where
-    few_nodes : (a b c d : ℕ) → a ≤ b → b ≡ c → d ≡ c + 1 → a ≤ d + 4
-    few_nodes a b c d h e f = omega (arith, h, e, f)
+    few_nodes : (a b c d parameters : ℕ) → a ≤ b → b ≡ c → d ≡ c + 1 → a ≤ d + parameters + 4
+    few_nodes a b c d parameters h e f = omega (arith, h, e, f)
 
 -- the function of a slot's option
 

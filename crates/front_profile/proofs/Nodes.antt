@@ -6,7 +6,7 @@ use Rattle.lang_meaning.specs.declared.primitive.Primitive.{Primitive}
 use Rattle.lang_meaning.specs.declared.capture.Capture.{Capture as Captured}
 use Rattle.lang_meaning.specs.Form.{Form, form_and, ClauseForms, local, clauses, let_form, lambda, call, call_value, prim, block, tagbody, dynamic_let, sited}
 use Rattle.lang_meaning.specs.Subforms.{forms_list, clause_list, value_list, dynamic_value_list, outer, inner}
-use Rattle.lang_meaning.specs.Counts.{own_nodes, is_function, all_nodes}
+use Rattle.lang_meaning.specs.Counts.{own_nodes, is_function, parameters, all_nodes}
 use Rattle.lang_meaning.specs.model.View.{forms, forms_back}
 use Rattle.lang_meaning.specs.bridge.Walks.{folded}
 use Rattle.front_profile.specs.declared.elaboration.ElaboratedPart.{ElaboratedPart}
@@ -64,14 +64,14 @@ found_counted (Value f ∷ rs) = more_values (all_nodes f) (found_nodes rs) (nod
 found_counted (Binding v f ∷ rs) = more_bindings (all_nodes f) (found_nodes rs) (nodes_in (forms_found rs)) (nodes_in (value_list (bindings_found rs))) (found_counted rs)
 found_counted (Parameter v ∷ rs) = no_more (found_nodes rs) (nodes_in (forms_found rs)) (nodes_in (value_list (bindings_found rs))) (found_counted rs)
 
-nodes_summed : (f : Form) → all_nodes f ≡ own_nodes f + sum (map all_nodes (outer f)) + (if is_function f then sum (map all_nodes (inner f)) + 4 else sum (map all_nodes (inner f)))
-nodes_summed f = folded (λ g outer inner. own_nodes g + sum outer + (if is_function g then sum inner + 4 else sum inner)) f
+nodes_summed : (f : Form) → all_nodes f ≡ own_nodes f + sum (map all_nodes (outer f)) + (if is_function f then sum (map all_nodes (inner f)) + parameters f + 4 else sum (map all_nodes (inner f)))
+nodes_summed f = folded (λ g outer inner. own_nodes g + sum outer + (if is_function g then sum inner + parameters g + 4 else sum inner)) f
 
-pub nodes_folded : (f : Form) → all_nodes f ≡ own_nodes f + nodes_in (outer f) + (if is_function f then nodes_in (inner f) + 4 else nodes_in (inner f))
+pub nodes_folded : (f : Form) → all_nodes f ≡ own_nodes f + nodes_in (outer f) + (if is_function f then nodes_in (inner f) + parameters f + 4 else nodes_in (inner f))
 nodes_folded f =
     nodes_summed f
-    ∙ ap (λ n. own_nodes f + n + (if is_function f then sum (map all_nodes (inner f)) + 4 else sum (map all_nodes (inner f)))) (summed (outer f))
-    ∙ ap (λ n. own_nodes f + nodes_in (outer f) + (if is_function f then n + 4 else n)) (summed (inner f))
+    ∙ ap (λ n. own_nodes f + n + (if is_function f then sum (map all_nodes (inner f)) + parameters f + 4 else sum (map all_nodes (inner f)))) (summed (outer f))
+    ∙ ap (λ n. own_nodes f + nodes_in (outer f) + (if is_function f then n + parameters f + 4 else n)) (summed (inner f))
 
 listed_nodes : (fs : List Form) → nodes_in (forms_list (forms fs)) ≡ nodes_in fs
 listed_nodes fs = ap nodes_in (forms_back fs)

@@ -163,8 +163,8 @@ module _ {R : State → State → Type 0} {k : IsKeptByRules R} (b : Beside R k)
         (arguments_mean fs [] env around (charged (2 + count_forms fs) z) (λ vs after.
         row_applies b signal wrongs (text b.context.names n) _ vs around after))
     means (call_value fs) env around z =
-        charges (1 + (count_forms fs - 1)) z
-        (arguments_mean fs [] env around (charged (1 + (count_forms fs - 1)) z) (λ vs after. calls vs around after))
+        charges (1 + count_forms fs) z
+        (arguments_mean fs [] env around (charged (1 + count_forms fs) z) (λ vs after. calls vs around after))
     means (apply f list) env around z =
         charges 1 z
         (on (means f env around (charged 1 z)) (λ function after.
@@ -181,22 +181,22 @@ module _ {R : State → State → Type 0} {k : IsKeptByRules R} (b : Beside R k)
         (given around.exits nil after (k.none after))))
     means (block x body) env around z =
         catches z.exits block_exit
-        (charges 1 z (sooner (k.exit (charged 1 z))
-        (means body (with_exit x z env) (inside block_exit around z) (exit_made (charged 1 z)))))
+        (charges 2 z (sooner (k.exit (charged 2 z))
+        (means body (with_exit x z env) (inside block_exit around z) (exit_made (charged 2 z)))))
     means (return_from x f) env around z =
         charges 1 z
         (on (means f env around (charged 1 z)) (λ v after.
         transfers b (under_number x env.exits) v (at_segment 0) around after))
     means (tagbody x segments) env around z =
         turns z.exits segments (with_exit x z env) around
-        (charges (1 + (count_forms segments - 1)) z (sooner (k.exit (charged (1 + (count_forms segments - 1)) z))
+        (charges (2 + (count_forms segments - 1)) z (sooner (k.exit (charged (2 + (count_forms segments - 1)) z))
         (sequence_means nil segments (with_exit x z env) (with_turns z.exits around) _)))
     means (go x segment) env around z =
         charges 1 z
         (transfers b (under_number x env.exits) nil (at_segment segment) around (charged 1 z))
     means (catch_form tag body) env around z =
-        charges 1 z
-        (on (means tag env around (charged 1 z)) (λ v after.
+        charges 2 z
+        (on (means tag env around (charged 2 z)) (λ v after.
         catches after.exits (catch_exit v)
         (sooner (k.exit after) (means body env (inside (catch_exit v) around after) (exit_made after)))))
     means (throw tag f) env around z =
@@ -206,7 +206,7 @@ module _ {R : State → State → Type 0} {k : IsKeptByRules R} (b : Beside R k)
         throws b v x around ready)))
     means (unwind f cleanup) env around z =
         cleans around (λ within after. means cleanup env within after)
-        (charges 1 z (means f env around (charged 1 z)))
+        (charges 2 z (means f env around (charged 2 z)))
     means (dynamic_let bs body) env around z =
         charges (1 + count_dynamics bs) z
         (dynamics_mean bs [] env around (charged (1 + count_dynamics bs) z) (λ vs after.
@@ -220,8 +220,8 @@ module _ {R : State → State → Type 0} {k : IsKeptByRules R} (b : Beside R k)
         charges 2 z (on (means f env around (charged 2 z)) (λ x after.
         given around.exits _ _ (k.dynamics _ after)))
     means (with_handler handler body) env around z =
-        charges 1 z
-        (on (means handler env around (charged 1 z)) (λ h after.
+        charges 2 z
+        (on (means handler env around (charged 2 z)) (λ h after.
         handlers h around after (λ within ready. means body env within ready)))
     means (signal_form condition continuable) env around z =
         charges 1 z

@@ -8,7 +8,7 @@ use Rattle.lang_meaning.specs.declared.program.Procedure.{Procedure}
 use Rattle.lang_meaning.specs.declared.program.SlotRow.{SlotRow}
 use Rattle.lang_meaning.specs.declared.program.ClassRow.{ClassRow}
 use Rattle.lang_meaning.specs.declared.program.ProgramRows.{ProgramRows}
-use Rattle.lang_meaning.specs.Counts.{nodes, all_nodes, application_words}
+use Rattle.lang_meaning.specs.Counts.{nodes, all_nodes, parameter_count, application_words}
 
 -- a literal counts the size of its datum; a class or a function counts one
 abbrev pub row_nodes : LiteralRow → ℕ
@@ -16,9 +16,9 @@ row_nodes (row.Datum d) = size_of d
 row_nodes (row.Class c) = 1
 row_nodes (row.Function name) = 1
 
--- a procedure counts its body with the functions inside
+-- a procedure counts its body with the functions inside, its parameters, and four
 abbrev pub procedure_nodes : Procedure → ℕ
-procedure_nodes p = all_nodes p.body + 4
+procedure_nodes p = all_nodes p.body + parameter_count p.required p.rest + 4
 
 -- a class counts its precedence list, its slots and their initargs
 abbrev pub slot_nodes : SlotRow → ℕ

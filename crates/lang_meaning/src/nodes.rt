@@ -2,12 +2,14 @@
 
 ghost use Rattle.std.specs.Prelude.{◌≡◌, min, length, drop};
 ghost use Rattle.std.specs.List.{sum_by};
-ghost use Rattle.lang_meaning.specs.Counts.{all_nodes};
+ghost use Rattle.lang_meaning.specs.Counts.{all_nodes, parameter_count};
 ghost use Rattle.lang_meaning.specs.ProgramCounts.{row_nodes, procedure_nodes, slot_nodes, class_nodes, program_nodes, frame_words};
 
+use crate::capture::Var;
 use crate::core_form::{Core, CoreList};
 use crate::program::{
     ClassRow, ClassRows, LiteralRow, LiteralRows, Procedure, ProcedureList, ProgramRows, SlotRows,
+    VarList,
 };
 
 /// Whether the body of a `lambda` counts where the `lambda` stands.
@@ -53,12 +55,24 @@ pub fn row_nodes(row: &LiteralRow) -> u64
     }
 }
 
-/// The nodes of a procedure: those of its body with the functions inside, and four; 2^64 - 1 where that
-/// is more. Takes no memory.
+/// The nodes of a procedure: those of its body with the functions inside, one for each parameter, and four;
+/// 2^64 - 1 where that is more. Takes no memory.
 pub fn procedure_nodes(procedure: &Procedure) -> u64
     ensures { result ≡ min (procedure_nodes procedure.now) 18446744073709551615 }
 {
-    form_nodes(&procedure.body).saturating_add(4)
+    form_nodes(&procedure.body)
+        .saturating_add(parameter_count(&procedure.required, procedure.rest))
+        .saturating_add(4)
+}
+
+// The parameters of a function, the rest parameter among them.
+pub(crate) fn parameter_count(required: &VarList, rest: Option<Var>) -> u64
+    ensures { result ≡ min (parameter_count required.now rest) 18446744073709551615 }
+{
+    match rest {
+        Some(_) => (required.len() as u64).saturating_add(1),
+        None => required.len() as u64,
+    }
 }
 
 /// The nodes of a form with the functions inside it; 2^64 - 1 where that is more. Takes no memory.

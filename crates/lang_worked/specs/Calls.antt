@@ -64,14 +64,14 @@ abbrev pub one_application : ProgramRows
 one_application = a_program (a_number 1 ∷ []) [] []
     (call_value (forms (a_lambda (0 ∷ []) (local 0 ∷ []) [] ∷ literal 0 ∷ [])) ∷ [])
 
--- Units: 2 for the call and its argument, 1 for the `lambda` and 2 for the words of the function, 1 for the
+-- Units: 3 for the call, its operator and its argument, 1 for the `lambda` and 2 for the words of the function, 1 for the
 -- literal, 1 for the argument with which the application is entered, 2 for the body and the variable.
--- Words: the main form has 4 nodes, so 16 + 16 * 4 of the stack; then 2 of the heap for the function; then
+-- Words: the main form has 5 nodes, so 16 + 16 * 5 of the stack; then 2 of the heap for the function; then
 -- 16 + 16 * 2 + 1 of the stack for the application with its argument.
 abbrev pub OneApplication : Type 0
 OneApplication =
-    ((meaning [] one_application [] 1 unlimited).units ≡ 2 + (1 + 2) + 1 + 1 + 2)
-    × ((meaning [] one_application [] 1 unlimited).peak ≡ (16 + 16 * 4) + 2 + (16 + 16 * 2 + 1))
+    ((meaning [] one_application [] 1 unlimited).units ≡ 3 + (1 + 2) + 1 + 1 + 2)
+    × ((meaning [] one_application [] 1 unlimited).peak ≡ (16 + 16 * 5) + 2 + (16 + 16 * 2 + 1))
 
 -- (cons 1 1): the main form has 5 nodes, so it asks for 96 words, and the cons for 2 more
 abbrev pub one_cons : ProgramRows

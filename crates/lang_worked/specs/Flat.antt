@@ -21,8 +21,8 @@ pub record DoesFlat (names : List (List ℕ)) (program : ProgramRows) (k : ℕ) 
 -- the units and the words of an application
 abbrev pub OneApplication : Type 0
 OneApplication =
-    ((flat_meaning [] (flat_program one_application) [] 1 unlimited).units ≡ 2 + (1 + 2) + 1 + 1 + 2)
-    × ((flat_meaning [] (flat_program one_application) [] 1 unlimited).peak ≡ (16 + 16 * 4) + 2 + (16 + 16 * 2 + 1))
+    ((flat_meaning [] (flat_program one_application) [] 1 unlimited).units ≡ 3 + (1 + 2) + 1 + 1 + 2)
+    × ((flat_meaning [] (flat_program one_application) [] 1 unlimited).peak ≡ (16 + 16 * 5) + 2 + (16 + 16 * 2 + 1))
 
 -- an input of two bytes
 abbrev pub TwoBytes : Type 0
@@ -30,7 +30,7 @@ TwoBytes = (flat_meaning [] (flat_program two_bytes) (7 ∷ []) 0 unlimited).end
 
 -- the words of a function that captures a box
 abbrev pub CountingWords : Type 0
-CountingWords = (flat_meaning [] (flat_program counting) [] 3 unlimited).peak ≡ (16 + 16 * 19) + 1 + 3 + (16 + 16 * 7)
+CountingWords = (flat_meaning [] (flat_program counting) [] 3 unlimited).peak ≡ (16 + 16 * 20) + 1 + 3 + (16 + 16 * 7)
 
 -- it has one function, in which the variable is the first captured box
 abbrev pub CountingFlat : Type 0

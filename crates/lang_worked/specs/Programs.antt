@@ -109,16 +109,16 @@ NotThere =
 abbrev pub built_in_nodes : ℕ
 built_in_nodes = 114 + 2 * 7
 
--- the main form of that program has 4 nodes, the function in it 2 and 4 more, the literal 1; all are reached
+-- the main form of that program has 5 nodes, the function in it 2, its parameter and 4 more, the literal 1; all are reached
 abbrev pub NodesOfOneApplication : Type 0
 NodesOfOneApplication =
-    program_nodes one_application ≡ 4 + (2 + 4) + 1 + built_in_nodes
-    × reached_nodes [] one_application ≡ 4 + (2 + 4) + 1 + built_in_nodes
+    program_nodes one_application ≡ 5 + (2 + 1 + 4) + 1 + built_in_nodes
+    × reached_nodes [] one_application ≡ 5 + (2 + 1 + 4) + 1 + built_in_nodes
 
--- a procedure that no main form mentions, of 2 nodes and 4 more, is not reached
+-- a procedure that no main form mentions, of 2 nodes, a parameter and 4 more, is not reached
 abbrev pub NotReached : Type 0
 NotReached =
-    program_nodes (uncalled (a_procedure (0 ∷ []) (local 0 ∷ []) ∷ [])) ≡ 1 + (2 + 4) + 1 + built_in_nodes
+    program_nodes (uncalled (a_procedure (0 ∷ []) (local 0 ∷ []) ∷ [])) ≡ 1 + (2 + 1 + 4) + 1 + built_in_nodes
     × reached_nodes [] (uncalled (a_procedure (0 ∷ []) (local 0 ∷ []) ∷ [])) ≡ 1 + 1 + built_in_nodes
 
 -- one argument is specialised, by `<a>` and `<b>` of 36 classes; for a `<b>` all seven methods apply, for an

@@ -3,11 +3,11 @@
 ghost use Rattle.std.specs.Prelude.{◌≡◌, min, map};
 ghost use Rattle.std.specs.List.{sum};
 ghost use Rattle.lang_meaning.specs.Subforms.{inner};
-ghost use Rattle.lang_meaning.specs.Counts.{own_nodes, is_function, of_inner, nodes_with};
+ghost use Rattle.lang_meaning.specs.Counts.{own_nodes, is_function, parameters, of_inner, nodes_with};
 
 use crate::core_form::subforms::Subforms;
 use crate::core_form::{Core, CoreForm};
-use crate::nodes::Bodies;
+use crate::nodes::{Bodies, parameter_count};
 
 impl Core {
     // Its nodes: its own and those of the forms inside, and the bodies of functions as that says; 2^64 - 1 where
@@ -31,7 +31,9 @@ impl Core {
         if self.is_function() {
             match bodies {
                 Bodies::Apart => 0,
-                Bodies::Inside => all_nodes(self.inner(), bodies).saturating_add(4),
+                Bodies::Inside => all_nodes(self.inner(), bodies)
+                    .saturating_add(self.parameters())
+                    .saturating_add(4),
             }
         } else {
             all_nodes(self.inner(), bodies)
@@ -49,18 +51,32 @@ impl Core {
             | CoreForm::DefGlobal(_, _)
             | CoreForm::Dynamic(_)
             | CoreForm::SetDynamic(_, _)
-            | CoreForm::DefDynamic(_, _) => 2,
+            | CoreForm::DefDynamic(_, _)
+            | CoreForm::Block(_, _)
+            | CoreForm::Catch(_, _)
+            | CoreForm::Unwind(_, _)
+            | CoreForm::WithHandler(_, _) => 2,
             CoreForm::Lambda(_, _, _, parts) => (parts.len() as u64).saturating_add(1),
             CoreForm::Clauses(list) => (list.len() as u64).saturating_add(1),
             CoreForm::Let(list, _) => (list.len() as u64).saturating_add(1),
             CoreForm::DynamicLet(list, _) => (list.len() as u64).saturating_add(1),
             CoreForm::Call(_, list) => (list.len() as u64).saturating_add(2),
-            CoreForm::Prim(_, list) => (list.len() as u64).saturating_add(1),
-            CoreForm::CallValue(list) | CoreForm::Tagbody(_, list) => {
-                (list.len().saturating_sub(1) as u64).saturating_add(1)
+            CoreForm::CallValue(list) | CoreForm::Prim(_, list) => {
+                (list.len() as u64).saturating_add(1)
             }
+            CoreForm::Tagbody(_, list) => (list.len().saturating_sub(1) as u64).saturating_add(2),
             CoreForm::Sited(_, _) => 0,
             _ => 1,
+        }
+    }
+
+    // The parameters of a `lambda`.
+    fn parameters(&self) -> u64
+        ensures { result ≡ min (parameters self.now) 18446744073709551615 }
+    {
+        match &self.form {
+            CoreForm::Lambda(required, rest, _, _) => parameter_count(required, *rest),
+            _ => 0,
         }
     }
 
