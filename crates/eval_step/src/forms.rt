@@ -71,32 +71,7 @@ impl<'p> Evaluator<'p> {
                 situation,
             ),
             FlatCoreForm::NextMethod(place) => next_method_at(&mut self.machine, *place, situation),
-            FlatCoreForm::Literal(..)
-            | FlatCoreForm::Local(..)
-            | FlatCoreForm::SetLocal(..)
-            | FlatCoreForm::SetGlobal(..)
-            | FlatCoreForm::DefGlobal(..)
-            | FlatCoreForm::Clauses(..)
-            | FlatCoreForm::Sequence(..)
-            | FlatCoreForm::Let(..)
-            | FlatCoreForm::MakeFunction(..)
-            | FlatCoreForm::Apply(..)
-            | FlatCoreForm::While(..)
-            | FlatCoreForm::Block(..)
-            | FlatCoreForm::Return(..)
-            | FlatCoreForm::Tagbody(..)
-            | FlatCoreForm::Go(..)
-            | FlatCoreForm::Catch(..)
-            | FlatCoreForm::Throw(..)
-            | FlatCoreForm::Unwind(..)
-            | FlatCoreForm::DynamicLet(..)
-            | FlatCoreForm::SetDynamic(..)
-            | FlatCoreForm::DefDynamic(..)
-            | FlatCoreForm::WithHandler(..)
-            | FlatCoreForm::Signal(..)
-            | FlatCoreForm::Continue(..)
-            | FlatCoreForm::HasNext(..)
-            | FlatCoreForm::Sited(..) => begin_kind(&mut self.machine, form, situation),
+            _ => begin_kind(&mut self.machine, form, situation),
         }
     }
 
