@@ -1,0 +1,11 @@
+pub mod Blanks
+pub mod Answers
+pub mod Keeps
+pub mod Steps
+pub mod Later
+pub mod SameKind
+pub mod Combined
+pub mod Applied
+pub mod Forms
+pub mod Levels
+pub mod Runs

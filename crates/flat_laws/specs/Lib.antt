@@ -1,0 +1,4 @@
+pub mod Blanks
+pub mod PrimitiveKeeps
+pub mod FlatLater
+pub mod Laws
