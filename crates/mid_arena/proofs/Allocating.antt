@@ -186,7 +186,7 @@ module _ (names : List (List ℕ)) (program : ProgramRows) (places : Places) (z 
                   r.arena.aligned r.arena.heap (omega arith) (heap_below (stands_with_heap (2 + count + bit) r.arena room))));
               answers =
                   answers_made names program places z y r (2 + count + bit) 0 made z now _ (alike_self z)
-                  (allotted_grows y.arena (2 + count + bit) mark all r.arena room few (omega (arith, r.arena.aligned)) (omega arith))
+                  (allotted_grows y.arena (2 + count + bit) mark all r.arena room few (omega (arith, r.arena.aligned)) (omega arith) (omega arith))
                   (allotted_heap y.arena (2 + count + bit) mark all r.arena room few (omega (arith, r.arena.aligned)) (omega arith))
                   (allotted_blocks y.arena (2 + count + bit) mark all r.arena room few (omega (arith, r.arena.aligned)) (omega arith))
                   refl refl (omega arith) (instance_stands room) known (omega (arith, cost));

@@ -5,7 +5,7 @@ use Rattle.lang_meaning.specs.Values.{same}
 use Rattle.mid_code.specs.declared.operation.Arithmetic.TheVariants as which
 use Rattle.mid_code.specs.declared.operation.Operation.TheVariants.{Move, Request}
 use Rattle.base.specs.Arithmetic.{sum32}
-use Rattle.mid_code.specs.Arena.{Arena, left, word_at, with_word, with_heap}
+use Rattle.mid_code.specs.Arena.{Arena, stack_from, left, word_at, with_word, with_heap}
 use Rattle.mid_code.specs.MidCode.{MidStep, perform, code_of}
 use Rattle.mid_code.specs.State.{MidState, falls, ends}
 use Rattle.mid_code.specs.Meaning.{Context}
@@ -13,12 +13,12 @@ use Rattle.mid_arena.specs.Tags.{nil_word, unbound_word, instance_header}
 use Rattle.mid_arena.specs.Standing.{ArenaStands}
 use Rattle.mid_arena.specs.Steps as steps
 use Rattle.mid_arena.proofs.WordFacts.{instance_header_made, four_times_count, sum_fits}
-use Rattle.mid_arena.proofs.Memory.{heap_below, stands_with_word, stands_with_heap, grows_with_heap, grows_stored, grows_with_words}
+use Rattle.mid_arena.proofs.Memory.{room_below, heap_below, stands_with_word, stands_with_heap, grows_with_heap, grows_stored, grows_with_words}
 use Rattle.mid_arena.proofs.Memory.{with_words, words_stand, words_behind, stored_in_heap, stored_heap, stored_blocks}
 use Rattle.mid_arena.proofs.Running.{RunsTo, none_left, and_then, costing, constant_falls}
 use Rattle.mid_arena.proofs.Running.{compute_known, move_falls, store_in_heap, request_falls, address_here, address_above}
 use Rattle.mid_arena.proofs.Doing.{paid}
-use Rattle.mid_arena.proofs.Growing.{HeapGrows}
+use Rattle.mid_arena.specs.Growing.{Grows}
 use Rattle.mid_arena.proofs.Filling.{filling_code}
 
 -- ---- the arena
@@ -28,8 +28,11 @@ abbrev pub allotted : (words mark : ℕ) → List ℕ → Arena → Arena
 allotted words mark ws a = with_words a.heap_to ws (with_word mark nil_word (with_heap words a))
 
 module _ (a : Arena) (words mark : ℕ) (ws : List ℕ) (stands : ArenaStands a) (room : words ≤ left a) (few : length ws ≤ words) (aligned : mark % 4 ≡ 0) (behind : a.heap_to ≤ mark) where
-  pub allotted_grows : HeapGrows a (allotted words mark ws a)
-  allotted_grows = grows_with_words a.heap_to ws (grows_stored mark nil_word (grows_with_heap words stands room) aligned behind) stands.aligned (omega arith)
+  pub allotted_grows : mark < a.heap_to + 4 * words → Grows a (allotted words mark ws a)
+  allotted_grows inside =
+      let below : a.heap_to + 4 * words ≤ stack_from a = room_below words stands room in
+      grows_with_words a.heap_to ws (grows_stored mark nil_word (grows_with_heap words stands room) aligned behind (omega (arith, below, inside))) stands.aligned
+      (omega arith) (omega (arith, below, few))
 
   pub allotted_heap : (allotted words mark ws a).heap_to ≡ a.heap_to + 4 * words
   allotted_heap = stored_heap a.heap_to ws (with_word mark nil_word (with_heap words a))

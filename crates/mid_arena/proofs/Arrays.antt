@@ -24,7 +24,8 @@ use Rattle.mid_arena.specs.Answers.{done}
 use Rattle.mid_arena.specs.Steps as steps
 use Rattle.mid_arena.proofs.WordFacts.{length_tested, length_word, index_is, index_word, index_tested}
 use Rattle.mid_arena.proofs.Running.{constant_falls, and_then, and_ends, store_in_spot, return_ends}
-use Rattle.mid_arena.proofs.Growing.{Changes, changes_part}
+use Rattle.mid_arena.specs.Growing.{Changes}
+use Rattle.mid_arena.proofs.Growing.{changes_part, spot_below}
 use Rattle.mid_arena.proofs.ClassesKept.{IsNewObject}
 use Rattle.mid_arena.proofs.Representing.{represents_changed, kept_changed}
 use Rattle.mid_arena.proofs.FixedChanges.{one_word}
@@ -101,7 +102,7 @@ module _
           runs = and_then (store_in_spot stands held based same aligned low high) (and_ends tt (return_ends returned));
           answers =
               returns_changed budget (k + 8 + 14) i w s before now v (with_word x stored_word y.arena) rs there was is_made no_function spot
-              (changes_part s (one_word x) y.arena (with_word x stored_word y.arena) low (omega (arith, stands.aligned)) (changes_stored x stored_word r.arena aligned))
+              (changes_part s (one_word x) y.arena (with_word x stored_word y.arena) low (omega (arith, stands.aligned)) (changes_stored x stored_word r.arena aligned (omega (arith, spot_below r.arena stands, high))))
               made word (length-set y.arena.memory (x / 4) (Some stored_word)) refl refl (omega (arith, cost));
         })
 

@@ -1,6 +1,7 @@
 -- The code that makes a condition and hands it over.
 use Rattle.std.proofs.Common.{◌≡◌, ℕ, zero, suc, ◌+◌, ◌*◌, ◌^◌, ◌<◌, ◌≤◌, true, List, [], ◌∷◌, ◌++◌, length, Option, Some, refl, sym, ◌∙◌, arith}
 use Rattle.std.specs.Prelude.{pos, slice_index_or}
+use Rattle.std.proofs.Math.ListN.{length-append}
 use Rattle.lang_meaning.specs.declared.program.ProgramRows.{ProgramRows}
 use Rattle.lang_meaning.specs.BuiltIn.{built_in_slots}
 use Rattle.lang_meaning.specs.Values.{Value}
@@ -25,6 +26,7 @@ use Rattle.mid_arena.proofs.Memory.{heap_below}
 use Rattle.mid_arena.proofs.Running.{RunsTo, and_then, and_ends, none_left, costing, parts_then, constant_falls, compute_known, load_falls, store_falls, store_in_heap, request_falls}
 use Rattle.mid_arena.proofs.Running.{request_wanting, return_ends, address_above, address_here}
 use Rattle.mid_arena.proofs.BuiltInFacts.{built_in_known, is_condition_class, slot_count_is, condition_words}
+use Rattle.mid_arena.proofs.Keeping.{as_many_words}
 use Rattle.mid_arena.proofs.Making.{Room, is_left, is_wanting, room_for, begun, begun_grows, begun_heap, begun_blocks, fixed_below, answers_wanting, condition_at, signalled_new, fixed_still_lent}
 use Rattle.mid_arena.proofs.Doing.{SameObjects, Run, paid}
 use Rattle.mid_arena.proofs.Registers.{EightRegisters, eight, eight_registers}
@@ -98,7 +100,7 @@ module _ (names : List (List ℕ)) (program : ProgramRows) (places : Places) (z 
       let small = heap_below r.arena in
       let fixed = fixed_below names program places z y r in
       let loaded : word_at (begun words (header ∷ []) y.arena) class ≡ Some word =
-      (begun_grows words (header ∷ []) r.arena room).words class (omega arith) ∙ stands in
+      (begun_grows words (header ∷ []) r.arena room (omega arith)).words class (omega arith) ∙ stands in
       costing
       (and_then constant_falls
       (and_then (request_falls refl room)
@@ -127,7 +129,7 @@ module _ (names : List (List ℕ)) (program : ProgramRows) (places : Places) (z 
       let fixed = fixed_below names program places z y r in
       let heap : ℕ = y.arena.heap_to in
       let loaded : word_at (begun 5 (header ∷ named ∷ w ∷ []) y.arena) (class_address expected) ≡ Some word =
-      (begun_grows 5 (header ∷ named ∷ w ∷ []) r.arena room).words (class_address expected) (omega arith) ∙ stands in
+      (begun_grows 5 (header ∷ named ∷ w ∷ []) r.arena room (omega arith)).words (class_address expected) (omega arith) ∙ stands in
       let all : List ℕ = header ∷ named ∷ w ∷ word ∷ nil_word ∷ [] in
       costing
       (and_then (store_in_heap at refl (address_above heap 8 (heap + 4 + 4) (omega arith) (omega arith)) (omega (arith, r.arena.aligned)) (omega (arith, r.arena.heap)) (omega arith))
@@ -135,7 +137,7 @@ module _ (names : List (List ℕ)) (program : ProgramRows) (places : Places) (z 
       (and_then (store_in_heap refl refl (address_above heap 12 (heap + 4 + 4 + 4) (omega arith) (omega arith)) (omega (arith, r.arena.aligned)) (omega (arith, r.arena.heap)) (omega arith))
       (and_then constant_falls
       (and_then (store_in_heap refl refl (address_above heap 16 (heap + 4 + 4 + 4 + 4) (omega arith) (omega arith)) (omega (arith, r.arena.aligned)) (omega (arith, r.arena.heap)) (omega arith))
-      (hand_over_ends heap (omega arith) (fixed_still_lent names program places z y r (begun 5 all y.arena) (begun_grows 5 all r.arena room) pending_address refl (omega arith))))))))
+      (hand_over_ends heap (omega arith) (fixed_still_lent names program places z y r (begun 5 all y.arena) (begun_grows 5 all r.arena room (omega arith)) pending_address refl (omega arith))))))))
       (omega arith)
 
   -- the mark of a condition without slots is stored, and it is handed over
@@ -152,7 +154,7 @@ module _ (names : List (List ℕ)) (program : ProgramRows) (places : Places) (z 
       costing
       (and_then constant_falls
       (and_then (store_in_heap refl refl (address_above heap 8 (heap + 4 + 4) (omega arith) (omega arith)) (omega (arith, r.arena.aligned)) (omega (arith, r.arena.heap)) (omega arith))
-      (hand_over_ends heap (omega arith) (fixed_still_lent names program places z y r (begun 3 all y.arena) (begun_grows 3 all r.arena room) pending_address refl (omega arith)))))
+      (hand_over_ends heap (omega arith) (fixed_still_lent names program places z y r (begun 3 all y.arena) (begun_grows 3 all r.arena room (omega arith)) pending_address refl (omega arith)))))
       (omega arith)
 
   -- where its words are not left, the code of a condition ends so
@@ -178,7 +180,7 @@ module _ (names : List (List ℕ)) (program : ProgramRows) (places : Places) (z 
       let stored : List ℕ = instance_header (length vs) ∷ named.word ∷ (ws ++ nil_word ∷ []) in
       signalled_new names program places z y r class vs (3 + length vs) z' (record y { arena = begun (3 + length vs) stored y.arena }) rs k alike
       (sym (condition_words program r.built_in class (length vs) low high))
-      (begun_grows (3 + length vs) stored r.arena room) (begun_heap (3 + length vs) stored y.arena) (begun_blocks (3 + length vs) stored y.arena) refl refl
+      (begun_grows (3 + length vs) stored r.arena room (omega (arith, length-append ws (nil_word ∷ []), as_many_words places vs ws are))) (begun_heap (3 + length vs) stored y.arena) (begun_blocks (3 + length vs) stored y.arena) refl refl
       (condition_at names program places z y r class named.word vs ws (is_condition_class program r.built_in class low high) count named.of_value are room)
       (built_in_known program r.built_in class high)
 

@@ -237,7 +237,7 @@ module _
                 (and_ends tt (return_ends refl)))))));
             answers =
                 answers_made names program places z y r 2 0 (cons v u) z (record y { arena = arena_with_cons; cost = y.cost + 6 + 20 + 8 + 8 + 6 + 10 + 14 }) _
-                (alike_self z) (begun_grows 2 (a ∷ b ∷ []) r.arena room) refl refl refl refl (omega arith) (cons_stands room) tt (omega arith);
+                (alike_self z) (begun_grows 2 (a ∷ b ∷ []) r.arena room (omega arith)) refl refl refl refl (omega arith) (cons_stands room) tt (omega arith);
           }
 
 pub cons_does : IsPrimitive Cons (procedure_of Cons)

@@ -70,7 +70,7 @@ module _ (names : List (List ℕ)) (program : ProgramRows) (places : Places) (z 
       of_value = e;
       represents =
           represents_same names program places z z' (paid y k) alike.store alike.symbols alike.printed alike.input
-          (represents_grown names program places z y r (paid y k) (grows_same y.arena r.arena) refl refl);
+          (represents_grown names program places z y r (paid y k) (grows_same y.arena r.arena).heap refl refl);
       arena = record { size = refl; laid_from = refl; laid_to = refl; heap_from = refl; heap_to = omega arith };
       blocks = refl;
       kept = kept_grown names program places z y r y.arena (grows_same y.arena r.arena);

@@ -46,7 +46,7 @@ does_by_code names program places z y procedures below n which vs ws r are count
     -- the units behind the answer, as the code says that begins where nothing was paid
     units : 250 * z.units ≤ 130 + 244 * arity which + 250 * units_after names program answer
     units =
-        let run = code (paid y 0) (represents_grown names program places z y r (paid y 0) (grows_same y.arena r.arena) refl refl) in
+        let run = code (paid y 0) (represents_grown names program places z y r (paid y 0) (grows_same y.arena r.arena).heap refl refl) in
         omega (arith, run.answers.cost)
 
     without : left y.arena < frame_words → DoesPrimitive names program which (procedure_of which) places z y vs (turns procedures below (suc n) (enter (procedure_of which) ws) y)

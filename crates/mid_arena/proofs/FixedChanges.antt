@@ -15,7 +15,8 @@ use Rattle.mid_arena.specs.FixedWords.{peeked_address, pending_address, InputIs,
 use Rattle.mid_arena.specs.Layouts.{AreBytes, TextAt}
 use Rattle.mid_arena.specs.Represents.{Represents}
 use Rattle.mid_arena.proofs.Keeping.{text_kept}
-use Rattle.mid_arena.proofs.Growing.{Changes, changes_part, spot_below}
+use Rattle.mid_arena.specs.Growing.{Changes}
+use Rattle.mid_arena.proofs.Growing.{changes_part, spot_below}
 use Rattle.mid_arena.proofs.Representing.{fixed_spot, fixed_stands, represents_fixed}
 
 -- the spot of one word at an address

@@ -1,5 +1,5 @@
 -- A fresh symbol is made with the serial that comes next, as the meaning says.
-use Rattle.std.proofs.Common.{◌≡◌, ℕ, ◌+◌, ◌*◌, ◌/◌, ◌%◌, ◌^◌, ◌≤◌, List, [], ◌∷◌, Some, None, refl, ◌∙◌, arith}
+use Rattle.std.proofs.Common.{◌≡◌, ℕ, ◌+◌, ◌*◌, ◌/◌, ◌%◌, ◌^◌, ◌≤◌, List, [], ◌∷◌, Some, None, refl, ap, ◌∙◌, arith}
 use Rattle.std.specs.Prelude.{slice_get}
 use Rattle.std.proofs.Math.ListN.{length-set}
 use Rattle.lang_meaning.specs.declared.program.ProgramRows.{ProgramRows}
@@ -8,7 +8,7 @@ use Rattle.lang_meaning.specs.Objects.{Object, fresh_symbol}
 use Rattle.lang_meaning.specs.State as meaning
 use Rattle.lang_meaning.specs.Primitives.{makes_symbol, primitive}
 use Rattle.mid_code.specs.declared.program.MidProcedure.{MidProcedure}
-use Rattle.mid_code.specs.Arena.{Arena, left, word_at, with_word}
+use Rattle.mid_code.specs.Arena.{Arena, words_of, left, word_at, with_word}
 use Rattle.mid_code.specs.MidCode.{code_of}
 use Rattle.mid_code.specs.State.{Registers, MidState, MidOutcome, returns, no_room, ends, first_registers}
 use Rattle.mid_code.specs.Meaning.{Task, Context}
@@ -20,7 +20,7 @@ use Rattle.mid_arena.specs.Represents.{Represents}
 use Rattle.mid_arena.specs.Answers.{Done, done, IsPrimitive}
 use Rattle.mid_arena.specs.Codes.{code_of_primitive, procedure_of}
 use Rattle.mid_arena.proofs.Memory.{heap_below}
-use Rattle.mid_arena.proofs.Growing.{Changes, HeapGrows}
+use Rattle.mid_arena.specs.Growing.{Changes, Grows}
 use Rattle.mid_arena.proofs.WordFacts.{next_serial}
 use Rattle.mid_arena.proofs.Running.{RunsTo, and_then, and_ends, costing, constant_falls, compute_falls, compute_known, load_falls, store_falls, store_in_heap, request_falls, request_wanting}
 use Rattle.mid_arena.proofs.Running.{return_ends, address_above, address_here}
@@ -47,8 +47,8 @@ module _ (names : List (List ℕ)) (program : ProgramRows) (places : Places) (z 
   abbrev serial_arena : Arena
   serial_arena = with_word serial_address (next_word z) symbol_arena
 
-  grown : HeapGrows y.arena symbol_arena
-  grown = begun_grows 2 (fresh_header ∷ serial_word z ∷ []) r.arena room
+  grown : Grows y.arena symbol_arena
+  grown = begun_grows 2 (fresh_header ∷ serial_word z ∷ []) r.arena room (omega arith)
 
   -- the code comes to the pointer to the symbol, with these words stored
   gensym_ends :
@@ -61,7 +61,7 @@ module _ (names : List (List ℕ)) (program : ProgramRows) (places : Places) (z 
       let small = heap_below r.arena in
       let fixed = fixed_below names program places z y r in
       let loaded : word_at (begun 2 (fresh_header ∷ []) y.arena) serial_address ≡ Some (serial_word z) =
-      (begun_grows 2 (fresh_header ∷ []) r.arena room).words serial_address (omega arith) ∙ r.fixed.serial in
+      (begun_grows 2 (fresh_header ∷ []) r.arena room (omega arith)).words serial_address (omega arith) ∙ r.fixed.serial in
       costing
       (and_then constant_falls
       (and_then (request_falls refl room)
@@ -103,7 +103,8 @@ module _ (names : List (List ℕ)) (program : ProgramRows) (places : Places) (z 
         kept_both places z y.arena symbol_arena serial_arena (kept_grown names program places z y r symbol_arena grown)
         (kept_made places z spot one symbol_arena serial_arena
         (kept_fixed names program after (meaning.stored one z) with_symbol there serial_arena
-        (word_of_fixed names program after (meaning.stored one z) with_symbol there serial_address serial_arena (omega arith) changes)));
+        (word_of_fixed names program after (meaning.stored one z) with_symbol there serial_address serial_arena (omega arith) changes)))
+        (omega (arith, grown.size, ap words_of blocks));
   }
     where
       one : Object
@@ -141,7 +142,7 @@ module _ (names : List (List ℕ)) (program : ProgramRows) (places : Places) (z 
       there = represents_new names program places z y r 2 object_tag one with_symbol grown to blocks refl refl (omega arith) (omega arith) z (alike_self z) made tt
 
       changes : Changes (one_word serial_address) symbol_arena serial_arena
-      changes = changes_stored serial_address (next_word z) grown.stands refl
+      changes = changes_stored serial_address (next_word z) grown.stands refl (omega (arith, fixed_below names program after (meaning.stored one z) with_symbol there))
 
       serial : word_at serial_arena serial_address ≡ Some (next_word z)
       serial = stored_fixed names program after (meaning.stored one z) with_symbol there serial_address (next_word z) refl (omega arith)

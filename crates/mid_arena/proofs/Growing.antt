@@ -3,19 +3,13 @@ use Rattle.std.proofs.Common.{◌≡◌, ℕ, ◌<◌, ◌≤◌, length, refl, 
 use Rattle.mid_code.specs.Arena.{Arena, word_at}
 use Rattle.mid_arena.specs.Places.{Spot, end_of}
 use Rattle.mid_arena.specs.Standing.{ArenaStands, IsLentPart, of_laid, of_heap, SpotStands, Apart, in_front, behind, SameWords}
+use Rattle.mid_arena.specs.Growing.{HeapGrows, Grows, Changes}
 
--- the same bounds but for the heap, which may have grown, and the same words in all that was laid or in the heap
-pub record HeapGrows (earlier later : Arena) : Type 0 where
-  pub size : length later.memory ≡ length earlier.memory
-  pub laid_from : later.laid_from ≡ earlier.laid_from
-  pub laid_to : later.laid_to ≡ earlier.laid_to
-  pub heap_from : later.heap_from ≡ earlier.heap_from
-  pub heap_to : earlier.heap_to ≤ later.heap_to
-  pub stands : ArenaStands later
-  pub words : (x : ℕ) → x < earlier.heap_to → word_at later x ≡ word_at earlier x
-
-pub grows_same : (a : Arena) → ArenaStands a → HeapGrows a a
-grows_same a stands = record { size = refl; laid_from = refl; laid_to = refl; heap_from = refl; heap_to = omega arith; stands = stands; words = λ x h. refl }
+pub grows_same : (a : Arena) → ArenaStands a → Grows a a
+grows_same a stands = record {
+  heap = record { size = refl; laid_from = refl; laid_to = refl; heap_from = refl; heap_to = omega arith; stands = stands; words = λ x h. refl };
+  stack = λ x from to. refl;
+}
 
 -- a spot ends in what was laid or in the heap, and so below the stack
 pub spot_below : {a : Arena} {s : Spot} → ArenaStands a → SpotStands a s → end_of s ≤ a.heap_to
@@ -42,16 +36,6 @@ spot_grown {a} {b} {s} g = spot_stands a b s g.laid_from g.laid_to g.heap_from g
 pub words_grown : (a b : Arena) (s : Spot) → HeapGrows a b → ArenaStands a → SpotStands a s → SameWords a b s
 words_grown a b s g stands spot x low high = let below = spot_below stands spot in g.words x (omega arith)
 
--- the same bounds but for the heap, which may have grown, and the same words in what was laid and in the heap but in a spot
-pub record Changes (s : Spot) (earlier later : Arena) : Type 0 where
-  pub laid_from : later.laid_from ≡ earlier.laid_from
-  pub laid_to : later.laid_to ≡ earlier.laid_to
-  pub heap_from : later.heap_from ≡ earlier.heap_from
-  pub heap_to : earlier.heap_to ≤ later.heap_to
-  pub stands : ArenaStands later
-  pub before : (x : ℕ) → x < s.address → word_at later x ≡ word_at earlier x
-  pub after : (x : ℕ) → end_of s ≤ x → x < earlier.heap_to → word_at later x ≡ word_at earlier x
-
 -- a change in a part of a spot is one in the spot
 pub changes_part : (s part : Spot) (a b : Arena) → s.address ≤ part.address → end_of part ≤ end_of s → Changes part a b → Changes s a b
 changes_part s part a b low high c = record {
@@ -62,6 +46,7 @@ changes_part s part a b low high c = record {
   stands = c.stands;
   before = λ x h. c.before x (omega arith);
   after = λ x h below. c.after x (omega arith) below;
+  stack = c.stack;
 }
 
 pub spot_changed : (a b : Arena) (s one : Spot) → Changes s a b → SpotStands a one → SpotStands b one

@@ -4,16 +4,17 @@ use Rattle.lang_meaning.specs.declared.program.ProgramRows.{ProgramRows}
 use Rattle.lang_meaning.specs.Values.{Value}
 use Rattle.lang_meaning.specs.State as meaning
 use Rattle.lang_meaning.specs.Primitives.{Answer, result, makes, makes_symbol, fails, domain_error}
-use Rattle.mid_code.specs.Arena.{Block, Arena, left, word_at, with_blocks, with_new_block}
+use Rattle.mid_code.specs.Arena.{Block, Arena, words_of, stack_from, left, word_at, with_blocks, with_new_block}
 use Rattle.mid_code.specs.State.{Registers, MidState, End, falls, returns, no_room, MidOutcome, ends, charged, with_arena}
 use Rattle.mid_code.specs.Meaning.{left_from, leaves}
 use Rattle.mid_code.proofs.Growth.{length-emptied}
 use Rattle.mid_arena.specs.Places.{Spot, Places, end_of, Owner, of_object, of_other, spot_of}
 use Rattle.mid_arena.specs.FixedWords.{pending_address}
 use Rattle.mid_arena.specs.Represents.{Represents}
-use Rattle.mid_arena.specs.Answers.{Enlarged, KeepsFunctions, words_asked, Returned, Pending, Done, RoomWanting, Comes, done, no_words}
+use Rattle.mid_arena.specs.Answers.{Enlarged, KeepsWords, words_asked, Returned, Pending, Done, RoomWanting, Comes, done, no_words}
 use Rattle.mid_arena.proofs.Memory.{grows_with_new_block, left_with_new_block, grows_given_back}
-use Rattle.mid_arena.proofs.Growing.{HeapGrows, spot_below, grows_same}
+use Rattle.mid_arena.specs.Growing.{Grows}
+use Rattle.mid_arena.proofs.Growing.{spot_below, grows_same}
 use Rattle.mid_arena.proofs.Representing.{fixed_stands, kept_grown, kept_both, represents_grown}
 
 -- how the body of a procedure is left
@@ -45,21 +46,25 @@ module _
     (names : List (List ℕ)) (program : ProgramRows) (places : Places) (z : meaning.State) (y : MidState) (r : Represents names program places z y)
     (frame : Block) (cost : ℕ) (some : frame.words ≤ left y.arena)
   where
-    frame_grows : HeapGrows y.arena (with_frame frame cost y).arena
+    frame_grows : Grows y.arena (with_frame frame cost y).arena
     frame_grows = grows_with_new_block frame r.arena some
 
     -- is represented too where the frame is laid
     pub represents_frame : Represents names program places z (with_frame frame cost y)
-    represents_frame = represents_grown names program places z y r (with_frame frame cost y) frame_grows refl refl
+    represents_frame = represents_grown names program places z y r (with_frame frame cost y) frame_grows.heap refl refl
 
-    kept_frame : (b : Arena) → KeepsFunctions places z (with_frame frame cost y).arena b → KeepsFunctions places z y.arena b
-    kept_frame b k = kept_both places z y.arena (with_frame frame cost y).arena b (kept_grown names program places z y r (with_frame frame cost y).arena frame_grows) k
+    kept_frame : (b : Arena) → KeepsWords places z (with_frame frame cost y).arena b → KeepsWords places z y.arena b
+    kept_frame b k =
+        kept_both places z y.arena (with_frame frame cost y).arena b (kept_grown names program places z y r (with_frame frame cost y).arena frame_grows) k
+        (omega (arith, frame_grows.size))
 
-    -- what was there before is kept where a later arena, whose heap does not end before, goes on
-    kept_later : (a b : Arena) → KeepsFunctions places z y.arena a → y.arena.heap_to ≤ a.heap_to → HeapGrows a b → KeepsFunctions places z y.arena b
-    kept_later a b k low g = record {
+    -- what was there before is kept where a later arena, whose heap does not end before and whose stack begins no higher, goes on
+    kept_later :
+        (a b : Arena) → KeepsWords places z y.arena a → y.arena.heap_to ≤ a.heap_to → Grows a b → stack_from a ≤ stack_from b → KeepsWords places z y.arena b
+    kept_later a b k low g inner = record {
       functions = λ i p s found e x from to. later (of_object i) s e x to ∙ k.functions i p s found e x from to;
       others = λ n s e x from to. later (of_other (suc n)) s e x to ∙ k.others n s e x from to;
+      stack = λ x from to. g.stack x (omega (arith, inner, to)) to ∙ k.stack x from (omega (arith, inner, to));
     }
       where
         later : (p : Owner) (s : Spot) → spot_of places p ≡ Some s → (x : ℕ) → x < end_of s → word_at b x ≡ word_at a x
@@ -86,15 +91,15 @@ module _
           (after : Places) (v : Value) (z' : meaning.State) (words : ℕ) → Returned names program places z (with_frame frame cost y) after v z' words o
           → Returned names program places z y after v z' words (leaves y.arena.blocks o)
       returned after v z' words h =
-          let g : HeapGrows o.state.arena given_back.arena = grows_given_back frame y.arena.blocks h.represents.arena h.blocks in
+          let g : Grows o.state.arena given_back.arena = grows_given_back frame y.arena.blocks h.represents.arena h.blocks in
           rw (leaves_returned y.arena.blocks o h.end) (record {
             word = h.word;
             end = refl;
             of_value = h.of_value;
-            represents = represents_grown names program after z' o.state h.represents given_back g refl refl;
+            represents = represents_grown names program after z' o.state h.represents given_back g.heap refl refl;
             arena = enlarged_frame o.state.arena y.arena.blocks words h.arena;
             blocks = refl;
-            kept = kept_later o.state.arena given_back.arena (kept_frame o.state.arena h.kept) (omega (arith, h.arena.heap_to)) g;
+            kept = kept_later o.state.arena given_back.arena (kept_frame o.state.arena h.kept) (omega (arith, h.arena.heap_to)) g (omega (arith, ap words_of h.blocks));
           })
 
       -- where a condition stands to be signalled, it still does
@@ -103,11 +108,11 @@ module _
           → Pending names program places z (with_frame frame cost y) after class slots z' words o
           → Pending names program places z y after class slots z' words (leaves y.arena.blocks o)
       signalled after class slots z' words h =
-          let g : HeapGrows o.state.arena given_back.arena = grows_given_back frame y.arena.blocks h.represents.arena h.blocks in
+          let g : Grows o.state.arena given_back.arena = grows_given_back frame y.arena.blocks h.represents.arena h.blocks in
           let fixed = spot_below h.represents.arena (fixed_stands names program after _ o.state h.represents) in
           rw (leaves_returned y.arena.blocks o h.end) (record {
             end = refl;
-            represents = represents_grown names program after _ o.state h.represents given_back g refl refl;
+            represents = represents_grown names program after _ o.state h.represents given_back g.heap refl refl;
             pending = record {
               word = h.pending.word;
               of_value = h.pending.of_value;
@@ -115,7 +120,7 @@ module _
             };
             arena = enlarged_frame o.state.arena y.arena.blocks words h.arena;
             blocks = refl;
-            kept = kept_later o.state.arena given_back.arena (kept_frame o.state.arena h.kept) (omega (arith, h.arena.heap_to)) g;
+            kept = kept_later o.state.arena given_back.arena (kept_frame o.state.arena h.kept) (omega (arith, h.arena.heap_to)) g (omega (arith, ap words_of h.blocks));
           })
 
       finished : (answer : Answer) → Done names program places z (with_frame frame cost y) answer o → Done names program places z y answer (leaves y.arena.blocks o)
@@ -159,6 +164,6 @@ comes_without_frame names program places z y cost words answer rs r few =
       end = refl;
       wanting = few;
       together = omega arith;
-      represents = represents_grown names program places z y r (charged cost y) (grows_same y.arena r.arena) refl refl;
+      represents = represents_grown names program places z y r (charged cost y) (grows_same y.arena r.arena).heap refl refl;
       kept = kept_grown names program places z y r y.arena (grows_same y.arena r.arena);
     })

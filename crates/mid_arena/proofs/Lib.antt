@@ -18,6 +18,7 @@ pub mod HeaderKinds
 pub mod Arguments
 pub mod Telling
 pub mod Sameness
+pub mod ValueWords
 pub mod BuiltInFacts
 pub mod ClassesAtStart
 pub mod Doing
@@ -26,6 +27,7 @@ pub mod Entering
 pub mod Taking
 pub mod Saying
 pub mod Making
+pub mod OwnWords
 pub mod Conditions
 pub mod Checking
 pub mod Needing

@@ -14,7 +14,7 @@ use Rattle.mid_code.specs.declared.program.MidProcedure.{MidProcedure}
 use Rattle.mid_code.specs.declared.operation.Arithmetic.TheVariants as which
 use Rattle.mid_code.specs.declared.operation.Operation.TheVariants.{Move, Request}
 use Rattle.base.specs.Arithmetic.{sum32}
-use Rattle.mid_code.specs.Arena.{Arena, left, word_at, with_word, with_heap}
+use Rattle.mid_code.specs.Arena.{Arena, stack_from, left, word_at, with_word, with_heap}
 use Rattle.mid_code.specs.MidCode.{MidStep, perform, return_word, code_of}
 use Rattle.mid_code.specs.State.{MidState, MidOutcome, falls, returns, no_room, ends, first_registers}
 use Rattle.mid_code.specs.Meaning.{Task, Context}
@@ -30,7 +30,7 @@ use Rattle.mid_arena.specs.Steps.{steps_of}
 use Rattle.mid_arena.specs.declared.line.Line.TheVariants as line
 use Rattle.mid_arena.proofs.WordFacts.{character_code, four_times_count, sum_fits}
 use Rattle.mid_arena.proofs.ArithmeticBytes.{replicated_bytes, byte_words_is, full_word, last_word, packed_in_front, packed_last}
-use Rattle.mid_arena.proofs.Memory.{heap_below, stands_with_heap, grows_with_heap, grows_stored, grows_with_words, stored_in_heap, word_elsewhere, with_words, words_in_front, words_stand}
+use Rattle.mid_arena.proofs.Memory.{room_below, heap_below, stands_with_heap, grows_with_heap, grows_stored, grows_with_words, stored_in_heap, word_elsewhere, with_words, words_in_front, words_stand}
 use Rattle.mid_arena.proofs.Running.{RunsTo, StepsTo, turning, none_left, parts_then, and_then, and_ends, costing, constant_falls, compute_falls, compute_known, move_falls, store_in_heap}
 use Rattle.mid_arena.proofs.Running.{request_falls, request_wanting, return_ends, address_here, address_above}
 use Rattle.mid_arena.proofs.Making.{Room, is_left, is_wanting, room_for, answers_made, answers_wanting}
@@ -38,7 +38,7 @@ use Rattle.mid_arena.proofs.Doing.{alike_self, Run, paid}
 use Rattle.mid_arena.proofs.Checking.{integer_needed, character_needed}
 use Rattle.mid_arena.proofs.Filling.{fill, six_after, fill_falls}
 use Rattle.mid_arena.proofs.Arrays.{length_test, length_needed}
-use Rattle.mid_arena.proofs.Growing.{HeapGrows}
+use Rattle.mid_arena.specs.Growing.{Grows}
 use Rattle.mid_arena.proofs.Taking.{does_two}
 use Rattle.mid_arena.proofs.Lists.{replicated}
 
@@ -72,19 +72,26 @@ filled_blocks : (count c : ℕ) (a : Arena) → (filled_string count c a).blocks
 filled_blocks count c a = ap (λ b. b.blocks) (only_memory (a.heap_to + 8) (replicate (byte_words count) (full_word c)) (begun_string count a))
 
 module _ (a : Arena) (count c : ℕ) (stands : ArenaStands a) (room : 2 + byte_words count ≤ left a) (small : c < 256) where
-  begun_string_grows : HeapGrows a (begun_string count a)
-  begun_string_grows = grows_stored a.heap_to string_header (grows_with_heap (2 + byte_words count) stands room) stands.aligned (omega arith)
+  -- all words end below the stack
+  below : a.heap_to + 4 * (2 + byte_words count) ≤ stack_from a
+  below = room_below (2 + byte_words count) stands room
 
-  filled_string_grows : HeapGrows a (filled_string count c a)
+  begun_string_grows : Grows a (begun_string count a)
+  begun_string_grows =
+      grows_stored a.heap_to string_header (grows_with_heap (2 + byte_words count) stands room) stands.aligned (omega arith) (omega (arith, below))
+
+  filled_string_grows : Grows a (filled_string count c a)
   filled_string_grows =
       grows_with_words (a.heap_to + 8) (replicate (byte_words count) (full_word c)) begun_string_grows (omega (arith, stands.aligned)) (omega arith)
+      (omega (arith, below, length-replicate (byte_words count) (full_word c)))
 
-  ended_string_grows : HeapGrows a (ended_string count c a)
+  ended_string_grows : Grows a (ended_string count c a)
   ended_string_grows =
       grows_stored (a.heap_to + 4 * byte_words count + 4) (last_word (full_word c) (4 * count)) filled_string_grows (omega (arith, stands.aligned)) (omega arith)
+      (omega (arith, below))
 
-  made_string_grows : HeapGrows a (made_string count c a)
-  made_string_grows = grows_stored (a.heap_to + 4) (4 * count) ended_string_grows (omega (arith, stands.aligned)) (omega arith)
+  made_string_grows : Grows a (made_string count c a)
+  made_string_grows = grows_stored (a.heap_to + 4) (4 * count) ended_string_grows (omega (arith, stands.aligned)) (omega arith) (omega (arith, below))
 
   -- the words that stand there
   made_elsewhere : (x : ℕ) → a.heap_to + 4 ≢ x → word_at (made_string count c a) x ≡ word_at (ended_string count c a) x

@@ -145,7 +145,7 @@ module _ (names : List (List ℕ)) (program : ProgramRows) (places : Places) (z 
                   r.arena.aligned r.arena.heap (omega arith) (heap_below (stands_with_heap (2 + count) r.arena room))));
               answers =
                   answers_made names program places z y r (2 + length (replicate count v)) 0 (vector (replicate count v)) z now _ (alike_self z)
-                  (begun_grows (2 + count) all r.arena room) (begun_heap (2 + count) all y.arena ∙ omega (arith, many)) (begun_blocks (2 + count) all y.arena) refl refl
+                  (begun_grows (2 + count) all r.arena room (omega (arith, length-replicate count b))) (begun_heap (2 + count) all y.arena ∙ omega (arith, many)) (begun_blocks (2 + count) all y.arena) refl refl
                   (omega arith) (vector_stands count b v word room) tt (omega (arith, many, cost));
             }
 

@@ -14,7 +14,7 @@ use Rattle.lang_meaning.specs.State as meaning
 use Rattle.lang_meaning.specs.Classes.{slots, is_below}
 use Rattle.lang_meaning.specs.InitialHeap.{class_value}
 use Rattle.lang_meaning.specs.Primitives.{Answer, makes, instance_words}
-use Rattle.mid_code.specs.Arena.{Arena, left, is_lent, word_at, with_word, with_heap}
+use Rattle.mid_code.specs.Arena.{Arena, words_of, left, is_lent, word_at, with_word, with_heap}
 use Rattle.mid_code.specs.State.{Registers, MidState, MidOutcome, returns, no_room, ends}
 use Rattle.mid_arena.specs.Tags.{nil_word, instance_header, object_tag, signal_word, tag_of}
 use Rattle.mid_arena.specs.Places.{Spot, Places, with_object, pointer_in, word_of, WordsOf}
@@ -24,10 +24,11 @@ use Rattle.mid_arena.specs.Layouts.{ObjectAt, InstanceAt}
 use Rattle.mid_arena.specs.Represents.{Represents}
 use Rattle.mid_arena.specs.Answers.{Enlarged, Returned, Pending, Signalled, RoomWanting, done, no_words, words_asked, units_after}
 use Rattle.mid_arena.proofs.Memory.{in_spot_lent, in_spot_there, word_here, word_elsewhere, stands_with_word, stands_with_heap}
-use Rattle.mid_arena.proofs.Memory.{grows_with_heap, with_words, grows_with_words, stored_heap, stored_blocks}
+use Rattle.mid_arena.proofs.Memory.{room_below, grows_with_heap, with_words, grows_with_words, stored_heap, stored_blocks}
 use Rattle.mid_arena.proofs.Memory.{words_stand}
 use Rattle.mid_arena.proofs.Keeping.{same_word, words_extended, words_of_condition, words_at_least, extends_one, as_many_words, tag_low}
-use Rattle.mid_arena.proofs.Growing.{HeapGrows, grows_same, Changes, spot_below, spot_grown}
+use Rattle.mid_arena.specs.Growing.{Grows, Changes}
+use Rattle.mid_arena.proofs.Growing.{grows_same, spot_below, spot_grown}
 use Rattle.mid_arena.proofs.Owners.{new_spot_found}
 use Rattle.mid_arena.proofs.ClassesKept.{IsNewObject}
 use Rattle.mid_arena.proofs.Representing.{fixed_spot, fixed_stands, represents_same, represents_grown, represents_made, kept_both, kept_same, kept_made, kept_grown, kept_fixed}
@@ -49,7 +50,7 @@ room_for words a = by (nat_le words (left a)) refl
     by true e = is_left (grind (arith, nat_tests))
     by false e = is_wanting (grind (arith, nat_tests))
 
-pub enlarged_by : {a b : Arena} (words : ℕ) → HeapGrows a b → b.heap_to ≡ a.heap_to + 4 * words → Enlarged a b words
+pub enlarged_by : {a b : Arena} (words : ℕ) → Grows a b → b.heap_to ≡ a.heap_to + 4 * words → Enlarged a b words
 enlarged_by words g to = record { size = g.size; laid_from = g.laid_from; laid_to = g.laid_to; heap_from = g.heap_from; heap_to = to }
 
 -- the arena with so many new words, of which the first ones were stored
@@ -64,8 +65,9 @@ pub begun_blocks : (words : ℕ) (ws : List ℕ) (a : Arena) → (begun words ws
 begun_blocks words ws a = stored_blocks a.heap_to ws (with_heap words a)
 
 -- all else stays
-pub begun_grows : {a : Arena} (words : ℕ) (ws : List ℕ) → ArenaStands a → words ≤ left a → HeapGrows a (begun words ws a)
-begun_grows {a} words ws h room = grows_with_words a.heap_to ws (grows_with_heap words h room) h.aligned (omega arith)
+pub begun_grows : {a : Arena} (words : ℕ) (ws : List ℕ) → ArenaStands a → words ≤ left a → length ws ≤ words → Grows a (begun words ws a)
+begun_grows {a} words ws h room some =
+    grows_with_words a.heap_to ws (grows_with_heap words h room) h.aligned (omega arith) (omega (arith, room_below words h room, some))
 
 -- each word stands where it was stored
 pub begun_word :
@@ -75,9 +77,9 @@ begun_word {a} words ws x i w h room some same found =
     ap (word_at (begun words ws a)) same
     ∙ words_stand a.heap_to ws (with_heap words a) i w (stands_with_heap words h room) h.aligned (omega (arith, h.heap)) (omega arith) found
 
--- a word that is stored in a spot changes at most that spot
-pub changes_stored : {a : Arena} (x w : ℕ) → ArenaStands a → x % 4 ≡ 0 → Changes (one_word x) a (with_word x w a)
-changes_stored {a} x w h aligned = record {
+-- a word that is stored below the heap's end changes at most its spot
+pub changes_stored : {a : Arena} (x w : ℕ) → ArenaStands a → x % 4 ≡ 0 → x < a.heap_to → Changes (one_word x) a (with_word x w a)
+changes_stored {a} x w h aligned inside = record {
   laid_from = refl;
   laid_to = refl;
   heap_from = refl;
@@ -85,6 +87,7 @@ changes_stored {a} x w h aligned = record {
   stands = stands_with_word x w h;
   before = λ y low. word_elsewhere a x w y aligned (ne_eqb x y (λ same. omega arith));
   after = λ y low high. word_elsewhere a x w y aligned (ne_eqb x y (λ same. omega arith));
+  stack = λ y from to. word_elsewhere a x w y aligned (ne_eqb x y (λ same. omega (arith, h.room)));
 }
 
 -- ---- slots
@@ -109,8 +112,8 @@ module _ (names : List (List ℕ)) (program : ProgramRows) (places : Places) (z 
   fixed_lent x aligned high = in_spot_lent x (fixed_stands names program places z y r) aligned (omega arith) high
 
   -- also where the arena grew
-  pub fixed_still_lent : (b : Arena) → HeapGrows y.arena b → (x : ℕ) → x % 4 ≡ 0 → x < 184 → is_lent b x ≡ true
-  fixed_still_lent b g x aligned high = in_spot_lent x (spot_grown g (fixed_stands names program places z y r)) aligned (omega arith) high
+  pub fixed_still_lent : (b : Arena) → Grows y.arena b → (x : ℕ) → x % 4 ≡ 0 → x < 184 → is_lent b x ≡ true
+  fixed_still_lent b g x aligned high = in_spot_lent x (spot_grown g.heap (fixed_stands names program places z y r)) aligned (omega arith) high
 
   -- what is stored there stands there
   pub stored_fixed : (address word : ℕ) → address % 4 ≡ 0 → address < 184 → word_at (with_word address word y.arena) address ≡ Some word
@@ -128,7 +131,7 @@ module _ (names : List (List ℕ)) (program : ProgramRows) (places : Places) (z 
     end = refl;
     wanting = lacking;
     together = omega (arith, lacking);
-    represents = represents_grown names program places z y r (paid y k) (grows_same y.arena r.arena) refl refl;
+    represents = represents_grown names program places z y r (paid y k) (grows_same y.arena r.arena).heap refl refl;
     kept = kept_grown names program places z y r y.arena (grows_same y.arena r.arena);
   }
 
@@ -144,7 +147,7 @@ module _ (names : List (List ℕ)) (program : ProgramRows) (places : Places) (z 
 
   -- a new object, at the end of the heap, in an arena that grew by its words
   module _
-      (words tag : ℕ) (o : Object) (y' : MidState) (g : HeapGrows y.arena y'.arena) (to : y'.arena.heap_to ≡ y.arena.heap_to + 4 * words)
+      (words tag : ℕ) (o : Object) (y' : MidState) (g : Grows y.arena y'.arena) (to : y'.arena.heap_to ≡ y.arena.heap_to + 4 * words)
       (blocks : y'.arena.blocks ≡ y.arena.blocks) (printed : y'.printed ≡ y.printed) (input : y'.input ≡ y.input) (some : 1 ≤ words) (small : tag < 4)
     where
       -- the spot of the object, and the places with it
@@ -158,8 +161,8 @@ module _ (names : List (List ℕ)) (program : ProgramRows) (places : Places) (z 
         -- it is represented
         pub represents_new : Represents names program places_made (meaning.stored o z') y'
         represents_new =
-            represents_made names program places z' y (represents_same names program places z z' y alike.store alike.symbols alike.printed alike.input r) y' g printed input
-            spot_made o refl (omega (arith, to)) some small made is_made
+            represents_made names program places z' y (represents_same names program places z z' y alike.store alike.symbols alike.printed alike.input r) y' g.heap printed input
+            spot_made refl (omega (arith, to)) some small o made is_made
 
         -- and it is the value of its pointer
         pub pointer_made : word_of places_made (object (length z'.store)) ≡ Some (y.arena.heap_to + tag)
@@ -181,7 +184,7 @@ module _ (names : List (List ℕ)) (program : ProgramRows) (places : Places) (z 
 
   -- so such a run answers
   pub answers_made :
-      {budget : ℕ} (size besides : ℕ) (o : Object) (z' : meaning.State) (y' : MidState) (rs : Registers) → SameObjects z z' → HeapGrows y.arena y'.arena
+      {budget : ℕ} (size besides : ℕ) (o : Object) (z' : meaning.State) (y' : MidState) (rs : Registers) → SameObjects z z' → Grows y.arena y'.arena
       → y'.arena.heap_to ≡ y.arena.heap_to + 4 * size → y'.arena.blocks ≡ y.arena.blocks → y'.printed ≡ y.printed → y'.input ≡ y.input → 1 ≤ size
       → ObjectAt names program (with_object (record { address = y.arena.heap_to; words = size; tag = tag_of o }) places) y'.arena
       (record { address = y.arena.heap_to; words = size; tag = tag_of o }) o
@@ -249,7 +252,7 @@ module _ (names : List (List ℕ)) (program : ProgramRows) (places : Places) (z 
   -- where a new condition stands, and its pointer was stored at the fixed address, it is to be signalled
   pub signalled_new :
       (class : ℕ) (vs : List Value) (words : ℕ) (z' : meaning.State) (y' : MidState) (rs : Registers) (k : ℕ) → SameObjects z z'
-      → words ≡ instance_words program class (length vs) → HeapGrows y.arena y'.arena → y'.arena.heap_to ≡ y.arena.heap_to + 4 * words
+      → words ≡ instance_words program class (length vs) → Grows y.arena y'.arena → y'.arena.heap_to ≡ y.arena.heap_to + 4 * words
       → y'.arena.blocks ≡ y.arena.blocks → y'.printed ≡ y.printed → y'.input ≡ y.input
       → InstanceAt names program (with_object (record { address = y.arena.heap_to; words = words; tag = object_tag }) places) y'.arena
       (record { address = y.arena.heap_to; words = words; tag = object_tag }) class (map (λ v. Some v) vs) nil
@@ -283,7 +286,7 @@ module _ (names : List (List ℕ)) (program : ProgramRows) (places : Places) (z 
       there = represents_new words object_tag condition y' g to blocks printed input some (omega arith) z' alike made known
 
       stored : Changes (one_word pending_address) y'.arena pending_state.arena
-      stored = changes_stored pending_address word g.stands refl
+      stored = changes_stored pending_address word g.stands refl (omega (arith, fixed_below names program after (meaning.stored condition z') y' there))
 
       pending : Pending names program places z y after class vs z' words ended
       pending = record {
@@ -307,5 +310,6 @@ module _ (names : List (List ℕ)) (program : ProgramRows) (places : Places) (z 
             (kept_same places z z' y'.arena pending_state.arena alike.store
             (kept_made places z' spot condition y'.arena pending_state.arena
             (kept_fixed names program after (meaning.stored condition z') y' there pending_state.arena
-            (word_of_fixed names program after (meaning.stored condition z') y' there pending_address pending_state.arena (omega arith) stored))));
+            (word_of_fixed names program after (meaning.stored condition z') y' there pending_address pending_state.arena (omega arith) stored))))
+            (omega (arith, g.size, ap words_of blocks));
       }

@@ -1,5 +1,5 @@
 -- What stands where after a change of the arena.
-use Rattle.std.proofs.Common.{◌≡◌, ℕ, zero, suc, ◌+◌, ◌*◌, ◌/◌, ◌%◌, ◌^◌, ◌<◌, ◌≤◌, length, Bool, true, false, List, [], ◌∷◌, Option, Some, None, refl, ap, ◌∙◌, arith}
+use Rattle.std.proofs.Common.{◌≡◌, ℕ, zero, suc, ◌+◌, ◌*◌, ◌/◌, ◌%◌, ◌^◌, ◌<◌, ◌≤◌, length, Bool, true, false, List, [], ◌∷◌, ◌++◌, Option, Some, None, refl, sym, ap, ◌∙◌, arith}
 use Rattle.std.specs.Prelude.{◌==◌, ◌&&◌, ◌||◌, if◌then◌else◌, slice_get, slice_set}
 use Rattle.std.proofs.lemmas.Bool.Decides.{nat_tests}
 use Rattle.std.proofs.Math.ListN.{length-set}
@@ -8,7 +8,8 @@ use Rattle.mid_code.specs.Arena.{is_lent, word_in, word_at, with_word, emptied, 
 use Rattle.mid_code.proofs.Growth.{length-emptied}
 use Rattle.mid_arena.specs.Places.{Spot, end_of}
 use Rattle.mid_arena.specs.Standing.{ArenaStands, IsLentPart, of_laid, of_heap, SpotStands}
-use Rattle.mid_arena.proofs.Growing.{HeapGrows, spot_below}
+use Rattle.mid_arena.specs.Growing.{HeapGrows, Grows}
+use Rattle.mid_arena.proofs.Growing.{spot_below}
 use Rattle.std.proofs.lemmas.Bool.{eq-eqb, ne_eqb, and_from, or_left, or_right}
 use Rattle.mid_arena.proofs.Lists.{set_here, set_elsewhere}
 use Rattle.mid_code.proofs.WordBounds.{first_true}
@@ -21,12 +22,24 @@ within from to x h g = grind (arith, nat_tests)
 not_within_below : (from to x : ℕ) → x < from → is_within from to x ≡ false
 not_within_below from to x h = grind (arith, nat_tests)
 
+not_within_behind : (from to x : ℕ) → to ≤ x → is_within from to x ≡ false
+not_within_behind from to x h = grind (arith, nat_tests)
+
 -- memory with words emptied: those in front are as they were
 emptied_in_front : (i n : ℕ) (ws : List (Option ℕ)) (j : ℕ) → j < i → slice_get (emptied i n ws) j ≡ slice_get ws j
 emptied_in_front i n [] j h = refl
 emptied_in_front zero n (w ∷ ws) j h = absurd (omega arith)
 emptied_in_front (suc i) n (w ∷ ws) zero h = refl
 emptied_in_front (suc i) n (w ∷ ws) (suc j) h = emptied_in_front i n ws j (omega arith)
+
+-- and so are those behind
+emptied_behind : (i n : ℕ) (ws : List (Option ℕ)) (j : ℕ) → i + n ≤ j → slice_get (emptied i n ws) j ≡ slice_get ws j
+emptied_behind i n [] j h = refl
+emptied_behind zero zero (w ∷ ws) j h = refl
+emptied_behind zero (suc n) (w ∷ ws) zero h = absurd (omega arith)
+emptied_behind zero (suc n) (w ∷ ws) (suc j) h = emptied_behind zero n ws j (omega arith)
+emptied_behind (suc i) n (w ∷ ws) zero h = absurd (omega arith)
+emptied_behind (suc i) n (w ∷ ws) (suc j) h = emptied_behind i n ws j (omega arith)
 
 -- what is lent
 
@@ -41,6 +54,36 @@ not_in_record size (b ∷ bs) x h =
     either_false : (k a b : Bool) → a ≡ false → b ≡ false → ((k && a) || b) ≡ false
     either_false true a b h g = cc
     either_false false a b h g = g
+
+-- blocks further in have no more words than all of them
+words_of_outer : (inner bs : List Block) → words_of bs ≤ words_of (inner ++ bs)
+words_of_outer [] bs = omega arith
+words_of_outer (b ∷ inner) bs = omega (arith, words_of_outer inner bs)
+
+-- and from where the outer ones begin no word is in one of them
+not_in_inner : (size : ℕ) (inner bs : List Block) (x : ℕ) → begin_of size bs ≤ x → is_in_record size (inner ++ bs) x ≡ is_in_record size bs x
+not_in_inner size [] bs x h = refl
+not_in_inner size (b ∷ inner) bs x h =
+    let first : is_within (lent_from size (b ∷ (inner ++ bs))) (begin_of size (inner ++ bs)) x ≡ false =
+    not_within_behind _ _ x (omega (arith, words_of_outer inner bs)) in
+    second_alone (is_record b.kind) _ _ first ∙ not_in_inner size inner bs x h
+  where
+    second_alone : (k a b : Bool) → a ≡ false → ((k && a) || b) ≡ b
+    second_alone true true b h = absurd (cc h)
+    second_alone true false b h = refl
+    second_alone false a b h = refl
+
+-- from where the stack begins, what is lent is in a record
+lent_of_stack :
+    (a : Arena) (x : ℕ) → ArenaStands a → stack_from a ≤ x → is_lent a x ≡ ((x % 4 == 0) && is_in_record (length a.memory) a.blocks x)
+lent_of_stack a x h from =
+    last_alone (x % 4 == 0) _ _ _ (not_within_behind a.laid_from a.laid_to x (omega (arith, h.laid, h.heap, h.room)))
+    (not_within_behind a.heap_from a.heap_to x (omega (arith, h.room)))
+  where
+    last_alone : (t k l r : Bool) → k ≡ false → l ≡ false → (t && (k || l || r)) ≡ (t && r)
+    last_alone t true l r e f = absurd (cc e)
+    last_alone t false true r e f = absurd (cc f)
+    last_alone t false false r e f = refl
 
 aligned : (a : Arena) (x : ℕ) → is_lent a x ≡ true → x % 4 ≡ 0
 aligned a x h =
@@ -159,6 +202,18 @@ words_below a b x h e f g more room same low =
     ∙ lent_below a b.heap_to (length b.memory) b.blocks x low more there here)
     (λ l. ap word_in same)
 
+-- so many words that are left end below the stack
+pub room_below : {a : Arena} (n : ℕ) → ArenaStands a → n ≤ left a → a.heap_to + 4 * n ≤ stack_from a
+room_below {a} n h some = omega (arith, h.room, h.aligned, some)
+
+-- From where both stacks begin, the words are the same, where the records are the same there, and the memory is as it was.
+words_above :
+    (a b : Arena) (x : ℕ) → ArenaStands a → ArenaStands b → stack_from a ≤ x → stack_from b ≤ x
+    → is_in_record (length b.memory) b.blocks x ≡ is_in_record (length a.memory) a.blocks x → slice_get b.memory (x / 4) ≡ slice_get a.memory (x / 4)
+    → word_at b x ≡ word_at a x
+words_above a b x h g from to records same =
+    same_lent_word a b x (lent_of_stack b x g to ∙ ap (λ t. (x % 4 == 0) && t) records ∙ sym (lent_of_stack a x h from)) (λ l. ap word_in same)
+
 -- words are requested
 
 pub stands_with_heap : {a : Arena} (n : ℕ) → ArenaStands a → n ≤ left a → ArenaStands (with_heap n a)
@@ -173,19 +228,24 @@ stands_with_heap {a} n h some =
       blocks = omega (arith, same, h.blocks);
     }
 
-pub grows_with_heap : {a : Arena} (n : ℕ) → ArenaStands a → n ≤ left a → HeapGrows a (with_heap n a)
+pub grows_with_heap : {a : Arena} (n : ℕ) → ArenaStands a → n ≤ left a → Grows a (with_heap n a)
 grows_with_heap {a} n h some =
     let same : length (emptied (a.heap_to / 4) n a.memory) ≡ length a.memory = length-emptied (a.heap_to / 4) n a.memory in
     record {
-      size = same;
-      laid_from = refl;
-      laid_to = refl;
-      heap_from = refl;
-      heap_to = omega arith;
-      stands = stands_with_heap n h some;
-      words = λ x low.
-          words_below a (with_heap n a) x h refl refl refl (omega arith) (omega (arith, same, h.room))
-          (emptied_in_front (a.heap_to / 4) n a.memory (x / 4) (omega (arith, h.aligned))) low;
+      heap = record {
+        size = same;
+        laid_from = refl;
+        laid_to = refl;
+        heap_from = refl;
+        heap_to = omega arith;
+        stands = stands_with_heap n h some;
+        words = λ x low.
+            words_below a (with_heap n a) x h refl refl refl (omega arith) (omega (arith, same, h.room))
+            (emptied_in_front (a.heap_to / 4) n a.memory (x / 4) (omega (arith, h.aligned))) low;
+      };
+      stack = λ x from to.
+          words_above a (with_heap n a) x h (stands_with_heap n h some) from to (ap (λ size. is_in_record size a.blocks x) same)
+          (emptied_behind (a.heap_to / 4) n a.memory (x / 4) (omega (arith, h.aligned, room_below n h some, from)));
     }
 
 -- a block is laid
@@ -202,19 +262,25 @@ stands_with_new_block {a} b h some =
       blocks = omega (arith, same, h.blocks);
     }
 
-pub grows_with_new_block : {a : Arena} (b : Block) → ArenaStands a → b.words ≤ left a → HeapGrows a (with_new_block b a)
+pub grows_with_new_block : {a : Arena} (b : Block) → ArenaStands a → b.words ≤ left a → Grows a (with_new_block b a)
 grows_with_new_block {a} b h some =
     let same : length (with_new_block b a).memory ≡ length a.memory = length-emptied _ b.words a.memory in
     record {
-      size = same;
-      laid_from = refl;
-      laid_to = refl;
-      heap_from = refl;
-      heap_to = omega arith;
-      stands = stands_with_new_block b h some;
-      words = λ x low.
-          words_below a (with_new_block b a) x h refl refl refl (omega arith) (omega (arith, same, h.room))
-          (emptied_in_front _ b.words a.memory (x / 4) (omega (arith, h.aligned, h.room))) low;
+      heap = record {
+        size = same;
+        laid_from = refl;
+        laid_to = refl;
+        heap_from = refl;
+        heap_to = omega arith;
+        stands = stands_with_new_block b h some;
+        words = λ x low.
+            words_below a (with_new_block b a) x h refl refl refl (omega arith) (omega (arith, same, h.room))
+            (emptied_in_front _ b.words a.memory (x / 4) (omega (arith, h.aligned, h.room))) low;
+      };
+      stack = λ x from to.
+          words_above a (with_new_block b a) x h (stands_with_new_block b h some) from to
+          (ap (λ size. is_in_record size (b ∷ a.blocks) x) same ∙ not_in_inner (length a.memory) (b ∷ []) a.blocks x from)
+          (emptied_behind _ b.words a.memory (x / 4) (omega (arith, h.blocks, some, from)));
     }
 
 -- so many words fewer are left
@@ -235,26 +301,32 @@ stands_with_blocks {a} bs h fewer = record {
   blocks = omega (arith, h.blocks);
 }
 
-pub grows_with_blocks : {a : Arena} (bs : List Block) → ArenaStands a → words_of bs ≤ words_of a.blocks → HeapGrows a (with_blocks bs a)
-grows_with_blocks {a} bs h fewer = record {
-  size = refl;
-  laid_from = refl;
-  laid_to = refl;
-  heap_from = refl;
-  heap_to = omega arith;
-  stands = stands_with_blocks bs h fewer;
-  words = λ x low. words_below a (with_blocks bs a) x h refl refl refl (omega arith) (omega (arith, h.room)) refl low;
-}
+-- an outer part of the blocks stands
+pub grows_with_blocks : {a : Arena} (inner bs : List Block) → ArenaStands a → a.blocks ≡ inner ++ bs → Grows a (with_blocks bs a)
+grows_with_blocks {a} inner bs h e =
+    let fewer : words_of bs ≤ words_of a.blocks = omega (arith, ap words_of e, words_of_outer inner bs) in
+    record {
+      heap = record {
+        size = refl;
+        laid_from = refl;
+        laid_to = refl;
+        heap_from = refl;
+        heap_to = omega arith;
+        stands = stands_with_blocks bs h fewer;
+        words = λ x low. words_below a (with_blocks bs a) x h refl refl refl (omega arith) (omega (arith, h.room)) refl low;
+      };
+      stack = λ x from to.
+          words_above a (with_blocks bs a) x h (stands_with_blocks bs h fewer) from to
+          (sym (ap (λ l. is_in_record (length a.memory) l x) e ∙ not_in_inner (length a.memory) inner bs x to)) refl;
+    }
 
 -- the innermost block is given back
-pub grows_given_back : {a : Arena} (b : Block) (bs : List Block) → ArenaStands a → a.blocks ≡ b ∷ bs → HeapGrows a (with_blocks bs a)
-grows_given_back {a} b bs h e =
-    let same : words_of a.blocks ≡ b.words + words_of bs = ap words_of e in
-    grows_with_blocks bs h (omega arith)
+pub grows_given_back : {a : Arena} (b : Block) (bs : List Block) → ArenaStands a → a.blocks ≡ b ∷ bs → Grows a (with_blocks bs a)
+grows_given_back {a} b bs h e = grows_with_blocks (b ∷ []) bs h e
 
 -- a word is stored above where the heap ended before
-pub grows_stored : {a b : Arena} (x w : ℕ) → HeapGrows a b → x % 4 ≡ 0 → a.heap_to ≤ x → HeapGrows a (with_word x w b)
-grows_stored {a} {b} x w g e above = record {
+pub heap_grows_stored : {a b : Arena} (x w : ℕ) → HeapGrows a b → x % 4 ≡ 0 → a.heap_to ≤ x → HeapGrows a (with_word x w b)
+heap_grows_stored {a} {b} x w g e above = record {
   size = length-set b.memory (x / 4) (Some w) ∙ g.size;
   laid_from = g.laid_from;
   laid_to = g.laid_to;
@@ -262,6 +334,15 @@ grows_stored {a} {b} x w g e above = record {
   heap_to = g.heap_to;
   stands = stands_with_word x w g.stands;
   words = λ y low. word_elsewhere b x w y e (ne_eqb x y (λ same. omega arith)) ∙ g.words y low;
+}
+
+-- and below where the stack began
+pub grows_stored : {a b : Arena} (x w : ℕ) → Grows a b → x % 4 ≡ 0 → a.heap_to ≤ x → x < stack_from a → Grows a (with_word x w b)
+grows_stored {a} {b} x w g e above below = record {
+  heap = heap_grows_stored x w g.heap e above;
+  stack = λ y from to.
+      word_elsewhere b x w y e (ne_eqb x y (λ same. omega (arith, below, from)))
+      ∙ g.stack y from (omega (arith, to, length-set b.memory (x / 4) (Some w)));
 }
 
 -- the words of a spot by their numbers: one is stored, the others are as before
@@ -314,6 +395,8 @@ words_stand x (v ∷ ws) a (suc i) w h e low high found =
     ∙ words_stand (x + 4) ws (with_word x v a) i w (stands_with_word x v h) (omega arith) (omega arith) (omega arith) found
 
 -- an arena grows where they are stored above where the heap ended before
-pub grows_with_words : {a b : Arena} (x : ℕ) (ws : List ℕ) → HeapGrows a b → x % 4 ≡ 0 → a.heap_to ≤ x → HeapGrows a (with_words x ws b)
-grows_with_words {a} {b} x [] g e above = g
-grows_with_words {a} {b} x (w ∷ ws) g e above = grows_with_words {a = a} {b = with_word x w b} (x + 4) ws (grows_stored x w g e above) (omega arith) (omega arith)
+pub grows_with_words :
+    {a b : Arena} (x : ℕ) (ws : List ℕ) → Grows a b → x % 4 ≡ 0 → a.heap_to ≤ x → x + 4 * length ws ≤ stack_from a → Grows a (with_words x ws b)
+grows_with_words {a} {b} x [] g e above below = g
+grows_with_words {a} {b} x (w ∷ ws) g e above below =
+    grows_with_words {a = a} {b = with_word x w b} (x + 4) ws (grows_stored x w g e above (omega (arith, below))) (omega arith) (omega arith) (omega (arith, below))

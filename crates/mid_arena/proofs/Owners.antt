@@ -1,10 +1,10 @@
--- Whose spot one is where there is one object more, and what is in a list where there is one item more or another.
-use Rattle.std.proofs.Common.{◌≡◌, ℕ, zero, suc, ◌<◌, false, List, [], ◌∷◌, ◌++◌, length, Some, refl, ap, arith}
+-- Whose spot one is where there is one more, of an object or of what code has for itself, and what is in a list where there is one item more or another.
+use Rattle.std.proofs.Common.{◌≡◌, ℕ, zero, suc, ◌<◌, true, false, List, [], ◌∷◌, ◌++◌, length, Some, refl, ap, arith}
 use Rattle.std.specs.Prelude.{◌==◌, slice_get, slice_set}
 use Rattle.std.proofs.lemmas.Option.{slice_get_within}
 use Rattle.std.proofs.lemmas.Bool.Decides.{nat_tests}
 use Rattle.base.specs.Names.{slice_get-behind}
-use Rattle.mid_arena.specs.Places.{Spot, Places, Owner, of_object, of_symbol, of_other, spot_in, spot_of, with_object}
+use Rattle.mid_arena.specs.Places.{Spot, Places, Owner, of_object, of_symbol, of_other, spot_in, spot_of, with_object, with_other}
 use Rattle.mid_arena.proofs.Keeping.{spot_in_tells}
 
 -- an item of a list with one more at its end
@@ -22,19 +22,40 @@ front_or_end (y ∷ xs) x (suc i) item e = further (front_or_end xs x i item e)
     further (at_front h) = at_front h
     further (at_end h same) = at_end (omega arith) same
 
--- whose spot one is where there is one object more
-pub data OldOrNew (s : Spot) (places : Places) (p : Owner) (found : Spot) : Type 0 where
-  of_old : spot_of places p ≡ Some found → OldOrNew s places p found
-  of_new : p ≡ of_object (length places.objects) → found ≡ s → OldOrNew s places p found
+-- whose spot one is where a new owner has one
+pub data OldOrNew (s : Spot) (places : Places) (new p : Owner) (found : Spot) : Type 0 where
+  of_old : spot_of places p ≡ Some found → OldOrNew s places new p found
+  of_new : p ≡ new → found ≡ s → OldOrNew s places new p found
 
-pub old_or_new : (s : Spot) (places : Places) (p : Owner) (found : Spot) → spot_of (with_object s places) p ≡ Some found → OldOrNew s places p found
+-- one object more
+abbrev pub new_object : Places → Owner
+new_object places = of_object (length places.objects)
+
+pub old_or_new : (s : Spot) (places : Places) (p : Owner) (found : Spot) → spot_of (with_object s places) p ≡ Some found → OldOrNew s places (new_object places) p found
 old_or_new s places (of_symbol v) found e = of_old e
 old_or_new s places (of_other n) found e = of_old e
 old_or_new s places (of_object i) found e = by (front_or_end places.objects (Some s) i (Some found) (spot_in_tells _ found e))
   where
-    by : FrontOrEnd places.objects (Some s) i (Some found) → OldOrNew s places (of_object i) found
+    by : FrontOrEnd places.objects (Some s) i (Some found) → OldOrNew s places (new_object places) (of_object i) found
     by (at_front h) = of_old (ap spot_in h)
     by (at_end h same) = of_new (ap of_object h) (cc same)
+
+-- one more spot that code has for itself
+abbrev pub new_other : Places → Owner
+new_other places = of_other (length places.others)
+
+pub old_or_other : (s : Spot) (places : Places) (p : Owner) (found : Spot) → spot_of (with_other s places) p ≡ Some found → OldOrNew s places (new_other places) p found
+old_or_other s places (of_symbol v) found e = of_old e
+old_or_other s places (of_object i) found e = of_old e
+old_or_other s places (of_other n) found e = by (front_or_end places.others s n found e)
+  where
+    by : FrontOrEnd places.others s n found → OldOrNew s places (new_other places) (of_other n) found
+    by (at_front h) = of_old h
+    by (at_end h same) = of_new (ap of_other h) same
+
+-- each number is the one of itself
+pub same_number : (n : ℕ) → (n == n) ≡ true
+same_number n = grind (arith, nat_tests)
 
 -- the new object has the new spot
 pub new_spot_found : (s : Spot) (places : Places) → spot_of (with_object s places) (of_object (length places.objects)) ≡ Some s
@@ -52,7 +73,7 @@ pub data SetOrNot {X : Type 0} (xs : List X) (i : ℕ) (x : X) (j : ℕ) (item :
 pub after_zero : (j : ℕ) → (suc j == 0) ≡ false
 after_zero j = grind (arith, nat_tests)
 
-before_later : (j : ℕ) → (0 == suc j) ≡ false
+pub before_later : (j : ℕ) → (0 == suc j) ≡ false
 before_later j = grind (arith, nat_tests)
 
 both_later : (i j : ℕ) → (j == i) ≡ false → (suc j == suc i) ≡ false

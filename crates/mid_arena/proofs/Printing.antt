@@ -32,7 +32,7 @@ use Rattle.mid_arena.proofs.Keeping.{header_of}
 use Rattle.mid_arena.proofs.HeaderKinds.{stream_of}
 use Rattle.mid_arena.proofs.Arguments.{object_found, word_told}
 use Rattle.mid_arena.proofs.FixedChanges.{represents_printed}
-use Rattle.mid_arena.proofs.Making.{changes_stored, fixed_lent, stored_fixed}
+use Rattle.mid_arena.proofs.Making.{changes_stored, fixed_below, fixed_lent, stored_fixed}
 use Rattle.mid_arena.proofs.Doing.{alike_self, Run, goes_on, test_passes, second_answers}
 use Rattle.mid_arena.proofs.Conditions.{domain_error_run}
 use Rattle.mid_arena.proofs.Checking.{header_registers, character_needed}
@@ -76,7 +76,7 @@ module _
 
     represents_put : (c k : ℕ) → c ≤ 255 → Represents names program places (record z { printed = z.printed ++ c ∷ [] }) (put_state c k)
     represents_put c k small =
-        represents_printed names program places z y r (z.printed ++ c ∷ []) (put_state c k) (changes_stored line_address (truth_word (c == 10)) r.arena refl)
+        represents_printed names program places z y r (z.printed ++ c ∷ []) (put_state c k) (changes_stored line_address (truth_word (c == 10)) r.arena refl (omega (arith, fixed_below names program places z y r)))
         (record {
           word = truth_word (c == 10);
           of_value = ap (λ b. word_of places (truth b)) (fresh_behind z.printed c) ∙ truth_is (c == 10);

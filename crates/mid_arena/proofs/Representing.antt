@@ -9,7 +9,7 @@ use Rattle.lang_meaning.specs.declared.program.ProgramRows.{ProgramRows}
 use Rattle.lang_meaning.specs.Values.{Value}
 use Rattle.lang_meaning.specs.Objects.{Object, function}
 use Rattle.lang_meaning.specs.State as meaning
-use Rattle.mid_code.specs.Arena.{Arena}
+use Rattle.mid_code.specs.Arena.{Arena, stack_from}
 use Rattle.mid_code.specs.State.{MidState}
 use Rattle.mid_arena.specs.Tags.{symbol_header}
 use Rattle.mid_arena.specs.Places.{Spot, end_of, Places, Owner, same_owner, of_object, of_symbol, of_other, spot_of, with_object}
@@ -18,12 +18,13 @@ use Rattle.mid_arena.specs.FixedWords.{fixed_words, nil_text, class_address, inp
 use Rattle.mid_arena.specs.FixedWords.{line_address, peeked_address, InputIs, untouched, looked_at, FixedStand}
 use Rattle.mid_arena.specs.Layouts.{AreBytes, ObjectAt}
 use Rattle.mid_arena.specs.Represents.{Represents}
-use Rattle.mid_arena.specs.Answers.{KeepsFunctions}
+use Rattle.mid_arena.specs.Answers.{KeepsWords}
 use Rattle.mid_arena.proofs.ClassesKept.{IsNewObject, classes_same, classes_stored, classes_changed}
 use Rattle.mid_arena.proofs.Keeping.{PlacesExtend, extends_same, extends_one, old_spot, text_kept, value_kept, symbol_kept, object_kept}
-use Rattle.mid_arena.proofs.Growing.{HeapGrows, Changes, spot_below, spot_grown, words_grown, spot_changed, words_apart}
+use Rattle.mid_arena.specs.Growing.{HeapGrows, Grows, Changes}
+use Rattle.mid_arena.proofs.Growing.{spot_below, spot_grown, words_grown, spot_changed, words_apart}
 use Rattle.mid_arena.proofs.Owners.{after_zero, FrontOrEnd, at_front, at_end, front_or_end, OldOrNew, of_old}
-use Rattle.mid_arena.proofs.Owners.{of_new, old_or_new, object_within, SetOrNot, at_place, elsewhere, set_or_not}
+use Rattle.mid_arena.proofs.Owners.{of_new, new_object, old_or_new, same_number, object_within, SetOrNot, at_place, elsewhere, set_or_not}
 
 -- ---- the fixed words
 
@@ -78,25 +79,31 @@ represents_same names program places z z' y store symbols printed input r = reco
 
 -- ---- what is kept, step by step
 
-pub kept_both : (places : Places) (z : meaning.State) (a b c : Arena) → KeepsFunctions places z a b → KeepsFunctions places z b c → KeepsFunctions places z a c
-kept_both places z a b c g h = record {
-  functions = λ i p s found e x low high. h.functions i p s found e x low high ∙ g.functions i p s found e x low high;
-  others = λ n s e x low high. h.others n s e x low high ∙ g.others n s e x low high;
+-- where the stack in between begins no higher
+pub kept_both :
+    (places : Places) (z : meaning.State) (a b c : Arena) → KeepsWords places z a b → KeepsWords places z b c → stack_from b ≤ stack_from a
+    → KeepsWords places z a c
+kept_both places z a b c g h low = record {
+  functions = λ i p s found e x from to. h.functions i p s found e x from to ∙ g.functions i p s found e x from to;
+  others = λ n s e x from to. h.others n s e x from to ∙ g.others n s e x from to;
+  stack = λ x from to. h.stack x (omega (arith, low, from)) to ∙ g.stack x from (omega (arith, low, from));
 }
 
 -- with the same objects
-pub kept_same : (places : Places) (z z' : meaning.State) (a b : Arena) → z'.store ≡ z.store → KeepsFunctions places z' a b → KeepsFunctions places z a b
+pub kept_same : (places : Places) (z z' : meaning.State) (a b : Arena) → z'.store ≡ z.store → KeepsWords places z' a b → KeepsWords places z a b
 kept_same places z z' a b store k = record {
   functions = λ i p s found e. k.functions i p s (ap (λ os. slice_get os i) store ∙ found) e;
   others = k.others;
+  stack = k.stack;
 }
 
 -- with one object fewer
 pub kept_made :
-    (places : Places) (z : meaning.State) (s : Spot) (o : Object) (a b : Arena) → KeepsFunctions (with_object s places) (meaning.stored o z) a b → KeepsFunctions places z a b
+    (places : Places) (z : meaning.State) (s : Spot) (o : Object) (a b : Arena) → KeepsWords (with_object s places) (meaning.stored o z) a b → KeepsWords places z a b
 kept_made places z s o a b k = record {
   functions = λ i p one found e. k.functions i p one (slice_get-front z.store (o ∷ []) i (function p) found) (old_spot s places (of_object i) one e);
   others = k.others;
+  stack = k.stack;
 }
 
 -- ---- a represented state
@@ -109,10 +116,17 @@ module _ (names : List (List ℕ)) (program : ProgramRows) (places : Places) (z 
   pub owned_grown : (b : Arena) → HeapGrows y.arena b → (p : Owner) (s : Spot) → spot_of places p ≡ Some s → SameWords y.arena b s
   owned_grown b g p s e = words_grown y.arena b s g r.arena (r.spots p s e)
 
-  pub kept_grown : (b : Arena) → HeapGrows y.arena b → KeepsFunctions places z y.arena b
+  -- and where one spot changes, what those of other owners have
+  pub beside_kept :
+      (owner : Owner) (s : Spot) → spot_of places owner ≡ Some s → (b : Arena) → Changes s y.arena b → (p : Owner) (one : Spot) → same_owner p owner ≡ false
+      → spot_of places p ≡ Some one → SameWords y.arena b one
+  beside_kept owner s at b c p one different e = words_apart y.arena b s one c r.arena (r.spots p one e) (r.apart p owner one s different e at)
+
+  pub kept_grown : (b : Arena) → Grows y.arena b → KeepsWords places z y.arena b
   kept_grown b g = record {
-    functions = λ i p s found e. owned_grown b g (of_object i) s e;
-    others = λ n s e. owned_grown b g (of_other (suc n)) s e;
+    functions = λ i p s found e. owned_grown b g.heap (of_object i) s e;
+    others = λ n s e. owned_grown b g.heap (of_other (suc n)) s e;
+    stack = g.stack;
   }
 
   module _ (y' : MidState) (g : HeapGrows y.arena y'.arena) (printed : y'.printed ≡ y.printed) (input : y'.input ≡ y.input) where
@@ -136,37 +150,39 @@ module _ (names : List (List ℕ)) (program : ProgramRows) (places : Places) (z 
       printed = printed ∙ r.printed;
     }
 
-    -- an object more, at the end of the heap
-    module _
-        (s : Spot) (o : Object) (address : s.address ≡ y.arena.heap_to) (high : end_of s ≤ y'.arena.heap_to) (some : 1 ≤ s.words) (tag : s.tag < 4)
-        (made : ObjectAt names program (with_object s places) y'.arena s o) (is_made : IsNewObject program o)
-      where
-        pub new_stands : SpotStands y'.arena s
-        new_stands = record {
-          aligned = omega (arith, r.arena.aligned);
-          some = some;
-          tag = tag;
-          part = of_heap (omega (arith, g.heap_from, r.arena.heap)) high;
-        }
+    -- a spot more, at the end of the heap
+    module _ (s : Spot) (address : s.address ≡ y.arena.heap_to) (high : end_of s ≤ y'.arena.heap_to) (some : 1 ≤ s.words) (tag : s.tag < 4) where
+      pub new_stands : SpotStands y'.arena s
+      new_stands = record {
+        aligned = omega (arith, r.arena.aligned);
+        some = some;
+        tag = tag;
+        part = of_heap (omega (arith, g.heap_from, r.arena.heap)) high;
+      }
 
-        -- the old spots end where the new one begins
-        old_in_front : (p : Owner) (old : Spot) → spot_of places p ≡ Some old → end_of old ≤ s.address
-        old_in_front p old e = let below = spot_below r.arena (r.spots p old e) in omega arith
+      -- the old spots end where the new one begins
+      old_in_front : (p : Owner) (old : Spot) → spot_of places p ≡ Some old → end_of old ≤ s.address
+      old_in_front p old e = let below = spot_below r.arena (r.spots p old e) in omega arith
 
-        made_apart : (p q : Owner) (first second : Spot) → same_owner p q ≡ false → OldOrNew s places p first → OldOrNew s places q second → Apart first second
-        made_apart p q first second different (of_old d) (of_old e) = r.apart p q first second different d e
-        made_apart p q first second different (of_old d) (of_new e same) = rw same (in_front (old_in_front p first d))
-        made_apart p q first second different (of_new d same) (of_old e) = rw same (behind (old_in_front q second e))
-        made_apart p q first second different (of_new d same) (of_new e same') =
-            let self : same_owner (of_object (length places.objects)) (of_object (length places.objects)) ≡ false = cc in
-            absurd (grind (arith, nat_tests))
+      -- so all spots are apart, also that of a new owner
+      pub made_apart :
+          (new : Owner) → same_owner new new ≡ true → (p q : Owner) (first second : Spot) → same_owner p q ≡ false → OldOrNew s places new p first
+          → OldOrNew s places new q second → Apart first second
+      made_apart new self p q first second different (of_old d) (of_old e) = r.apart p q first second different d e
+      made_apart new self p q first second different (of_old d) (of_new e same) = rw same (in_front (old_in_front p first d))
+      made_apart new self p q first second different (of_new d same) (of_old e) = rw same (behind (old_in_front q second e))
+      made_apart new self p q first second different (of_new d same) (of_new e same') =
+          let other : same_owner new new ≡ false = cc in
+          absurd (cc (self, other))
 
-        made_spot : (p : Owner) (found : Spot) → OldOrNew s places p found → SpotStands y'.arena found
-        made_spot p found (of_old e) = spot_grown g (r.spots p found e)
-        made_spot p found (of_new e same) = rw same new_stands
+      pub made_spot : (new p : Owner) (found : Spot) → OldOrNew s places new p found → SpotStands y'.arena found
+      made_spot new p found (of_old e) = spot_grown g (r.spots p found e)
+      made_spot new p found (of_new e same) = rw same new_stands
 
+      -- an object more
+      module _ (o : Object) (made : ObjectAt names program (with_object s places) y'.arena s o) (is_made : IsNewObject program o) where
         made_object :
-            (i : ℕ) (one : Object) (found : Spot) → FrontOrEnd z.store o i one → OldOrNew s places (of_object i) found
+            (i : ℕ) (one : Object) (found : Spot) → FrontOrEnd z.store o i one → OldOrNew s places (new_object places) (of_object i) found
             → ObjectAt names program (with_object s places) y'.arena found one
         made_object i one found (at_front d) (of_old e) =
             object_kept y.arena y'.arena found (owned_grown y'.arena g (of_object i) found e) places (with_object s places) (extends_one s places) names program one
@@ -182,8 +198,8 @@ module _ (names : List (List ℕ)) (program : ProgramRows) (places : Places) (z 
         represents_made = record {
           built_in = r.built_in;
           arena = g.stands;
-          spots = λ p found e. made_spot p found (old_or_new s places p found e);
-          apart = λ p q first second different d e. made_apart p q first second different (old_or_new s places p first d) (old_or_new s places q second e);
+          spots = λ p found e. made_spot (new_object places) p found (old_or_new s places p found e);
+          apart = λ p q first second different d e. made_apart (new_object places) (same_number (length places.objects)) p q first second different (old_or_new s places p first d) (old_or_new s places q second e);
           count =
               length-append places.objects (Some s ∷ []) ∙ ap (λ n. n + 1) r.count ∙ sym (length-append z.store (o ∷ []));
           classes = classes_stored names program z r.classes o is_made;
@@ -201,14 +217,14 @@ module _ (names : List (List ℕ)) (program : ProgramRows) (places : Places) (z 
   module _ (i : ℕ) (s : Spot) (at : spot_of places (of_object i) ≡ Some s) (b : Arena) (c : Changes s y.arena b) where
     -- the spot of another owner keeps its words
     other_kept : (p : Owner) (one : Spot) → same_owner p (of_object i) ≡ false → spot_of places p ≡ Some one → SameWords y.arena b one
-    other_kept p one different e =
-        words_apart y.arena b s one c r.arena (r.spots p one e) (r.apart p (of_object i) one s different e at)
+    other_kept = beside_kept (of_object i) s at b c
 
     -- which is none that a function has for itself
-    pub kept_changed : (o : Object) → slice_get z.store i ≡ Some o → ((p : ℕ) → o ≡ function p → ⊥) → KeepsFunctions places z y.arena b
+    pub kept_changed : (o : Object) → slice_get z.store i ≡ Some o → ((p : ℕ) → o ≡ function p → ⊥) → KeepsWords places z y.arena b
     kept_changed o stored no_function = record {
       functions = λ j p one found e. other_kept (of_object j) one (other j p found) e;
       others = λ n one e. other_kept (of_other (suc n)) one refl e;
+      stack = c.stack;
     }
       where
         other : (j p : ℕ) → slice_get z.store j ≡ Some (function p) → (j == i) ≡ false
@@ -255,13 +271,13 @@ module _ (names : List (List ℕ)) (program : ProgramRows) (places : Places) (z 
   -- fixed words change
   module _ (b : Arena) (c : Changes fixed_spot y.arena b) where
     not_fixed_kept : (p : Owner) (one : Spot) → same_owner p (of_other 0) ≡ false → spot_of places p ≡ Some one → SameWords y.arena b one
-    not_fixed_kept p one different e =
-        words_apart y.arena b fixed_spot one c r.arena (r.spots p one e) (r.apart p (of_other 0) one fixed_spot different e r.fixed.spot)
+    not_fixed_kept = beside_kept (of_other 0) fixed_spot r.fixed.spot b c
 
-    pub kept_fixed : KeepsFunctions places z y.arena b
+    pub kept_fixed : KeepsWords places z y.arena b
     kept_fixed = record {
       functions = λ i p s found e. not_fixed_kept (of_object i) s refl e;
       others = λ n s e. not_fixed_kept (of_other (suc n)) s (after_zero n) e;
+      stack = c.stack;
     }
 
   pub represents_fixed :

@@ -29,7 +29,7 @@ IsLast other = Unit {0}
 
 -- combinators
 
-go_on_last : (e : End) (rs : Registers) (z : MidState) (next : Next) → IsLast e → go_on (ends e rs z) next ≡ ends e rs z
+pub go_on_last : (e : End) (rs : Registers) (z : MidState) (next : Next) → IsLast e → go_on (ends e rs z) next ≡ ends e rs z
 unfolding go_on
 go_on_last falls rs z next h = absurd h
 go_on_last (returns w) rs z next h = refl
@@ -42,15 +42,15 @@ go_on_last (unhandled class site condition) rs z next h = refl
 go_on_last exhausted rs z next h = refl
 go_on_last stuck rs z next h = refl
 
-some_found : {X : Type 0} {o : Option X} {x : X} (next : X → Next) (rs : Registers) (z : MidState) → o ≡ Some x → with_some o next rs z ≡ next x rs z
+pub some_found : {X : Type 0} {o : Option X} {x : X} (next : X → Next) (rs : Registers) (z : MidState) → o ≡ Some x → with_some o next rs z ≡ next x rs z
 unfolding with_some
 some_found next rs z e = ap (λ o. with_some o next rs z) e
 
-first_chosen : {b : Bool} (first second : Next) (rs : Registers) (z : MidState) → b ≡ true → choose_by b first second rs z ≡ first rs z
+pub first_chosen : {b : Bool} (first second : Next) (rs : Registers) (z : MidState) → b ≡ true → choose_by b first second rs z ≡ first rs z
 unfolding choose_by
 first_chosen first second rs z e = ap (λ b. choose_by b first second rs z) e
 
-second_chosen : {b : Bool} (first second : Next) (rs : Registers) (z : MidState) → b ≡ false → choose_by b first second rs z ≡ second rs z
+pub second_chosen : {b : Bool} (first second : Next) (rs : Registers) (z : MidState) → b ≡ false → choose_by b first second rs z ≡ second rs z
 unfolding choose_by
 second_chosen first second rs z e = ap (λ b. choose_by b first second rs z) e
 
@@ -64,13 +64,13 @@ jumped_last {e = e} {rs = rs} {z = z} h same = ap jumped same ∙ go_on_last e r
 
 -- the parts of a loop: its test, a turn, and what follows the turn
 
-abbrev loop_again : Context → Counted → MidCode → Test → MidCode → Next
+abbrev pub loop_again : Context → Counted → MidCode → Test → MidCode → Next
 loop_again c how head t body rs z = count c how (again (repeat how head t body) rs) z
 
-abbrev loop_turn : Context → Counted → MidCode → Test → MidCode → Next
+abbrev pub loop_turn : Context → Counted → MidCode → Test → MidCode → Next
 loop_turn c how head t body rs z = go_on (jumped (exec c body rs z)) (loop_again c how head t body)
 
-abbrev loop_test : Context → Counted → MidCode → Test → MidCode → Next
+abbrev pub loop_test : Context → Counted → MidCode → Test → MidCode → Next
 loop_test c how head t body rs z = test t (loop_turn c how head t body) (ends falls) rs z
 
 -- addresses
@@ -243,12 +243,12 @@ return_ends {rs = rs} e = record { same = some_found _ rs _ e }
 
 -- choices, by a test that is known
 
-test_true :
+pub test_true :
     {a b : ℕ} (t : Test) (first second : Next) (rs : Registers) (z : MidState) → register t.first rs ≡ Some a → register t.second rs ≡ Some b
     → compares t.comparison a b ≡ true → test t first second rs z ≡ first rs (charged test_cost z)
 test_true t first second rs z e f h = some_found _ rs _ e ∙ some_found _ rs _ f ∙ first_chosen first second rs _ h
 
-test_false :
+pub test_false :
     {a b : ℕ} (t : Test) (first second : Next) (rs : Registers) (z : MidState) → register t.first rs ≡ Some a → register t.second rs ≡ Some b
     → compares t.comparison a b ≡ false → test t first second rs z ≡ second rs (charged test_cost z)
 test_false t first second rs z e f h = some_found _ rs _ e ∙ some_found _ rs _ f ∙ second_chosen first second rs _ h
@@ -297,7 +297,7 @@ choose_second_ends l e f h g = record { same = (choose_second e f h g).same ∙ 
 
 -- code in two parts
 
-go_on_twice : (r : MidOutcome) (f g : Next) → go_on (go_on r f) g ≡ go_on r (λ rs z. go_on (f rs z) g)
+pub go_on_twice : (r : MidOutcome) (f g : Next) → go_on (go_on r f) g ≡ go_on r (λ rs z. go_on (f rs z) g)
 unfolding go_on
 go_on_twice r f g = from r.end r.registers r.state
   where
@@ -305,7 +305,7 @@ go_on_twice r f g = from r.end r.registers r.state
     from falls rs z = refl
     from e rs z = refl
 
-go_on_same : (r : MidOutcome) (f g : Next) → ((rs : Registers) (z : MidState) → f rs z ≡ g rs z) → go_on r f ≡ go_on r g
+pub go_on_same : (r : MidOutcome) (f g : Next) → ((rs : Registers) (z : MidState) → f rs z ≡ g rs z) → go_on r f ≡ go_on r g
 unfolding go_on
 go_on_same r f g h = from r.end r.registers r.state
   where
@@ -313,7 +313,7 @@ go_on_same r f g h = from r.end r.registers r.state
     from falls rs z = h rs z
     from e rs z = refl
 
-in_two_parts :
+pub in_two_parts :
     (c : Context) (ss ts : List MidStep) (rs : Registers) (z : MidState)
     → exec c (code_of (ss ++ ts)) rs z ≡ go_on (exec c (code_of ss) rs z) (λ rs' y. exec c (code_of ts) rs' y)
 unfolding exec go_on

@@ -32,7 +32,7 @@ use Rattle.mid_arena.proofs.Running.{StepsTo, constant_falls, compute_known, loa
 use Rattle.mid_arena.proofs.Running.{choose_first_ends, choose_second_falls, none_left, and_then, and_ends, return_ends, address_up, address_above}
 use Rattle.mid_arena.proofs.Representing.{represents_same, kept_fixed}
 use Rattle.mid_arena.proofs.FixedChanges.{word_of_fixed, represents_read}
-use Rattle.mid_arena.proofs.Making.{changes_stored, fixed_lent, stored_fixed}
+use Rattle.mid_arena.proofs.Making.{changes_stored, fixed_below, fixed_lent, stored_fixed}
 use Rattle.mid_arena.proofs.Doing.{alike_self, Answers, Run, goes_on, returns_value, first_answers, test_fails}
 use Rattle.mid_arena.proofs.Taking.{does_none}
 use Rattle.mid_arena.proofs.Telling.{not_nil}
@@ -138,7 +138,7 @@ module _ (names : List (List ℕ)) (program : ProgramRows) (places : Places) (z 
       kept =
           rw arena
           (kept_fixed names program places z y r (with_word address word y.arena)
-          (word_of_fixed names program places z y r address (with_word address word y.arena) low (changes_stored address word r.arena aligned)));
+          (word_of_fixed names program places z y r address (with_word address word y.arena) low (changes_stored address word r.arena aligned (omega (arith, low, fixed_below names program places z y r)))));
     });
     cost = cost;
   }
@@ -164,7 +164,7 @@ module _
         (left : List ℕ) (k : ℕ) → AreBytes left
         → Represents names program places (record z { input = left }) (record y { arena = none_left_behind; input = left; cost = k })
     represents_got left k bytes =
-        represents_read names program places z y r left (record y { arena = none_left_behind; input = left; cost = k }) (changes_stored peeked_address nil_word r.arena refl)
+        represents_read names program places z y r left (record y { arena = none_left_behind; input = left; cost = k }) (changes_stored peeked_address nil_word r.arena refl (omega (arith, fixed_below names program places z y r)))
         (untouched (stored_fixed names program places z y r peeked_address nil_word refl (omega arith))) bytes refl
 
     gets_byte :
@@ -274,7 +274,7 @@ module _
               returns_stored names program places z y r (y.cost + 130 + 244 * 0) peeked_address (integer_word (pos byte)) (integer_word (pos byte))
               (integer (pos byte)) z (after bytes byte) _ refl (omega arith) refl (byte_value places byte low)
               (represents_same names program places (record z { input = byte ∷ bytes }) z (after bytes byte) refl refl refl is
-              (represents_read names program places z y r (byte ∷ bytes) (after bytes byte) (changes_stored peeked_address (integer_word (pos byte)) r.arena refl)
+              (represents_read names program places z y r (byte ∷ bytes) (after bytes byte) (changes_stored peeked_address (integer_word (pos byte)) r.arena refl (omega (arith, fixed_below names program places z y r)))
               (looked_at byte (stored_fixed names program places z y r peeked_address (integer_word (pos byte)) refl (omega arith))) are refl))
               (omega arith);
         }

@@ -109,14 +109,14 @@ module _
         text_stands : (i w : ℕ) → slice_get (text_words bytes) i ≡ Some w → word_at begun_arena (s.address + 8 + 4 * i) ≡ Some w
         text_stands i w found =
             let low : i < count = omega (arith, as_many, slice_get_within (text_words bytes) i w found) in
-            (begun_grows (2 + count) (string_header ∷ 4 * length bytes ∷ []) r.arena room).words (s.address + 8 + 4 * i) (omega (arith, text.size.words))
+            (begun_grows (2 + count) (string_header ∷ 4 * length bytes ∷ []) r.arena room (omega arith)).words (s.address + 8 + 4 * i) (omega (arith, text.size.words))
             ∙ text.words i low ∙ sym (text_word_there bytes i low) ∙ found
 
         -- so they are copied behind the header and the count
         copied : Copies procedures below n (text_words bytes) (heap + 4 + 4) r0 (Some (4 * length bytes)) None (Some heap) (Some p) (Some (heap + 4 * count)) (Some 2) (Some heap) loop_state
         copied =
             copies procedures below (text_words bytes) n p heap (heap + 4 * count) (s.address + 8) (heap + 4 + 4) r0 (Some (4 * length bytes)) None (Some heap) (Some 2) loop_state
-            (begun_grows (2 + count) (string_header ∷ 4 * length bytes ∷ []) r.arena room).stands (omega arith) (omega arith) (omega (arith, as_many))
+            (begun_grows (2 + count) (string_header ∷ 4 * length bytes ∷ []) r.arena room (omega arith)).stands (omega arith) (omega arith) (omega (arith, as_many))
             (omega (arith, r.arena.aligned)) (omega (arith, r.arena.heap)) (omega (arith, as_many)) (omega (arith, as_many, text.size.words)) (omega (arith, as_many)) text_stands
 
         copy_ends :
@@ -170,7 +170,7 @@ module _
                 runs = copy_ends r0 r7 k room turns;
                 answers =
                     answers_made names program places z y r (2 + count) (length bytes) (string bytes) z (record y { arena = string_arena; cost = k + 172 + 62 * count }) _
-                    (alike_self z) (begun_grows (2 + count) all r.arena room) (begun_heap (2 + count) all y.arena) (begun_blocks (2 + count) all y.arena) refl refl (omega arith)
+                    (alike_self z) (begun_grows (2 + count) all r.arena room (omega (arith, as_many))) (begun_heap (2 + count) all y.arena) (begun_blocks (2 + count) all y.arena) refl refl (omega arith)
                     (string_begun bytes r.arena room text.bytes) tt (omega (arith, cost));
               }
 

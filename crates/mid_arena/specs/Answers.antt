@@ -15,7 +15,7 @@ use Rattle.mid_code.specs.State.{MidState, returns, no_room, MidOutcome}
 use Rattle.mid_code.specs.Meaning.{Task, enter, turns}
 use Rattle.mid_arena.specs.Tags.{object_tag, signal_word, tag_of}
 use Rattle.mid_arena.specs.Places.{Spot, Places, of_object, spot_of, with_object, word_of, WordsOf}
-use Rattle.mid_arena.specs.Standing.{SameWords, ValueAt}
+use Rattle.mid_arena.specs.Standing.{SameWords, SameStack, ValueAt}
 use Rattle.mid_arena.specs.FixedWords.{pending_address}
 use Rattle.mid_arena.specs.Represents.{Represents}
 
@@ -27,13 +27,14 @@ pub record Enlarged (earlier later : Arena) (words : ℕ) : Type 0 where
   pub heap_from : later.heap_from ≡ earlier.heap_from
   pub heap_to : later.heap_to ≡ earlier.heap_to + 4 * words
 
--- Where functions stand, and in the spots that code has for itself but the first, the words are as they were: of a state of the
--- meaning, and from one arena to a later one.
-pub record KeepsFunctions (places : Places) (z : meaning.State) (earlier later : Arena) : Type 0 where
+-- Where functions stand, in the spots that code has for itself but the first, and in the control records that stood and still stand, the
+-- words are as they were: of a state of the meaning, and from one arena to a later one.
+pub record KeepsWords (places : Places) (z : meaning.State) (earlier later : Arena) : Type 0 where
   pub functions :
       (i p : ℕ) (s : Spot) → slice_get z.store i ≡ Some (function p) → spot_of places (of_object i) ≡ Some s
       → SameWords earlier later s
   pub others : (n : ℕ) (s : Spot) → slice_get places.others (suc n) ≡ Some s → SameWords earlier later s
+  pub stack : SameStack earlier later
 
 module _ (names : List (List ℕ)) (program : ProgramRows) where
   -- the words that an answer asks for, and the units behind it
@@ -65,7 +66,7 @@ module _ (names : List (List ℕ)) (program : ProgramRows) where
       pub represents : Represents names program after z r.state
       pub arena : Enlarged before.arena r.state.arena words
       pub blocks : r.state.arena.blocks ≡ before.arena.blocks
-      pub kept : KeepsFunctions places start before.arena r.state.arena
+      pub kept : KeepsWords places start before.arena r.state.arena
 
     -- it returned, and the condition that it made, of a class with these slots, stands to be signalled
     pub record Pending (after : Places) (class : ℕ) (slots : List Value) (z : meaning.State) (words : ℕ) (r : MidOutcome) : Type 0 where
@@ -74,7 +75,7 @@ module _ (names : List (List ℕ)) (program : ProgramRows) where
       pub pending : ValueAt after r.state.arena pending_address (object (length z.store))
       pub arena : Enlarged before.arena r.state.arena words
       pub blocks : r.state.arena.blocks ≡ before.arena.blocks
-      pub kept : KeepsFunctions places start before.arena r.state.arena
+      pub kept : KeepsWords places start before.arena r.state.arena
 
     abbrev pub Signalled : (class : ℕ) → List Value → meaning.State → MidOutcome → Type 0
     Signalled class slots z r =
@@ -98,7 +99,7 @@ module _ (names : List (List ℕ)) (program : ProgramRows) where
       pub wanting : left_then < asked_for
       pub together : left before.arena < frame_words + asked
       pub represents : Represents names program places start r.state
-      pub kept : KeepsFunctions places start before.arena r.state.arena
+      pub kept : KeepsWords places start before.arena r.state.arena
 
     pub data Comes (frame_words : ℕ) (answer : Answer) (r : MidOutcome) : Type 0 where
       done : Done answer r → Comes frame_words answer r

@@ -1,10 +1,12 @@
 pub mod Tags
 pub mod Places
 pub mod Standing
+pub mod Growing
 pub mod FixedWords
 pub mod Layouts
 pub mod ClassesThere
 pub mod Represents
+pub mod Law
 pub mod Answers
 pub mod Steps
 pub mod CodeCosts

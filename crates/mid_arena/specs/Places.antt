@@ -57,6 +57,10 @@ spot_of places (of_other n) = slice_get places.others n
 abbrev pub with_object : Spot → Places → Places
 with_object s places = record places { objects = places.objects ++ Some s ∷ [] }
 
+-- one more spot that code has for itself
+abbrev pub with_other : Spot → Places → Places
+with_other s places = record places { others = places.others ++ s ∷ [] }
+
 abbrev pub pointer_in : Option Spot → Option ℕ
 pointer_in None = None
 pointer_in (Some s) = Some (pointer_to s)

@@ -40,6 +40,11 @@ abbrev pub SameWords : Arena → Arena → Spot → Type 0
 SameWords earlier later s =
     (address : ℕ) → s.address ≤ address → address < end_of s → word_at later address ≡ word_at earlier address
 
+-- The same words stand in the control records of blocks that stood and still stand: from the beginnings of both stacks on.
+abbrev pub SameStack : Arena → Arena → Type 0
+SameStack earlier later =
+    (address : ℕ) → stack_from earlier ≤ address → stack_from later ≤ address → word_at later address ≡ word_at earlier address
+
 -- a value's word stands at an address
 pub record ValueAt (places : Places) (a : Arena) (address : ℕ) (v : Value) : Type 0 where
   pub word : ℕ

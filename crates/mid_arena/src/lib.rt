@@ -4,6 +4,7 @@
 pub mod class_words;
 pub mod classes;
 pub mod code;
+pub mod laws;
 pub mod line;
 pub mod loops;
 pub mod numbers;

@@ -11,7 +11,7 @@ use Rattle.mid_arena.specs.Places.{Spot, end_of, Places, Owner, of_object, of_sy
 use Rattle.mid_arena.specs.Standing.{of_laid, SpotStands, Apart, in_front, behind, AllApart, SameWords}
 use Rattle.mid_arena.specs.Layouts.{ObjectAt, SymbolAt}
 use Rattle.mid_arena.proofs.Keeping.{spot_in_tells, pointer_tells, PlacesExtend, symbol_kept, object_kept}
-use Rattle.mid_arena.proofs.Owners.{FrontOrEnd, at_front, at_end, front_or_end, OldOrNew, of_old, of_new, old_or_new, object_within}
+use Rattle.mid_arena.proofs.Owners.{FrontOrEnd, at_front, at_end, front_or_end, OldOrNew, of_old, of_new, new_object, old_or_new, object_within}
 use Rattle.mid_start.specs.declared.symbol_words.SymbolWord.{SymbolWord}
 use Rattle.mid_start.specs.declared.words.ArenaWords.{ArenaWords}
 use Rattle.mid_start.specs.LaidArena.{end_address, arena_of}
@@ -104,7 +104,7 @@ pub record Joins (places more : Places) (owner : Owner) (s : Spot) : Type 0 wher
 pub joins_object : (s : Spot) (places : Places) → Joins places (with_object s places) (of_object (length places.objects)) s
 joins_object s places = record { longer = longer_object s places; cases = λ p found e. by p found (old_or_new s places p found e) }
   where
-    by : (p : Owner) (found : Spot) → OldOrNew s places p found → OneOwnerMore places (of_object (length places.objects)) s p found
+    by : (p : Owner) (found : Spot) → OldOrNew s places (new_object places) p found → OneOwnerMore places (of_object (length places.objects)) s p found
     by p found (of_old e) = as_before e
     by p found (of_new e same) = joined e same
 
