@@ -51,9 +51,10 @@ module _ (setting : Setting) where
     pub primary : AllOf (MethodTakes count) c.primary
     pub after : AllOf (MethodTakes count) c.after
 
-  -- the words of a chain stand at an address, which is none of no chain
+  -- The words of a chain stand at an address, which is none of no chain. Without a primary method there is no other one either.
   pub record ChainAt (address : ℕ) (c : Chain) : Type 0 where
     pub some : 1 ≤ address
+    pub no_other : c.primary ≡ [] → (c.around ≡ []) × (c.before ≡ []) × (c.after ≡ [])
     pub words : ConstantsAt setting address (chain_words c)
 
   -- what the maps of specialised arguments come to together, where the arguments are of these classes

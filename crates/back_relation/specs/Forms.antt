@@ -32,6 +32,10 @@ use Rattle.back_relation.specs.Ends.{Reached, Ends, Fell, Left}
 abbrev pub HasRegisters : MidCode → Registers → Type 0
 HasRegisters code regs = enough_for (of_code code) ≤ length regs
 
+-- what it may cost beside its units to judge a value that is there
+abbrev pub judged_credit : ℕ
+judged_credit = 10
+
 module _ (setting : Setting) where
   -- where code begins: d is the first register that it may use, and so many words of the stack it may lay
   pub record Begins (rs valid : List Standing) (s : FormScope) (d n : ℕ) (w : World) (env : FlatEnvironment) (around : DynamicContext) (z : FlatState) (regs : Registers) (y : MidState) : Type 0 where
@@ -82,7 +86,7 @@ module _ (setting : Setting) where
   DoesForm turns context c f =
       (rs valid : List Standing) (s : FormScope) (d n first : ℕ) (w : World) (env : FlatEnvironment) (around : DynamicContext) (z : FlatState) (regs : Registers) (y : MidState)
       → FormStands s first f → Begins rs valid s d n w env around z regs y
-      → HasRegisters (value_code s d f) regs → words_for f ≤ n
+      → HasRegisters (value_code s d f) regs → words_for setting.names setting.program f ≤ n
       → FormEnds 0 turns rs valid s d w env around z regs y (mean context f env around z) (exec c (value_code s d f) regs y)
 
   -- or it is judged
@@ -90,8 +94,8 @@ module _ (setting : Setting) where
   JudgesForm turns context c f =
       (rs valid : List Standing) (s : FormScope) (d n first : ℕ) (w : World) (env : FlatEnvironment) (around : DynamicContext) (z : FlatState) (regs : Registers) (y : MidState)
       → FormStands s first f → Begins rs valid s d n w env around z regs y
-      → HasRegisters (code_of (judged s d f).ready) regs → words_for f ≤ n
-      → TestEnds 0 turns rs valid s d w env around z regs y (judged s d f).test (mean context f env around z) (exec c (code_of (judged s d f).ready) regs y)
+      → HasRegisters (code_of (judged s d f).ready) regs → words_for setting.names setting.program f ≤ n
+      → TestEnds judged_credit turns rs valid s d w env around z regs y (judged s d f).test (mean context f env around z) (exec c (code_of (judged s d f).ready) regs y)
 
   -- the meaning at k levels, and the code at k levels with so many turns left at this one
   abbrev pub below_at : ℕ → FlatTask → FlatEvaluation

@@ -40,12 +40,12 @@ start_words = 2
 module _ (setting : Setting) where
   -- the words that are charged for an application are enough for the frame of a body and what its code lays; so are those of a main form
   abbrev pub BodyPaid : Extra → FlatProcedure → Type 0
-  BodyPaid extra q = (body_of setting.names setting.at setting.program extra q).frame + words_for q.body ≤ body_words q
+  BodyPaid extra q = (body_of setting.names setting.at setting.program extra q).frame + words_for setting.names setting.program q.body ≤ body_words q
 
   pub record FramesPaid : Type 0 where
     pub procedures : (p : ℕ) (q : FlatProcedure) → slice_get setting.program.procedures p ≡ Some q → BodyPaid (extra_of setting.names setting.at setting.program p) q
     pub lambdas : AllOf (BodyPaid itself) setting.program.lambdas
-    pub main : AllOf (λ f. (main_form setting.names setting.at setting.program f).frame + 8 + words_for f ≤ 16 + 16 * nodes f) setting.program.main
+    pub main : AllOf (λ f. (main_form setting.names setting.at setting.program f).frame + 8 + words_for setting.names setting.program f ≤ 16 + 16 * nodes f) setting.program.main
 
   -- a whole program, which is laid well
   pub record ProgramIsRight : Type 0 where
@@ -142,6 +142,10 @@ module _ (setting : Setting) where
       pub room : (m asked left_then : ℕ) → setting.limit ≡ words m → code_end ≡ mid.no_room asked left_then → IsShort the_meaning.end
       -- each unit costs at most 300, and the whole 2,000 more
       pub cost : IsReached code_end → (((asked left_then : ℕ) → the_meaning.end ≡ ended_full asked left_then → ⊥)) → (run k y).state.cost ≤ bound the_meaning.units
+      -- fewer than 2 ^ 32 serial numbers were drawn; exit 0 has none
+      pub serials :
+          IsReached code_end → ((asked left_then : ℕ) → the_meaning.end ≡ ended_full asked left_then → ⊥)
+          → (meant_by input k).state.state.exits ≤ 2 ^ 32
       -- without a limit of the meaning's own nothing is undone: the code never does what it must not do
       pub never_stuck : setting.limit ≡ unlimited → code_end ≡ mid.stuck → ⊥
 

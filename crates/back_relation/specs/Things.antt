@@ -1,5 +1,5 @@
 -- **What words say at any moment**, whatever is around: the state of the meaning, the words that code has for itself, and the functions.
-use Rattle.std.specs.Prelude.{◌≡◌, ◌⊎◌, ⊤, ℕ, ◌+◌, ◌*◌, ◌<◌, ◌≤◌, List, [], ◌∷◌, Option, Some, None, length, slice_get}
+use Rattle.std.specs.Prelude.{◌≡◌, ◌⊎◌, ⊤, ℕ, ◌+◌, ◌*◌, ◌^◌, ◌<◌, ◌≤◌, List, [], ◌∷◌, Option, Some, None, length, slice_get}
 use Rattle.base.specs.declared.place.Place.{Place}
 use Rattle.lang_meaning.specs.declared.scope.ExitForm.{ExitForm}
 use Rattle.lang_meaning.specs.declared.program.FunctionRow.{FunctionRow}
@@ -141,7 +141,7 @@ module _ (setting : Setting) where
         (i word : ℕ) → slice_get setting.further i ≡ Some word
         → spot_of w.places (of_other 2) ≡ Some (record { address = setting.further_at; words = length setting.further; tag = 0 })
         × (word_at y.arena (setting.further_at + 4 * i) ≡ Some word)
-    pub serials : (drawn : ℕ) × HasWordAt y serials_address drawn × (drawn + 1 ≡ z.state.exits)
+    pub serials : (drawn : ℕ) × HasWordAt y serials_address drawn × (drawn + 1 ≡ z.state.exits) × (drawn < 2 ^ 32)
     pub globals :
         (n : ℕ) → HasGlobal setting n → SlotAt w.places y.arena (global_address setting.at n) (under_text (text setting.names n) z.state.globals)
     pub dynamics :
