@@ -82,7 +82,7 @@ module _ (setting : Setting) (s : FormScope) (d m size k n : ℕ) where
       → literal_code setting.names setting.at setting.program s.code.site d i (Some l) ≡ constant d (literal_word setting.at i) ∷ []
   literal_steps i (row.Datum e) f = refl
   literal_steps i (row.Class c) f = refl
-  literal_steps i (row.Function name) f = refl
+  literal_steps i (row.Function name) f = rw f.1 refl
 
   -- **a literal that is there**
   pub literal_sim : (i : ℕ) (l : LiteralRow) → slice_get setting.program.literals i ≡ Some l → IsKnown setting l → Here setting s d m size k n (literal i)

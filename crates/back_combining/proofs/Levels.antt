@@ -225,7 +225,15 @@ module _ (setting : Setting) (s : FormScope) (d m size : ℕ) where
           }
 
           more_credit : (p : Point setting s d m size) {r : FlatEvaluated} {q : MidOutcome} → LoopEnds setting 14 (start_at setting s d m size n p) r q → LoopEnds setting 290 (start_at setting s d m size n p) r q
-          more_credit p e = loop_behind {c1 = 0} {c2 = 14} p (reached_same setting (start_at setting s d m size n p) d) (omega arith) (omega arith) e
+          more_credit p e =
+              ends_behind setting (omega arith) (reached_same setting (start_at setting s d m size n p) d)
+              (λ f. record {
+                outcome = f.outcome;
+                end = f.end;
+                w' = f.w';
+                reached = reached_then setting (omega arith) (reached_same setting {credit = 0} (start_at setting s d m size n p) d) (omega arith) f.reached;
+              })
+              (omega arith) (omega arith) e
 
 pub loops_law : LawOfLoops
 loops_law setting s d m size k turns t body fewer test_sim body_sim again_sim = loop_sim setting s d m size k turns fewer t body test_sim body_sim again_sim

@@ -183,6 +183,7 @@ module _ (setting : Setting) where
   pub ends_charged_by :
       {D E : Type 0} {c1 c2 : ℕ} (a : Start setting) (u : ℕ) {r : FlatEvaluated} {q : MidOutcome} → (D → E) → c1 ≤ 300 * u + c2
       → EndsBy setting D c1 (start_charged a u) r q → EndsBy setting E c2 a r q
+  unfolding transfers_repaid
   ends_charged_by a u f h (done x) = done (f x)
   ends_charged_by a u f h (left_by x) =
       left_by (record { transfer = transfers_repaid u h x.transfer; activation = x.activation; registers = x.registers })

@@ -16,6 +16,7 @@ use Rattle.mid_code.specs.State.{MidState, MidOutcome}
 use Rattle.mid_code.specs.Meaning.{Context, draw}
 use Rattle.mid_arena.proofs.Running.{StepsTo, constant_falls, move_falls, load_falls, store_falls, address_up}
 use Rattle.back_lowering.specs.Steps.{constant, move, load, store}
+use Rattle.back_combining.specs.Stores.{stores, Differs, Aligned}
 
 get_behind : (front win : Registers) (i j : ℕ) → j ≡ length front + i → slice_get (front ++ win) j ≡ slice_get win i
 get_behind [] win i j e = let same : j ≡ i = omega (arith, e) in ap (slice_get win) same
@@ -69,19 +70,6 @@ module _ (c : Context) (front : Registers) (d : ℕ) (many : length front ≡ d)
   }
 
 -- ---- words that are stored one after another
-
-abbrev pub stores : List (ℕ × ℕ) → Arena → Arena
-stores [] a = a
-stores (p ∷ ps) a = stores ps (with_word p.0 p.1 a)
-
--- an address is none of theirs, and theirs are those of words
-abbrev pub Differs : ℕ → List (ℕ × ℕ) → Type 0
-Differs x [] = Unit {0}
-Differs x (p ∷ ps) = (p.0 ≡ x → ⊥) × Differs x ps
-
-abbrev pub Aligned : List (ℕ × ℕ) → Type 0
-Aligned [] = Unit {0}
-Aligned (p ∷ ps) = (p.0 % 4 ≡ 0) × Aligned ps
 
 pub stored_elsewhere : (ps : List (ℕ × ℕ)) (a : Arena) (x : ℕ) → Aligned ps → Differs x ps → word_at (stores ps a) x ≡ word_at a x
 stored_elsewhere [] a x g h = refl

@@ -4,3 +4,4 @@ pub mod Law
 pub mod Forms
 pub mod Cuts
 pub mod Walks
+pub mod Stores

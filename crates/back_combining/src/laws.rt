@@ -2,6 +2,7 @@
 ghost use Rattle.back_combining.specs.Cuts.{LawOfCuts};
 ghost use Rattle.back_combining.specs.Forms.{LawOfLiterals, LawOfSlots, LawOfSequences, LawOfWholeSequences, LawOfLoops};
 ghost use Rattle.back_combining.specs.Law.{LawOfParts, LawOfAround, LawOfTwoParts, LawOfChoices};
+ghost use Rattle.back_combining.specs.Stores.{LawOfStores};
 ghost use Rattle.back_combining.specs.Walks.{LawOfWalks};
 
 /// Code in two parts.
@@ -57,4 +58,9 @@ pub fn law_cuts()
 /// The walk of a transfer.
 pub fn law_walks()
     ensures { LawOfWalks }
+{}
+
+/// Words that are stored one after another.
+pub fn law_stores()
+    ensures { LawOfStores }
 {}
