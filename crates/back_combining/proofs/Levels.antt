@@ -226,7 +226,7 @@ module _ (setting : Setting) (s : FormScope) (d m size : ℕ) where
 
           more_credit : (p : Point setting s d m size) {r : FlatEvaluated} {q : MidOutcome} → LoopEnds setting 14 (start_at setting s d m size n p) r q → LoopEnds setting 290 (start_at setting s d m size n p) r q
           more_credit p e =
-              ends_behind setting (omega arith) (reached_same setting (start_at setting s d m size n p) d)
+              ends_behind setting (omega arith) (reached_same setting {credit = 0} (start_at setting s d m size n p) d)
               (λ f. record {
                 outcome = f.outcome;
                 end = f.end;

@@ -11,6 +11,7 @@ pub mod Fitting
 pub mod Points
 pub mod Levels
 pub mod Leaves
+pub mod Judging
 pub mod Sequences
 pub mod Wholes
 pub mod Cuts

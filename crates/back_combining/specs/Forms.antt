@@ -1,5 +1,5 @@
 -- What is shown of forms whose parts do what they mean.
-use Rattle.std.specs.Prelude.{◌≡◌, ⊤, ℕ, suc, ◌≤◌, Some, slice_get}
+use Rattle.std.specs.Prelude.{◌≡◌, ⊤, ℕ, suc, ◌+◌, ◌<◌, ◌≤◌, Some, slice_get}
 use Rattle.lang_meaning.specs.declared.program.FunctionRow.{FunctionRow}
 use Rattle.lang_meaning.specs.declared.program.LiteralRow.{LiteralRow}
 use Rattle.lang_meaning.specs.declared.program.LiteralRow.TheVariants as row
@@ -8,6 +8,8 @@ use Rattle.lang_meaning.specs.Lookup.{text}
 use Rattle.flat_language.specs.declared.place.Home.TheVariants as home
 use Rattle.flat_language.specs.declared.place.VariablePlace.TheVariants.{Slot}
 use Rattle.flat_language.specs.FlatForm.{FlatForm, literal, local, sequence, FlatForms, no_form, form_and}
+use Rattle.back_lowering.specs.Codes.{lower, by_value}
+use Rattle.back_lowering.specs.Steps.{Steps}
 use Rattle.back_relation.specs.Setting.{Setting}
 use Rattle.back_relation.specs.Activation.{FormScope}
 use Rattle.back_relation.specs.Forms.{DoesForm, context_at, code_at}
@@ -53,3 +55,10 @@ abbrev pub LawOfWholeSequences : Type 0
 LawOfWholeSequences =
     (setting : Setting) (k turns : ℕ) (fs : FlatForms) → AllDo setting k turns fs
     → DoesForm setting turns (context_at setting k) (code_at setting k turns) (sequence fs)
+
+-- a form that is judged by its value is judged so
+abbrev pub LawOfJudging : Type 0
+LawOfJudging =
+    (setting : Setting) (s : FormScope) (d m size k turns : ℕ) (f : FlatForm) (steps : Steps) → d + 1 < size
+    → lower setting.names setting.at setting.program s.code d f ≡ by_value d steps → Here setting s d m size k turns f
+    → JudgedHere setting s d m size k turns f
