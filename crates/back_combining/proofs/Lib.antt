@@ -12,6 +12,7 @@ pub mod Points
 pub mod Levels
 pub mod Leaves
 pub mod Judging
+pub mod Clauses
 pub mod Sequences
 pub mod Wholes
 pub mod Cuts

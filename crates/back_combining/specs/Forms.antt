@@ -7,7 +7,7 @@ use Rattle.lang_meaning.specs.Literals.{function_row}
 use Rattle.lang_meaning.specs.Lookup.{text}
 use Rattle.flat_language.specs.declared.place.Home.TheVariants as home
 use Rattle.flat_language.specs.declared.place.VariablePlace.TheVariants.{Slot}
-use Rattle.flat_language.specs.FlatForm.{FlatForm, literal, local, sequence, FlatForms, no_form, form_and}
+use Rattle.flat_language.specs.FlatForm.{FlatForm, literal, local, clauses, sequence, FlatForms, no_form, form_and, FlatClauses, no_clause, clause_and, no_body, with_body}
 use Rattle.back_lowering.specs.Codes.{lower, by_value}
 use Rattle.back_lowering.specs.Steps.{Steps}
 use Rattle.back_relation.specs.Setting.{Setting}
@@ -62,3 +62,17 @@ LawOfJudging =
     (setting : Setting) (s : FormScope) (d m size k turns : ℕ) (f : FlatForm) (steps : Steps) → d + 1 < size
     → lower setting.names setting.at setting.program s.code d f ≡ by_value d steps → Here setting s d m size k turns f
     → JudgedHere setting s d m size k turns f
+
+-- a clause's test is judged, or its value is there where the clause has no body; and each body does what it means
+abbrev pub ClausesHere : (setting : Setting) (s : FormScope) (d m size k turns : ℕ) → FlatClauses → Type 0
+ClausesHere setting s d m size k turns no_clause = ⊤
+ClausesHere setting s d m size k turns (clause_and test no_body cs) =
+    Here setting s d m size k turns test × ClausesHere setting s d m size k turns cs
+ClausesHere setting s d m size k turns (clause_and test (with_body f) cs) =
+    JudgedHere setting s d m size k turns test × Here setting s d m size k turns f × ClausesHere setting s d m size k turns cs
+
+-- the first clause whose test is true
+abbrev pub LawOfClauses : Type 0
+LawOfClauses =
+    (setting : Setting) (s : FormScope) (d m size k turns : ℕ) (cs : FlatClauses) → d + 1 < size → ClausesHere setting s d m size k turns cs
+    → Here setting s d m size k turns (clauses cs)
