@@ -1,5 +1,5 @@
 -- Clauses: the first one whose test is true.
-use Rattle.std.proofs.Common.{◌≡◌, ℕ, ◌+◌, ◌*◌, ◌<◌, ◌≤◌, Bool, true, false, List, [], ◌∷◌, ◌++◌, length, Some, refl, sym, ap, ◌∙◌, subst, arith}
+use Rattle.std.proofs.Common.{◌≡◌, ℕ, ◌+◌, ◌*◌, ◌<◌, ◌≤◌, Bool, true, false, List, [], ◌∷◌, ◌++◌, length, Some, refl, sym, ap, ◌∙◌, subst, append_assoc, arith}
 use Rattle.std.specs.Prelude.{slice_set, not, ◌==◌, if◌then◌else◌}
 use Rattle.lang_meaning.specs.State.{DynamicContext}
 use Rattle.lang_meaning.specs.Values.{Value, nil, is_true}
@@ -172,7 +172,10 @@ module _ (setting : Setting) (s : FormScope) (d m size k n : ℕ) (there : d + 1
   clauses_sim (clause_and test no_body cs) h p =
       let rest : List MidStep = constant (d + 1) nil_word ∷ choose (test_of Different d (d + 1)) no_step (code_of (clauses_steps cs)) ∷ [] in
       subst (λ q. EndsAt setting (clauses_credit (clause_and test no_body cs)) (start p) (clauses_mean (clause_and test no_body cs) p) q)
-      (sym (in_two_parts (code_at setting k n) (value_steps setting s d m size k n test) rest p.regs p.y))
+      (sym (ap (λ ss. running ss p.regs p.y)
+          (append_assoc (value_steps setting s d m size k n test) (constant (d + 1) nil_word ∷ [])
+            (choose (test_of Different d (d + 1)) no_step (code_of (clauses_steps cs)) ∷ []))
+        ∙ in_two_parts (code_at setting k n) (value_steps setting s d m size k n test) rest p.regs p.y))
       (two setting {c1 = 0} {c2 = clauses_credit cs + 20} (start p) d (λ v z. picked v no_body cs p.env p.around z) (λ g y. running rest g y)
         (omega arith) (omega arith) (form_grows setting k test p.env p.around p.z).units (h.0 p)
         (λ v z. picked_grows setting k v no_body cs p.env p.around z (clauses_grow setting k cs p.env p.around z))
