@@ -19,21 +19,26 @@ use Rattle.mid_code.specs.State.{Registers, register, falls, no_level, ends, Mid
 use Rattle.mid_code.specs.State.{charged as mid_charged, go_on as mid_go_on}
 use Rattle.mid_code.specs.Words.{compares}
 use Rattle.mid_code.proofs.Growth.{TasksGrow, both_grown, charged_grown, levels_grow, turns_grow, exec_grown, go_on_grown, test_grown, jumped_grown, same_grown}
-use Rattle.mid_arena.proofs.Running.{go_on_twice, test_true, test_false}
+use Rattle.mid_arena.proofs.Running.{RunsTo, and_then, none_left, constant_falls, go_on_twice, test_true, test_false}
 use Rattle.back_lowering.specs.Primitives.{Judged}
 use Rattle.back_relation.specs.Setting.{Setting}
 use Rattle.back_relation.specs.Worlds.{World, Standing}
 use Rattle.back_relation.specs.Activation.{FormScope}
 use Rattle.back_relation.specs.Ends.{done, left_by, full_there, stopped, few_turns}
 use Rattle.back_relation.specs.Forms.{Begins, FormEnds, TestEnds, FellJudged, judged_credit, below_at, context_at, code_at, value_code, judged}
-use Rattle.back_combining.specs.Starts.{FlatGrown, Start, ReachedFrom, LoopEnds}
+use Rattle.back_combining.specs.Starts.{FlatGrown, Start, EndsAt, ReachedFrom, LoopEnds}
 use Rattle.back_combining.proofs.Growth.{same_flat, both_flat, then_grown, same_prefix, then_value}
-use Rattle.back_combining.proofs.Parts.{go_on_falls}
-use Rattle.back_combining.specs.Forms.{LawOfLoops}
+use Rattle.mid_arena.specs.Tags.{nil_word}
+use Rattle.mid_arena.proofs.Registers.{register_here}
+use Rattle.back_lowering.specs.Codes.{lower}
+use Rattle.back_lowering.specs.Steps.{Steps, constant}
+use Rattle.back_combining.proofs.Choices.{go_gives}
+use Rattle.back_combining.proofs.Parts.{go_on_falls, step_then}
+use Rattle.back_combining.specs.Forms.{LawOfLoops, LawOfWhiles}
 use Rattle.back_combining.specs.Points.{Point, start_at, loop, Here, JudgedHere, LoopHere}
 use Rattle.back_combining.proofs.FormGrowth.{form_grows, below_grows}
 use Rattle.back_combining.proofs.Points.{point_after}
-use Rattle.back_combining.proofs.Starts.{start_after, start_charged, ends_charged_by, reached_repaid, reached_cost, reached_same}
+use Rattle.back_combining.proofs.Starts.{start_after, start_charged, ends_charged_by, reached_repaid, reached_cost, reached_set, reached_same}
 use Rattle.back_combining.proofs.Then.{ends_go_on, ends_behind, reached_then}
 
 module _ (setting : Setting) where
@@ -98,7 +103,7 @@ module _ (setting : Setting) (s : FormScope) (d m size : ℕ) where
                 (sym (level_again setting j the_loop p.regs p.y)) (fewer_said (again_sim j same p)))
             where
               fewer_said : {r : FlatEvaluated} {q : MidOutcome} → LoopEnds setting 0 (start_at setting s d m size setting.turns_each p) r q → LoopEnds setting 0 (start_at setting s d m size n p) r q
-              fewer_said (done x) = done (record { outcome = x.outcome; end = x.end; w' = x.w'; reached = x.reached })
+              fewer_said (done x) = done (record { outcome = x.outcome; end = x.end; w' = x.w'; reached = x.reached; spare = x.spare })
               fewer_said (left_by x) = left_by x
               fewer_said (full_there x) = full_there x
               fewer_said (stopped x) = stopped x
@@ -111,7 +116,7 @@ module _ (setting : Setting) (s : FormScope) (d m size : ℕ) where
           → LoopEnds setting c2 (start_at setting s d m size n (point_after setting s d m size n p x)) r q → LoopEnds setting credit (start_at setting s d m size n p) r q
       loop_behind p x enough more e =
           ends_behind setting (omega arith) x
-          (λ f. record { outcome = f.outcome; end = f.end; w' = f.w'; reached = reached_then setting (omega arith) x enough f.reached })
+          (λ f. record { outcome = f.outcome; end = f.end; w' = f.w'; reached = reached_then setting (omega arith) x enough f.reached; spare = omega (arith, x.back.paid, f.spare, enough) })
           enough more e
 
       -- what comes behind the body, and behind the test
@@ -177,22 +182,22 @@ module _ (setting : Setting) (s : FormScope) (d m size : ℕ) where
       -- the test was made
       judged_sim :
           (p : Point setting s d m size) (v : Value) (a b : ℕ) → register (judged setting s d t).test.first p.regs ≡ Some a → register (judged setting s d t).test.second p.regs ≡ Some b
-          → compares (judged setting s d t).test.comparison a b ≡ is_true v → LoopEnds setting 14 (start_at setting s d m size n p) (value_next p.env p.around v p.z) (test_next p.regs p.y)
+          → compares (judged setting s d t).test.comparison a b ≡ is_true v → LoopEnds setting 20 (start_at setting s d m size n p) (value_next p.env p.around v p.z) (test_next p.regs p.y)
       judged_sim p v a b here there so = by (is_true v) so
         where
           e : ReachedFrom setting test_cost (start_at setting s d m size n p) d p.w p.z p.regs (mid_charged test_cost p.y)
           e = reached_cost setting (start_at setting s d m size n p) d test_cost (omega arith)
 
           by : (yes_or_no : Bool) → compares (judged setting s d t).test.comparison a b ≡ yes_or_no
-              → LoopEnds setting 14 (start_at setting s d m size n p) (if yes_or_no then go_on (mean (context_at setting k) body p.env p.around p.z) (after_body p.env p.around) else gives nil p.z) (test_next p.regs p.y)
+              → LoopEnds setting 20 (start_at setting s d m size n p) (if yes_or_no then go_on (mean (context_at setting k) body p.env p.around p.z) (after_body p.env p.around) else gives nil p.z) (test_next p.regs p.y)
           by true so =
-              subst (λ q. LoopEnds setting 14 (start_at setting s d m size n p) (go_on (mean (context_at setting k) body p.env p.around p.z) (after_body p.env p.around)) q)
+              subst (λ q. LoopEnds setting 20 (start_at setting s d m size n p) (go_on (mean (context_at setting k) body p.env p.around p.z) (after_body p.env p.around)) q)
               (sym (test_true (judged setting s d t).test turn_next (ends falls) p.regs p.y here there so))
               (loop_behind {c1 = test_cost} {c2 = 2} p e (omega arith) (omega arith) (turn_sim (point_after setting s d m size n p e)))
           by false so =
-              subst (λ q. LoopEnds setting 14 (start_at setting s d m size n p) (gives nil p.z) q)
+              subst (λ q. LoopEnds setting 20 (start_at setting s d m size n p) (gives nil p.z) q)
               (sym (test_false (judged setting s d t).test turn_next (ends falls) p.regs p.y here there so))
-              (done (record { outcome = refl; end = refl; w' = p.w; reached = reached_cost setting (start_at setting s d m size n p) d test_cost (omega arith) }))
+              (done (record { outcome = refl; end = refl; w' = p.w; reached = reached_cost setting (start_at setting s d m size n p) d test_cost (omega arith); spare = omega arith }))
 
       -- **a loop of the program**
       pub loop_sim : (p : Point setting s d m size) → LoopEnds setting 0 (start_at setting s d m size n p) (mean (context_at setting k) (while_form t body) p.env p.around p.z) (exec_step c the_loop p.regs p.y)
@@ -200,7 +205,7 @@ module _ (setting : Setting) (s : FormScope) (d m size : ℕ) where
       loop_sim p =
           let b : Start setting = start_charged setting (start_at setting s d m size n p) 1 in
           ends_charged_by setting {c1 = 300} {c2 = 0} (start_at setting s d m size n p) 1
-          (λ f. record { outcome = f.outcome; end = f.end; w' = f.w'; reached = reached_repaid setting (start_at setting s d m size n p) 1 (omega arith) f.reached })
+          (λ f. record { outcome = f.outcome; end = f.end; w' = f.w'; reached = reached_repaid setting (start_at setting s d m size n p) 1 (omega arith) f.reached; spare = omega (arith, f.spare) })
           (omega arith)
           (ends_go_on setting (value_next p.env p.around) test_next (omega arith) (omega arith) (test_sim b_point) (value_grows p.env p.around) test_grows
           (λ x.
@@ -224,7 +229,7 @@ module _ (setting : Setting) (s : FormScope) (d m size : ℕ) where
             count = p.count;
           }
 
-          more_credit : (p : Point setting s d m size) {r : FlatEvaluated} {q : MidOutcome} → LoopEnds setting 14 (start_at setting s d m size n p) r q → LoopEnds setting 290 (start_at setting s d m size n p) r q
+          more_credit : (p : Point setting s d m size) {r : FlatEvaluated} {q : MidOutcome} → LoopEnds setting 20 (start_at setting s d m size n p) r q → LoopEnds setting 290 (start_at setting s d m size n p) r q
           more_credit p e =
               ends_behind setting (omega arith) (reached_same setting {credit = 0} (start_at setting s d m size n p) d)
               (λ f. record {
@@ -232,8 +237,46 @@ module _ (setting : Setting) (s : FormScope) (d m size : ℕ) where
                 end = f.end;
                 w' = f.w';
                 reached = reached_then setting (omega arith) (reached_same setting {credit = 0} (start_at setting s d m size n p) d) (omega arith) f.reached;
+                spare = omega (arith, f.spare);
               })
               (omega arith) (omega arith) e
 
+      -- **the form of a loop**: nil's word comes behind it
+      pub while_sim : Here setting s d m size k n (while_form t body)
+      unfolding lower
+      while_sim p =
+          let nil_steps : Steps = constant d nil_word ∷ [] in
+          let next : Next = λ g y. exec c (code_of nil_steps) g y in
+          let r : FlatEvaluated = mean (context_at setting k) (while_form t body) p.env p.around p.z in
+          let q : MidOutcome = exec_step c the_loop p.regs p.y in
+          subst (λ o. EndsAt setting 0 (start_at setting s d m size n p) r o) (sym (step_then c the_loop nil_steps p.regs p.y))
+          (subst (λ o. EndsAt setting 0 (start_at setting s d m size n p) o (mid_go_on q next)) (go_gives r)
+          (ends_go_on setting (λ v z. gives v z) next (omega arith) (omega arith) (loop_sim p) (λ v z. same_flat z) (λ g y. code_grows (code_of nil_steps) g y)
+          (λ x.
+            let b : Point setting s d m size = point_after setting s d m size n p x.reached in
+            let runs : RunsTo c (code_of nil_steps) q.registers q.state (ends falls (slice_set q.registers d (Some nil_word)) (mid_charged 6 q.state)) =
+              and_then constant_falls none_left in
+            let whole : ReachedFrom setting 6 (start_at setting s d m size n p) d x.w' r.state (slice_set q.registers d (Some nil_word)) (mid_charged 6 q.state) =
+              reached_then setting (omega arith) x.reached (omega arith)
+              (reached_set setting {credit = 6} (start_at setting s d m size n b) d d nil_word 6 (omega arith) (omega arith) (omega arith)) in
+            subst (λ o. EndsAt setting 0 (start_at setting s d m size n p) o (mid_go_on q next)) (sym (then_value r (λ v z. gives v z) nil x.outcome))
+            (subst (λ o. EndsAt setting 0 (start_at setting s d m size n p) (gives nil r.state) o) (sym (go_on_falls q next x.end ∙ runs.same))
+            (done (record {
+              result = nil;
+              outcome = refl;
+              end = refl;
+              w' = x.w';
+              reached = record {
+                kept = whole.kept;
+                back = record { control = whole.back.control; blocks = whole.back.blocks; charged = whole.back.charged; paid = omega (arith, x.spare) };
+              };
+              word = nil_word;
+              in_register = register_here q.registers d nil_word b.begins.first;
+              of_value = refl;
+            }))))))
+
 pub loops_law : LawOfLoops
 loops_law setting s d m size k turns t body fewer test_sim body_sim again_sim = loop_sim setting s d m size k turns fewer t body test_sim body_sim again_sim
+
+pub whiles_law : LawOfWhiles
+whiles_law setting s d m size k turns t body fewer test_sim body_sim again_sim = while_sim setting s d m size k turns fewer t body test_sim body_sim again_sim

@@ -7,7 +7,7 @@ use Rattle.lang_meaning.specs.Literals.{function_row}
 use Rattle.lang_meaning.specs.Lookup.{text}
 use Rattle.flat_language.specs.declared.place.Home.TheVariants as home
 use Rattle.flat_language.specs.declared.place.VariablePlace.TheVariants.{Slot}
-use Rattle.flat_language.specs.FlatForm.{FlatForm, literal, local, clauses, sequence, FlatForms, no_form, form_and, FlatClauses, no_clause, clause_and, no_body, with_body}
+use Rattle.flat_language.specs.FlatForm.{FlatForm, literal, local, while_form, clauses, sequence, FlatForms, no_form, form_and, FlatClauses, no_clause, clause_and, no_body, with_body}
 use Rattle.back_lowering.specs.Codes.{lower, by_value}
 use Rattle.back_lowering.specs.Steps.{Steps}
 use Rattle.back_relation.specs.Setting.{Setting}
@@ -76,3 +76,11 @@ abbrev pub LawOfClauses : Type 0
 LawOfClauses =
     (setting : Setting) (s : FormScope) (d m size k turns : ℕ) (cs : FlatClauses) → d + 1 < size → ClausesHere setting s d m size k turns cs
     → Here setting s d m size k turns (clauses cs)
+
+-- and so does the form of the loop
+abbrev pub LawOfWhiles : Type 0
+LawOfWhiles =
+    (setting : Setting) (s : FormScope) (d m size k turns : ℕ) (t body : FlatForm) → turns ≤ setting.turns_each
+    → JudgedHere setting s d m size k turns t → Here setting s d m size k turns body
+    → ((j : ℕ) → k ≡ suc j → LoopHere setting s d m size j setting.turns_each t body)
+    → Here setting s d m size k turns (while_form t body)

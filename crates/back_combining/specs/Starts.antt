@@ -1,5 +1,5 @@
 -- A point where code begins, in one record; and what of the growth of the meaning the relation asks.
-use Rattle.std.specs.Prelude.{◌≡◌, ℕ, ◌≤◌, List}
+use Rattle.std.specs.Prelude.{◌≡◌, ℕ, ◌+◌, ◌*◌, ◌≤◌, List}
 use Rattle.lang_meaning.specs.Prefixes.{IsPrefix}
 use Rattle.lang_meaning.specs.State.{DynamicContext, value}
 use Rattle.lang_meaning.specs.Values.{nil}
@@ -52,12 +52,13 @@ module _ (setting : Setting) where
   EndsBy Done credit a r q =
       Ends setting Done (Left setting credit a.rs a.valid a.s a.d a.w a.env a.around a.z a.regs a.y r q) a.turns a.z a.y r q
 
-  -- a loop of the program fell out: its value is nil, whatever the registers hold
+  -- a loop of the program fell out: its value is nil, whatever the registers hold, and it is paid that nil's word comes behind it
   pub record FellNil (credit : ℕ) (a : Start) (r : FlatEvaluated) (q : MidOutcome) : Type 0 where
     pub outcome : r.outcome ≡ value nil
     pub end : q.end ≡ falls
     pub w' : World
     pub reached : ReachedFrom credit a a.d w' r.state q.registers q.state
+    pub spare : q.state.cost + 300 * a.z.state.units + 6 ≤ a.y.cost + 300 * r.state.state.units + credit
 
   abbrev pub LoopEnds : ℕ → Start → FlatEvaluated → MidOutcome → Type 0
   LoopEnds credit a r q = EndsBy (FellNil credit a r q) credit a r q

@@ -1,6 +1,6 @@
 // The laws of combining, each as the contract of a function that does nothing.
 ghost use Rattle.back_combining.specs.Cuts.{LawOfCuts};
-ghost use Rattle.back_combining.specs.Forms.{LawOfLiterals, LawOfSlots, LawOfSequences, LawOfWholeSequences, LawOfLoops, LawOfJudging, LawOfClauses};
+ghost use Rattle.back_combining.specs.Forms.{LawOfLiterals, LawOfSlots, LawOfSequences, LawOfWholeSequences, LawOfLoops, LawOfWhiles, LawOfJudging, LawOfClauses};
 ghost use Rattle.back_combining.specs.Law.{LawOfParts, LawOfAround, LawOfTwoParts, LawOfChoices};
 ghost use Rattle.back_combining.specs.Stores.{LawOfStores};
 ghost use Rattle.back_combining.specs.Walks.{LawOfWalks};
@@ -73,4 +73,9 @@ pub fn law_judging()
 /// Clauses, in one scope.
 pub fn law_clauses()
     ensures { LawOfClauses }
+{}
+
+/// Forms of loops, in one scope.
+pub fn law_whiles()
+    ensures { LawOfWhiles }
 {}
