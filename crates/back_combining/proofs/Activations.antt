@@ -1,22 +1,21 @@
 -- What the registers of an activation hold goes on standing: in a later world, where the registers that code may not use are as they were.
-use Rattle.std.proofs.Common.{◌≡◌, ◌⊎◌, inl, inr, ℕ, ◌+◌, ◌*◌, ◌<◌, ◌≤◌, Bool, true, List, [], ◌∷◌, length, Option, Some, None, refl, sym, ap, ◌∙◌, subst, arith}
+use Rattle.std.proofs.Common.{◌≡◌, ℕ, ◌+◌, ◌*◌, ◌<◌, ◌≤◌, Bool, List, [], ◌∷◌, length, Option, Some, None, refl, sym, ap, ◌∙◌, subst, arith}
 use Rattle.std.specs.Prelude.{slice_get}
 use Rattle.base.specs.declared.place.Place.{Place}
 use Rattle.lang_meaning.specs.declared.scope.ExitForm.{ExitForm}
 use Rattle.lang_meaning.specs.Values.{Value}
 use Rattle.lang_meaning.specs.Objects.{Called}
-use Rattle.lang_meaning.specs.State.{DynamicContext, Exit}
-use Rattle.flat_language.specs.declared.place.Home.{Home}
+use Rattle.lang_meaning.specs.State.{DynamicContext}
 use Rattle.flat_language.specs.FlatState.{FrameSlot, holds, holds_box, Captured, of_value, of_box, of_exit, of_method, FlatEnvironment, FlatState, under}
-use Rattle.mid_code.specs.Arena.{Arena, stack_from}
+use Rattle.mid_code.specs.Arena.{stack_from}
 use Rattle.mid_code.specs.State.{Registers, register, MidState}
 use Rattle.mid_arena.specs.Places.{of_object}
-use Rattle.mid_arena.specs.Standing.{ValueAt, ValuesAt}
-use Rattle.back_lowering.specs.Scope.{SitePlace, known, held, Reach, OwnExit, Scope}
+use Rattle.mid_arena.specs.Standing.{ValueAt}
+use Rattle.back_lowering.specs.Scope.{SitePlace, known, held}
 use Rattle.back_relation.specs.Setting.{Setting}
 use Rattle.back_relation.specs.Worlds.{World, Later, Standing}
 use Rattle.back_relation.specs.Things.{MadeBy, AreMadeBy}
-use Rattle.back_relation.specs.Activation.{FormScope, IsOwn, ScopeStands, RegistersKept, SlotHas, SlotIs, ExitReached, SelfStands, SelfHeld, ArgumentsHeld, in_heap, on_stack, CallHeld, MethodHeld, SiteHeld, ActivationStands}
+use Rattle.back_relation.specs.Activation.{FormScope, ScopeStands, SlotHas, SlotIs, ExitReached, SelfHeld, ArgumentsHeld, in_heap, on_stack, CallHeld, MethodHeld, SiteHeld, ActivationStands}
 use Rattle.back_combining.proofs.Worlds.{word_later, plain_later, Same, stack_same}
 
 -- registers below the first one that code may use are as they were
@@ -45,13 +44,17 @@ self_later :
     → ((n : ℕ) (cs : List Captured) → under n made ≡ Some cs → under n made' ≡ Some cs) → word' ≡ word
     → (cs : List Captured) → SelfHeld w made word cs → SelfHeld w' made' word' cs
 self_later made made' word word' l kept same [] h = tt
-self_later made made' word word' l kept same (c ∷ cs) h = (h.0, same ∙ h.1, record {
-  number = h.2.number;
-  captured = kept h.2.number (c ∷ cs) h.2.captured;
-  spot = h.2.spot;
-  there = l.spots (of_object h.2.number) h.2.spot h.2.there;
-  here = h.2.here;
-})
+self_later made made' word word' l kept same (c ∷ cs) h = (
+  h.0,
+  same ∙ h.1,
+  record {
+    number = h.2.number;
+    captured = kept h.2.number (c ∷ cs) h.2.captured;
+    spot = h.2.spot;
+    there = l.spots (of_object h.2.number) h.2.spot h.2.there;
+    here = h.2.here;
+  },
+)
 
 module _ (setting : Setting) {w w' : World} {y y' : MidState} (l : Later w w') (h : Same w w' y y') where
   pub arguments_later : (address : ℕ) (called : Called) → ArgumentsHeld w y.arena address called → ArgumentsHeld w' y'.arena address called
@@ -111,9 +114,12 @@ activation_later setting {s} {d} {rs} {valid} {w} {w'} {env} {around} {z} {z'} {
   flat_count = t.flat_count;
   exits = λ n x e.
       let old = t.exits n x e in
-      let own = scope.exits n x e in
-      (old.0, old.1, same x.serial own.0.0 ∙ old.2,
-      subst (λ o. ExitReached x.reach rs valid around.exits old.0 o) (sym (same x.record_register own.1.0)) old.3);
+      let own = scope.exits n x e in (
+        old.0,
+        old.1,
+        same x.serial own.0.0 ∙ old.2,
+        subst (λ o. ExitReached x.reach rs valid around.exits old.0 o) (sym (same x.record_register own.1.0)) old.3,
+      );
   exit_forms = λ n e f. l.exit_forms e (slice_get s.exits.own n) (t.exit_forms n e f);
   kinds = t.kinds;
   made_by = made_by_later l env.captured s.exits.captured t.made_by;

@@ -1,9 +1,8 @@
 -- Choices: one code or another, as a test says.
-use Rattle.std.proofs.Common.{◌≡◌, ℕ, ◌+◌, ◌*◌, ◌<◌, ◌≤◌, Bool, true, false, List, [], ◌∷◌, length, Option, Some, None, refl, sym, ap, ◌∙◌, subst, arith}
-use Rattle.std.specs.Prelude.{slice_set, ◌==◌, not, if◌then◌else◌}
+use Rattle.std.proofs.Common.{◌≡◌, ℕ, ◌+◌, ◌≤◌, Bool, true, false, Some, refl, sym, ap, ◌∙◌, subst, arith}
+use Rattle.std.specs.Prelude.{if◌then◌else◌}
 use Rattle.lang_meaning.specs.State.{Outcome, value, exit, full, more}
-use Rattle.lang_meaning.specs.Values.{Value}
-use Rattle.flat_language.specs.FlatState.{FlatState, FlatEvaluated, gives, go_on_from, go_on}
+use Rattle.flat_language.specs.FlatState.{FlatEvaluated, gives, go_on_from, go_on}
 use Rattle.mid_code.specs.declared.operation.Test.{Test}
 use Rattle.mid_code.specs.Costs.{test_cost, jump_cost}
 use Rattle.mid_code.specs.Law.{Grown}
@@ -13,9 +12,9 @@ use Rattle.mid_code.specs.State.{Registers, register, falls, ends, MidState, Mid
 use Rattle.mid_code.specs.State.{charged as mid_charged, go_on as mid_go_on}
 use Rattle.mid_code.specs.Words.{compares}
 use Rattle.mid_code.proofs.Growth.{charged_grown}
-use Rattle.mid_arena.proofs.Running.{StepsTo, choose_first, choose_second}
+use Rattle.mid_arena.proofs.Running.{choose_first, choose_second}
 use Rattle.back_relation.specs.Setting.{Setting}
-use Rattle.back_relation.specs.Ends.{Fell, done}
+use Rattle.back_relation.specs.Ends.{done}
 use Rattle.back_relation.specs.Forms.{FormEnds}
 use Rattle.back_combining.proofs.Growth.{same_flat}
 use Rattle.back_combining.specs.Starts.{Start, EndsFrom, EndsAt, FellFrom}
@@ -36,7 +35,7 @@ module _ (setting : Setting) where
       {c1 c2 credit : ℕ} (a : Start setting) (d1 : ℕ) {r : FlatEvaluated} {q : MidOutcome} (next : Next) → a.d ≤ d1 → c1 + c2 ≤ credit
       → a.z.state.units ≤ r.state.state.units → EndsFrom setting c1 a d1 r q → ((g : Registers) (y : MidState) → Grown y (next g y).state)
       → ((x : FellFrom setting c1 a d1 r q)
-        → FormEnds setting c2 a.turns a.rs a.valid a.s a.d x.w' a.env a.around r.state q.registers q.state (gives x.result r.state) (next q.registers q.state))
+      → FormEnds setting c2 a.turns a.rs a.valid a.s a.d x.w' a.env a.around r.state q.registers q.state (gives x.result r.state) (next q.registers q.state))
       → EndsAt setting credit a r (mid_go_on q next)
   after {c1} {c2} {credit} a d1 {r} {q} next l enough up x grown h =
       subst (λ p. EndsAt setting credit a p (mid_go_on q next)) (go_gives r)
@@ -50,17 +49,17 @@ module _ (setting : Setting) where
   jumps {c1} {credit} a {r} {q} enough up x =
       after {c1 = c1} {c2 = 2} a a.d (λ g y. ends falls g (mid_charged jump_cost y)) (omega arith) enough up x (λ g y. charged_grown jump_cost y)
       (λ f.
-        let b : Start setting = start_after setting a a.d a.d a.n (omega arith) (omega arith) (omega arith) a.begins.first f.reached in
-        done (record {
-          result = f.result;
-          outcome = refl;
-          end = refl;
-          w' = f.w';
-          reached = reached_cost setting {credit = 2} b a.d jump_cost (omega arith);
-          word = f.word;
-          in_register = f.in_register;
-          of_value = f.of_value;
-        }))
+      let b : Start setting = start_after setting a a.d a.d a.n (omega arith) (omega arith) (omega arith) a.begins.first f.reached in
+      done (record {
+        result = f.result;
+        outcome = refl;
+        end = refl;
+        w' = f.w';
+        reached = reached_cost setting {credit = 2} b a.d jump_cost (omega arith);
+        word = f.word;
+        in_register = f.in_register;
+        of_value = f.of_value;
+      }))
 
   -- where a test was made
   abbrev pub tested : Start setting → Start setting

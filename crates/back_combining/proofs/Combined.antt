@@ -1,5 +1,4 @@
 -- The laws of combining.
-use Rattle.back_relation.specs.Ends.{WorldKept, Around}
 use Rattle.back_combining.specs.Law.{LawOfAround, LawOfTwoParts, LawOfChoices}
 use Rattle.back_combining.proofs.Worlds.{around_again}
 use Rattle.back_combining.proofs.Starts.{two}

@@ -1,10 +1,10 @@
 -- What a cut leaves: the blocks from a record on, the words there, and the bindings there.
-use Rattle.std.proofs.Common.{◌≡◌, ℕ, zero, suc, ◌+◌, ◌*◌, ◌<◌, ◌≤◌, Bool, true, false, List, [], ◌∷◌, length, Option, Some, None, refl, sym, ap, ◌∙◌, subst, arith}
-use Rattle.std.specs.Prelude.{slice_get, ◌==◌, ◌%◌, ◌/◌, ◌&&◌, ◌||◌, nat_le, nat_lt, if◌then◌else◌}
+use Rattle.std.proofs.Common.{◌≡◌, ℕ, zero, suc, ◌+◌, ◌≤◌, Bool, true, false, List, [], ◌∷◌, length, Some, None, refl, sym, ap, ◌∙◌, arith}
+use Rattle.std.specs.Prelude.{slice_get, ◌==◌, ◌%◌, ◌/◌, ◌&&◌, ◌||◌, nat_le, if◌then◌else◌}
 use Rattle.std.proofs.lemmas.Bool.Decides.{nat_tests}
 use Rattle.std.proofs.lemmas.Bool.{le-leb}
-use Rattle.mid_code.specs.Arena.{Arena, Block, is_open, is_record, begin_of, lent_from, words_of, blocks_from, is_within, is_in_record, is_lent, word_in, word_at, with_blocks, stack_from}
-use Rattle.mid_code.specs.State.{MidState, MidOutcome}
+use Rattle.mid_code.specs.Arena.{Arena, Block, is_open, is_record, begin_of, lent_from, words_of, blocks_from, is_within, is_in_record, word_in, word_at, with_blocks}
+use Rattle.mid_code.specs.State.{MidState}
 use Rattle.back_relation.specs.Worlds.{World, BoxPlace, on_heap, on_stack, gone, Later}
 use Rattle.back_relation.specs.StackWords.{StackKept}
 use Rattle.back_combining.specs.Cuts.{box_cut, boxes_cut, world_cut, LawOfCuts}

@@ -1,5 +1,5 @@
 -- A part of a form fits where the form does: the registers that its code names are there.
-use Rattle.std.proofs.Common.{◌≡◌, ℕ, ◌+◌, ◌≤◌, List, [], ◌∷◌, ◌++◌, refl, sym, ap, ◌∙◌, subst, append_assoc, arith}
+use Rattle.std.proofs.Common.{◌≡◌, ℕ, ◌≤◌, List, [], ◌∷◌, ◌++◌, refl, sym, ap, ◌∙◌, subst, append_assoc, arith}
 use Rattle.mid_code.specs.MidCode.{MidStep, code_of}
 use Rattle.back_lowering.specs.Registers.{of_step, of_code, enough_for}
 

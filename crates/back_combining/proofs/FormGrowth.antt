@@ -1,9 +1,8 @@
 -- Forms only grow, at every level.
-use Rattle.std.proofs.Common.{◌≡◌, ℕ, zero, suc, ◌≤◌, refl, arith}
+use Rattle.std.proofs.Common.{ℕ, zero, suc}
 use Rattle.lang_meaning.specs.State.{DynamicContext}
-use Rattle.lang_meaning.specs.Values.{Value}
 use Rattle.flat_language.specs.FlatForm.{FlatForm}
-use Rattle.flat_language.specs.FlatMeaning.{mean, mean_task, none_below, flat_meaning_at}
+use Rattle.flat_language.specs.FlatMeaning.{mean, mean_task, flat_meaning_at}
 use Rattle.flat_language.specs.FlatSignals.{FlatTask, form}
 use Rattle.flat_language.specs.FlatState.{FlatEnvironment, FlatState}
 use Rattle.flat_laws.specs.FlatLater.{FlatLater}

@@ -1,8 +1,8 @@
 -- The meaning only grows: what of that the relation asks.
-use Rattle.std.proofs.Common.{◌≡◌, ℕ, ◌≤◌, List, [], ◌++◌, refl, ap, ◌∙◌, sym, subst, append_assoc, arith}
+use Rattle.std.proofs.Common.{◌≡◌, ℕ, List, [], ◌++◌, refl, ap, ◌∙◌, sym, subst, append_assoc, arith}
 use Rattle.std.proofs.lemmas.List.{append-nil}
 use Rattle.lang_meaning.specs.Prefixes.{IsPrefix}
-use Rattle.lang_meaning.specs.State.{Landing, Outcome, value, exit, full, more}
+use Rattle.lang_meaning.specs.State.{Outcome, value, exit, full, more}
 use Rattle.lang_meaning.specs.Values.{Value}
 use Rattle.flat_language.specs.FlatState.{FlatState, FlatEvaluated, go_on_from, go_on}
 use Rattle.flat_laws.specs.FlatLater.{FlatLater}

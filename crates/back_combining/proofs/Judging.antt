@@ -1,8 +1,8 @@
 -- A value that is there is judged: its word is compared with that of nil.
-use Rattle.std.proofs.Common.{◌≡◌, ℕ, ◌+◌, ◌*◌, ◌<◌, ◌≤◌, Bool, true, false, List, [], ◌∷◌, ◌++◌, length, Option, Some, None, refl, sym, ap, ◌∙◌, subst, arith}
+use Rattle.std.proofs.Common.{◌≡◌, ℕ, ◌+◌, ◌<◌, ◌≤◌, [], ◌∷◌, ◌++◌, Some, refl, sym, ap, ◌∙◌, subst, arith}
 use Rattle.std.specs.Prelude.{slice_set, ◌==◌, not}
 use Rattle.std.proofs.lemmas.Bool.{eq-eqb, ne_eqb}
-use Rattle.lang_meaning.specs.State.{DynamicContext, value}
+use Rattle.lang_meaning.specs.State.{DynamicContext}
 use Rattle.lang_meaning.specs.Values.{Value, integer, character, symbol, nil, object, is_true}
 use Rattle.flat_language.specs.FlatForm.{FlatForm}
 use Rattle.flat_language.specs.FlatMeaning.{mean}
@@ -11,7 +11,7 @@ use Rattle.flat_language.specs.FlatState.{FlatEnvironment, FlatState, FlatEvalua
 use Rattle.mid_code.specs.declared.operation.Comparison.TheVariants.{Different}
 use Rattle.mid_code.specs.Meaning.{exec}
 use Rattle.mid_code.specs.MidCode.{code_of}
-use Rattle.mid_code.specs.State.{Registers, register, falls, ends, MidState, MidOutcome}
+use Rattle.mid_code.specs.State.{falls, ends, MidState, MidOutcome}
 use Rattle.mid_code.specs.State.{charged as mid_charged, go_on as mid_go_on}
 use Rattle.mid_arena.specs.Law.{TellsValue}
 use Rattle.mid_arena.specs.Places.{Places, word_of}
@@ -26,10 +26,10 @@ use Rattle.back_relation.specs.Worlds.{World}
 use Rattle.back_relation.specs.Things.{Things}
 use Rattle.back_relation.specs.Activation.{FormScope}
 use Rattle.back_relation.specs.Ends.{done}
-use Rattle.back_relation.specs.Forms.{TestEnds, FellJudged, judged_credit, context_at, code_at, judged}
+use Rattle.back_relation.specs.Forms.{TestEnds, FellJudged, judged_credit, context_at, code_at}
 use Rattle.back_combining.specs.Forms.{LawOfJudging}
-use Rattle.back_combining.specs.Points.{Point, start_at, run, value_steps, Here, JudgedHere}
-use Rattle.back_combining.specs.Starts.{Start, EndsAt, FellFrom, ReachedFrom}
+use Rattle.back_combining.specs.Points.{Point, start_at, run, Here, JudgedHere}
+use Rattle.back_combining.specs.Starts.{EndsAt, FellFrom}
 use Rattle.back_combining.proofs.Choices.{go_gives}
 use Rattle.back_combining.proofs.FormGrowth.{form_grows}
 use Rattle.back_combining.proofs.Growth.{same_flat, then_value}
@@ -68,22 +68,22 @@ module _ (setting : Setting) (s : FormScope) (d m size k n : ℕ) (there : d + 1
       subst (λ q. JudgedBy p r q) (sym (in_two_parts (code_at setting k n) ss nil_steps p.regs p.y))
       (subst (λ o. JudgedBy p o (mid_go_on (run setting s d m size k n ss p.regs p.y) (λ g y. run setting s d m size k n nil_steps g y))) (go_gives r)
       (ends_go_on setting (λ v z. gives v z) (λ g y. run setting s d m size k n nil_steps g y) (omega arith) (omega arith) e (λ v z. same_flat z)
-        (λ g y. code_grows setting s d m size k n nil_steps g y)
-        (λ x. done (told x))))
+      (λ g y. code_grows setting s d m size k n nil_steps g y)
+      (λ x. done (told x))))
     where
       told :
           (x : FellFrom setting 0 (start_at setting s d m size n p) d r (run setting s d m size k n ss p.regs p.y))
           → FellJudged setting judged_credit p.rs p.valid s d p.w p.env p.around p.z p.regs p.y (test_of Different d (d + 1)) (go_on r (λ v z. gives v z))
-            (mid_go_on (run setting s d m size k n ss p.regs p.y) (λ g y. run setting s d m size k n nil_steps g y))
+          (mid_go_on (run setting s d m size k n ss p.regs p.y) (λ g y. run setting s d m size k n nil_steps g y))
       told x =
           let q : MidOutcome = run setting s d m size k n ss p.regs p.y in
           let b : Point setting s d m size = point_after setting s d m size n p x.reached in
           let runs : RunsTo (code_at setting k n) (code_of nil_steps) q.registers q.state (ends falls (slice_set q.registers (d + 1) (Some nil_word)) (mid_charged 6 q.state)) =
-            and_then constant_falls none_left in
+          and_then constant_falls none_left in
           subst (λ o. FellJudged setting judged_credit p.rs p.valid s d p.w p.env p.around p.z p.regs p.y (test_of Different d (d + 1)) o
-            (mid_go_on q (λ g y. run setting s d m size k n nil_steps g y))) (sym (then_value r (λ v z. gives v z) x.result x.outcome))
+          (mid_go_on q (λ g y. run setting s d m size k n nil_steps g y))) (sym (then_value r (λ v z. gives v z) x.result x.outcome))
           (subst (λ o. FellJudged setting judged_credit p.rs p.valid s d p.w p.env p.around p.z p.regs p.y (test_of Different d (d + 1)) (gives x.result r.state) o)
-            (sym (go_on_falls q (λ g y. run setting s d m size k n nil_steps g y) x.end ∙ runs.same))
+          (sym (go_on_falls q (λ g y. run setting s d m size k n nil_steps g y) x.end ∙ runs.same))
           (record {
             result = x.result;
             outcome = refl;
@@ -106,10 +106,10 @@ module _ (setting : Setting) (s : FormScope) (d m size k n : ℕ) (there : d + 1
       → Here setting s d m size k n f → JudgedHere setting s d m size k n f
   judged_sim f ss same up here p =
       subst (λ (o : Lowered). TestEnds setting judged_credit n p.rs p.valid s d p.w p.env p.around p.z p.regs p.y o.judged.test
-        (mean (context_at setting k) f p.env p.around p.z) (exec (code_at setting k n) (code_of o.judged.ready) p.regs p.y)) (sym same)
+      (mean (context_at setting k) f p.env p.around p.z) (exec (code_at setting k n) (code_of o.judged.ready) p.regs p.y)) (sym same)
       (judged_behind p ss (mean (context_at setting k) f p.env p.around p.z)
-        (subst (λ (o : Lowered). EndsAt setting 0 (start_at setting s d m size n p) (mean (context_at setting k) f p.env p.around p.z) (run setting s d m size k n o.value p.regs p.y)) same (here p))
-        (up p.env p.around p.z))
+      (subst (λ (o : Lowered). EndsAt setting 0 (start_at setting s d m size n p) (mean (context_at setting k) f p.env p.around p.z) (run setting s d m size k n o.value p.regs p.y)) same (here p))
+      (up p.env p.around p.z))
 
 pub judging_law : LawOfJudging
 judging_law setting s d m size k turns f ss there same here =

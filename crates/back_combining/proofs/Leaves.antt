@@ -1,45 +1,37 @@
 -- Forms without parts: literals that are there, and variables in slots.
-use Rattle.std.proofs.Common.{◌≡◌, ℕ, zero, suc, ◌+◌, ◌*◌, ◌^◌, ◌<◌, ◌≤◌, List, [], ◌∷◌, length, Option, Some, None, refl, sym, ap, ◌∙◌, subst, arith}
-use Rattle.std.specs.Prelude.{slice_get, slice_set}
+use Rattle.std.proofs.Common.{◌≡◌, ℕ, zero, suc, ◌^◌, ◌<◌, List, [], ◌∷◌, length, Option, Some, None, refl, sym, ap, ◌∙◌, subst, arith}
+use Rattle.std.specs.Prelude.{slice_get}
 use Rattle.std.proofs.lemmas.Option.{slice_get_within}
-use Rattle.std.proofs.Math.ListN.{length-set}
 use Rattle.lang_meaning.specs.declared.program.LiteralRow.{LiteralRow}
 use Rattle.lang_meaning.specs.declared.program.LiteralRow.TheVariants as row
 use Rattle.lang_meaning.specs.InitialHeap.{class_value, function_value, literal_value}
-use Rattle.lang_meaning.specs.Lookup.{text, value_at}
+use Rattle.lang_meaning.specs.Lookup.{text}
 use Rattle.lang_meaning.specs.State.{DynamicContext}
-use Rattle.lang_meaning.specs.Values.{Value, nil}
+use Rattle.lang_meaning.specs.Values.{Value}
 use Rattle.flat_language.specs.declared.place.Home.TheVariants as home
-use Rattle.flat_language.specs.declared.place.VariablePlace.TheVariants.{Slot, SlotBox}
-use Rattle.flat_language.specs.FlatForm.{FlatForm, literal, local}
-use Rattle.flat_language.specs.FlatMeaning.{mean, mean_literal, charged_for}
+use Rattle.flat_language.specs.declared.place.VariablePlace.TheVariants.{Slot}
+use Rattle.flat_language.specs.FlatForm.{literal, local}
+use Rattle.flat_language.specs.FlatMeaning.{mean, mean_literal}
 use Rattle.flat_language.specs.FlatNodes.{tables}
 use Rattle.flat_language.specs.FlatSignals.{undefined_function, signal}
 use Rattle.flat_language.specs.FlatSignals.{with_some as flat_with_some}
-use Rattle.flat_language.specs.FlatState.{FrameSlot, holds, holds_box, FlatState, FlatEvaluated, gives, charged, value_held, box_held, value_of}
-use Rattle.mid_code.specs.Arena.{Arena, stack_from}
-use Rattle.mid_code.specs.MidCode.{code_of}
-use Rattle.mid_code.specs.State.{Registers, register, falls, ends, MidState}
-use Rattle.mid_code.specs.State.{charged as mid_charged}
+use Rattle.flat_language.specs.FlatState.{holds, FlatState, gives, charged, value_held, value_of}
+use Rattle.mid_code.specs.State.{MidState}
 use Rattle.mid_arena.specs.Places.{of_other, word_of}
-use Rattle.mid_arena.specs.Represents.{Represents}
-use Rattle.mid_arena.specs.Standing.{ArenaStands, ValueAt}
-use Rattle.mid_arena.specs.Tags.{nil_word}
 use Rattle.mid_arena.proofs.Growing.{spot_below}
-use Rattle.mid_arena.proofs.Registers.{register_here}
-use Rattle.mid_arena.proofs.Running.{RunsTo, and_then, none_left, move_falls, load_falls, constant_falls, address_here}
+use Rattle.mid_arena.proofs.Running.{and_then, none_left, move_falls, constant_falls}
 use Rattle.back_lowering.specs.Codes.{lower, literal_code}
-use Rattle.back_lowering.specs.Leaves.{slot_into, variable_into}
+use Rattle.back_lowering.specs.Leaves.{slot_into}
 use Rattle.back_lowering.specs.Placement.{literal_word}
 use Rattle.back_lowering.specs.Steps.{constant}
 use Rattle.back_relation.specs.Setting.{Setting}
-use Rattle.back_relation.specs.Worlds.{World, BoxIs, on_heap}
+use Rattle.back_relation.specs.Worlds.{World}
 use Rattle.back_relation.specs.Things.{Things, LiteralIs, TakenSpot}
 use Rattle.back_relation.specs.Activation.{FormScope}
-use Rattle.back_relation.specs.Forms.{context_at, code_at}
+use Rattle.back_relation.specs.Forms.{context_at}
 use Rattle.back_combining.specs.Forms.{IsKnown, LawOfLiterals, LawOfSlots}
 use Rattle.back_combining.specs.Starts.{Start, EndsAt}
-use Rattle.back_combining.specs.Points.{Point, start_at, run, value_steps, Here}
+use Rattle.back_combining.specs.Points.{Point, start_at, run, Here}
 use Rattle.back_combining.proofs.Starts.{start_charged, ends_charged, gives_run}
 
 past : {X : Type 0} (xs : List X) (i : ℕ) → slice_get xs i ≡ None → i < length xs → ⊥
@@ -71,7 +63,7 @@ module _ (setting : Setting) (s : FormScope) (d m size k n : ℕ) where
   literal_gives i (row.Class c) around z f = refl
   literal_gives i (row.Function name) around z f =
       ap (λ o. flat_with_some o (undefined_function (signal (context_at setting k)) (text setting.names name.0))
-        (λ g a y. gives (function_value setting.names (tables setting.program) (text setting.names name.0)) y) around z) f.1
+      (λ g a y. gives (function_value setting.names (tables setting.program) (text setting.names name.0)) y) around z) f.1
 
   literal_has : (w : World) (i word : ℕ) (l : LiteralRow) → IsKnown setting l → LiteralIs setting w i l word → word_of w.places (literal_is i l) ≡ Some word
   literal_has w i word (row.Datum e) f h = h
@@ -90,14 +82,14 @@ module _ (setting : Setting) (s : FormScope) (d m size k n : ℕ) where
   literal_sim i l there f p =
       let b : Start setting = start_charged setting (start p) 1 in
       let code_is =
-        ap (literal_code setting.names setting.at setting.program s.code.site d i) there ∙ literal_steps i l f in
+      ap (literal_code setting.names setting.at setting.program s.code.site d i) there ∙ literal_steps i l f in
       ends_charged setting {c1 = 300} (start p) 1 (omega arith)
       (subst (λ ss. EndsAt setting 300 b (mean_literal (context_at setting k) i (slice_get setting.program.literals i) p.around (charged 1 p.z)) (run setting s d m size k n ss p.regs p.y))
-        (sym code_is)
+      (sym code_is)
       (subst (λ r. EndsAt setting 300 b r (run setting s d m size k n (constant d (literal_word setting.at i) ∷ []) p.regs p.y))
-        (sym (ap (λ o. mean_literal (context_at setting k) i o p.around (charged 1 p.z)) there ∙ literal_gives i l p.around (charged 1 p.z) f))
+      (sym (ap (λ o. mean_literal (context_at setting k) i o p.around (charged 1 p.z)) there ∙ literal_gives i l p.around (charged 1 p.z) f))
       (gives_run setting {credit = 300} b (literal_is i l) (omega arith)
-        (literal_has p.w i (literal_word setting.at i) l f (p.begins.call.things.literals i l there)) (and_then constant_falls none_left))))
+      (literal_has p.w i (literal_word setting.at i) l f (p.begins.call.things.literals i l there)) (and_then constant_falls none_left))))
 
   -- **a variable in a slot**
   pub slot_sim : (i : ℕ) → slice_get s.flat.homes i ≡ Some home.Slot → Here setting s d m size k n (local (Slot i))

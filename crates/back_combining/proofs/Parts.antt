@@ -1,6 +1,6 @@
 -- What comes behind a part of code, by how the part ended.
-use Rattle.std.proofs.Common.{◌≡◌, ℕ, List, [], ◌∷◌, refl, sym, ap, ◌∙◌}
-use Rattle.mid_code.specs.MidCode.{MidStep, MidCode, no_step, step_and, code_of}
+use Rattle.std.proofs.Common.{◌≡◌, List, [], ◌∷◌, refl, sym, ap, ◌∙◌}
+use Rattle.mid_code.specs.MidCode.{MidStep, code_of}
 use Rattle.mid_code.specs.State.{Registers, MidState, End, falls, returns, cuts, no_room, no_level, no_turn, halts, unhandled, exhausted, stuck, MidOutcome, Next, ends, go_on, go_on_from}
 use Rattle.mid_code.specs.Meaning.{Context, exec, exec_step}
 

@@ -1,17 +1,16 @@
 -- Forms in order.
-use Rattle.std.proofs.Common.{◌≡◌, ℕ, ◌+◌, ◌*◌, ◌<◌, ◌≤◌, List, [], ◌∷◌, ◌++◌, length, Some, refl, sym, ap, ◌∙◌, subst, arith}
+use Rattle.std.proofs.Common.{◌≡◌, ℕ, Some, refl, sym, subst, arith}
 use Rattle.lang_meaning.specs.State.{DynamicContext}
 use Rattle.lang_meaning.specs.Values.{Value, nil}
-use Rattle.flat_language.specs.FlatForm.{FlatForm, sequence, FlatForms, no_form, form_and}
+use Rattle.flat_language.specs.FlatForm.{sequence, FlatForms, no_form, form_and}
 use Rattle.flat_language.specs.FlatMeaning.{mean, mean_sequence}
 use Rattle.flat_language.specs.FlatState.{FlatEnvironment, FlatState, charged}
 use Rattle.mid_code.specs.Meaning.{exec}
 use Rattle.mid_code.specs.State.{register}
 use Rattle.mid_arena.specs.Places.{word_of}
-use Rattle.mid_arena.specs.Tags.{nil_word}
 use Rattle.mid_arena.proofs.Running.{and_then, none_left, constant_falls, in_two_parts}
-use Rattle.back_lowering.specs.Codes.{lower, lower_sequence, lower_behind}
-use Rattle.back_lowering.specs.Steps.{Steps, constant}
+use Rattle.back_lowering.specs.Codes.{lower, lower_behind}
+use Rattle.back_lowering.specs.Steps.{Steps}
 use Rattle.back_relation.specs.Setting.{Setting}
 use Rattle.back_relation.specs.Activation.{FormScope}
 use Rattle.back_relation.specs.Forms.{context_at, code_at}
@@ -50,7 +49,7 @@ module _ (setting : Setting) (s : FormScope) (d m size k n : ℕ) where
       subst (λ q. EndsAt setting credit (start p) (mean_sequence (context_at setting k) v (form_and f fs) p.env p.around p.z) q)
       (sym (in_two_parts (code_at setting k n) (value_steps setting s d m size k n f) (behind_steps fs) p.regs p.y))
       (two setting {c1 = 0} {c2 = credit} (start p) d (λ x y. mean_sequence (context_at setting k) x fs p.env p.around y)
-        (λ g y. run setting s d m size k n (behind_steps fs) g y) (omega arith) (omega arith) (form_grows setting k f p.env p.around p.z).units (h.0 p)
+      (λ g y. run setting s d m size k n (behind_steps fs) g y) (omega arith) (omega arith) (form_grows setting k f p.env p.around p.z).units (h.0 p)
       (λ x y. sequence_grows setting k x fs p.env p.around y) (λ g y. code_grows setting s d m size k n (behind_steps fs) g y)
       (λ x. behind_sim fs h.1 (point_after setting s d m size n p x.reached) x.result x.word x.in_register x.of_value))
 
@@ -77,9 +76,9 @@ module _ (setting : Setting) (s : FormScope) (d m size k n : ℕ) where
   sequence_sim (form_and f fs) h p =
       ends_charged setting {c1 = 300} (start p) 1 (omega arith)
       (subst (λ q. EndsAt setting 300 (start_charged setting (start p) 1) (mean_sequence (context_at setting k) nil (form_and f fs) p.env p.around (charged 1 p.z)) q)
-        (sym (in_two_parts (code_at setting k n) (value_steps setting s d m size k n f) (behind_steps fs) p.regs p.y))
+      (sym (in_two_parts (code_at setting k n) (value_steps setting s d m size k n f) (behind_steps fs) p.regs p.y))
       (two setting {c1 = 0} {c2 = 300} (start_charged setting (start p) 1) d (λ x y. mean_sequence (context_at setting k) x fs p.env p.around y)
-        (λ g y. run setting s d m size k n (behind_steps fs) g y) (omega arith) (omega arith) (form_grows setting k f p.env p.around (charged 1 p.z)).units (h.0 (charged_point p))
+      (λ g y. run setting s d m size k n (behind_steps fs) g y) (omega arith) (omega arith) (form_grows setting k f p.env p.around (charged 1 p.z)).units (h.0 (charged_point p))
       (λ x y. sequence_grows setting k x fs p.env p.around y) (λ g y. code_grows setting s d m size k n (behind_steps fs) g y)
       (λ x. behind_sim fs h.1 (point_after setting s d m size n (charged_point p) x.reached) x.result x.word x.in_register x.of_value)))
 

@@ -1,10 +1,9 @@
 -- A point where code begins, in one record, and the combinators over such points.
-use Rattle.std.proofs.Common.{◌≡◌, ◌⊎◌, ℕ, ◌+◌, ◌*◌, ◌<◌, ◌≤◌, List, length, Option, Some, None, refl, sym, ap, ◌∙◌, subst, arith}
-use Rattle.std.specs.Prelude.{slice_get, slice_set}
-use Rattle.std.proofs.Math.ListN.{length-set}
+use Rattle.std.proofs.Common.{◌≡◌, ℕ, ◌+◌, ◌*◌, ◌<◌, ◌≤◌, List, length, Some, refl, sym, subst, arith}
+use Rattle.std.specs.Prelude.{slice_set}
 use Rattle.lang_meaning.specs.Values.{Value}
-use Rattle.lang_meaning.specs.State.{DynamicContext, value, Limit, words, unlimited}
-use Rattle.flat_language.specs.FlatState.{FlatEnvironment, FlatState, FlatEvaluated, go_on, gives, charged}
+use Rattle.lang_meaning.specs.State.{DynamicContext, Limit, words, unlimited}
+use Rattle.flat_language.specs.FlatState.{FlatState, FlatEvaluated, go_on, gives, charged}
 use Rattle.mid_code.specs.State.{Registers, register, falls, ends, MidState, MidOutcome, Next}
 use Rattle.mid_code.specs.State.{charged as mid_charged, go_on as mid_go_on}
 use Rattle.mid_code.specs.Law.{Grown}
@@ -13,14 +12,13 @@ use Rattle.mid_code.specs.MidCode.{MidCode}
 use Rattle.mid_arena.specs.Places.{word_of}
 use Rattle.mid_arena.proofs.Registers.{register_here}
 use Rattle.mid_arena.proofs.Running.{RunsTo}
-use Rattle.back_lowering.specs.Scope.{Scope, OwnExit}
+use Rattle.back_lowering.specs.Scope.{Scope}
 use Rattle.back_relation.specs.Setting.{Setting}
-use Rattle.back_relation.specs.Room.{words_for_handler}
 use Rattle.back_relation.specs.Worlds.{World, Standing}
 use Rattle.back_relation.specs.Around.{RoomFor}
-use Rattle.back_relation.specs.Activation.{FormScope, IsOwn, ScopeStands}
-use Rattle.back_relation.specs.Ends.{ChargedFrom, WorldKept, Around, Kept, Reached, Transfers, Fell, Left, done, left_by, full_there, stopped, few_turns}
-use Rattle.back_relation.specs.Forms.{Begins, FormEnds}
+use Rattle.back_relation.specs.Activation.{IsOwn, ScopeStands}
+use Rattle.back_relation.specs.Ends.{ChargedFrom, WorldKept, Around, Transfers, done, left_by, full_there, stopped, few_turns}
+use Rattle.back_relation.specs.Forms.{FormEnds}
 use Rattle.back_combining.specs.Starts.{FlatGrown, Start, EndsFrom, EndsAt, EndsBy, FellFrom, ReachedFrom}
 use Rattle.back_combining.proofs.Activations.{activation_later}
 use Rattle.back_combining.proofs.Straight.{same_here, set_beside, registers_set, world_units, world_cost, around_units, around_cost}
@@ -256,7 +254,7 @@ module _ (setting : Setting) where
       → a.z.state.units ≤ r.state.state.units → EndsFrom setting c1 a d1 r q
       → ((v : Value) (z : FlatState) → FlatGrown z (f v z).state) → ((g : Registers) (y : MidState) → Grown y (next g y).state)
       → ((x : FellFrom setting c1 a d1 r q)
-        → FormEnds setting c2 a.turns a.rs a.valid a.s a.d x.w' a.env a.around r.state q.registers q.state (f x.result r.state) (next q.registers q.state))
+      → FormEnds setting c2 a.turns a.rs a.valid a.s a.d x.w' a.env a.around r.state q.registers q.state (f x.result r.state) (next q.registers q.state))
       → EndsAt setting c a (go_on r f) (mid_go_on q next)
   two a d1 f next l enough up x grown mid_grown h = ends_two setting f next l enough up x grown mid_grown h
 

@@ -1,12 +1,12 @@
 -- Steps that leave the arena: units that are charged, costs, and registers that are set.
-use Rattle.std.proofs.Common.{◌≡◌, ◌⊎◌, ℕ, ◌+◌, ◌*◌, ◌<◌, ◌≤◌, List, length, Option, Some, None, refl, sym, ap, ◌∙◌, subst, arith}
-use Rattle.std.specs.Prelude.{slice_get, slice_set}
+use Rattle.std.proofs.Common.{◌≡◌, ℕ, ◌≤◌, length, Some, refl, ap, arith}
+use Rattle.std.specs.Prelude.{slice_set}
 use Rattle.std.proofs.Math.ListN.{length-set}
 use Rattle.lang_meaning.specs.State.{Limit, words, unlimited}
 use Rattle.flat_language.specs.FlatNodes.{tables}
 use Rattle.flat_language.specs.FlatState.{FlatState, charged}
 use Rattle.mid_code.specs.Arena.{word_at}
-use Rattle.mid_code.specs.State.{Registers, register, MidState}
+use Rattle.mid_code.specs.State.{Registers, MidState}
 use Rattle.mid_code.specs.State.{charged as mid_charged}
 use Rattle.mid_arena.proofs.Lists.{set_elsewhere}
 use Rattle.mid_arena.proofs.Growing.{grows_same}

@@ -1,29 +1,27 @@
 -- One thing after another: the combinator of all forms with parts.
-use Rattle.std.proofs.Common.{◌≡◌, ◌⊎◌, inl, inr, ℕ, ◌+◌, ◌*◌, ◌^◌, ◌<◌, ◌≤◌, List, [], ◌∷◌, ◌++◌, length, Option, Some, None, refl, sym, ap, ◌∙◌, subst, arith}
-use Rattle.std.specs.Prelude.{slice_get}
+use Rattle.std.proofs.Common.{◌≡◌, inl, inr, ℕ, ◌+◌, ◌*◌, ◌<◌, ◌≤◌, List, length, Option, Some, None, refl, sym, ap, ◌∙◌, subst, arith}
 use Rattle.lang_meaning.specs.Values.{Value}
 use Rattle.lang_meaning.specs.Objects.{Called}
-use Rattle.lang_meaning.specs.State.{DynamicContext, Landing, Outcome, value, exit, full, more, Limit, words, unlimited}
+use Rattle.lang_meaning.specs.State.{DynamicContext, Outcome, value, exit, full, more, Limit, words, unlimited}
 use Rattle.flat_language.specs.FlatState.{FlatEnvironment, FlatState, FlatEvaluated, go_on}
 use Rattle.mid_code.specs.declared.operation.Test.{Test}
-use Rattle.mid_code.specs.Arena.{Arena, word_in, stack_from, blocks_from, Block}
+use Rattle.mid_code.specs.Arena.{Arena, word_in, stack_from, blocks_from}
 use Rattle.mid_code.specs.State.{Registers, register, End, falls, returns, cuts, no_room, no_level, no_turn, halts, unhandled, exhausted, stuck, MidState, MidOutcome, Next}
 use Rattle.mid_code.specs.State.{go_on as mid_go_on}
 use Rattle.mid_code.specs.Law.{Grown}
 use Rattle.mid_code.proofs.Growth.{go_on_grown, same_grown}
 use Rattle.back_lowering.specs.Scope.{Scope}
 use Rattle.back_relation.specs.Setting.{Setting}
-use Rattle.back_relation.specs.Worlds.{World, on_stack, Later, LandsIn, MethodIs, Standing}
-use Rattle.back_relation.specs.StackWords.{StackKept, HasWordAt}
-use Rattle.back_relation.specs.Around.{RoomFor, CallBegins, AroundStands}
-use Rattle.back_relation.specs.Activation.{FormScope, NoSlot, IsOwn, ScopeStands, RegistersKept, ArgumentsThere, MethodThere}
-use Rattle.back_relation.specs.Ends.{PaidFrom, PaidPassing, ChargedFrom, AreFew, ControlBack, WorldKept, Kept, Around, Reached, Transfers, FullThere, IsFullOrMore, RoomEnded, Because, Stopped, Ends, done, left_by, full_there, stopped, few_turns, Fell, Left}
+use Rattle.back_relation.specs.Worlds.{World, Later, Standing}
+use Rattle.back_relation.specs.Around.{RoomFor, CallBegins}
+use Rattle.back_relation.specs.Activation.{FormScope, ScopeStands, RegistersKept, ArgumentsThere, MethodThere}
+use Rattle.back_relation.specs.Ends.{WorldKept, Around, Reached, Transfers, IsFullOrMore, RoomEnded, Because, Ends, done, left_by, full_there, stopped, few_turns, Fell, Left}
 use Rattle.back_relation.specs.Forms.{Begins, FormEnds, FellJudged, TestEnds}
 use Rattle.back_relation.specs.Room.{words_for_handler}
 use Rattle.back_combining.specs.Starts.{FlatGrown}
 use Rattle.back_combining.proofs.Growth.{both_prefix, then_value, then_other, then_grown, IsNoValue}
 use Rattle.back_combining.proofs.Parts.{IsLast, go_on_falls, go_on_last}
-use Rattle.back_combining.proofs.Worlds.{later_same, later_then, plain_later, Same, stack_same, around_again}
+use Rattle.back_combining.proofs.Worlds.{later_then, plain_later, Same, stack_same, around_again}
 
 pub registers_then :
     {s : Scope} {d d1 : ℕ} {g g1 g2 : Registers} → d ≤ d1 → RegistersKept s d1 g g1 → RegistersKept s d g1 g2 → RegistersKept s d g g2
@@ -294,14 +292,14 @@ module _ (setting : Setting) where
       → FormEnds setting c1 turns rs valid s d1 w env around z regs y r q
       → ((v : Value) (z : FlatState) → FlatGrown z (f v z).state) → ((g : Registers) (y : MidState) → Grown y (next g y).state)
       → ((x : Fell setting c1 rs valid s d1 w env around z regs y r q)
-        → FormEnds setting c2 turns rs valid s d x.w' env around r.state q.registers q.state (f x.result r.state) (next q.registers q.state))
+      → FormEnds setting c2 turns rs valid s d x.w' env around r.state q.registers q.state (f x.result r.state) (next q.registers q.state))
       → FormEnds setting c turns rs valid s d w env around z regs y (go_on r f) (mid_go_on q next)
   ends_two {c1} {c2} {c} {turns} {rs} {valid} {s} {d} {d1} {w} {env} {around} {z} {regs} {y} {r} {q} f next l enough up e grown mid_grown h =
       ends_go_on f next l (omega arith) e grown mid_grown
       (λ x.
-        subst (λ p. FormEnds setting c turns rs valid s d w env around z regs y p (mid_go_on q next)) (sym (then_value r f x.result x.outcome))
-        (subst (λ p. FormEnds setting c turns rs valid s d w env around z regs y (f x.result r.state) p) (sym (go_on_falls q next x.end))
-        (ends_then l x.reached enough up (h x))))
+      subst (λ p. FormEnds setting c turns rs valid s d w env around z regs y p (mid_go_on q next)) (sym (then_value r f x.result x.outcome))
+      (subst (λ p. FormEnds setting c turns rs valid s d w env around z regs y (f x.result r.state) p) (sym (go_on_falls q next x.end))
+      (ends_then l x.reached enough up (h x))))
 
   -- a part that is judged
   pub ends_judged :
@@ -310,11 +308,11 @@ module _ (setting : Setting) where
       → TestEnds setting c1 turns rs valid s d1 w env around z regs y test r q
       → ((v : Value) (z : FlatState) → FlatGrown z (f v z).state) → ((g : Registers) (y : MidState) → Grown y (next g y).state)
       → ((x : FellJudged setting c1 rs valid s d1 w env around z regs y test r q)
-        → FormEnds setting c2 turns rs valid s d x.w' env around r.state q.registers q.state (f x.result r.state) (next q.registers q.state))
+      → FormEnds setting c2 turns rs valid s d x.w' env around r.state q.registers q.state (f x.result r.state) (next q.registers q.state))
       → FormEnds setting c turns rs valid s d w env around z regs y (go_on r f) (mid_go_on q next)
   ends_judged {c1} {c2} {c} {turns} {rs} {valid} {s} {d} {d1} {w} {env} {around} {z} {regs} {y} {test} {r} {q} f next l enough up e grown mid_grown h =
       ends_go_on f next l (omega arith) e grown mid_grown
       (λ x.
-        subst (λ p. FormEnds setting c turns rs valid s d w env around z regs y p (mid_go_on q next)) (sym (then_value r f x.result x.outcome))
-        (subst (λ p. FormEnds setting c turns rs valid s d w env around z regs y (f x.result r.state) p) (sym (go_on_falls q next x.end))
-        (ends_then l x.reached enough up (h x))))
+      subst (λ p. FormEnds setting c turns rs valid s d w env around z regs y p (mid_go_on q next)) (sym (then_value r f x.result x.outcome))
+      (subst (λ p. FormEnds setting c turns rs valid s d w env around z regs y (f x.result r.state) p) (sym (go_on_falls q next x.end))
+      (ends_then l x.reached enough up (h x))))

@@ -1,24 +1,17 @@
 -- The walk of a transfer: a loop of a routine, with a turn for each record that it passes.
-use Rattle.std.proofs.Common.{◌≡◌, ◌⊎◌, inl, inr, ℕ, zero, suc, ◌+◌, ◌*◌, ◌^◌, ◌<◌, ◌≤◌, Bool, true, false, List, [], ◌∷◌, ◌++◌, length, Option, Some, None, refl, sym, ap, ◌∙◌, subst, arith}
-use Rattle.std.specs.Prelude.{slice_get, ◌==◌, ◌||◌, not, if◌then◌else◌}
-use Rattle.std.proofs.lemmas.Bool.{eqb-true}
+use Rattle.std.proofs.Common.{◌≡◌, inl, inr, ℕ, zero, suc, ◌+◌, ◌≤◌, Bool, true, false, List, [], ◌∷◌, length, Option, Some, refl, sym, ap, ◌∙◌, subst, arith}
+use Rattle.std.specs.Prelude.{◌==◌, ◌||◌, not, if◌then◌else◌}
 use Rattle.lang_meaning.specs.State.{Exit, ExitKind, block_exit, tagbody_exit, catch_exit, signal_exit, end_exit}
-use Rattle.mid_code.specs.declared.operation.Counted.TheVariants.{Turn}
-use Rattle.mid_code.specs.declared.operation.Comparison.TheVariants.{Different}
 use Rattle.mid_code.specs.declared.program.MidProcedure.{MidProcedure}
-use Rattle.mid_code.specs.Arena.{Arena, Block, word_at, blocks_from, outside_of, with_blocks}
-use Rattle.mid_code.specs.Costs.{cut_cost}
-use Rattle.mid_code.specs.MidCode.{MidStep, repeat, cut_to, code_of}
-use Rattle.mid_code.specs.State.{Registers, register, falls, cuts, ends, MidOutcome, with_some, with_arena}
+use Rattle.mid_code.specs.State.{Registers, falls, ends, MidOutcome}
 use Rattle.mid_code.specs.State.{MidState, MidOutcome}
-use Rattle.mid_code.specs.Meaning.{Task, Context, exec_step}
-use Rattle.mid_arena.proofs.Running.{RunsTo, StepsTo, and_then, none_left, load_falls, constant_falls, choose_first_falls, choose_second_falls, address_up, repeat_falls, repeat_turn, turning}
-use Rattle.back_lowering.specs.ControlWords.{record_kind, record_outer, exit_kind, catch_kind, cleanup_kind, signal_kind, end_kind}
-use Rattle.back_lowering.specs.Steps.{Steps, constant, load, if_equal}
-use Rattle.back_lowering.specs.RoutineCodes.{turns_while}
+use Rattle.mid_code.specs.Meaning.{Task}
+use Rattle.mid_arena.proofs.Running.{StepsTo, and_then, none_left, load_falls, constant_falls, choose_first_falls, choose_second_falls, address_up, repeat_falls, repeat_turn, turning}
+use Rattle.back_lowering.specs.ControlWords.{record_kind, record_outer, cleanup_kind}
+use Rattle.back_lowering.specs.Steps.{load}
 use Rattle.back_relation.specs.Worlds.{Standing, RecordRole, for_cleanup, for_exit, is_cleanup, IsIn, Chain, first_stop, record_bytes}
 use Rattle.back_relation.specs.StackWords.{kind_number}
-use Rattle.back_combining.specs.Walks.{walk, Passed, walk_registers, costing, Walked, LawOfWalks}
+use Rattle.back_combining.specs.Walks.{Passed, walk_registers, costing, Walked, LawOfWalks}
 
 kind_other : (x : Exit) → (kind_number (for_exit x) == cleanup_kind) ≡ false
 kind_other x = by x.kind

@@ -1,19 +1,19 @@
 -- From points in one scope to all of them: what is shown of a form wherever it stands.
-use Rattle.std.proofs.Common.{◌≡◌, ℕ, ◌≤◌, List, [], ◌∷◌, length, refl, arith}
+use Rattle.std.proofs.Common.{ℕ, ◌≤◌, length, refl, arith}
 use Rattle.flat_language.specs.FlatExits.{LeadForms}
 use Rattle.flat_language.specs.FlatFits.{FitForms}
-use Rattle.flat_language.specs.FlatForm.{FlatForm, sequence, FlatForms, no_form, form_and}
+use Rattle.flat_language.specs.FlatForm.{sequence, FlatForms, no_form, form_and}
 use Rattle.flat_language.specs.FlatStanding.{StandForms}
 use Rattle.mid_code.specs.MidCode.{code_of}
-use Rattle.back_lowering.specs.Codes.{lower, lower_sequence, lower_behind}
+use Rattle.back_lowering.specs.Codes.{lower, lower_behind}
 use Rattle.back_lowering.specs.Registers.{of_code, enough_for}
 use Rattle.back_relation.specs.Setting.{Setting}
 use Rattle.back_relation.specs.Placed.{PlacedForms}
-use Rattle.back_relation.specs.Room.{words_for, words_for_forms}
+use Rattle.back_relation.specs.Room.{words_for_forms}
 use Rattle.back_relation.specs.Activation.{FormScope}
-use Rattle.back_relation.specs.Forms.{FormStands, DoesForm, context_at, code_at, value_code}
+use Rattle.back_relation.specs.Forms.{DoesForm, context_at, code_at}
 use Rattle.back_combining.specs.Forms.{AllDo, LawOfWholeSequences}
-use Rattle.back_combining.specs.Points.{Point, AllHere}
+use Rattle.back_combining.specs.Points.{AllHere}
 use Rattle.back_combining.proofs.Fitting.{registers_front, registers_behind}
 use Rattle.back_combining.proofs.Points.{does_here}
 use Rattle.back_combining.proofs.Sequences.{sequence_sim}
@@ -30,10 +30,10 @@ module _ (setting : Setting) (k turns : ℕ) where
   all_here s d m size first (form_and f fs) does stands fits leads placed registers words =
       let one = (lower setting.names setting.at setting.program s.code d f).value in
       let others = lower_behind setting.names setting.at setting.program s.code d fs in (
-      does_here setting s d m size k turns f first does.0 (record { stands = stands.0; fits = fits.0; leads = leads.0; placed = placed.0 })
-      (registers_front one others size registers) (omega (arith, words)),
-      all_here s d m size first fs does.1 stands.1 fits.1 leads.1 placed.1 (registers_behind one others size registers) (omega (arith, words)),
-    )
+        does_here setting s d m size k turns f first does.0 (record { stands = stands.0; fits = fits.0; leads = leads.0; placed = placed.0 })
+            (registers_front one others size registers) (omega (arith, words)),
+        all_here s d m size first fs does.1 stands.1 fits.1 leads.1 placed.1 (registers_behind one others size registers) (omega (arith, words)),
+      )
 
   pub sequence_does : (fs : FlatForms) → AllDo setting k turns fs → DoesForm setting turns (context_at setting k) (code_at setting k turns) (sequence fs)
   unfolding lower

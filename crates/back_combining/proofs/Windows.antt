@@ -1,7 +1,7 @@
 -- Straight-line code on a window of registers: those in front stay, and those of the window are written out, so that what is set computes.
-use Rattle.std.proofs.Common.{◌≡◌, ℕ, zero, suc, ◌+◌, ◌*◌, ◌^◌, ◌<◌, ◌≤◌, Bool, true, false, List, [], ◌∷◌, ◌++◌, length, Option, Some, None, refl, sym, ap, ◌∙◌, subst, arith}
+use Rattle.std.proofs.Common.{◌≡◌, ℕ, zero, suc, ◌+◌, ◌^◌, ◌<◌, true, false, List, [], ◌∷◌, ◌++◌, length, Option, Some, refl, sym, ap, ◌∙◌, subst, arith}
 use Rattle.std.specs.Prelude.{slice_get, slice_set, pos, ◌==◌, ◌-◌}
-use Rattle.std.specs.Prelude.{◌%◌, ◌/◌}
+use Rattle.std.specs.Prelude.{◌/◌}
 use Rattle.std.proofs.lemmas.Bool.{ne_eqb}
 use Rattle.std.proofs.Math.ListN.{length-set}
 use Rattle.mid_arena.proofs.Memory.{word_elsewhere, word_here, lent_with_word}
@@ -12,7 +12,7 @@ use Rattle.mid_code.specs.MidCode.{perform}
 use Rattle.mid_code.specs.Words.{address}
 use Rattle.mid_code.specs.Arena.{Arena, word_in, is_lent, word_at, with_word}
 use Rattle.mid_code.specs.State.{Registers, register, falls, exhausted, stuck, ends, gives, charged, with_arena, with_some, choose_by}
-use Rattle.mid_code.specs.State.{MidState, MidOutcome}
+use Rattle.mid_code.specs.State.{MidState}
 use Rattle.mid_code.specs.Meaning.{Context, draw}
 use Rattle.mid_arena.proofs.Running.{StepsTo, constant_falls, move_falls, load_falls, store_falls, address_up}
 use Rattle.back_lowering.specs.Steps.{constant, move, load, store}

@@ -1,18 +1,17 @@
 -- Later worlds, and what stands on the stack: it goes on standing where code fell out, and where more was laid inside.
-use Rattle.std.proofs.Common.{◌≡◌, ◌⊎◌, inl, inr, ℕ, ◌+◌, ◌*◌, ◌<◌, ◌≤◌, List, [], ◌∷◌, length, Option, Some, None, refl, sym, ap, ◌∙◌, subst, arith}
-use Rattle.std.specs.Prelude.{slice_get}
+use Rattle.std.proofs.Common.{◌≡◌, ℕ, ◌+◌, ◌*◌, ◌<◌, ◌≤◌, List, [], ◌∷◌, length, Some, sym, ap, ◌∙◌, subst, arith}
 use Rattle.lang_meaning.specs.Values.{Value, integer, character, symbol, nil, object}
 use Rattle.lang_meaning.specs.State.{Exit, ExitKind, block_exit, tagbody_exit, catch_exit, signal_exit, end_exit, DynamicContext}
 use Rattle.flat_language.specs.FlatState.{FlatState}
-use Rattle.mid_code.specs.Arena.{Arena, Block, begin_of, stack_from, blocks_from, word_at}
+use Rattle.mid_code.specs.Arena.{Block, begin_of, stack_from, blocks_from}
 use Rattle.mid_code.specs.State.{MidState}
-use Rattle.mid_arena.specs.Places.{Spot, Places, Owner, of_object, of_symbol, spot_of, pointer_in, word_of}
+use Rattle.mid_arena.specs.Places.{of_object, of_symbol, spot_of, pointer_in, word_of}
 use Rattle.mid_arena.specs.Standing.{ValueAt}
 use Rattle.mid_arena.proofs.Keeping.{pointer_tells}
 use Rattle.back_lowering.specs.ControlWords.{record_serial, record_kind, record_outer, record_link, record_tag, record_mark, end_address, handler_function, handler_outer, binding_variable, binding_value, binding_outer}
 use Rattle.back_relation.specs.Setting.{Setting}
-use Rattle.back_relation.specs.Worlds.{World, on_heap, on_stack, Later, Standing, RecordRole, for_cleanup, for_exit, IsIn, Chain, Links, Plain, record_bytes}
-use Rattle.back_relation.specs.StackWords.{StackKept, HasWordAt, TagsAt, UseAt, kind_number, BlockStands, RecordAt, HandlersAt, BindingsAt, VariableAt}
+use Rattle.back_relation.specs.Worlds.{World, Later, Standing, RecordRole, for_cleanup, for_exit, Chain, Links, Plain, record_bytes}
+use Rattle.back_relation.specs.StackWords.{StackKept, HasWordAt, TagsAt, UseAt, RecordAt, HandlersAt, BindingsAt}
 use Rattle.back_relation.specs.Around.{AroundStands}
 use Rattle.back_relation.specs.Ends.{ControlBack}
 
@@ -120,26 +119,26 @@ module _ {w w' : World} {y y' : MidState} (l : Later w w') (h : Deeper w w' y y'
   handlers_stay [] a t = t
   handlers_stay (v ∷ hs) a t =
       let low : stack_from y.arena ≤ a = t.1 in (
-      value_stays (a + handler_function) v (omega arith) t.2 t.0,
-      low_stays a t.1,
-      plain_later (a + handler_function) l t.2,
-      plain_later (a + handler_outer) l t.3,
-      t.4,
-      (t.5.0, word_stays (a + handler_outer) t.5.0 (omega arith) t.3 t.5.1, handlers_stay hs t.5.0 t.5.2),
-    )
+        value_stays (a + handler_function) v (omega arith) t.2 t.0,
+        low_stays a t.1,
+        plain_later (a + handler_function) l t.2,
+        plain_later (a + handler_outer) l t.3,
+        t.4,
+        (t.5.0, word_stays (a + handler_outer) t.5.0 (omega arith) t.3 t.5.1, handlers_stay hs t.5.0 t.5.2),
+      )
 
   pub bindings_stay : (setting : Setting) (bs : List (List ℕ × ℕ)) (a : ℕ) → BindingsAt setting w y a bs → BindingsAt setting w' y' a bs
   bindings_stay setting [] a t = t
   bindings_stay setting (b ∷ bs) a t =
       let low : stack_from y.arena ≤ a = t.2 in (
-      (t.0.0, t.0.1, t.0.2, word_stays (a + binding_variable) _ (omega arith) t.3 t.0.3),
-      h.stack.bindings b.1 (a + binding_value) t.1 (omega arith) (omega (arith, h.from)),
-      low_stays a t.2,
-      plain_later (a + binding_variable) l t.3,
-      plain_later (a + binding_outer) l t.4,
-      t.5,
-      (t.6.0, word_stays (a + binding_outer) t.6.0 (omega arith) t.4 t.6.1, bindings_stay setting bs t.6.0 t.6.2),
-    )
+        (t.0.0, t.0.1, t.0.2, word_stays (a + binding_variable) _ (omega arith) t.3 t.0.3),
+        h.stack.bindings b.1 (a + binding_value) t.1 (omega arith) (omega (arith, h.from)),
+        low_stays a t.2,
+        plain_later (a + binding_variable) l t.3,
+        plain_later (a + binding_outer) l t.4,
+        t.5,
+        (t.6.0, word_stays (a + binding_outer) t.6.0 (omega arith) t.4 t.6.1, bindings_stay setting bs t.6.0 t.6.2),
+      )
 
 pub links_raise : (rs : List Standing) (a m n : ℕ) (xs : List Exit) (vs : List Standing) → m ≤ n → Links rs a m xs vs → Links rs a n xs vs
 links_raise rs a m n [] [] h t = tt

@@ -38,7 +38,7 @@ LawOfTwoParts =
     → a.d ≤ d1 → c1 + c2 ≤ credit → a.z.state.units ≤ r.state.state.units → EndsFrom setting c1 a d1 r q
     → ((v : Value) (z : FlatState) → FlatGrown z (f v z).state) → ((g : Registers) (y : MidState) → Grown y (next g y).state)
     → ((x : FellFrom setting c1 a d1 r q)
-      → FormEnds setting c2 a.turns a.rs a.valid a.s a.d x.w' a.env a.around r.state q.registers q.state (f x.result r.state) (next q.registers q.state))
+    → FormEnds setting c2 a.turns a.rs a.valid a.s a.d x.w' a.env a.around r.state q.registers q.state (f x.result r.state) (next q.registers q.state))
     → EndsAt setting credit a (go_on r f) (mid_go_on q next)
 
 -- a choice: one code or another, as a test says
@@ -48,7 +48,7 @@ LawOfChoices =
     → register t.first a.regs ≡ Some v → register t.second a.regs ≡ Some w → compares t.comparison v w ≡ b → c1 + 14 ≤ credit
     → a.z.state.units ≤ f.state.state.units → a.z.state.units ≤ g.state.state.units
     → (b ≡ true
-      → FormEnds setting c1 a.turns a.rs a.valid a.s a.d a.w a.env a.around a.z a.regs (mid_charged test_cost a.y) f (exec c first a.regs (mid_charged test_cost a.y)))
+    → FormEnds setting c1 a.turns a.rs a.valid a.s a.d a.w a.env a.around a.z a.regs (mid_charged test_cost a.y) f (exec c first a.regs (mid_charged test_cost a.y)))
     → (b ≡ false
-      → FormEnds setting c1 a.turns a.rs a.valid a.s a.d a.w a.env a.around a.z a.regs (mid_charged test_cost a.y) g (exec c second a.regs (mid_charged test_cost a.y)))
+    → FormEnds setting c1 a.turns a.rs a.valid a.s a.d a.w a.env a.around a.z a.regs (mid_charged test_cost a.y) g (exec c second a.regs (mid_charged test_cost a.y)))
     → EndsAt setting credit a (if b then f else g) (exec_step c (choose t first second) a.regs a.y)

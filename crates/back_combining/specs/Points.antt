@@ -69,7 +69,7 @@ module _ (setting : Setting) (s : FormScope) (d m size : ℕ) where
     JudgedHere f =
         (p : Point)
         → TestEnds setting judged_credit n p.rs p.valid s d p.w p.env p.around p.z p.regs p.y (judged setting s d f).test
-          (mean (context_at setting k) f p.env p.around p.z) (exec (code_at setting k n) (code_of (judged setting s d f).ready) p.regs p.y)
+        (mean (context_at setting k) f p.env p.around p.z) (exec (code_at setting k n) (code_of (judged setting s d f).ready) p.regs p.y)
 
     -- the code of a loop, whose turns are levels
     abbrev pub loop : (t body : FlatForm) → MidStep

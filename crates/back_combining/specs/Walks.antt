@@ -7,7 +7,7 @@ use Rattle.mid_code.specs.MidCode.{MidStep}
 use Rattle.mid_code.specs.State.{Registers, falls, ends, MidState, MidOutcome}
 use Rattle.back_lowering.specs.ControlWords.{record_kind, record_outer, cleanup_kind}
 use Rattle.back_lowering.specs.RoutineCodes.{turns_while}
-use Rattle.back_lowering.specs.Steps.{Steps, constant, load, if_equal}
+use Rattle.back_lowering.specs.Steps.{constant, load, if_equal}
 use Rattle.back_relation.specs.Worlds.{Standing, IsIn, Chain, first_stop, record_bytes}
 use Rattle.back_relation.specs.StackWords.{kind_number}
 
