@@ -5,3 +5,4 @@ pub mod Forms
 pub mod Cuts
 pub mod Walks
 pub mod Stores
+pub mod Reaches

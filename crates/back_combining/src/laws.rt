@@ -2,6 +2,7 @@
 ghost use Rattle.back_combining.specs.Cuts.{LawOfCuts};
 ghost use Rattle.back_combining.specs.Forms.{LawOfLiterals, LawOfSlots, LawOfSequences, LawOfWholeSequences, LawOfLoops, LawOfWhiles, LawOfJudging, LawOfClauses};
 ghost use Rattle.back_combining.specs.Law.{LawOfParts, LawOfAround, LawOfTwoParts, LawOfChoices};
+ghost use Rattle.back_combining.specs.Reaches.{LawOfReaches};
 ghost use Rattle.back_combining.specs.Stores.{LawOfStores};
 ghost use Rattle.back_combining.specs.Walks.{LawOfWalks};
 
@@ -78,4 +79,9 @@ pub fn law_clauses()
 /// Forms of loops, in one scope.
 pub fn law_whiles()
     ensures { LawOfWhiles }
+{}
+
+/// How an exit of the activation may be left, under one more record.
+pub fn law_reaches()
+    ensures { LawOfReaches }
 {}
