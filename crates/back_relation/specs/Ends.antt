@@ -1,6 +1,6 @@
 -- **The relation of what the meaning comes to and how code ends.** There are five cases, whatever the code is of: it is done, a transfer is under
 -- way, the meaning has no words left, the code stopped before its end, or there were few turns. What is said in the first two depends on the code.
-use Rattle.std.specs.Prelude.{◌≡◌, ◌⊎◌, ⊤, ℕ, ◌+◌, ◌*◌, ◌^◌, ◌<◌, ◌≤◌, true, List, [], ◌∷◌, Option, Some, length, slice_get}
+use Rattle.std.specs.Prelude.{◌≡◌, ⊤, ℕ, ◌+◌, ◌*◌, ◌^◌, ◌<◌, ◌≤◌, true, List, ◌∷◌, Some, length, slice_get}
 use Rattle.lang_meaning.specs.Prefixes.{IsPrefix}
 use Rattle.lang_meaning.specs.State.{DynamicContext, Landing, at_segment, at_site, Outcome, value, exit, full, more, Limit, words, unlimited}
 use Rattle.lang_meaning.specs.Values.{Value}

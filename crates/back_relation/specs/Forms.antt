@@ -1,5 +1,5 @@
 -- **What is to be shown of each form**: its code does what it means.
-use Rattle.std.specs.Prelude.{◌≡◌, ℕ, zero, suc, ◌+◌, ◌*◌, ◌<◌, ◌≤◌, List, Some, length}
+use Rattle.std.specs.Prelude.{◌≡◌, ℕ, zero, suc, ◌<◌, ◌≤◌, List, Some, length}
 use Rattle.lang_meaning.specs.State.{DynamicContext, value}
 use Rattle.lang_meaning.specs.Values.{Value, is_true}
 use Rattle.flat_language.specs.FlatExits.{Leads}
@@ -19,7 +19,6 @@ use Rattle.mid_code.specs.Words.{compares}
 use Rattle.back_lowering.specs.Codes.{lower}
 use Rattle.back_lowering.specs.Primitives.{Judged}
 use Rattle.back_lowering.specs.Registers.{of_code, enough_for}
-use Rattle.back_lowering.specs.Steps.{Steps}
 use Rattle.back_relation.specs.Setting.{Setting}
 use Rattle.back_relation.specs.Room.{words_for}
 use Rattle.back_relation.specs.Worlds.{World, Standing}

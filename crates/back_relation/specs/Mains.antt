@@ -1,7 +1,7 @@
 -- **What is to be shown of main forms.** The record of the end of the program stands around each; a transfer to it ends the run.
-use Rattle.std.specs.Prelude.{◌≡◌, ℕ, ◌+◌, List, [], ◌∷◌, Some, length, slice_get}
+use Rattle.std.specs.Prelude.{◌≡◌, ℕ, ◌+◌, [], Some, length, slice_get}
 use Rattle.base.specs.declared.place.Place.{Place}
-use Rattle.lang_meaning.specs.Classes.{class_of}
+use Rattle.lang_meaning.specs.Meaning.{class_in}
 use Rattle.lang_meaning.specs.State.{exit, value, at_site}
 use Rattle.lang_meaning.specs.Values.{Value}
 use Rattle.flat_language.specs.FlatForm.{FlatForm}
@@ -56,7 +56,7 @@ module _ (setting : Setting) where
     pub outcome : r.outcome ≡ exit 0 condition (at_site place)
     pub site : ℕ
     pub word : ℕ
-    pub end : q.end ≡ unhandled (class_of r.state.state condition) site word
+    pub end : q.end ≡ unhandled (class_in r.state.state.store condition) site word
     pub site_is : SiteIs setting site place
     pub w' : World
     pub of_value : word_of w'.places condition ≡ Some word

@@ -1,5 +1,5 @@
 -- **What is to be shown of the bodies and the entries of functions.**
-use Rattle.std.specs.Prelude.{◌≡◌, ◌⊎◌, ⊤, ℕ, zero, suc, ◌+◌, ◌*◌, ◌<◌, ◌≤◌, true, false, List, [], ◌∷◌, ◌++◌, Option, Some, None, length, map, slice_get, is_some}
+use Rattle.std.specs.Prelude.{◌≡◌, ◌⊎◌, ℕ, suc, ◌+◌, ◌*◌, ◌<◌, ◌≤◌, true, false, List, [], ◌∷◌, ◌++◌, Option, Some, None, length, map, slice_get, is_some}
 use Rattle.lang_meaning.specs.declared.scope.ExitForm.{ExitForm}
 use Rattle.lang_meaning.specs.Objects.{Called}
 use Rattle.lang_meaning.specs.Signals.{takes}
@@ -8,7 +8,7 @@ use Rattle.lang_meaning.specs.Values.{Value}
 use Rattle.flat_language.specs.declared.program.FlatProcedure.{FlatProcedure}
 use Rattle.flat_language.specs.FlatNodes.{homes, nodes}
 use Rattle.flat_language.specs.FlatSignals.{FlatContext, FlatSignals, form, descend, enter, with_boxes}
-use Rattle.flat_language.specs.FlatState.{Captured, no_environment, FlatState, FlatEvaluated, FlatAct, in_own_frame, with_slots}
+use Rattle.flat_language.specs.FlatState.{Captured, no_environment, FlatState, FlatAct, in_own_frame, with_slots}
 use Rattle.mid_code.specs.Arena.{Arena, stack_from}
 use Rattle.mid_code.specs.Meaning.{Context, count}
 use Rattle.mid_code.specs.Meaning as mid

@@ -1,8 +1,7 @@
 -- **What is to be shown of lowered programs**: at every number of levels, with any words and any input, the run of the code does what the
 -- program means.
-use Rattle.std.specs.Prelude.{◌≡◌, ◌⊎◌, ⊤, ℕ, ◌+◌, ◌*◌, ◌^◌, ◌<◌, ◌≤◌, List, [], ◌∷◌, Some, length, slice_get}
+use Rattle.std.specs.Prelude.{◌≡◌, ◌⊎◌, ⊤, ℕ, ◌+◌, ◌*◌, ◌^◌, ◌<◌, ◌≤◌, List, [], Some, length, slice_get}
 use Rattle.base.specs.AllOf.{AllOf}
-use Rattle.base.specs.declared.place.Place.{Place}
 use Rattle.lang_meaning.specs.Counts.{bound}
 use Rattle.lang_meaning.specs.InitialHeap.{objects_at_start}
 use Rattle.lang_meaning.specs.Meaning.{Meant, End, ended_value, ended_unhandled, ended_full, ended_more, class_in}
@@ -12,7 +11,7 @@ use Rattle.lang_meaning.specs.Values.{Value, nil}
 use Rattle.flat_language.specs.declared.program.FlatProcedure.{FlatProcedure}
 use Rattle.flat_language.specs.FlatFits.{ProgramFits}
 use Rattle.flat_language.specs.FlatMeaning.{mean_mains, flat_meaning}
-use Rattle.flat_language.specs.FlatNodes.{tables, nodes, homes}
+use Rattle.flat_language.specs.FlatNodes.{tables, nodes}
 use Rattle.flat_language.specs.FlatStanding.{ProgramStands}
 use Rattle.flat_language.specs.FlatState.{FlatState, FlatEvaluated}
 use Rattle.mid_code.specs.Meaning.{runs}

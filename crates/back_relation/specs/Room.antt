@@ -1,5 +1,5 @@
 -- How many words of the stack the code of a form lays at a time, beside the frames of the bodies that it enters, which are charged.
-use Rattle.std.specs.Prelude.{ℕ, ◌+◌, ◌*◌, Bool, true, false, max, List, Option, Some, None, length, slice_get, is_some, if◌then◌else◌}
+use Rattle.std.specs.Prelude.{ℕ, ◌+◌, ◌*◌, Bool, false, max, List, Option, Some, None, length, slice_get, is_some, if◌then◌else◌}
 use Rattle.lang_meaning.specs.declared.program.Callee.{Callee}
 use Rattle.lang_meaning.specs.declared.program.Callee.TheVariants.{Procedure, Generic}
 use Rattle.lang_meaning.specs.declared.program.FunctionRow.{FunctionRow}

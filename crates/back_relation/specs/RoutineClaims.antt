@@ -1,23 +1,21 @@
 -- **What is to be shown of each routine**: a call of it does what the meaning does there.
-use Rattle.std.specs.Prelude.{◌≡◌, ◌⊎◌, ⊤, ℕ, suc, ◌+◌, ◌*◌, ◌<◌, ◌≤◌, Bool, true, List, [], ◌∷◌, ◌++◌, Option, Some, None, length, slice_get, if◌then◌else◌}
+use Rattle.std.specs.Prelude.{◌≡◌, ℕ, ◌+◌, ◌*◌, ◌<◌, true, false, List, [], ◌∷◌, ◌++◌, Option, Some, None, length, slice_get, if◌then◌else◌}
 use Rattle.lang_meaning.specs.declared.program.GenericRow.{GenericRow}
 use Rattle.lang_meaning.specs.Classes.{class_of, fetch, is_condition}
 use Rattle.std.specs.Str.{bytes_eq}
 use Rattle.lang_meaning.specs.Lookup.{text, passed}
 use Rattle.lang_meaning.specs.Objects.{Chain, Called, built_in_classes}
 use Rattle.lang_meaning.specs.Primitives.{is_function}
-use Rattle.lang_meaning.specs.State.{State, DynamicContext, Landing}
+use Rattle.lang_meaning.specs.State.{DynamicContext, Landing}
 use Rattle.lang_meaning.specs.Values.{Value, nil}
 use Rattle.flat_language.specs.FlatMeaning.{mean_apply, mean_signal, mean_next}
 use Rattle.flat_language.specs.FlatNodes.{tables}
-use Rattle.flat_language.specs.FlatSignals.{FlatContext, signal, signal_under, signal_domain_error, apply_value, apply_generic_row, apply_chain, run_chain, transfer, throw_to, continue_with, descend, make_list, with_record}
-use Rattle.flat_language.specs.FlatState.{FlatState, FlatEvaluated, gives, leaves, under}
-use Rattle.mid_code.specs.Arena.{Arena, word_at}
-use Rattle.mid_code.specs.Meaning.{Context}
+use Rattle.flat_language.specs.FlatSignals.{FlatContext, signal, signal_under, signal_domain_error, apply_value, apply_generic_row, apply_chain, transfer, throw_to, continue_with, descend, make_list, with_record}
+use Rattle.flat_language.specs.FlatState.{FlatState, FlatEvaluated, gives, leaves}
 use Rattle.mid_code.specs.State.{returns, MidState, MidOutcome}
 use Rattle.mid_arena.specs.FixedWords.{pending_address}
-use Rattle.mid_arena.specs.Places.{word_of, WordsOf}
-use Rattle.mid_arena.specs.Standing.{ValueAt, ValuesAt}
+use Rattle.mid_arena.specs.Places.{word_of}
+use Rattle.mid_arena.specs.Standing.{ValueAt}
 use Rattle.back_lowering.specs.ControlWords.{landing_address}
 use Rattle.back_lowering.specs.Placement.{dynamic_address}
 use Rattle.back_lowering.specs.Routines.{transfer_routine, leave_routine, throw_routine, continue_routine, raise_routine, signal_routine, pending_routine, failing_routine, failing_with_routine, domain_routine, function_routine, apply_routine, generic_routine, chain_routine, next_routine, level_routine, list_routine, method_routine, binding_routine, is_function_routine, class_routine}
@@ -27,9 +25,9 @@ use Rattle.back_relation.specs.Chains.{ChainAt, ChainTakes, GenericAt}
 use Rattle.back_relation.specs.Placed.{HasDynamic}
 use Rattle.back_relation.specs.Worlds.{World, on_stack, LandsIn, Standing, record_of_exit}
 use Rattle.back_relation.specs.StackWords.{HasWordAt}
-use Rattle.back_relation.specs.Around.{AroundStands, CallBegins, SiteStored}
+use Rattle.back_relation.specs.Around.{CallBegins, SiteStored}
 use Rattle.back_relation.specs.Activation.{MethodHeld, MethodThere}
-use Rattle.back_relation.specs.Ends.{WorldKept, Around, LandingIs, Ends, CallEnds, LeftCall}
+use Rattle.back_relation.specs.Ends.{WorldKept, Around, LandingIs, Ends, CallEnds}
 use Rattle.back_relation.specs.Forms.{context_at, code_at, below_at}
 use Rattle.back_relation.specs.Procedures.{called, as_registers, ArgumentsLent}
 
@@ -123,7 +121,7 @@ module _ (setting : Setting) where
     -- a value to values that were lent
     abbrev pub FunctionDoes : Type 0
     FunctionDoes =
-        (f : Value) (vs : List Value) (word address : ℕ) → WordIs w word f → ArgumentsLent w y.arena address vs
+        (f : Value) (vs : List Value) (word address : ℕ) → WordIs w word f → ArgumentsLent setting w y.arena address vs
         → Does (argument_credit (length vs)) (function_routine setting.at) (word ∷ length vs ∷ address ∷ [])
         (apply_value context (signal context) f vs around z)
 
@@ -135,7 +133,7 @@ module _ (setting : Setting) where
 
     abbrev pub GenericDoes : Type 0
     GenericDoes =
-        (g : GenericRow) (vs : List Value) (generic address : ℕ) → GenericAt setting generic g → ArgumentsLent w y.arena address vs
+        (g : GenericRow) (vs : List Value) (generic address : ℕ) → GenericAt setting generic g → ArgumentsLent setting w y.arena address vs
         → Does (argument_credit (length vs)) (generic_routine setting.at) (generic ∷ length vs ∷ address ∷ [])
         (apply_generic_row context (signal context) (Some g) vs around z)
 
@@ -143,7 +141,7 @@ module _ (setting : Setting) where
     abbrev pub ChainDoes : Type 0
     ChainDoes =
         (g : GenericRow) (c : Chain) (vs : List Value) (chain address : ℕ) → ChainAt setting chain c → ChainTakes setting (length vs) c
-        → ArgumentsLent w y.arena address vs
+        → ArgumentsLent setting w y.arena address vs
         → Does (argument_credit (length vs)) (chain_routine setting.at) (chain ∷ length vs ∷ address ∷ [])
         (apply_chain context (signal context) g (Some c) vs around z)
 
@@ -152,7 +150,7 @@ module _ (setting : Setting) where
     NextDoes =
         (called_as : Option Called) (chain count address : ℕ)
         → MethodHeld setting w y.arena false (as_registers (chain ∷ count ∷ address ∷ [])) (Some 0) called_as
-        → MethodThere w y.arena (as_registers (chain ∷ count ∷ address ∷ [])) (Some 0) called_as
+        → MethodThere setting w y.arena (as_registers (chain ∷ count ∷ address ∷ [])) (Some 0) called_as
         → Does (argument_credit count) (next_routine setting.at) (chain ∷ count ∷ address ∷ []) (mean_next context called_as around z)
 
     abbrev pub LevelDoes : Type 0
@@ -163,7 +161,7 @@ module _ (setting : Setting) where
     -- a list of values whose words stand at an address
     abbrev pub ListDoes : Type 0
     ListDoes =
-        (vs : List Value) (address : ℕ) → ArgumentsLent w y.arena address vs
+        (vs : List Value) (address : ℕ) → ArgumentsLent setting w y.arena address vs
         → Does (argument_credit (length vs)) (list_routine setting.at) (address ∷ length vs ∷ [])
         (make_list setting.limit vs z (λ v after. gives v after))
 
@@ -182,7 +180,7 @@ module _ (setting : Setting) where
     abbrev pub MethodDoes : Type 0
     MethodDoes =
         (c : Called) (chain address : ℕ) → ChainAt setting chain c.rest → ChainTakes setting (length c.arguments) c.rest
-        → ArgumentsLent w y.arena address c.arguments → RoutineBegins
+        → ArgumentsLent setting w y.arena address c.arguments → RoutineBegins
         → Ends setting
         (MethodKept c (argument_credit (length c.arguments)) (with_record setting.limit (Some c) true z (λ after. gives nil after))
         (called (code_at setting k turns) (method_routine setting.at) (chain ∷ length c.arguments ∷ address ∷ []) y))

@@ -1,9 +1,9 @@
 -- What words of the stack say: control records, handlers and dynamic bindings; and which of them stay.
 use Rattle.std.specs.Prelude.{◌≡◌, ⊤, ℕ, ◌+◌, ◌*◌, ◌<◌, ◌≤◌, List, [], ◌∷◌, Some, length, slice_get}
 use Rattle.lang_meaning.specs.Values.{Value}
-use Rattle.lang_meaning.specs.State.{Exit, ExitKind, block_exit, tagbody_exit, catch_exit, signal_exit, end_exit}
+use Rattle.lang_meaning.specs.State.{ExitKind, block_exit, tagbody_exit, catch_exit, signal_exit, end_exit}
 use Rattle.lang_meaning.specs.Lookup.{text}
-use Rattle.mid_code.specs.Arena.{Arena, Block, stack_from, blocks_from, word_at}
+use Rattle.mid_code.specs.Arena.{Block, stack_from, blocks_from, word_at}
 use Rattle.mid_code.specs.State.{MidState}
 use Rattle.mid_arena.specs.Standing.{ValueAt}
 use Rattle.back_lowering.specs.ControlWords.{record_serial, record_kind, record_outer, record_link, record_tag, record_mark, exit_kind, catch_kind, cleanup_kind, signal_kind, end_kind}

@@ -10,7 +10,7 @@ use Rattle.lang_meaning.specs.InitialHeap.{class_value, function_value, literal_
 use Rattle.lang_meaning.specs.Literals.{function_row}
 use Rattle.lang_meaning.specs.Lookup.{text, under_text, value_at}
 use Rattle.lang_meaning.specs.Meaning.{place_of_site}
-use Rattle.lang_meaning.specs.Objects.{Called, Object, function, generic_function}
+use Rattle.lang_meaning.specs.Objects.{Called, function, generic_function}
 use Rattle.lang_meaning.specs.State.{State, Limit, words, unlimited, no_place}
 use Rattle.lang_meaning.specs.Values.{symbol, named}
 use Rattle.flat_language.specs.declared.place.CapturedKind.{CapturedKind}

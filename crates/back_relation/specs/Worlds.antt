@@ -1,9 +1,9 @@
 -- Ghosts, which no word holds: what words of the arena stand for, and which control records stand.
 use Rattle.std.specs.Prelude.{◌≡◌, ◌⊎◌, ⊤, ℕ, ◌+◌, ◌*◌, ◌<◌, ◌≤◌, ◌==◌, ◌||◌, Bool, true, false, List, [], ◌∷◌, Option, Some, None, slice_get, if◌then◌else◌}
 use Rattle.lang_meaning.specs.declared.scope.ExitForm.{ExitForm}
-use Rattle.lang_meaning.specs.declared.scope.ExitForm.TheVariants.{Block, Tagbody}
+use Rattle.lang_meaning.specs.declared.scope.ExitForm.TheVariants.{Tagbody}
 use Rattle.lang_meaning.specs.Objects.{Called}
-use Rattle.lang_meaning.specs.State.{Exit, ExitKind, end_exit, Landing, at_segment, at_site}
+use Rattle.lang_meaning.specs.State.{Exit, end_exit, Landing, at_segment}
 use Rattle.mid_arena.specs.Places.{Spot, Places, Owner, spot_of}
 use Rattle.back_lowering.specs.ControlWords.{record_words}
 
