@@ -1,0 +1,4 @@
+// How what is shown of parts of code is put together.
+#![tactic(auto)]
+
+pub mod laws;

@@ -1,0 +1,15 @@
+pub mod Setting
+pub mod Chains
+pub mod Placed
+pub mod Worlds
+pub mod StackWords
+pub mod Things
+pub mod Around
+pub mod Activation
+pub mod Ends
+pub mod Forms
+pub mod Room
+pub mod Procedures
+pub mod RoutineClaims
+pub mod Mains
+pub mod Program
