@@ -1,0 +1,3 @@
+pub mod QuickWays
+pub mod Registers
+pub mod Asked
