@@ -1,5 +1,6 @@
 -- Which arguments are asked, and what is known of them.
-use Rattle.std.proofs.Common.{◌≡◌, ℕ, zero, suc, ◌+◌, ◌<◌, ◌≤◌, List, [], ◌∷◌, ◌++◌, Option, Some, None, length, drop, slice_get, refl, ap, sym, ◌∙◌, absurd, arith}
+use Rattle.std.proofs.Common.{◌≡◌, ℕ, zero, suc, ◌+◌, ◌<◌, ◌≤◌, List, [], ◌∷◌, ◌++◌, Option, Some, None, length, drop, slice_get, refl, ap, sym, ◌∙◌, absurd, append_assoc, add-one, arith}
+use Rattle.std.proofs.lemmas.List.{append-nil}
 use Rattle.lang_meaning.specs.declared.program.LiteralRow.{LiteralRow}
 use Rattle.flat_language.specs.FlatForm.{FlatForm, FlatForms, no_form, form_and}
 use Rattle.flat_language.specs.model.View.{forms}
@@ -46,3 +47,53 @@ second_wanting at literals (f ∷ g ∷ fs) h = absurd (omega arith)
 pub behind_is : (fs : List FlatForm) → behind_first (forms fs) ≡ forms (drop 1 fs)
 behind_is [] = refl
 behind_is (f ∷ fs) = refl
+
+-- ---- from one argument to the next
+
+pub there : {X : Type 0} (xs : List X) (i : ℕ) (x : X) → slice_get xs i ≡ Some x → drop i xs ≡ x ∷ drop (suc i) xs
+there [] i x e = cc
+there (y ∷ ys) zero x e = let s : y ≡ x = cc in ap (λ z. z ∷ ys) s
+there (y ∷ ys) (suc i) x e = there ys i x e
+
+pub past : {X : Type 0} (xs : List X) (i : ℕ) → length xs ≤ i → drop i xs ≡ []
+past [] zero h = refl
+past [] (suc i) h = refl
+past (y ∷ ys) zero h = absurd (omega arith)
+past (y ∷ ys) (suc i) h = past ys i (omega arith)
+
+module _ (at : Placement) (literals : List LiteralRow) where
+  -- those that are asked so far, and those that may be asked yet
+  pub asked_more : (all made : List ℕ) (fs : List FlatForm) (d i : ℕ) (f : FlatForm)
+      → slice_get fs i ≡ Some f
+      → made ++ asked_integers at literals (d + i) (forms (drop i fs)) ≡ all
+      → known_integer at literals f ≡ None
+      → (made ++ (d + i) ∷ []) ++ asked_integers at literals (d + (i + 1)) (forms (drop (i + 1) fs)) ≡ all
+  asked_more all made fs d i f there_is so e =
+      let r : d + (i + 1) ≡ (d + i) + 1 = omega arith in
+      append_assoc made ((d + i) ∷ []) (asked_integers at literals (d + (i + 1)) (forms (drop (i + 1) fs)))
+      ∙ ap (λ (k : ℕ). made ++ (d + i) ∷ asked_integers at literals k (forms (drop (i + 1) fs))) r
+      ∙ ap (λ (k : ℕ). made ++ (d + i) ∷ asked_integers at literals ((d + i) + 1) (forms (drop k fs))) (add-one i)
+      ∙ sym (ap (λ (gs : List ℕ). made ++ gs) (asked_unknown at literals (d + i) f (forms (drop (suc i) fs)) e))
+      ∙ sym (ap (λ (gs : List FlatForm). made ++ asked_integers at literals (d + i) (forms gs)) (there fs i f there_is))
+      ∙ so
+
+  pub asked_passed : (all made : List ℕ) (fs : List FlatForm) (d i w : ℕ) (f : FlatForm)
+      → slice_get fs i ≡ Some f
+      → made ++ asked_integers at literals (d + i) (forms (drop i fs)) ≡ all
+      → known_integer at literals f ≡ Some w
+      → made ++ asked_integers at literals (d + (i + 1)) (forms (drop (i + 1) fs)) ≡ all
+  asked_passed all made fs d i w f there_is so e =
+      let r : d + (i + 1) ≡ (d + i) + 1 = omega arith in
+      ap (λ (k : ℕ). made ++ asked_integers at literals k (forms (drop (i + 1) fs))) r
+      ∙ ap (λ (k : ℕ). made ++ asked_integers at literals ((d + i) + 1) (forms (drop k fs))) (add-one i)
+      ∙ sym (ap (λ (gs : List ℕ). made ++ gs) (asked_known at literals (d + i) w f (forms (drop (suc i) fs)) e))
+      ∙ sym (ap (λ (gs : List FlatForm). made ++ asked_integers at literals (d + i) (forms gs)) (there fs i f there_is))
+      ∙ so
+
+  pub asked_done : (all made : List ℕ) (fs : List FlatForm) (d i : ℕ) → length fs ≤ i
+      → made ++ asked_integers at literals (d + i) (forms (drop i fs)) ≡ all
+      → made ≡ all
+  asked_done all made fs d i h so =
+      sym (append-nil made)
+      ∙ sym (ap (λ (gs : List FlatForm). made ++ asked_integers at literals (d + i) (forms gs)) (past fs i h))
+      ∙ so

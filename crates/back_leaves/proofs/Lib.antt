@@ -1,3 +1,4 @@
 pub mod QuickWays
-pub mod Registers
+pub mod Stored
 pub mod Asked
+pub mod Boxing

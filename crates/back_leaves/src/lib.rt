@@ -2,6 +2,7 @@
 #![tactic(auto)]
 
 pub mod applying;
+pub mod boxes;
 pub mod known;
 pub mod leaves;
 pub mod numbers;

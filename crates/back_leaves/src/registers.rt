@@ -14,7 +14,7 @@ use mid_code::{Arithmetic, Code, Register, RegisterList};
 use std::alloc::Global;
 
 /// So many registers from d on.
-#[tactic(auto, using(crate::proofs::Registers::registers_next))]
+#[tactic(auto, using(crate::proofs::Stored::registers_next))]
 pub fn registers(alloc: Global, d: Register, count: usize) -> Result<RegisterList, NoMemory>
     requires { d + count < 2 ^ 62 }
     ensures { IfOk result (λ list. list ≡ registers_from d count) }

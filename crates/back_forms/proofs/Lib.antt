@@ -1,0 +1,4 @@
+pub mod Homes
+pub mod Walks
+pub mod Equations
+pub mod Cases
