@@ -9,7 +9,7 @@ use Rattle.back_lowering.specs.declared.placement.Placement.{Placement}
 use Rattle.back_lowering.specs.declared.scope.Scope.{Scope}
 use Rattle.back_lowering.specs.Steps.{Steps, store_far}
 use Rattle.back_lowering.specs.Codes.{bindings_laid, part_into, parts_stored}
-use Rattle.back_leaves.proofs.Asked.{there}
+use Rattle.back_lowering.proofs.Rests.{there}
 use Rattle.back_calls.specs.Cells.{no_more, cell_laid}
 
 module _ (names : List (List ℕ)) (at : Placement) (program : FlatProgram) where

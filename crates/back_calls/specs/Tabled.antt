@@ -9,7 +9,8 @@ use Rattle.back_calls.specs.declared.given.Given.{Given}
 
 pub record IsTabled (given : Given) : Type 0 where
   -- which procedures are methods
-  pub methods : (p : ℕ) → slice_index_or given.tables.now.methods p false ≡ is_method given.program.now p
+  pub methods : (p : ℕ) (q : FlatProcedure) → slice_get given.program.now.procedures p ≡ Some q
+      → slice_index_or given.tables.now.methods p false ≡ is_method given.program.now p
   -- whose body looks at the site
   pub asking : (p : ℕ) (q : FlatProcedure) → slice_get given.program.now.procedures p ≡ Some q
       → slice_index_or given.tables.now.asking p false ≡ asks_site q.body

@@ -208,12 +208,7 @@ fn handler_inside(alloc: Global, d: Register, body: Code) -> Result<Code, NoMemo
 }
 
 // The handler is no function.
-fn no_handler(
-    alloc: Global,
-    at: &Placement,
-    site: SitePlace,
-    d: Register,
-) -> Result<Code, NoMemory>
+fn no_handler(alloc: Global, at: &Placement, site: SitePlace, d: Register) -> Result<Code, NoMemory>
     requires { d < 2 ^ 61 }
     ensures { IfOk result (λ code. code ≡ leaves.domain_error at.now site (d + 1) d function_class ++ (steps.move d (d + 1) ∷ [])) }
 {

@@ -73,11 +73,7 @@ fn site_for(
 }
 
 // A method that is called by its name has no chain: a register three times behind its variables.
-fn without_chain(
-    variables: &mut RegisterList,
-    method: bool,
-    t: Register,
-) -> Result<(), NoMemory>
+fn without_chain(variables: &mut RegisterList, method: bool, t: Register) -> Result<(), NoMemory>
     ensures { OnOk result (variables.new ≡ variables.old ++ calls.no_method method t) }
 {
     if method {
@@ -92,8 +88,7 @@ fn without_chain(
 fn body_of_procedure(at: &Placement, number: usize) -> Result<usize, NoMemory>
     ensures { IfOk result (λ n. n ≡ body_of_procedure at.now number) }
 {
-    if at.procedures >= MOST_REGISTERS || at.lambdas >= MOST_REGISTERS || number >= MOST_REGISTERS
-    {
+    if at.procedures >= MOST_REGISTERS || at.lambdas >= MOST_REGISTERS || number >= MOST_REGISTERS {
         return Err(NoMemory);
     }
     Ok(at.procedures + at.lambdas + number)
@@ -141,8 +136,8 @@ fn wrong_number(
     failing(code, alloc, given.at, site, d, PROGRAM_ERROR_CLASS)
 }
 
-/// Whether a procedure or a generic function takes so many arguments.
-pub fn takes(required: usize, more: bool, count: usize) -> bool
+// Whether a generic function takes so many arguments.
+fn takes(required: usize, more: bool, count: usize) -> bool
     ensures { result ≡ takes required more count }
 {
     if more {
@@ -173,7 +168,16 @@ fn call_with_rest(
     let mut variables = registers(alloc, d, required)?;
     variables.push(d + count)?;
     list_of(code, count - required, d + required, d + count)?;
-    enter_body(code, given, number, procedure, variables, d, d + count + 1, site)
+    enter_body(
+        code,
+        given,
+        number,
+        procedure,
+        variables,
+        d,
+        d + count + 1,
+        site,
+    )
 }
 
 // A procedure that is there is called.
@@ -193,14 +197,17 @@ fn call_found(
     ensures { OnOk result (code.new ≡ code.old ++ calls.call_procedure given.now.at.now given.now.program.now number (Some procedure.now) count d site) }
 {
     let required = procedure.required.len();
-    if !takes(required, procedure.rest.is_some(), count) {
-        return wrong_number(code, alloc, given, d, site);
-    }
     if procedure.rest.is_some() {
-        call_with_rest(code, alloc, given, number, procedure, count, d, site)
-    } else {
+        if required <= count {
+            call_with_rest(code, alloc, given, number, procedure, count, d, site)
+        } else {
+            wrong_number(code, alloc, given, d, site)
+        }
+    } else if required == count {
         let variables = registers(alloc, d, count)?;
         enter_body(code, given, number, procedure, variables, d, d + count, site)
+    } else {
+        wrong_number(code, alloc, given, d, site)
     }
 }
 
@@ -307,7 +314,15 @@ pub fn call_name(
 {
     let Some(function) = row else {
         let symbol = symbol_word(given.at, name);
-        return failing_with(code, alloc, given.at, site, d, UNDEFINED_FUNCTION_CLASS, symbol);
+        return failing_with(
+            code,
+            alloc,
+            given.at,
+            site,
+            d,
+            UNDEFINED_FUNCTION_CLASS,
+            symbol,
+        );
     };
     match function.callee {
         Callee::Procedure(number) => call_procedure(code, alloc, given, number, count, d, site),

@@ -36,12 +36,7 @@ fn kept_method(alloc: Global, t: Register) -> Result<Code, NoMemory>
 }
 
 // The chain, the number of arguments and the arguments of the method itself, in registers from t on.
-fn own_method(
-    code: &mut Code,
-    given: &Given,
-    scope: &Scope,
-    t: Register,
-) -> Result<(), NoMemory>
+fn own_method(code: &mut Code, given: &Given, scope: &Scope, t: Register) -> Result<(), NoMemory>
     requires { t < 2 ^ 62 }
     ensures { OnOk result (code.new ≡ code.old ++ codes.method_into given.now.names.now given.now.at.now given.now.program.now scope.now t method_place.Own) }
 {

@@ -134,12 +134,7 @@ fn body_left(code: &mut Code, d: Register, body: Code) -> Result<(), NoMemory>
 }
 
 /// The body of a block, whose result is the block's; so is the word of a transfer.
-pub fn block_code(
-    code: &mut Code,
-    alloc: Global,
-    d: Register,
-    body: Code,
-) -> Result<(), NoMemory>
+pub fn block_code(code: &mut Code, alloc: Global, d: Register, body: Code) -> Result<(), NoMemory>
     requires { d < 2 ^ 61 }
     ensures { OnOk result (code.new ≡ code.old ++ records.block_code d body) }
 {
@@ -151,12 +146,7 @@ pub fn block_code(
 }
 
 /// The same for a catch, whose tag is in d.
-pub fn catch_code(
-    code: &mut Code,
-    alloc: Global,
-    d: Register,
-    body: Code,
-) -> Result<(), NoMemory>
+pub fn catch_code(code: &mut Code, alloc: Global, d: Register, body: Code) -> Result<(), NoMemory>
     requires { d < 2 ^ 61 }
     ensures { OnOk result (code.new ≡ code.old ++ records.catch_code d body) }
 {

@@ -109,7 +109,15 @@ fn unbound(
 {
     let symbol = symbol_word(at, name);
     let mut code = Code::new(alloc);
-    failing_with(&mut code, alloc, at, site, d, UNBOUND_VARIABLE_CLASS, symbol)?;
+    failing_with(
+        &mut code,
+        alloc,
+        at,
+        site,
+        d,
+        UNBOUND_VARIABLE_CLASS,
+        symbol,
+    )?;
     Ok(code)
 }
 

@@ -8,7 +8,7 @@ use Rattle.mid_code.specs.model.View.{codes_of}
 use Rattle.back_lowering.specs.declared.scope.Scope.{Scope}
 use Rattle.back_lowering.specs.Codes.{lower}
 use Rattle.back_calls.specs.declared.given.Given.{Given}
-use Rattle.back_leaves.proofs.Asked.{there, past}
+use Rattle.back_lowering.proofs.Rests.{there, past}
 use Rattle.back_forms.specs.Lowers.{low, low_segments}
 
 -- these codes in front of others

@@ -85,7 +85,7 @@ module _ (g : Given) (s : Scope) (d : ℕ) where
   unfolding lower
   call_is n fs =
       ap (λ (k : ℕ). low_arguments g s d (forms fs)
-        ++ call_name g.at.now g.program.now n (function_row g.names.now g.program.now.functions (text g.names.now n)) k d s.site)
+      ++ call_name g.at.now g.program.now n (function_row g.names.now g.program.now.functions (text g.names.now n)) k d s.site)
       (counted fs)
 
   pub call_value_is : (fs : FlatForms) → (low g s d (call_value fs)).value ≡ low_call_value g s d fs

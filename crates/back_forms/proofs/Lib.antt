@@ -2,3 +2,5 @@ pub mod Homes
 pub mod Walks
 pub mod Equations
 pub mod Cases
+pub mod Joining
+pub mod Arms

@@ -2,7 +2,7 @@
 use Rattle.std.proofs.Common.{◌≡◌, ℕ, suc, ◌+◌, ◌≤◌, List, [], ◌∷◌, ◌++◌, Some, length, drop, slice_get, refl, ap, sym, ◌∙◌, append_assoc, add-one, arith}
 use Rattle.std.proofs.lemmas.List.{append-nil}
 use Rattle.back_lowering.specs.Steps.{Steps}
-use Rattle.back_leaves.proofs.Asked.{there, past}
+use Rattle.back_lowering.proofs.Rests.{there, past}
 
 -- where the code of a list from a register on is that of its first item and that of the rest, from the next register on
 module _ {X : Type 0} (rest : ℕ → List X → Steps) (one : ℕ → X → Steps) (next : (d : ℕ) (x : X) (xs : List X) → rest d (x ∷ xs) ≡ one d x ++ rest (d + 1) xs) where

@@ -1,6 +1,6 @@
 -- Of what parts a flat form is, and the code behind its parts.
 use Rattle.std.specs.Prelude.{◌≡◌, ℕ, ◌+◌, List, ◌∷◌, [], ◌++◌, Option, Some, None, slice_get}
-use Rattle.flat_language.specs.FlatForm.{FlatForm, literal, local, set_local, global, set_global, def_global, clauses, sequence, let_form, make_function, call, call_value, apply, prim, while_form, block, return_from, tagbody, go, catch_form, throw, unwind, dynamic_let, dynamic, set_dynamic, def_dynamic, with_handler, signal_form, continue_form, next_method, has_next, sited}
+use Rattle.flat_language.specs.FlatForm.{FlatForm, form_size, forms_size, clauses_size, bindings_size, dynamics_size, literal, local, set_local, global, set_global, def_global, clauses, sequence, let_form, make_function, call, call_value, apply, prim, while_form, block, return_from, tagbody, go, catch_form, throw, unwind, dynamic_let, dynamic, set_dynamic, def_dynamic, with_handler, signal_form, continue_form, next_method, has_next, sited}
 use Rattle.flat_language.specs.model.View.{forms, clauses_of, bindings_of, dynamics_of}
 use Rattle.back_lowering.specs.declared.scope.Scope.{Scope}
 use Rattle.back_lowering.specs.Steps.{Steps, constant}
@@ -47,25 +47,26 @@ routine_of two.Throw = 2
 routine_of two.Signal = 5
 routine_of two.Continue = 3
 
+-- of that shape, and as large as its parts together, and one more
 abbrev pub IsShape : FlatForm → Shape → Type 0
 IsShape f (shape.Alone l) = f ≡ leaf_form l
 IsShape f (shape.Function number parts) = f ≡ make_function number parts.now
-IsShape f (shape.OverForm kind inner) = f ≡ over_form kind inner.now
-IsShape f (shape.OverTwo kind first second) = f ≡ over_two kind first.now second.now
-IsShape f (shape.Clauses list) = f ≡ clauses (clauses_of list.now)
-IsShape f (shape.Sequence list) = f ≡ sequence (forms list.now)
-IsShape f (shape.Let list body) = f ≡ let_form (bindings_of list.now) body.now
-IsShape f (shape.Call name list) = f ≡ call name.0 (forms list.now)
-IsShape f (shape.CallValue list) = f ≡ call_value (forms list.now)
-IsShape f (shape.Prim which list) = f ≡ prim which (forms list.now)
-IsShape f (shape.While test body) = f ≡ while_form test.now body.now
-IsShape f (shape.Block body) = f ≡ block body.now
-IsShape f (shape.Tagbody list) = f ≡ tagbody (forms list.now)
-IsShape f (shape.Catch tag body) = f ≡ catch_form tag.now body.now
-IsShape f (shape.Unwind form cleanup) = f ≡ unwind form.now cleanup.now
-IsShape f (shape.DynamicLet list body) = f ≡ dynamic_let (dynamics_of list.now) body.now
-IsShape f (shape.WithHandler handler body) = f ≡ with_handler handler.now body.now
-IsShape f (shape.Sited site inner) = f ≡ sited site inner.now
+IsShape f (shape.OverForm kind inner) = (form_size f ≡ form_size inner.now + 1) × (f ≡ over_form kind inner.now)
+IsShape f (shape.OverTwo kind first second) = (form_size f ≡ form_size first.now + form_size second.now + 1) × (f ≡ over_two kind first.now second.now)
+IsShape f (shape.Clauses list) = (form_size f ≡ clauses_size (clauses_of list.now) + 1) × (f ≡ clauses (clauses_of list.now))
+IsShape f (shape.Sequence list) = (form_size f ≡ forms_size (forms list.now) + 1) × (f ≡ sequence (forms list.now))
+IsShape f (shape.Let list body) = (form_size f ≡ bindings_size (bindings_of list.now) + form_size body.now + 1) × (f ≡ let_form (bindings_of list.now) body.now)
+IsShape f (shape.Call name list) = (form_size f ≡ forms_size (forms list.now) + 1) × (f ≡ call name.0 (forms list.now))
+IsShape f (shape.CallValue list) = (form_size f ≡ forms_size (forms list.now) + 1) × (f ≡ call_value (forms list.now))
+IsShape f (shape.Prim which list) = (form_size f ≡ forms_size (forms list.now) + 1) × (f ≡ prim which (forms list.now))
+IsShape f (shape.While test body) = (form_size f ≡ form_size test.now + form_size body.now + 1) × (f ≡ while_form test.now body.now)
+IsShape f (shape.Block body) = (form_size f ≡ form_size body.now + 1) × (f ≡ block body.now)
+IsShape f (shape.Tagbody list) = (form_size f ≡ forms_size (forms list.now) + 1) × (f ≡ tagbody (forms list.now))
+IsShape f (shape.Catch tag body) = (form_size f ≡ form_size tag.now + form_size body.now + 1) × (f ≡ catch_form tag.now body.now)
+IsShape f (shape.Unwind form cleanup) = (form_size f ≡ form_size form.now + form_size cleanup.now + 1) × (f ≡ unwind form.now cleanup.now)
+IsShape f (shape.DynamicLet list body) = (form_size f ≡ dynamics_size (dynamics_of list.now) + form_size body.now + 1) × (f ≡ dynamic_let (dynamics_of list.now) body.now)
+IsShape f (shape.WithHandler handler body) = (form_size f ≡ form_size handler.now + form_size body.now + 1) × (f ≡ with_handler handler.now body.now)
+IsShape f (shape.Sited site inner) = (form_size f ≡ form_size inner.now + 1) × (f ≡ sited site inner.now)
 
 -- the code of a form with no forms inside
 abbrev pub leaf_code : Given → Scope → (d : ℕ) → Leaf → Steps

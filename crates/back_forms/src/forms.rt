@@ -62,7 +62,7 @@ pub fn value(
     ensures scope { OnOk result (scope.new ≡ scope.old) }
 {
     room(d, 0)?;
-    match shape_of(&form.form) {
+    match shape_of(form) {
         Shape::Alone(leaf) => leaf_code(code, alloc, given, scope, d, leaf),
         Shape::Function(number, parts) => {
             function_code(code, alloc, given, scope, d, number, parts)
@@ -76,9 +76,7 @@ pub fn value(
             value(code, alloc, given, scope, d + 1, second)?;
             with_two(code, alloc, given, scope.site, d, routine_of(kind))
         }
-        Shape::Clauses(list) => {
-            code.append_list(clauses(alloc, given, scope, d, list)?)
-        }
+        Shape::Clauses(list) => { code.append_list(clauses(alloc, given, scope, d, list)?) }
         Shape::Sequence(list) => sequence(code, alloc, given, scope, d, list),
         Shape::Let(list, body) => let_code(code, alloc, given, scope, d, list, body),
         Shape::Call(name, list) => {
@@ -167,7 +165,7 @@ fn judged(
     ensures test { IfOk result (λ test. test ≡ (low given.now scope.old d form.now).judged.test) }
     ensures scope { OnOk result (scope.new ≡ scope.old) }
 {
-    match judging_of(&form.form) {
+    match judging_of(form) {
         Judging::Primitive(which, list) => {
             arguments(code, alloc, given, scope, d, list)?;
             room(d, list.len())?;

@@ -1,6 +1,5 @@
 // What is judged where a form branches on another one.
 
-ghost use Rattle.flat_language.specs.model.View.{view_form};
 ghost use Rattle.back_forms.specs.Judgings.{IsJudging};
 
 use flat_language::{FlatCore, FlatCoreForm, FlatCoreList};
@@ -15,10 +14,10 @@ pub(crate) enum Judging<'a> {
 }
 
 // What is judged of a form.
-pub(crate) fn judging_of<'a>(form: &'a FlatCoreForm) -> Judging<'a>
-    ensures { IsJudging (view_form form.now) result }
+pub(crate) fn judging_of<'a>(form: &'a FlatCore) -> Judging<'a>
+    ensures { IsJudging form.now result }
 {
-    match form {
+    match &form.form {
         FlatCoreForm::Prim(which, list) => Judging::Primitive(*which, list),
         FlatCoreForm::Sited(site, inner) => Judging::Sited(*site, inner),
         _ => Judging::Value,

@@ -13,7 +13,12 @@ use std::alloc::Global;
 use std::mem;
 
 // So many slots in registers from d on.
-pub(crate) fn bind(scope: &mut Scope, alloc: Global, d: Register, count: usize) -> Result<(), NoMemory>
+pub(crate) fn bind(
+    scope: &mut Scope,
+    alloc: Global,
+    d: Register,
+    count: usize,
+) -> Result<(), NoMemory>
     requires { d + count < 2 ^ 62 }
     ensures { OnOk result (scope.new ≡ with_slots (registers_from d count) scope.old) }
 {

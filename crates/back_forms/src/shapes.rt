@@ -1,7 +1,5 @@
 // Of what parts a flat form is: the kinds with the same parts are one shape, with what each holds beside them.
 
-ghost use Rattle.std.specs.Prelude.{◌≡◌};
-ghost use Rattle.flat_language.specs.model.View.{view_form};
 ghost use Rattle.back_forms.specs.Shapes.{IsShape};
 
 use base::Name;
@@ -67,10 +65,10 @@ pub(crate) enum OverTwo {
 }
 
 // The shape of a form.
-pub(crate) fn shape_of<'a>(form: &'a FlatCoreForm) -> Shape<'a>
-    ensures { IsShape (view_form form.now) result }
+pub(crate) fn shape_of<'a>(form: &'a FlatCore) -> Shape<'a>
+    ensures { IsShape form.now result }
 {
-    match form {
+    match &form.form {
         FlatCoreForm::Literal(id) => Shape::Alone(Leaf::Literal(*id)),
         FlatCoreForm::Local(place) => Shape::Alone(Leaf::Local(*place)),
         FlatCoreForm::SetLocal(place, value) => Shape::OverForm(OverForm::SetLocal(*place), value),

@@ -4,6 +4,7 @@ use Rattle.std.proofs.lemmas.List.{append-nil}
 use Rattle.lang_meaning.specs.declared.program.LiteralRow.{LiteralRow}
 use Rattle.flat_language.specs.FlatForm.{FlatForm, FlatForms, no_form, form_and}
 use Rattle.flat_language.specs.model.View.{forms}
+use Rattle.back_lowering.proofs.Rests.{there, past}
 use Rattle.back_lowering.specs.declared.placement.Placement.{Placement}
 use Rattle.back_lowering.specs.Steps.{Steps}
 use Rattle.back_lowering.specs.Primitives.{where_tag, where_integers, known_integer, asked_integers, second_known, behind_first}
@@ -49,17 +50,6 @@ behind_is [] = refl
 behind_is (f ∷ fs) = refl
 
 -- ---- from one argument to the next
-
-pub there : {X : Type 0} (xs : List X) (i : ℕ) (x : X) → slice_get xs i ≡ Some x → drop i xs ≡ x ∷ drop (suc i) xs
-there [] i x e = cc
-there (y ∷ ys) zero x e = let s : y ≡ x = cc in ap (λ z. z ∷ ys) s
-there (y ∷ ys) (suc i) x e = there ys i x e
-
-pub past : {X : Type 0} (xs : List X) (i : ℕ) → length xs ≤ i → drop i xs ≡ []
-past [] zero h = refl
-past [] (suc i) h = refl
-past (y ∷ ys) zero h = absurd (omega arith)
-past (y ∷ ys) (suc i) h = past ys i (omega arith)
 
 module _ (at : Placement) (literals : List LiteralRow) where
   -- those that are asked so far, and those that may be asked yet

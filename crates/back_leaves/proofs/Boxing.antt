@@ -4,7 +4,7 @@ use Rattle.flat_language.specs.declared.place.Home.{Home}
 use Rattle.flat_language.specs.declared.place.Home.TheVariants.{Slot, Boxed}
 use Rattle.back_lowering.specs.Steps.{Steps}
 use Rattle.back_lowering.specs.Leaves.{boxes_made}
-use Rattle.back_leaves.proofs.Asked.{there}
+use Rattle.back_lowering.proofs.Rests.{there}
 
 -- a variable, and those behind it
 pub boxed_next : (h : Home) (hs : List Home) (d t : ℕ) → boxes_made (h ∷ hs) d t ≡ boxes_made (h ∷ []) d t ++ boxes_made hs (d + 1) t

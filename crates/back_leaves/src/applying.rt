@@ -197,9 +197,7 @@ fn apply_quick(
             apply_part(code, alloc, at, which, count, d, site, part)
         }
         Quick::Element => apply_element(code, alloc, at, literals, which, list, d, site),
-        Quick::ByProcedure => {
-            code.append_list(by_procedure(alloc, at, which, count, d, site)?)
-        }
+        Quick::ByProcedure => { code.append_list(by_procedure(alloc, at, which, count, d, site)?) }
     }
 }
 
@@ -218,7 +216,17 @@ pub fn apply_primitive(
     requires { d + length list.now < 2 ^ 60 }
     ensures { OnOk result (code.new ≡ code.old ++ primitives.apply_primitive at.now literals.now which (forms list.now) (length list.now) d site) }
 {
-    apply_quick(code, alloc, at, literals, quick_of(which), which, list, d, site)
+    apply_quick(
+        code,
+        alloc,
+        at,
+        literals,
+        quick_of(which),
+        which,
+        list,
+        d,
+        site,
+    )
 }
 
 /// What makes ready that the value in d is judged, and the test.
@@ -326,16 +334,46 @@ fn judge_quick(
         Quick::HasTag(tag) => judge_tag(code, tag, d, t),
         Quick::Sum => judge_applied(code, alloc, at, literals, Quick::Sum, which, list, d, site),
         Quick::Difference => {
-            judge_applied(code, alloc, at, literals, Quick::Difference, which, list, d, site)
+            judge_applied(
+                code,
+                alloc,
+                at,
+                literals,
+                Quick::Difference,
+                which,
+                list,
+                d,
+                site,
+            )
         }
         Quick::Cons => judge_applied(code, alloc, at, literals, Quick::Cons, which, list, d, site),
         Quick::Car => judge_applied(code, alloc, at, literals, Quick::Car, which, list, d, site),
         Quick::Cdr => judge_applied(code, alloc, at, literals, Quick::Cdr, which, list, d, site),
         Quick::Element => {
-            judge_applied(code, alloc, at, literals, Quick::Element, which, list, d, site)
+            judge_applied(
+                code,
+                alloc,
+                at,
+                literals,
+                Quick::Element,
+                which,
+                list,
+                d,
+                site,
+            )
         }
         Quick::ByProcedure => {
-            judge_applied(code, alloc, at, literals, Quick::ByProcedure, which, list, d, site)
+            judge_applied(
+                code,
+                alloc,
+                at,
+                literals,
+                Quick::ByProcedure,
+                which,
+                list,
+                d,
+                site,
+            )
         }
     }
 }
@@ -376,5 +414,15 @@ pub fn judge_primitive(
     ensures ready { OnOk result (code.new ≡ code.old ++ (primitives.judge_primitive at.now literals.now which (forms list.now) (length list.now) d site).ready) }
     ensures test { IfOk result (λ test. test ≡ (primitives.judge_primitive at.now literals.now which (forms list.now) (length list.now) d site).test) }
 {
-    judge_quick(code, alloc, at, literals, quick_of(which), which, list, d, site)
+    judge_quick(
+        code,
+        alloc,
+        at,
+        literals,
+        quick_of(which),
+        which,
+        list,
+        d,
+        site,
+    )
 }

@@ -4,9 +4,7 @@ ghost use Rattle.std.specs.Prelude.{◌≡◌, ◌++◌, ◌+◌, ◌<◌, ◌^�
 ghost use Rattle.back_lowering.specs.Leaves as leaves;
 ghost use Rattle.back_lowering.specs.Placement.{routines_from};
 
-use crate::steps::{
-    call, load_far, move_word, one, store_to, two, word,
-};
+use crate::steps::{call, load_far, move_word, one, store_to, two, word};
 use crate::words::{
     CAPTURED, DOMAIN, FAILING, FAILING_WITH, MOST_REGISTERS, PRIMITIVES, SITE_ADDRESS,
 };

@@ -266,7 +266,13 @@ fn element_at(alloc: Global, d: Register, t: Register) -> Result<Code, NoMemory>
     found.push(constant(t, 0))?;
     let mut code = Code::new(alloc);
     code.push(load(t + 1, d, 2))?;
-    code.push(where_so(Comparison::LessUnsigned, d + 1, t + 1, found, Code::new(alloc)))?;
+    code.push(where_so(
+        Comparison::LessUnsigned,
+        d + 1,
+        t + 1,
+        found,
+        Code::new(alloc),
+    ))?;
     Ok(code)
 }
 

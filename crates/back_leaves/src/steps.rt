@@ -85,13 +85,7 @@ pub fn three(
 }
 
 /// One code or the other, as two registers compare.
-pub fn where_so(
-    how: Comparison,
-    a: Register,
-    b: Register,
-    first: Code,
-    second: Code,
-) -> CodeStep
+pub fn where_so(how: Comparison, a: Register, b: Register, first: Code, second: Code) -> CodeStep
     ensures { result ≡ steps.where_so how a b first second }
 {
     either(comparing(how, a, b), first, second)
@@ -136,12 +130,7 @@ pub fn setting(alloc: Global, to: Register, word: u32) -> Result<Code, NoMemory>
 }
 
 /// The word at an address; t is used.
-pub fn load_from(
-    code: &mut Code,
-    to: Register,
-    t: Register,
-    address: u32,
-) -> Result<(), NoMemory>
+pub fn load_from(code: &mut Code, to: Register, t: Register, address: u32) -> Result<(), NoMemory>
     ensures { OnOk result (code.new ≡ code.old ++ steps.load_from to t address) }
 {
     if address <= MOST_OFFSET {
@@ -154,12 +143,7 @@ pub fn load_from(
 }
 
 /// The word in a register is stored at an address; t is used.
-pub fn store_to(
-    code: &mut Code,
-    from: Register,
-    t: Register,
-    address: u32,
-) -> Result<(), NoMemory>
+pub fn store_to(code: &mut Code, from: Register, t: Register, address: u32) -> Result<(), NoMemory>
     ensures { OnOk result (code.new ≡ code.old ++ steps.store_to from t address) }
 {
     if address <= MOST_OFFSET {

@@ -33,6 +33,8 @@ pub const BINDINGS: i32 = 208;
 /// The site of the form that may signal a condition.
 pub const SITE_ADDRESS: u32 = 212;
 
+pub const SITE: i32 = 212;
+
 /// The record of the end of the program.
 pub const END: i32 = 216;
 
@@ -47,6 +49,8 @@ pub const RECORD_LINK: i32 = 12;
 
 pub const RECORD_TAG: i32 = 16;
 
+pub const RECORD_MARK: i32 = 20;
+
 pub const RECORD_WORDS: u32 = 6;
 
 /// What a record is for.
@@ -55,6 +59,10 @@ pub const EXIT_KIND: u32 = 0;
 pub const CATCH_KIND: u32 = 1;
 
 pub const CLEANUP_KIND: u32 = 2;
+
+pub const SIGNAL_KIND: u32 = 3;
+
+pub const END_KIND: u32 = 4;
 
 /// The words of a handler's cell, and of a binding's.
 pub const HANDLER_FUNCTION: i32 = 0;
@@ -76,6 +84,10 @@ pub const FUNCTION_CLASS: u32 = 6;
 
 pub const PROGRAM_ERROR_CLASS: u32 = 24;
 
+pub const LIST_CLASS: u32 = 8;
+
+pub const SERIOUS_CONDITION_CLASS: u32 = 18;
+
 pub const CONTROL_ERROR_CLASS: u32 = 22;
 
 pub const UNBOUND_VARIABLE_CLASS: u32 = 31;
@@ -90,6 +102,8 @@ pub const LEAVE: usize = 1;
 pub const THROW: usize = 2;
 
 pub const CONTINUE: usize = 3;
+
+pub const RAISE: usize = 4;
 
 pub const SIGNALLED: usize = 5;
 
@@ -107,6 +121,8 @@ pub const APPLY: usize = 11;
 
 pub const GENERIC: usize = 12;
 
+pub const CHAIN: usize = 13;
+
 pub const NEXT: usize = 14;
 
 pub const LEVEL: usize = 15;
@@ -114,3 +130,5 @@ pub const LEVEL: usize = 15;
 pub const BINDING: usize = 18;
 
 pub const IS_FUNCTION: usize = 19;
+
+pub const CLASS: usize = 20;

@@ -91,9 +91,9 @@ module _ (at : Placement) (program : FlatProgram) where
   call_generic g (Some row) count d site =
       if takes row.required row.rest count then
       with_words count d
-        (site_stored site (d + count + 1) (d + count + 2)
-        ++ (constant (d + count + 1) (at.generics + 4 * g) ∷ load (d + count + 1) (d + count + 1) 0 ∷ constant (d + count + 2) count
-        ∷ call d (generic_routine at) ((d + count + 1) ∷ (d + count + 2) ∷ (d + count) ∷ []) ∷ []))
+      (site_stored site (d + count + 1) (d + count + 2)
+      ++ (constant (d + count + 1) (at.generics + 4 * g) ∷ load (d + count + 1) (d + count + 1) 0 ∷ constant (d + count + 2) count
+      ∷ call d (generic_routine at) ((d + count + 1) ∷ (d + count + 2) ∷ (d + count) ∷ []) ∷ []))
       else failing at site d program_error_class
 
   abbrev pub call_callee : Callee → (count d : ℕ) → SitePlace → Steps

@@ -84,7 +84,7 @@ module _ (names : List (List ℕ)) (at : Placement) (program : FlatProgram) wher
       load_from (d + 1) (d + 1) (global_address at name)
       ++ (constant (d + 2) unbound_word
       ∷ if_equal (d + 1) (d + 2) (failing_with at site d unbound_variable_class (symbol_word at name))
-        (store_to d (d + 1) (global_address at name)) ∷ [])
+      (store_to d (d + 1) (global_address at name)) ∷ [])
 
   abbrev pub def_global_code : (d name : ℕ) → Steps
   def_global_code d name = store_to d (d + 1) (global_address at name) ++ (constant d (symbol_word at name) ∷ [])
@@ -146,7 +146,7 @@ module _ (names : List (List ℕ)) (at : Placement) (program : FlatProgram) wher
       captured_into s (t + 2) n
       ++ (constant t 0
       ∷ if_equal (t + 2) t (constant (t + 1) 0 ∷ [])
-        (load t (t + 2) 0 ∷ load (t + 1) (t + 2) 4 ∷ constant (t + 3) 8 ∷ compute (t + 2) which.Add (t + 2) (t + 3) ∷ []) ∷ [])
+      (load t (t + 2) 0 ∷ load (t + 1) (t + 2) 4 ∷ constant (t + 3) 8 ∷ compute (t + 2) which.Add (t + 2) (t + 3) ∷ []) ∷ [])
 
   abbrev pub next_code : Scope → (d : ℕ) → MethodPlace → Steps
   next_code s d m =
@@ -159,8 +159,8 @@ module _ (names : List (List ℕ)) (at : Placement) (program : FlatProgram) wher
       method_into s d m
       ++ (constant (d + 1) 0
       ∷ if_equal d (d + 1) (constant d nil_word ∷ [])
-        (load d d 0 ∷ constant (d + 1) chain_end
-        ∷ if_equal d (d + 1) (constant d nil_word ∷ []) (load_from d d true_address) ∷ []) ∷ [])
+      (load d d 0 ∷ constant (d + 1) chain_end
+      ∷ if_equal d (d + 1) (constant d nil_word ∷ []) (load_from d d true_address) ∷ []) ∷ [])
 
   -- the word in d goes to an exit
   abbrev pub exit_code : Scope → (d landing : ℕ) → ExitPlace → Steps
@@ -192,10 +192,10 @@ module _ (names : List (List ℕ)) (at : Placement) (program : FlatProgram) wher
   dynamic_let_code d count ds body =
       with_block (d + count) (binding_words * count) d
       (code_of (constant (d + count + 2) 0 ∷ load (d + count + 1) (d + count + 2) bindings_address
-        ∷ (bindings_laid d (d + count) (d + count + 1) (d + count + 2) 0 ds
-        ++ (constant (d + count + 2) 0 ∷ store (innermost (d + count) (d + count + 1) ds) (d + count + 2) bindings_address
-        ∷ (body
-        ++ (constant d 0 ∷ store (d + count + 1) d bindings_address ∷ move d (d + count + 2) ∷ []))))))
+      ∷ (bindings_laid d (d + count) (d + count + 1) (d + count + 2) 0 ds
+      ++ (constant (d + count + 2) 0 ∷ store (innermost (d + count) (d + count + 1) ds) (d + count + 2) bindings_address
+      ∷ (body
+      ++ (constant d 0 ∷ store (d + count + 1) d bindings_address ∷ move d (d + count + 2) ∷ []))))))
       (code_of []) ∷ []
 
   -- the handler is in d, its cell comes behind, and the body, whose code is given for d + 3, is inside
@@ -203,12 +203,12 @@ module _ (names : List (List ℕ)) (at : Placement) (program : FlatProgram) wher
   with_handler_code site d body =
       steps.call (d + 1) (is_function_routine at) (d ∷ []) ∷ constant (d + 2) 0
       ∷ if_equal (d + 1) (d + 2) (domain_error at site (d + 1) d function_class ++ (move d (d + 1) ∷ []))
-        (with_block (d + 1) handler_words d
-          (code_of (store d (d + 1) handler_function
-            ∷ constant d 0 ∷ load (d + 2) d handlers_address ∷ store (d + 2) (d + 1) handler_outer ∷ store (d + 1) d handlers_address
-            ∷ (body
-            ++ (constant d 0 ∷ store (d + 2) d handlers_address ∷ move d (d + 3) ∷ []))))
-          (code_of []) ∷ []) ∷ []
+      (with_block (d + 1) handler_words d
+      (code_of (store d (d + 1) handler_function
+      ∷ constant d 0 ∷ load (d + 2) d handlers_address ∷ store (d + 2) (d + 1) handler_outer ∷ store (d + 1) d handlers_address
+      ∷ (body
+      ++ (constant d 0 ∷ store (d + 2) d handlers_address ∷ move d (d + 3) ∷ []))))
+      (code_of []) ∷ []) ∷ []
 
   -- a routine is called with the words in d and the next register
   abbrev pub with_two : SitePlace → (d routine : ℕ) → Steps

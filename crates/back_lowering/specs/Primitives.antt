@@ -109,14 +109,14 @@ abbrev pub element_where : (asked : List ℕ) → (d t : ℕ) → (slow : Steps)
 element_where asked d t slow =
     constant t 1
     ∷ (where_tag d (t + 1) object_tag
-      (load_header (t + 1) d ∷ constant (t + 2) vector_header
-      ∷ if_equal (t + 1) (t + 2)
-        (where_integers asked (t + 1)
-          (load (t + 1) d 2
-          ∷ where_so LessUnsigned (d + 1) (t + 1) (compute (t + 1) which.Add d (d + 1) ∷ load d (t + 1) 6 ∷ constant t 0 ∷ []) [] ∷ [])
-          [])
-        [] ∷ [])
-      []
+    (load_header (t + 1) d ∷ constant (t + 2) vector_header
+    ∷ if_equal (t + 1) (t + 2)
+    (where_integers asked (t + 1)
+    (load (t + 1) d 2
+    ∷ where_so LessUnsigned (d + 1) (t + 1) (compute (t + 1) which.Add d (d + 1) ∷ load d (t + 1) 6 ∷ constant t 0 ∷ []) [] ∷ [])
+    [])
+    [] ∷ [])
+    []
     ++ (constant (t + 1) 0 ∷ if_different t (t + 1) slow [] ∷ []))
 
 abbrev pub behind_first : FlatForms → FlatForms

@@ -65,8 +65,8 @@ module _ (names : List (List ℕ)) (at : Placement) (program : FlatProgram) wher
   abbrev pub rest_made : FlatProcedure → Steps
   rest_made q =
       if is_some q.rest then
-        constant 5 (4 * length q.required) ∷ compute 5 which.Add 3 5 ∷ constant 6 (length q.required) ∷ compute 6 which.Subtract 2 6
-        ∷ call 4 (list_routine at) (5 ∷ 6 ∷ []) ∷ []
+      constant 5 (4 * length q.required) ∷ compute 5 which.Add 3 5 ∷ constant 6 (length q.required) ∷ compute 6 which.Subtract 2 6
+      ∷ call 4 (list_routine at) (5 ∷ 6 ∷ []) ∷ []
       else []
 
   -- the chain and the arguments of a method are kept in the heap, where a function in it captures them
@@ -156,11 +156,11 @@ module _ (names : List (List ℕ)) (at : Placement) (program : FlatProgram) wher
   main_form f =
       procedure_with Turn 0
       (with_block 0 record_words 5
-        (code_of (record_laid 0 6 end_kind
-          ++ (constant 7 0 ∷ store 7 0 record_serial ∷ store 0 6 link_address ∷ store 0 6 end_address
-          ∷ ((lower names at program main_scope 8 f).value ++ (return_word 8 ∷ [])))))
-        (code_of (load 6 5 2 ∷ load 6 6 2 ∷ constant 7 2 ∷ compute 6 which.ShiftRight 6 7
-          ∷ constant 7 0 ∷ load 7 7 landing_address ∷ end_unhandled 6 7 5 ∷ []))
+      (code_of (record_laid 0 6 end_kind
+      ++ (constant 7 0 ∷ store 7 0 record_serial ∷ store 0 6 link_address ∷ store 0 6 end_address
+      ∷ ((lower names at program main_scope 8 f).value ++ (return_word 8 ∷ [])))))
+      (code_of (load 6 5 2 ∷ load 6 6 2 ∷ constant 7 2 ∷ compute 6 which.ShiftRight 6 7
+      ∷ constant 7 0 ∷ load 7 7 landing_address ∷ end_unhandled 6 7 5 ∷ []))
       ∷ [])
 
   abbrev pub mains_called : ℕ → List FlatForm → Steps

@@ -59,7 +59,7 @@ abbrev pub catch_code : (d : ℕ) → (body : Steps) → Steps
 catch_code d body =
     with_block (d + 1) record_words d
     (code_of (store d (d + 1) record_tag
-      ∷ (exit_laid d (d + 1) (d + 6) catch_kind ++ (body ++ (record_left (d + 1) (d + 7) ++ (move d (d + 6) ∷ []))))))
+    ∷ (exit_laid d (d + 1) (d + 6) catch_kind ++ (body ++ (record_left (d + 1) (d + 7) ++ (move d (d + 6) ∷ []))))))
     (code_of (record_landed (d + 1) (d + 6))) ∷ []
 
 -- The segments of a tagbody. d + 6 has the number of the segment that runs; behind it the next one does, until there is none. A transfer
@@ -67,23 +67,23 @@ catch_code d body =
 abbrev pub segments_code : (d segments : ℕ) → (bodies : MidCodes) → Steps
 segments_code d segments bodies =
     repeat Turn
-      (code_of (switch (d + 6) bodies
-        ∷ constant (d + 7) 1 ∷ compute (d + 6) which.Add (d + 6) (d + 7) ∷ constant (d + 7) segments ∷ []))
-      (test_of Different (d + 6) (d + 7)) (code_of [])
+    (code_of (switch (d + 6) bodies
+    ∷ constant (d + 7) 1 ∷ compute (d + 6) which.Add (d + 6) (d + 7) ∷ constant (d + 7) segments ∷ []))
+    (test_of Different (d + 6) (d + 7)) (code_of [])
     ∷ []
 
 abbrev pub tagbody_code : (d segments : ℕ) → (bodies : MidCodes) → Steps
 tagbody_code d segments bodies =
     constant (d + 6) 0 ∷ constant (d + 7) 0 ∷ perform (Draw d (d + 7) (pos serials_address))
     ∷ repeat Level
-      (code_of (
-        with_block (d + 1) record_words (d + 7)
-        (code_of (record_laid (d + 1) (d + 7) exit_kind
-          ++ (store d (d + 1) record_serial ∷ store (d + 3) (d + 1) record_link ∷ store (d + 1) (d + 7) link_address
-          ∷ (segments_code d segments bodies ++ record_left (d + 1) (d + 7)))))
-        (code_of (record_landed (d + 1) (d + 8) ++ (load (d + 6) (d + 8) landing_address ∷ [])))
-        ∷ constant (d + 7) segments ∷ []))
-      (test_of Different (d + 6) (d + 7)) (code_of [])
+    (code_of (
+    with_block (d + 1) record_words (d + 7)
+    (code_of (record_laid (d + 1) (d + 7) exit_kind
+    ++ (store d (d + 1) record_serial ∷ store (d + 3) (d + 1) record_link ∷ store (d + 1) (d + 7) link_address
+    ∷ (segments_code d segments bodies ++ record_left (d + 1) (d + 7)))))
+    (code_of (record_landed (d + 1) (d + 8) ++ (load (d + 6) (d + 8) landing_address ∷ [])))
+    ∷ constant (d + 7) segments ∷ []))
+    (test_of Different (d + 6) (d + 7)) (code_of [])
     ∷ constant d nil_word ∷ []
 
 -- A cleanup. While the form runs, d + 1 to d + 5 are those of the record. Then d + 1 is the record to which a transfer goes on, or 0, and
@@ -92,13 +92,13 @@ abbrev pub unwind_code : Placement → (d : ℕ) → (form cleanup : Steps) → 
 unwind_code at d form cleanup =
     with_block (d + 1) record_words d
     (code_of (record_laid (d + 1) (d + 6) cleanup_kind
-      ++ (form ++ (record_left (d + 1) (d + 7) ++ (move d (d + 6) ∷ constant (d + 1) 0 ∷ [])))))
+    ++ (form ++ (record_left (d + 1) (d + 7) ++ (move d (d + 6) ∷ constant (d + 1) 0 ∷ [])))))
     (code_of (record_landed (d + 1) (d + 6)
-      ++ (load (d + 1) (d + 6) target_address ∷ load (d + 2) (d + 6) landing_address ∷ store (d + 1) (d + 6) link_address ∷ [])))
+    ++ (load (d + 1) (d + 6) target_address ∷ load (d + 2) (d + 6) landing_address ∷ store (d + 1) (d + 6) link_address ∷ [])))
     ∷ (cleanup
     ++ (constant (d + 3) 0
     ∷ if_different (d + 1) (d + 3)
-      (store (d + 2) (d + 3) landing_address ∷ call d (transfer_routine at) ((d + 1) ∷ d ∷ []) ∷ []) []
+    (store (d + 2) (d + 3) landing_address ∷ call d (transfer_routine at) ((d + 1) ∷ d ∷ []) ∷ []) []
     ∷ []))
 
 -- the word in d goes to an exit, with a landing; t and those behind it are free

@@ -63,12 +63,12 @@ module _ (at : Placement) where
   tag_sought kind =
       constant 2 0 ∷ load 3 2 link_address
       ∷ turns_while
-        (constant 6 1 ∷ load 4 3 record_kind ∷ constant 5 kind
-        ∷ if_equal 4 5
-          (load 5 3 record_tag ∷ if_equal 5 0 (constant 6 0 ∷ []) [] ∷ [])
-          (constant 5 end_kind ∷ if_equal 4 5 (constant 6 0 ∷ constant 3 0 ∷ []) [] ∷ [])
-        ∷ [])
-        6 2 (load 3 3 record_link ∷ [])
+      (constant 6 1 ∷ load 4 3 record_kind ∷ constant 5 kind
+      ∷ if_equal 4 5
+      (load 5 3 record_tag ∷ if_equal 5 0 (constant 6 0 ∷ []) [] ∷ [])
+      (constant 5 end_kind ∷ if_equal 4 5 (constant 6 0 ∷ constant 3 0 ∷ []) [] ∷ [])
+      ∷ [])
+      6 2 (load 3 3 record_link ∷ [])
       ∷ []
 
   abbrev pub transfers_to_found : Steps
@@ -82,7 +82,7 @@ module _ (at : Placement) where
   continue_code =
       tag_sought signal_kind
       ++ (if_equal 3 2 (signals 6 control_error_class)
-        (load 4 3 record_mark ∷ constant 5 nil_word ∷ if_equal 4 5 (signals 6 control_error_class) transfers_to_found ∷ []) ∷ [])
+      (load 4 3 record_mark ∷ constant 5 nil_word ∷ if_equal 4 5 (signals 6 control_error_class) transfers_to_found ∷ []) ∷ [])
 
   -- ---- signals
 
@@ -105,16 +105,16 @@ module _ (at : Placement) where
   handler_applied =
       load 7 3 site_address
       ∷ with_block 8 record_words 6
-        (code_of (store 0 8 record_tag ∷ store 1 8 record_mark
-          ∷ (exit_laid 13 8 14 signal_kind
-          ++ (load 5 4 handler_outer ∷ store 5 14 handlers_address ∷ load 5 4 handler_function
-          ∷ with_block 16 1 6
-            (code_of (store 0 16 0 ∷ constant 17 1 ∷ call 6 (function_routine at) (5 ∷ 17 ∷ 16 ∷ []) ∷ []))
-            (code_of [])
-          ∷ constant 5 0 ∷ store 7 5 site_address
-          ∷ constant 5 control_error_class ∷ call 6 (failing_routine at) (5 ∷ [])
-          ∷ record_left 8 14))))
-        (code_of (record_landed 8 14))
+      (code_of (store 0 8 record_tag ∷ store 1 8 record_mark
+      ∷ (exit_laid 13 8 14 signal_kind
+      ++ (load 5 4 handler_outer ∷ store 5 14 handlers_address ∷ load 5 4 handler_function
+      ∷ with_block 16 1 6
+      (code_of (store 0 16 0 ∷ constant 17 1 ∷ call 6 (function_routine at) (5 ∷ 17 ∷ 16 ∷ []) ∷ []))
+      (code_of [])
+      ∷ constant 5 0 ∷ store 7 5 site_address
+      ∷ constant 5 control_error_class ∷ call 6 (failing_routine at) (5 ∷ [])
+      ∷ record_left 8 14))))
+      (code_of (record_landed 8 14))
       ∷ return_word 6 ∷ []
 
   unfoldable pub raise_code : Steps
@@ -126,11 +126,11 @@ module _ (at : Placement) where
   unfoldable pub signal_code : Steps
   signal_code =
       where_tag 0 2 object_tag
-        (load_header 2 0 ∷ constant 3 28 ∷ compute 2 which.ShiftLeft 2 3 ∷ constant 3 (instance_header 0 * 2 ^ 28)
-        ∷ if_equal 2 3
-          (load 2 0 2 ∷ load 2 2 14 ∷ constant 3 nil_word ∷ if_different 2 3 (returning 4 (raise_routine at) (0 ∷ 1 ∷ [])) [] ∷ [])
-          [] ∷ [])
-        []
+      (load_header 2 0 ∷ constant 3 28 ∷ compute 2 which.ShiftLeft 2 3 ∷ constant 3 (instance_header 0 * 2 ^ 28)
+      ∷ if_equal 2 3
+      (load 2 0 2 ∷ load 2 2 14 ∷ constant 3 nil_word ∷ if_different 2 3 (returning 4 (raise_routine at) (0 ∷ 1 ∷ [])) [] ∷ [])
+      [] ∷ [])
+      []
       ++ signals_domain 0 2 serious_condition_class
 
   unfoldable pub pending_code : Steps
@@ -190,16 +190,16 @@ module _ (at : Placement) where
   abbrev pub by_function : (t : ℕ) → (function generic : Steps) → Steps
   by_function t function generic =
       where_tag 0 t object_tag
-        (load_header t 0 ∷ constant (t + 1) function_header
-        ∷ if_equal t (t + 1) function (constant (t + 1) generic_header ∷ if_equal t (t + 1) generic [] ∷ []) ∷ [])
-        []
+      (load_header t 0 ∷ constant (t + 1) function_header
+      ∷ if_equal t (t + 1) function (constant (t + 1) generic_header ∷ if_equal t (t + 1) generic [] ∷ []) ∷ [])
+      []
 
   -- the value in 0 is applied to as many words as 1 says, at the address in 2
   unfoldable pub function_code : Steps
   function_code =
       by_function 3
-        (arity_into 3 5 0 ++ (where_takes 3 1 6 (wrong_number 6) ++ (constant 3 0 ∷ call_number 6 5 (0 ∷ 3 ∷ 1 ∷ 2 ∷ []) ∷ return_word 6 ∷ [])))
-        (generic_into 3 4 0 ++ returning 6 (generic_routine at) (3 ∷ 1 ∷ 2 ∷ []))
+      (arity_into 3 5 0 ++ (where_takes 3 1 6 (wrong_number 6) ++ (constant 3 0 ∷ call_number 6 5 (0 ∷ 3 ∷ 1 ∷ 2 ∷ []) ∷ return_word 6 ∷ [])))
+      (generic_into 3 4 0 ++ returning 6 (generic_routine at) (3 ∷ 1 ∷ 2 ∷ []))
       ++ signals_domain 0 3 function_class
 
   -- How many conses the list in 1 has comes to 2, and what is behind the last one to 3, or the list itself where it goes in a circle, by steps
@@ -208,10 +208,10 @@ module _ (at : Placement) where
   list_counted =
       constant 2 0 ∷ move 3 1 ∷ move 4 1 ∷ constant 5 1 ∷ constant 6 1
       ∷ repeat Turn (code_of (constant 7 3 ∷ compute 7 which.And 3 7 ∷ constant 8 cons_tag ∷ [])) (test_of Equal 7 8)
-        (code_of (add_to 2 7 1
-          ++ (load 3 3 3 ∷ if_equal 3 4 (constant 3 0 ∷ [])
-            (constant 7 1 ∷ compute 6 which.Subtract 6 7 ∷ constant 7 0
-            ∷ if_equal 6 7 (move 4 3 ∷ compute 5 which.Add 5 5 ∷ move 6 5 ∷ []) [] ∷ []) ∷ [])))
+      (code_of (add_to 2 7 1
+      ++ (load 3 3 3 ∷ if_equal 3 4 (constant 3 0 ∷ [])
+      (constant 7 1 ∷ compute 6 which.Subtract 6 7 ∷ constant 7 0
+      ∷ if_equal 6 7 (move 4 3 ∷ compute 5 which.Add 5 5 ∷ move 6 5 ∷ []) [] ∷ []) ∷ [])))
       ∷ []
 
   -- the words of the list in 1 are copied to the address in 9; 3, 4 and 5 are used
@@ -227,9 +227,9 @@ module _ (at : Placement) where
   groups_added argument =
       constant 5 0 ∷ constant 6 0
       ∷ turns_while [] 3 6
-        (load 7 4 0 ∷ (argument
-        ++ (call 7 (class_routine at) (7 ∷ []) ∷ load 8 4 4 ∷ compute 7 which.Add 7 8 ∷ load 7 7 0 ∷ compute 5 which.Add 5 7
-        ∷ (add_to 4 7 8 ++ (constant 7 1 ∷ compute 3 which.Subtract 3 7 ∷ [])))))
+      (load 7 4 0 ∷ (argument
+      ++ (call 7 (class_routine at) (7 ∷ []) ∷ load 8 4 4 ∷ compute 7 which.Add 7 8 ∷ load 7 7 0 ∷ compute 5 which.Add 5 7
+      ∷ (add_to 4 7 8 ++ (constant 7 1 ∷ compute 3 which.Subtract 3 7 ∷ [])))))
       ∷ []
 
   -- the chain of a call of the generic function whose words are at 0 comes to 4; where there is none, the function is undefined
@@ -239,7 +239,7 @@ module _ (at : Placement) where
       ∷ (groups_added argument
       ++ (compute 4 which.Add 4 5 ∷ load 4 4 0
       ∷ if_equal 4 6
-        (load 7 0 generic_name ∷ constant 8 undefined_function_class ∷ returning 7 (failing_with_routine at) (8 ∷ 7 ∷ [])) [] ∷ []))
+      (load 7 0 generic_name ∷ constant 8 undefined_function_class ∷ returning 7 (failing_with_routine at) (8 ∷ 7 ∷ [])) [] ∷ []))
 
   -- the generic function whose words are at 0 is applied to as many words as 1 says, at the address in 2
   unfoldable pub generic_code : Steps
@@ -260,8 +260,8 @@ module _ (at : Placement) where
   abbrev pub methods_called : (kind : ℕ) → Steps
   methods_called kind =
       repeat Turn (code_of (kind_into 4 3 7 ++ (constant 5 kind ∷ []))) (test_of Equal 4 5)
-        (code_of (number_into 3 3 5
-          ++ (constant 5 0 ∷ store 9 5 site_address ∷ call_number 6 3 (5 ∷ 5 ∷ 1 ∷ 2 ∷ []) ∷ add_to 7 4 4)))
+      (code_of (number_into 3 3 5
+      ++ (constant 5 0 ∷ store 9 5 site_address ∷ call_number 6 3 (5 ∷ 5 ∷ 1 ∷ 2 ∷ []) ∷ add_to 7 4 4)))
       ∷ []
 
   -- The chain at the address in 0 runs on as many words as 1 says, at the address in 2: the first around method; else the before methods, the
@@ -272,8 +272,8 @@ module _ (at : Placement) where
       ∷ (kind_into 4 3 0
       ++ (constant 5 around_method
       ∷ if_equal 4 5
-        (number_into 3 3 4 ++ (constant 4 4 ∷ compute 4 which.Add 0 4 ∷ constant 5 0 ∷ call_number 6 3 (5 ∷ 4 ∷ 1 ∷ 2 ∷ []) ∷ return_word 6 ∷ []))
-        []
+      (number_into 3 3 4 ++ (constant 4 4 ∷ compute 4 which.Add 0 4 ∷ constant 5 0 ∷ call_number 6 3 (5 ∷ 4 ∷ 1 ∷ 2 ∷ []) ∷ return_word 6 ∷ []))
+      []
       ∷ move 8 0
       ∷ repeat Turn (code_of (kind_into 4 3 8 ++ (constant 5 primary_method ∷ []))) (test_of LessUnsigned 4 5) (code_of (add_to 8 4 4))
       ∷ move 7 0
@@ -288,7 +288,7 @@ module _ (at : Placement) where
   next_code =
       constant 3 0
       ∷ if_equal 0 3 (signals 4 control_error_class)
-        (kind_into 4 3 0 ++ (constant 5 chain_end ∷ if_equal 4 5 (signals 4 control_error_class) [] ∷ []))
+      (kind_into 4 3 0 ++ (constant 5 chain_end ∷ if_equal 4 5 (signals 4 control_error_class) [] ∷ []))
       ∷ chain_run
 
   unfoldable pub chain_code : Steps
@@ -308,15 +308,15 @@ module _ (at : Placement) where
       ∷ (list_counted
       ++ (constant 4 nil_word ∷ if_different 3 4 (signals_domain 1 2 list_class) []
       ∷ (by_function 3
-        (arity_into 3 11 0
-        ++ (where_takes 3 2 5 (wrong_number 5)
-        ++ (lend 9 2 (code_of (list_copied ++ (constant 3 0 ∷ call_number 10 11 (0 ∷ 3 ∷ 2 ∷ 9 ∷ []) ∷ []))) ∷ return_word 10 ∷ [])))
-        (generic_into 11 4 0
-        ++ (move 0 11 ∷ load 3 0 generic_arity
-        ∷ (where_takes 3 2 4 (signals 4 program_error_class)
-        ++ (chain_sought element_into
-        ++ (move 11 4
-        ∷ lend 9 2 (code_of (list_copied ++ (call 10 (chain_routine at) (11 ∷ 2 ∷ 9 ∷ []) ∷ []))) ∷ return_word 10 ∷ [])))))
+      (arity_into 3 11 0
+      ++ (where_takes 3 2 5 (wrong_number 5)
+      ++ (lend 9 2 (code_of (list_copied ++ (constant 3 0 ∷ call_number 10 11 (0 ∷ 3 ∷ 2 ∷ 9 ∷ []) ∷ []))) ∷ return_word 10 ∷ [])))
+      (generic_into 11 4 0
+      ++ (move 0 11 ∷ load 3 0 generic_arity
+      ∷ (where_takes 3 2 4 (signals 4 program_error_class)
+      ++ (chain_sought element_into
+      ++ (move 11 4
+      ∷ lend 9 2 (code_of (list_copied ++ (call 10 (chain_routine at) (11 ∷ 2 ∷ 9 ∷ []) ∷ []))) ∷ return_word 10 ∷ [])))))
       ++ signals_domain 0 3 function_class)))
 
   unfoldable pub level_code : Steps
@@ -329,8 +329,8 @@ module _ (at : Placement) where
   list_code =
       constant 3 2 ∷ compute 4 which.ShiftLeft 1 3 ∷ compute 0 which.Add 0 4 ∷ constant 2 nil_word ∷ constant 3 0
       ∷ turns_while [] 1 3
-        (constant 4 1 ∷ compute 1 which.Subtract 1 4 ∷ constant 4 4 ∷ compute 0 which.Subtract 0 4 ∷ load 5 0 0
-        ∷ constant 4 2 ∷ request 4 4 ∷ store 5 4 0 ∷ store 2 4 4 ∷ constant 5 cons_tag ∷ compute 2 which.Add 4 5 ∷ [])
+      (constant 4 1 ∷ compute 1 which.Subtract 1 4 ∷ constant 4 4 ∷ compute 0 which.Subtract 0 4 ∷ load 5 0 0
+      ∷ constant 4 2 ∷ request 4 4 ∷ store 5 4 0 ∷ store 2 4 4 ∷ constant 5 cons_tag ∷ compute 2 which.Add 4 5 ∷ [])
       ∷ return_word 2 ∷ []
 
   -- the chain in 0, the number in 1 and the words at 2 are copied; the address of the words' copy is returned
@@ -346,8 +346,8 @@ module _ (at : Placement) where
   binding_code =
       constant 1 0 ∷ load 2 1 bindings_address
       ∷ turns_while
-        (constant 4 0 ∷ if_equal 2 1 [] (load 3 2 binding_variable ∷ if_equal 3 0 [] (constant 4 1 ∷ []) ∷ []) ∷ [])
-        4 1 (load 2 2 binding_outer ∷ [])
+      (constant 4 0 ∷ if_equal 2 1 [] (load 3 2 binding_variable ∷ if_equal 3 0 [] (constant 4 1 ∷ []) ∷ []) ∷ [])
+      4 1 (load 2 2 binding_outer ∷ [])
       ∷ if_equal 2 1 (return_word 0 ∷ []) (add_to 2 3 binding_value ++ (return_word 2 ∷ [])) ∷ []
 
   unfoldable pub is_function_code : Steps

@@ -1,7 +1,7 @@
 -- By whether one is there.
 use Rattle.std.proofs.Common.{ap, sym}
 use Rattle.flat_language.specs.model.View.{dynamics_of}
-use Rattle.back_leaves.proofs.Asked.{there, past}
+use Rattle.back_lowering.proofs.Rests.{there, past}
 use Rattle.back_calls.specs.Cells.{no_more}
 use Rattle.back_calls.proofs.bindings.is_end.Goals as goal
 
