@@ -1,5 +1,5 @@
 -- The cells of dynamic bindings and the parts of functions, one after another.
-use Rattle.std.proofs.Common.{◌≡◌, ℕ, zero, suc, ◌+◌, ◌-◌, ◌*◌, ◌<◌, ◌≤◌, Bool, true, false, List, [], ◌∷◌, ◌++◌, Option, Some, length, drop, slice_get, refl, ap, sym, ◌∙◌, absurd, append_assoc, add-one, arith}
+use Rattle.std.proofs.Common.{◌≡◌, ℕ, zero, suc, ◌+◌, ◌-◌, ◌*◌, ◌<◌, ◌≤◌, Bool, true, false, List, [], ◌∷◌, ◌++◌, Option, Some, length, drop, slice_get, refl, ap, sym, ◌∙◌, append_assoc, add-one, arith}
 use Rattle.flat_language.specs.FlatForm.{FlatForm, FlatDynamics, no_dynamic, dynamic_and}
 use Rattle.flat_language.specs.declared.flat_core.FlatDynBinding.{FlatDynBinding}
 use Rattle.flat_language.specs.declared.place.FlatCapture.{FlatCapture}
@@ -8,7 +8,7 @@ use Rattle.flat_language.specs.model.View.{dynamics_of}
 use Rattle.back_lowering.specs.declared.placement.Placement.{Placement}
 use Rattle.back_lowering.specs.declared.scope.Scope.{Scope}
 use Rattle.back_lowering.specs.Steps.{Steps, store_far}
-use Rattle.back_lowering.specs.Codes.{bindings_laid, part_into, parts_stored}
+use Rattle.back_lowering.specs.Codes.{innermost, bindings_laid, part_into, parts_stored}
 use Rattle.back_lowering.proofs.Rests.{there}
 use Rattle.back_calls.specs.Cells.{no_more, cell_laid}
 
@@ -56,3 +56,13 @@ module _ (names : List (List ℕ)) (at : Placement) (program : FlatProgram) wher
       ∙ ap (λ (k : ℕ). code ++ (part_into names at program s t p ++ (store_far t d (t + 1) (8 + 4 * i) ++ parts_stored names at program s d t k rest))) o
       ∙ sym (ap (λ (xs : List FlatCapture). code ++ parts_stored names at program s d t (8 + 4 * i) xs) n)
       ∙ so
+
+-- the innermost of bindings, by whether there is one
+
+pub innermost_there : (b old : ℕ) (ds : List FlatDynBinding) (x : FlatDynBinding) → slice_get ds 0 ≡ Some x → b ≡ innermost b old (dynamics_of ds)
+innermost_there b old [] x e = absurd (cc)
+innermost_there b old (y ∷ ds) x e = refl
+
+pub innermost_none : (b old : ℕ) (ds : List FlatDynBinding) → length ds ≤ 0 → old ≡ innermost b old (dynamics_of ds)
+innermost_none b old [] h = refl
+innermost_none b old (y ∷ ds) h = absurd (omega arith)

@@ -128,7 +128,10 @@ fn bindings_laid(
 fn innermost(list: &FlatDynBindings, b: Register, old: Register) -> Register
     ensures { result ≡ codes.innermost b old (dynamics_of list.now) }
 {
-    if list.len() == 0 { old } else { b }
+    match list.get(0) {
+        Some(_) => b,
+        None => old,
+    }
 }
 
 // The bindings are the innermost ones.

@@ -7,6 +7,7 @@ ghost use Rattle.mid_code.specs.MidCode as mid;
 ghost use Rattle.mid_code.specs.MidCode.{code_of};
 ghost use Rattle.back_lowering.specs.Calls as calls;
 ghost use Rattle.back_lowering.specs.Placement.{body_of_procedure, symbol_word};
+ghost use Rattle.back_lowering.specs.Sites.{asks_site};
 ghost use Rattle.back_lowering.specs.Steps as steps;
 ghost use Rattle.back_calls.specs.Applied.{generic_applied, function_applied};
 ghost use Rattle.back_calls.specs.Tabled.{IsTabled};
@@ -94,6 +95,24 @@ fn body_of_procedure(at: &Placement, number: usize) -> Result<usize, NoMemory>
     Ok(at.procedures + at.lambdas + number)
 }
 
+// Whether the body of a procedure looks at the site.
+fn asks_of(given: &Given, number: usize, procedure: &FlatProcedure) -> bool
+    requires tabled { IsTabled given.now }
+    requires found { slice_get given.now.program.now.procedures number ≡ Some procedure.now }
+    ensures { result ≡ asks_site procedure.now.body }
+{
+    flag(&given.tables.asking, number)
+}
+
+// Whether it is a method.
+fn method_of(given: &Given, number: usize, procedure: &FlatProcedure) -> bool
+    requires tabled { IsTabled given.now }
+    requires found { slice_get given.now.program.now.procedures number ≡ Some procedure.now }
+    ensures { result ≡ calls.is_method given.now.program.now number }
+{
+    flag(&given.tables.methods, number)
+}
+
 // The body of a procedure is entered with the words in registers.
 fn enter_body(
     code: &mut Code,
@@ -111,8 +130,8 @@ fn enter_body(
     ensures { OnOk result (code.new ≡ code.old ++ calls.enter_body given.now.at.now given.now.program.now number procedure.now variables d t site) }
 {
     let body = body_of_procedure(given.at, number)?;
-    let asks = flag(&given.tables.asking, number);
-    let method = flag(&given.tables.methods, number);
+    let asks = asks_of(given, number, procedure);
+    let method = method_of(given, number, procedure);
     let mut arguments = variables;
     without_chain(&mut arguments, method, t)?;
     site_for(code, asks, site, t, t + 1)?;

@@ -7,6 +7,7 @@ ghost use Rattle.mid_code.specs.model.View.{codes_of};
 ghost use Rattle.mid_code.specs.declared.operation.Operation.TheVariants as operation;
 ghost use Rattle.back_lowering.specs.ControlWords.{serials_address, link_address, landing_address, target_address, record_serial, record_link, exit_kind, cleanup_kind};
 ghost use Rattle.back_lowering.specs.Records as records;
+ghost use Rattle.back_calls.specs.RecordWords as laying;
 ghost use Rattle.back_lowering.specs.Routines.{transfer_routine};
 ghost use Rattle.back_lowering.specs.Steps as steps;
 
@@ -26,6 +27,30 @@ use mid_code::{
 };
 use std::alloc::Global;
 
+// The kind of a record, and the record outside it, stand in its words; t is 0 behind it.
+fn record_linked(code: &mut Code, b: Register, t: Register, kind: u32) -> Result<(), NoMemory>
+    requires block { b < 2 ^ 62 }
+    requires free { t < 2 ^ 62 }
+    ensures { OnOk result (code.new ≡ code.old ++ laying.record_linked b t kind) }
+{
+    code.push(constant(t, 0))?;
+    code.push(constant(t + 1, kind))?;
+    code.push(store(t + 1, b, RECORD_KIND))?;
+    code.push(load(b + 1, t, CURRENT))?;
+    code.push(store(b + 1, b, RECORD_OUTER))
+}
+
+// The link, the handlers and the bindings outside are kept, and the record is the current one.
+fn record_kept(code: &mut Code, b: Register, t: Register) -> Result<(), NoMemory>
+    requires { b < 2 ^ 62 }
+    ensures { OnOk result (code.new ≡ code.old ++ laying.record_kept b t) }
+{
+    code.push(load(b + 2, t, LINK))?;
+    code.push(load(b + 3, t, HANDLERS))?;
+    code.push(load(b + 4, t, BINDINGS))?;
+    code.push(store(b, t, CURRENT))
+}
+
 /// A record of a kind, in register b, is the current one; what was outside is kept in the four registers behind b. t and the next one are
 /// used.
 pub fn record_laid(code: &mut Code, b: Register, t: Register, kind: u32) -> Result<(), NoMemory>
@@ -33,15 +58,8 @@ pub fn record_laid(code: &mut Code, b: Register, t: Register, kind: u32) -> Resu
     requires free { t < 2 ^ 62 }
     ensures { OnOk result (code.new ≡ code.old ++ records.record_laid b t kind) }
 {
-    code.push(constant(t, 0))?;
-    code.push(constant(t + 1, kind))?;
-    code.push(store(t + 1, b, RECORD_KIND))?;
-    code.push(load(b + 1, t, CURRENT))?;
-    code.push(store(b + 1, b, RECORD_OUTER))?;
-    code.push(load(b + 2, t, LINK))?;
-    code.push(load(b + 3, t, HANDLERS))?;
-    code.push(load(b + 4, t, BINDINGS))?;
-    code.push(store(b, t, CURRENT))
+    record_linked(code, b, t, kind)?;
+    record_kept(code, b, t)
 }
 
 /// The same for an exit: its serial number, in register e, is the next one, and it is the innermost valid exit.

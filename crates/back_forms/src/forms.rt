@@ -1,7 +1,7 @@
 // The code of forms, of their lists, and what is judged where a form branches on one.
 
-ghost use Rattle.std.specs.Prelude.{◌≡◌, ◌++◌, ◌+◌, ◌<◌, ◌^◌, [], ◌∷◌, length, OnOk, IfOk};
-ghost use Rattle.flat_language.specs.FlatForm.{let_form, while_form, block, tagbody, unwind, dynamic_let, sited};
+ghost use Rattle.std.specs.Prelude.{◌≡◌, ◌++◌, ◌+◌, ◌<◌, ◌^◌, OnOk, IfOk};
+ghost use Rattle.flat_language.specs.FlatForm.{let_form, while_form, tagbody, unwind, dynamic_let};
 ghost use Rattle.flat_language.specs.model.View.{forms, clauses_of, bindings_of, dynamics_of, maybe_form};
 ghost use Rattle.mid_code.specs.MidCode.{code_of};
 ghost use Rattle.mid_code.specs.model.View.{codes_of};
@@ -27,7 +27,6 @@ use base::NoMemory;
 use flat_language::{
     FlatBindingList, FlatClause, FlatClauseList, FlatCore, FlatCoreList, FlatDynBindings,
 };
-use lang_meaning::{Primitive, SiteId};
 use mid_arena::steps::{constant, either};
 use mid_arena::words::NIL;
 use mid_code::{CaseList, Code, CodeStep, Counted, Register, StepKind, SwitchCase, Test};

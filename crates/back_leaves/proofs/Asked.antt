@@ -1,9 +1,10 @@
 -- Which arguments are asked, and what is known of them.
-use Rattle.std.proofs.Common.{◌≡◌, ℕ, zero, suc, ◌+◌, ◌<◌, ◌≤◌, List, [], ◌∷◌, ◌++◌, Option, Some, None, length, drop, slice_get, refl, ap, sym, ◌∙◌, absurd, append_assoc, add-one, arith}
+use Rattle.std.proofs.Common.{◌≡◌, ℕ, zero, suc, ◌+◌, ◌<◌, ◌≤◌, List, [], ◌∷◌, ◌++◌, Option, Some, None, length, drop, slice_get, refl, ap, sym, ◌∙◌, append_assoc, add-one, arith}
 use Rattle.std.proofs.lemmas.List.{append-nil}
 use Rattle.lang_meaning.specs.declared.program.LiteralRow.{LiteralRow}
 use Rattle.flat_language.specs.FlatForm.{FlatForm, FlatForms, no_form, form_and}
 use Rattle.flat_language.specs.model.View.{forms}
+use Rattle.back_leaves.specs.Asks.{asked_one}
 use Rattle.back_lowering.proofs.Rests.{there, past}
 use Rattle.back_lowering.specs.declared.placement.Placement.{Placement}
 use Rattle.back_lowering.specs.Steps.{Steps}
@@ -52,32 +53,25 @@ behind_is (f ∷ fs) = refl
 -- ---- from one argument to the next
 
 module _ (at : Placement) (literals : List LiteralRow) where
-  -- those that are asked so far, and those that may be asked yet
-  pub asked_more : (all made : List ℕ) (fs : List FlatForm) (d i : ℕ) (f : FlatForm)
-      → slice_get fs i ≡ Some f
-      → made ++ asked_integers at literals (d + i) (forms (drop i fs)) ≡ all
-      → known_integer at literals f ≡ None
-      → (made ++ (d + i) ∷ []) ++ asked_integers at literals (d + (i + 1)) (forms (drop (i + 1) fs)) ≡ all
-  asked_more all made fs d i f there_is so e =
-      let r : d + (i + 1) ≡ (d + i) + 1 = omega arith in
-      append_assoc made ((d + i) ∷ []) (asked_integers at literals (d + (i + 1)) (forms (drop (i + 1) fs)))
-      ∙ ap (λ (k : ℕ). made ++ (d + i) ∷ asked_integers at literals k (forms (drop (i + 1) fs))) r
-      ∙ ap (λ (k : ℕ). made ++ (d + i) ∷ asked_integers at literals ((d + i) + 1) (forms (drop k fs))) (add-one i)
-      ∙ sym (ap (λ (gs : List ℕ). made ++ gs) (asked_unknown at literals (d + i) f (forms (drop (suc i) fs)) e))
-      ∙ sym (ap (λ (gs : List FlatForm). made ++ asked_integers at literals (d + i) (forms gs)) (there fs i f there_is))
-      ∙ so
+  asked_by : (d : ℕ) (f : FlatForm) (fs : FlatForms) (o : Option ℕ) → known_integer at literals f ≡ o
+      → asked_integers at literals d (form_and f fs) ≡ asked_one o d ++ asked_integers at literals (d + 1) fs
+  asked_by d f fs None e = asked_unknown at literals d f fs e
+  asked_by d f fs (Some w) e = asked_known at literals d w f fs e
 
-  pub asked_passed : (all made : List ℕ) (fs : List FlatForm) (d i w : ℕ) (f : FlatForm)
+  -- those that are asked so far, and those that may be asked yet
+  pub asked_step : (all made new : List ℕ) (fs : List FlatForm) (d i : ℕ) (f : FlatForm)
       → slice_get fs i ≡ Some f
       → made ++ asked_integers at literals (d + i) (forms (drop i fs)) ≡ all
-      → known_integer at literals f ≡ Some w
-      → made ++ asked_integers at literals (d + (i + 1)) (forms (drop (i + 1) fs)) ≡ all
-  asked_passed all made fs d i w f there_is so e =
+      → new ≡ made ++ asked_one (known_integer at literals f) (d + i)
+      → new ++ asked_integers at literals (d + (i + 1)) (forms (drop (i + 1) fs)) ≡ all
+  asked_step all made new fs d i f here so is =
       let r : d + (i + 1) ≡ (d + i) + 1 = omega arith in
-      ap (λ (k : ℕ). made ++ asked_integers at literals k (forms (drop (i + 1) fs))) r
-      ∙ ap (λ (k : ℕ). made ++ asked_integers at literals ((d + i) + 1) (forms (drop k fs))) (add-one i)
-      ∙ sym (ap (λ (gs : List ℕ). made ++ gs) (asked_known at literals (d + i) w f (forms (drop (suc i) fs)) e))
-      ∙ sym (ap (λ (gs : List FlatForm). made ++ asked_integers at literals (d + i) (forms gs)) (there fs i f there_is))
+      let n : drop i fs ≡ f ∷ drop (i + 1) fs = there fs i f here ∙ sym (ap (λ (k : ℕ). f ∷ drop k fs) (add-one i)) in
+      ap (λ (xs : List ℕ). xs ++ asked_integers at literals (d + (i + 1)) (forms (drop (i + 1) fs))) is
+      ∙ append_assoc made (asked_one (known_integer at literals f) (d + i)) (asked_integers at literals (d + (i + 1)) (forms (drop (i + 1) fs)))
+      ∙ ap (λ (k : ℕ). made ++ (asked_one (known_integer at literals f) (d + i) ++ asked_integers at literals k (forms (drop (i + 1) fs)))) r
+      ∙ sym (ap (λ (xs : List ℕ). made ++ xs) (asked_by (d + i) f (forms (drop (i + 1) fs)) (known_integer at literals f) refl))
+      ∙ sym (ap (λ (gs : List FlatForm). made ++ asked_integers at literals (d + i) (forms gs)) n)
       ∙ so
 
   pub asked_done : (all made : List ℕ) (fs : List FlatForm) (d i : ℕ) → length fs ≤ i

@@ -1,8 +1,9 @@
 // Which arguments of a primitive are known to be integers.
 
-ghost use Rattle.std.specs.Prelude.{◌≡◌, ◌+◌, ◌<◌, ◌≤◌, ◌^◌, length, drop, IfOk};
+ghost use Rattle.std.specs.Prelude.{◌≡◌, ◌++◌, ◌+◌, ◌<◌, ◌^◌, length, drop, OnOk, IfOk};
 ghost use Rattle.flat_language.specs.model.View.{forms};
 ghost use Rattle.back_lowering.specs.Primitives as primitives;
+ghost use Rattle.back_leaves.specs.Asks.{asked_one};
 ghost use Rattle.std.specs.Prelude.{slice_get};
 ghost use Rattle.back_lowering.specs.Placement.{literal_word};
 
@@ -59,6 +60,16 @@ pub fn second_known(at: &Placement, literals: &LiteralRows, list: &FlatCoreList)
     }
 }
 
+// The register of an argument, where it is not known.
+fn ask(made: &mut RegisterList, known: Option<u32>, register: Register) -> Result<(), NoMemory>
+    ensures { OnOk result (made.new ≡ made.old ++ asked_one known register) }
+{
+    match known {
+        Some(_) => Ok(()),
+        None => made.push(register),
+    }
+}
+
 /// The registers of those arguments, from one on, of which it is not known that they are integers, where the first is in d.
 pub fn asked(
     alloc: Global,
@@ -76,9 +87,7 @@ pub fn asked(
         let Some(form) = list.get(i) else {
             unreachable!()
         };
-        if known_integer(at, literals, form).is_none() {
-            made.push(d + i)?;
-        }
+        ask(&mut made, known_integer(at, literals, form), d + i)?;
     }
     Ok(made)
 }
