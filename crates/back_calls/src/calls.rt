@@ -7,6 +7,8 @@ ghost use Rattle.mid_code.specs.MidCode as mid;
 ghost use Rattle.mid_code.specs.MidCode.{code_of};
 ghost use Rattle.back_lowering.specs.Calls as calls;
 ghost use Rattle.back_lowering.specs.Placement.{body_of_procedure, symbol_word};
+ghost use Rattle.back_lowering.specs.Routines.{level_routine};
+ghost use Rattle.mid_arena.specs.Tags.{nil_word};
 ghost use Rattle.back_lowering.specs.Sites.{asks_site};
 ghost use Rattle.back_lowering.specs.Steps as steps;
 ghost use Rattle.back_calls.specs.Applied.{generic_applied, function_applied};
@@ -246,12 +248,22 @@ fn call_procedure(
 {
     match given.program.procedures.get(number) {
         Some(procedure) => call_found(code, alloc, given, number, procedure, count, d, site),
-        None => {
-            let level = routine(given.at, LEVEL)?;
-            code.push(call(d, level, RegisterList::new(alloc)))?;
-            code.push(constant(d, NIL))
-        }
+        None => no_procedure(code, alloc, given, d),
     }
+}
+
+// There is no such procedure.
+fn no_procedure(
+    code: &mut Code,
+    alloc: Global,
+    given: &Given,
+    d: Register,
+) -> Result<(), NoMemory>
+    ensures { OnOk result (code.new ≡ code.old ++ (steps.call d (level_routine given.now.at.now) [] ∷ steps.constant d nil_word ∷ [])) }
+{
+    let level = routine(given.at, LEVEL)?;
+    code.push(call(d, level, RegisterList::new(alloc)))?;
+    code.push(constant(d, NIL))
 }
 
 // The address of the word of a generic function.

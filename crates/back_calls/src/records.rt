@@ -75,6 +75,14 @@ pub fn exit_laid(
     ensures { OnOk result (code.new ≡ code.old ++ records.exit_laid e b t kind) }
 {
     record_laid(code, b, t, kind)?;
+    exit_drawn(code, e, b, t)
+}
+
+// The next serial number, in register e, is the record's, and the record is the innermost valid exit.
+fn exit_drawn(code: &mut Code, e: Register, b: Register, t: Register) -> Result<(), NoMemory>
+    requires { b < 2 ^ 62 }
+    ensures { OnOk result (code.new ≡ code.old ++ laying.exit_drawn e b t) }
+{
     code.push(drawn(e, t))?;
     code.push(store(e, b, RECORD_SERIAL))?;
     code.push(store(b + 2, b, RECORD_LINK))?;
@@ -151,15 +159,24 @@ fn body_left(code: &mut Code, d: Register, body: Code) -> Result<(), NoMemory>
     code.push(move_word(d, d + 6))
 }
 
+// The code inside the record of an exit.
+fn exit_inside(alloc: Global, d: Register, kind: u32, body: Code) -> Result<Code, NoMemory>
+    requires { d < 2 ^ 61 }
+    ensures { IfOk result (λ code. code ≡ laying.exit_inside d kind body) }
+{
+    let mut inside = Code::new(alloc);
+    exit_laid(&mut inside, d, d + 1, d + 6, kind)?;
+    body_left(&mut inside, d, body)?;
+    Ok(inside)
+}
+
 /// The body of a block, whose result is the block's; so is the word of a transfer.
 pub fn block_code(code: &mut Code, alloc: Global, d: Register, body: Code) -> Result<(), NoMemory>
     requires { d < 2 ^ 61 }
     ensures { OnOk result (code.new ≡ code.old ++ records.block_code d body) }
 {
     let landing = landing_of(alloc, d + 1, d + 6)?;
-    let mut inside = Code::new(alloc);
-    exit_laid(&mut inside, d, d + 1, d + 6, EXIT_KIND)?;
-    body_left(&mut inside, d, body)?;
+    let inside = exit_inside(alloc, d, EXIT_KIND, body)?;
     code.push(with_block(d + 1, RECORD_WORDS, d, inside, landing))
 }
 
@@ -169,10 +186,10 @@ pub fn catch_code(code: &mut Code, alloc: Global, d: Register, body: Code) -> Re
     ensures { OnOk result (code.new ≡ code.old ++ records.catch_code d body) }
 {
     let landing = landing_of(alloc, d + 1, d + 6)?;
+    let exit = exit_inside(alloc, d, CATCH_KIND, body)?;
     let mut inside = Code::new(alloc);
     inside.push(store(d, d + 1, RECORD_TAG))?;
-    exit_laid(&mut inside, d, d + 1, d + 6, CATCH_KIND)?;
-    body_left(&mut inside, d, body)?;
+    inside.append_list(exit)?;
     code.push(with_block(d + 1, RECORD_WORDS, d, inside, landing))
 }
 
