@@ -1,4 +1,4 @@
-pub mod Homes
+pub mod BindingHomes
 pub mod Walks
 pub mod Equations
 pub mod Cases

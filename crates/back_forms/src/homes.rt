@@ -9,7 +9,7 @@ use flat_language::{FlatBindingList, HomeList};
 use std::alloc::Global;
 
 // Where new variables live.
-#[tactic(auto, using(crate::proofs::Homes::homes_are))]
+#[tactic(auto, using(crate::proofs::BindingHomes::homes_are))]
 pub(crate) fn homes_of(alloc: Global, list: &FlatBindingList) -> Result<HomeList, NoMemory>
     ensures { IfOk result (λ homes. homes ≡ binding_homes (bindings_of list.now)) }
 {
