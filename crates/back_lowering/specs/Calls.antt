@@ -16,8 +16,11 @@ use Rattle.flat_language.specs.FlatNodes.{homes}
 use Rattle.mid_code.specs.declared.operation.Arithmetic.TheVariants as which
 use Rattle.mid_code.specs.MidCode.{with_block, code_of}
 use Rattle.mid_arena.specs.Tags.{nil_word, cons_tag}
-use Rattle.back_lowering.specs.Scope.{SitePlace, Scope, registers_from}
-use Rattle.back_lowering.specs.Placement.{Placement, body_of_procedure, symbol_word}
+use Rattle.back_lowering.specs.Scope.{registers_from}
+use Rattle.back_lowering.specs.declared.scope.SitePlace.{SitePlace}
+use Rattle.back_lowering.specs.declared.scope.Scope.{Scope}
+use Rattle.back_lowering.specs.Placement.{body_of_procedure, symbol_word}
+use Rattle.back_lowering.specs.declared.placement.Placement.{Placement}
 use Rattle.back_lowering.specs.Routines.{level_routine, function_routine, generic_routine}
 use Rattle.back_lowering.specs.Sites.{asks_site}
 use Rattle.back_lowering.specs.Steps.{Steps, move, constant, compute, load, store, request, call, words_stored}

@@ -26,8 +26,12 @@ use Rattle.mid_code.specs.MidCode.{repeat, with_block, choose, MidCode, no_step,
 use Rattle.mid_arena.specs.Tags.{nil_word, unbound_word, object_tag, function_header}
 use Rattle.mid_arena.specs.FixedWords.{true_address}
 use Rattle.back_lowering.specs.ControlWords.{current_address, handlers_address, bindings_address, handler_function, handler_outer, handler_words, binding_variable, binding_value, binding_outer, binding_words, function_number, chain_end}
-use Rattle.back_lowering.specs.Scope.{SitePlace, Scope, OwnExit, with_slots, with_exit, inside_cleanup, in_cleanup, at_site, registers_from}
-use Rattle.back_lowering.specs.Placement.{Placement, entry_of_lambda, literal_word, symbol_word, global_address, dynamic_address}
+use Rattle.back_lowering.specs.Scope.{with_slots, with_exit, inside_cleanup, in_cleanup, at_site, registers_from}
+use Rattle.back_lowering.specs.declared.scope.SitePlace.{SitePlace}
+use Rattle.back_lowering.specs.declared.scope.OwnExit.{OwnExit}
+use Rattle.back_lowering.specs.declared.scope.Scope.{Scope}
+use Rattle.back_lowering.specs.Placement.{entry_of_lambda, literal_word, symbol_word, global_address, dynamic_address}
+use Rattle.back_lowering.specs.declared.placement.Placement.{Placement}
 use Rattle.back_lowering.specs.Routines.{throw_routine, continue_routine, signal_routine, apply_routine, next_routine, binding_routine, is_function_routine}
 use Rattle.back_lowering.specs.Steps.{Steps, move, constant, compute, load, store, request, if_equal, if_different, load_from, store_to, load_far, store_far}
 use Rattle.back_lowering.specs.Steps as steps

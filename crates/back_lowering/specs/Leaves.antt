@@ -8,15 +8,18 @@ use Rattle.flat_language.specs.declared.place.ExitPlace.{ExitPlace}
 use Rattle.flat_language.specs.declared.place.ExitPlace.TheVariants as exit_place
 use Rattle.mid_arena.specs.Tags.{nil_word}
 use Rattle.back_lowering.specs.ControlWords.{site_address, function_captured}
-use Rattle.back_lowering.specs.Scope.{SitePlace, known, held, OwnExit, Scope}
-use Rattle.back_lowering.specs.Placement.{Placement}
+use Rattle.back_lowering.specs.declared.scope.SitePlace.{SitePlace}
+use Rattle.back_lowering.specs.declared.scope.SitePlace.TheVariants.{Known, Held}
+use Rattle.back_lowering.specs.declared.scope.OwnExit.{OwnExit}
+use Rattle.back_lowering.specs.declared.scope.Scope.{Scope}
+use Rattle.back_lowering.specs.declared.placement.Placement.{Placement}
 use Rattle.back_lowering.specs.Routines.{failing_routine, failing_with_routine, domain_routine}
 use Rattle.back_lowering.specs.Steps.{Steps, move, constant, load, store, request, call, load_far, store_far, store_to}
 
 -- the site is stored where what is called may look at it; d and t are used
 abbrev pub site_stored : SitePlace → (d t : ℕ) → Steps
-site_stored (known n) d t = constant d n ∷ store_to d t site_address
-site_stored (held r) d t = store_to r t site_address
+site_stored (Known n) d t = constant d n ∷ store_to d t site_address
+site_stored (Held r) d t = store_to r t site_address
 
 module _ (at : Placement) where
   -- a new condition of a class without slots is signalled, of one slot that has a word, and of a domain error of the word in a register,
@@ -40,7 +43,7 @@ abbrev pub captured_offset : ℕ → ℕ
 captured_offset n = function_captured + 4 * n
 
 abbrev pub captured_into : Scope → (d n : ℕ) → Steps
-captured_into s d n = load_far d s.self d (captured_offset n)
+captured_into s d n = load_far d s.function d (captured_offset n)
 
 -- variables
 

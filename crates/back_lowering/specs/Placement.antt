@@ -1,22 +1,7 @@
 -- Where words are laid and which numbers procedures have: all that code depends on besides the form that it is of.
 use Rattle.std.specs.Prelude.{ℕ, ◌+◌, List, slice_index_or}
 use Rattle.mid_arena.specs.Tags.{nil_word}
-
--- Names are the numbers of their texts.
-pub record Placement : Type 0 where
-  -- the word of each literal, and of the symbol of each name
-  pub literals : List ℕ
-  pub symbols : List ℕ
-  -- the addresses of the words of each global variable and of each outermost dynamic value, by names
-  pub globals : List ℕ
-  pub dynamics : List ℕ
-  -- how many procedures and functions of forms the program has
-  pub procedures : ℕ
-  pub lambdas : ℕ
-  -- the address of a word for each of these: twice how many arguments it requires, and one more where it takes further ones
-  pub arities : ℕ
-  -- the address of a word for each generic function: that of its words
-  pub generics : ℕ
+use Rattle.back_lowering.specs.declared.placement.Placement.{Placement}
 
 -- Procedures of middle code are numbered so: the entries of the program's procedures and of the functions of its forms, their bodies in the
 -- same order, the procedures of primitives, the routines, the main forms, and the start.

@@ -15,8 +15,10 @@ use Rattle.mid_code.specs.declared.operation.Test.{Test}
 use Rattle.mid_code.specs.MidCode.{perform}
 use Rattle.mid_arena.specs.Tags.{nil_word, signal_word, cons_tag, object_tag, vector_header}
 use Rattle.mid_arena.specs.FixedWords.{true_address}
-use Rattle.back_lowering.specs.Scope.{SitePlace, registers_from}
-use Rattle.back_lowering.specs.Placement.{Placement, primitives_from, literal_word}
+use Rattle.back_lowering.specs.Scope.{registers_from}
+use Rattle.back_lowering.specs.declared.scope.SitePlace.{SitePlace}
+use Rattle.back_lowering.specs.Placement.{primitives_from, literal_word}
+use Rattle.back_lowering.specs.declared.placement.Placement.{Placement}
 use Rattle.back_lowering.specs.Routines.{pending_routine}
 use Rattle.back_lowering.specs.Steps.{Steps, move, constant, compute, load, store, load_header, request, call, test_of, where_so, if_equal, if_different, if_true, load_from}
 use Rattle.back_lowering.specs.Leaves.{site_stored}

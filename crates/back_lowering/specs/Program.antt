@@ -14,8 +14,11 @@ use Rattle.mid_code.specs.MidCode.{MidStep, with_block, return_word, halt_with, 
 use Rattle.mid_arena.specs.Tags.{nil_word}
 use Rattle.mid_arena.specs.Codes.{procedure_of}
 use Rattle.back_lowering.specs.ControlWords.{link_address, landing_address, site_address, end_address, record_serial, record_words, end_kind}
-use Rattle.back_lowering.specs.Scope.{Scope, known, held, registers_from}
-use Rattle.back_lowering.specs.Placement.{Placement, functions, primitive_count, routines_from}
+use Rattle.back_lowering.specs.Scope.{registers_from}
+use Rattle.back_lowering.specs.declared.scope.SitePlace.TheVariants.{Known, Held}
+use Rattle.back_lowering.specs.declared.scope.Scope.{Scope}
+use Rattle.back_lowering.specs.Placement.{functions, primitive_count, routines_from}
+use Rattle.back_lowering.specs.declared.placement.Placement.{Placement}
 use Rattle.back_lowering.specs.Routines.{list_routine, method_routine, routine_count}
 use Rattle.back_lowering.specs.Sites.{asks_site}
 use Rattle.back_lowering.specs.Steps.{Steps, move, constant, compute, load, store, call, if_equal, load_from, words_loaded}
@@ -107,9 +110,9 @@ module _ (names : List (List ℕ)) (at : Placement) (program : FlatProgram) wher
   scope_of extra q = record {
     slots = registers_from 0 (variable_count q);
     exits = [];
-    self = variable_count q;
+    function = variable_count q;
     method = method_at extra (variable_count q);
-    site = if asks_site q.body then held (site_register extra q) else known 0;
+    site = if asks_site q.body then Held (site_register extra q) else Known 0;
   }
 
   abbrev pub site_taken : Extra → FlatProcedure → Steps
@@ -146,7 +149,7 @@ module _ (names : List (List ℕ)) (at : Placement) (program : FlatProgram) wher
   -- ---- main forms
 
   abbrev pub main_scope : Scope
-  main_scope = record { slots = []; exits = []; self = 0; method = None; site = known 0 }
+  main_scope = record { slots = []; exits = []; function = 0; method = None; site = Known 0 }
 
   -- The record of the end stands around a main form. A transfer to it says which condition is not handled: of which class, at which site.
   abbrev pub main_form : FlatForm → MidProcedure

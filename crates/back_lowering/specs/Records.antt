@@ -7,8 +7,11 @@ use Rattle.mid_code.specs.declared.operation.Counted.TheVariants.{Level, Turn}
 use Rattle.mid_code.specs.declared.operation.Operation.TheVariants.{Draw}
 use Rattle.mid_code.specs.MidCode.{MidStep, MidCodes, perform, repeat, with_block, cut_to, switch, code_of}
 use Rattle.back_lowering.specs.ControlWords.{current_address, link_address, serials_address, target_address, landing_address, handlers_address, bindings_address, record_serial, record_kind, record_outer, record_link, record_tag, record_words, exit_kind, catch_kind, cleanup_kind}
-use Rattle.back_lowering.specs.Scope.{SitePlace, Reach, OwnExit, at_once, by_transfer, by_search}
-use Rattle.back_lowering.specs.Placement.{Placement}
+use Rattle.back_lowering.specs.declared.scope.SitePlace.{SitePlace}
+use Rattle.back_lowering.specs.declared.scope.Reach.{Reach}
+use Rattle.back_lowering.specs.declared.scope.Reach.TheVariants.{AtOnce, ByTransfer, BySearch}
+use Rattle.back_lowering.specs.declared.scope.OwnExit.{OwnExit}
+use Rattle.back_lowering.specs.declared.placement.Placement.{Placement}
 use Rattle.back_lowering.specs.Routines.{transfer_routine, leave_routine}
 use Rattle.mid_arena.specs.Tags.{nil_word}
 use Rattle.back_lowering.specs.Steps.{Steps, move, constant, compute, load, store, call, test_of, if_equal, if_different}
@@ -110,6 +113,6 @@ abbrev pub to_own : Placement → SitePlace → OwnExit → (d t landing : ℕ) 
 to_own at site x d t landing = by x.reach
   where
     by : Reach → Steps
-    by at_once = landing_kept t landing ++ (cut_to x.record_register d ∷ [])
-    by by_transfer = landing_kept t landing ++ (call d (transfer_routine at) (x.record_register ∷ d ∷ []) ∷ [])
-    by by_search = by_serial at site (move t x.serial ∷ []) d t landing
+    by AtOnce = landing_kept t landing ++ (cut_to x.record_register d ∷ [])
+    by ByTransfer = landing_kept t landing ++ (call d (transfer_routine at) (x.record_register ∷ d ∷ []) ∷ [])
+    by BySearch = by_serial at site (move t x.serial ∷ []) d t landing

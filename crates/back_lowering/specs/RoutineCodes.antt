@@ -13,7 +13,7 @@ use Rattle.mid_arena.specs.Steps.{class_word}
 use Rattle.back_lowering.specs.ControlWords.{current_address, link_address, serials_address, target_address, landing_address, handlers_address, bindings_address, site_address, end_address}
 use Rattle.back_lowering.specs.ControlWords.{record_serial, record_kind, record_outer, record_link, record_tag, record_mark, record_words, catch_kind, cleanup_kind, signal_kind, end_kind}
 use Rattle.back_lowering.specs.ControlWords.{handler_function, handler_outer, binding_variable, binding_value, binding_outer, around_method, before_method, after_method, primary_method, chain_end, generic_arity, generic_name, generic_specialised, generic_groups, function_number}
-use Rattle.back_lowering.specs.Placement.{Placement}
+use Rattle.back_lowering.specs.declared.placement.Placement.{Placement}
 use Rattle.back_lowering.specs.Routines.{transfer_routine, raise_routine, failing_routine, failing_with_routine, domain_routine, function_routine, generic_routine, chain_routine, level_routine, is_function_routine, class_routine}
 use Rattle.back_lowering.specs.Steps.{Steps, move, constant, compute, load, store, load_header, request, call, call_number, test_of, where_so, if_equal, if_different}
 use Rattle.back_lowering.specs.Primitives.{where_tag, car_into}

@@ -1,6 +1,7 @@
 -- The routines that code calls, by their numbers.
 use Rattle.std.specs.Prelude.{ℕ, ◌+◌}
-use Rattle.back_lowering.specs.Placement.{Placement, routines_from}
+use Rattle.back_lowering.specs.Placement.{routines_from}
+use Rattle.back_lowering.specs.declared.placement.Placement.{Placement}
 
 module _ (at : Placement) where
   -- a transfer to a record, with a word: the cleanups on the way come first

@@ -26,7 +26,7 @@ use Rattle.mid_code.specs.State.{MidState, halts, MidOutcome}
 use Rattle.mid_code.specs.Meaning.{runs}
 use Rattle.mid_arena.specs.Tags.{unbound_word}
 use Rattle.back_lowering.specs.ControlWords.{control_words}
-use Rattle.back_lowering.specs.Placement.{Placement}
+use Rattle.back_lowering.specs.declared.placement.Placement.{Placement}
 use Rattle.back_lowering.specs.Program.{lowered, start_number}
 
 -- ---- what the programs are made of

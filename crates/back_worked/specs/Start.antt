@@ -22,7 +22,7 @@ use Rattle.mid_code.specs.State.{MidState, End, falls, returns, cuts, no_room, n
 use Rattle.mid_code.specs.Meaning.{runs}
 use Rattle.mid_arena.specs.Tags.{integer_word, character_word, nil_word, unbound_word, class_header, input_header, output_header, symbol_header}
 use Rattle.back_lowering.specs.ControlWords.{control_words, variables_address}
-use Rattle.back_lowering.specs.Placement.{Placement}
+use Rattle.back_lowering.specs.declared.placement.Placement.{Placement}
 use Rattle.back_lowering.specs.Program.{lowered, start_number}
 
 -- ---- addresses, in this order: variables, arities, generic functions, t and the streams, symbols, classes, and what is given besides

@@ -1,0 +1,4 @@
+pub mod QuickWays
+pub mod Stored
+pub mod Asked
+pub mod Boxing

@@ -1,0 +1,4 @@
+pub mod Quick
+pub mod Conses
+pub mod Elements
+pub mod Asks
