@@ -1,0 +1,3 @@
+pub mod Headers
+pub mod Lays
+pub mod BlockLaws
