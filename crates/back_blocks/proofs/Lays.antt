@@ -1,5 +1,5 @@
 -- The step of a line that lays a control record.
-use Rattle.std.proofs.Common.{inl, inr, ◌≡◌, ◌≢◌, ℕ, ◌+◌, ◌-◌, ◌*◌, ◌/◌, ◌%◌, ◌^◌, ◌<◌, ◌≤◌, Bool, true, false, ◌&&◌, List, [], ◌∷◌, ◌++◌, length, refl, sym, ap, subst, ◌∙◌, arith, Some, length-append, append_assoc}
+use Rattle.std.proofs.Common.{inl, inr, ◌≡◌, ◌≢◌, ℕ, suc, ◌+◌, ◌-◌, ◌*◌, ◌/◌, ◌%◌, ◌^◌, ◌<◌, ◌≤◌, Bool, true, false, ◌&&◌, List, [], ◌∷◌, ◌++◌, length, refl, sym, ap, subst, ◌∙◌, arith, Some, length-append, append_assoc}
 use Rattle.std.specs.Prelude.{◌⊎◌, Option, slice_index, slice_set, nat_le}
 use Rattle.std.proofs.lemmas.Bool.Decides.{nat_tests}
 use Rattle.std.proofs.lemmas.List.{get_or-set_same, get_or-set_other}
@@ -136,7 +136,7 @@ module _ (program : LineProgram) (l : Located) (Fact : (number line register : �
       let K = keep_code (way_at l number (line + 1)) target in
       let lent = Addi (given_in target) 2 8 ∷ K in
       let stands = r.machine.code.lines number line x e in
-      let long : length (R ++ (A ++ (Sw 5 2 0 ∷ lent))) ≡ length R + (4 + length K) = length-append R (A ++ (Sw 5 2 0 ∷ lent)) in
+      let long : length (R ++ (A ++ (Sw 5 2 0 ∷ lent))) ≡ length R + suc (suc (suc (suc (length K)))) = length-append R (A ++ (Sw 5 2 0 ∷ lent)) in
       let at1 = at + length R in
       let form = r.machine.form in
       let sp = stack_from z.arena in
@@ -189,7 +189,7 @@ module _ (program : LineProgram) (l : Located) (Fact : (number line register : �
       (λ k. p.others 1 (λ j. omega (arith, j)) (λ j. omega (arith, j)) ∙ low.others 1 (λ j. omega (arith, j)) (λ j. omega (arith, j)) ∙ r.links.linked (g.linked k)) refl in
       let n = keep_length (way_at l number (line + 1)) target in
       let cheap = low.cheap in (
-        low.count + (3 + (1 + length K)),
+        low.count + (3 + suc (length K)),
         omega (arith, n, cheap),
         record { moment' = t.moment'; comes = and_on low.comes (and_on comes t.comes); runs = t.runs },
       )
@@ -197,7 +197,7 @@ module _ (program : LineProgram) (l : Located) (Fact : (number line register : �
       own_place :
           (z : MidState) (words : ℕ) → InHeader (length z.arena.memory) (laid_record (length z.arena.blocks) words landing) z.arena.blocks (length z.arena.memory - (words + 2 + words_of z.arena.blocks))
           → (length (with_new_block (record_of words) z.arena).memory - words_of (record_of words ∷ z.arena.blocks) ≤ length z.arena.memory - (words + 2 + words_of z.arena.blocks))
-          × (length z.arena.memory - (words + 2 + words_of z.arena.blocks) < length (with_new_block (record_of words) z.arena).memory - words_of (record_of words ∷ z.arena.blocks) + 2)
+          × (length z.arena.memory - (words + 2 + words_of z.arena.blocks) < length (with_new_block (record_of words) z.arena).memory - words_of (record_of words ∷ z.arena.blocks) + (words + 2 - (words + 2 - 2)))
       own_place z words h =
           let same = length_emptied (begin_of (length z.arena.memory) (record_of words ∷ z.arena.blocks) / 4) (words + 2) z.arena.memory in
           (omega (arith, same), omega (arith, same))

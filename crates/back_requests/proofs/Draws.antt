@@ -169,7 +169,7 @@ module _ (program : LineProgram) (l : Located) (Fact : (number line register : �
       let known = l.records a.procedure line in
       let M = move_code (way_at l a.procedure line) (InRegister 5) target in
       let ins = Sw 5 rb off in
-      let long : length (C ++ ins ∷ M) ≡ length C + (1 + length M) = length-append C (ins ∷ M) in
+      let long : length (C ++ ins ∷ M) ≡ length C + suc (length M) = length-append C (ins ∷ M) in
       let here = state_at (at + length C) p.registers' words in
       let at' = at + length C + 1 in
       let pc : sum32 (4 * (at + length C)) 4 ≡ 4 * at' = next_place (at + length C) (omega (arith, stands.to, good.low, long)) in
