@@ -1,19 +1,19 @@
 -- A new record or lent block with its header written: the machine stands at a point of the activation with one more that stands.
-use Rattle.std.proofs.Common.{inl, inr, ◌≡◌, ◌≢◌, ℕ, ◌+◌, ◌-◌, ◌*◌, ◌/◌, ◌^◌, ◌<◌, ◌≤◌, true, List, [], ◌∷◌, length, refl, sym, ap, subst, ◌∙◌, arith, Some, None}
+use Rattle.std.proofs.Common.{inl, inr, ◌≡◌, ◌≢◌, ℕ, ◌+◌, ◌-◌, ◌*◌, ◌/◌, ◌^◌, ◌<◌, ◌≤◌, Bool, true, false, List, [], ◌∷◌, length, refl, sym, ap, subst, ◌∙◌, arith, Some, None}
 use Rattle.std.specs.Prelude.{◌⊎◌, Option, slice_index, slice_set}
 use Rattle.std.proofs.lemmas.List.{get_or-set_other, length-set}
 use Rattle.rv_machine.specs.Run.{Moment}
-use Rattle.mid_code.specs.Arena.{Arena, Block, words_of, stack_from, begin_of, with_new_block, emptied}
+use Rattle.mid_code.specs.Arena.{Arena, Block, words_of, stack_from, begin_of, left, with_new_block, emptied}
 use Rattle.mid_code.specs.State.{Registers, MidState, with_arena}
 use Rattle.mid_lines.specs.declared.line.LineProgram.{LineProgram}
 use Rattle.mid_lines.specs.LineMeaning.{Standing, Activation, Caller, with_standing}
-use Rattle.mid_lines.specs.StackLaw.{record_block, frame_of, blocks_of, BlocksAreCounted, StandsOn, CallersStandOn}
+use Rattle.mid_lines.specs.StackLaw.{record_kind, record_block, frame_of, blocks_of, BlocksAreCounted, StandsOn, CallersStandOn}
 use Rattle.back_places.specs.declared.place.Place.{Place}
 use Rattle.back_places.specs.declared.place.Place.TheVariants.{InRegister, InSlot, AsConstant}
 use Rattle.back_places.specs.Places.{StaticRecord, Located}
 use Rattle.back_places.specs.Facts.{IsPlace}
 use Rattle.back_places.specs.Good.{IsGood}
-use Rattle.back_places.specs.Relation.{IsAt, base_of, IsPrivate, HeadHolds, HeadsHold, CallersWait, Machine, Point, static_of, statics}
+use Rattle.back_places.specs.Relation.{IsAt, base_of, own_words, IsPrivate, HeadHolds, HeadsHold, CallersWait, Machine, Point, static_of, statics}
 use Rattle.back_stepping.specs.Arriving.{Arrives}
 use Rattle.back_stepping.specs.Moments.{state_at, Beside, moment, AreSmall, Ready}
 use Rattle.back_stepping.proofs.Operands.{set_small}
@@ -70,6 +70,30 @@ pub record InHeader (size : ℕ) (s : Standing) (blocks : List Block) (place : �
   pub fits : s.words + 2 + words_of blocks ≤ size
   pub low : size - (s.words + 2 + words_of blocks) ≤ place
   pub high : place < size - (s.words + 2 + words_of blocks) + 2
+
+module _ (program : LineProgram) (l : Located) (Fact : (number line register : ℕ) → Place → Type 0) (first : List Block) where
+  -- where the header of the record is
+  pub in_header :
+      (z : MidState) (s : Standing) (words : List ℕ) (m : Moment) → Machine program l Fact first z words m → s.words + 2 ≤ left z.arena
+      → InHeader (length z.arena.memory) s z.arena.blocks (length z.arena.memory - (s.words + 2 + words_of z.arena.blocks))
+  in_header z s words m h room =
+      let below = h.form.below in
+      let fits = h.form.fits in
+      let inside : s.words + 2 + words_of z.arena.blocks ≤ length z.arena.memory = omega (arith, room, below, fits) in
+      record { fits = inside; low = omega arith; high = omega arith }
+
+own_two : (t : Bool) (w : ℕ) → own_words (record { words = w + 2; kind = record_kind t }) (record_kind t) ≡ 2
+own_two true w = omega arith
+own_two false w = omega arith
+
+-- a word of the header of a new block is private
+pub header_private :
+    (a : Arena) (s : Standing) (place : ℕ) → InHeader (length a.memory) s a.blocks place
+    → IsPrivate (length (with_new_block (record_block s) a).memory) (record_block s ∷ a.blocks) place
+header_private a s place h =
+    let same = length_emptied (begin_of (length a.memory) (record_block s ∷ a.blocks) / 4) (s.words + 2) a.memory in
+    let own = own_two s.is_open s.words in
+    inl (omega (arith, same, h.low), omega (arith, same, own, h.high))
 
 module _ (program : LineProgram) (l : Located) (Fact : (number line register : ℕ) → Place → Type 0) (first : List Block)
     (good : IsGood program l Fact) where

@@ -43,17 +43,17 @@ use Rattle.back_stepping.proofs.Giving.{arrives}
 use Rattle.back_emission.specs.Laying.{Asking, Lowered}
 use Rattle.back_emission.proofs.Keeping.{Gave, given_is, kept}
 use Rattle.back_emission.proofs.Ends.{holding}
-use Rattle.back_emission.proofs.NewBlocks.{length_emptied, block_laid}
+use Rattle.back_emission.proofs.NewBlocks.{block_laid}
 use Rattle.back_emission.proofs.Room.{room_there, room_gone}
 use Rattle.back_emission.proofs.Steps.{at_line, weighs, next_line}
-use Rattle.back_blocks.proofs.Headers.{stands_on_more, head_stored, InHeader, point_laid, arrives_laid}
+use Rattle.back_blocks.proofs.Headers.{stands_on_more, head_stored, in_header, header_private, point_laid, arrives_laid}
 
 -- the record that a line lays
 abbrev laid_record : (outside words landing : ℕ) → Standing
 laid_record outside words landing = record { outside = outside; words = words; landing = Some landing; is_open = true }
 
 -- the address of the first lent word into a register
-lent_address :
+pub lent_address :
     (words registers : List ℕ) (to place w : ℕ) → AreSmall words → Ready registers → 4 < to → to < 32 → slice_index registers 2 ≡ 4 * place → place ≤ 2 ^ 24 → w ≡ 4 * place + 8
     → Gave words registers (Addi to 2 8 ∷ []) to w
 lent_address words registers to place w small ready low high stack few is =
@@ -102,16 +102,6 @@ module _ (program : LineProgram) (l : Located) (Fact : (number line register : �
         few = omega (arith, fits);
       }
 
-  -- where the header of the record is
-  in_header :
-      (z : MidState) (s : Standing) (words : List ℕ) (m : Moment) → Machine program l Fact first z words m → s.words + 2 ≤ left z.arena
-      → InHeader (length z.arena.memory) s z.arena.blocks (length z.arena.memory - (s.words + 2 + words_of z.arena.blocks))
-  in_header z s words m h room =
-      let below = h.form.below in
-      let fits = h.form.fits in
-      let inside : s.words + 2 + words_of z.arena.blocks ≤ length z.arena.memory = omega (arith, room, below, fits) in
-      record { fits = inside; low = omega arith; high = omega arith }
-
   -- where there is room, from behind its test on
   laid :
       (a : Activation) (line block words landing : ℕ) (rs : Registers) (callers : List Caller) (z : MidState) (m : Moment)
@@ -141,7 +131,7 @@ module _ (program : LineProgram) (l : Located) (Fact : (number line register : �
       let form = r.machine.form in
       let sp = stack_from z.arena in
       let small = r.machine.arena.words_small in
-      let header = in_header z new r.words m r.machine room in
+      let header = in_header program l Fact first z new r.words m r.machine room in
       let place = size - (words + 2 + words_of z.arena.blocks) in
       let m1 = moment (state_at at1 low.registers' r.words) (later low.count (beside m)) in
       let other3 = low.others 3 (λ k. omega (arith, k)) (λ k. omega (arith, k)) in
@@ -167,7 +157,7 @@ module _ (program : LineProgram) (l : Located) (Fact : (number line register : �
       let o = later 1 (later 2 (beside m1)) in
       let m2 = moment (state_at at2 p.registers' words') o in
       let M2 = head_stored program l Fact first z1 r.words m1 (4 * pos) place o at2 p.registers' M1 (omega (arith, M1.stack, low.stack, down)) inside
-      (inl (own_place z words header)) (omega (arith, reach)) p.ready (p.bounded low.bounded)
+      (header_private z.arena new place header) (omega (arith, reach)) p.ready (p.bounded low.bounded)
       (p.others 2 (λ k. omega (arith, k)) (λ k. omega (arith, k))) (p.others 3 (λ k. omega (arith, k)) (λ k. omega (arith, k))) refl refl in
       let same : (j : ℕ) → j ≢ place → slice_index words' j ≡ slice_index r.words j = λ j ne. get_or-set_other r.words place j (4 * pos) 0 ne in
       let point = point_laid program l Fact first good a at at2 (l.records number line) (l.records number (line + 1)) new callers z m m2 words' place st
@@ -191,16 +181,8 @@ module _ (program : LineProgram) (l : Located) (Fact : (number line register : �
       let cheap = low.cheap in (
         low.count + (3 + suc (length K)),
         omega (arith, n, cheap),
-        record { moment' = t.moment'; comes = and_on low.comes (and_on comes t.comes); runs = t.runs },
+        record { moment' = t.moment'; comes = and_on {m'' = t.moment'} low.comes (and_on {m'' = t.moment'} comes t.comes); runs = t.runs },
       )
-    where
-      own_place :
-          (z : MidState) (words : ℕ) → InHeader (length z.arena.memory) (laid_record (length z.arena.blocks) words landing) z.arena.blocks (length z.arena.memory - (words + 2 + words_of z.arena.blocks))
-          → (length (with_new_block (record_of words) z.arena).memory - words_of (record_of words ∷ z.arena.blocks) ≤ length z.arena.memory - (words + 2 + words_of z.arena.blocks))
-          × (length z.arena.memory - (words + 2 + words_of z.arena.blocks) < length (with_new_block (record_of words) z.arena).memory - words_of (record_of words ∷ z.arena.blocks) + (words + 2 - (words + 2 - 2)))
-      own_place z words h =
-          let same = length_emptied (begin_of (length z.arena.memory) (record_of words ∷ z.arena.blocks) / 4) (words + 2) z.arena.memory in
-          (omega (arith, same), omega (arith, same))
 
   pub lay_follows :
       (a : Activation) (line block words landing : ℕ) (rs : Registers) (callers : List Caller) (z : MidState) (m : Moment)

@@ -3,4 +3,4 @@
 
 pub mod laws;
 
-pub use laws::law_lays;
+pub use laws::{law_lays, law_lends};
