@@ -195,7 +195,7 @@ module _ (program : LineProgram) (l : Located) (Fact : (number line register : �
       (λ q high n10 n11 n17. p.others q (inr high)) (λ j low. same _ (on_blocks program size a z.arena.blocks j st.0 low))
       (arrives program l Fact first good a line (line + 1) to (w + 1) rs z m.state.registers words g.gives.flows r.there))
       (λ e. p.others 1 (inl (omega arith)) ∙ r.links.linked (g.gives.linked e)) g.gives.records in
-      record { moment' = t.moment'; comes = and_on comes t.comes; runs = t.runs }
+      record { moment' = t.moment'; comes = and_on {m'' = t.moment'} comes t.comes; runs = t.runs }
 
 module _ (program : LineProgram) (l : Located) (Fact : (number line register : ℕ) → Place → Type 0) (first : List Block)
     (checked : is_checked_line_program program ≡ true) (good : IsGood program l Fact) where

@@ -161,7 +161,7 @@ module _ (program : LineProgram) (l : Located) (Fact : (number line register : �
       (λ q high n10 n11 n17. s.others q n10 n17 (λ k. omega (arith, high, k))) (λ k low. refl)
       (arrives program l Fact first good a line (line + 1) to (got z.input) rs z m.state.registers words g.gives.flows r.there))
       (λ k. s.others 1 (λ j. omega (arith, j)) (λ j. omega (arith, j)) (λ j. omega (arith, j)) ∙ r.links.linked (g.gives.linked k)) g.gives.records in
-      record { moment' = t.moment'; comes = and_on comes t.comes; runs = t.runs }
+      record { moment' = t.moment'; comes = and_on {m'' = t.moment'} comes t.comes; runs = t.runs }
 
   pub get_follows :
       (a : Activation) (line to : ℕ) (rs : Registers) (callers : List Caller) (z : MidState) (m : Moment)

@@ -12,3 +12,8 @@ IsGet x = ⊥
 abbrev pub IsDraw : Line → Type 0
 IsDraw (Do (operation.Draw to base offset)) = Unit {0}
 IsDraw x = ⊥
+
+-- words that are requested
+abbrev pub IsRequest : Line → Type 0
+IsRequest (Do (operation.Request to words)) = Unit {0}
+IsRequest x = ⊥

@@ -3,4 +3,4 @@
 
 pub mod laws;
 
-pub use laws::{law_draws, law_gets};
+pub use laws::{law_draws, law_gets, law_requests};
