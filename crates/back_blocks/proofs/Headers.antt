@@ -1,24 +1,24 @@
 -- A new record or lent block with its header written: the machine stands at a point of the activation with one more that stands.
-use Rattle.std.proofs.Common.{inl, inr, ◌≡◌, ◌≢◌, ℕ, ◌+◌, ◌-◌, ◌*◌, ◌/◌, ◌^◌, ◌<◌, ◌≤◌, Bool, true, false, List, [], ◌∷◌, length, refl, sym, ap, subst, ◌∙◌, arith, Some, None}
-use Rattle.std.specs.Prelude.{◌⊎◌, Option, slice_index, slice_set}
+use Rattle.std.proofs.Common.{inl, inr, ◌≡◌, ◌≢◌, ℕ, ◌+◌, ◌-◌, ◌*◌, ◌/◌, ◌^◌, ◌<◌, ◌≤◌, Bool, true, false, List, [], ◌∷◌, length, refl, sym, ap, subst, ◌∙◌, arith}
+use Rattle.std.specs.Prelude.{slice_index, slice_set}
 use Rattle.std.proofs.lemmas.List.{get_or-set_other, length-set}
 use Rattle.rv_machine.specs.Run.{Moment}
 use Rattle.mid_code.specs.Arena.{Arena, Block, words_of, stack_from, begin_of, left, with_new_block, emptied}
 use Rattle.mid_code.specs.State.{Registers, MidState, with_arena}
 use Rattle.mid_lines.specs.declared.line.LineProgram.{LineProgram}
 use Rattle.mid_lines.specs.LineMeaning.{Standing, Activation, Caller, with_standing}
-use Rattle.mid_lines.specs.StackLaw.{record_kind, record_block, frame_of, blocks_of, BlocksAreCounted, StandsOn, CallersStandOn}
+use Rattle.mid_lines.specs.StackLaw.{record_kind, record_block, blocks_of, BlocksAreCounted, StandsOn, CallersStandOn}
 use Rattle.back_places.specs.declared.place.Place.{Place}
 use Rattle.back_places.specs.declared.place.Place.TheVariants.{InRegister, InSlot, AsConstant}
 use Rattle.back_places.specs.Places.{StaticRecord, Located}
 use Rattle.back_places.specs.Facts.{IsPlace}
 use Rattle.back_places.specs.Good.{IsGood}
-use Rattle.back_places.specs.Relation.{IsAt, base_of, own_words, IsPrivate, HeadHolds, HeadsHold, CallersWait, Machine, Point, static_of, statics}
+use Rattle.back_places.specs.Relation.{IsAt, base_of, own_words, IsPrivate, HeadHolds, HeadsHold, CallersWait, Machine, Point, static_of}
 use Rattle.back_stepping.specs.Arriving.{Arrives}
 use Rattle.back_stepping.specs.Moments.{state_at, Beside, moment, AreSmall, Ready}
 use Rattle.back_stepping.proofs.Operands.{set_small}
 use Rattle.back_stepping.proofs.Private.{private_low, lent_apart, outer_words, SamePrivate, heads_stay, callers_stay, program_kept}
-use Rattle.back_stepping.proofs.Going.{OwnKept, all_kept}
+use Rattle.back_stepping.proofs.Going.{all_kept}
 use Rattle.back_emission.proofs.Records.{blocks_same, heads_same}
 use Rattle.back_emission.proofs.NewBlocks.{length_emptied}
 
@@ -138,12 +138,11 @@ module _ (program : LineProgram) (l : Located) (Fact : (number line register : �
         pc = pc;
         saved = λ e. subst (λ k. slice_index words' (base_of program k a) ≡ r.link) (sym same_size) (kept.link e ∙ r.saved e);
         records_are = known_is ∙ ap (λ k. static_of s.words s.landing ∷ k) r.records_are;
-        heads = subst (λ k. HeadsHold program l Fact first words' k (with_standing (s ∷ a.standing) a) (s ∷ a.standing)) (sym same_size)
-            (
-              subst (λ b. HeadHolds program l Fact first words' (size - words_of (record_block s ∷ b)) (size - words_of b) a.procedure s.landing) blocks_are head,
-              heads_same program l Fact first good words' size a (s ∷ a.standing) a.standing
-                  (heads_stay program l Fact first size r.words words' good a z.arena.blocks st.0 r.machine.form.fits (λ i p low. kept.heads i p low) r.heads),
-            );
+        heads = subst (λ k. HeadsHold program l Fact first words' k (with_standing (s ∷ a.standing) a) (s ∷ a.standing)) (sym same_size) (
+          subst (λ b. HeadHolds program l Fact first words' (size - words_of (record_block s ∷ b)) (size - words_of b) a.procedure s.landing) blocks_are head,
+          heads_same program l Fact first good words' size a (s ∷ a.standing) a.standing
+              (heads_stay program l Fact first size r.words words' good a z.arena.blocks st.0 r.machine.form.fits (λ i p low. kept.heads i p low) r.heads),
+        );
         waiting = subst (λ k. CallersWait program l Fact first words' k callers r.link) (sym same_size)
             (callers_stay program l Fact first size r.words words' good callers a.outer r.link (omega (arith, all, same_words, r.machine.form.fits)) st.1 kept.outer r.waiting);
       }
@@ -169,8 +168,8 @@ module _ (program : LineProgram) (l : Located) (Fact : (number line register : �
       elim (reach v p x f e) [
         | inl given ↦ inl given
         | inr other ↦ inr (
-            subst (λ n. IsAt registers' words' (base_of program n a) p x) (sym same_size)
-                (past_laying registers registers' words words' (base_of program size a) _ p x others (λ k. same _ (frame_outside a size s z.arena.blocks place k st header)) (good.placed a.procedure line' v p f) other.0),
-            other.1,
-          )
+          subst (λ n. IsAt registers' words' (base_of program n a) p x) (sym same_size)
+              (past_laying registers registers' words words' (base_of program size a) _ p x others (λ k. same _ (frame_outside a size s z.arena.blocks place k st header)) (good.placed a.procedure line' v p f) other.0),
+          other.1,
+        )
       ]

@@ -1,17 +1,16 @@
 -- The step of a line that lays a control record.
-use Rattle.std.proofs.Common.{inl, inr, ◌≡◌, ◌≢◌, ℕ, suc, ◌+◌, ◌-◌, ◌*◌, ◌/◌, ◌%◌, ◌^◌, ◌<◌, ◌≤◌, Bool, true, false, ◌&&◌, List, [], ◌∷◌, ◌++◌, length, refl, sym, ap, subst, ◌∙◌, arith, Some, length-append, append_assoc}
-use Rattle.std.specs.Prelude.{◌⊎◌, Option, slice_index, slice_set, nat_le}
+use Rattle.std.proofs.Common.{inl, inr, ◌≡◌, ◌≢◌, ℕ, suc, ◌+◌, ◌-◌, ◌*◌, ◌^◌, ◌<◌, ◌≤◌, Bool, true, false, ◌&&◌, List, [], ◌∷◌, ◌++◌, length, refl, sym, ap, subst, ◌∙◌, arith, Some, length-append}
+use Rattle.std.specs.Prelude.{◌⊎◌, slice_index, slice_set, nat_le}
 use Rattle.std.proofs.lemmas.Bool.Decides.{nat_tests}
 use Rattle.std.proofs.lemmas.List.{get_or-set_same, get_or-set_other}
 use Rattle.base.specs.Arithmetic.{sum32}
-use Rattle.rv_encode.specs.declared.instruction.Instr.{Instr}
 use Rattle.rv_encode.specs.declared.instruction.Instr.TheVariants.{Sw, Addi}
 use Rattle.rv_machine.specs.Memory.{bytes_of, stored_at}
 use Rattle.rv_machine.specs.Words.{word_stored}
 use Rattle.rv_machine.specs.Arithmetic.{sign_extended}
 use Rattle.rv_machine.specs.Step.{next as goes_to, execute, gives, store}
 use Rattle.rv_machine.specs.Run.{Moment}
-use Rattle.mid_code.specs.Arena.{Arena, Block, words_of, begin_of, stack_from, lent_from, left, record_of, header_words, with_new_block}
+use Rattle.mid_code.specs.Arena.{Arena, Block, words_of, stack_from, lent_from, left, record_of, with_new_block}
 use Rattle.mid_code.specs.Checked.{is_register, is_block_size}
 use Rattle.mid_code.specs.State.{Registers, MidState, charged, with_arena, choose_by, ends, falls, no_room}
 use Rattle.mid_lines.proofs.Conjunctions.{front_true, back_true}
@@ -19,23 +18,20 @@ use Rattle.mid_lines.specs.declared.line.Line.TheVariants.{Lay}
 use Rattle.mid_lines.specs.declared.line.LineProgram.{LineProgram}
 use Rattle.mid_lines.specs.Lines.{line_of}
 use Rattle.mid_lines.specs.LinesChecked.{is_target, is_checked_line_program}
-use Rattle.mid_lines.specs.LineMeaning.{Standing, Activation, Caller, running, ended, with_standing, arrive, next, state_of}
-use Rattle.mid_lines.specs.StackLaw.{record_block, frame_of, StageStands}
+use Rattle.mid_lines.specs.LineMeaning.{Standing, Activation, Caller, running, with_standing, arrive, next, state_of}
+use Rattle.mid_lines.specs.StackLaw.{StageStands}
 use Rattle.back_places.specs.declared.place.Place.{Place}
-use Rattle.back_places.specs.declared.place.Place.TheVariants.{InRegister, InSlot, AsConstant}
-use Rattle.back_places.specs.Places.{StaticRecord, Located, way_at}
+use Rattle.back_places.specs.Places.{Located, way_at}
 use Rattle.back_places.specs.Operands.{address_code, given_in, keep_code}
 use Rattle.back_places.specs.Blocks.{room_code}
-use Rattle.back_places.specs.LineCode.{lent_code, lay_code}
-use Rattle.back_places.specs.Facts.{IsPlace}
+use Rattle.back_places.specs.LineCode.{lent_code}
 use Rattle.back_places.specs.Good.{IsGood}
-use Rattle.back_places.specs.Relation.{Stands, HasProgram, IsPrivate, Machine, Runs, Relates}
-use Rattle.back_places.specs.StepLaw.{Comes, Follows, weight}
+use Rattle.back_places.specs.Relation.{Runs, Relates}
+use Rattle.back_places.specs.StepLaw.{Follows, weight}
 use Rattle.back_places.proofs.LinesInForm.{line_is, line_in_form}
-use Rattle.back_stepping.specs.Moments.{state_at, Beside, later, moment, beside, AreSmall, Ready, Prepared}
+use Rattle.back_stepping.specs.Moments.{state_at, later, moment, beside, AreSmall, Ready}
 use Rattle.back_stepping.specs.Arriving.{Given}
 use Rattle.back_stepping.proofs.Coming.{and_on, and_one, has_back, next_place}
-use Rattle.back_stepping.proofs.Parts.{small_extended}
 use Rattle.back_stepping.proofs.Operands.{prepared_one, parts_prepared}
 use Rattle.back_stepping.proofs.Lengths.{keep_length}
 use Rattle.back_stepping.proofs.Going.{point_of}
@@ -69,11 +65,10 @@ lent_address words registers to place w small ready low high stack few is =
     }
   where
     out_of : (q : ℕ) → (q < 5) ⊎ (7 < q) → q ≢ 7
-    out_of q h e = elim h [ | inl k ↦ omega (arith, k, e) | inr k ↦ omega (arith, k, e) ]
+    out_of q h e = elim h [ inl k ↦ omega (arith, k, e) | inr k ↦ omega (arith, k, e) ]
 
 module _ (program : LineProgram) (l : Located) (Fact : (number line register : ℕ) → Place → Type 0) (first : List Block)
     (checked : is_checked_line_program program ≡ true) (good : IsGood program l Fact) where
-
   words_fit : (number line block words landing : ℕ) → line_of program number line ≡ Some (Lay block words landing) → words < 2 ^ 24
   words_fit number line block words landing e =
       let i = line_is program number line (Lay block words landing) checked e in
@@ -109,8 +104,8 @@ module _ (program : LineProgram) (l : Located) (Fact : (number line register : �
       → words + 2 ≤ left z.arena
       → Lowered m (l.line_at a.procedure line) r.words (stack_from z.arena) (words + 2) (length (room_code l.full_at (l.line_at a.procedure line) (words + 2)))
       → (count : ℕ) × (count ≤ 11) × Given program l Fact first (with_standing (laid_record (length z.arena.blocks) words landing ∷ a.standing) a) (line + 1)
-        (slice_set rs block (Some (lent_from (length (with_new_block (record_of words) z.arena).memory) (record_of words ∷ z.arena.blocks)))) callers
-        (charged 36 (with_arena (with_new_block (record_of words) z.arena) z)) m count
+      (slice_set rs block (Some (lent_from (length (with_new_block (record_of words) z.arena).memory) (record_of words ∷ z.arena.blocks)))) callers
+      (charged 36 (with_arena (with_new_block (record_of words) z.arena) z)) m count
   laid a line block words landing rs callers z m e st r room low =
       let number = a.procedure in
       let x = Lay block words landing in

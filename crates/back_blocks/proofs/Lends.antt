@@ -1,31 +1,31 @@
 -- The step of a line that lends a block of as many words as a register says.
-use Rattle.std.proofs.Common.{inl, inr, ◌≡◌, ◌≢◌, ℕ, suc, ◌+◌, ◌-◌, ◌*◌, ◌/◌, ◌%◌, ◌^◌, ◌<◌, ◌≤◌, Bool, true, false, List, [], ◌∷◌, ◌++◌, length, refl, sym, ap, subst, ◌∙◌, arith, Some, None, length-append, append_assoc}
-use Rattle.std.specs.Prelude.{◌⊎◌, not, Option, slice_index, slice_set, nat_le, nat_lt, if◌then◌else◌}
+use Rattle.std.proofs.Common.{◌≡◌, ◌≢◌, ℕ, suc, ◌+◌, ◌-◌, ◌*◌, ◌/◌, ◌%◌, ◌^◌, ◌<◌, ◌≤◌, Bool, true, false, List, [], ◌∷◌, ◌++◌, length, refl, sym, ap, subst, ◌∙◌, arith, Some, None, length-append, append_assoc}
+use Rattle.std.specs.Prelude.{not, Option, slice_index, slice_set, nat_le, nat_lt, if◌then◌else◌}
 use Rattle.std.proofs.lemmas.Bool.Decides.{nat_tests}
 use Rattle.std.proofs.lemmas.List.{get_or-set_same, get_or-set_other, length-set}
 use Rattle.base.specs.Arithmetic.{sum32, difference32, shift_left, shift_right, less_signed}
 use Rattle.rv_encode.specs.declared.instruction.Instr.{Instr}
-use Rattle.rv_encode.specs.declared.instruction.Instr.TheVariants.{Sw, Addi, Add, Sub, Slli, Srli, Bge, Ecall}
+use Rattle.rv_encode.specs.declared.instruction.Instr.TheVariants.{Sw, Addi, Sub, Slli, Srli, Bge, Ecall}
 use Rattle.rv_machine.specs.Memory.{bytes_of, stored_at}
 use Rattle.rv_machine.specs.Words.{word_stored}
 use Rattle.rv_machine.specs.Arithmetic.{sign_extended}
 use Rattle.rv_machine.specs.Step.{next as goes_to, execute, gives, store, branch}
 use Rattle.rv_machine.specs.Run.{Moment}
-use Rattle.mid_code.specs.Arena.{Arena, Block, words_of, stack_from, lent_from, left, lent_block, with_new_block}
+use Rattle.mid_code.specs.Arena.{Block, words_of, stack_from, lent_from, left, lent_block, with_new_block}
 use Rattle.mid_code.specs.Checked.{is_block_size}
-use Rattle.mid_code.specs.State.{Registers, MidState, charged, with_arena, register, choose_by, where_true, ends, falls, stuck, no_room}
+use Rattle.mid_code.specs.State.{Registers, MidState, charged, with_arena, register, choose_by, ends, falls, stuck, no_room}
 use Rattle.mid_code.specs.Meaning.{lay}
 use Rattle.mid_lines.specs.declared.line.Line.TheVariants.{Lend}
 use Rattle.mid_lines.specs.declared.line.LineProgram.{LineProgram}
 use Rattle.mid_lines.specs.Lines.{line_of}
-use Rattle.mid_lines.specs.LineMeaning.{Standing, Activation, Caller, running, ended, with_standing, arrive, lend_at, next, state_of}
-use Rattle.mid_lines.specs.StackLaw.{record_block, frame_of, StageStands}
+use Rattle.mid_lines.specs.LineMeaning.{Standing, Activation, Caller, running, with_standing, arrive, lend_at, next, state_of}
+use Rattle.mid_lines.specs.StackLaw.{StageStands}
 use Rattle.back_places.specs.declared.place.Place.{Place}
-use Rattle.back_places.specs.Places.{StaticRecord, Located, way_at}
+use Rattle.back_places.specs.Places.{Located, way_at}
 use Rattle.back_places.specs.Operands.{load_into, given_in, keep_code}
 use Rattle.back_places.specs.LineCode.{lend_code}
 use Rattle.back_places.specs.Good.{IsGood}
-use Rattle.back_places.specs.Relation.{Stands, HasCode, Machine, Runs, Relates}
+use Rattle.back_places.specs.Relation.{Stands, HasCode, Runs, Relates}
 use Rattle.back_places.specs.StepLaw.{Comes, Follows, weight}
 use Rattle.back_stepping.specs.Moments.{state_at, Beside, later, moment, beside, AreSmall, Sets, Ready, Prepared}
 use Rattle.back_stepping.specs.Arriving.{Given}
@@ -189,7 +189,6 @@ room_lent m at words sp hp n place c more d pc memory small rsmall stack heap gr
 
 module _ (program : LineProgram) (l : Located) (Fact : (number line register : ℕ) → Place → Type 0) (first : List Block)
     (good : IsGood program l Fact) where
-
   -- the code of the line, up to its test and behind it
   measure_code : (number line v : ℕ) → List Instr
   measure_code number line v = load_into (way_at l number line) 10 (l.source number line v) ++ Addi 10 10 2 ∷ Slli 5 10 2 ∷ Sub 5 2 5 ∷ []
@@ -218,8 +217,8 @@ module _ (program : LineProgram) (l : Located) (Fact : (number line register : �
       → w + 2 ≤ left z.arena → (c : List Instr) → c ≡ measure_code a.procedure line v
       → (d : LentRoom m r.words (stack_from z.arena) (length z.arena.memory - (w + 2 + words_of z.arena.blocks)) count (l.line_at a.procedure line + length c + 1 + 1 + 1 + 1 + 1 + 1 + 1))
       → Given program l Fact first (with_standing (lent_standing (length z.arena.blocks) w ∷ a.standing) a) (line + 1)
-        (slice_set rs block (Some (lent_from (length (with_new_block (lent_block w) z.arena).memory) (lent_block w ∷ z.arena.blocks)))) callers
-        (charged 36 (with_arena (with_new_block (lent_block w) z.arena) z)) m (count + suc (length (keep_code (way_at l a.procedure (line + 1)) (l.target a.procedure line))))
+      (slice_set rs block (Some (lent_from (length (with_new_block (lent_block w) z.arena).memory) (lent_block w ∷ z.arena.blocks)))) callers
+      (charged 36 (with_arena (with_new_block (lent_block w) z.arena) z)) m (count + suc (length (keep_code (way_at l a.procedure (line + 1)) (l.target a.procedure line))))
   lent a line block v w count rs callers z m e st r room c c_is d =
       let number = a.procedure in
       let x = Lend block v in

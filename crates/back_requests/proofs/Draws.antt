@@ -1,5 +1,5 @@
 -- The step of a line that draws a serial number.
-use Rattle.std.proofs.Common.{inl, inr, ◌≡◌, ◌≢◌, ℕ, zero, suc, ◌+◌, ◌-◌, ◌*◌, ◌/◌, ◌%◌, ◌^◌, ◌<◌, ◌≤◌, ℤ, Bool, true, false, ◌&&◌, List, [], ◌∷◌, ◌++◌, length, refl, sym, ap, subst, ◌∙◌, arith, Some, None, append_assoc, length-append, eq-eqb}
+use Rattle.std.proofs.Common.{inl, inr, ◌≡◌, ◌≢◌, ℕ, zero, suc, ◌+◌, ◌-◌, ◌*◌, ◌/◌, ◌^◌, ◌<◌, ◌≤◌, ℤ, Bool, true, false, ◌&&◌, List, [], ◌∷◌, ◌++◌, length, refl, sym, ap, subst, ◌∙◌, arith, Some, None, append_assoc, length-append}
 use Rattle.std.specs.Prelude.{◌⊎◌, Option, slice_index, slice_set, ◌==◌}
 use Rattle.std.proofs.lemmas.Bool.Decides.{nat_tests}
 use Rattle.std.proofs.lemmas.List.{get_or-set_other, length-set}
@@ -12,7 +12,7 @@ use Rattle.rv_machine.specs.Arithmetic.{sign_extended}
 use Rattle.rv_machine.specs.Step.{next as goes_to, execute, gives, load, store}
 use Rattle.rv_machine.specs.Run.{Moment}
 use Rattle.mid_code.specs.declared.operation.Operation.TheVariants.{Draw}
-use Rattle.mid_code.specs.Arena.{Arena, Block, is_lent, word_at, with_word}
+use Rattle.mid_code.specs.Arena.{Block, is_lent, word_at, with_word}
 use Rattle.mid_code.specs.Checked.{is_register, is_offset}
 use Rattle.mid_code.specs.Words.{address}
 use Rattle.mid_code.specs.State.{Registers, MidState, charged, with_arena, register, with_some, choose_by, ends, exhausted, stuck, gives as gives_word}
@@ -23,7 +23,7 @@ use Rattle.mid_lines.specs.declared.line.LineProgram.{LineProgram}
 use Rattle.mid_lines.specs.Lines.{line_of}
 use Rattle.mid_lines.specs.LinesChecked.{is_checked_line_program}
 use Rattle.mid_lines.specs.LineMeaning.{Activation, Caller, Stage, running, ended, next, proceed, state_of}
-use Rattle.mid_lines.specs.StackLaw.{frame_of, StageStands}
+use Rattle.mid_lines.specs.StackLaw.{StageStands}
 use Rattle.back_places.specs.declared.place.Place.{Place}
 use Rattle.back_places.specs.declared.place.Place.TheVariants.{InRegister, InSlot, AsConstant}
 use Rattle.back_places.specs.Places.{Located, way_at}
@@ -32,7 +32,7 @@ use Rattle.back_places.specs.Selection.{low_12}
 use Rattle.back_places.specs.Facts.{IsPlace, Computes}
 use Rattle.back_places.specs.Good.{IsGood}
 use Rattle.back_places.specs.Relation.{Stands, HasProgram, IsPrivate, Machine, Runs, Relates}
-use Rattle.back_places.specs.StepLaw.{Comes, Follows, IsLawful, weight}
+use Rattle.back_places.specs.StepLaw.{Follows, IsLawful, weight}
 use Rattle.back_places.proofs.LinesInForm.{line_is, line_in_form}
 use Rattle.back_stepping.specs.Moments.{state_at, Beside, later, moment, beside, AreSmall, Sets, Ready, Prepared}
 use Rattle.back_stepping.specs.Arriving.{Given}
@@ -43,7 +43,7 @@ use Rattle.back_stepping.proofs.Lengths.{read_length, move_from_register}
 use Rattle.back_stepping.proofs.Going.{all_kept, point_of}
 use Rattle.back_stepping.proofs.Giving.{arrives}
 use Rattle.back_stepping.proofs.Moving.{place_small, frame_is}
-use Rattle.back_emission.proofs.Addresses.{address_same, IsThere, word_there}
+use Rattle.back_emission.proofs.Addresses.{address_same, word_there}
 use Rattle.back_emission.proofs.Stores.{arena_stored}
 use Rattle.back_emission.proofs.Steps.{nothing, at_line, weighs, next_line}
 use Rattle.back_requests.proofs.Taken.{arrive_on, point_on, taken}
@@ -70,7 +70,7 @@ record Raised (words registers : List ℕ) (code : List Instr) (rb b w : ℕ) : 
   ready : Ready registers'
 
 out_of : (q s : ℕ) → (q < 5) ⊎ (7 < q) → 4 < s → s < 8 → q ≢ s
-out_of q s h low high e = elim h [ | inl k ↦ omega (arith, k, e, low) | inr k ↦ omega (arith, k, e, high) ]
+out_of q s h low high e = elim h [ inl k ↦ omega (arith, k, e, low) | inr k ↦ omega (arith, k, e, high) ]
 
 raised :
     (words registers : List ℕ) (code : List Instr) (rb b w off place : ℕ) → AreSmall words → (rb ≢ 5) × (rb ≢ 7) → Prepared words registers code rb b 6
@@ -155,7 +155,7 @@ module _ (program : LineProgram) (l : Located) (Fact : (number line register : �
       → l.line_at a.procedure (line + 1) ≡ l.line_at a.procedure line + length (C ++ Sw 5 rb off ∷ move_code (way_at l a.procedure line) (InRegister 5) (l.target a.procedure line))
       → sum32 b (sign_extended 12 off) ≡ 4 * (place / 4) → is_lent z.arena (4 * (place / 4)) ≡ true → place / 4 < length r.words
       → Given program l Fact first a (line + 1) (slice_set rs to (Some (w + 1))) callers (charged 26 (with_arena (with_word place (w + 1) z.arena) z)) m
-        (length C + 1 + length (move_code (way_at l a.procedure line) (InRegister 5) (l.target a.procedure line)))
+      (length C + 1 + length (move_code (way_at l a.procedure line) (InRegister 5) (l.target a.procedure line)))
   drawn a line to rs callers z m C rb b off place w reads st r p fits g stands_in behind reached lent inside =
       let k = place / 4 in
       let at = l.line_at a.procedure line in

@@ -1,16 +1,16 @@
 -- The heap grows by a number of words that is written in the code.
-use Rattle.std.proofs.Common.{inl, inr, ◌≡◌, ◌≢◌, ℕ, suc, ◌+◌, ◌-◌, ◌*◌, ◌/◌, ◌%◌, ◌^◌, ◌<◌, ◌≤◌, Bool, true, false, List, [], ◌∷◌, ◌++◌, length, refl, sym, ap, subst, ◌∙◌, arith, Some, length-append, append_assoc}
-use Rattle.std.specs.Prelude.{not, slice_index, slice_set, nat_lt, if◌then◌else◌}
+use Rattle.std.proofs.Common.{◌≡◌, ◌≢◌, ℕ, ◌+◌, ◌*◌, ◌/◌, ◌^◌, ◌<◌, ◌≤◌, true, List, [], ◌∷◌, ◌++◌, length, refl, sym, ap, subst, ◌∙◌, arith, length-append, append_assoc}
+use Rattle.std.specs.Prelude.{slice_index, slice_set}
 use Rattle.std.proofs.lemmas.List.{get_or-set_same, get_or-set_other}
 use Rattle.base.specs.Arithmetic.{sum32}
 use Rattle.rv_encode.specs.declared.instruction.Instr.{Instr}
-use Rattle.rv_encode.specs.declared.instruction.Instr.TheVariants.{Addi, Sw, Bgeu}
+use Rattle.rv_encode.specs.declared.instruction.Instr.TheVariants.{Addi, Sw}
 use Rattle.rv_machine.specs.Memory.{bytes_of, stored_at}
 use Rattle.rv_machine.specs.Words.{word_stored}
 use Rattle.rv_machine.specs.Arithmetic.{sign_extended}
-use Rattle.rv_machine.specs.Step.{next as goes_to, execute, gives, branch, store}
+use Rattle.rv_machine.specs.Step.{next as goes_to, execute, gives, store}
 use Rattle.rv_machine.specs.Run.{Moment}
-use Rattle.mid_code.specs.Arena.{Arena, Block, stack_from, left, with_heap, emptied}
+use Rattle.mid_code.specs.Arena.{Block, left, with_heap}
 use Rattle.mid_code.specs.State.{Registers, MidState, charged, with_arena}
 use Rattle.mid_lines.specs.declared.line.LineProgram.{LineProgram}
 use Rattle.mid_lines.specs.LineMeaning.{Activation, Caller}
@@ -21,14 +21,14 @@ use Rattle.back_places.specs.Places.{StaticRecord, Located, way_of, reachable}
 use Rattle.back_places.specs.Operands.{load_into, move_code, at_slot}
 use Rattle.back_places.specs.Facts.{IsPlace, IsSomewhere}
 use Rattle.back_places.specs.Good.{IsGood}
-use Rattle.back_places.specs.Relation.{HasCode, Stands, HasProgram, base_of, Machine, Point, Runs}
+use Rattle.back_places.specs.Relation.{Stands, HasProgram, base_of, Machine, Point}
 use Rattle.back_places.specs.StepLaw.{Comes}
-use Rattle.back_stepping.specs.Moments.{state_at, Beside, later, moment, beside, AreSmall, Sets, Ready}
+use Rattle.back_stepping.specs.Moments.{state_at, Beside, later, moment, AreSmall, Sets, Ready}
 use Rattle.back_stepping.specs.Arriving.{Given, Arrives}
 use Rattle.back_stepping.proofs.Coming.{and_on, and_one, sets_on, has_back, next_place}
 use Rattle.back_stepping.proofs.Operands.{prepared_one, reached, reachable_few}
 use Rattle.back_stepping.proofs.Private.{program_kept}
-use Rattle.back_stepping.proofs.Going.{OwnKept, OwnChange, all_kept, slot_change, stands_at}
+use Rattle.back_stepping.proofs.Going.{OwnChange, all_kept, slot_change, stands_at}
 use Rattle.back_stepping.proofs.Giving.{all_there}
 use Rattle.back_stepping.proofs.Moving.{frame_is}
 use Rattle.back_emission.proofs.NewBlocks.{length_emptied}

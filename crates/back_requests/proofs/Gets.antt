@@ -1,9 +1,8 @@
 -- The step of a line that reads a byte.
-use Rattle.std.proofs.Common.{inl, inr, ◌≡◌, ◌≢◌, ℕ, zero, suc, ◌+◌, ◌*◌, ◌%◌, ◌-◌, ◌^◌, ◌<◌, ◌≤◌, List, [], ◌∷◌, ◌++◌, length, refl, sym, ap, subst, ◌∙◌, arith, Some, append-nil}
+use Rattle.std.proofs.Common.{◌≡◌, ◌≢◌, ℕ, zero, suc, ◌+◌, ◌-◌, ◌^◌, ◌<◌, ◌≤◌, List, [], ◌∷◌, ◌++◌, length, refl, sym, ap, subst, ◌∙◌, arith, Some, append-nil}
 use Rattle.std.specs.Prelude.{drop, slice_index, slice_set}
 use Rattle.std.proofs.lemmas.List.{get_or-set_same, get_or-set_other, length-set}
 use Rattle.base.specs.Arithmetic.{sum32}
-use Rattle.rv_encode.specs.declared.instruction.Instr.{Instr}
 use Rattle.rv_encode.specs.declared.instruction.Instr.TheVariants.{Addi, Ecall}
 use Rattle.rv_machine.specs.declared.ending.Ending.TheVariants.{Budget}
 use Rattle.rv_machine.specs.Memory.{bytes_of}
@@ -24,7 +23,7 @@ use Rattle.back_places.specs.declared.place.Place.TheVariants.{InRegister}
 use Rattle.back_places.specs.Places.{Located, way_at}
 use Rattle.back_places.specs.Operands.{move_code}
 use Rattle.back_places.specs.Good.{IsGood}
-use Rattle.back_places.specs.Relation.{HasCode, Stands, Machine, Runs, Relates}
+use Rattle.back_places.specs.Relation.{Machine, Runs, Relates}
 use Rattle.back_places.specs.StepLaw.{Comes, Follows, weight}
 use Rattle.back_stepping.specs.Moments.{state_at, Beside, later, moment, beside, AreSmall, Ready}
 use Rattle.back_stepping.specs.Arriving.{Given}
@@ -114,7 +113,7 @@ module _ (program : LineProgram) (l : Located) (Fact : (number line register : �
       → line_of program a.procedure line ≡ Some (Do (Get to))
       → (st : StageStands program first (running a line rs callers z)) → Runs program l Fact first a line rs callers z m
       → Given program l Fact first a (line + 1) (slice_set rs to (Some (got z.input))) callers (charged 8 (read_state z)) m
-        (2 + length (move_code (way_at l a.procedure line) (InRegister 10) (l.target a.procedure line)))
+      (2 + length (move_code (way_at l a.procedure line) (InRegister 10) (l.target a.procedure line)))
   read_at a line to rs callers z m e st r =
       let g = good.lines a.procedure line (Do (Get to)) e in
       let at = l.line_at a.procedure line in

@@ -1,10 +1,10 @@
 -- The heap grows: the words of the memory are as they were, and those that are new are none in the arena.
-use Rattle.std.proofs.Common.{inl, inr, ◌≡◌, ℕ, zero, suc, ◌+◌, ◌-◌, ◌*◌, ◌/◌, ◌%◌, ◌<◌, ◌≤◌, Bool, true, false, ◌&&◌, List, [], ◌∷◌, length, refl, sym, ap, subst, ◌∙◌, arith, Some}
+use Rattle.std.proofs.Common.{inl, inr, ◌≡◌, ℕ, zero, suc, ◌+◌, ◌*◌, ◌/◌, ◌%◌, ◌<◌, ◌≤◌, Bool, true, false, ◌&&◌, List, [], ◌∷◌, length, refl, sym, subst, ◌∙◌, arith, Some}
 use Rattle.std.specs.Prelude.{◌⊎◌, ◌||◌, Option, slice_index, slice_get, ◌==◌, nat_le, nat_lt}
 use Rattle.std.proofs.lemmas.Bool.Decides.{nat_tests}
 use Rattle.rv_machine.specs.Memory.{bytes_of}
 use Rattle.rv_machine.specs.Run.{Moment}
-use Rattle.mid_code.specs.Arena.{Arena, Block, stack_from, left, is_lent, is_within, is_in_record, emptied, with_heap}
+use Rattle.mid_code.specs.Arena.{Arena, Block, left, is_lent, is_within, is_in_record, emptied, with_heap}
 use Rattle.mid_code.specs.State.{MidState, with_arena}
 use Rattle.mid_lines.proofs.Conjunctions.{front_true, back_true}
 use Rattle.mid_lines.specs.declared.line.LineProgram.{LineProgram}
@@ -65,18 +65,18 @@ lent_by_heap a w i h = by (emptied (a.heap_to / 4) w a.memory) (length_emptied (
         elim (either_true (is_within a.laid_from a.laid_to (4 * i) || is_within a.heap_from (a.heap_to + 4 * w) (4 * i)) (is_in_record (length memory) a.blocks (4 * i)) rest) [
           | inl j ↦ elim (either_true (is_within a.laid_from a.laid_to (4 * i)) (is_within a.heap_from (a.heap_to + 4 * w) (4 * i)) j) [
             | inl u ↦ inl (both_from (4 * i % 4 == 0) _ aligned
-              (either_from (is_within a.laid_from a.laid_to (4 * i) || is_within a.heap_from a.heap_to (4 * i)) (is_in_record (length a.memory) a.blocks (4 * i))
-              (inl (either_from (is_within a.laid_from a.laid_to (4 * i)) (is_within a.heap_from a.heap_to (4 * i)) (inl u)))))
+                (either_from (is_within a.laid_from a.laid_to (4 * i) || is_within a.heap_from a.heap_to (4 * i)) (is_in_record (length a.memory) a.blocks (4 * i))
+                (inl (either_from (is_within a.laid_from a.laid_to (4 * i)) (is_within a.heap_from a.heap_to (4 * i)) (inl u)))))
             | inr u ↦ elim (within_longer a.heap_from a.heap_to (a.heap_to + 4 * w) (4 * i) u) [
               | inl v ↦ inl (both_from (4 * i % 4 == 0) _ aligned
-                (either_from (is_within a.laid_from a.laid_to (4 * i) || is_within a.heap_from a.heap_to (4 * i)) (is_in_record (length a.memory) a.blocks (4 * i))
-                (inl (either_from (is_within a.laid_from a.laid_to (4 * i)) (is_within a.heap_from a.heap_to (4 * i)) (inr v)))))
+                  (either_from (is_within a.laid_from a.laid_to (4 * i) || is_within a.heap_from a.heap_to (4 * i)) (is_in_record (length a.memory) a.blocks (4 * i))
+                  (inl (either_from (is_within a.laid_from a.laid_to (4 * i)) (is_within a.heap_from a.heap_to (4 * i)) (inr v)))))
               | inr v ↦ inr v
             ]
           ]
           | inr j ↦ inl (both_from (4 * i % 4 == 0) _ aligned
-            (either_from (is_within a.laid_from a.laid_to (4 * i) || is_within a.heap_from a.heap_to (4 * i)) (is_in_record (length a.memory) a.blocks (4 * i))
-            (inr (subst (λ size. is_in_record size a.blocks (4 * i) ≡ true) same j))))
+              (either_from (is_within a.laid_from a.laid_to (4 * i) || is_within a.heap_from a.heap_to (4 * i)) (is_in_record (length a.memory) a.blocks (4 * i))
+              (inr (subst (λ size. is_in_record size a.blocks (4 * i) ≡ true) same j))))
         ]
 
 module _ (program : LineProgram) (l : Located) (Fact : (number line register : ℕ) → Place → Type 0) (first : List Block) where

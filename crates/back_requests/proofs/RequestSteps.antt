@@ -1,5 +1,5 @@
 -- The whole steps of lines that request words of the heap.
-use Rattle.std.proofs.Common.{inl, inr, ◌≡◌, ◌≢◌, ℕ, suc, ◌+◌, ◌-◌, ◌*◌, ◌/◌, ◌%◌, ◌^◌, ◌<◌, ◌≤◌, Bool, true, false, List, [], ◌∷◌, ◌++◌, length, refl, sym, ap, subst, ◌∙◌, arith, Some, None, length-append, append_assoc}
+use Rattle.std.proofs.Common.{◌≡◌, ℕ, suc, ◌+◌, ◌*◌, ◌^◌, ◌<◌, ◌≤◌, Bool, true, false, List, [], ◌∷◌, ◌++◌, length, refl, sym, ap, subst, ◌∙◌, arith, Some, None, length-append, append_assoc}
 use Rattle.std.specs.Prelude.{not, Option, slice_index, slice_set, nat_le, nat_lt, if◌then◌else◌}
 use Rattle.std.proofs.lemmas.Bool.Decides.{nat_tests}
 use Rattle.base.specs.Arithmetic.{sum32}
@@ -10,7 +10,7 @@ use Rattle.rv_machine.specs.Arithmetic.{sign_extended}
 use Rattle.rv_machine.specs.Step.{next as goes_to, execute, gives, branch}
 use Rattle.rv_machine.specs.Run.{Moment}
 use Rattle.mid_code.specs.declared.operation.Operation.TheVariants.{Request}
-use Rattle.mid_code.specs.Arena.{Arena, Block, stack_from, left, with_heap}
+use Rattle.mid_code.specs.Arena.{Block, stack_from, left, with_heap}
 use Rattle.mid_code.specs.State.{Registers, MidState, charged, with_arena, register, with_some, choose_by, ends, no_room, gives as gives_word}
 use Rattle.mid_code.specs.Meaning.{exec_step, request}
 use Rattle.mid_lines.specs.declared.line.Line.TheVariants.{Do}
@@ -24,8 +24,8 @@ use Rattle.back_places.specs.Places.{Located, way_at}
 use Rattle.back_places.specs.Operands.{load_into, move_code}
 use Rattle.back_places.specs.LineCode.{few_requested_code, requested_code, request_code}
 use Rattle.back_places.specs.Good.{IsGood}
-use Rattle.back_places.specs.Relation.{Stands, Machine, Runs, Relates}
-use Rattle.back_places.specs.StepLaw.{Comes, Follows, weight}
+use Rattle.back_places.specs.Relation.{Stands, Runs, Relates}
+use Rattle.back_places.specs.StepLaw.{Follows, weight}
 use Rattle.back_stepping.specs.Moments.{state_at, later, moment, beside, Ready}
 use Rattle.back_stepping.specs.Arriving.{Given}
 use Rattle.back_stepping.proofs.Coming.{and_on, and_one}
@@ -70,7 +70,7 @@ module _ (program : LineProgram) (l : Located) (Fact : (number line register : �
       → w < 512 → w ≤ left z.arena
       → request_code (way_at l a.procedure line) (l.source a.procedure line v) (l.target a.procedure line) ≡ few_requested_code (way_at l a.procedure line) w (l.target a.procedure line)
       → Given program l Fact first a (line + 1) (slice_set rs to (Some z.arena.heap_to)) callers (with_arena (with_heap w z.arena) (charged 20 z)) m
-        (2 + (length (move_code (way_at l a.procedure line) (InRegister 3) (l.target a.procedure line)) + 1))
+      (2 + (length (move_code (way_at l a.procedure line) (InRegister 3) (l.target a.procedure line)) + 1))
   few_there a line to v w rs callers z m e st r few room is =
       let g = good.lines a.procedure line (Do (Request to v)) e in
       let at = l.line_at a.procedure line in

@@ -1,6 +1,6 @@
 -- The step of a line that requests words of the heap.
-use Rattle.std.proofs.Common.{inl, inr, ◌≡◌, ◌≢◌, ℕ, suc, ◌+◌, ◌-◌, ◌*◌, ◌/◌, ◌%◌, ◌^◌, ◌<◌, ◌≤◌, Bool, true, false, List, [], ◌∷◌, ◌++◌, length, refl, sym, ap, subst, ◌∙◌, arith, Some, None, length-append, append_assoc}
-use Rattle.std.specs.Prelude.{not, Option, slice_index, slice_set, nat_le, nat_lt, if◌then◌else◌}
+use Rattle.std.proofs.Common.{◌≡◌, ◌≢◌, ℕ, suc, ◌+◌, ◌-◌, ◌*◌, ◌/◌, ◌^◌, ◌<◌, ◌≤◌, Bool, true, false, List, [], ◌∷◌, ◌++◌, length, refl, ap, ◌∙◌, arith, Some, length-append}
+use Rattle.std.specs.Prelude.{not, slice_index, slice_set, nat_lt, if◌then◌else◌}
 use Rattle.std.proofs.lemmas.Bool.Decides.{nat_tests}
 use Rattle.base.specs.Arithmetic.{sum32, difference32, shift_left, shift_right}
 use Rattle.rv_encode.specs.declared.instruction.Instr.{Instr}
@@ -9,24 +9,19 @@ use Rattle.rv_machine.specs.Memory.{bytes_of}
 use Rattle.rv_machine.specs.Arithmetic.{sign_extended}
 use Rattle.rv_machine.specs.Step.{next as goes_to, execute, gives, branch}
 use Rattle.rv_machine.specs.Run.{Moment}
-use Rattle.mid_code.specs.declared.operation.Operation.TheVariants.{Request}
-use Rattle.mid_code.specs.Arena.{Arena, Block, stack_from, left, with_heap, emptied}
+use Rattle.mid_code.specs.Arena.{Block, left, with_heap}
 use Rattle.mid_code.specs.State.{Registers, MidState, charged, with_arena}
-use Rattle.mid_lines.specs.declared.line.Line.TheVariants.{Do}
 use Rattle.mid_lines.specs.declared.line.LineProgram.{LineProgram}
-use Rattle.mid_lines.specs.Lines.{line_of}
 use Rattle.mid_lines.specs.LineMeaning.{Activation, Caller, running}
 use Rattle.mid_lines.specs.StackLaw.{StageStands}
 use Rattle.back_places.specs.declared.place.Place.{Place}
-use Rattle.back_places.specs.declared.place.Place.TheVariants.{InRegister, InSlot, AsConstant}
+use Rattle.back_places.specs.declared.place.Place.TheVariants.{InRegister}
 use Rattle.back_places.specs.Places.{Located, way_at}
-use Rattle.back_places.specs.Operands.{load_into, move_code}
-use Rattle.back_places.specs.LineCode.{requested_code}
+use Rattle.back_places.specs.Operands.{move_code}
 use Rattle.back_places.specs.Facts.{Computes}
 use Rattle.back_places.specs.Good.{IsGood}
-use Rattle.back_places.specs.Relation.{HasCode, Stands, Machine, Runs}
-use Rattle.back_places.specs.StepLaw.{Comes}
-use Rattle.back_stepping.specs.Moments.{state_at, Beside, later, moment, beside, AreSmall, Sets, Ready, Prepared}
+use Rattle.back_places.specs.Relation.{Stands, Runs}
+use Rattle.back_stepping.specs.Moments.{state_at, later, moment, beside, AreSmall, Sets, Ready, Prepared}
 use Rattle.back_stepping.specs.Arriving.{Given}
 use Rattle.back_stepping.proofs.Coming.{and_on, and_one, sets_on, sets_none, has_front, has_back}
 use Rattle.back_stepping.proofs.Operands.{prepared_one}
@@ -124,7 +119,7 @@ module _ (program : LineProgram) (l : Located) (Fact : (number line register : �
       → Stands l r.words (l.line_at a.procedure line) (c ++ Bgeu 11 10 12 ∷ Addi 17 0 4 ∷ Ecall ∷ Addi 5 3 0 ∷ Slli 10 10 2 ∷ Add 3 3 10 ∷ move_code (way_at l a.procedure line) (InRegister 5) (l.target a.procedure line))
       → l.line_at a.procedure (line + 1) ≡ l.line_at a.procedure line + length (c ++ Bgeu 11 10 12 ∷ Addi 17 0 4 ∷ Ecall ∷ Addi 5 3 0 ∷ Slli 10 10 2 ∷ Add 3 3 10 ∷ move_code (way_at l a.procedure line) (InRegister 5) (l.target a.procedure line))
       → Given program l Fact first a (line + 1) (slice_set rs to (Some z.arena.heap_to)) callers (charged 20 (with_arena (with_heap w z.arena) z)) m
-        (length c + 1 + (3 + length (move_code (way_at l a.procedure line) (InRegister 5) (l.target a.procedure line))))
+      (length c + 1 + (3 + length (move_code (way_at l a.procedure line) (InRegister 5) (l.target a.procedure line))))
   request_there a line to w rs callers z m c reads st r g d room stands behind =
       let at = l.line_at a.procedure line in
       let words = r.words in

@@ -60,10 +60,10 @@ module _ (program : LineProgram) (l : Located) (Fact : (number line register : �
   arrive_on a z z' registers registers' words words' line' w rs' target same others slots reach v p x f e = elim (reach v p x f e) [
     | inl given ↦ inl given
     | inr other ↦ inr (
-        subst (λ n. IsAt registers' words' (base_of program n a) p x) (sym same)
-            (at_place registers registers' words words' _ _ p x others slots (good.placed a.procedure line' v p f) other.0),
-        other.1,
-      )
+      subst (λ n. IsAt registers' words' (base_of program n a) p x) (sym same)
+          (at_place registers registers' words words' _ _ p x others slots (good.placed a.procedure line' v p f) other.0),
+      other.1,
+    )
   ]
 
   -- The machine stands at another position of the same activation, in an arena with the same blocks.
