@@ -11,7 +11,7 @@ use Rattle.mid_lines.specs.StackLaw.{frame_of}
 use Rattle.back_places.specs.declared.place.Place.{Place}
 use Rattle.back_places.specs.Places.{Located, way_at, reachable}
 use Rattle.back_places.specs.Selection.{WithinBranch, WithinJump}
-use Rattle.back_places.specs.LineCode.{line_code, behind_code, before_call_code, tested_code}
+use Rattle.back_places.specs.LineCode.{line_code, behind_code, before_call_code, tested_code, entry_code}
 use Rattle.back_places.specs.Facts.{IsPlace, GoodLine, GoodEntry}
 
 -- the jump of a line goes no further than it can, in its short form
@@ -44,6 +44,9 @@ pub record IsGood (program : LineProgram) (l : Located) (Fact : (number line reg
   pub lines : (number line : ℕ) (x : Line) → line_of program number line ≡ Some x → GoodLine l Fact number line x
   pub laid : (number line : ℕ) (x : Line) → line_of program number line ≡ Some x → Laid l number (frame_of program number).words line x
   pub entries : (number : ℕ) (p : LineProcedure) → slice_get program.procedures number ≡ Some p → GoodEntry l Fact number p.frame p.parameters
+  -- the first line of a procedure stands behind the code of its entry
+  pub begins :
+      (number : ℕ) (p : LineProcedure) → slice_get program.procedures number ≡ Some p → l.line_at number 0 ≡ l.entry_at number + length (entry_code l number p.frame)
   pub placed : (number line v : ℕ) (p : Place) → Fact number line v p → IsPlace (frame_of program number).words p
   -- where a line reads, and where it gives a word, is within reach: a record that a line lays stands by then
   pub sources : (number line v : ℕ) → Fact number line v (l.source number line v) → IsPlace (reach_at program l number line) (l.source number line v)

@@ -1,0 +1,4 @@
+pub mod Headers
+pub mod Lays
+pub mod Lends
+pub mod BlockLaws

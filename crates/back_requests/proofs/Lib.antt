@@ -1,0 +1,10 @@
+pub mod Taken
+pub mod Gets
+pub mod Draws
+pub mod Heap
+pub mod Requests
+pub mod FewRequests
+pub mod RequestSteps
+pub mod AskingLaws
+pub mod DrawingLaws
+pub mod RequestLaws
