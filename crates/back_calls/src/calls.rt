@@ -226,7 +226,16 @@ fn call_found(
         }
     } else if required == count {
         let variables = registers(alloc, d, count)?;
-        enter_body(code, given, number, procedure, variables, d, d + count, site)
+        enter_body(
+            code,
+            given,
+            number,
+            procedure,
+            variables,
+            d,
+            d + count,
+            site,
+        )
     } else {
         wrong_number(code, alloc, given, d, site)
     }
@@ -253,12 +262,7 @@ fn call_procedure(
 }
 
 // There is no such procedure.
-fn no_procedure(
-    code: &mut Code,
-    alloc: Global,
-    given: &Given,
-    d: Register,
-) -> Result<(), NoMemory>
+fn no_procedure(code: &mut Code, alloc: Global, given: &Given, d: Register) -> Result<(), NoMemory>
     ensures { OnOk result (code.new ≡ code.old ++ (steps.call d (level_routine given.now.at.now) [] ∷ steps.constant d nil_word ∷ [])) }
 {
     let level = routine(given.at, LEVEL)?;

@@ -11,7 +11,8 @@ use Rattle.mid_code.specs.Arena.{stack_from}
 use Rattle.mid_code.specs.State.{Registers, register, MidState}
 use Rattle.mid_arena.specs.Places.{of_object}
 use Rattle.mid_arena.specs.Standing.{ValueAt}
-use Rattle.back_lowering.specs.Scope.{SitePlace, known, held}
+use Rattle.back_lowering.specs.declared.scope.SitePlace.{SitePlace}
+use Rattle.back_lowering.specs.declared.scope.SitePlace.TheVariants.{Known, Held}
 use Rattle.back_relation.specs.Setting.{Setting}
 use Rattle.back_relation.specs.Worlds.{World, Later, Standing}
 use Rattle.back_relation.specs.Things.{MadeBy, AreMadeBy}
@@ -94,10 +95,10 @@ module _ (setting : Setting) {w w' : World} {y y' : MidState} (l : Later w w') (
       let e = same m refl in (k.0, k.1, e.0 ∙ k.2, e.1 ∙ k.3, e.2 ∙ k.4)
   method_later keeps regs regs' (Some m) (Some c) same k = let e = same m refl in call_later keeps regs regs' m c e.0 e.1 e.2 k
 
-site_later : (setting : Setting) (regs regs' : Registers) (p : SitePlace) (place : Place) → ((r : ℕ) → p ≡ held r → register r regs' ≡ register r regs)
+site_later : (setting : Setting) (regs regs' : Registers) (p : SitePlace) (place : Place) → ((r : ℕ) → p ≡ Held r → register r regs' ≡ register r regs)
     → SiteHeld setting regs p place → SiteHeld setting regs' p place
-site_later setting regs regs' (known n) place same k = k
-site_later setting regs regs' (held r) place same k = (k.0, same r refl ∙ k.1, k.2)
+site_later setting regs regs' (Known n) place same k = k
+site_later setting regs regs' (Held r) place same k = (k.0, same r refl ∙ k.1, k.2)
 
 -- **an activation goes on standing**
 pub activation_later :
@@ -124,7 +125,7 @@ activation_later setting {s} {d} {rs} {valid} {w} {w'} {env} {around} {z} {z'} {
   kinds = t.kinds;
   made_by = made_by_later l env.captured s.exits.captured t.made_by;
   self =
-      self_later z.captured z'.captured (register s.code.self regs) (register s.code.self regs') l kept (same s.code.self scope.self.0) env.captured t.self;
+      self_later z.captured z'.captured (register s.code.function regs) (register s.code.function regs') l kept (same s.code.function scope.self.0) env.captured t.self;
   method =
       method_later setting l h s.keeps_method regs regs' s.code.method env.method
       (λ m e. let own = scope.method m e in (same m own.0.0, same (m + 1) own.1.0, same (m + 2) own.2.0)) t.method;

@@ -12,7 +12,7 @@ use Rattle.mid_code.specs.MidCode.{MidCode}
 use Rattle.mid_arena.specs.Places.{word_of}
 use Rattle.mid_arena.proofs.Registers.{register_here}
 use Rattle.mid_arena.proofs.Running.{RunsTo}
-use Rattle.back_lowering.specs.Scope.{Scope}
+use Rattle.back_lowering.specs.declared.scope.Scope.{Scope}
 use Rattle.back_relation.specs.Setting.{Setting}
 use Rattle.back_relation.specs.Worlds.{World, Standing}
 use Rattle.back_relation.specs.Around.{RoomFor}

@@ -12,7 +12,7 @@ use Rattle.mid_arena.proofs.Lists.{set_elsewhere}
 use Rattle.mid_arena.proofs.Growing.{grows_same}
 use Rattle.mid_arena.proofs.Registers.{register_beside}
 use Rattle.mid_arena.proofs.Representing.{represents_same, represents_grown}
-use Rattle.back_lowering.specs.Scope.{Scope}
+use Rattle.back_lowering.specs.declared.scope.Scope.{Scope}
 use Rattle.back_relation.specs.Setting.{Setting}
 use Rattle.back_relation.specs.Worlds.{World}
 use Rattle.back_relation.specs.Things.{Things, WithinLimit}

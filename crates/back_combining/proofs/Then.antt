@@ -10,7 +10,7 @@ use Rattle.mid_code.specs.State.{Registers, register, End, falls, returns, cuts,
 use Rattle.mid_code.specs.State.{go_on as mid_go_on}
 use Rattle.mid_code.specs.Law.{Grown}
 use Rattle.mid_code.proofs.Growth.{go_on_grown, same_grown}
-use Rattle.back_lowering.specs.Scope.{Scope}
+use Rattle.back_lowering.specs.declared.scope.Scope.{Scope}
 use Rattle.back_relation.specs.Setting.{Setting}
 use Rattle.back_relation.specs.Worlds.{World, Later, Standing}
 use Rattle.back_relation.specs.Around.{RoomFor, CallBegins}

@@ -1,7 +1,8 @@
 -- How an exit of the activation may be left, where one more record stands inside.
 use Rattle.std.specs.Prelude.{◌≡◌, ℕ, List, ◌∷◌, Option}
 use Rattle.lang_meaning.specs.State.{Exit}
-use Rattle.back_lowering.specs.Scope.{Reach, behind_cleanup}
+use Rattle.back_lowering.specs.Scope.{behind_cleanup}
+use Rattle.back_lowering.specs.declared.scope.Reach.{Reach}
 use Rattle.back_relation.specs.Worlds.{Standing, for_exit, IsIn}
 use Rattle.back_relation.specs.Activation.{ExitReached}
 

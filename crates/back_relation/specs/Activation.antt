@@ -16,7 +16,12 @@ use Rattle.mid_code.specs.State.{Registers, register, MidState}
 use Rattle.mid_arena.specs.Places.{Spot, of_object, spot_of, word_of}
 use Rattle.mid_arena.specs.Standing.{ValuesAt}
 use Rattle.mid_arena.specs.Tags.{object_tag}
-use Rattle.back_lowering.specs.Scope.{SitePlace, known, held, Reach, at_once, by_transfer, by_search, OwnExit, Scope}
+use Rattle.back_lowering.specs.declared.scope.SitePlace.{SitePlace}
+use Rattle.back_lowering.specs.declared.scope.Reach.{Reach}
+use Rattle.back_lowering.specs.declared.scope.OwnExit.{OwnExit}
+use Rattle.back_lowering.specs.declared.scope.Scope.{Scope}
+use Rattle.back_lowering.specs.declared.scope.SitePlace.TheVariants.{Known, Held}
+use Rattle.back_lowering.specs.declared.scope.Reach.TheVariants.{AtOnce, ByTransfer, BySearch}
 use Rattle.back_lowering.specs.Scope as code
 use Rattle.back_relation.specs.Setting.{Setting}
 use Rattle.back_relation.specs.Chains.{ChainAt, ChainTakes}
@@ -59,9 +64,9 @@ pub record ScopeStands (s : Scope) (d : ℕ) : Type 0 where
   pub slots_below : (n r : ℕ) → slice_get s.slots n ≡ Some r → r < d
   pub slots_apart : (m n r : ℕ) → slice_get s.slots m ≡ Some r → slice_get s.slots n ≡ Some r → m ≡ n
   pub exits : (n : ℕ) (x : OwnExit) → slice_get s.exits n ≡ Some x → IsOwn s d x.serial × IsOwn s d x.record_register
-  pub self : IsOwn s d s.self
+  pub self : IsOwn s d s.function
   pub method : (m : ℕ) → s.method ≡ Some m → IsOwn s d m × IsOwn s d (m + 1) × IsOwn s d (m + 2)
-  pub site : (r : ℕ) → s.site ≡ held r → IsOwn s d r
+  pub site : (r : ℕ) → s.site ≡ Held r → IsOwn s d r
 
 -- the registers below the first one are as they were, but for those of slots
 pub record RegistersKept (s : Scope) (d : ℕ) (regs regs' : Registers) : Type 0 where
@@ -80,11 +85,11 @@ SlotIs w word (holds_box i) = BoxIs w i word
 -- How an exit of the activation may be left. At once: its record is that of the valid exit, and a transfer to it stops there first. By a
 -- transfer: its record is that of the valid exit. By a search: its number alone is known.
 abbrev pub ExitReached : Reach → (rs valid : List Standing) → List Exit → (exit : ℕ) → (record_word : Option ℕ) → Type 0
-ExitReached at_once rs valid exits e word =
+ExitReached AtOnce rs valid exits e word =
     (r : Standing) × (outer : List Standing) × (word ≡ Some r.address) × (record_of_exit e exits valid ≡ Some r)
     × (first_stop r.address rs ≡ r ∷ outer)
-ExitReached by_transfer rs valid exits e word = (r : Standing) × (word ≡ Some r.address) × (record_of_exit e exits valid ≡ Some r)
-ExitReached by_search rs valid exits e word = ⊤
+ExitReached ByTransfer rs valid exits e word = (r : Standing) × (word ≡ Some r.address) × (record_of_exit e exits valid ≡ Some r)
+ExitReached BySearch rs valid exits e word = ⊤
 
 -- the function itself, where it captured something: its object, and a pointer to it
 pub record SelfStands (w : World) (made : List (ℕ × List Captured)) (pointer : ℕ) (cs : List Captured) : Type 0 where
@@ -137,8 +142,8 @@ module _ (setting : Setting) where
 
   -- the word of a site
   abbrev pub SiteHeld : Registers → SitePlace → Place → Type 0
-  SiteHeld regs (known n) place = SiteIs setting n place
-  SiteHeld regs (held r) place = (n : ℕ) × (register r regs ≡ Some n) × SiteIs setting n place
+  SiteHeld regs (Known n) place = SiteIs setting n place
+  SiteHeld regs (Held r) place = (n : ℕ) × (register r regs ≡ Some n) × SiteIs setting n place
 
   pub record ActivationStands (s : FormScope) (rs valid : List Standing) (w : World) (env : FlatEnvironment) (around : DynamicContext) (z : FlatState) (regs : Registers) (y : MidState) : Type 0 where
     -- slots
@@ -158,6 +163,6 @@ module _ (setting : Setting) where
     -- what the function captured, itself, the call of its method, and the site
     pub kinds : AreOfKinds s.flat.captured env.captured
     pub made_by : AreMadeBy w env.captured s.exits.captured
-    pub self : SelfHeld w z.captured (register s.code.self regs) env.captured
+    pub self : SelfHeld w z.captured (register s.code.function regs) env.captured
     pub method : MethodHeld w y.arena s.keeps_method regs s.code.method env.method
     pub site : SiteHeld regs s.code.site around.site

@@ -6,7 +6,7 @@ use Rattle.flat_language.specs.FlatExits.{ProgramLeads}
 use Rattle.mid_code.specs.declared.program.MidProcedure.{MidProcedure}
 use Rattle.mid_arena.specs.Places.{Spot}
 use Rattle.back_lowering.specs.ControlWords.{control_address, control_words}
-use Rattle.back_lowering.specs.Placement.{Placement}
+use Rattle.back_lowering.specs.declared.placement.Placement.{Placement}
 use Rattle.back_lowering.specs.Program.{lowered}
 
 -- a procedure that is used with a frame of its own, which is at most the one that was given
