@@ -1,6 +1,0 @@
-pub mod BindingHomes
-pub mod Walks
-pub mod Equations
-pub mod Cases
-pub mod Joining
-pub mod Arms

@@ -1,4 +1,0 @@
-pub mod Shapes
-pub mod Inside
-pub mod Lowers
-pub mod Judgings
