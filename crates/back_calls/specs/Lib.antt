@@ -1,4 +1,0 @@
-pub mod Tabled
-pub mod Applied
-pub mod Cells
-pub mod RecordWords
