@@ -1,0 +1,4 @@
+pub mod KnownRecords
+pub mod FrameFound
+pub mod OwnSlots
+pub mod Laws

@@ -1,0 +1,15 @@
+// The laws of own slots for the lines of a tree, as the contracts of functions that do nothing.
+
+ghost use Rattle.back_trivial.specs.KnownRecords.{RecordsAreKept};
+ghost use Rattle.back_trivial.specs.Laws.{LawOfTrivialLines};
+
+/// The records of lines and those that code knows are the same records, and so are those of an activation that stand.
+pub fn law_known_records()
+    ensures { RecordsAreKept }
+{}
+
+/// The lines of a program in form, whose frames are found: with each register in a slot of its own, facts flow along all lines and from
+/// all entries, and all places are within the frame and within reach.
+pub fn law_trivial_lines()
+    ensures { LawOfTrivialLines }
+{}
