@@ -1,4 +1,5 @@
 pub mod Counting
 pub mod Finding
+pub mod Carrying
 pub mod TreeLines
 pub mod TrivialLines

@@ -1,31 +1,44 @@
 -- With each register in a slot of its own, and the records of the tree, decisions for the lines of a tree are good but for positions.
-use Rattle.std.proofs.Common.{◌≡◌, ℕ, suc, ◌+◌, ◌<◌, true, List, [], ◌∷◌, map, Option, Some, None, refl, sym, ap, ◌∙◌, subst}
-use Rattle.std.specs.Prelude.{slice_get}
+use Rattle.std.proofs.Common.{◌≡◌, ℕ, suc, ◌+◌, ◌<◌, Bool, true, ◌&&◌, List, [], ◌∷◌, length, map, Option, Some, None, refl, sym, ap, ◌∙◌, subst, arith, eqb-true, eq-eqb}
+use Rattle.std.specs.Prelude.{nat_lt, slice_get}
+use Rattle.std.specs.List.{list_all}
+use Rattle.std.proofs.lemmas.Bool.Decides.{nat_tests}
 use Rattle.mid_code.specs.declared.operation.Operation.{Operation}
 use Rattle.mid_code.specs.declared.operation.Operation.TheVariants as operation
 use Rattle.mid_code.specs.declared.program.MidProcedure.{MidProcedure}
 use Rattle.mid_code.specs.declared.program.MidProgram.{MidProgram}
-use Rattle.mid_code.specs.Checked.{is_checked_program}
+use Rattle.mid_code.specs.Checked.{is_register, is_constant, is_block_size, is_offset, callee_fits, operation_fits, is_checked_program}
 use Rattle.mid_code.specs.MidCode.{code_of}
 use Rattle.mid_lines.specs.declared.line.Line.{Line}
 use Rattle.mid_lines.specs.declared.line.Line.TheVariants.{Do, Branch, Switch, Jump, Lay, Landed, GiveBack, Lend, GiveBackLent, Return, Cut, Halt, Unhandled}
 use Rattle.mid_lines.specs.declared.line.LineProcedure.{LineProcedure}
+use Rattle.mid_lines.specs.declared.line.LineProgram.{LineProgram}
 use Rattle.mid_lines.specs.LineMeaning.{Standing}
 use Rattle.mid_lines.specs.Lines.{line_of}
-use Rattle.mid_lines.specs.Flattened.{procedure_lines, program_lines}
+use Rattle.mid_lines.specs.Flattened.{program_lines}
+use Rattle.mid_lines.specs.LinesChecked.{is_target, line_fits}
+use Rattle.mid_lines.specs.StackLaw.{frame_in}
 use Rattle.mid_lines.specs.StaticRecords.{StaticRecord, of_landing, only_lent, records_in, procedure_records, records_at, LineFlows, RecordsFlow, static_in, static_of}
 use Rattle.mid_lines.proofs.Checking.{law_of_form}
+use Rattle.mid_lines.proofs.Conjunctions.{front_true, back_true, both_true}
 use Rattle.mid_lines.proofs.TreeRecords.{law_of_records}
+use Rattle.back_places.specs.declared.place.Place.{Place}
+use Rattle.back_places.specs.declared.place.Place.TheVariants.{InRegister, InSlot, AsConstant}
 use Rattle.back_places.specs.Places as places
 use Rattle.back_places.specs.Places.{Located, way_at, reachable, is_from_stack}
 use Rattle.back_places.specs.Relation as known
 use Rattle.back_places.specs.Relation.{statics}
-use Rattle.back_places.specs.Trivial.{ToRecords, SameRecords, RecordsFollow, TargetIs, ArgumentsFit, IsTrivial}
+use Rattle.back_places.specs.Facts.{IsPlace}
+use Rattle.back_places.specs.Good.{reach_at}
+use Rattle.back_places.specs.StepLaw.{Known}
+use Rattle.back_places.specs.Trivial.{own_slot, InOwnSlot, ToRecords, SameRecords, RecordsFollow, TargetIs, ArgumentsFit, IsTrivial}
+use Rattle.back_places.proofs.LinesInForm.{line_is, line_in_form, frame_words, register_below}
 use Rattle.back_places.proofs.OwnSlots.{law_of_own_slots}
 use Rattle.back_trivial.specs.KnownRecords.{known_record, known_records, line_record, tree_records, RecordsAreKept}
 use Rattle.back_trivial.specs.FrameFound.{finds_frames}
-use Rattle.back_trivial.specs.OwnSlots.{operation_target, line_target, target_in, parameters_in, with_own_slots, PassesArguments, IsPlacedWell}
-use Rattle.back_trivial.specs.Laws.{LawOfTrivialLines}
+use Rattle.back_trivial.specs.OwnSlots.{operation_target, line_target, target_in, parameters_in, with_own_slots, PassesArguments, no_target, is_there, registers_in, is_slot_of, is_in_own_slot, IsPlacedWell}
+use Rattle.back_trivial.specs.Laws.{LawOfTrivialLines, LawOfGoodLines}
+use Rattle.back_trivial.proofs.Carrying.{all_saved, good_line, good_entry}
 use Rattle.back_trivial.proofs.Finding.{at, LandingsHave, LineFinds}
 use Rattle.back_trivial.proofs.TreeLines.{Found, OfTree, of_tree, ProcedureOfTree, procedure_of_tree, found_at}
 
@@ -51,8 +64,9 @@ line_target_is (Lend block words) = refl
 line_target_is x = tt
 
 module _ (program : MidProgram) (l : Located) where
+  -- the decisions, but that a procedure that is not there saves its return address too
   abbrev own : Located
-  own = with_own_slots program l
+  own = all_saved (with_own_slots program l)
 
   -- the records at the lines of a procedure
   abbrev all : ℕ → List (List StaticRecord)
@@ -140,10 +154,138 @@ module _ (program : MidProgram) (l : Located) where
       few = passes.entries;
     }
 
+-- the facts of the trivial allocation are those that the test tells
+
+slot_is : (v : ℕ) (p : Place) → is_slot_of v p ≡ true → p ≡ own_slot v
+slot_is v (InRegister r) h = absurd (cc h)
+slot_is v (InSlot k) h = ap InSlot (eqb-true k (v + 1) h)
+slot_is v (AsConstant w) h = absurd (cc h)
+
+is_slot : (v : ℕ) (p : Place) → p ≡ own_slot v → is_slot_of v p ≡ true
+is_slot v (InRegister r) h = absurd (cc h)
+is_slot v (InSlot k) h = eq-eqb k (v + 1) (cc h)
+is_slot v (AsConstant w) h = absurd (cc h)
+
+module _ (program : LineProgram) where
+  test_tells : (number line v : ℕ) (p : Place) → InOwnSlot program number line v p → Known (is_in_own_slot program) number line v p
+  test_tells number line v p f =
+      let below : nat_lt v f.procedure.registers ≡ true = (let within = f.within in grind (arith, nat_tests, within)) in
+      subst (λ o. (nat_lt v (registers_in o) && is_slot_of v p) ≡ true) (sym f.there)
+      (both_true (nat_lt v f.procedure.registers) (is_slot_of v p) below (is_slot v p f.place_is))
+
+  told : (number line v : ℕ) (p : Place) → Known (is_in_own_slot program) number line v p → InOwnSlot program number line v p
+  told number line v p h =
+      by (slice_get program.procedures number) refl (front_true (nat_lt v (registers_in (slice_get program.procedures number))) (is_slot_of v p) h)
+    where
+      by : (o : Option LineProcedure) → slice_get program.procedures number ≡ o → nat_lt v (registers_in o) ≡ true → InOwnSlot program number line v p
+      by None e k = absurd (let below : v < 0 = grind (arith, nat_tests, k) in omega (arith, below))
+      by (Some q) e k = record {
+        place_is = slot_is v p (back_true (nat_lt v (registers_in (slice_get program.procedures number))) (is_slot_of v p) h);
+        procedure = q;
+        there = e;
+        within = register_below q.registers v k;
+      }
+
+-- where a line of so many registers gives a word is within reach of as many
+module _ (reach : ℕ) where
+  slot_within : (registers v : ℕ) → is_register registers v ≡ true → registers < reach → IsPlace reach (own_slot v)
+  slot_within registers v h k = let below = register_below registers v h in (omega arith, omega (arith, below, k))
+
+  nowhere_within : IsPlace reach no_target
+  nowhere_within = omega arith
+
+  operation_within : (registers : ℕ) (o : Operation) → operation_fits registers o ≡ true → registers < reach → IsPlace reach (operation_target o)
+  operation_within c (operation.Move to from) h k = slot_within c to (front_true (is_register c to) (is_register c from) h) k
+  operation_within c (operation.Constant to word) h k = slot_within c to (front_true (is_register c to) (is_constant word) h) k
+  operation_within c (operation.Compute to which first second) h k =
+      slot_within c to (front_true (is_register c to) (is_register c first) (front_true (is_register c to && is_register c first) (is_register c second) h)) k
+  operation_within c (operation.Load to base offset) h k =
+      slot_within c to (front_true (is_register c to) (is_register c base) (front_true (is_register c to && is_register c base) (is_offset offset) h)) k
+  operation_within c (operation.Store from base offset) h k = nowhere_within
+  operation_within c (operation.Request to words) h k = slot_within c to (front_true (is_register c to) (is_register c words) h) k
+  operation_within c (operation.Draw to base offset) h k =
+      slot_within c to (front_true (is_register c to) (is_register c base) (front_true (is_register c to && is_register c base) (is_offset offset) h)) k
+  operation_within c (operation.Put from) h k = nowhere_within
+  operation_within c (operation.Get to) h k = slot_within c to h k
+  operation_within c (operation.Call to callee arguments) h k =
+      slot_within c to
+      (front_true (is_register c to) (callee_fits c callee)
+      (front_true (is_register c to && callee_fits c callee) (list_all (is_register c) arguments) h)) k
+
+  line_within : (registers lines : ℕ) (x : Line) → line_fits registers lines x ≡ true → registers < reach → IsPlace reach (line_target x)
+  line_within c n (Do o) h k = operation_within c o h k
+  line_within c n (Lay block words landing) h k = slot_within c block (front_true (is_register c block) (is_block_size words && is_target n landing) h) k
+  line_within c n (Landed r) h k = slot_within c r h k
+  line_within c n (Lend block words) h k = slot_within c block (front_true (is_register c block) (is_register c words) h) k
+  line_within c n x h k = nowhere_within
+
+module _ (program : MidProgram) (l : Located) (checked : is_checked_program program ≡ true) (finds : finds_frames program ≡ true) where
+  abbrev listed : LineProgram
+  listed = program_lines program
+
+  abbrev decided : Located
+  decided = with_own_slots program l
+
+  -- where a line gives its word, as far as one reaches at another
+  target_reached :
+      (number line next : ℕ) (x : Line) → line_of listed number line ≡ Some x → IsPlace (reach_at listed decided number next) (decided.target number line)
+  target_reached number line next x e =
+      let i = line_is listed number line x (law_of_form program checked) e in
+      let far = reach program l finds number next i.procedure i.there in
+      let words = ap (λ n. reachable (way_at decided number next) n) (frame_words listed number i.procedure i.there) in
+      let within : i.procedure.registers < reach_at listed decided number next = subst (λ n. i.procedure.registers < n) (sym words) far in
+      subst (λ o. IsPlace (reach_at listed decided number next) (target_in o)) (sym e)
+      (line_within (reach_at listed decided number next) i.procedure.registers (length i.procedure.lines) x (line_in_form listed number line x i) within)
+
+  target_placed : (number line : ℕ) (o : Option Line) → line_of listed number line ≡ o → IsPlace (reach_at listed decided number line) (decided.target number line)
+  target_placed number line None e =
+      subst (λ o. IsPlace (reach_at listed decided number line) (target_in o)) (sym e) (nowhere_within (reach_at listed decided number line))
+  target_placed number line (Some x) e = target_reached number line line x e
+
+  frame_there : (number : ℕ) (o : Option LineProcedure) → slice_get listed.procedures number ≡ o → is_there o ≡ true → 0 < (frame_in o).words
+  frame_there number None e h = absurd (cc h)
+  frame_there number (Some p) e h = let more = frames program l finds number p e in omega (arith, more)
+
+  saved : (number line : ℕ) (x : Line) → line_of listed number line ≡ Some x → decided.saves number ≡ true
+  saved number line x e =
+      let i = line_is listed number line x (law_of_form program checked) e in
+      ap is_there i.there
+
+  placed_well : PassesArguments listed l → IsPlacedWell listed decided (Known (is_in_own_slot listed))
+  placed_well passes =
+      let is = law_of_own_slots listed (all_saved decided) (law_of_form program checked) (is_trivial program l finds passes) in
+      record {
+        lines = λ number line x e.
+            good_line decided (InOwnSlot listed) (Known (is_in_own_slot listed)) (test_tells listed) (told listed) number (saved number line x e) line x
+            (is.0 number line x e);
+        entries = λ number p e.
+            good_entry decided (InOwnSlot listed) (Known (is_in_own_slot listed)) (test_tells listed) (told listed) number p.frame p.parameters (is.1 number p e);
+        placed = λ number line v p f. is.2 number line v p (told listed number line v p f);
+        sources = λ number line v f. is.3 number line v (told listed number line v (own_slot v) f);
+        targets = λ number line. target_placed number line (line_of listed number line) refl;
+        behind = λ number line x e lays. target_reached number line (line + 1) x e;
+        frames = λ number h. frame_there number (slice_get listed.procedures number) refl h;
+      }
+
 pub law_of_trivial_lines : LawOfTrivialLines
-law_of_trivial_lines program l checked finds passes =
-    let is = law_of_own_slots (program_lines program) (with_own_slots program l) (law_of_form program checked) (is_trivial program l finds passes) in
-    record { lines = is.0; entries = is.1; placed = is.2; sources = is.3 }
+law_of_trivial_lines program l checked finds passes = placed_well program l checked finds passes
+
+pub law_of_good_lines : LawOfGoodLines
+law_of_good_lines program l checked finds passes laid =
+    let placed = placed_well program l checked finds passes in
+    record {
+      lines = placed.lines;
+      laid = laid.laid;
+      entries = placed.entries;
+      begins = laid.begins;
+      placed = placed.placed;
+      sources = placed.sources;
+      targets = placed.targets;
+      behind = placed.behind;
+      frames = placed.frames;
+      within = laid.within;
+      low = laid.low;
+    }
 
 -- the records of both types are the same
 

@@ -1,7 +1,7 @@
 // The laws of own slots for the lines of a tree, as the contracts of functions that do nothing.
 
 ghost use Rattle.back_trivial.specs.KnownRecords.{RecordsAreKept};
-ghost use Rattle.back_trivial.specs.Laws.{LawOfTrivialLines};
+ghost use Rattle.back_trivial.specs.Laws.{LawOfTrivialLines, LawOfGoodLines};
 
 /// The records of lines and those that code knows are the same records, and so are those of an activation that stand.
 pub fn law_known_records()
@@ -12,4 +12,9 @@ pub fn law_known_records()
 /// all entries, and all places are within the frame and within reach.
 pub fn law_trivial_lines()
     ensures { LawOfTrivialLines }
+{}
+
+/// With good positions, the decisions by which each register of such a program is in a slot of its own are good.
+pub fn law_good_lines()
+    ensures { LawOfGoodLines }
 {}

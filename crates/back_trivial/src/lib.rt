@@ -4,4 +4,4 @@
 
 pub mod laws;
 
-pub use laws::{law_known_records, law_trivial_lines};
+pub use laws::{law_good_lines, law_known_records, law_trivial_lines};
