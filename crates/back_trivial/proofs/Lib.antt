@@ -2,4 +2,8 @@ pub mod Counting
 pub mod Finding
 pub mod Carrying
 pub mod TreeLines
+pub mod Targets
+pub mod SlotFacts
+pub mod KnownStages
+pub mod LentReturn
 pub mod TrivialLines

@@ -39,29 +39,10 @@ use Rattle.back_trivial.specs.FrameFound.{finds_frames}
 use Rattle.back_trivial.specs.OwnSlots.{operation_target, line_target, target_in, parameters_in, with_own_slots, PassesArguments, no_target, is_there, registers_in, is_slot_of, is_in_own_slot, IsPlacedWell}
 use Rattle.back_trivial.specs.Laws.{LawOfTrivialLines, LawOfGoodLines}
 use Rattle.back_trivial.proofs.Carrying.{all_saved, good_line, good_entry}
+use Rattle.back_trivial.proofs.Targets.{line_target_is, nowhere_within, line_within}
+use Rattle.back_trivial.proofs.SlotFacts.{test_tells, told}
 use Rattle.back_trivial.proofs.Finding.{at, LandingsHave, LineFinds}
 use Rattle.back_trivial.proofs.TreeLines.{Found, OfTree, of_tree, ProcedureOfTree, procedure_of_tree, found_at}
-
--- what a line gives goes to the slot of its register
-
-operation_target_is : (o : Operation) → TargetIs (operation_target o) (Do o)
-operation_target_is (operation.Move to from) = refl
-operation_target_is (operation.Constant to word) = refl
-operation_target_is (operation.Compute to which first second) = refl
-operation_target_is (operation.Load to base offset) = refl
-operation_target_is (operation.Store from base offset) = tt
-operation_target_is (operation.Request to words) = refl
-operation_target_is (operation.Draw to base offset) = refl
-operation_target_is (operation.Put from) = tt
-operation_target_is (operation.Get to) = refl
-operation_target_is (operation.Call to callee arguments) = refl
-
-line_target_is : (x : Line) → TargetIs (line_target x) x
-line_target_is (Do o) = operation_target_is o
-line_target_is (Lay block words landing) = refl
-line_target_is (Landed r) = refl
-line_target_is (Lend block words) = refl
-line_target_is x = tt
 
 module _ (program : MidProgram) (l : Located) where
   -- the decisions, but that a procedure that is not there saves its return address too
@@ -154,71 +135,6 @@ module _ (program : MidProgram) (l : Located) where
       few = passes.entries;
     }
 
--- the facts of the trivial allocation are those that the test tells
-
-slot_is : (v : ℕ) (p : Place) → is_slot_of v p ≡ true → p ≡ own_slot v
-slot_is v (InRegister r) h = absurd (cc h)
-slot_is v (InSlot k) h = ap InSlot (eqb-true k (v + 1) h)
-slot_is v (AsConstant w) h = absurd (cc h)
-
-is_slot : (v : ℕ) (p : Place) → p ≡ own_slot v → is_slot_of v p ≡ true
-is_slot v (InRegister r) h = absurd (cc h)
-is_slot v (InSlot k) h = eq-eqb k (v + 1) (cc h)
-is_slot v (AsConstant w) h = absurd (cc h)
-
-module _ (program : LineProgram) where
-  test_tells : (number line v : ℕ) (p : Place) → InOwnSlot program number line v p → Known (is_in_own_slot program) number line v p
-  test_tells number line v p f =
-      let below : nat_lt v f.procedure.registers ≡ true = (let within = f.within in grind (arith, nat_tests, within)) in
-      subst (λ o. (nat_lt v (registers_in o) && is_slot_of v p) ≡ true) (sym f.there)
-      (both_true (nat_lt v f.procedure.registers) (is_slot_of v p) below (is_slot v p f.place_is))
-
-  told : (number line v : ℕ) (p : Place) → Known (is_in_own_slot program) number line v p → InOwnSlot program number line v p
-  told number line v p h =
-      by (slice_get program.procedures number) refl (front_true (nat_lt v (registers_in (slice_get program.procedures number))) (is_slot_of v p) h)
-    where
-      by : (o : Option LineProcedure) → slice_get program.procedures number ≡ o → nat_lt v (registers_in o) ≡ true → InOwnSlot program number line v p
-      by None e k = absurd (let below : v < 0 = grind (arith, nat_tests, k) in omega (arith, below))
-      by (Some q) e k = record {
-        place_is = slot_is v p (back_true (nat_lt v (registers_in (slice_get program.procedures number))) (is_slot_of v p) h);
-        procedure = q;
-        there = e;
-        within = register_below q.registers v k;
-      }
-
--- where a line of so many registers gives a word is within reach of as many
-module _ (reach : ℕ) where
-  slot_within : (registers v : ℕ) → is_register registers v ≡ true → registers < reach → IsPlace reach (own_slot v)
-  slot_within registers v h k = let below = register_below registers v h in (omega arith, omega (arith, below, k))
-
-  nowhere_within : IsPlace reach no_target
-  nowhere_within = omega arith
-
-  operation_within : (registers : ℕ) (o : Operation) → operation_fits registers o ≡ true → registers < reach → IsPlace reach (operation_target o)
-  operation_within c (operation.Move to from) h k = slot_within c to (front_true (is_register c to) (is_register c from) h) k
-  operation_within c (operation.Constant to word) h k = slot_within c to (front_true (is_register c to) (is_constant word) h) k
-  operation_within c (operation.Compute to which first second) h k =
-      slot_within c to (front_true (is_register c to) (is_register c first) (front_true (is_register c to && is_register c first) (is_register c second) h)) k
-  operation_within c (operation.Load to base offset) h k =
-      slot_within c to (front_true (is_register c to) (is_register c base) (front_true (is_register c to && is_register c base) (is_offset offset) h)) k
-  operation_within c (operation.Store from base offset) h k = nowhere_within
-  operation_within c (operation.Request to words) h k = slot_within c to (front_true (is_register c to) (is_register c words) h) k
-  operation_within c (operation.Draw to base offset) h k =
-      slot_within c to (front_true (is_register c to) (is_register c base) (front_true (is_register c to && is_register c base) (is_offset offset) h)) k
-  operation_within c (operation.Put from) h k = nowhere_within
-  operation_within c (operation.Get to) h k = slot_within c to h k
-  operation_within c (operation.Call to callee arguments) h k =
-      slot_within c to
-      (front_true (is_register c to) (callee_fits c callee)
-      (front_true (is_register c to && callee_fits c callee) (list_all (is_register c) arguments) h)) k
-
-  line_within : (registers lines : ℕ) (x : Line) → line_fits registers lines x ≡ true → registers < reach → IsPlace reach (line_target x)
-  line_within c n (Do o) h k = operation_within c o h k
-  line_within c n (Lay block words landing) h k = slot_within c block (front_true (is_register c block) (is_block_size words && is_target n landing) h) k
-  line_within c n (Landed r) h k = slot_within c r h k
-  line_within c n (Lend block words) h k = slot_within c block (front_true (is_register c block) (is_register c words) h) k
-  line_within c n x h k = nowhere_within
-
 module _ (program : MidProgram) (l : Located) (checked : is_checked_program program ≡ true) (finds : finds_frames program ≡ true) where
   abbrev listed : LineProgram
   listed = program_lines program
@@ -286,24 +202,3 @@ law_of_good_lines program l checked finds passes laid =
       within = laid.within;
       low = laid.low;
     }
-
--- the records of both types are the same
-
-there_again : (r : StaticRecord) → line_record (known_record r) ≡ r
-there_again (of_landing words landing) = refl
-there_again only_lent = refl
-
-back_again : (r : places.StaticRecord) → known_record (line_record r) ≡ r
-back_again (places.with_landing words landing) = refl
-back_again places.only_lent = refl
-
-same_record : (landing : Option ℕ) (words : ℕ) → known_record (static_in landing words) ≡ known.static_of words landing
-same_record None words = refl
-same_record (Some landing) words = refl
-
-same_standing : (records : List Standing) → known_records (map static_of records) ≡ statics records
-same_standing [] = refl
-same_standing (s ∷ records) = cc (same_record s.landing s.words, same_standing records)
-
-pub records_are_kept : RecordsAreKept
-records_are_kept = record { there = there_again; back = back_again; standing = same_standing }

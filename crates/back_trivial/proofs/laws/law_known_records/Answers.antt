@@ -1,4 +1,4 @@
-use Rattle.back_trivial.proofs.TrivialLines.{records_are_kept}
+use Rattle.back_trivial.proofs.KnownStages.{records_are_kept}
 use Rattle.back_trivial.proofs.laws.law_known_records.Goals as goal
 
 pub returns : goal.returns
