@@ -1,11 +1,11 @@
 -- Where lines give words: to the slots of their registers, within reach of all registers.
-use Rattle.std.proofs.Common.{◌≡◌, ℕ, ◌+◌, ◌<◌, Bool, true, ◌&&◌, refl, arith}
+use Rattle.std.proofs.Common.{◌≡◌, ℕ, ◌<◌, true, ◌&&◌, refl, arith}
 use Rattle.std.specs.List.{list_all}
 use Rattle.mid_code.specs.declared.operation.Operation.{Operation}
 use Rattle.mid_code.specs.declared.operation.Operation.TheVariants as operation
 use Rattle.mid_code.specs.Checked.{is_register, is_constant, is_block_size, is_offset, callee_fits, operation_fits}
 use Rattle.mid_lines.specs.declared.line.Line.{Line}
-use Rattle.mid_lines.specs.declared.line.Line.TheVariants.{Do, Branch, Switch, Jump, Lay, Landed, GiveBack, Lend, GiveBackLent, Return, Cut, Halt, Unhandled}
+use Rattle.mid_lines.specs.declared.line.Line.TheVariants.{Do, Lay, Landed, Lend}
 use Rattle.mid_lines.specs.LinesChecked.{is_target, line_fits}
 use Rattle.mid_lines.proofs.Conjunctions.{front_true}
 use Rattle.back_places.specs.Facts.{IsPlace}

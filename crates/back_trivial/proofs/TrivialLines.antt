@@ -1,48 +1,37 @@
 -- With each register in a slot of its own, and the records of the tree, decisions for the lines of a tree are good but for positions.
-use Rattle.std.proofs.Common.{◌≡◌, ℕ, suc, ◌+◌, ◌<◌, Bool, true, ◌&&◌, List, [], ◌∷◌, length, map, Option, Some, None, refl, sym, ap, ◌∙◌, subst, arith, eqb-true, eq-eqb}
-use Rattle.std.specs.Prelude.{nat_lt, slice_get}
-use Rattle.std.specs.List.{list_all}
-use Rattle.std.proofs.lemmas.Bool.Decides.{nat_tests}
-use Rattle.mid_code.specs.declared.operation.Operation.{Operation}
+use Rattle.std.proofs.Common.{◌≡◌, ℕ, suc, ◌+◌, ◌<◌, true, List, [], ◌∷◌, length, Option, Some, None, refl, sym, ap, ◌∙◌, subst, arith}
+use Rattle.std.specs.Prelude.{slice_get}
 use Rattle.mid_code.specs.declared.operation.Operation.TheVariants as operation
 use Rattle.mid_code.specs.declared.program.MidProcedure.{MidProcedure}
 use Rattle.mid_code.specs.declared.program.MidProgram.{MidProgram}
-use Rattle.mid_code.specs.Checked.{is_register, is_constant, is_block_size, is_offset, callee_fits, operation_fits, is_checked_program}
-use Rattle.mid_code.specs.MidCode.{code_of}
+use Rattle.mid_code.specs.Checked.{is_checked_program}
 use Rattle.mid_lines.specs.declared.line.Line.{Line}
 use Rattle.mid_lines.specs.declared.line.Line.TheVariants.{Do, Branch, Switch, Jump, Lay, Landed, GiveBack, Lend, GiveBackLent, Return, Cut, Halt, Unhandled}
 use Rattle.mid_lines.specs.declared.line.LineProcedure.{LineProcedure}
 use Rattle.mid_lines.specs.declared.line.LineProgram.{LineProgram}
-use Rattle.mid_lines.specs.LineMeaning.{Standing}
 use Rattle.mid_lines.specs.Lines.{line_of}
 use Rattle.mid_lines.specs.Flattened.{program_lines}
-use Rattle.mid_lines.specs.LinesChecked.{is_target, line_fits}
 use Rattle.mid_lines.specs.StackLaw.{frame_in}
-use Rattle.mid_lines.specs.StaticRecords.{StaticRecord, of_landing, only_lent, records_in, procedure_records, records_at, LineFlows, RecordsFlow, static_in, static_of}
+use Rattle.mid_lines.specs.StaticRecords.{StaticRecord, of_landing, only_lent, records_in, procedure_records, records_at, LineFlows}
 use Rattle.mid_lines.proofs.Checking.{law_of_form}
-use Rattle.mid_lines.proofs.Conjunctions.{front_true, back_true, both_true}
 use Rattle.mid_lines.proofs.TreeRecords.{law_of_records}
-use Rattle.back_places.specs.declared.place.Place.{Place}
-use Rattle.back_places.specs.declared.place.Place.TheVariants.{InRegister, InSlot, AsConstant}
 use Rattle.back_places.specs.Places as places
 use Rattle.back_places.specs.Places.{Located, way_at, reachable, is_from_stack}
-use Rattle.back_places.specs.Relation as known
-use Rattle.back_places.specs.Relation.{statics}
 use Rattle.back_places.specs.Facts.{IsPlace}
 use Rattle.back_places.specs.Good.{reach_at}
 use Rattle.back_places.specs.StepLaw.{Known}
 use Rattle.back_places.specs.Trivial.{own_slot, InOwnSlot, ToRecords, SameRecords, RecordsFollow, TargetIs, ArgumentsFit, IsTrivial}
-use Rattle.back_places.proofs.LinesInForm.{line_is, line_in_form, frame_words, register_below}
+use Rattle.back_places.proofs.LinesInForm.{line_is, line_in_form, frame_words}
 use Rattle.back_places.proofs.OwnSlots.{law_of_own_slots}
-use Rattle.back_trivial.specs.KnownRecords.{known_record, known_records, line_record, tree_records, RecordsAreKept}
+use Rattle.back_trivial.specs.KnownRecords.{known_records, tree_records}
 use Rattle.back_trivial.specs.FrameFound.{finds_frames}
-use Rattle.back_trivial.specs.OwnSlots.{operation_target, line_target, target_in, parameters_in, with_own_slots, PassesArguments, no_target, is_there, registers_in, is_slot_of, is_in_own_slot, IsPlacedWell}
+use Rattle.back_trivial.specs.OwnSlots.{target_in, parameters_in, with_own_slots, PassesArguments, is_there, is_in_own_slot, IsPlacedWell}
 use Rattle.back_trivial.specs.Laws.{LawOfTrivialLines, LawOfGoodLines}
 use Rattle.back_trivial.proofs.Carrying.{all_saved, good_line, good_entry}
 use Rattle.back_trivial.proofs.Targets.{line_target_is, nowhere_within, line_within}
 use Rattle.back_trivial.proofs.SlotFacts.{test_tells, told}
-use Rattle.back_trivial.proofs.Finding.{at, LandingsHave, LineFinds}
-use Rattle.back_trivial.proofs.TreeLines.{Found, OfTree, of_tree, ProcedureOfTree, procedure_of_tree, found_at}
+use Rattle.back_trivial.proofs.Finding.{LandingsHave, LineFinds}
+use Rattle.back_trivial.proofs.TreeLines.{of_tree, procedure_of_tree, found_at}
 
 module _ (program : MidProgram) (l : Located) where
   -- the decisions, but that a procedure that is not there saves its return address too

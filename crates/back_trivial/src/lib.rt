@@ -4,4 +4,6 @@
 
 pub mod laws;
 
-pub use laws::{law_good_lines, law_known_records, law_known_stages, law_lent_return, law_trivial_lines};
+pub use laws::{
+    law_good_lines, law_known_records, law_known_stages, law_lent_return, law_trivial_lines,
+};
