@@ -6,4 +6,5 @@ pub mod Targets
 pub mod SlotFacts
 pub mod KnownStages
 pub mod LentReturn
+pub mod NoLent
 pub mod TrivialLines

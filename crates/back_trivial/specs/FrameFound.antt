@@ -1,6 +1,6 @@
 -- When the frame is found at each line of a tree: the way to it past the records around a step has as many words of it as there are registers,
 -- and one more, and where the step is a return, it is from the stack pointer.
-use Rattle.std.specs.Prelude.{ℕ, ◌+◌, Bool, true, ◌&&◌, nat_lt}
+use Rattle.std.specs.Prelude.{◌≡◌, ◌<◌, ℕ, ◌+◌, Bool, true, false, ◌&&◌, nat_lt}
 use Rattle.std.specs.List.{list_all}
 use Rattle.mid_code.specs.declared.program.MidProcedure.{MidProcedure}
 use Rattle.mid_code.specs.declared.program.MidProgram.{MidProgram}
@@ -43,3 +43,29 @@ procedure_finds p = reaches_all p.registers p.frame (from_stack 0) && code_finds
 
 abbrev pub finds_frames : MidProgram → Bool
 finds_frames program = list_all procedure_finds program.procedures
+
+-- code that lends no block
+abbrev mutual
+  pub step_lends_none : MidStep → Bool
+  step_lends_none (perform o) = true
+  step_lends_none (choose t first second) = lends_none first && lends_none second
+  step_lends_none (switch r codes) = codes_lend_none codes
+  step_lends_none (repeat counted head t body) = lends_none head && lends_none body
+  step_lends_none (with_block block words word inside landing) = lends_none inside && lends_none landing
+  step_lends_none (lend block words inside) = false
+  step_lends_none (return_word r) = true
+  step_lends_none (cut_to block word) = true
+  step_lends_none (halt_with r) = true
+  step_lends_none (end_unhandled class site condition) = true
+
+  pub lends_none : MidCode → Bool
+  lends_none no_step = true
+  lends_none (step_and s c) = step_lends_none s && lends_none c
+
+  pub codes_lend_none : MidCodes → Bool
+  codes_lend_none no_code = true
+  codes_lend_none (code_and c codes) = lends_none c && codes_lend_none codes
+
+-- such code finds its frame, whatever records stand, where the frame has more words than there are registers
+abbrev pub LawOfNoLent : Type 0
+LawOfNoLent = (p : MidProcedure) → lends_none (code_of p.body) ≡ true → p.registers < p.frame → procedure_finds p ≡ true

@@ -1,6 +1,7 @@
 // The laws of own slots for the lines of a tree, as the contracts of functions that do nothing.
 
 ghost use Rattle.back_trivial.specs.KnownRecords.{RecordsAreKept};
+ghost use Rattle.back_trivial.specs.FrameFound.{LawOfNoLent};
 ghost use Rattle.back_trivial.specs.LentReturn.{LentReturnIsNotGood};
 ghost use Rattle.back_trivial.specs.Laws.{LawOfTrivialLines, LawOfGoodLines};
 ghost use Rattle.back_trivial.specs.StandingRecords.{LawOfKnownStages};
@@ -30,4 +31,9 @@ pub fn law_good_lines()
 /// A program in form that returns while a block is lent: no decisions are good for its lines.
 pub fn law_lent_return()
     ensures { LentReturnIsNotGood }
+{}
+
+/// A procedure that lends no block finds its frame, whatever records stand, where the frame has more words than there are registers.
+pub fn law_no_lent()
+    ensures { LawOfNoLent }
 {}

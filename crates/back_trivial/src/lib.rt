@@ -5,5 +5,6 @@
 pub mod laws;
 
 pub use laws::{
-    law_good_lines, law_known_records, law_known_stages, law_lent_return, law_trivial_lines,
+    law_good_lines, law_known_records, law_known_stages, law_lent_return, law_no_lent,
+    law_trivial_lines,
 };
