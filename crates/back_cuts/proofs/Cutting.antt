@@ -9,14 +9,14 @@ use Rattle.rv_machine.specs.Words.{word_read}
 use Rattle.rv_machine.specs.Arithmetic.{sign_extended, even}
 use Rattle.rv_machine.specs.Step.{next as goes_to, gives, load}
 use Rattle.rv_machine.specs.Run.{Moment}
-use Rattle.mid_code.specs.Arena.{Block, words_of, lent_from, header_words, blocks_from, outside_of, with_blocks}
-use Rattle.mid_code.specs.State.{Registers, MidState, charged, register, with_arena, with_some, with_register, ends, cuts, stuck}
+use Rattle.mid_code.specs.Arena.{Block, words_of, lent_from, blocks_from, outside_of, with_blocks}
+use Rattle.mid_code.specs.State.{Registers, MidState, charged, register, with_arena, with_some, with_register, ends, cuts}
 use Rattle.mid_code.specs.Meaning.{cut, exec_step}
 use Rattle.mid_lines.proofs.Stacking.{next_stands}
-use Rattle.mid_lines.specs.declared.line.Line.TheVariants.{Cut, Landed}
+use Rattle.mid_lines.specs.declared.line.Line.TheVariants.{Cut}
 use Rattle.mid_lines.specs.declared.line.LineProgram.{LineProgram}
 use Rattle.mid_lines.specs.Lines.{line_of}
-use Rattle.mid_lines.specs.LineMeaning.{Standing, Activation, Caller, Stage, running, ended, with_standing, closed, next, proceed, state_of, cut_from}
+use Rattle.mid_lines.specs.LineMeaning.{Standing, Activation, Caller, Stage, running, closed, next, proceed, state_of, cut_from}
 use Rattle.mid_lines.specs.StackLaw.{record_block, frame_of, blocks_of, StandsOn, StageStands}
 use Rattle.back_places.specs.declared.place.Place.{Place}
 use Rattle.back_places.specs.Places.{Located, way_at}
@@ -24,8 +24,8 @@ use Rattle.back_places.specs.Operands.{load_into}
 use Rattle.back_places.specs.LineCode.{cut_code, taken_code}
 use Rattle.back_places.specs.Good.{IsGood}
 use Rattle.back_places.specs.Relation.{Stands, base_of, HeadHolds, HeadsHold, Machine, Runs, Relates}
-use Rattle.back_places.specs.StepLaw.{Comes, Follows, weight}
-use Rattle.back_stepping.specs.Moments.{state_at, later, moment, beside, AreSmall, Sets, Ready, Prepared}
+use Rattle.back_places.specs.StepLaw.{Comes, Follows}
+use Rattle.back_stepping.specs.Moments.{state_at, later, moment, beside, AreSmall, Sets, Ready}
 use Rattle.back_stepping.proofs.Coming.{sets_on, and_one, and_on}
 use Rattle.back_stepping.proofs.Parts.{small_extended, high_extended}
 use Rattle.back_stepping.proofs.Operands.{prepared_one, loaded, frame_still, past_scratch}
@@ -36,7 +36,7 @@ use Rattle.back_stepping.proofs.Moving.{place_small, frame_is}
 use Rattle.back_emission.proofs.Ends.{into}
 use Rattle.back_emission.proofs.Leaving.{machine_left, fewer_words}
 use Rattle.back_emission.proofs.Steps.{nothing, at_line, weighs}
-use Rattle.back_cuts.proofs.Seeking.{CutPart, cut_part, Lands, ComesTo, cut_comes}
+use Rattle.back_cuts.proofs.Seeking.{CutPart, cut_part, Lands, cut_comes}
 use Rattle.back_cuts.proofs.Receiving.{Receiver, machine_closed, heads_from, runs_receives, callers_receive, received}
 
 -- both words of a cut, into registers 5 and 12

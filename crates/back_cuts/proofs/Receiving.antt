@@ -1,22 +1,22 @@
 -- A cut comes to a landing: the activation that laid the record goes on with its records from there on, the first of them closed.
-use Rattle.std.proofs.Common.{inl, inr, ◌≡◌, ℕ, ◌+◌, ◌-◌, ◌*◌, Bool, true, false, List, [], ◌∷◌, ◌++◌, length, refl, sym, ap, subst, ◌∙◌, arith, Some, None}
+use Rattle.std.proofs.Common.{inl, inr, ◌≡◌, ℕ, ◌+◌, ◌*◌, Bool, true, false, List, [], ◌∷◌, ◌++◌, length, refl, sym, ap, subst, ◌∙◌, arith, Some, None}
 use Rattle.std.specs.Prelude.{Option, slice_index, slice_set}
 use Rattle.rv_machine.specs.Run.{Moment}
 use Rattle.mid_code.specs.declared.operation.Operation.TheVariants.{Call}
-use Rattle.mid_code.specs.Arena.{Arena, Block, closed_record, words_of, is_lent, with_blocks}
+use Rattle.mid_code.specs.Arena.{Arena, Block, closed_record, is_lent, with_blocks}
 use Rattle.mid_code.specs.State.{Registers, MidState, charged, register, with_arena}
 use Rattle.mid_lines.specs.declared.line.Line.TheVariants.{Do, Landed}
 use Rattle.mid_lines.specs.declared.line.LineProgram.{LineProgram}
 use Rattle.mid_lines.specs.Lines.{line_of}
 use Rattle.mid_lines.specs.LineMeaning.{Standing, Activation, Caller, with_standing, closed}
-use Rattle.mid_lines.specs.StackLaw.{record_kind, frame_of, StandsOn, CallersStandOn}
+use Rattle.mid_lines.specs.StackLaw.{record_kind, StandsOn, CallersStandOn}
 use Rattle.back_places.specs.declared.place.Place.{Place}
 use Rattle.back_places.specs.declared.place.Place.TheVariants.{InRegister}
-use Rattle.back_places.specs.Places.{StaticRecord, with_landing, Located}
+use Rattle.back_places.specs.Places.{StaticRecord, Located}
 use Rattle.back_places.specs.LineCode.{taken_code}
-use Rattle.back_places.specs.Facts.{Outlasts, ToLanding, ToLandings}
+use Rattle.back_places.specs.Facts.{ToLanding, ToLandings}
 use Rattle.back_places.specs.Good.{IsGood}
-use Rattle.back_places.specs.Relation.{IsAt, base_of, AreThere, HeadsHold, LandingHolds, LandingsHold, Machine, Point, Runs, Waits, CallersWait, static_of, statics}
+use Rattle.back_places.specs.Relation.{base_of, AreThere, HeadsHold, LandingHolds, LandingsHold, Machine, Point, Runs, CallersWait, static_of, statics}
 use Rattle.back_stepping.specs.Arriving.{Given}
 use Rattle.back_stepping.proofs.Giving.{register_other, register_same}
 use Rattle.back_stepping.proofs.Moving.{holds_somewhere, moved}

@@ -1,7 +1,7 @@
 -- A cut seeks its record: in the activation that runs, and then in those that wait, from the innermost on.
 use Rattle.std.proofs.Common.{inl, inr, ◌≡◌, ℕ, ◌+◌, Bool, true, false, ◌&&◌, ◌==◌, List, [], ◌∷◌, ◌++◌, length, refl, sym, ap, subst, ◌∙◌, arith, Some, None, eqb-true, eq-eqb, length-append, append_assoc}
-use Rattle.std.specs.Prelude.{◌⊎◌, Option, slice_index, slice_set, slice_get, if◌then◌else◌}
-use Rattle.mid_code.specs.Arena.{Block, BlockKind, closed_record, is_open, lent_from, with_blocks, blocks_from, outside_of, blocks_closed}
+use Rattle.std.specs.Prelude.{◌⊎◌, Option, slice_set, slice_get, if◌then◌else◌}
+use Rattle.mid_code.specs.Arena.{Block, is_open, lent_from, with_blocks, blocks_from, outside_of, blocks_closed}
 use Rattle.mid_code.specs.State.{Registers, MidState, falls, stuck, ends, with_arena, with_some}
 use Rattle.mid_lines.proofs.Conjunctions.{front_true, back_true, both_true}
 use Rattle.mid_lines.specs.declared.line.Line.{Line}
