@@ -59,8 +59,13 @@ before_length : (l : Located) (number line block word : ℕ) → length (before_
 before_length l number line block word =
     let A = load_into (way_at l number line) 5 (l.source number line block) in
     let B = load_into (way_at l number line) 12 (l.source number line word) in
-    omega (arith, load_length (way_at l number line) 5 (l.source number line block), load_length (way_at l number line) 12 (l.source number line word),
-    length-append A B, length-append (A ++ B) (Addi 2 5 4088 ∷ Lw 5 2 0 ∷ []))
+    omega (
+      arith,
+      load_length (way_at l number line) 5 (l.source number line block),
+      load_length (way_at l number line) 12 (l.source number line word),
+      length-append A B,
+      length-append (A ++ B) (Addi 2 5 4088 ∷ Lw 5 2 0 ∷ []),
+    )
 
 -- two words below an address
 two_below : (b at : ℕ) → b ≡ 4 * at + 8 → at < 2 ^ 24 → sum32 b (sign_extended 12 4088) ≡ 4 * at
