@@ -9,7 +9,7 @@ use Rattle.rv_machine.specs.Words.{word_read}
 use Rattle.rv_machine.specs.Arithmetic.{sign_extended, even}
 use Rattle.rv_machine.specs.Step.{next as goes_to, gives, load}
 use Rattle.rv_machine.specs.Run.{Moment}
-use Rattle.mid_code.specs.Arena.{Block, words_of, lent_from, blocks_from, outside_of, with_blocks}
+use Rattle.mid_code.specs.Arena.{Block, header_words, words_of, lent_from, blocks_from, outside_of, with_blocks}
 use Rattle.mid_code.specs.State.{Registers, MidState, charged, register, with_arena, with_some, with_register, ends, cuts}
 use Rattle.mid_code.specs.Meaning.{cut, exec_step}
 use Rattle.mid_lines.proofs.Stacking.{next_stands}
@@ -39,6 +39,10 @@ use Rattle.back_emission.proofs.Steps.{nothing, at_line, weighs}
 use Rattle.back_cuts.proofs.Seeking.{CutPart, cut_part, Lands, cut_comes}
 use Rattle.back_cuts.proofs.Receiving.{Receiver, machine_closed, heads_from, runs_receives, callers_receive, received}
 
+-- from the first lent word of a record down to its header, as the offset of an instruction
+abbrev pub to_header : ℕ
+to_header = 2 ^ 12 - 4 * header_words
+
 -- both words of a cut, into registers 5 and 12
 abbrev pub taken_words : (l : Located) (number line block word : ℕ) → List Instr
 taken_words l number line block word =
@@ -46,14 +50,14 @@ taken_words l number line block word =
 
 -- the code of a cut before its jump
 abbrev pub before_jump : (l : Located) (number line block word : ℕ) → List Instr
-before_jump l number line block word = taken_words l number line block word ++ (Addi 2 5 4088 ∷ Lw 5 2 0 ∷ [])
+before_jump l number line block word = taken_words l number line block word ++ (Addi 2 5 to_header ∷ Lw 5 2 0 ∷ [])
 
 cut_parts : (l : Located) (number line block word : ℕ) → cut_code l number line block word ≡ before_jump l number line block word ++ Jalr 0 5 0 ∷ []
 cut_parts l number line block word =
     let A = load_into (way_at l number line) 5 (l.source number line block) in
     let B = load_into (way_at l number line) 12 (l.source number line word) in
-    sym (append_assoc A B (Addi 2 5 4088 ∷ Lw 5 2 0 ∷ Jalr 0 5 0 ∷ []))
-    ∙ sym (append_assoc (A ++ B) (Addi 2 5 4088 ∷ Lw 5 2 0 ∷ []) (Jalr 0 5 0 ∷ []))
+    sym (append_assoc A B (Addi 2 5 to_header ∷ Lw 5 2 0 ∷ Jalr 0 5 0 ∷ []))
+    ∙ sym (append_assoc (A ++ B) (Addi 2 5 to_header ∷ Lw 5 2 0 ∷ []) (Jalr 0 5 0 ∷ []))
 
 before_length : (l : Located) (number line block word : ℕ) → length (before_jump l number line block word) ≤ 8
 before_length l number line block word =
@@ -64,20 +68,21 @@ before_length l number line block word =
       load_length (way_at l number line) 5 (l.source number line block),
       load_length (way_at l number line) 12 (l.source number line word),
       length-append A B,
-      length-append (A ++ B) (Addi 2 5 4088 ∷ Lw 5 2 0 ∷ []),
+      length-append (A ++ B) (Addi 2 5 to_header ∷ Lw 5 2 0 ∷ []),
     )
 
 -- two words below an address
-two_below : (b at : ℕ) → b ≡ 4 * at + 8 → at < 2 ^ 24 → sum32 b (sign_extended 12 4088) ≡ 4 * at
-two_below b at e low = ap (λ k. sum32 b k) (high_extended 4088 (omega arith) (omega arith)) ∙ omega (arith, e, low)
+two_below : (b at : ℕ) → b ≡ 4 * at + 4 * header_words → at < 2 ^ 24 → sum32 b (sign_extended 12 to_header) ≡ 4 * at
+two_below b at e low = ap (λ k. sum32 b k) (high_extended to_header (omega arith) (omega arith)) ∙ omega (arith, e, low)
 
 no_offset : (r at : ℕ) → r ≡ 4 * at → at < 2 ^ 24 → sum32 r (sign_extended 12 0) ≡ 4 * at
 no_offset r at e low = ap (λ k. sum32 r k) (small_extended 0 (omega arith)) ∙ omega (arith, e, low)
 
--- the registers before the jump of a cut: the stack pointer is at a word of the memory, and register 5 has that word
-record AtBlock (words registers registers0 : List ℕ) (code : List Instr) (at target w : ℕ) : Type 0 where
+-- The registers before the jump of a cut: the stack pointer is at a word of the memory, and register 5 has that word. They come from those
+-- at the line by way of those behind code that reads both words.
+record AtBlock (words registers at_line : List ℕ) (code : List Instr) (at target w : ℕ) : Type 0 where
   registers' : List ℕ
-  sets : Sets words (code ++ (Addi 2 5 4088 ∷ Lw 5 2 0 ∷ [])) registers0 registers'
+  sets : Sets words (code ++ (Addi 2 5 to_header ∷ Lw 5 2 0 ∷ [])) at_line registers'
   ready : Ready registers'
   small : AreSmall registers'
   stack : slice_index registers' 2 ≡ 4 * at
@@ -86,13 +91,13 @@ record AtBlock (words registers registers0 : List ℕ) (code : List Instr) (at t
   word : slice_index registers' 12 ≡ w
 
 at_block :
-    (words registers registers0 : List ℕ) (code : List Instr) (b at target w : ℕ) → AreSmall words → Ready registers → AreSmall registers
-    → Sets words code registers0 registers → slice_index registers 5 ≡ b → slice_index registers 12 ≡ w
-    → b ≡ 4 * at + 8 → at < 2 ^ 24 → at < length words → slice_index words at ≡ target
-    → AtBlock words registers registers0 code at target w
-at_block words registers registers0 code b at target w small ready bounded sets five twelve e low inside head =
-    let v : sum32 (slice_index registers 5) (sign_extended 12 4088) ≡ 4 * at = two_below (slice_index registers 5) at (five ∙ e) low in
-    let one = prepared_one words registers (Addi 2 5 4088) 2 (4 * at) small ready (omega arith) (omega arith) (omega (arith, low)) (λ i. ap (λ k. gives 2 k (state_at i registers words)) v) in
+    (words registers at_line : List ℕ) (code : List Instr) (b at target w : ℕ) → AreSmall words → Ready registers → AreSmall registers
+    → Sets words code at_line registers → slice_index registers 5 ≡ b → slice_index registers 12 ≡ w
+    → b ≡ 4 * at + 4 * header_words → at < 2 ^ 24 → at < length words → slice_index words at ≡ target
+    → AtBlock words registers at_line code at target w
+at_block words registers at_line code b at target w small ready bounded sets five twelve e low inside head =
+    let v : sum32 (slice_index registers 5) (sign_extended 12 to_header) ≡ 4 * at = two_below (slice_index registers 5) at (five ∙ e) low in
+    let one = prepared_one words registers (Addi 2 5 to_header) 2 (4 * at) small ready (omega arith) (omega arith) (omega (arith, low)) (λ i. ap (λ k. gives 2 k (state_at i registers words)) v) in
     let there : sum32 (slice_index one.registers' 2) (sign_extended 12 0) ≡ 4 * at = no_offset (slice_index one.registers' 2) at one.holds low in
     let fits : target < 2 ^ 32 = let s = small at in omega (arith, s, head) in
     let two = prepared_one words one.registers' (Lw 5 2 0) 5 target small one.ready (omega arith) (omega arith) fits
@@ -100,7 +105,7 @@ at_block words registers registers0 code b at target w small ready bounded sets 
     ∙ ap (λ k. load 5 k (state_at i one.registers' words)) (word_read words at inside (small at) ∙ ap Some head)) in
     record {
       registers' = two.registers';
-      sets = sets_on sets (sets_on one.sets two.sets);
+      sets = sets_on {r'' = two.registers'} sets (sets_on {r'' = two.registers'} one.sets two.sets);
       ready = two.ready;
       small = two.bounded (one.bounded bounded);
       stack = two.others 2 (λ k. omega (arith, k)) (λ k. omega (arith, k)) ∙ one.holds;
@@ -163,7 +168,7 @@ module _ (program : LineProgram) (l : Located) (Fact : (number line register : �
       (a : Activation) (line block word b w : ℕ) (rs : Registers) (callers : List Caller) (z : MidState) (m : Moment) (inner bs : List Block) (position : ℕ)
       → StandsOn program a z.arena.blocks → (r : Runs program l Fact first a line rs callers z m) → line_of program a.procedure line ≡ Some (Cut block word)
       → register block rs ≡ Some b → register word rs ≡ Some w
-      → z.arena.blocks ≡ inner ++ bs → b ≡ 4 * (length z.arena.memory - words_of bs) + 8 → 0 < words_of bs
+      → z.arena.blocks ≡ inner ++ bs → b ≡ 4 * (length z.arena.memory - words_of bs) + 4 * header_words → 0 < words_of bs
       → slice_index r.words (length z.arena.memory - words_of bs) ≡ 4 * position → position < 2 ^ 24
       → (m' : Moment) × HasCut z bs w position r.words m m' (length (before_jump l a.procedure line block word) + 1)
   cuts_to a line block word b w rs callers z m inner bs position st r e hb hw parts begins some head low =
@@ -216,14 +221,14 @@ module _ (program : LineProgram) (l : Located) (Fact : (number line register : �
       let bs = record_block x.found ∷ outer in
       let is : c.first ∷ c.outer ≡ bs = sym c.same ∙ x.blocks_are in
       let parts : z.arena.blocks ≡ c.inner ++ bs = c.parts ∙ ap (λ k. c.inner ++ k) is in
-      let begins : b ≡ 4 * (size - words_of bs) + 8 = sym c.begins ∙ ap (λ k. lent_from size k) is in
+      let begins : b ≡ 4 * (size - words_of bs) + 4 * header_words = sym c.begins ∙ ap (λ k. lent_from size k) is in
       let head = head_is (r.1).words size x.a x.before x.found x.more x.landing x.receives.heads x.standing_is x.landing_is in
       let within = good.within x.a.procedure x.landing in
       let j = cuts_to a line block word b w rs callers z m c.inner bs (l.line_at x.a.procedure x.landing) r.0.0 r.1 e hb hw parts begins (omega arith) head (omega (arith, within, good.low)) in
       let z' = with_arena (with_blocks (record_block (closed x.found) ∷ outer) z.arena) z in
       let whole = goes ∙ x.stage_is in
       let st = subst (λ k. StageStands program first k) whole (next_stands program first (running a line rs callers z) r.0) in
-      let machine = machine_closed program l Fact first z (r.1).words j.0 (x.found.words + 2) x.found.is_open outer j.1.machine in
+      let machine = machine_closed program l Fact first z (r.1).words j.0 (x.found.words + header_words) x.found.is_open outer j.1.machine in
       let g = received program l Fact first good x.a x.rs x.callers z' w 16 (r.1).words j.0 x.before x.found x.more x.landing x.to x.receives x.standing_is x.landing_is x.is_landed st machine j.1.pc j.1.word in
       let few = before_length l a.procedure line block word in
       let n = move_from_register (way_at l x.a.procedure x.landing) 12 (l.target x.a.procedure x.landing) in
@@ -244,9 +249,6 @@ module _ (program : LineProgram) (l : Located) (Fact : (number line register : �
   unfolding exec_step with_some proceed
   cut_follows a line block word rs callers z m e r = by (register block rs) (register word rs) refl refl
     where
-      size : ℕ
-      size = length z.arena.memory
-
       start : (x : Option ℕ) → register block rs ≡ x
           → next program (running a line rs callers z)
           ≡ proceed program a (line + 1) callers (with_some x (λ b. with_register word (λ w. cut b w)) rs (charged 16 z))
