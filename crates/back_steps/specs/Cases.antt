@@ -1,13 +1,6 @@
--- The law of steps, from that of the lines that are left and that of entries.
-use Rattle.mid_lines.specs.declared.line.Line.{Line}
-use Rattle.mid_lines.specs.declared.line.Line.TheVariants.{Cut}
-use Rattle.back_places.specs.StepLaw.{LawOfLine, LawOfEntries, LawOfSteps}
+-- The law of steps, from that of entries.
+use Rattle.back_places.specs.StepLaw.{LawOfEntries, LawOfSteps}
 
--- cuts
-abbrev pub IsCut : Line → Type 0
-IsCut (Cut block word) = Unit {0}
-IsCut x = ⊥
-
--- where steps of cuts and of entries are matched, all are
+-- where steps of entries are matched, all are
 abbrev pub LawOfCases : Type 0
-LawOfCases = LawOfLine IsCut → LawOfEntries → LawOfSteps
+LawOfCases = LawOfEntries → LawOfSteps
