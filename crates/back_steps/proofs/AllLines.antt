@@ -24,6 +24,7 @@ use Rattle.back_requests.proofs.AskingLaws.{law_of_gets}
 use Rattle.back_requests.proofs.DrawingLaws.{law_of_draws}
 use Rattle.back_requests.proofs.RequestLaws.{law_of_requests}
 use Rattle.back_blocks.proofs.BlockLaws.{law_of_lays, law_of_lends}
+use Rattle.back_entries.proofs.Entries.{law_of_entries}
 use Rattle.back_steps.specs.Cases.{IsCut, LawOfCases}
 
 module _ (program : LineProgram) (l : Located) (known : (number line register : ℕ) → Place → Bool) (first : List Block)
@@ -72,11 +73,11 @@ module _ (program : LineProgram) (l : Located) (known : (number line register : 
   of_running cuts a line rs callers z m (Some x) e r = of_line cuts a line rs callers z m x e r
 
 pub law_of_cases : LawOfCases
-law_of_cases cuts entries program l known first checked good (running a line rs callers z) m r =
+law_of_cases cuts program l known first checked good (running a line rs callers z) m r =
     of_running program l known first checked good cuts a line rs callers z m (line_of program a.procedure line) refl r
-law_of_cases cuts entries program l known first checked good (entering number arguments callers z) m r =
-    entries program l known first checked good number arguments callers z m r
-law_of_cases cuts entries program l known first checked good (ended e z) m r = record {
+law_of_cases cuts program l known first checked good (entering number arguments callers z) m r =
+    law_of_entries program l known first checked good number arguments callers z m r
+law_of_cases cuts program l known first checked good (ended e z) m r = record {
   count = 0;
   moment = m;
   comes = stays m;

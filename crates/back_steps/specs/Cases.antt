@@ -1,13 +1,13 @@
--- The law of steps, from that of the lines that are left and that of entries.
+-- The law of steps, from that of the lines that are left.
 use Rattle.mid_lines.specs.declared.line.Line.{Line}
 use Rattle.mid_lines.specs.declared.line.Line.TheVariants.{Cut}
-use Rattle.back_places.specs.StepLaw.{LawOfLine, LawOfEntries, LawOfSteps}
+use Rattle.back_places.specs.StepLaw.{LawOfLine, LawOfSteps}
 
 -- cuts
 abbrev pub IsCut : Line → Type 0
 IsCut (Cut block word) = Unit {0}
 IsCut x = ⊥
 
--- where steps of cuts and of entries are matched, all are
+-- where steps of cuts are matched, all are
 abbrev pub LawOfCases : Type 0
-LawOfCases = LawOfLine IsCut → LawOfEntries → LawOfSteps
+LawOfCases = LawOfLine IsCut → LawOfSteps

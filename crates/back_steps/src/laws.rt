@@ -2,7 +2,7 @@
 
 ghost use Rattle.back_steps.specs.Cases.{LawOfCases};
 
-/// Each step is matched where those of cuts and of entries are.
+/// Each step is matched where those of cuts are.
 pub fn law_cases()
     ensures { LawOfCases }
 {}
