@@ -16,7 +16,7 @@ use Rattle.back_places.specs.declared.place.Place.{Place}
 use Rattle.back_places.specs.Places.{Located}
 use Rattle.back_places.specs.Good.{IsGood}
 use Rattle.back_places.specs.Relation.{Relates}
-use Rattle.back_places.specs.StepLaw.{Follows, Known}
+use Rattle.back_places.specs.StepLaw.{Follows, Known, LawOfSteps}
 use Rattle.back_stepping.proofs.Coming.{stays}
 use Rattle.back_emission.proofs.Steps.{nothing}
 use Rattle.back_emission.proofs.KindLaws.{law_of_computations, law_of_choices, law_of_ends, law_of_calls, law_of_accesses, law_of_given_back, law_of_puts, law_of_landings}
@@ -25,7 +25,7 @@ use Rattle.back_requests.proofs.DrawingLaws.{law_of_draws}
 use Rattle.back_requests.proofs.RequestLaws.{law_of_requests}
 use Rattle.back_blocks.proofs.BlockLaws.{law_of_lays, law_of_lends}
 use Rattle.back_cuts.proofs.CutLaws.{law_of_cuts}
-use Rattle.back_steps.specs.Cases.{LawOfCases}
+use Rattle.back_entries.proofs.Entries.{law_of_entries}
 
 module _ (program : LineProgram) (l : Located) (known : (number line register : ℕ) → Place → Bool) (first : List Block)
     (checked : is_checked_line_program program ≡ true) (good : IsGood program l (Known known)) where
@@ -70,12 +70,12 @@ module _ (program : LineProgram) (l : Located) (known : (number line register : 
       nothing program l (Known known) first good (running a line rs callers z) m z (ap (λ x. do_line program x a line rs callers z) e) (omega arith)
   of_running a line rs callers z m (Some x) e r = of_line a line rs callers z m x e r
 
-pub law_of_cases : LawOfCases
-law_of_cases entries program l known first checked good (running a line rs callers z) m r =
+pub law_of_steps : LawOfSteps
+law_of_steps program l known first checked good (running a line rs callers z) m r =
     of_running program l known first checked good a line rs callers z m (line_of program a.procedure line) refl r
-law_of_cases entries program l known first checked good (entering number arguments callers z) m r =
-    entries program l known first checked good number arguments callers z m r
-law_of_cases entries program l known first checked good (ended e z) m r = record {
+law_of_steps program l known first checked good (entering number arguments callers z) m r =
+    law_of_entries program l known first checked good number arguments callers z m r
+law_of_steps program l known first checked good (ended e z) m r = record {
   count = 0;
   moment = m;
   comes = stays m;
