@@ -16,7 +16,7 @@ use Rattle.back_places.specs.declared.place.Place.{Place}
 use Rattle.back_places.specs.Places.{Located}
 use Rattle.back_places.specs.Good.{IsGood}
 use Rattle.back_places.specs.Relation.{Relates}
-use Rattle.back_places.specs.StepLaw.{Follows, Known, LawOfLine}
+use Rattle.back_places.specs.StepLaw.{Follows, Known, LawOfSteps}
 use Rattle.back_stepping.proofs.Coming.{stays}
 use Rattle.back_emission.proofs.Steps.{nothing}
 use Rattle.back_emission.proofs.KindLaws.{law_of_computations, law_of_choices, law_of_ends, law_of_calls, law_of_accesses, law_of_given_back, law_of_puts, law_of_landings}
@@ -24,7 +24,8 @@ use Rattle.back_requests.proofs.AskingLaws.{law_of_gets}
 use Rattle.back_requests.proofs.DrawingLaws.{law_of_draws}
 use Rattle.back_requests.proofs.RequestLaws.{law_of_requests}
 use Rattle.back_blocks.proofs.BlockLaws.{law_of_lays, law_of_lends}
-use Rattle.back_steps.specs.Cases.{IsCut, LawOfCases}
+use Rattle.back_cuts.proofs.CutLaws.{law_of_cuts}
+use Rattle.back_entries.proofs.Entries.{law_of_entries}
 
 module _ (program : LineProgram) (l : Located) (known : (number line register : ℕ) → Place → Bool) (first : List Block)
     (checked : is_checked_line_program program ≡ true) (good : IsGood program l (Known known)) where
@@ -45,38 +46,36 @@ module _ (program : LineProgram) (l : Located) (known : (number line register : 
 
   -- a step of any line
   of_line :
-      LawOfLine IsCut
-      → (a : Activation) (line : ℕ) (rs : Registers) (callers : List Caller) (z : MidState) (m : Moment) (x : Line) → line_of program a.procedure line ≡ Some x
+      (a : Activation) (line : ℕ) (rs : Registers) (callers : List Caller) (z : MidState) (m : Moment) (x : Line) → line_of program a.procedure line ≡ Some x
       → Relates program l (Known known) first (running a line rs callers z) m → Follows program l (Known known) first (running a line rs callers z) m
-  of_line cuts a line rs callers z m (Do o) e r = of_operation a line rs callers z m o e r
-  of_line cuts a line rs callers z m (Branch t otherwise) e r = law_of_choices program l known first checked good a line rs callers z m (Branch t otherwise) e tt r
-  of_line cuts a line rs callers z m (Switch v targets) e r = law_of_choices program l known first checked good a line rs callers z m (Switch v targets) e tt r
-  of_line cuts a line rs callers z m (Jump to) e r = law_of_choices program l known first checked good a line rs callers z m (Jump to) e tt r
-  of_line cuts a line rs callers z m (Lay block words landing) e r = law_of_lays program l known first checked good a line rs callers z m (Lay block words landing) e tt r
-  of_line cuts a line rs callers z m (Landed v) e r = law_of_landings program l known first checked good a line rs callers z m (Landed v) e tt r
-  of_line cuts a line rs callers z m (GiveBack words) e r = law_of_given_back program l known first checked good a line rs callers z m (GiveBack words) e tt r
-  of_line cuts a line rs callers z m (Lend block words) e r = law_of_lends program l known first checked good a line rs callers z m (Lend block words) e tt r
-  of_line cuts a line rs callers z m GiveBackLent e r = law_of_given_back program l known first checked good a line rs callers z m GiveBackLent e tt r
-  of_line cuts a line rs callers z m (Return v) e r = law_of_ends program l known first checked good a line rs callers z m (Return v) e tt r
-  of_line cuts a line rs callers z m (Cut block word) e r = cuts program l known first checked good a line rs callers z m (Cut block word) e tt r
-  of_line cuts a line rs callers z m (Halt v) e r = law_of_ends program l known first checked good a line rs callers z m (Halt v) e tt r
-  of_line cuts a line rs callers z m (Unhandled class site condition) e r = law_of_ends program l known first checked good a line rs callers z m (Unhandled class site condition) e tt r
+  of_line a line rs callers z m (Do o) e r = of_operation a line rs callers z m o e r
+  of_line a line rs callers z m (Branch t otherwise) e r = law_of_choices program l known first checked good a line rs callers z m (Branch t otherwise) e tt r
+  of_line a line rs callers z m (Switch v targets) e r = law_of_choices program l known first checked good a line rs callers z m (Switch v targets) e tt r
+  of_line a line rs callers z m (Jump to) e r = law_of_choices program l known first checked good a line rs callers z m (Jump to) e tt r
+  of_line a line rs callers z m (Lay block words landing) e r = law_of_lays program l known first checked good a line rs callers z m (Lay block words landing) e tt r
+  of_line a line rs callers z m (Landed v) e r = law_of_landings program l known first checked good a line rs callers z m (Landed v) e tt r
+  of_line a line rs callers z m (GiveBack words) e r = law_of_given_back program l known first checked good a line rs callers z m (GiveBack words) e tt r
+  of_line a line rs callers z m (Lend block words) e r = law_of_lends program l known first checked good a line rs callers z m (Lend block words) e tt r
+  of_line a line rs callers z m GiveBackLent e r = law_of_given_back program l known first checked good a line rs callers z m GiveBackLent e tt r
+  of_line a line rs callers z m (Return v) e r = law_of_ends program l known first checked good a line rs callers z m (Return v) e tt r
+  of_line a line rs callers z m (Cut block word) e r = law_of_cuts program l known first checked good a line rs callers z m (Cut block word) e tt r
+  of_line a line rs callers z m (Halt v) e r = law_of_ends program l known first checked good a line rs callers z m (Halt v) e tt r
+  of_line a line rs callers z m (Unhandled class site condition) e r = law_of_ends program l known first checked good a line rs callers z m (Unhandled class site condition) e tt r
 
   -- a step from a line that may not be there
   of_running :
-      LawOfLine IsCut
-      → (a : Activation) (line : ℕ) (rs : Registers) (callers : List Caller) (z : MidState) (m : Moment) (o : Option Line) → line_of program a.procedure line ≡ o
+      (a : Activation) (line : ℕ) (rs : Registers) (callers : List Caller) (z : MidState) (m : Moment) (o : Option Line) → line_of program a.procedure line ≡ o
       → Relates program l (Known known) first (running a line rs callers z) m → Follows program l (Known known) first (running a line rs callers z) m
-  of_running cuts a line rs callers z m None e r =
+  of_running a line rs callers z m None e r =
       nothing program l (Known known) first good (running a line rs callers z) m z (ap (λ x. do_line program x a line rs callers z) e) (omega arith)
-  of_running cuts a line rs callers z m (Some x) e r = of_line cuts a line rs callers z m x e r
+  of_running a line rs callers z m (Some x) e r = of_line a line rs callers z m x e r
 
-pub law_of_cases : LawOfCases
-law_of_cases cuts entries program l known first checked good (running a line rs callers z) m r =
-    of_running program l known first checked good cuts a line rs callers z m (line_of program a.procedure line) refl r
-law_of_cases cuts entries program l known first checked good (entering number arguments callers z) m r =
-    entries program l known first checked good number arguments callers z m r
-law_of_cases cuts entries program l known first checked good (ended e z) m r = record {
+pub law_of_steps : LawOfSteps
+law_of_steps program l known first checked good (running a line rs callers z) m r =
+    of_running program l known first checked good a line rs callers z m (line_of program a.procedure line) refl r
+law_of_steps program l known first checked good (entering number arguments callers z) m r =
+    law_of_entries program l known first checked good number arguments callers z m r
+law_of_steps program l known first checked good (ended e z) m r = record {
   count = 0;
   moment = m;
   comes = stays m;

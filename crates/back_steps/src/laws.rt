@@ -1,8 +1,8 @@
 // The law of steps, as the contract of a function that does nothing.
 
-ghost use Rattle.back_steps.specs.Cases.{LawOfCases};
+ghost use Rattle.back_places.specs.StepLaw.{LawOfSteps};
 
-/// Each step is matched where those of cuts and of entries are.
-pub fn law_cases()
-    ensures { LawOfCases }
+/// Each step of lines is matched by the machine, in no more instructions than it costs.
+pub fn law_steps()
+    ensures { LawOfSteps }
 {}

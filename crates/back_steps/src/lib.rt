@@ -3,4 +3,4 @@
 
 pub mod laws;
 
-pub use laws::law_cases;
+pub use laws::law_steps;

@@ -1,0 +1,4 @@
+pub mod Tabled
+pub mod Applied
+pub mod Cells
+pub mod RecordWords

@@ -1,0 +1,4 @@
+pub mod Seeking
+pub mod Receiving
+pub mod Cutting
+pub mod CutLaws

@@ -1,0 +1,6 @@
+// The steps of cuts.
+#![tactic(auto)]
+
+pub mod laws;
+
+pub use laws::law_cuts;

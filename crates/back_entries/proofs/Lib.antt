@@ -1,0 +1,4 @@
+pub mod FrameStores
+pub mod Parameters
+pub mod Arguments
+pub mod Entries

@@ -1,0 +1,6 @@
+// The steps of entries of procedures.
+#![tactic(auto)]
+
+pub mod laws;
+
+pub use laws::law_entries;
