@@ -1,0 +1,14 @@
+// The laws of exits, each as the contract of a function that does nothing.
+ghost use Rattle.back_relation.specs.Setting.{Setting};
+ghost use Rattle.back_exits.specs.Going.{LawOfGoing};
+ghost use Rattle.back_exits.specs.RecordSteps.{LawOfRecordSteps};
+
+/// What the steps of control records do.
+pub fn law_record_steps()
+    ensures { LawOfRecordSteps }
+{}
+
+/// What words say goes on being said where control words are stored.
+pub fn law_going()
+    ensures { (setting : Setting) → LawOfGoing setting }
+{}
