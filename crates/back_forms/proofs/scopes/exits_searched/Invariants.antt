@@ -1,0 +1,7 @@
+-- The exits so far.
+use Rattle.std.proofs.Common.{◌≡◌, map, take}
+use Rattle.back_forms.specs.Inside.{searched}
+use Rattle.back_forms.proofs.scopes.exits_searched.Given as goal
+
+abbrev pub invariant-loop-exit : goal.invariant-loop-exit
+invariant-loop-exit l = l.list ≡ map searched (take l.exit-index l.exits)

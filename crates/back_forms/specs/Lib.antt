@@ -1,0 +1,4 @@
+pub mod Shapes
+pub mod Inside
+pub mod Lowers
+pub mod Judgings
