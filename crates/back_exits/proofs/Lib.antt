@@ -1,2 +1,3 @@
 pub mod Laying
 pub mod Moving
+pub mod Touching

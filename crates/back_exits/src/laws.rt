@@ -2,6 +2,7 @@
 ghost use Rattle.back_relation.specs.Setting.{Setting};
 ghost use Rattle.back_exits.specs.Going.{LawOfGoing};
 ghost use Rattle.back_exits.specs.RecordSteps.{LawOfRecordSteps};
+ghost use Rattle.back_exits.specs.Touching.{LawOfTouching};
 
 /// What the steps of control records do.
 pub fn law_record_steps()
@@ -11,4 +12,9 @@ pub fn law_record_steps()
 /// What words say goes on being said where control words are stored.
 pub fn law_going()
     ensures { (setting : Setting) → LawOfGoing setting }
+{}
+
+/// What words say goes on being said where blocks are laid or given back, and control words and words of new blocks are stored.
+pub fn law_touching()
+    ensures { LawOfTouching }
 {}
