@@ -5,3 +5,5 @@ pub mod Puts
 pub mod Steps
 pub mod Inside
 pub mod Leaving
+pub mod Exits
+pub mod Words

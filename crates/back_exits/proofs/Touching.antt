@@ -75,6 +75,10 @@ stored_blocks (p ∷ ps) a = stored_blocks ps (with_word p.0 p.1 a)
 pub stored_from : (ps : List (ℕ × ℕ)) (a : Arena) → stack_from (stores ps a) ≡ stack_from a
 stored_from ps a = ap (λ n. begin_of n (stores ps a).blocks) (stored_size ps a) ∙ ap (begin_of (length a.memory)) (stored_blocks ps a)
 
+pub stored_heap : (ps : List (ℕ × ℕ)) (a : Arena) → (stores ps a).heap_to ≡ a.heap_to
+stored_heap [] a = refl
+stored_heap (p ∷ ps) a = stored_heap ps (with_word p.0 p.1 a)
+
 pub touches_aligned : (from to : ℕ) (ps : List (ℕ × ℕ)) → Touches from to ps → Aligned ps
 touches_aligned from to [] t = tt
 touches_aligned from to (p ∷ ps) t = (t.0, touches_aligned from to ps t.2)
