@@ -7,3 +7,4 @@ pub mod Inside
 pub mod Leaving
 pub mod Exits
 pub mod Words
+pub mod Landing
