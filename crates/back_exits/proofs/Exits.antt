@@ -234,11 +234,12 @@ module _ (setting : Setting) (a : Start setting) {units cost : ℕ} {x : Exit} {
         (land : Value → Landing → FlatState → FlatEvaluated) (land_grows : (v : Value) (l : Landing) (z : FlatState) → FlatGrown z (land v l z).state)
         (E : FlatEvaluated → MidOutcome → Type 0)
         -- the code behind the body, and that of the landing
+        (r : FlatEvaluated) (q : MidOutcome)
         (leaving :
-            (r : FlatEvaluated) (q : MidOutcome) → FellFrom setting c1 start_inside (a.d + n) r q
+            FellFrom setting c1 start_inside (a.d + n) r q
             → ChargesBy setting (E r (landed (length a.y.arena.blocks) catch (mid_go_on q rest))) c2 a r (landed (length a.y.arena.blocks) catch (mid_go_on q rest)))
         (landing :
-            (r : FlatEvaluated) (q : MidOutcome) (t : LeftCharged setting c1 start_inside (a.d + n) r q) → new_record ≡ t.left.transfer.to → t.left.transfer.exit_number ≡ x.number
+            (t : LeftCharged setting c1 start_inside (a.d + n) r q) → new_record ≡ t.left.transfer.to → t.left.transfer.exit_number ≡ x.number
             → ChargesBy setting (E (land t.left.transfer.result t.left.transfer.landing r.state) (catch t.left.transfer.word q.registers q.state)) c2 a
             (land t.left.transfer.result t.left.transfer.landing r.state) (catch t.left.transfer.word q.registers q.state)) where
       abbrev Whole : FlatEvaluated → MidOutcome → Type 0
@@ -251,9 +252,9 @@ module _ (setting : Setting) (a : Start setting) {units cost : ℕ} {x : Exit} {
       meant r = flat_landed x.number land r
 
       -- **what the body comes to, and what the whole comes to**
-      pub exit_ends : (r : FlatEvaluated) (q : MidOutcome) → ChargesAt setting c1 start_inside r q → Whole (meant r) (code q)
-      exit_ends r q (done f) = subst (λ p. Whole p (code q)) (sym (landed_value setting x.number land land_grows r f.result f.outcome)) (leaving r q f)
-      exit_ends r q (left_by t) = by (t.left.transfer.exit_number == x.number) refl
+      pub exit_ends : ChargesAt setting c1 start_inside r q → Whole (meant r) (code q)
+      exit_ends (done f) = subst (λ p. Whole p (code q)) (sym (landed_value setting x.number land land_grows r f.result f.outcome)) (leaving f)
+      exit_ends (left_by t) = by (t.left.transfer.exit_number == x.number) refl
         where
           source : meant r ≡ (if t.left.transfer.exit_number == x.number then land t.left.transfer.result t.left.transfer.landing r.state else record { outcome = exit t.left.transfer.exit_number t.left.transfer.result t.left.transfer.landing; state = r.state })
           source = ap (λ o. flat_landed_from x.number land o r.state) t.left.transfer.outcome
@@ -266,23 +267,23 @@ module _ (setting : Setting) (a : Start setting) {units cost : ℕ} {x : Exit} {
               (sym (source ∙ ap (λ b. if b then land t.left.transfer.result t.left.transfer.landing r.state else record { outcome = exit t.left.transfer.exit_number t.left.transfer.result t.left.transfer.landing; state = r.state }) same))
               (subst (λ p. Whole (land t.left.transfer.result t.left.transfer.landing r.state) p)
               (sym (cut_lands (length a.y.arena.blocks) rest catch q t.left.transfer.to.outside t.left.transfer.word t.left.transfer.end (ap (λ (s : Standing). s.outside) (sym to))))
-              (landing r q t to number))
+              (landing t to number))
           by false same =
               let other = ne_eqb x.number t.left.transfer.exit_number (λ e. eqb-false t.left.transfer.exit_number x.number same (sym e)) in
               subst (λ p. Whole p (code q))
               (sym (source ∙ ap (λ b. if b then land t.left.transfer.result t.left.transfer.landing r.state else record { outcome = exit t.left.transfer.exit_number t.left.transfer.result t.left.transfer.landing; state = r.state }) same
               ∙ ap (λ o. record { outcome = o; state = r.state }) (sym t.left.transfer.outcome)))
               (subst (λ p. Whole r p) (sym (cut_passes (length a.y.arena.blocks) rest catch q t.left.transfer.to.outside t.left.transfer.word t.left.transfer.end (passes_by t other))) (left_by (passing t other)))
-      exit_ends r q (full_there f) =
+      exit_ends (full_there f) =
           let g : Grown q.state (code q).state =
           landed_grown (length a.y.arena.blocks) catch (mid_go_on q rest) q.state (go_on_grown q rest q.state (same_grown q.state) rest_grows) catch_grows in
           subst (λ p. Whole p (code q)) (sym (landed_other setting x.number land land_grows r _ f.outcome tt))
           (full_there (record { asked = f.asked; left_then = f.left_then; outcome = f.outcome; printed = both_prefix f.printed (record { rest = g.printed.0; is = sym g.printed.1 }) }))
-      exit_ends r q (stopped f) =
+      exit_ends (stopped f) =
           let g = landed_grows setting x.number land land_grows r in
           subst (λ p. Whole (meant r) p) (sym (stop_passes (length a.y.arena.blocks) rest catch setting r q q.end refl f.because))
           (stopped (record { because = because_landed setting x.number land land_grows r q.end f.because; printed = both_prefix f.printed g.printed }))
-      exit_ends r q (few_turns f) =
+      exit_ends (few_turns f) =
           let g = landed_grows setting x.number land land_grows r in
           let same = laid.world.same_size in
           let units_there = laid.units_there in

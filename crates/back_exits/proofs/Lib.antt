@@ -8,3 +8,6 @@ pub mod Leaving
 pub mod Exits
 pub mod Words
 pub mod Landing
+pub mod OwnExits
+pub mod BlockRecords
+pub mod Blocks

@@ -103,6 +103,12 @@ module _ (setting : Setting) (a : Start setting) (placed : IsPlaced setting) (ro
         bindings_word = word_inside bindings_address t.bindings_cell (omega arith) t.bindings_word;
       }
 
+  -- what stands among the control words where words were stored
+  pub control_after : (k : ℕ) (puts : List Put) → are_puts puts ≡ true → k < 36 → k % 4 ≡ 0
+      → word_at (stores (pairs at puts) inner) (control_address + k) ≡ or_before (last_control k puts) (word_at inner (control_address + k))
+  control_after k puts are few word =
+      control_stands at at_aligned above k puts inner are few (lent_control k few word) (control_there setting spot_inside stands_inside k few)
+
   -- one exit more was made, by this form
   pub one_more :
       (units : ℕ) (puts : List Put) (f : Option ExitForm) → are_puts puts ≡ true → (things.serials.0 == 2 ^ 32 - 1) ≡ false → last_control 8 puts ≡ Some (things.serials.0 + 1)

@@ -3,3 +3,4 @@ pub mod Going
 pub mod Touching
 pub mod Inside
 pub mod Charging
+pub mod Blocks

@@ -1,6 +1,7 @@
 // The laws of exits, each as the contract of a function that does nothing.
 ghost use Rattle.back_relation.specs.Setting.{Setting};
 ghost use Rattle.back_combining.specs.Starts.{Start};
+ghost use Rattle.back_exits.specs.Blocks.{LawOfBlocks};
 ghost use Rattle.back_exits.specs.Going.{LawOfGoing};
 ghost use Rattle.back_exits.specs.Inside.{LawOfSurroundings, LawOfBodies};
 ghost use Rattle.back_exits.specs.RecordSteps.{LawOfRecordSteps};
@@ -29,4 +30,9 @@ pub fn law_surroundings()
 /// Where the code inside a control record begins.
 pub fn law_bodies()
     ensures { (setting : Setting) → (a : Start setting) → LawOfBodies setting a }
+{}
+
+/// A block, in one scope.
+pub fn law_blocks()
+    ensures { LawOfBlocks }
 {}
