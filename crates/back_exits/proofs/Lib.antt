@@ -11,3 +11,5 @@ pub mod Landing
 pub mod OwnExits
 pub mod BlockRecords
 pub mod Blocks
+pub mod Whole
+pub mod Charging

@@ -1,7 +1,7 @@
 // The laws of exits, each as the contract of a function that does nothing.
 ghost use Rattle.back_relation.specs.Setting.{Setting};
 ghost use Rattle.back_combining.specs.Starts.{Start};
-ghost use Rattle.back_exits.specs.Blocks.{LawOfBlocks};
+ghost use Rattle.back_exits.specs.Blocks.{LawOfBlocks, LawOfWholeBlocks};
 ghost use Rattle.back_exits.specs.Going.{LawOfGoing};
 ghost use Rattle.back_exits.specs.Inside.{LawOfSurroundings, LawOfBodies};
 ghost use Rattle.back_exits.specs.RecordSteps.{LawOfRecordSteps};
@@ -35,4 +35,9 @@ pub fn law_bodies()
 /// A block, in one scope.
 pub fn law_blocks()
     ensures { LawOfBlocks }
+{}
+
+/// A block, wherever it stands.
+pub fn law_whole_blocks()
+    ensures { LawOfWholeBlocks }
 {}
