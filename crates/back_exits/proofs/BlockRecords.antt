@@ -1,59 +1,42 @@
 -- The record of a block: it is laid, or there are no words or no serial number for it.
-use Rattle.std.proofs.Common.{◌≡◌, ℕ, ◌+◌, ◌*◌, ◌<◌, ◌≤◌, Bool, true, false, List, [], ◌∷◌, ◌++◌, length, Option, Some, None, refl, sym, ap, ◌∙◌, subst, arith}
-use Rattle.std.specs.Prelude.{◌^◌, ◌-◌, ◌==◌, nat_le, pos, slice_get, slice_set}
-use Rattle.std.proofs.lemmas.Bool.{leb-true, leb-false, eqb-true}
-use Rattle.base.specs.Names.{slice_get-behind}
+use Rattle.std.proofs.Common.{◌≡◌, ℕ, ◌+◌, ◌*◌, ◌<◌, ◌≤◌, true, false, List, [], ◌∷◌, ◌++◌, length, Some, refl, sym, ap, ◌∙◌, subst, arith}
+use Rattle.std.specs.Prelude.{◌^◌, ◌-◌, ◌==◌, pos, slice_set}
+use Rattle.std.proofs.lemmas.Bool.{eqb-true}
 use Rattle.lang_meaning.specs.declared.scope.ExitForm.TheVariants.{Block}
 use Rattle.lang_meaning.specs.Prefixes.{IsPrefix}
-use Rattle.lang_meaning.specs.State.{Exit, block_exit, Landing, Outcome, Limit, words, unlimited}
-use Rattle.lang_meaning.specs.Values.{Value}
-use Rattle.flat_language.specs.FlatForm.{FlatForm, block}
-use Rattle.flat_language.specs.FlatMeaning.{mean}
-use Rattle.flat_language.specs.FlatSignals.{form}
-use Rattle.flat_language.specs.FlatState.{FlatState, FlatEvaluated, gives, charged}
-use Rattle.flat_language.specs.FlatState.{landed as flat_landed}
+use Rattle.lang_meaning.specs.State.{Exit, block_exit, Limit, words, unlimited}
+use Rattle.flat_language.specs.FlatState.{FlatState, FlatEvaluated, charged}
 use Rattle.mid_code.specs.declared.operation.Operation.TheVariants.{Draw}
-use Rattle.mid_code.specs.Arena.{Arena, left, word_at}
+use Rattle.mid_code.specs.Arena.{left, word_at}
 use Rattle.mid_code.specs.Costs.{record_cost}
-use Rattle.mid_code.specs.Meaning.{Context, exec, exec_step, give_back}
-use Rattle.mid_code.specs.MidCode.{MidStep, perform, with_block, code_of}
-use Rattle.mid_code.specs.State.{Registers, register, falls, no_room, exhausted, ends, MidState, MidOutcome, Next, jumped, with_arena, landed}
-use Rattle.mid_code.specs.State.{charged as mid_charged, go_on as mid_go_on}
-use Rattle.mid_arena.proofs.Running.{RunsTo, and_ends, parts_then, in_two_parts, go_on_twice}
-use Rattle.back_lowering.specs.Codes.{lower}
-use Rattle.back_lowering.specs.ControlWords.{current_address, serials_address, record_words, exit_kind, record_serial, record_link, link_address}
+use Rattle.mid_code.specs.Meaning.{Context, exec}
+use Rattle.mid_code.specs.MidCode.{perform, code_of}
+use Rattle.mid_code.specs.State.{Registers, falls, no_room, exhausted, ends, MidState, with_arena}
+use Rattle.mid_code.specs.State.{charged as mid_charged}
+use Rattle.mid_arena.proofs.Running.{and_ends, parts_then}
+use Rattle.back_lowering.specs.ControlWords.{serials_address, exit_kind, record_serial, record_link, link_address}
 use Rattle.back_lowering.specs.Records.{record_laid, exit_laid}
-use Rattle.back_lowering.specs.Steps.{Steps, store}
+use Rattle.back_lowering.specs.Steps.{store}
 use Rattle.back_relation.specs.Setting.{Setting}
 use Rattle.back_relation.specs.Placed.{IsPlaced}
 use Rattle.back_relation.specs.Room.{words_for_handler}
 use Rattle.back_relation.specs.Worlds.{World, for_exit}
 use Rattle.back_relation.specs.Around.{RoomFor}
-use Rattle.back_relation.specs.Activation.{FormScope, with_exit}
 use Rattle.back_relation.specs.Things.{WithinLimit}
 use Rattle.back_relation.specs.Ends.{RoomEnded, stopped}
-use Rattle.back_relation.specs.Forms.{Begins, context_at, code_at}
-use Rattle.back_combining.specs.Points.{Point, start_at, run, value_steps}
-use Rattle.back_combining.specs.Starts.{FlatGrown, Start, FellFrom}
+use Rattle.back_relation.specs.Forms.{code_at}
+use Rattle.back_combining.specs.Starts.{FlatGrown, Start}
 use Rattle.back_combining.specs.Stores.{stores}
-use Rattle.back_combining.proofs.FormGrowth.{form_grows, task_later}
-use Rattle.back_combining.proofs.Growth.{same_flat, both_prefix, same_prefix}
-use Rattle.back_combining.proofs.Parts.{go_on_last, single_step}
 use Rattle.back_combining.proofs.Windows.{set_here}
-use Rattle.back_exits.specs.Blocks.{LawOfBlocks}
-use Rattle.back_exits.specs.Charging.{FormsKnown, ChargesAt, ChargesHere}
+use Rattle.back_exits.specs.Charging.{ChargesAt}
 use Rattle.back_exits.specs.Going.{exits_counted}
-use Rattle.back_exits.specs.Inside.{scope_with, around_at, arena_inside, address_inside, record_inside, LaidAt, IsInnermost}
-use Rattle.back_exits.specs.RecordSteps.{record_registers, record_stores, exit_stores, with_stores}
+use Rattle.back_exits.specs.Inside.{around_at, arena_inside, address_inside, LaidAt, IsInnermost}
+use Rattle.back_exits.specs.RecordSteps.{record_registers, record_stores, with_stores}
 use Rattle.back_exits.specs.Touching.{touched, ExitsMade}
-use Rattle.back_exits.proofs.Exits.{exit_ends, landed_grows}
-use Rattle.back_exits.proofs.Inside.{around_exit, begins_inside}
-use Rattle.back_exits.proofs.Landing.{behind_body, landing_steps, rest, catch, rest_grows, catch_grows, falls_out, lands_then}
 use Rattle.back_exits.proofs.Laying.{record_steps_law}
-use Rattle.back_exits.proofs.OwnExits.{older, more_exits, scope_with_exit}
 use Rattle.back_exits.proofs.Puts.{Put, of_control, of_record, pairs}
-use Rattle.back_exits.proofs.Steps.{record_runs, record_wanting, draw_ends, Window, window_of}
-use Rattle.back_exits.proofs.Words.{lent_control, lent_record, says_inside, word_inside, control_after, one_more, record_has, world_laid, flat_laid, state_laid, registers_laid, laid_stands}
+use Rattle.back_exits.proofs.Steps.{draw_ends, Window}
+use Rattle.back_exits.proofs.Words.{lent_control, lent_record, says_inside, word_inside, control_after, one_more, record_has, world_laid, laid_stands}
 
 -- what is stored where the record of an exit is laid
 abbrev pub exit_puts : (kind address current link drawn : ℕ) → List Put
@@ -123,8 +106,8 @@ module _ (setting : Setting) (placed : IsPlaced setting) (k turns : ℕ) (a : St
   lays fewer =
       ap (λ rs. exec c (code_of (exit_laid a.d (a.d + 1) (a.d + 6) exit_kind)) rs block_laid) window_set
       ∙ record_steps_law.exit_laid c win.front win.tail a.d win.r0 win.r2 win.r3 win.r4 win.r5 win.r6 win.r7 exit_kind at (around_at setting a).current (around_at setting a).link
-        (around_at setting a).handlers_cell (around_at setting a).bindings_cell drawn block_laid win.many (lent_control setting a placed room) (lent_record setting a placed room) (says_inside setting a placed room)
-        serial_word fewer
+      (around_at setting a).handlers_cell (around_at setting a).bindings_cell drawn block_laid win.many (lent_control setting a placed room) (lent_record setting a placed room) (says_inside setting a placed room)
+      serial_word fewer
 
   -- or there is no serial number
   abbrev pub ended_registers : Registers
@@ -175,12 +158,11 @@ module _ (setting : Setting) (placed : IsPlaced setting) (k turns : ℕ) (a : St
     pub block_stands : LaidAt setting a 2 154 (for_exit the_exit) at world_of_block flat_of_block laid_registers state_of_block
     block_stands =
         laid_stands setting a placed room c 2 154 (a.y.cost + 36 + 118) (omega arith) puts refl (a.w.exit_forms ++ Some Block ∷ []) (a.z.state.exits + 1) (a.z.state.exits ∷ a.z.state.made) made
-        (for_exit the_exit) at refl refl refl refl refl refl
-        (
+        (for_exit the_exit) at refl refl refl refl refl refl (
           record_has setting a placed room c 2 154 (a.y.cost + 36 + 118) (omega arith) puts refl (a.w.exit_forms ++ Some Block ∷ []) (a.z.state.exits + 1) (a.z.state.exits ∷ a.z.state.made) made 0 a.z.state.exits
-            (omega arith) refl number,
+              (omega arith) refl number,
           record_has setting a placed room c 2 154 (a.y.cost + 36 + 118) (omega arith) puts refl (a.w.exit_forms ++ Some Block ∷ []) (a.z.state.exits + 1) (a.z.state.exits ∷ a.z.state.made) made 12 (around_at setting a).link
-            (omega arith) refl refl,
+              (omega arith) refl refl,
           tt,
         )
         win.front win.tail win.many win.r0 win.r1 win.r2 win.r3 win.r4 win.r5 win.r6 win.r7 win.parts (Some (drawn + 1)) (Some 0) (Some exit_kind)

@@ -1,5 +1,5 @@
 -- **A block**, in all five cases.
-use Rattle.std.proofs.Common.{◌≡◌, ℕ, ◌+◌, ◌*◌, ◌<◌, ◌≤◌, Bool, true, false, List, [], ◌∷◌, ◌++◌, length, Option, Some, None, refl, sym, ap, ◌∙◌, subst, arith}
+use Rattle.std.proofs.Common.{◌≡◌, ℕ, ◌+◌, ◌≤◌, Bool, true, false, [], ◌∷◌, ◌++◌, length, Some, refl, sym, ap, ◌∙◌, subst, arith}
 use Rattle.std.specs.Prelude.{◌^◌, ◌-◌, ◌==◌, nat_le, slice_get, slice_set}
 use Rattle.std.proofs.lemmas.Bool.{leb-true, leb-false, eq-eqb}
 use Rattle.base.specs.Names.{slice_get-behind}
@@ -25,18 +25,18 @@ use Rattle.back_lowering.specs.Records.{exit_laid}
 use Rattle.back_lowering.specs.Steps.{Steps}
 use Rattle.back_relation.specs.Setting.{Setting}
 use Rattle.back_relation.specs.Placed.{IsPlaced}
-use Rattle.back_relation.specs.Worlds.{for_exit, Standing}
+use Rattle.back_relation.specs.Worlds.{for_exit}
 use Rattle.back_relation.specs.Activation.{FormScope, with_exit}
 use Rattle.back_relation.specs.Forms.{Begins, context_at, code_at}
 use Rattle.back_combining.specs.Points.{Point, start_at, value_steps}
 use Rattle.back_combining.specs.Starts.{FlatGrown, Start, FellFrom}
 use Rattle.back_combining.proofs.FormGrowth.{form_grows, task_later}
 use Rattle.back_combining.proofs.Growth.{same_flat}
-use Rattle.back_combining.proofs.Parts.{go_on_last, single_step}
+use Rattle.back_combining.proofs.Parts.{single_step}
 use Rattle.back_combining.proofs.Windows.{here}
 use Rattle.back_exits.specs.Blocks.{LawOfBlocks}
 use Rattle.back_exits.specs.Charging.{FormsKnown, ChargesAt, ChargesHere}
-use Rattle.back_exits.specs.Inside.{scope_with, environment_with, around_with, address_inside, record_inside, ExitsStand, LaidAt, IsInnermost}
+use Rattle.back_exits.specs.Inside.{environment_with, around_with, address_inside, record_inside, LaidAt, IsInnermost}
 use Rattle.back_exits.proofs.BlockRecords.{no_words, no_serial, drawn, block_laid, laid_registers, lays, lays_none, ended_registers, ended_state, the_exit, world_of_block, flat_of_block, state_of_block, block_stands, block_first}
 use Rattle.back_exits.proofs.Exits.{exit_ends, landed_grows}
 use Rattle.back_exits.proofs.Inside.{around_exit, begins_inside}
@@ -101,7 +101,7 @@ module _ (setting : Setting) (placed : IsPlaced setting) (s : FormScope) (d m n 
     step_is :
         exec_step (code_at setting k turns) step p.regs p.y
         ≡ landed (length p.y.arena.blocks) (λ v rs y. run_landing (length p.y.arena.blocks) d (λ rs' x. exec (code_at setting k turns) (code_of (landing_steps d)) rs' x) v rs y)
-          (mid_go_on (exec (code_at setting k turns) (code_of inside_steps) set laid_then) (λ rs y. jumped (give_back (length p.y.arena.blocks) rs y)))
+        (mid_go_on (exec (code_at setting k turns) (code_of inside_steps) set laid_then) (λ rs y. jumped (give_back (length p.y.arena.blocks) rs y)))
     step_is = record_runs (code_at setting k turns) (d + 1) record_words d (code_of inside_steps) (code_of (landing_steps d)) p.regs p.y room
 
     -- ---- no serial number

@@ -1,24 +1,21 @@
 -- One thing after another, where words that transfers took are charged.
-use Rattle.std.proofs.Common.{◌≡◌, ℕ, ◌+◌, ◌*◌, ◌<◌, ◌≤◌, List, length, refl, sym, ap, ◌∙◌, subst, arith}
-use Rattle.std.specs.Prelude.{◌%◌}
+use Rattle.std.proofs.Common.{◌≡◌, ℕ, ◌+◌, ◌<◌, ◌≤◌, length, refl, sym, ap, ◌∙◌, subst, arith}
 use Rattle.lang_meaning.specs.Values.{Value}
-use Rattle.lang_meaning.specs.State.{Outcome}
 use Rattle.flat_language.specs.FlatState.{FlatState, FlatEvaluated, go_on}
 use Rattle.mid_code.specs.Arena.{begin_of, stack_from}
 use Rattle.mid_code.specs.Law.{Grown}
-use Rattle.mid_code.specs.State.{Registers, cuts, MidState, MidOutcome, Next}
+use Rattle.mid_code.specs.State.{Registers, MidState, MidOutcome, Next}
 use Rattle.mid_code.specs.State.{go_on as mid_go_on}
 use Rattle.mid_code.proofs.Growth.{go_on_grown, same_grown}
 use Rattle.back_relation.specs.Setting.{Setting}
 use Rattle.back_relation.specs.Worlds.{World}
-use Rattle.back_relation.specs.Activation.{RegistersKept}
-use Rattle.back_relation.specs.Ends.{Left, Transfers, Ends, done, left_by, full_there, stopped, few_turns}
+use Rattle.back_relation.specs.Ends.{Transfers, Ends, done, left_by, full_there, stopped, few_turns}
 use Rattle.back_combining.specs.Starts.{FlatGrown, Start, FellFrom, ReachedFrom}
 use Rattle.back_combining.proofs.Growth.{both_prefix, then_value, then_other, then_grown}
 use Rattle.back_combining.proofs.Parts.{go_on_falls, go_on_last}
 use Rattle.back_combining.proofs.Starts.{start_after}
-use Rattle.back_combining.proofs.Then.{reached_then, left_behind, because_then, stopped_last, registers_less}
-use Rattle.back_exits.specs.Charging.{HeapCharged, LeftCharged, ChargesBy, ChargesAt}
+use Rattle.back_combining.proofs.Then.{left_behind, because_then, stopped_last, registers_less}
+use Rattle.back_exits.specs.Charging.{HeapCharged, LeftCharged, ChargesBy}
 
 module _ (setting : Setting) where
   -- what a part took was charged

@@ -1,5 +1,5 @@
 -- The exit of a record: what the code inside comes to, and what the whole comes to, where a transfer to the exit lands.
-use Rattle.std.proofs.Common.{◌≡◌, ◌⊎◌, inl, inr, ℕ, zero, suc, ◌+◌, ◌*◌, ◌<◌, ◌≤◌, Bool, true, false, List, [], ◌∷◌, length, Option, Some, None, refl, sym, ap, ◌∙◌, subst, arith}
+use Rattle.std.proofs.Common.{◌≡◌, ℕ, suc, ◌+◌, ◌*◌, ◌≤◌, Bool, true, false, List, [], ◌∷◌, length, Some, refl, sym, ap, ◌∙◌, subst, arith}
 use Rattle.std.specs.Prelude.{◌==◌, ◌||◌, ◌&&◌, if◌then◌else◌}
 use Rattle.std.proofs.lemmas.Bool.{eq-eqb, ne_eqb, eqb-true, eqb-false}
 use Rattle.lang_meaning.specs.declared.scope.ExitForm.{ExitForm}
@@ -15,14 +15,13 @@ use Rattle.mid_code.proofs.Growth.{go_on_grown, landed_grown, same_grown}
 use Rattle.back_lowering.specs.ControlWords.{record_words}
 use Rattle.back_lowering.specs.declared.scope.OwnExit.{OwnExit}
 use Rattle.back_relation.specs.Setting.{Setting}
-use Rattle.back_relation.specs.Worlds.{World, RecordRole, for_exit, Standing, is_cleanup, IsIn, Links, record_of_exit, first_stop}
-use Rattle.back_relation.specs.Ends.{Left, Transfers, IsFullOrMore, RoomEnded, Because, Ends, done, left_by, full_there, stopped, few_turns}
+use Rattle.back_relation.specs.Worlds.{World, for_exit, Standing, IsIn, Links, record_of_exit, first_stop}
+use Rattle.back_relation.specs.Ends.{Transfers, IsFullOrMore, RoomEnded, Because, done, left_by, full_there, stopped, few_turns}
 use Rattle.back_relation.specs.Forms.{Begins}
 use Rattle.back_combining.specs.Starts.{FlatGrown, Start, FellFrom}
 use Rattle.back_combining.proofs.Growth.{both_prefix, same_flat}
 use Rattle.back_combining.proofs.Parts.{go_on_last}
 use Rattle.back_combining.proofs.Reaches.{first_stop_in}
-use Rattle.back_combining.proofs.Then.{stopped_last}
 use Rattle.back_exits.specs.Charging.{LeftCharged, ChargesBy, ChargesAt}
 use Rattle.back_exits.specs.Inside.{scope_with, environment_with, around_with, around_at, address_inside, record_inside, LaidAt, IsInnermost}
 use Rattle.back_exits.proofs.Inside.{at_to, found_new, found_outside}
@@ -236,12 +235,12 @@ module _ (setting : Setting) (a : Start setting) {units cost : ℕ} {x : Exit} {
         -- the code behind the body, and that of the landing
         (r : FlatEvaluated) (q : MidOutcome)
         (leaving :
-            FellFrom setting c1 start_inside (a.d + n) r q
-            → ChargesBy setting (E r (landed (length a.y.arena.blocks) catch (mid_go_on q rest))) c2 a r (landed (length a.y.arena.blocks) catch (mid_go_on q rest)))
+        FellFrom setting c1 start_inside (a.d + n) r q
+        → ChargesBy setting (E r (landed (length a.y.arena.blocks) catch (mid_go_on q rest))) c2 a r (landed (length a.y.arena.blocks) catch (mid_go_on q rest)))
         (landing :
-            (t : LeftCharged setting c1 start_inside (a.d + n) r q) → new_record ≡ t.left.transfer.to → t.left.transfer.exit_number ≡ x.number
-            → ChargesBy setting (E (land t.left.transfer.result t.left.transfer.landing r.state) (catch t.left.transfer.word q.registers q.state)) c2 a
-            (land t.left.transfer.result t.left.transfer.landing r.state) (catch t.left.transfer.word q.registers q.state)) where
+        (t : LeftCharged setting c1 start_inside (a.d + n) r q) → new_record ≡ t.left.transfer.to → t.left.transfer.exit_number ≡ x.number
+        → ChargesBy setting (E (land t.left.transfer.result t.left.transfer.landing r.state) (catch t.left.transfer.word q.registers q.state)) c2 a
+        (land t.left.transfer.result t.left.transfer.landing r.state) (catch t.left.transfer.word q.registers q.state)) where
       abbrev Whole : FlatEvaluated → MidOutcome → Type 0
       Whole r q = ChargesBy setting (E r q) c2 a r q
 

@@ -1,23 +1,23 @@
 -- What is around inside a control record that was laid, and where the code inside it begins.
-use Rattle.std.proofs.Common.{◌≡◌, ◌⊎◌, inl, inr, ℕ, suc, ◌+◌, ◌*◌, ◌<◌, ◌≤◌, Bool, true, false, List, [], ◌∷◌, length, Option, Some, None, refl, sym, ap, ◌∙◌, subst, arith}
-use Rattle.std.specs.Prelude.{◌==◌, if◌then◌else◌, slice_get}
+use Rattle.std.proofs.Common.{◌≡◌, inl, inr, ℕ, ◌+◌, ◌*◌, ◌<◌, ◌≤◌, Bool, List, [], ◌∷◌, length, Option, Some, None, refl, sym, ap, ◌∙◌, subst, arith}
+use Rattle.std.specs.Prelude.{if◌then◌else◌}
 use Rattle.std.proofs.lemmas.Bool.{eq-eqb, ne_eqb}
 use Rattle.lang_meaning.specs.declared.scope.ExitForm.{ExitForm}
 use Rattle.lang_meaning.specs.Objects.{Called}
 use Rattle.lang_meaning.specs.State.{DynamicContext, Exit, end_exit, Limit, words, unlimited}
 use Rattle.lang_meaning.specs.Values.{Value}
 use Rattle.flat_language.specs.FlatState.{Captured, FlatEnvironment, FlatState, under}
-use Rattle.mid_code.specs.Arena.{Arena, Block, record_of, begin_of, lent_from, left, stack_from, blocks_from, word_in, word_at}
-use Rattle.mid_code.specs.State.{Registers, register, MidState}
+use Rattle.mid_code.specs.Arena.{Arena, record_of, begin_of, lent_from, left, stack_from, blocks_from, word_in, word_at}
+use Rattle.mid_code.specs.State.{Registers, MidState}
 use Rattle.mid_arena.specs.Standing.{ArenaStands, ValueAt}
-use Rattle.back_lowering.specs.ControlWords.{record_words, end_address}
+use Rattle.back_lowering.specs.ControlWords.{record_words}
 use Rattle.back_lowering.specs.declared.scope.OwnExit.{OwnExit}
 use Rattle.back_relation.specs.Setting.{Setting}
 use Rattle.back_relation.specs.Room.{words_for_handler}
-use Rattle.back_relation.specs.Worlds.{World, on_stack, Plain, RecordRole, for_cleanup, for_exit, Standing, IsIn, Chain, Links, EndsAtEnd, record_of_exit, record_bytes}
-use Rattle.back_relation.specs.StackWords.{StackKept, HasWordAt, RecordAt}
+use Rattle.back_relation.specs.Worlds.{World, Plain, RecordRole, for_cleanup, for_exit, Standing, IsIn, Chain, Links, EndsAtEnd, record_of_exit, record_bytes}
+use Rattle.back_relation.specs.StackWords.{RecordAt}
 use Rattle.back_relation.specs.Around.{RoomFor, AroundStands}
-use Rattle.back_relation.specs.Activation.{FormScope, ScopeStands, ArgumentsHeld, in_heap, ArgumentsThere, CallHeld, MethodHeld, MethodThere, ActivationStands}
+use Rattle.back_relation.specs.Activation.{FormScope, ScopeStands, ArgumentsHeld, in_heap, ArgumentsThere, MethodHeld, MethodThere, ActivationStands}
 use Rattle.back_relation.specs.Activation.{on_stack as arguments_on_stack}
 use Rattle.back_relation.specs.Ends.{WorldKept}
 use Rattle.back_relation.specs.Forms.{Begins}
@@ -25,7 +25,7 @@ use Rattle.back_combining.specs.Starts.{Start}
 use Rattle.back_combining.proofs.Activations.{activation_later, SameBelow}
 use Rattle.back_combining.proofs.Then.{method_there_again}
 use Rattle.back_combining.proofs.Worlds.{Deeper, Same, later_then, plain_later, record_stays, handlers_stay, bindings_stay, links_raise, chain_lower}
-use Rattle.back_exits.specs.Inside.{scope_with, environment_with, around_with, ExitsStand, around_at, arena_inside, address_inside, record_inside, LaidAt, IsInnermost, LawOfSurroundings, LawOfBodies}
+use Rattle.back_exits.specs.Inside.{scope_with, environment_with, around_with, ExitsStand, around_at, address_inside, record_inside, LaidAt, IsInnermost, LawOfSurroundings, LawOfBodies}
 use Rattle.back_exits.proofs.Steps.{laid_size, laid_from, laid_to, laid_low}
 
 -- worlds one after another, where the stack in between begins no higher than one of the others
@@ -194,7 +194,7 @@ module _ (setting : Setting) (a : Start setting) {units cost : ℕ} {role : Reco
   found_outside p low =
       blocks_there p
       ∙ ap (λ t. if t then Some (record_of record_words ∷ a.y.arena.blocks) else blocks_from (length a.y.arena.memory) a.y.arena.blocks p)
-        (ne_eqb _ _ (λ e. let same = same_address in let to = at_to in omega (arith, e, same, to, low)))
+      (ne_eqb _ _ (λ e. let same = same_address in let to = at_to in omega (arith, e, same, to, low)))
 
   -- what stood stands, one block deeper
   pub deeper : Deeper a.w w a.y y

@@ -1,12 +1,11 @@
 -- The code behind the body of a record with an exit, and that of its landing: the word of the result comes to its register, and the record is gone.
-use Rattle.std.proofs.Common.{◌≡◌, ℕ, ◌+◌, ◌*◌, ◌<◌, ◌≤◌, true, List, [], ◌∷◌, ◌++◌, length, Option, Some, None, refl, sym, ap, ◌∙◌, subst, arith}
-use Rattle.std.specs.Prelude.{◌%◌, ◌==◌, slice_get, slice_set}
+use Rattle.std.proofs.Common.{◌≡◌, ℕ, ◌+◌, ◌*◌, ◌<◌, ◌≤◌, true, List, [], ◌∷◌, ◌++◌, length, Option, Some, refl, sym, ap, ◌∙◌, subst, arith}
+use Rattle.std.specs.Prelude.{◌%◌, ◌==◌, slice_set}
 use Rattle.std.proofs.Math.ListN.{length-set}
 use Rattle.lang_meaning.specs.declared.scope.ExitForm.{ExitForm}
-use Rattle.lang_meaning.specs.State.{Exit, Landing}
-use Rattle.lang_meaning.specs.Values.{Value}
+use Rattle.lang_meaning.specs.State.{Exit}
 use Rattle.flat_language.specs.FlatState.{FlatState, FlatEvaluated, gives}
-use Rattle.mid_code.specs.Arena.{Arena, Block, words_of, record_of, closed_record, stack_from, word_in, word_at, is_lent, with_blocks}
+use Rattle.mid_code.specs.Arena.{Arena, Block, words_of, record_of, closed_record, word_in, word_at, with_blocks}
 use Rattle.mid_code.specs.Law.{Grown}
 use Rattle.mid_code.specs.Meaning.{Context, exec, give_back, run_landing}
 use Rattle.mid_code.specs.MidCode.{code_of}
@@ -14,13 +13,13 @@ use Rattle.mid_code.specs.State.{Registers, register, falls, ends, MidState, Mid
 use Rattle.mid_code.specs.State.{go_on as mid_go_on}
 use Rattle.mid_code.proofs.Growth.{go_on_grown, exec_grown, levels_grow, turns_grow, after_inside_grown, run_landing_grown}
 use Rattle.mid_arena.specs.Growing.{Grows}
-use Rattle.mid_arena.specs.Standing.{ArenaStands, SpotStands}
+use Rattle.mid_arena.specs.Standing.{SpotStands}
 use Rattle.mid_arena.proofs.Growing.{spot_below, spot_stands}
 use Rattle.mid_arena.proofs.Lists.{set_elsewhere}
 use Rattle.mid_arena.proofs.Memory.{grows_with_blocks}
 use Rattle.mid_arena.proofs.Registers.{register_here, register_beside}
 use Rattle.mid_arena.proofs.Running.{RunsTo, and_then, none_left, parts_then, move_falls}
-use Rattle.back_lowering.specs.ControlWords.{control_address, record_words, handlers_address, bindings_address}
+use Rattle.back_lowering.specs.ControlWords.{control_address, record_words}
 use Rattle.back_lowering.specs.declared.scope.OwnExit.{OwnExit}
 use Rattle.back_lowering.specs.Records.{record_left, record_landed}
 use Rattle.back_lowering.specs.Steps.{Steps, move}
@@ -35,9 +34,9 @@ use Rattle.back_relation.specs.Forms.{Begins, code_at}
 use Rattle.back_combining.specs.Starts.{Start, FellFrom, ReachedFrom}
 use Rattle.back_combining.specs.Stores.{stores}
 use Rattle.back_combining.proofs.Parts.{go_on_falls}
-use Rattle.back_exits.specs.Charging.{HeapCharged, LeftCharged, ChargesAt}
+use Rattle.back_exits.specs.Charging.{LeftCharged, ChargesAt}
 use Rattle.back_exits.specs.Inside.{scope_with, environment_with, around_with, around_at, address_inside, record_inside, LaidAt, IsInnermost}
-use Rattle.back_exits.specs.RecordSteps.{ControlSays, left_stores, landed_stores, with_stores, ControlLent}
+use Rattle.back_exits.specs.RecordSteps.{ControlSays, left_stores, landed_stores, with_stores}
 use Rattle.back_exits.specs.Touching.{touched}
 use Rattle.back_exits.proofs.Exits.{start_inside, stops_here, blocks_here}
 use Rattle.back_exits.proofs.Inside.{words_left}

@@ -1,11 +1,11 @@
 -- Behind the code inside a record: its block is given back, and what was around the record is around again.
-use Rattle.std.proofs.Common.{◌≡◌, inl, ℕ, ◌+◌, ◌*◌, ◌<◌, ◌≤◌, Bool, List, [], ◌∷◌, length, Option, Some, refl, sym, ap, ◌∙◌, subst, arith}
+use Rattle.std.proofs.Common.{◌≡◌, inl, ℕ, ◌+◌, ◌<◌, ◌≤◌, List, [], ◌∷◌, length, Some, refl, sym, ap, ◌∙◌, subst, arith}
 use Rattle.std.specs.Prelude.{◌%◌, slice_get}
 use Rattle.lang_meaning.specs.declared.scope.ExitForm.{ExitForm}
 use Rattle.lang_meaning.specs.State.{Exit}
 use Rattle.flat_language.specs.FlatState.{FlatState}
-use Rattle.mid_code.specs.Arena.{Arena, record_of, begin_of, left, stack_from, word_in, word_at, with_blocks}
-use Rattle.mid_code.specs.State.{Registers, register, MidState}
+use Rattle.mid_code.specs.Arena.{Arena, record_of, begin_of, stack_from, word_in, with_blocks}
+use Rattle.mid_code.specs.State.{Registers, MidState}
 use Rattle.mid_arena.specs.Growing.{Grows}
 use Rattle.mid_arena.specs.Places.{of_other}
 use Rattle.mid_arena.specs.Standing.{ArenaStands}
@@ -16,13 +16,12 @@ use Rattle.back_lowering.specs.declared.scope.OwnExit.{OwnExit}
 use Rattle.back_relation.specs.Setting.{Setting, control_spot}
 use Rattle.back_relation.specs.Placed.{IsPlaced}
 use Rattle.back_relation.specs.Worlds.{World, RecordRole, Standing}
-use Rattle.back_relation.specs.StackWords.{HasWordAt}
 use Rattle.back_relation.specs.Activation.{RegistersKept, ExitReached, ActivationStands}
-use Rattle.back_relation.specs.Ends.{ChargedFrom, PaidFrom, ControlBack, WorldKept}
+use Rattle.back_relation.specs.Ends.{ChargedFrom, PaidFrom, WorldKept}
 use Rattle.back_combining.specs.Cuts.{boxes_cut}
 use Rattle.back_combining.specs.Starts.{Start, ReachedFrom}
 use Rattle.back_combining.specs.Stores.{stores, Aligned, Differs}
-use Rattle.back_combining.proofs.Activations.{activation_later, SameBelow}
+use Rattle.back_combining.proofs.Activations.{activation_later}
 use Rattle.back_combining.proofs.Windows.{stored_elsewhere}
 use Rattle.back_combining.proofs.Worlds.{Same}
 use Rattle.back_exits.specs.Charging.{HeapCharged}
@@ -30,7 +29,7 @@ use Rattle.back_exits.specs.Going.{world_with}
 use Rattle.back_exits.specs.Inside.{scope_with, environment_with, around_with, ExitsStand, around_at, LaidAt}
 use Rattle.back_exits.specs.RecordSteps.{ControlSays}
 use Rattle.back_exits.specs.Touching.{IsStored, Touches, Touched, touched, ExitsMade}
-use Rattle.back_exits.proofs.Inside.{world_both, method_shallower, exits_of, activation_with, deeper}
+use Rattle.back_exits.proofs.Inside.{world_both, method_shallower, activation_with, deeper}
 use Rattle.back_exits.proofs.Touching.{world_touched, stored_from, stored_heap, stack_kept}
 
 -- control words are stored, but not that of the serials
@@ -78,7 +77,7 @@ module _ (setting : Setting) (a : Start setting) {units cost : ℕ} {role : Reco
                 old.1,
                 ap word_in (own_register x.serial own.0.0 own.0.1) ∙ old.2,
                 subst (λ o. ExitReached x.reach a.rs a.valid a.around.exits old.0 o)
-                  (sym (ap word_in (own_register x.record_register own.1.0 own.1.1))) old.3,
+                    (sym (ap word_in (own_register x.record_register own.1.0 own.1.1))) old.3,
               );
           exit_forms = λ i e f. world_outside.later.exit_forms e (slice_get a.s.exits.own i) (t.exit_forms i e f);
         }

@@ -1,6 +1,6 @@
 -- The exits of an activation inside a record with one exit more: those outside may be left as before, and the new one at once.
-use Rattle.std.proofs.Common.{◌≡◌, ◌⊎◌, inl, inr, ℕ, zero, suc, ◌+◌, ◌<◌, ◌≤◌, true, false, List, [], ◌∷◌, ◌++◌, length, Option, Some, None, refl, sym, ap, ◌∙◌, subst, arith, length-append}
-use Rattle.std.specs.Prelude.{◌==◌, ◌||◌, if◌then◌else◌, slice_get}
+use Rattle.std.proofs.Common.{◌≡◌, ◌⊎◌, inl, inr, ℕ, zero, suc, ◌+◌, ◌<◌, ◌≤◌, false, List, [], ◌∷◌, ◌++◌, length, Some, refl, sym, ap, ◌∙◌, subst, arith, length-append}
+use Rattle.std.specs.Prelude.{◌||◌, if◌then◌else◌, slice_get}
 use Rattle.std.proofs.lemmas.Bool.{eq-eqb}
 use Rattle.std.proofs.lemmas.Option.{slice_get_within}
 use Rattle.base.specs.Names.{slice_get-front, slice_get-behind, slice_get-push}
@@ -10,11 +10,10 @@ use Rattle.flat_language.specs.FlatState.{FlatState}
 use Rattle.mid_code.specs.Arena.{word_in}
 use Rattle.mid_code.specs.State.{Registers, register, MidState}
 use Rattle.back_lowering.specs.declared.scope.OwnExit.{OwnExit}
-use Rattle.back_lowering.specs.declared.scope.Reach.{Reach}
 use Rattle.back_lowering.specs.declared.scope.Reach.TheVariants.{AtOnce}
 use Rattle.back_relation.specs.Setting.{Setting}
 use Rattle.back_relation.specs.Worlds.{World, for_exit, Standing, IsIn, record_of_exit, first_stop}
-use Rattle.back_relation.specs.Activation.{FormScope, IsOwn, ScopeStands, ExitReached}
+use Rattle.back_relation.specs.Activation.{IsOwn, ScopeStands, ExitReached}
 use Rattle.back_relation.specs.Activation.{with_exit as form_with_exit}
 use Rattle.back_combining.specs.Starts.{Start}
 use Rattle.back_combining.proofs.Reaches.{reached_under_exit}
@@ -58,7 +57,7 @@ module _ (setting : Setting) (a : Start setting) {units cost : ℕ} {x : Exit} {
         slice_get-front a.env.exits more i old.0 old.1,
         ap word_in (laid.same o.serial own.0.0) ∙ old.2,
         subst (λ u. ExitReached o.reach (new ∷ a.rs) (new ∷ a.valid) (x ∷ a.around.exits) old.0 u) (sym (ap word_in (laid.same o.record_register own.1.0)))
-          (reached_under_exit a.rs a.valid a.around.exits new x o.reach old.0 (register o.record_register a.regs) refl (elder i old.0 old.1) apart old.3),
+            (reached_under_exit a.rs a.valid a.around.exits new x o.reach old.0 (register o.record_register a.regs) refl (elder i old.0 old.1) apart old.3),
       )
 
   -- **under the record of an exit that no form of the activation names**
@@ -75,7 +74,7 @@ module _ (setting : Setting) (a : Start setting) {units cost : ℕ} {x : Exit} {
               old.1,
               ap word_in (laid.same o.serial own.0.0) ∙ old.2,
               subst (λ u. ExitReached o.reach (new ∷ a.rs) (new ∷ a.valid) (x ∷ a.around.exits) old.0 u) (sym (ap word_in (laid.same o.record_register own.1.0)))
-                (reached_under_exit a.rs a.valid a.around.exits new x o.reach old.0 (register o.record_register a.regs) refl (older number i old.0 old.1) apart old.3),
+                  (reached_under_exit a.rs a.valid a.around.exits new x o.reach old.0 (register o.record_register a.regs) refl (older number i old.0 old.1) apart old.3),
             );
         exit_forms = λ i e f. laid.world.later.exit_forms e (slice_get a.s.exits.own i) (t.exit_forms i e f);
       }

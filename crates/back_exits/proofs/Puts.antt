@@ -1,12 +1,12 @@
 -- Words that are stored among control words and in a record, by their offsets: what stands at an offset is the last one that was stored there.
-use Rattle.std.proofs.Common.{◌≡◌, inl, inr, ℕ, zero, suc, ◌+◌, ◌*◌, ◌/◌, ◌<◌, ◌≤◌, Bool, true, false, List, [], ◌∷◌, length, Option, Some, None, refl, sym, ap, ◌∙◌, subst, arith}
+use Rattle.std.proofs.Common.{◌≡◌, inl, inr, ℕ, ◌+◌, ◌/◌, ◌<◌, ◌≤◌, Bool, true, false, List, [], ◌∷◌, length, Option, Some, None, refl, sym, ap, ◌∙◌, subst, arith}
 use Rattle.std.specs.Prelude.{◌%◌, ◌==◌, ◌&&◌, nat_lt, if◌then◌else◌}
 use Rattle.std.proofs.lemmas.Bool.{ne_eqb, eqb-true, eqb-false, ltb-true}
 use Rattle.std.proofs.Math.ListN.{length-set}
 use Rattle.mid_code.specs.Arena.{Arena, is_lent, word_at, with_word}
 use Rattle.mid_code.proofs.WordBounds.{first_true, second_true}
 use Rattle.mid_arena.proofs.Memory.{lent_with_word, word_here, word_elsewhere}
-use Rattle.back_lowering.specs.ControlWords.{control_address, control_words, variables_address, end_address}
+use Rattle.back_lowering.specs.ControlWords.{control_address, variables_address}
 use Rattle.back_relation.specs.Worlds.{record_bytes}
 use Rattle.back_combining.specs.Stores.{stores}
 use Rattle.back_exits.specs.Touching.{Touches}

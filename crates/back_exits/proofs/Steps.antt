@@ -1,14 +1,14 @@
 -- The step of a control record: where its words are left, the code inside runs, and a cut to it is caught; and what registers hold.
-use Rattle.std.proofs.Common.{◌≡◌, ℕ, zero, suc, ◌+◌, ◌*◌, ◌/◌, ◌<◌, ◌≤◌, Bool, true, false, List, [], ◌∷◌, ◌++◌, length, Option, Some, None, refl, sym, ap, ◌∙◌, subst, arith}
-use Rattle.std.specs.Prelude.{slice_get, slice_set, ◌==◌, ◌%◌, ◌^◌, ◌-◌, ◌&&◌, pos, if◌then◌else◌}
+use Rattle.std.proofs.Common.{◌≡◌, ℕ, zero, suc, ◌+◌, ◌/◌, ◌<◌, ◌≤◌, true, List, [], ◌∷◌, ◌++◌, length, Option, Some, None, refl, ap, ◌∙◌, arith}
+use Rattle.std.specs.Prelude.{slice_get, ◌==◌, ◌%◌, ◌^◌, ◌-◌, ◌&&◌, pos, if◌then◌else◌}
 use Rattle.std.proofs.lemmas.Bool.{le-leb, lt-leb, lt-ltb, eq-eqb, and_from, or_left, or_right}
 use Rattle.mid_code.specs.declared.operation.Operation.TheVariants.{Draw}
 use Rattle.mid_code.specs.MidCode.{MidCode, perform, with_block}
-use Rattle.mid_code.specs.Arena.{Arena, Block, record_of, is_record, is_open, closed_record, begin_of, lent_from, left, stack_from, is_within, is_in_record, is_lent, word_at, with_new_block, with_blocks, blocks_outside, blocks_closed}
+use Rattle.mid_code.specs.Arena.{Arena, Block, record_of, is_record, is_open, closed_record, begin_of, lent_from, left, stack_from, is_within, is_lent, word_at, with_new_block, with_blocks, blocks_outside, blocks_closed}
 use Rattle.mid_code.specs.Costs.{record_cost, give_back_cost}
 use Rattle.mid_code.specs.Meaning.{Context, draw, run_inside, run_landing, give_back, close, exec, exec_step}
 use Rattle.mid_code.specs.Meaning.{store as mid_store}
-use Rattle.mid_code.specs.State.{Registers, register, falls, no_room, exhausted, ends, gives, MidState, MidOutcome, Next, charged, with_arena, with_some, choose_by, landed}
+use Rattle.mid_code.specs.State.{Registers, register, falls, no_room, exhausted, ends, gives, MidState, Next, charged, with_arena, with_some, choose_by, landed}
 use Rattle.mid_code.specs.Words.{address}
 use Rattle.mid_code.proofs.Growth.{length-emptied}
 use Rattle.mid_arena.specs.Standing.{ArenaStands}

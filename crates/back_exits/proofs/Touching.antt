@@ -1,10 +1,10 @@
 -- What stands where control words and words of a new block are stored.
-use Rattle.std.proofs.Common.{◌≡◌, ◌⊎◌, inl, inr, ℕ, zero, suc, ◌+◌, ◌*◌, ◌<◌, ◌≤◌, Bool, true, false, List, [], ◌∷◌, length, Option, Some, refl, sym, ap, ◌∙◌, subst, arith}
+use Rattle.std.proofs.Common.{◌≡◌, ◌⊎◌, inl, inr, ℕ, zero, suc, ◌<◌, ◌≤◌, Bool, true, false, List, [], ◌∷◌, length, Option, Some, refl, ap, ◌∙◌, arith}
 use Rattle.std.specs.Prelude.{slice_get, nat_le, if◌then◌else◌}
 use Rattle.std.proofs.lemmas.Bool.{le-leb, leb-true}
 use Rattle.lang_meaning.specs.declared.scope.ExitForm.{ExitForm}
 use Rattle.flat_language.specs.FlatState.{FlatState}
-use Rattle.mid_code.specs.Arena.{Arena, Block, begin_of, stack_from, word_at, with_word}
+use Rattle.mid_code.specs.Arena.{Arena, begin_of, stack_from, word_at, with_word}
 use Rattle.mid_code.specs.State.{MidState}
 use Rattle.mid_arena.specs.Growing.{Changes}
 use Rattle.mid_arena.specs.Places.{Spot, end_of, of_other}
@@ -14,8 +14,8 @@ use Rattle.mid_arena.proofs.OwnWords.{changes_further, changes_behind}
 use Rattle.back_lowering.specs.ControlWords.{control_address, end_address}
 use Rattle.back_lowering.specs.Placement.{global_address, dynamic_address}
 use Rattle.back_relation.specs.Setting.{Setting, control_spot}
-use Rattle.back_relation.specs.Placed.{IsPlaced, HasGlobal, HasDynamic}
-use Rattle.back_relation.specs.Worlds.{World, BoxPlace, on_heap, on_stack, gone, Later}
+use Rattle.back_relation.specs.Placed.{IsPlaced}
+use Rattle.back_relation.specs.Worlds.{World, BoxPlace, on_heap, on_stack, gone}
 use Rattle.back_relation.specs.Things.{Things}
 use Rattle.back_relation.specs.Ends.{WorldKept}
 use Rattle.back_combining.specs.Cuts.{box_cut, boxes_cut}

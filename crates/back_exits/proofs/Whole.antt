@@ -1,20 +1,18 @@
 -- From points in one scope to all of them: a block wherever it stands.
-use Rattle.std.proofs.Common.{◌≡◌, ℕ, ◌+◌, ◌≤◌, List, [], ◌∷◌, ◌++◌, length, refl, sym, ap, ◌∙◌, subst, arith, length-append}
+use Rattle.std.proofs.Common.{ℕ, ◌+◌, ◌≤◌, List, [], ◌∷◌, ◌++◌, length, refl, sym, ap, ◌∙◌, subst, arith, length-append}
 use Rattle.std.specs.Prelude.{drop}
 use Rattle.lang_meaning.specs.declared.scope.ExitForm.TheVariants.{Block}
-use Rattle.flat_language.specs.FlatForm.{FlatForm, block}
+use Rattle.flat_language.specs.FlatForm.{FlatForm}
 use Rattle.mid_code.specs.MidCode.{code_of}
 use Rattle.back_lowering.specs.Codes.{lower}
-use Rattle.back_lowering.specs.ControlWords.{record_words, exit_kind}
+use Rattle.back_lowering.specs.ControlWords.{exit_kind}
 use Rattle.back_lowering.specs.Records.{exit_laid}
 use Rattle.back_lowering.specs.Registers.{of_code, enough_for}
 use Rattle.back_lowering.specs.Steps.{Steps}
 use Rattle.back_relation.specs.Setting.{Setting}
-use Rattle.back_relation.specs.Placed.{IsPlaced}
 use Rattle.back_relation.specs.Room.{words_for}
 use Rattle.back_relation.specs.Activation.{FormScope, with_exit}
 use Rattle.back_relation.specs.Forms.{FormStands, value_code, context_at, code_at}
-use Rattle.back_combining.specs.Points.{Point}
 use Rattle.back_combining.proofs.Fitting.{enough_front, registers_front, registers_behind}
 use Rattle.back_exits.specs.Blocks.{LawOfWholeBlocks}
 use Rattle.back_exits.specs.Charging.{FormsKnown, ChargesHere, ChargesForm}

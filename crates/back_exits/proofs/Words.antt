@@ -1,19 +1,19 @@
 -- Where a record was laid and its words were stored, what words and registers say.
-use Rattle.std.proofs.Common.{◌≡◌, inl, inr, ℕ, ◌+◌, ◌*◌, ◌/◌, ◌<◌, ◌≤◌, Bool, true, false, List, [], ◌∷◌, ◌++◌, length, Option, Some, None, refl, sym, ap, ◌∙◌, subst, arith, length-append}
-use Rattle.std.specs.Prelude.{◌%◌, ◌^◌, ◌==◌, ◌-◌, slice_get, slice_set}
+use Rattle.std.proofs.Common.{◌≡◌, inr, ℕ, ◌+◌, ◌/◌, ◌<◌, ◌≤◌, true, false, List, [], ◌∷◌, ◌++◌, length, Option, Some, None, refl, sym, ap, ◌∙◌, subst, arith, length-append}
+use Rattle.std.specs.Prelude.{◌%◌, ◌^◌, ◌==◌, ◌-◌, slice_get}
 use Rattle.std.proofs.lemmas.Bool.{eqb-false}
 use Rattle.base.specs.Names.{slice_get-front}
 use Rattle.lang_meaning.specs.declared.scope.ExitForm.{ExitForm}
 use Rattle.flat_language.specs.FlatState.{FlatState, charged}
-use Rattle.mid_code.specs.Arena.{Arena, record_of, is_lent, left, stack_from, word_at}
+use Rattle.mid_code.specs.Arena.{Arena, record_of, left, stack_from, word_at}
 use Rattle.mid_code.specs.Meaning.{Context}
-use Rattle.mid_code.specs.State.{Registers, register, MidState}
+use Rattle.mid_code.specs.State.{Registers, MidState}
 use Rattle.mid_arena.specs.Growing.{Grows}
 use Rattle.mid_arena.specs.Places.{end_of, of_other}
 use Rattle.mid_arena.specs.Standing.{ArenaStands, SpotStands}
 use Rattle.mid_arena.proofs.Growing.{spot_below, spot_grown}
 use Rattle.mid_arena.proofs.Memory.{in_spot_lent, in_spot_there, grows_with_new_block, stands_with_new_block}
-use Rattle.back_lowering.specs.ControlWords.{control_address, record_words, serials_address, current_address, link_address, handlers_address, bindings_address, end_address}
+use Rattle.back_lowering.specs.ControlWords.{control_address, record_words, serials_address, current_address, link_address, handlers_address, bindings_address}
 use Rattle.back_relation.specs.Setting.{Setting, control_spot}
 use Rattle.back_relation.specs.Placed.{IsPlaced}
 use Rattle.back_relation.specs.Worlds.{World, RecordRole}

@@ -1,5 +1,5 @@
 -- Blocks and catches, whose bodies do what they mean.
-use Rattle.std.specs.Prelude.{◌≡◌, ℕ, ◌+◌, ◌≤◌}
+use Rattle.std.specs.Prelude.{ℕ, ◌+◌, ◌≤◌}
 use Rattle.lang_meaning.specs.declared.scope.ExitForm.TheVariants.{Block}
 use Rattle.flat_language.specs.FlatForm.{FlatForm, block}
 use Rattle.back_relation.specs.Setting.{Setting}

@@ -13,7 +13,7 @@ use Rattle.back_relation.specs.Room.{words_for}
 use Rattle.back_relation.specs.Worlds.{World, Standing}
 use Rattle.back_relation.specs.Activation.{FormScope}
 use Rattle.back_relation.specs.Ends.{Left, Ends}
-use Rattle.back_relation.specs.Forms.{Begins, HasRegisters, FormStands, value_code, context_at, code_at}
+use Rattle.back_relation.specs.Forms.{Begins, HasRegisters, FormStands, value_code, context_at}
 use Rattle.back_combining.specs.Points.{Point, start_at, run, value_steps}
 use Rattle.back_combining.specs.Starts.{Start, FellFrom}
 

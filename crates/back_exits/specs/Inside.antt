@@ -1,10 +1,10 @@
 -- **Inside a control record**: what is said where it was laid, and the code inside it is next.
-use Rattle.std.specs.Prelude.{◌≡◌, ℕ, ◌+◌, ◌*◌, ◌<◌, ◌≤◌, List, ◌∷◌, length, Option, Some, slice_get}
+use Rattle.std.specs.Prelude.{◌≡◌, ℕ, ◌+◌, ◌<◌, ◌≤◌, List, ◌∷◌, length, Some, slice_get}
 use Rattle.lang_meaning.specs.declared.scope.ExitForm.{ExitForm}
 use Rattle.lang_meaning.specs.State.{DynamicContext, Exit, end_exit}
-use Rattle.flat_language.specs.FlatState.{FlatEnvironment, FlatState, FlatEvaluated}
+use Rattle.flat_language.specs.FlatState.{FlatEnvironment, FlatState}
 use Rattle.mid_code.specs.Arena.{Arena, record_of, lent_from, left, stack_from, word_at, with_new_block}
-use Rattle.mid_code.specs.State.{Registers, register, MidState, MidOutcome}
+use Rattle.mid_code.specs.State.{Registers, register, MidState}
 use Rattle.back_lowering.specs.ControlWords.{record_words, record_kind, record_outer}
 use Rattle.back_lowering.specs.declared.scope.OwnExit.{OwnExit}
 use Rattle.back_relation.specs.Setting.{Setting}
