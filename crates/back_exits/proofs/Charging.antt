@@ -1,7 +1,7 @@
 -- One thing after another, where words that transfers took are charged.
-use Rattle.std.proofs.Common.{◌≡◌, ℕ, ◌+◌, ◌<◌, ◌≤◌, length, refl, sym, ap, ◌∙◌, subst, arith}
+use Rattle.std.proofs.Common.{◌≡◌, ℕ, ◌+◌, ◌*◌, ◌<◌, ◌≤◌, length, refl, sym, ap, ◌∙◌, subst, arith}
 use Rattle.lang_meaning.specs.Values.{Value}
-use Rattle.flat_language.specs.FlatState.{FlatState, FlatEvaluated, go_on}
+use Rattle.flat_language.specs.FlatState.{FlatState, FlatEvaluated, go_on, charged}
 use Rattle.mid_code.specs.Arena.{begin_of, stack_from}
 use Rattle.mid_code.specs.Law.{Grown}
 use Rattle.mid_code.specs.State.{Registers, MidState, MidOutcome, Next}
@@ -13,9 +13,9 @@ use Rattle.back_relation.specs.Ends.{Transfers, Ends, done, left_by, full_there,
 use Rattle.back_combining.specs.Starts.{FlatGrown, Start, FellFrom, ReachedFrom}
 use Rattle.back_combining.proofs.Growth.{both_prefix, then_value, then_other, then_grown}
 use Rattle.back_combining.proofs.Parts.{go_on_falls, go_on_last}
-use Rattle.back_combining.proofs.Starts.{start_after}
-use Rattle.back_combining.proofs.Then.{left_behind, because_then, stopped_last, registers_less}
-use Rattle.back_exits.specs.Charging.{HeapCharged, LeftCharged, ChargesBy}
+use Rattle.back_combining.proofs.Starts.{start_after, start_charged, reached_repaid}
+use Rattle.back_combining.proofs.Then.{reached_then, left_behind, because_then, stopped_last, registers_less}
+use Rattle.back_exits.specs.Charging.{HeapCharged, LeftCharged, ChargesBy, ChargesAt}
 
 module _ (setting : Setting) where
   -- what a part took was charged
@@ -56,12 +56,81 @@ module _ (setting : Setting) where
     ends_then up f (stopped k) = stopped k
     ends_then up f (few_turns k) = let size = x.kept.world.same_size in few_turns (omega (arith, k, up, size))
 
+    fell_then : {r : FlatEvaluated} {q : MidOutcome} → FellFrom setting c2 next_start a.d r q → FellFrom setting c a a.d r q
+    fell_then f = record {
+      result = f.result;
+      outcome = f.outcome;
+      end = f.end;
+      w' = f.w';
+      reached = reached_then setting low x enough f.reached;
+      word = f.word;
+      in_register = f.in_register;
+      of_value = f.of_value;
+    }
+
+    pub whole_then :
+        {r : FlatEvaluated} {q : MidOutcome} → a.z.state.units ≤ z.state.units
+        → Ends setting (FellFrom setting c2 next_start a.d r q) (LeftCharged setting c2 next_start a.d r q) a.turns z y r q → ChargesAt setting c a r q
+    whole_then up h = ends_then up fell_then h
+
+  -- ---- the units of a form pay for what follows
+
+  module _ (c1 c2 : ℕ) (a : Start setting) (u : ℕ) (enough : c1 ≤ 300 * u + c2) {r : FlatEvaluated} {q : MidOutcome} where
+    transfers_paid :
+        Transfers setting c1 a.rs a.valid a.w a.around (charged u a.z) a.y r q → Transfers setting c2 a.rs a.valid a.w a.around a.z a.y r q
+    transfers_paid t = record {
+      exit_number = t.exit_number;
+      result = t.result;
+      landing = t.landing;
+      outcome = t.outcome;
+      target = t.target;
+      valid_target = t.valid_target;
+      to = t.to;
+      outer = t.outer;
+      stop = t.stop;
+      word = t.word;
+      end = t.end;
+      blocks = t.blocks;
+      w' = t.w';
+      of_value = t.of_value;
+      world = record { later = t.world.later; things = t.world.things; stack = t.world.stack; end = t.world.end; more_exits = t.world.more_exits; same_size = t.world.same_size };
+      paid = let paid = t.paid in omega (arith, paid, enough);
+      pending = t.pending;
+      landing_word = t.landing_word;
+      landing_stands = t.landing_stands;
+      landing_is = t.landing_is;
+      lands = t.lands;
+    }
+
+    left_paid : LeftCharged setting c1 (start_charged setting a u) a.d r q → LeftCharged setting c2 a a.d r q
+    unfolding transfers_paid
+    left_paid t = record {
+      left = record { transfer = transfers_paid t.left.transfer; activation = t.left.activation; registers = t.left.registers };
+      charged = t.charged;
+    }
+
+    pub units_then : ChargesAt setting c1 (start_charged setting a u) r q → ChargesAt setting c2 a r q
+    units_then (done f) = done (record {
+      result = f.result;
+      outcome = f.outcome;
+      end = f.end;
+      w' = f.w';
+      reached = reached_repaid setting a u enough f.reached;
+      word = f.word;
+      in_register = f.in_register;
+      of_value = f.of_value;
+    })
+    units_then (left_by t) = left_by (left_paid t)
+    units_then (full_there k) = full_there k
+    units_then (stopped k) = stopped k
+    units_then (few_turns k) = few_turns (omega (arith, k))
+
   -- ---- **one thing after another**
 
-  module _ (E : Type 0) (c1 c : ℕ) (a : Start setting) (d1 : ℕ) (r : FlatEvaluated) (q : MidOutcome) (f : Value → FlatState → FlatEvaluated) (next : Next) (low : a.d ≤ d1) (less : c1 ≤ c)
+  module _ (E : FlatEvaluated → MidOutcome → Type 0) (c1 c : ℕ) (a : Start setting) (d1 : ℕ) (r : FlatEvaluated) (q : MidOutcome) (f : Value → FlatState → FlatEvaluated) (next : Next) (low : a.d ≤ d1) (less : c1 ≤ c)
       (grown : (v : Value) (z : FlatState) → FlatGrown z (f v z).state) (mid_grown : (g : Registers) (y : MidState) → Grown y (next g y).state) where
     abbrev Whole : FlatEvaluated → MidOutcome → Type 0
-    Whole p s = ChargesBy setting E c a p s
+    Whole p s = ChargesBy setting (E p s) c a p s
 
     transfers_lower : Transfers setting c1 a.rs a.valid a.w a.around a.z a.y r q → Transfers setting c a.rs a.valid a.w a.around a.z a.y r q
     transfers_lower t = record {

@@ -37,15 +37,15 @@ abbrev pub AreControls : List (ℕ × ℕ) → Type 0
 AreControls [] = Unit {0}
 AreControls (p ∷ ps) = (p.0 % 4 ≡ 0) × IsStored p.0 × (p.0 ≡ serials_address → ⊥) × AreControls ps
 
-controls_touch : (from to : ℕ) (ps : List (ℕ × ℕ)) → AreControls ps → Touches from to ps
+pub controls_touch : (from to : ℕ) (ps : List (ℕ × ℕ)) → AreControls ps → Touches from to ps
 controls_touch from to [] h = tt
 controls_touch from to (p ∷ ps) h = (h.0, inl h.1, controls_touch from to ps h.3)
 
-controls_aligned : (ps : List (ℕ × ℕ)) → AreControls ps → Aligned ps
+pub controls_aligned : (ps : List (ℕ × ℕ)) → AreControls ps → Aligned ps
 controls_aligned [] h = tt
 controls_aligned (p ∷ ps) h = (h.0, controls_aligned ps h.3)
 
-controls_differ : (ps : List (ℕ × ℕ)) → AreControls ps → Differs serials_address ps
+pub controls_differ : (ps : List (ℕ × ℕ)) → AreControls ps → Differs serials_address ps
 controls_differ [] h = tt
 controls_differ (p ∷ ps) h = (h.2, controls_differ ps h.3)
 

@@ -13,3 +13,5 @@ pub mod BlockRecords
 pub mod Blocks
 pub mod Whole
 pub mod Charging
+pub mod Cutting
+pub mod AtOnce

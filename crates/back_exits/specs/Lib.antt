@@ -4,3 +4,4 @@ pub mod Touching
 pub mod Inside
 pub mod Charging
 pub mod Blocks
+pub mod AtOnce

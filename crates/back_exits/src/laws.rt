@@ -1,6 +1,7 @@
 // The laws of exits, each as the contract of a function that does nothing.
 ghost use Rattle.back_relation.specs.Setting.{Setting};
 ghost use Rattle.back_combining.specs.Starts.{Start};
+ghost use Rattle.back_exits.specs.AtOnce.{LawOfReturnsAtOnce, LawOfGoesAtOnce};
 ghost use Rattle.back_exits.specs.Blocks.{LawOfBlocks, LawOfWholeBlocks};
 ghost use Rattle.back_exits.specs.Going.{LawOfGoing};
 ghost use Rattle.back_exits.specs.Inside.{LawOfSurroundings, LawOfBodies};
@@ -40,4 +41,14 @@ pub fn law_blocks()
 /// A block, wherever it stands.
 pub fn law_whole_blocks()
     ensures { LawOfWholeBlocks }
+{}
+
+/// A `return-from` an own block that may be left at once.
+pub fn law_returns_at_once()
+    ensures { LawOfReturnsAtOnce }
+{}
+
+/// A `go` to an own tagbody that may be left at once.
+pub fn law_goes_at_once()
+    ensures { LawOfGoesAtOnce }
 {}
