@@ -36,7 +36,7 @@ use Rattle.back_exits.specs.Touching.{touched, ExitsMade}
 use Rattle.back_exits.proofs.Laying.{record_steps_law}
 use Rattle.back_exits.proofs.Puts.{Put, of_control, of_record, pairs}
 use Rattle.back_exits.proofs.Steps.{draw_ends, Window}
-use Rattle.back_exits.proofs.Words.{lent_control, lent_record, says_inside, word_inside, control_after, one_more, record_has, world_laid, laid_stands}
+use Rattle.back_exits.proofs.Words.{charges, lent_control, lent_record, says_inside, word_inside, control_after, one_more, record_has, world_laid, laid_stands}
 
 -- what is stored where the record of an exit is laid
 abbrev pub exit_puts : (kind address current link drawn : ℕ) → List Put
@@ -141,10 +141,10 @@ module _ (setting : Setting) (placed : IsPlaced setting) (k turns : ℕ) (a : St
     the_exit = record { number = a.z.state.exits; kind = block_exit }
 
     pub made : ExitsMade a.w (charged 2 a.z) (a.w.exit_forms ++ Some Block ∷ []) (a.z.state.exits + 1) (stores (pairs at puts) (arena_inside setting a))
-    made = one_more setting a placed room 2 puts (Some Block) refl fewer refl
+    made = one_more setting a placed room (charged 2 a.z) puts (Some Block) refl refl fewer refl
 
     abbrev pub world_of_block : World
-    world_of_block = world_laid setting a placed room c 2 154 (a.y.cost + 36 + 118) (omega arith) puts refl (a.w.exit_forms ++ Some Block ∷ []) (a.z.state.exits + 1) (a.z.state.exits ∷ a.z.state.made) made
+    world_of_block = world_laid setting a placed room c (charged 2 a.z) (charges setting a 2) 154 (a.y.cost + 36 + 118) (omega arith) puts refl (a.w.exit_forms ++ Some Block ∷ []) (a.z.state.exits + 1) (a.z.state.exits ∷ a.z.state.made) made
 
     abbrev pub flat_of_block : FlatState
     flat_of_block = exits_counted (a.z.state.exits + 1) (a.z.state.exits ∷ a.z.state.made) (charged 2 a.z)
@@ -157,11 +157,11 @@ module _ (setting : Setting) (placed : IsPlaced setting) (k turns : ℕ) (a : St
 
     pub block_stands : LaidAt setting a 2 154 (for_exit the_exit) at world_of_block flat_of_block laid_registers state_of_block
     block_stands =
-        laid_stands setting a placed room c 2 154 (a.y.cost + 36 + 118) (omega arith) puts refl (a.w.exit_forms ++ Some Block ∷ []) (a.z.state.exits + 1) (a.z.state.exits ∷ a.z.state.made) made
+        laid_stands setting a placed room c (charged 2 a.z) (charges setting a 2) 154 (a.y.cost + 36 + 118) (omega arith) puts refl (a.w.exit_forms ++ Some Block ∷ []) (a.z.state.exits + 1) (a.z.state.exits ∷ a.z.state.made) made
         (for_exit the_exit) at refl refl refl refl refl refl (
-          record_has setting a placed room c 2 154 (a.y.cost + 36 + 118) (omega arith) puts refl (a.w.exit_forms ++ Some Block ∷ []) (a.z.state.exits + 1) (a.z.state.exits ∷ a.z.state.made) made 0 a.z.state.exits
+          record_has setting a placed room c (charged 2 a.z) (charges setting a 2) 154 (a.y.cost + 36 + 118) (omega arith) puts refl (a.w.exit_forms ++ Some Block ∷ []) (a.z.state.exits + 1) (a.z.state.exits ∷ a.z.state.made) made 0 a.z.state.exits
               (omega arith) refl number,
-          record_has setting a placed room c 2 154 (a.y.cost + 36 + 118) (omega arith) puts refl (a.w.exit_forms ++ Some Block ∷ []) (a.z.state.exits + 1) (a.z.state.exits ∷ a.z.state.made) made 12 (around_at setting a).link
+          record_has setting a placed room c (charged 2 a.z) (charges setting a 2) 154 (a.y.cost + 36 + 118) (omega arith) puts refl (a.w.exit_forms ++ Some Block ∷ []) (a.z.state.exits + 1) (a.z.state.exits ∷ a.z.state.made) made 12 (around_at setting a).link
               (omega arith) refl refl,
           tt,
         )

@@ -15,3 +15,5 @@ pub mod Whole
 pub mod Charging
 pub mod Cutting
 pub mod AtOnce
+pub mod CatchRecords
+pub mod Catches

@@ -44,6 +44,38 @@ module _ (setting : Setting) {b : Arena} (spot : SpotStands b (control_spot sett
 pub control_of : (setting : Setting) {w : World} {z : FlatState} {y : MidState} → Things setting w z y → SpotStands y.arena (control_spot setting)
 control_of setting t = t.represents.spots (of_other 1) (control_spot setting) t.control
 
+-- a state in which so many units more were charged, and nothing else is other than at a point
+pub record Charges (setting : Setting) (a : Start setting) (units : ℕ) (z : FlatState) : Type 0 where
+  pub things : Things setting a.w z a.y
+  pub units_there : z.state.units ≡ a.z.state.units + units
+  pub heap : z.state.heap ≡ a.z.state.heap
+  pub stack : z.state.stack ≡ a.z.state.stack
+  pub exits : z.state.exits ≡ a.z.state.exits
+  pub frame : z.frame ≡ a.z.frame
+  pub captured : z.captured ≡ a.z.captured
+
+pub charges : (setting : Setting) (a : Start setting) (units : ℕ) → Charges setting a units (charged units a.z)
+charges setting a units = record {
+  things = things_units setting units a.begins.call.things;
+  units_there = refl;
+  heap = refl;
+  stack = refl;
+  exits = refl;
+  frame = refl;
+  captured = refl;
+}
+
+pub charges_none : (setting : Setting) (a : Start setting) → Charges setting a 0 a.z
+charges_none setting a = record {
+  things = a.begins.call.things;
+  units_there = omega arith;
+  heap = refl;
+  stack = refl;
+  exits = refl;
+  frame = refl;
+  captured = refl;
+}
+
 module _ (setting : Setting) (a : Start setting) (placed : IsPlaced setting) (room : 8 ≤ left a.y.arena) where
   abbrev pub things : Things setting a.w a.z a.y
   things = a.begins.call.things
@@ -111,9 +143,9 @@ module _ (setting : Setting) (a : Start setting) (placed : IsPlaced setting) (ro
 
   -- one exit more was made, by this form
   pub one_more :
-      (units : ℕ) (puts : List Put) (f : Option ExitForm) → are_puts puts ≡ true → (things.serials.0 == 2 ^ 32 - 1) ≡ false → last_control 8 puts ≡ Some (things.serials.0 + 1)
-      → ExitsMade a.w (charged units a.z) (a.w.exit_forms ++ f ∷ []) (a.z.state.exits + 1) (stores (pairs at puts) inner)
-  one_more units puts f are fewer drawn =
+      (z0 : FlatState) (puts : List Put) (f : Option ExitForm) → z0.state.exits ≡ a.z.state.exits → are_puts puts ≡ true → (things.serials.0 == 2 ^ 32 - 1) ≡ false → last_control 8 puts ≡ Some (things.serials.0 + 1)
+      → ExitsMade a.w z0 (a.w.exit_forms ++ f ∷ []) (a.z.state.exits + 1) (stores (pairs at puts) inner)
+  one_more z0 puts f same are fewer drawn =
       let s = things.serials in
       let count = s.2 in
       let low = s.3 in
@@ -125,18 +157,18 @@ module _ (setting : Setting) (a : Start setting) (placed : IsPlaced setting) (ro
             ∙ ap (λ o. or_before o (word_at inner serials_address)) drawn;
         count = omega (arith, count);
         low = omega (arith, low, not_last);
-        more = omega arith;
+        more = omega (arith, same);
         form_count = length-append a.w.exit_forms (f ∷ []) ∙ ap (λ n. n + 1) things.exit_forms;
         forms_kept = λ e o g. slice_get-front a.w.exit_forms (f ∷ []) e o g;
       }
 
-  module _ (c : Context) (units cost total : ℕ) (paid : total ≡ a.y.cost + cost) (puts : List Put) (are : are_puts puts ≡ true) (forms : List (Option ExitForm)) (exits : ℕ) (made : List ℕ)
-      (exits_made : ExitsMade a.w (charged units a.z) forms exits (stores (pairs at puts) inner)) where
+  module _ (c : Context) (z0 : FlatState) {units : ℕ} (charge : Charges setting a units z0) (cost total : ℕ) (paid : total ≡ a.y.cost + cost) (puts : List Put) (are : are_puts puts ≡ true) (forms : List (Option ExitForm)) (exits : ℕ) (made : List ℕ)
+      (exits_made : ExitsMade a.w z0 forms exits (stores (pairs at puts) inner)) where
     abbrev pub world_laid : World
     world_laid = world_with (boxes_cut (stack_from a.y.arena) a.w.boxes) forms a.w
 
     abbrev pub flat_laid : FlatState
-    flat_laid = exits_counted exits made (charged units a.z)
+    flat_laid = exits_counted exits made z0
 
     abbrev pub state_laid : MidState
     state_laid = touched (pairs at puts) inner total a.y
@@ -154,8 +186,8 @@ module _ (setting : Setting) (a : Start setting) (placed : IsPlaced setting) (ro
       least = λ x low high. low;
     }
 
-    charged_world : WorldKept setting a.w world_laid (charged units a.z) flat_laid a.y state_laid
-    charged_world = world_touched setting total made placed (things_units setting units things) touching exits_made
+    charged_world : WorldKept setting a.w world_laid z0 flat_laid a.y state_laid
+    charged_world = world_touched setting total made placed charge.things touching exits_made
 
     record_word : (k n : ℕ) → k < 24 → k % 4 ≡ 0 → last_record k puts ≡ Some n → HasWordAt state_laid (at + k) n
     record_word k n few aligned e =
@@ -197,17 +229,17 @@ module _ (setting : Setting) (a : Start setting) (placed : IsPlaced setting) (ro
           things = charged_world.things;
           stack = charged_world.stack;
           end = charged_world.end;
-          more_exits = charged_world.more_exits;
+          more_exits = let more = charged_world.more_exits in let same_exits = charge.exits in omega (arith, more, same_exits);
           same_size = charged_world.same_size;
         };
         blocks = stored_blocks (pairs at puts) inner;
         heap_to = stored_heap (pairs at puts) inner;
         paid = paid;
-        units_there = refl;
-        heap = refl;
-        stack = refl;
-        frame = refl;
-        captured = refl;
+        units_there = charge.units_there;
+        heap = charge.heap;
+        stack = charge.stack;
+        frame = charge.frame;
+        captured = charge.captured;
         bindings = λ i x e. stack_high (stack_from a.y.arena) i x a.w.boxes e;
         words = λ x low.
             let t = to in

@@ -2,7 +2,7 @@
 ghost use Rattle.back_relation.specs.Setting.{Setting};
 ghost use Rattle.back_combining.specs.Starts.{Start};
 ghost use Rattle.back_exits.specs.AtOnce.{LawOfReturnsAtOnce, LawOfGoesAtOnce};
-ghost use Rattle.back_exits.specs.Blocks.{LawOfBlocks, LawOfWholeBlocks};
+ghost use Rattle.back_exits.specs.Blocks.{LawOfBlocks, LawOfWholeBlocks, LawOfCatches, LawOfWholeCatches};
 ghost use Rattle.back_exits.specs.Going.{LawOfGoing};
 ghost use Rattle.back_exits.specs.Inside.{LawOfSurroundings, LawOfBodies};
 ghost use Rattle.back_exits.specs.RecordSteps.{LawOfRecordSteps};
@@ -51,4 +51,14 @@ pub fn law_returns_at_once()
 /// A `go` to an own tagbody that may be left at once.
 pub fn law_goes_at_once()
     ensures { LawOfGoesAtOnce }
+{}
+
+/// A catch, in one scope.
+pub fn law_catches()
+    ensures { LawOfCatches }
+{}
+
+/// A catch, wherever it stands.
+pub fn law_whole_catches()
+    ensures { LawOfWholeCatches }
 {}
