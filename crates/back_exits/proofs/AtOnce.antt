@@ -151,11 +151,10 @@ module _ (setting : Setting) (placed : IsPlaced setting) (s : FormScope) (d n si
         (λ v z. transfer_grows setting k (exit_of (Own i) p.env) v (at_segment 0) p.around z) (λ regs y. code_grows setting s d n size k turns (goes 0) regs y)
         (here (charged_point p))
         (λ g.
-        let stack = (task_later setting k (form f) p.env p.around (charged 1 p.z)).stack in
         let count = g.reached.kept.registers.count in
         let width = wide p in
-        whole_then setting 0 0 (a1 p) d d n (omega arith) (omega arith) (omega arith) p.begins.first g.reached (omega arith) stack (form_grows setting k f p.env p.around (charged 1 p.z)).units
-        (cuts_to setting placed k (next_start setting 0 0 (a1 p) d d n (omega arith) (omega arith) (omega arith) p.begins.first g.reached (omega arith) stack) i 0 x (omega (arith, count, width)) found at_once
+        whole_then setting 0 0 (a1 p) d d n (omega arith) (omega arith) (omega arith) p.begins.first g.reached (omega arith) (form_grows setting k f p.env p.around (charged 1 p.z)).units
+        (cuts_to setting placed k (next_start setting 0 0 (a1 p) d d n (omega arith) (omega arith) (omega arith) p.begins.first g.reached (omega arith)) i 0 x (omega (arith, count, width)) found at_once
         (block_lands block) g.result g.word g.in_register g.of_value))))
 
     segment_lands : (segment : ℕ) → is_segment segment (slice_get s.exits.own i) ≡ true → (w : World) (e : ℕ) → slice_get w.exit_forms e ≡ Some (slice_get s.exits.own i) → LandsIn (slice_get w.exit_forms e) (at_segment segment)
@@ -172,8 +171,8 @@ module _ (setting : Setting) (placed : IsPlaced setting) (s : FormScope) (d n si
         subst (λ q. ChargesAt setting 0 (a0 p) r q)
         (sym (parts_then (constant d nil_word ∷ []) (goes segment) one (record { same = refl })).same)
         (units_then setting 300 0 (a0 p) 1 (omega arith)
-        (whole_then setting 294 300 (a1 p) d d n (omega arith) (omega arith) (omega arith) p.begins.first set (omega arith) refl (omega arith)
-        (cuts_to setting placed k (next_start setting 294 300 (a1 p) d d n (omega arith) (omega arith) (omega arith) p.begins.first set (omega arith) refl) i segment x (omega (arith, width, size_then)) found at_once
+        (whole_then setting 294 300 (a1 p) d d n (omega arith) (omega arith) (omega arith) p.begins.first set (omega arith) (omega arith)
+        (cuts_to setting placed k (next_start setting 294 300 (a1 p) d d n (omega arith) (omega arith) (omega arith) p.begins.first set (omega arith)) i segment x (omega (arith, width, size_then)) found at_once
         (segment_lands segment there) nil nil_word (register_here p.regs d nil_word (omega (arith, width))) refl)))
 
 pub returns_at_once_law : LawOfReturnsAtOnce

@@ -176,7 +176,7 @@ module _ (setting : Setting) (placed : IsPlaced setting) (s : FormScope) (d m n 
           exit_ends setting a laid first 6 m begins 0 0 (omega arith) (rest setting placed k turns a laid first m begins wide) (catch setting placed k turns a laid first m begins wide)
           (rest_grows setting placed k turns a laid first m begins wide) (catch_grows setting placed k turns a laid first m begins wide) gives_there (λ v l z. same_flat z)
           (λ r q. FellFrom setting 0 a a.d r q) came ran (λ f. falls_out setting placed k turns a laid first m begins wide 0 0 (omega arith) came ran f)
-          (λ t to number. lands_then setting placed k turns a laid first m begins wide 0 0 (omega arith) came ran t to (eq-eqb p.z.state.exits t.left.transfer.exit_number (sym number)) (task_later setting k (form body) point.env point.around point.z).stack)
+          (λ t to number. lands_then setting placed k turns a laid first m begins wide 0 0 (omega arith) came ran t to (eq-eqb p.z.state.exits t.left.transfer.exit_number (sym number)))
           (body_here point)
 
     with_words : (b : Bool) → (drawn setting placed k turns a room win == 2 ^ 32 - 1) ≡ b → ChargesAt setting 0 a result (exec_step (code_at setting k turns) step p.regs p.y)

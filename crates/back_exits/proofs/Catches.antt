@@ -177,8 +177,7 @@ module _ (setting : Setting) (placed : IsPlaced setting) (m size k : ℕ) (body 
           exit_ends setting a laid first 6 m begins 0 600 (omega arith) (rest setting placed k a.turns a laid first m begins wide) (catch setting placed k a.turns a laid first m begins wide)
           (rest_grows setting placed k a.turns a laid first m begins wide) (catch_grows setting placed k a.turns a laid first m begins wide) gives_there (λ v l z. same_flat z)
           (λ r q. FellFrom setting 600 a a.d r q) came ran (λ f. falls_out setting placed k a.turns a laid first m begins wide 0 600 (omega arith) came ran f)
-          (λ t to same. lands_then setting placed k a.turns a laid first m begins wide 0 600 (omega arith) came ran t to (eq-eqb a.z.state.exits t.left.transfer.exit_number (sym same))
-          (task_later setting k (form body) point.env point.around point.z).stack)
+          (λ t to same. lands_then setting placed k a.turns a laid first m begins wide 0 600 (omega arith) came ran t to (eq-eqb a.z.state.exits t.left.transfer.exit_number (sym same)))
           (body_here point)
 
     with_words : (b : Bool) → (number == 2 ^ 32 - 1) ≡ b → ChargesAt setting 600 a result (exec_step (code_at setting k a.turns) step a.regs a.y)
@@ -248,11 +247,10 @@ module _ (setting : Setting) (placed : IsPlaced setting) (s : FormScope) (d m n 
       (λ v z. caught_grows setting k body p.env p.around v z) (λ regs y. code_grows setting s d n size k turns catching regs y)
       (tag_here charged_point)
       (λ g.
-      let stack = (task_later setting k (form tag) p.env p.around (charged 2 p.z)).stack in
       let count = g.reached.kept.registers.count in
       let same = p.count in
-      whole_then setting 600 600 a1 d d n (omega arith) (omega arith) (omega arith) p.begins.first g.reached (omega arith) stack (form_grows setting k tag p.env p.around (charged 2 p.z)).units
-      (catch_sim setting placed m size k body (next_start setting 600 600 a1 d d n (omega arith) (omega arith) (omega arith) p.begins.first g.reached (omega arith) stack)
+      whole_then setting 600 600 a1 d d n (omega arith) (omega arith) (omega arith) p.begins.first g.reached (omega arith) (form_grows setting k tag p.env p.around (charged 2 p.z)).units
+      (catch_sim setting placed m size k body (next_start setting 600 600 a1 d d n (omega arith) (omega arith) (omega arith) p.begins.first g.reached (omega arith))
       (omega (arith, count, same, there)) (count ∙ p.count) enough body_here g.result g.word g.in_register g.of_value))))
 
 pub catches_law : LawOfCatches

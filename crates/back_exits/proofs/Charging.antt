@@ -15,29 +15,13 @@ use Rattle.back_combining.proofs.Growth.{both_prefix, then_value, then_other, th
 use Rattle.back_combining.proofs.Parts.{go_on_falls, go_on_last}
 use Rattle.back_combining.proofs.Starts.{start_after, start_charged, reached_repaid}
 use Rattle.back_combining.proofs.Then.{reached_then, left_behind, because_then, stopped_last, registers_less}
-use Rattle.back_exits.specs.Charging.{HeapCharged, LeftCharged, ChargesBy, ChargesAt}
+use Rattle.back_exits.specs.Charging.{LeftCharged, ChargesBy, ChargesAt}
 
 module _ (setting : Setting) where
-  -- what a part took was charged
-  pub heap_of :
-      {credit : ℕ} (a : Start setting) (d1 : ℕ) {w : World} {z : FlatState} {regs : Registers} {y : MidState} → ReachedFrom setting credit a d1 w z regs y
-      → z.state.stack ≡ a.z.state.stack → HeapCharged a.z a.y z y
-  heap_of a d1 {w} {z} {regs} {y} x same =
-      let before = a.begins.call.things.represents.arena in
-      let behind = x.kept.world.things.represents.arena in
-      let aligned = before.aligned in
-      let aligned_behind = behind.aligned in
-      let room = before.room in
-      let room_behind = behind.room in
-      let charged = x.back.charged in
-      let from : stack_from y.arena ≡ stack_from a.y.arena =
-      ap (λ n. begin_of n y.arena.blocks) x.kept.world.same_size ∙ ap (begin_of (length a.y.arena.memory)) x.back.blocks in
-      omega (arith, aligned, aligned_behind, room, room_behind, charged, from, same)
-
   -- ---- behind what was reached
 
   module _ {c1 : ℕ} (c2 c : ℕ) (a : Start setting) (d1 e m : ℕ) (low : a.d ≤ d1) (later : a.d ≤ e) (fewer : m ≤ a.n) (there : e < length a.regs) {w : World} {z : FlatState} {regs : Registers} {y : MidState}
-      (x : ReachedFrom setting c1 a d1 w z regs y) (enough : c1 + c2 ≤ c) (same : z.state.stack ≡ a.z.state.stack) where
+      (x : ReachedFrom setting c1 a d1 w z regs y) (enough : c1 + c2 ≤ c) where
     abbrev pub next_start : Start setting
     next_start = start_after setting a d1 e m low later fewer there x
 
@@ -45,7 +29,11 @@ module _ (setting : Setting) where
     pub left_then : {r : FlatEvaluated} {q : MidOutcome} → LeftCharged setting c2 next_start a.d r q → LeftCharged setting c a a.d r q
     left_then t = record {
       left = left_behind setting low x enough t.left;
-      charged = let first = heap_of a d1 x same in let then = t.charged in omega (arith, first, then);
+      charged =
+          let first = x.back.charged in
+          let then = t.charged in
+          let from : stack_from y.arena ≡ stack_from a.y.arena = ap (λ n. begin_of n y.arena.blocks) x.kept.world.same_size ∙ ap (begin_of (length a.y.arena.memory)) x.back.blocks in
+          omega (arith, first, then, from);
     }
 
     pub ends_then : {D E : Type 0} {r : FlatEvaluated} {q : MidOutcome} → a.z.state.units ≤ z.state.units → (D → E) → Ends setting D (LeftCharged setting c2 next_start a.d r q) a.turns z y r q

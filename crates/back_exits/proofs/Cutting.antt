@@ -302,5 +302,5 @@ module _ (setting : Setting) (placed : IsPlaced setting) (c : Context) (a : Star
             ∙ set_elsewhere a.regs (a.d + 1) r (Some i) (λ f. omega (arith, f, low));
       };
     };
-    charged = omega arith;
+    charged = let room = a.begins.call.things.represents.arena.room in omega (arith, room);
   }

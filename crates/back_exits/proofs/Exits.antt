@@ -24,7 +24,7 @@ use Rattle.back_combining.proofs.Parts.{go_on_last}
 use Rattle.back_combining.proofs.Reaches.{first_stop_in}
 use Rattle.back_exits.specs.Charging.{LeftCharged, ChargesBy, ChargesAt}
 use Rattle.back_exits.specs.Inside.{scope_with, environment_with, around_with, around_at, address_inside, record_inside, LaidAt, IsInnermost}
-use Rattle.back_exits.proofs.Inside.{at_to, found_new, found_outside}
+use Rattle.back_exits.proofs.Inside.{at_from, at_to, words_left, found_new, found_outside}
 use Rattle.back_exits.proofs.Leaving.{world_outside, registers_outside, activation_outside}
 
 -- ---- lists of records
@@ -200,7 +200,14 @@ module _ (setting : Setting) (a : Start setting) {units cost : ℕ} {x : Exit} {
           activation = activation_outside setting a laid l.world {own = own} {count = count} {forms = forms} {numbers = numbers} {exits = x ∷ a.around.exits} n t.left.registers t.left.activation;
           registers = registers_outside setting a laid l.world {own = own} {count = count} {forms = forms} {numbers = numbers} {exits = x ∷ a.around.exits} n t.left.registers t.left.activation;
         };
-        charged = let charged = t.charged in let heap = laid.heap in let to = laid.heap_to in omega (arith, charged, heap, to);
+        charged =
+            let charged = t.charged in
+            let heap = laid.heap in
+            let stack = laid.stack in
+            let fewer = words_left setting a laid in
+            let from = at_from setting a laid in
+            let to = at_to setting a laid in
+            omega (arith, charged, heap, stack, fewer, from, to);
       }
 
       -- such a transfer is not to the block that was laid here

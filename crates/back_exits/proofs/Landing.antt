@@ -239,7 +239,7 @@ module _ (setting : Setting) (placed : IsPlaced setting) (k turns : ℕ) (a : St
     -- ---- the landing
 
     module _ (r : FlatEvaluated) (q : MidOutcome) (t : LeftCharged setting c1 inside (a.d + 6) r q) (to : record_inside setting a (for_exit x) ≡ t.left.transfer.to)
-        (same_exit : (x.number == t.left.transfer.exit_number) ≡ true) (same_stack : r.state.state.stack ≡ z.state.stack) where
+        (same_exit : (x.number == t.left.transfer.exit_number) ≡ true) where
       abbrev v : ℕ
       v = t.left.transfer.word
 
@@ -324,7 +324,7 @@ module _ (setting : Setting) (placed : IsPlaced setting) (k turns : ℕ) (a : St
           (λ i few. set_elsewhere g1 (a.d + 6) i (Some 0) (λ e. omega (arith, e, few)) ∙ set_elsewhere q.registers a.d i (Some t.left.transfer.word) (λ e. omega (arith, e, few)))
           refl says_then
           (charged_back setting a laid world_then {own = own} {count = count} {forms = forms} {numbers = numbers} {exits = x ∷ a.around.exits} 6 t.left.registers t.left.activation placed blocks_then lands controls_then (q.state.cost + 38 + 10)
-          t.charged same_stack)
+          t.charged)
           (let paid = t.left.transfer.paid in let there = laid.paid in let up = laid.units_there in let same = same_length in omega (arith, paid, there, up, same, enough))
 
       -- **a transfer landed**

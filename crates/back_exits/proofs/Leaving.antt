@@ -24,12 +24,12 @@ use Rattle.back_combining.specs.Stores.{stores, Aligned, Differs}
 use Rattle.back_combining.proofs.Activations.{activation_later}
 use Rattle.back_combining.proofs.Windows.{stored_elsewhere}
 use Rattle.back_combining.proofs.Worlds.{Same}
-use Rattle.back_exits.specs.Charging.{HeapCharged}
+use Rattle.back_exits.specs.Charging.{TakenCharged}
 use Rattle.back_exits.specs.Going.{world_with}
 use Rattle.back_exits.specs.Inside.{scope_with, environment_with, around_with, ExitsStand, around_at, LaidAt}
 use Rattle.back_exits.specs.RecordSteps.{ControlSays}
 use Rattle.back_exits.specs.Touching.{IsStored, Touches, Touched, touched, ExitsMade}
-use Rattle.back_exits.proofs.Inside.{world_both, method_shallower, activation_with, deeper}
+use Rattle.back_exits.proofs.Inside.{world_both, method_shallower, activation_with, at_from, at_to, words_left, deeper}
 use Rattle.back_exits.proofs.Touching.{world_touched, stored_from, stored_heap, stack_kept}
 
 -- control words are stored, but not that of the serials
@@ -147,8 +147,8 @@ module _ (setting : Setting) (a : Start setting) {units cost : ℕ} {role : Reco
           (λ x low high. let from = from_before in let same = stored_from ps arena_back in omega (arith, high, from, same))
 
       -- the words that were taken were charged
-      pub charged_back : HeapCharged z y z2 y2 → z2.state.stack ≡ z.state.stack → ChargedFrom a.z a.y z2 state_back
-      charged_back h same_stack =
+      pub charged_back : TakenCharged z y z2 y2 → ChargedFrom a.z a.y z2 state_back
+      charged_back h =
           let from = stored_from ps arena_back in
           let heap_to = stored_heap ps arena_back in
           let size = world.same_size ∙ laid.world.same_size in
@@ -156,8 +156,10 @@ module _ (setting : Setting) (a : Start setting) {units cost : ℕ} {role : Reco
           let room = stands.room in
           let stack = laid.stack in
           let heap = laid.heap in
-          let to = laid.heap_to in
-          omega (arith, h, same_stack, from, heap_to, size, before, room, stack, heap, to)
+          let fewer = words_left setting a laid in
+          let at = at_from setting a laid in
+          let to = at_to setting a laid in
+          omega (arith, h, from, heap_to, size, before, room, stack, heap, fewer, at, to)
 
       stays : Same w2 world_back state_back state_back
       stays = record {

@@ -6,6 +6,7 @@ use Rattle.flat_language.specs.FlatForm.{FlatForm}
 use Rattle.flat_language.specs.FlatMeaning.{mean}
 use Rattle.flat_language.specs.FlatSignals.{FlatContext}
 use Rattle.flat_language.specs.FlatState.{FlatEnvironment, FlatState, FlatEvaluated}
+use Rattle.mid_code.specs.Arena.{left, stack_from}
 use Rattle.mid_code.specs.Meaning.{Context, exec}
 use Rattle.mid_code.specs.State.{Registers, MidState, MidOutcome}
 use Rattle.back_relation.specs.Setting.{Setting}
@@ -17,9 +18,9 @@ use Rattle.back_relation.specs.Forms.{Begins, HasRegisters, FormStands, value_co
 use Rattle.back_combining.specs.Points.{Point, start_at, run, value_steps}
 use Rattle.back_combining.specs.Starts.{Start, FellFrom}
 
--- the words of the heap that were taken were charged
-abbrev pub HeapCharged : FlatState → MidState → FlatState → MidState → Type 0
-HeapCharged z y z' y' = y'.arena.heap_to + 4 * z.state.heap ≤ y.arena.heap_to + 4 * z'.state.heap
+-- The words that were taken were charged: so many would be left at least, if all blocks still stood where the heap ends now.
+abbrev pub TakenCharged : FlatState → MidState → FlatState → MidState → Type 0
+TakenCharged z y z' y' = 4 * (left y.arena + z.state.heap + z.state.stack) + y'.arena.heap_to ≤ stack_from y.arena + 4 * (z'.state.heap + z'.state.stack)
 
 -- the forms that made the exits around are known
 abbrev pub FormsKnown : FormScope → Type 0
@@ -29,7 +30,7 @@ module _ (setting : Setting) where
   -- a transfer leaves the activation as it is, and what was taken was charged
   pub record LeftCharged (credit : ℕ) (a : Start setting) (d : ℕ) (r : FlatEvaluated) (q : MidOutcome) : Type 0 where
     pub left : Left setting credit a.rs a.valid a.s d a.w a.env a.around a.z a.regs a.y r q
-    pub charged : HeapCharged a.z a.y r.state q.state
+    pub charged : TakenCharged a.z a.y r.state q.state
 
   abbrev pub ChargesBy : (Done : Type 0) → ℕ → Start setting → FlatEvaluated → MidOutcome → Type 0
   ChargesBy Done credit a r q = Ends setting Done (LeftCharged credit a a.d r q) a.turns a.z a.y r q
