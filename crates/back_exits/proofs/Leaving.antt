@@ -171,6 +171,23 @@ module _ (setting : Setting) (a : Start setting) {units cost : ℕ} {role : Reco
         };
       }
 
+      pub activation_back :
+          (g' : Registers) → ((i : ℕ) → i < a.d → slice_get g' i ≡ slice_get g i) → ActivationStands setting a.s a.rs a.valid world_back a.env a.around z2 g' state_back
+      activation_back g' same =
+          activation_later setting {d = a.d} gave.later stays refl (λ n cs e. e) (λ r few. ap word_in (same r few)) a.begins.scope
+          (activation_with setting {y' = state_back} activation exits_outside
+          (method_shallower setting w2 y2 state_back a.s.keeps_method g a.s.code.method a.env.method
+          (let from = from_before in let after = stored_from ps arena_back in omega (arith, from, after))
+          (λ x low plain. gave.stack.words x (let from = from_before in let after = stored_from ps arena_back in omega (arith, low, from, after)) low plain)
+          activation.method))
+
+      pub registers_back :
+          (g' : Registers) → length g' ≡ length g → ((i : ℕ) → i < a.d → slice_get g' i ≡ slice_get g i) → RegistersKept a.s.code a.d a.regs g'
+      registers_back g' size same = record {
+        count = size ∙ kept.count ∙ laid.count;
+        same = λ i low none. same i low ∙ own_register i low none;
+      }
+
       -- **outside the record again**
       pub reached_outside :
           {credit : ℕ} (g' : Registers) → length g' ≡ length g → ((i : ℕ) → i < a.d → slice_get g' i ≡ slice_get g i) → (stores ps arena_back).blocks ≡ a.y.arena.blocks
@@ -181,17 +198,8 @@ module _ (setting : Setting) (a : Start setting) {units cost : ℕ} {role : Reco
           record {
             kept = record {
               world = outside_kept;
-              activation =
-                  activation_later setting {d = a.d} gave.later stays refl (λ n cs e. e) (λ r few. ap word_in (same r few)) a.begins.scope
-                  (activation_with setting {y' = state_back} activation exits_outside
-                  (method_shallower setting w2 y2 state_back a.s.keeps_method g a.s.code.method a.env.method
-                  (let from = from_before in let after = stored_from ps arena_back in omega (arith, from, after))
-                  (λ x low plain. gave.stack.words x (let from = from_before in let after = stored_from ps arena_back in omega (arith, low, from, after)) low plain)
-                  activation.method));
-              registers = record {
-                count = size ∙ kept.count ∙ laid.count;
-                same = λ i low none. same i low ∙ own_register i low none;
-              };
+              activation = activation_back g' same;
+              registers = registers_back g' size same;
             };
             back = record {
               control = record {
