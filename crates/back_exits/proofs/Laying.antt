@@ -1,5 +1,5 @@
 -- The steps of control records, one after another.
-use Rattle.std.proofs.Common.{◌≡◌, ℕ, ◌+◌, ◌*◌, ◌<◌, ◌≤◌, true, false, List, [], ◌∷◌, ◌++◌, length, Option, Some, refl, sym, ap, ◌∙◌, arith}
+use Rattle.std.proofs.Common.{◌≡◌, ℕ, ◌+◌, ◌<◌, ◌≤◌, true, false, List, [], ◌∷◌, ◌++◌, length, Option, Some, refl, ◌∙◌, arith}
 use Rattle.std.specs.Prelude.{◌%◌, ◌^◌, ◌-◌, ◌==◌, slice_set, pos}
 use Rattle.mid_code.specs.Arena.{is_lent, word_at, with_word}
 use Rattle.mid_code.specs.Meaning.{Context}
@@ -8,11 +8,10 @@ use Rattle.mid_code.specs.MidCode.{perform, code_of}
 use Rattle.mid_code.specs.State.{Registers, register, falls, ends, MidState, charged, with_arena}
 use Rattle.mid_arena.proofs.Registers.{register_here, register_beside}
 use Rattle.mid_arena.proofs.Running.{StepsTo, RunsTo, and_then, none_left, parts_then, costing, constant_falls, store_falls, address_above}
-use Rattle.back_lowering.specs.ControlWords.{control_address, control_words, variables_address, current_address, link_address, serials_address, handlers_address, bindings_address, record_serial, record_kind, record_outer, record_link}
+use Rattle.back_lowering.specs.ControlWords.{control_address, current_address, link_address, serials_address, handlers_address, bindings_address, record_serial, record_kind, record_outer, record_link}
 use Rattle.back_lowering.specs.Records.{record_laid, exit_laid, record_left, record_landed}
 use Rattle.back_lowering.specs.Steps.{store}
-use Rattle.back_relation.specs.Worlds.{record_bytes}
-use Rattle.back_combining.specs.Stores.{stores, Aligned, Differs}
+use Rattle.back_combining.specs.Stores.{stores}
 use Rattle.back_combining.proofs.Windows.{constant_in, load_in, store_in, draw_in, stored_elsewhere, stored_lent}
 use Rattle.back_exits.specs.RecordSteps.{ControlSays, ControlLent, RecordLent, record_stores, exit_stores, left_stores, landed_stores, record_registers, with_stores, LawOfRecordSteps}
 

@@ -1,6 +1,5 @@
 -- Where control words are stored and boxes are gone, what words say goes on being said.
-use Rattle.std.proofs.Common.{◌≡◌, ℕ, ◌+◌, ◌*◌, ◌<◌, ◌≤◌, Bool, false, List, [], ◌∷◌, length, Option, Some, None, refl, sym, ap, ◌∙◌, subst, arith}
-use Rattle.std.specs.Prelude.{◌==◌, slice_get}
+use Rattle.std.proofs.Common.{◌≡◌, ℕ, ◌+◌, ◌*◌, ◌<◌, ◌≤◌, List, [], ◌∷◌, length, Option, Some, None, refl, ◌∙◌, subst, arith}
 use Rattle.std.proofs.lemmas.Bool.{ne_eqb}
 use Rattle.std.proofs.lemmas.Option.{slice_get_within}
 use Rattle.lang_meaning.specs.declared.scope.ExitForm.{ExitForm}
@@ -11,12 +10,12 @@ use Rattle.lang_meaning.specs.Values.{Value}
 use Rattle.lang_meaning.specs.State.{Limit, words, unlimited}
 use Rattle.flat_language.specs.FlatNodes.{tables}
 use Rattle.flat_language.specs.FlatState.{Captured, of_value, of_box, of_exit, of_method, FlatState}
-use Rattle.mid_code.specs.Arena.{Arena, word_at}
+use Rattle.mid_code.specs.Arena.{word_at}
 use Rattle.mid_code.specs.State.{MidState}
 use Rattle.mid_arena.specs.Law.{KeepsOthers}
-use Rattle.mid_arena.specs.Places.{Spot, Owner, of_object, of_other, spot_of, same_owner}
+use Rattle.mid_arena.specs.Places.{Spot, of_object, of_other, spot_of}
 use Rattle.mid_arena.specs.Represents.{Represents}
-use Rattle.mid_arena.specs.Standing.{ValueAt, ValuesAt, SlotAt, SameWords}
+use Rattle.mid_arena.specs.Standing.{SlotAt, SameWords}
 use Rattle.mid_arena.proofs.OwnWords.{own_words}
 use Rattle.mid_arena.proofs.Representing.{represents_same}
 use Rattle.back_relation.specs.Setting.{Setting, control_spot, spots_at_start}

@@ -1,2 +1,7 @@
 pub mod RecordSteps
 pub mod Going
+pub mod Touching
+pub mod Inside
+pub mod Charging
+pub mod Blocks
+pub mod AtOnce
