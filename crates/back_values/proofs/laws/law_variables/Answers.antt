@@ -1,0 +1,4 @@
+use Rattle.back_values.proofs.laws.law_variables.Goals as goal
+
+pub returns : goal.returns
+returns c = ?
