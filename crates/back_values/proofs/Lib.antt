@@ -1,3 +1,5 @@
 pub mod Moved
 pub mod Cleaning
+pub mod Far
+pub mod CapturedWords
 pub mod Variables
