@@ -17,11 +17,8 @@ use Rattle.back_combining.specs.Starts.{Start, ReachedFrom}
 use Rattle.back_combining.proofs.Activations.{activation_later}
 use Rattle.back_combining.proofs.Cuts.{later_cut}
 use Rattle.back_combining.proofs.Starts.{start_after}
+use Rattle.back_values.specs.Boxes.{Clean}
 use Rattle.back_values.proofs.Moved.{control_moves, further_moves, slot_moves, literals_move, symbols_move, method_moves, functions_move, box_moves}
-
--- all places on the stack are in blocks that stand
-abbrev pub Clean : World → MidState → Type 0
-Clean w y = (i a : ℕ) → slice_get w.boxes i ≡ Some (on_stack a) → stack_from y.arena ≤ a
 
 cut_count : (from : ℕ) (bs : List BoxPlace) → length (boxes_cut from bs) ≡ length bs
 cut_count from [] = refl

@@ -3,3 +3,5 @@ pub mod Cleaning
 pub mod Far
 pub mod CapturedWords
 pub mod Variables
+pub mod NewBoxes
+pub mod BoxesMade
