@@ -8,3 +8,5 @@ pub mod BoxesMade
 pub mod Frames
 pub mod Slots
 pub mod Bindings
+pub mod SetSlots
+pub mod SetBoxes
