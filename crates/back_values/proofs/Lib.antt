@@ -10,3 +10,4 @@ pub mod Slots
 pub mod Bindings
 pub mod SetSlots
 pub mod SetBoxes
+pub mod SetVariables
