@@ -11,3 +11,6 @@ pub mod Bindings
 pub mod SetSlots
 pub mod SetBoxes
 pub mod SetVariables
+pub mod NewGlobals
+pub mod Signals
+pub mod Globals

@@ -46,11 +46,11 @@ index_elsewhere (y ∷ xs) (suc i) zero x e h = refl
 index_elsewhere (y ∷ xs) (suc i) (suc j) x e h = index_elsewhere xs i j x e (λ same. h (ap (λ n. suc n) same))
 
 -- spots that code took are none of the first ones
-late_two : (ws : List ℕ) (n : ℕ) → spots_at_start ws ≤ n → 2 ≤ n
+pub late_two : (ws : List ℕ) (n : ℕ) → spots_at_start ws ≤ n → 2 ≤ n
 late_two [] n h = h
 late_two (w ∷ ws) n h = omega (arith, h)
 
-late_three : (ws : List ℕ) (i word n : ℕ) → slice_get ws i ≡ Some word → spots_at_start ws ≤ n → 3 ≤ n
+pub late_three : (ws : List ℕ) (i word n : ℕ) → slice_get ws i ≡ Some word → spots_at_start ws ≤ n → 3 ≤ n
 late_three [] i word n e h = absurd (cc e)
 late_three (w ∷ ws) i word n e h = h
 

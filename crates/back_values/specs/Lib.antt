@@ -1,3 +1,4 @@
 pub mod Variables
 pub mod Boxes
 pub mod Bindings
+pub mod Globals

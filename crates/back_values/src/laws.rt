@@ -2,7 +2,8 @@
 ghost use Rattle.back_relation.specs.Setting.{Setting};
 ghost use Rattle.back_values.specs.Bindings.{LawOfBindings};
 ghost use Rattle.back_values.specs.Boxes.{LawOfBoxes};
-ghost use Rattle.back_values.specs.Variables.{LawOfVariables};
+ghost use Rattle.back_values.specs.Globals.{LawOfGlobals, LawOfSettingGlobals, LawOfDefinitions};
+ghost use Rattle.back_values.specs.Variables.{LawOfVariables, LawOfSetting};
 
 /// Variables are read.
 pub fn law_variables()
@@ -17,4 +18,24 @@ pub fn law_boxes()
 /// Bindings of `let`.
 pub fn law_bindings()
     ensures { LawOfBindings }
+{}
+
+/// Variables are set.
+pub fn law_setting()
+    ensures { LawOfSetting }
+{}
+
+/// Global variables are read.
+pub fn law_globals()
+    ensures { LawOfGlobals }
+{}
+
+/// Global variables are set.
+pub fn law_setting_globals()
+    ensures { LawOfSettingGlobals }
+{}
+
+/// Global variables are defined.
+pub fn law_definitions()
+    ensures { LawOfDefinitions }
 {}
