@@ -14,3 +14,4 @@ pub mod SetVariables
 pub mod NewGlobals
 pub mod Signals
 pub mod Globals
+pub mod NewFunctions
