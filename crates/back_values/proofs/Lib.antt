@@ -15,3 +15,5 @@ pub mod NewGlobals
 pub mod Signals
 pub mod Globals
 pub mod NewFunctions
+pub mod FunctionParts
+pub mod Functions
