@@ -71,7 +71,7 @@ boxes_grow limit (home.Boxed ∷ hs) z next grown =
     by false inner = same_flat z
 
 -- no words are left for the meaning
-full_printed : (z : FlatState) (y : MidState) (q : MidOutcome) → y.printed ≡ z.state.printed → Grown y q.state → IsPrefix z.state.printed q.state.printed
+pub full_printed : (z : FlatState) (y : MidState) (q : MidOutcome) → y.printed ≡ z.state.printed → Grown y q.state → IsPrefix z.state.printed q.state.printed
 full_printed z y q same g = subst (λ p. IsPrefix p q.state.printed) same (record { rest = g.printed.0; is = sym g.printed.1 })
 
 pub within_asked : (l : Limit) (z : FlatState) → has_room l (z.state.heap + z.state.stack + 1 + 0) ≡ true → WithinLimit l (box_asked z).state

@@ -2,11 +2,13 @@
 use Rattle.std.proofs.Common.{◌≡◌, ℕ, zero, suc, ◌+◌, ◌*◌, ◌%◌, ◌^◌, ◌<◌, ◌≤◌, Bool, true, false, List, [], ◌∷◌, ◌++◌, length, Option, Some, None, refl, sym, ap, ◌∙◌, subst, arith}
 use Rattle.std.specs.Prelude.{slice_get, slice_set, map, if◌then◌else◌}
 use Rattle.std.proofs.lemmas.Bool.Decides.{nat_tests}
+use Rattle.std.proofs.lemmas.Option.{slice_get_within}
 use Rattle.std.proofs.Math.ListN.{length-set}
 use Rattle.std.proofs.lemmas.List.{length-map}
 use Rattle.base.specs.AllOf.{AllOf}
 use Rattle.base.specs.Arithmetic.{sum32}
 use Rattle.lang_meaning.specs.declared.scope.ExitForm.{ExitForm}
+use Rattle.lang_meaning.specs.Objects.{function}
 use Rattle.lang_meaning.specs.Prefixes.{IsPrefix}
 use Rattle.lang_meaning.specs.State.{Limit, words, unlimited, has_room, full, room_left}
 use Rattle.lang_meaning.specs.Values.{Value, object}
@@ -21,7 +23,7 @@ use Rattle.flat_language.specs.FlatExits.{exit_of_part, exits_of_parts, some_exi
 use Rattle.flat_language.specs.FlatForm.{make_function}
 use Rattle.flat_language.specs.FlatMeaning.{mean}
 use Rattle.flat_language.specs.FlatStanding.{FunctionStands, PartStands, PartsStand}
-use Rattle.flat_language.specs.FlatState.{Captured, of_value, of_box, of_exit, of_method, FlatState, FlatEvaluated, gives, charged, captured_part, make_closure, exit_in, under}
+use Rattle.flat_language.specs.FlatState.{Captured, of_value, of_box, of_exit, of_method, FlatEnvironment, FlatState, FlatEvaluated, gives, charged, captured_part, make_closure, exit_in, under}
 use Rattle.mid_code.specs.declared.operation.Arithmetic.TheVariants as which
 use Rattle.mid_code.specs.Arena.{word_in, left, word_at, with_heap, with_word}
 use Rattle.mid_code.specs.Law.{Grown}
@@ -54,6 +56,7 @@ use Rattle.back_relation.specs.Forms.{context_at, code_at}
 use Rattle.back_combining.specs.Points.{Point, start_at, run, Here}
 use Rattle.back_combining.specs.Starts.{Start, EndsAt, ReachedFrom}
 use Rattle.back_combining.proofs.Activations.{activation_later}
+use Rattle.back_combining.proofs.Growth.{same_prefix}
 use Rattle.back_combining.proofs.Fitting.{enough_front, enough_behind, registers_front}
 use Rattle.back_combining.proofs.Points.{point_after}
 use Rattle.back_combining.proofs.Starts.{start_charged, ends_charged, behind}
@@ -121,6 +124,20 @@ module _ (setting : Setting) (s : FormScope) (d m size : ℕ) (q : Point setting
   made_of_parts [] (x ∷ kinds) h = absurd h
   made_of_parts (p ∷ parts) [] h = absurd h
   made_of_parts (p ∷ parts) (x ∷ kinds) h = (made_of p x h.0, made_of_parts parts kinds h.1)
+
+-- parts are what they are in any state with the same frame
+part_same : (env : FlatEnvironment) (z : FlatState) (u : ℕ) (p : FlatCapture) → captured_part env (charged u z) p ≡ captured_part env z p
+part_same env z u (part.Variable (Slot i)) = refl
+part_same env z u (part.Variable (SlotBox i)) = refl
+part_same env z u (part.Variable (CapturedValue i)) = refl
+part_same env z u (part.Variable (CapturedBox i)) = refl
+part_same env z u (part.Exit p) = refl
+part_same env z u (part.Method p) = refl
+
+parts_same : (env : FlatEnvironment) (z : FlatState) (u : ℕ) (parts : List FlatCapture) → map (captured_part env (charged u z)) parts ≡ map (captured_part env z) parts
+parts_same env z u [] = refl
+parts_same env z u (p ∷ parts) =
+    ap (λ x. x ∷ map (captured_part env (charged u z)) parts) (part_same env z u p) ∙ ap (λ xs. captured_part env z p ∷ xs) (parts_same env z u parts)
 
 -- ---- words that are asked for
 
@@ -273,7 +290,7 @@ module _ (setting : Setting) (placed : IsPlaced setting) (s : FormScope) (d m si
     count_words = captured_count q.w ws cs done_parts.are
 
     count_parts : length cs ≡ length parts
-    count_parts = length-map (captured_part q.env q.z) parts
+    count_parts = length-map parts (captured_part q.env q.z)
 
     abbrev regs5 : Registers
     regs5 = slice_set (slice_set done_parts.after (d + 1) (Some 2)) d (Some (b + 2))
@@ -338,4 +355,113 @@ module _ (setting : Setting) (placed : IsPlaced setting) (s : FormScope) (d m si
         (function_is setting placed t clean p ws cs cost row at kinds_are forms lead made_by done_parts.are room within cheap))
       where
         kept_under : (i : ℕ) (ds : List Captured) → under i q.z.captured ≡ Some ds → under i ((length q.z.state.store, cs) ∷ q.z.captured) ≡ Some ds
-        kept_under i ds e = ?
+        kept_under i ds e =
+            let f = known i ds e in
+            let few = slice_get_within q.z.state.store i (function f.0) f.1 in
+            ap (λ t. if t then Some cs else under i q.z.captured) (ne_eqb i (length q.z.state.store) (λ at. omega (arith, at, few))) ∙ e
+
+  -- the words are there, or they are not
+  module _ (q : Point setting s d m size) (known : CapturedByFunctions q.z) (clean : Clean q.w q.y) (fits : enough_for (of_code (code_of all_steps)) ≤ size) (row : FlatProcedure)
+      (at : slice_get setting.program.lambdas p ≡ Some row) (stands : PartsStand s.flat parts row.captured) (lead : slice_get setting.leads.functions p ≡ Some (exits_of_parts s.exits parts))
+      (parts_placed : AllOf (PartPlaced setting s.keeps_method) parts) where
+    abbrev captured_parts : List Captured
+    captured_parts = map (captured_part q.env q.z) parts
+
+    as_many : length captured_parts ≡ length parts
+    as_many = length-map parts (captured_part q.env q.z)
+
+    abbrev steps6 : Steps
+    steps6 = store (d + 1) d 4 ∷ (parts_steps ++ last_steps)
+
+    abbrev steps5 : Steps
+    steps5 = constant (d + 1) entry ∷ steps6
+
+    abbrev steps4 : Steps
+    steps4 = store (d + 1) d 0 ∷ steps5
+
+    abbrev steps3 : Steps
+    steps3 = constant (d + 1) function_header ∷ steps4
+
+    fits3 : enough_for (of_code (code_of steps3)) ≤ size
+    fits3 = rest_fits (request d d) steps3 size (rest_fits (constant d many) (request d d ∷ steps3) size fits)
+
+    there : d + 1 < size
+    there = let one = step_fits (constant (d + 1) function_header) steps4 size fits3 in omega (arith, one)
+
+    fits_parts : enough_for (of_code (code_of parts_steps)) ≤ size
+    fits_parts =
+        registers_front parts_steps last_steps size
+        (rest_fits (store (d + 1) d 4) (parts_steps ++ last_steps) size
+        (rest_fits (constant (d + 1) entry) steps6 size (rest_fits (store (d + 1) d 0) steps5 size (rest_fits (constant (d + 1) function_header) steps4 size fits3))))
+
+    with_words_left :
+        has_room setting.limit (q.z.state.heap + q.z.state.stack + (2 + length captured_parts) + 0) ≡ true → Room many q.y.arena
+        → EndsAt setting 300 (start q) (gives (object (length q.z.state.store)) (function_meant p captured_parts q.z)) (run setting s d m size k n all_steps q.regs q.y)
+    with_words_left e (is_left some) =
+        function_there q known there fits_parts row.captured stands parts_placed some clean row at refl lead (words_within setting.limit q.z captured_parts e)
+    with_words_left e (is_wanting few) =
+        let run_to : RunsTo c (code_of all_steps) q.regs q.y (ends (no_room many (left q.y.arena)) (slice_set q.regs d (Some many)) (mid_charged 20 (mid_charged 6 q.y))) =
+        and_then constant_falls (and_ends tt (request_wanting (register_here q.regs d many (omega (arith, there, q.count))) few)) in
+        let few' : left q.y.arena < 2 + length captured_parts = omega (arith, few, as_many) in
+        subst (λ o. EndsAt setting 300 (start q) (gives (object (length q.z.state.store)) (function_meant p captured_parts q.z)) o) (sym run_to.same)
+        (stopped (record {
+          because = (
+            words_wanting setting setting.limit (m + words_for_handler * length q.around.handlers) (2 + length captured_parts) q.z q.y
+                (gives (object (length q.z.state.store)) (function_meant p captured_parts q.z)) e few' q.begins.call.room,
+            few,
+          );
+          printed = subst (λ x. IsPrefix x q.z.state.printed) (sym q.begins.call.things.represents.printed) (same_prefix q.z.state.printed);
+        }))
+
+    made_or_not :
+        EndsAt setting 300 (start q) (make_closure setting.limit p captured_parts q.z (λ v after. gives v after)) (run setting s d m size k n all_steps q.regs q.y)
+    made_or_not = by (has_room setting.limit (q.z.state.heap + q.z.state.stack + (2 + length captured_parts) + 0)) refl
+      where
+        by :
+            (t : Bool) → has_room setting.limit (q.z.state.heap + q.z.state.stack + (2 + length captured_parts) + 0) ≡ t
+            → EndsAt setting 300 (start q)
+            (if t then gives (object (length q.z.state.store)) (function_meant p captured_parts q.z)
+            else record { outcome = full (2 + length captured_parts + 0) (room_left setting.limit (q.z.state.heap + q.z.state.stack)); state = q.z })
+            (run setting s d m size k n all_steps q.regs q.y)
+        by true e = with_words_left e (room_for many q.y.arena)
+        by false e =
+            full_there (record {
+              asked = 2 + length captured_parts + 0;
+              left_then = room_left setting.limit (q.z.state.heap + q.z.state.stack);
+              outcome = refl;
+              printed =
+                  full_printed q.z q.y (run setting s d m size k n all_steps q.regs q.y) q.begins.call.things.represents.printed (steps_grow setting k n all_steps q.regs q.y);
+            })
+
+  -- **a function that a form makes**
+  pub function_here :
+      (first : ℕ) → FunctionStands setting.program.lambdas s.flat first p parts → slice_get setting.leads.functions p ≡ Some (exits_of_parts s.exits parts)
+      → AllOf (PartPlaced setting s.keeps_method) parts → ((q : Point setting s d m size) → CapturedByFunctions q.z) → enough_for (of_code (code_of all_steps)) ≤ size
+      → Here setting s d m size k n (make_function p parts)
+  unfolding mean lower
+  function_here first stands lead parts_placed known fits q =
+      let units : ℕ = 1 + length parts in
+      let a : Start setting = start_charged setting (start q) units in
+      let b : Point setting s d m size = record {
+        rs = q.rs;
+        valid = q.valid;
+        w = q.w;
+        env = q.env;
+        around = q.around;
+        z = charged units q.z;
+        regs = q.regs;
+        y = q.y;
+        begins = a.begins;
+        count = q.count;
+      } in
+      let r = reached_clean setting (start b) in
+      let e : Point setting s d m size = point_after setting s d m size n b r in
+      ends_charged setting {c1 = 300} (start q) units (omega arith)
+      (behind setting {c1 = 0} {c2 = 300} (start b) d (omega arith) r (omega arith) (omega arith)
+      (subst (λ (xs : List Captured). EndsAt setting 300 (start e) (make_closure setting.limit p xs (charged units q.z) (λ v after. gives v after)) (run setting s d m size k n all_steps q.regs q.y))
+      (parts_same q.env q.z units parts)
+      (made_or_not e (known e) (is_clean setting b.begins.call.things) fits stands.procedure stands.there stands.parts_stand lead parts_placed)))
+
+pub functions_law : LawOfFunctions
+functions_law setting s d m size k turns first p parts placed stands lead parts_placed known fits =
+    function_here setting placed s d m size k turns p parts first stands lead parts_placed known fits

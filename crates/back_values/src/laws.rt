@@ -2,6 +2,7 @@
 ghost use Rattle.back_relation.specs.Setting.{Setting};
 ghost use Rattle.back_values.specs.Bindings.{LawOfBindings};
 ghost use Rattle.back_values.specs.Boxes.{LawOfBoxes};
+ghost use Rattle.back_values.specs.Functions.{LawOfFunctions};
 ghost use Rattle.back_values.specs.Globals.{LawOfGlobals, LawOfSettingGlobals, LawOfDefinitions};
 ghost use Rattle.back_values.specs.Variables.{LawOfVariables, LawOfSetting};
 
@@ -38,4 +39,9 @@ pub fn law_setting_globals()
 /// Global variables are defined.
 pub fn law_definitions()
     ensures { LawOfDefinitions }
+{}
+
+/// Functions that forms make.
+pub fn law_functions()
+    ensures { LawOfFunctions }
 {}
