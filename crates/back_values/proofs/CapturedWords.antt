@@ -1,20 +1,20 @@
 -- What the function itself captured: it stands behind a pointer that is in a register.
-use Rattle.std.proofs.Common.{◌≡◌, ℕ, zero, suc, ◌+◌, ◌*◌, ◌^◌, ◌<◌, ◌≤◌, List, [], ◌∷◌, length, Option, Some, None, refl, sym, ap, ◌∙◌, subst, arith}
+use Rattle.std.proofs.Common.{◌≡◌, ℕ, zero, suc, ◌+◌, ◌*◌, ◌^◌, ◌<◌, List, [], ◌∷◌, Option, Some, refl, subst, arith}
 use Rattle.std.specs.Prelude.{slice_get}
 use Rattle.std.proofs.lemmas.Option.{slice_get_within}
-use Rattle.lang_meaning.specs.Objects.{Called, function}
+use Rattle.lang_meaning.specs.Objects.{Called}
 use Rattle.lang_meaning.specs.Values.{Value}
 use Rattle.flat_language.specs.declared.place.CapturedKind.{CapturedKind}
 use Rattle.flat_language.specs.declared.place.CapturedKind.TheVariants as kind
-use Rattle.flat_language.specs.FlatState.{Captured, of_value, of_box, of_exit, of_method, FlatState, under}
+use Rattle.flat_language.specs.FlatState.{Captured, of_value, of_box, of_exit, of_method, FlatState}
 use Rattle.mid_code.specs.Arena.{Arena, word_at}
-use Rattle.mid_code.specs.State.{Registers, register, MidState}
-use Rattle.mid_arena.specs.Places.{of_object, word_of}
+use Rattle.mid_code.specs.State.{MidState}
+use Rattle.mid_arena.specs.Places.{of_object}
 use Rattle.mid_arena.proofs.Growing.{spot_below}
 use Rattle.mid_arena.proofs.Memory.{spot_low}
 use Rattle.back_lowering.specs.Leaves.{captured_offset}
 use Rattle.back_relation.specs.Setting.{Setting}
-use Rattle.back_relation.specs.Worlds.{World, BoxIs}
+use Rattle.back_relation.specs.Worlds.{World}
 use Rattle.back_relation.specs.Things.{Things, IsOfKind, AreOfKinds, CapturedIs, CapturedAt, FunctionStands, MadeFunction}
 use Rattle.back_relation.specs.Activation.{SelfHeld}
 use Rattle.back_values.specs.Variables.{CapturedByFunctions}

@@ -1,6 +1,6 @@
 -- What a new function captures comes into a register, and is stored, one part after another.
-use Rattle.std.proofs.Common.{◌≡◌, ℕ, zero, suc, ◌+◌, ◌*◌, ◌%◌, ◌^◌, ◌<◌, ◌≤◌, Bool, true, false, List, [], ◌∷◌, ◌++◌, length, Option, Some, None, refl, sym, ap, ◌∙◌, subst, arith}
-use Rattle.std.specs.Prelude.{slice_get, slice_set, map, ◌==◌}
+use Rattle.std.proofs.Common.{◌≡◌, ℕ, ◌+◌, ◌*◌, ◌%◌, ◌^◌, ◌<◌, ◌≤◌, true, List, [], ◌∷◌, ◌++◌, length, Option, Some, None, refl, sym, ap, ◌∙◌, subst, arith}
+use Rattle.std.specs.Prelude.{slice_get, slice_set, map}
 use Rattle.std.proofs.lemmas.Bool.{eq-eqb, ne_eqb}
 use Rattle.std.proofs.Math.ListN.{length-set}
 use Rattle.base.specs.AllOf.{AllOf}
@@ -18,11 +18,11 @@ use Rattle.flat_language.specs.FlatStanding.{PartStands, PartsStand}
 use Rattle.flat_language.specs.FlatState.{holds, holds_box, Captured, of_value, of_box, of_exit, of_method, captured_part, value_held, box_held, value_in, box_in, exit_in, method_in}
 use Rattle.mid_code.specs.declared.operation.Arithmetic.TheVariants as which
 use Rattle.mid_code.specs.Arena.{word_in, word_at, with_word}
-use Rattle.mid_code.specs.Meaning.{Context, exec}
+use Rattle.mid_code.specs.Meaning.{Context}
 use Rattle.mid_code.specs.MidCode.{code_of}
 use Rattle.mid_code.specs.State.{Registers, register, falls, ends, MidState, with_arena}
 use Rattle.mid_code.specs.State.{charged as mid_charged}
-use Rattle.mid_arena.specs.Places.{Spot, of_other}
+use Rattle.mid_arena.specs.Places.{of_other}
 use Rattle.mid_arena.specs.Standing.{Apart, in_front, behind}
 use Rattle.mid_arena.proofs.Lists.{set_elsewhere}
 use Rattle.mid_arena.proofs.Memory.{with_words, word_elsewhere, lent_in_heap, spot_low}
@@ -31,11 +31,9 @@ use Rattle.mid_arena.proofs.Running.{RunsTo, and_then, none_left, constant_falls
 use Rattle.back_lowering.specs.Codes.{part_into, parts_stored}
 use Rattle.back_lowering.specs.Leaves.{captured_into, captured_offset, slot_into, serial_into}
 use Rattle.back_lowering.specs.Registers.{of_code, enough_for}
-use Rattle.back_lowering.specs.declared.scope.Scope.{Scope}
-use Rattle.back_lowering.specs.declared.scope.OwnExit.{OwnExit}
-use Rattle.back_lowering.specs.Steps.{Steps, move, constant, store_far}
+use Rattle.back_lowering.specs.Steps.{Steps, move, store_far}
 use Rattle.back_relation.specs.Setting.{Setting}
-use Rattle.back_relation.specs.Worlds.{World, MethodIs}
+use Rattle.back_relation.specs.Worlds.{MethodIs}
 use Rattle.back_relation.specs.Things.{CapturedIs}
 use Rattle.back_relation.specs.Activation.{FormScope, MethodHeld}
 use Rattle.back_relation.specs.Placed.{PartPlaced}
@@ -46,7 +44,7 @@ use Rattle.mid_arena.proofs.Representing.{fixed_spot}
 use Rattle.std.proofs.lemmas.Bool.{ne_eqb}
 use Rattle.back_values.specs.Variables.{CapturedByFunctions}
 use Rattle.back_values.proofs.CapturedWords.{PartThere, of_kind, is_value, is_box, is_exit, is_method, part_there}
-use Rattle.back_values.proofs.Far.{Loaded, Stored, load_far_runs, store_far_runs, charged_twice}
+use Rattle.back_values.proofs.Far.{Loaded, load_far_runs, store_far_runs, charged_twice}
 use Rattle.back_values.proofs.NewFunctions.{CapturedAre}
 use Rattle.back_values.proofs.SetBoxes.{late_two}
 use Rattle.back_values.proofs.Variables.{slot_there, there_is}
@@ -152,8 +150,7 @@ module _ (setting : Setting) (s : FormScope) (d m size k n : ℕ) (q : Point set
         let spot = stands.spot in
         let r = q.begins.call.things.represents in
         let two = late_two setting.further spot.number spot.late in
-        let end = spot_low r.arena (r.spots (of_other spot.number) _ spot.there) in
-        (
+        let end = spot_low r.arena (r.spots (of_other spot.number) _ spot.there) in (
           first (r.apart (of_other 0) (of_other spot.number) fixed_spot (record { address = start; words = 2 + length called.arguments; tag = 0 })
               (ne_eqb 0 spot.number (λ e. omega (arith, e, two))) r.fixed.spot spot.there),
           omega (arith, end),

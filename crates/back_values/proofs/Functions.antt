@@ -1,5 +1,5 @@
 -- Functions that forms make.
-use Rattle.std.proofs.Common.{◌≡◌, ℕ, zero, suc, ◌+◌, ◌*◌, ◌%◌, ◌^◌, ◌<◌, ◌≤◌, Bool, true, false, List, [], ◌∷◌, ◌++◌, length, Option, Some, None, refl, sym, ap, ◌∙◌, subst, arith}
+use Rattle.std.proofs.Common.{◌≡◌, ℕ, zero, suc, ◌+◌, ◌*◌, ◌^◌, ◌<◌, ◌≤◌, Bool, true, false, List, [], ◌∷◌, ◌++◌, length, Option, Some, None, refl, sym, ap, ◌∙◌, subst, arith}
 use Rattle.std.specs.Prelude.{slice_get, slice_set, map, if◌then◌else◌}
 use Rattle.std.proofs.lemmas.Bool.Decides.{nat_tests}
 use Rattle.std.proofs.lemmas.Option.{slice_get_within}
@@ -11,7 +11,7 @@ use Rattle.lang_meaning.specs.declared.scope.ExitForm.{ExitForm}
 use Rattle.lang_meaning.specs.Objects.{function}
 use Rattle.lang_meaning.specs.Prefixes.{IsPrefix}
 use Rattle.lang_meaning.specs.State.{Limit, words, unlimited, has_room, full, room_left}
-use Rattle.lang_meaning.specs.Values.{Value, object}
+use Rattle.lang_meaning.specs.Values.{object}
 use Rattle.flat_language.specs.declared.place.CapturedKind.{CapturedKind}
 use Rattle.flat_language.specs.declared.place.CapturedKind.TheVariants as kind
 use Rattle.flat_language.specs.declared.place.ExitPlace.TheVariants as exit_place
@@ -23,13 +23,12 @@ use Rattle.flat_language.specs.FlatExits.{exit_of_part, exits_of_parts, some_exi
 use Rattle.flat_language.specs.FlatForm.{make_function}
 use Rattle.flat_language.specs.FlatMeaning.{mean}
 use Rattle.flat_language.specs.FlatStanding.{FunctionStands, PartStands, PartsStand}
-use Rattle.flat_language.specs.FlatState.{Captured, of_value, of_box, of_exit, of_method, FlatEnvironment, FlatState, FlatEvaluated, gives, charged, captured_part, make_closure, exit_in, under}
+use Rattle.flat_language.specs.FlatState.{Captured, of_exit, FlatEnvironment, FlatState, FlatEvaluated, gives, charged, captured_part, make_closure, exit_in, under}
 use Rattle.mid_code.specs.declared.operation.Arithmetic.TheVariants as which
-use Rattle.mid_code.specs.Arena.{word_in, left, word_at, with_heap, with_word}
-use Rattle.mid_code.specs.Law.{Grown}
+use Rattle.mid_code.specs.Arena.{word_in, left, with_heap, with_word}
 use Rattle.mid_code.specs.Meaning.{Context, exec}
 use Rattle.mid_code.specs.MidCode.{MidStep, code_of}
-use Rattle.mid_code.specs.State.{Registers, register, falls, no_room, ends, MidState, MidOutcome, with_arena}
+use Rattle.mid_code.specs.State.{Registers, register, falls, no_room, ends, MidState, with_arena}
 use Rattle.mid_code.specs.State.{charged as mid_charged}
 use Rattle.mid_arena.specs.Tags.{function_header, object_tag}
 use Rattle.mid_arena.specs.Standing.{ArenaStands}
@@ -52,7 +51,7 @@ use Rattle.back_relation.specs.Activation.{FormScope}
 use Rattle.back_relation.specs.Placed.{IsPlaced, PartPlaced}
 use Rattle.back_relation.specs.Room.{words_for_handler}
 use Rattle.back_relation.specs.Ends.{RoomEnded, full_there, stopped}
-use Rattle.back_relation.specs.Forms.{context_at, code_at}
+use Rattle.back_relation.specs.Forms.{code_at}
 use Rattle.back_combining.specs.Points.{Point, start_at, run, Here}
 use Rattle.back_combining.specs.Starts.{Start, EndsAt, ReachedFrom}
 use Rattle.back_combining.proofs.Activations.{activation_later}
@@ -67,8 +66,8 @@ use Rattle.back_values.specs.Variables.{CapturedByFunctions}
 use Rattle.back_values.proofs.BoxesMade.{steps_grow, full_printed}
 use Rattle.back_values.proofs.CapturedWords.{of_kind, is_exit}
 use Rattle.back_values.proofs.Cleaning.{is_clean, reached_clean}
-use Rattle.back_values.proofs.FunctionParts.{taken, AsBefore, PartsDone, ObjectHere, parts_done}
-use Rattle.back_values.proofs.NewFunctions.{CapturedAre, captured_count, words_asked, function_meant, later, function_is, world_made, around_made, made_state, function_world}
+use Rattle.back_values.proofs.FunctionParts.{AsBefore, PartsDone, ObjectHere, parts_done}
+use Rattle.back_values.proofs.NewFunctions.{captured_count, words_asked, function_meant, function_is, world_made, around_made, function_world}
 use Rattle.back_values.proofs.SetVariables.{given_where}
 
 -- ---- of what kinds parts are, and which forms made exits among them

@@ -1,6 +1,6 @@
 -- Global variables are read, set and defined.
-use Rattle.std.proofs.Common.{◌≡◌, ℕ, ◌+◌, ◌^◌, ◌<◌, ◌≤◌, Bool, true, false, List, [], ◌∷◌, ◌++◌, length, Option, Some, None, refl, sym, ap, ◌∙◌, subst, arith}
-use Rattle.std.specs.Prelude.{slice_get, slice_set, ◌==◌, nat_le, if◌then◌else◌}
+use Rattle.std.proofs.Common.{◌≡◌, ℕ, ◌+◌, ◌^◌, ◌<◌, ◌≤◌, true, false, List, [], ◌∷◌, ◌++◌, length, Option, Some, None, refl, sym, ap, ◌∙◌, subst, arith}
+use Rattle.std.specs.Prelude.{slice_get, slice_set}
 use Rattle.std.proofs.lemmas.Bool.{eq-eqb, ne_eqb}
 use Rattle.std.proofs.Math.ListN.{length-set}
 use Rattle.lang_meaning.specs.Lookup.{text, under_text}
@@ -12,12 +12,12 @@ use Rattle.flat_language.specs.FlatMeaning.{mean, mean_global, set_global_to}
 use Rattle.flat_language.specs.FlatNodes.{tables}
 use Rattle.flat_language.specs.FlatSignals.{signal, unbound_variable}
 use Rattle.flat_language.specs.FlatSignals.{with_some as flat_with_some}
-use Rattle.flat_language.specs.FlatState.{FlatState, FlatEvaluated, FlatAct, gives, go_on, charged, on_state}
+use Rattle.flat_language.specs.FlatState.{FlatState, FlatAct, gives, charged, on_state}
 use Rattle.mid_code.specs.declared.operation.Comparison.TheVariants.{Equal}
 use Rattle.mid_code.specs.Arena.{word_in, word_at, with_word}
 use Rattle.mid_code.specs.Meaning.{Context, exec}
-use Rattle.mid_code.specs.MidCode.{MidCode, choose, no_step, code_of}
-use Rattle.mid_code.specs.State.{Registers, register, falls, ends, MidState, MidOutcome, with_arena}
+use Rattle.mid_code.specs.MidCode.{code_of}
+use Rattle.mid_code.specs.State.{Registers, register, MidState, with_arena}
 use Rattle.mid_code.specs.State.{charged as mid_charged}
 use Rattle.mid_arena.specs.Places.{of_other, word_of}
 use Rattle.mid_arena.proofs.Growing.{spot_below}
@@ -27,7 +27,7 @@ use Rattle.mid_arena.proofs.Lists.{set_elsewhere}
 use Rattle.mid_arena.proofs.Registers.{register_here, register_beside}
 use Rattle.mid_arena.proofs.Running.{RunsTo, and_then, none_left, constant_falls, parts_then, in_two_parts}
 use Rattle.mid_arena.proofs.ValueWords.{tells_value}
-use Rattle.back_lowering.specs.Codes.{lower, if_bound, global_code, set_global_code, def_global_code}
+use Rattle.back_lowering.specs.Codes.{lower, global_code, set_global_code, def_global_code}
 use Rattle.back_lowering.specs.Leaves.{failing_with}
 use Rattle.back_lowering.specs.Placement.{global_address, symbol_word}
 use Rattle.back_lowering.specs.Steps.{Steps, constant, if_equal, test_of, load_from, store_to}
@@ -41,7 +41,7 @@ use Rattle.back_combining.specs.Starts.{FlatGrown, Start, EndsAt, ReachedFrom}
 use Rattle.back_combining.proofs.Activations.{activation_later}
 use Rattle.back_combining.proofs.Choices.{choice, tested}
 use Rattle.back_combining.proofs.FormGrowth.{form_grows}
-use Rattle.back_combining.proofs.Growth.{same_flat, same_prefix}
+use Rattle.back_combining.proofs.Growth.{same_prefix}
 use Rattle.back_combining.proofs.Parts.{single_step}
 use Rattle.back_combining.proofs.Points.{point_after, code_grows}
 use Rattle.back_combining.proofs.Starts.{start_charged, ends_charged, behind, two, given_already, gives_run}
@@ -51,8 +51,8 @@ use Rattle.back_combining.proofs.Worlds.{later_same}
 use Rattle.back_values.specs.Boxes.{Clean}
 use Rattle.back_values.specs.Globals.{FailsHere, LawOfGlobals, LawOfSettingGlobals, LawOfDefinitions}
 use Rattle.back_values.proofs.Cleaning.{is_clean, reached_clean}
-use Rattle.back_values.proofs.Far.{Loaded, Stored, load_from_runs, store_to_runs, charged_twice}
-use Rattle.back_values.proofs.NewGlobals.{global_lent, global_low, global_meant, global_state, world_global, around_global}
+use Rattle.back_values.proofs.Far.{Stored, load_from_runs, store_to_runs, charged_twice}
+use Rattle.back_values.proofs.NewGlobals.{global_lent, global_low, world_global, around_global}
 use Rattle.back_values.proofs.SetVariables.{given_where}
 use Rattle.back_values.proofs.Signals.{signal_grows}
 

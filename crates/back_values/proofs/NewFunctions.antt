@@ -1,5 +1,5 @@
 -- A new function: its words are requested and stored, and what words say goes on being said with it.
-use Rattle.std.proofs.Common.{◌≡◌, ◌⊎◌, inl, inr, ℕ, zero, suc, ◌+◌, ◌*◌, ◌%◌, ◌^◌, ◌<◌, ◌≤◌, Bool, true, false, List, [], ◌∷◌, ◌++◌, length, Option, Some, None, refl, sym, ap, ◌∙◌, subst, arith}
+use Rattle.std.proofs.Common.{◌≡◌, ◌⊎◌, inl, inr, ℕ, suc, ◌+◌, ◌*◌, ◌≤◌, Bool, true, false, List, [], ◌∷◌, ◌++◌, length, Option, Some, refl, sym, ap, ◌∙◌, subst, arith}
 use Rattle.std.specs.Prelude.{◌==◌, slice_get, if◌then◌else◌}
 use Rattle.std.proofs.lemmas.Bool.{eq-eqb, ne_eqb}
 use Rattle.std.proofs.lemmas.Option.{slice_get_within}
@@ -8,14 +8,14 @@ use Rattle.lang_meaning.specs.declared.scope.ExitForm.{ExitForm}
 use Rattle.lang_meaning.specs.Objects.{Object, function, generic_function}
 use Rattle.lang_meaning.specs.State.{State, Limit, words, unlimited, with_words, stored}
 use Rattle.lang_meaning.specs.State as base
-use Rattle.lang_meaning.specs.Values.{Value, object}
+use Rattle.lang_meaning.specs.Values.{object}
 use Rattle.flat_language.specs.declared.program.FlatProcedure.{FlatProcedure}
 use Rattle.flat_language.specs.FlatNodes.{tables}
-use Rattle.flat_language.specs.FlatState.{Captured, of_value, of_box, of_exit, of_method, FlatState, on_state, under}
-use Rattle.mid_code.specs.Arena.{Arena, begin_of, stack_from, left, word_at}
+use Rattle.flat_language.specs.FlatState.{Captured, FlatState, on_state, under}
+use Rattle.mid_code.specs.Arena.{begin_of, stack_from, left, word_at}
 use Rattle.mid_code.specs.State.{MidState}
 use Rattle.mid_arena.specs.Growing.{Grows}
-use Rattle.mid_arena.specs.Places.{Spot, Owner, of_object, of_other, spot_of, pointer_to, with_object, word_of}
+use Rattle.mid_arena.specs.Places.{Spot, Owner, of_object, spot_of, pointer_to, with_object, word_of}
 use Rattle.mid_arena.specs.Standing.{SameWords}
 use Rattle.mid_arena.proofs.Growing.{words_grown}
 use Rattle.mid_arena.proofs.Keeping.{old_spot}
@@ -29,7 +29,7 @@ use Rattle.back_lowering.specs.Placement.{entry_of_lambda}
 use Rattle.back_relation.specs.Setting.{Setting}
 use Rattle.back_relation.specs.Placed.{IsPlaced}
 use Rattle.back_relation.specs.Worlds.{World, BoxPlace, on_heap, on_stack, gone, Later}
-use Rattle.back_relation.specs.Things.{Things, WithinLimit, AreOfKinds, AreMadeBy, CapturedIs, CapturedAt, BoxStands, FunctionStands, MadeFunction}
+use Rattle.back_relation.specs.Things.{Things, WithinLimit, AreOfKinds, AreMadeBy, CapturedIs, CapturedAt, FunctionStands, MadeFunction}
 use Rattle.back_relation.specs.Ends.{WorldKept, Around}
 use Rattle.back_combining.proofs.Activations.{made_by_later}
 use Rattle.back_values.specs.Boxes.{Clean}

@@ -1,5 +1,5 @@
 -- The value of a global variable is another one.
-use Rattle.std.proofs.Common.{◌≡◌, ℕ, zero, suc, ◌+◌, ◌*◌, ◌%◌, ◌/◌, ◌^◌, ◌<◌, ◌≤◌, Bool, true, false, List, [], ◌∷◌, length, Option, Some, None, refl, sym, ap, ◌∙◌, subst, arith}
+use Rattle.std.proofs.Common.{◌≡◌, ℕ, ◌+◌, ◌*◌, ◌%◌, ◌/◌, ◌^◌, ◌<◌, ◌≤◌, Bool, true, false, List, [], ◌∷◌, Some, refl, sym, ap, ◌∙◌, subst, arith}
 use Rattle.std.specs.Prelude.{slice_get, ◌==◌, ◌&&◌, if◌then◌else◌}
 use Rattle.std.specs.Str.{bytes_eq}
 use Rattle.std.proofs.lemmas.Bool.{ne_eqb, eq-eqb}
@@ -10,24 +10,24 @@ use Rattle.lang_meaning.specs.State.{State, Limit, words, unlimited}
 use Rattle.lang_meaning.specs.Values.{Value}
 use Rattle.flat_language.specs.FlatNodes.{tables}
 use Rattle.flat_language.specs.FlatState.{FlatState, on_state}
-use Rattle.mid_code.specs.Arena.{stack_from, is_lent, word_at, with_word}
+use Rattle.mid_code.specs.Arena.{is_lent, word_at, with_word}
 use Rattle.mid_code.specs.State.{MidState, with_arena}
 use Rattle.mid_code.specs.State.{charged as mid_charged}
 use Rattle.mid_arena.specs.Growing.{Changes}
 use Rattle.mid_arena.specs.Law.{KeepsOthers}
-use Rattle.mid_arena.specs.Places.{Spot, Owner, of_object, of_other, same_owner, spot_of, word_of}
+use Rattle.mid_arena.specs.Places.{Spot, Owner, of_other, same_owner, spot_of, word_of}
 use Rattle.mid_arena.specs.Represents.{Represents}
 use Rattle.mid_arena.specs.Standing.{SpotStands, SlotAt}
 use Rattle.mid_arena.proofs.Growing.{spot_below}
 use Rattle.mid_arena.proofs.Memory.{in_spot_lent, in_spot_there, word_here, word_elsewhere}
 use Rattle.mid_arena.proofs.OwnWords.{changes_in_spot, own_words}
 use Rattle.mid_arena.proofs.Representing.{represents_same}
-use Rattle.back_lowering.specs.ControlWords.{control_address, control_words, variables_address, serials_address, current_address, link_address, handlers_address, bindings_address, end_address}
+use Rattle.back_lowering.specs.ControlWords.{control_address, control_words, serials_address, current_address, link_address, handlers_address, bindings_address, end_address}
 use Rattle.back_lowering.specs.Placement.{global_address, dynamic_address}
 use Rattle.back_relation.specs.Setting.{Setting, control_spot, spots_at_start}
-use Rattle.back_relation.specs.Placed.{HasGlobal, HasDynamic, IsPlaced}
+use Rattle.back_relation.specs.Placed.{HasGlobal, IsPlaced}
 use Rattle.back_relation.specs.Worlds.{World, BoxPlace, on_heap, on_stack, gone}
-use Rattle.back_relation.specs.Things.{Things, WithinLimit, TakenSpot, BoxStands}
+use Rattle.back_relation.specs.Things.{Things, WithinLimit}
 use Rattle.back_relation.specs.Ends.{WorldKept, Around}
 use Rattle.back_combining.proofs.Worlds.{later_same}
 use Rattle.back_values.specs.Boxes.{Clean}

@@ -1,5 +1,5 @@
 -- Variables are set, wherever they are.
-use Rattle.std.proofs.Common.{◌≡◌, ℕ, ◌+◌, ◌^◌, ◌<◌, ◌≤◌, List, [], ◌∷◌, ◌++◌, length, Option, Some, None, refl, sym, ap, ◌∙◌, subst, arith}
+use Rattle.std.proofs.Common.{◌≡◌, ℕ, ◌+◌, ◌^◌, ◌<◌, ◌≤◌, [], ◌∷◌, ◌++◌, Option, Some, None, refl, sym, ap, ◌∙◌, subst, arith}
 use Rattle.std.specs.Prelude.{slice_get, slice_set}
 use Rattle.lang_meaning.specs.Lookup.{set_at}
 use Rattle.lang_meaning.specs.Values.{Value}
@@ -10,19 +10,19 @@ use Rattle.flat_language.specs.declared.place.VariablePlace.TheVariants.{Slot, S
 use Rattle.flat_language.specs.FlatForm.{FlatForm, set_local}
 use Rattle.flat_language.specs.FlatMeaning.{mean}
 use Rattle.flat_language.specs.FlatStanding.{VariableStands, IsNoCapturedValue}
-use Rattle.flat_language.specs.FlatState.{holds, holds_box, of_box, FlatEnvironment, FlatState, FlatEvaluated, gives, charged, on_state, set_to, box_held, box_in}
+use Rattle.flat_language.specs.FlatState.{holds, holds_box, of_box, FlatEnvironment, FlatState, gives, charged, on_state, set_to, box_held, box_in}
 use Rattle.mid_code.specs.Arena.{with_word}
-use Rattle.mid_code.specs.Meaning.{Context, exec}
+use Rattle.mid_code.specs.Meaning.{Context}
 use Rattle.mid_code.specs.MidCode.{code_of}
-use Rattle.mid_code.specs.State.{Registers, register, falls, ends, MidState, MidOutcome, with_arena}
-use Rattle.mid_code.specs.State.{charged as mid_charged, go_on as mid_go_on}
+use Rattle.mid_code.specs.State.{Registers, register, falls, ends, MidState, with_arena}
+use Rattle.mid_code.specs.State.{charged as mid_charged}
 use Rattle.mid_arena.specs.Places.{word_of}
 use Rattle.mid_arena.proofs.Registers.{register_here, register_beside}
 use Rattle.mid_arena.proofs.Running.{RunsTo, and_then, none_left, move_falls, store_falls, address_here, parts_then, in_two_parts}
 use Rattle.back_lowering.specs.Codes.{lower}
 use Rattle.back_lowering.specs.Leaves.{slot_into, slot_from, captured_into, variable_from, captured_offset}
 use Rattle.back_lowering.specs.Registers.{of_code, enough_for}
-use Rattle.back_lowering.specs.Steps.{Steps, move, store, load_far}
+use Rattle.back_lowering.specs.Steps.{Steps, move, store}
 use Rattle.back_relation.specs.Setting.{Setting}
 use Rattle.back_relation.specs.Worlds.{World, BoxIs}
 use Rattle.back_relation.specs.Activation.{FormScope}
@@ -47,7 +47,7 @@ use Rattle.back_values.proofs.CapturedWords.{of_kind, is_box, part_there}
 use Rattle.back_values.proofs.Cleaning.{is_clean, reached_clean}
 use Rattle.back_values.proofs.Far.{Loaded, load_far_runs, charged_twice}
 use Rattle.back_values.proofs.Frames.{framed, world_framed, around_framed}
-use Rattle.back_values.proofs.SetBoxes.{box_lent, set_meant, set_state, world_set, around_set}
+use Rattle.back_values.proofs.SetBoxes.{box_lent, world_set, around_set}
 use Rattle.back_values.proofs.SetSlots.{activation_set, registers_of_set}
 use Rattle.back_values.proofs.Variables.{slot_there, box_there}
 

@@ -1,11 +1,9 @@
 -- The laws of global variables, and of what code does where a name has no value or no function.
-use Rattle.std.specs.Prelude.{◌≡◌, ℕ, ◌+◌, ◌<◌, ◌≤◌, [], ◌∷◌, Some, None, slice_get}
-use Rattle.lang_meaning.specs.declared.program.LiteralRow.TheVariants as row
-use Rattle.lang_meaning.specs.Literals.{function_row}
+use Rattle.std.specs.Prelude.{ℕ, ◌+◌, ◌<◌, [], ◌∷◌}
 use Rattle.lang_meaning.specs.Lookup.{text}
-use Rattle.lang_meaning.specs.Objects.{undefined_function_class, unbound_variable_class}
+use Rattle.lang_meaning.specs.Objects.{unbound_variable_class}
 use Rattle.lang_meaning.specs.Values.{symbol, named}
-use Rattle.flat_language.specs.FlatForm.{FlatForm, literal, global, set_global, def_global}
+use Rattle.flat_language.specs.FlatForm.{FlatForm, global, set_global, def_global}
 use Rattle.flat_language.specs.FlatSignals.{signal}
 use Rattle.back_lowering.specs.Leaves.{failing_with}
 use Rattle.back_lowering.specs.Placement.{symbol_word}
