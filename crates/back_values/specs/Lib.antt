@@ -1,0 +1,5 @@
+pub mod Variables
+pub mod Boxes
+pub mod Bindings
+pub mod Globals
+pub mod Functions
