@@ -6,3 +6,6 @@ pub mod Growing
 pub mod Transferring
 pub mod Formed
 pub mod Sited
+pub mod Entered
+pub mod Numbers
+pub mod Inner
