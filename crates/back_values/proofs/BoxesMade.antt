@@ -27,6 +27,7 @@ use Rattle.mid_arena.proofs.Memory.{heap_below, lent_in_heap}
 use Rattle.mid_arena.proofs.Registers.{register_here, register_beside}
 use Rattle.mid_arena.proofs.Running.{RunsTo, and_then, and_ends, none_left, constant_falls, request_falls, request_wanting, store_falls, move_falls, address_here}
 use Rattle.back_lowering.specs.Leaves.{boxes_made}
+use Rattle.back_lowering.specs.Registers.{of_code, enough_for}
 use Rattle.back_lowering.specs.Steps.{Steps, constant, request, store, move}
 use Rattle.back_relation.specs.Setting.{Setting}
 use Rattle.back_relation.specs.Placed.{IsPlaced}
@@ -104,8 +105,8 @@ module _ (setting : Setting) (placed : IsPlaced setting) (k n room t : ℕ) (res
   abbrev Goes : List Home → Type 0
   Goes hs =
       (vs : List Value) (ws : List ℕ) (d : ℕ) (before : List Value) (w : World) (z : FlatState) (regs : Registers) (y : MidState) → Things setting w (extended before z) y
-      → Clean w y → RoomFor setting.limit room (extended before z).state y → length vs ≡ length hs → WordsOf w.places vs ws → WordsIn d ws regs → d + length hs ≤ t → t + 1 < length regs
-      → GoesOn hs vs d before w z regs y → Whole (with_boxes setting.limit hs z next) (exec c (code_of (code hs d)) regs y)
+      → Clean w y → RoomFor setting.limit room (extended before z).state y → length vs ≡ length hs → WordsOf w.places vs ws → WordsIn d ws regs → d + length hs ≤ t
+      → enough_for (of_code (code_of (boxes_made hs d t))) ≤ length regs → GoesOn hs vs d before w z regs y → Whole (with_boxes setting.limit hs z next) (exec c (code_of (code hs d)) regs y)
 
   nothing_made : (d : ℕ) (before : List Value) (w : World) (z : FlatState) (regs : Registers) (y : MidState) → Things setting w (extended before z) y → Clean w y
       → BoxesMade setting [] [] d before w w z z regs regs y y
@@ -132,6 +133,7 @@ module _ (setting : Setting) (placed : IsPlaced setting) (k n room t : ℕ) (res
     below = λ r few. refl;
     frame = refl;
     captured = refl;
+    same_variables = refl;
     up = omega arith;
   }
 
@@ -151,6 +153,7 @@ module _ (setting : Setting) (placed : IsPlaced setting) (k n room t : ℕ) (res
     below = λ r few. m.below r (omega arith);
     frame = m.frame;
     captured = m.captured;
+    same_variables = m.same_variables;
     up = m.up;
   }
 
@@ -219,6 +222,7 @@ module _ (setting : Setting) (placed : IsPlaced setting) (k n room t : ℕ) (res
               ∙ set_elsewhere regs1 (t + 1) r (Some x) (λ e. omega (arith, e, few, low)) ∙ set_elsewhere regs t r (Some 1) (λ e. omega (arith, e, few, low));
           frame = m.frame;
           captured = m.captured;
+          same_variables = m.same_variables;
           up = let more = m.up in omega (arith, more);
         }
 
@@ -245,6 +249,11 @@ module _ (setting : Setting) (placed : IsPlaced setting) (k n room t : ℕ) (res
   word_count places (v ∷ vs) [] h = absurd h
   word_count places (v ∷ vs) (w ∷ ws) h = ap (λ n. suc n) (word_count places vs ws h.1)
 
+  box_fits :
+      (hs : List Home) (d size : ℕ) → enough_for (of_code (code_of (boxes_made (home.Boxed ∷ hs) d t))) ≤ size
+      → (t + 1 < size) × (enough_for (of_code (code_of (boxes_made hs (d + 1) t))) ≤ size)
+  box_fits hs d size h = (omega (arith, h), omega (arith, h))
+
   boxed : (hs : List Home) → Goes hs → Goes (home.Boxed ∷ hs)
   boxed hs goes [] ws d before w z regs y things clean h same is inside fits there goes_on = absurd (omega (arith, same))
   boxed hs goes (v ∷ vs) [] d before w z regs y things clean h same is inside fits there goes_on = absurd is
@@ -253,6 +262,9 @@ module _ (setting : Setting) (placed : IsPlaced setting) (k n room t : ℕ) (res
     where
       boxed_code : Steps
       boxed_code = constant t 1 ∷ request (t + 1) t ∷ store d (t + 1) 0 ∷ move d (t + 1) ∷ code hs (d + 1)
+
+      top : t + 1 < length regs
+      top = (box_fits hs d (length regs) there).0
 
       with_room : has_room setting.limit (z.state.heap + z.state.stack + 1 + 0) ≡ true → Room 1 y.arena → Whole (with_boxes setting.limit hs (box_asked z) next) (exec c (code_of boxed_code) regs y)
       with_room e (is_left some) =
@@ -265,15 +277,15 @@ module _ (setting : Setting) (placed : IsPlaced setting) (k n room t : ℕ) (res
           let back1 = around_boxed setting placed before z things clean v word 40 is.0 some within (omega arith) in
           let regs3 : Registers = box_registers d y.arena.heap_to regs in
           subst (λ q. Whole (with_boxes setting.limit hs (box_asked z) next) q)
-          (sym (box_runs (code hs (d + 1)) d word regs y things.represents.arena some low there inside.0))
+          (sym (box_runs (code hs (d + 1)) d word regs y things.represents.arena some low top inside.0))
           (goes vs ws (d + 1) (before ++ v ∷ []) (next_world before z things clean v word is.0 some within) (box_asked z) regs3 (with_box word y) things1 clean1
           (room_after setting.limit room room (extended before z) (extended (before ++ v ∷ []) (box_asked z)) y (with_box word y) (omega arith) back1.charged h) (omega (arith, same))
           (of_values_later world1.later vs ws is.1) (others_stay ws d y.arena.heap_to regs (omega (arith, fits, same, wc)) inside.1) (omega (arith, fits))
-          (omega (arith, there, set_count d y.arena.heap_to regs))
-          (λ w' z' regs' y' m. goes_on w' z' regs' y' (box_too before z things clean v word is.0 some within low there m)))
+          (subst (λ i. enough_for (of_code (code_of (boxes_made hs (d + 1) t))) ≤ i) (sym (set_count d y.arena.heap_to regs)) (box_fits hs d (length regs) there).1)
+          (λ w' z' regs' y' m. goes_on w' z' regs' y' (box_too before z things clean v word is.0 some within low top m)))
       with_room e (is_wanting few) =
           let run = and_then {c = c} {code = code_of (request (t + 1) t ∷ store d (t + 1) 0 ∷ move d (t + 1) ∷ code hs (d + 1))} {rs = regs} {z = y} constant_falls
-          (and_ends tt (request_wanting (register_here regs t 1 (omega (arith, there))) few)) in
+          (and_ends tt (request_wanting (register_here regs t 1 (omega (arith, top))) few)) in
           subst (λ q. Whole (with_boxes setting.limit hs (box_asked z) next) q) (sym run.same)
           (whole_stopped _ _
           (record {

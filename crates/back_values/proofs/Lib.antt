@@ -5,3 +5,9 @@ pub mod CapturedWords
 pub mod Variables
 pub mod NewBoxes
 pub mod BoxesMade
+pub mod Frames
+pub mod Slots
+pub mod Bindings
+pub mod SetSlots
+pub mod SetBoxes
+pub mod SetVariables

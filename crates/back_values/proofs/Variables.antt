@@ -40,7 +40,7 @@ use Rattle.back_combining.specs.Points.{Point, start_at, run, Here}
 use Rattle.back_combining.specs.Starts.{Start, EndsAt}
 use Rattle.back_combining.proofs.Leaves.{box_low}
 use Rattle.back_combining.proofs.Starts.{start_charged, ends_charged, gives_run}
-use Rattle.back_values.specs.Variables.{CapturedByFunctions, HereInFunctions, LawOfVariables}
+use Rattle.back_values.specs.Variables.{CapturedByFunctions, KnownPlace, LawOfVariables}
 use Rattle.back_values.proofs.Far.{Loaded, load_far_runs, charged_twice}
 use Rattle.back_values.proofs.CapturedWords.{PartThere, of_kind, is_value, is_box, part_there}
 
@@ -95,7 +95,11 @@ module _ (setting : Setting) (s : FormScope) (d m size k n : ℕ) where
   -- ---- the four places
 
   abbrev Reads : VariablePlace → Type 0
-  Reads p = (q : Point setting s d m size) → CapturedByFunctions q.z → EndsAt setting 300 (start_charged setting (start q) 1) (gives (value_of p q.env q.z) (charged 1 q.z)) (run setting s d m size k n (variable_into s.code d p) q.regs q.y)
+  Reads p = (q : Point setting s d m size) → CapturedByFunctions q.z
+      → EndsAt setting 300 (start_charged setting (start q) 1) (gives (value_of p q.env q.z) (charged 1 q.z)) (run setting s d m size k n (variable_into s.code d p) q.regs q.y)
+
+  abbrev ReadsPlain : VariablePlace → Type 0
+  ReadsPlain p = (q : Point setting s d m size) → EndsAt setting 300 (start_charged setting (start q) 1) (gives (value_of p q.env q.z) (charged 1 q.z)) (run setting s d m size k n (variable_into s.code d p) q.regs q.y)
 
   -- the register of a slot
   pub slot_there :
@@ -109,8 +113,8 @@ module _ (setting : Setting) (s : FormScope) (d m size k n : ℕ) where
   slot_loaded : (c : Context) (r word : ℕ) (regs : Registers) (y : MidState) → register r regs ≡ Some word → Loaded c (move d r ∷ []) d regs y word
   slot_loaded c r word regs y e = record { cost = 6; within = omega arith; run = and_then (move_falls e) none_left }
 
-  reads_slot : (i : ℕ) → slice_get s.flat.homes i ≡ Some home.Slot → Reads (Slot i)
-  reads_slot i stands q functions =
+  reads_slot : (i : ℕ) → slice_get s.flat.homes i ≡ Some home.Slot → ReadsPlain (Slot i)
+  reads_slot i stands q =
       let has = q.begins.activation.homes i home.Slot stands in
       let there = slot_there q i (holds has.0) has.1 in
       subst (λ o. EndsAt setting 300 (start_charged setting (start q) 1) (gives (value_of (Slot i) q.env q.z) (charged 1 q.z)) (run setting s d m size k n (slot_into d o) q.regs q.y))
@@ -120,8 +124,8 @@ module _ (setting : Setting) (s : FormScope) (d m size k n : ℕ) where
       (gives_loaded {credit = 300} (start_charged setting (start q) 1) (code_at setting k n) (move d there.0 ∷ []) has.0 there.2.0 (omega arith)
       (slot_loaded (code_at setting k n) there.0 there.2.0 q.regs q.y there.2.1) there.2.2))
 
-  reads_slot_box : (i : ℕ) → slice_get s.flat.homes i ≡ Some home.Boxed → Reads (SlotBox i)
-  reads_slot_box i stands q functions =
+  reads_slot_box : (i : ℕ) → slice_get s.flat.homes i ≡ Some home.Boxed → ReadsPlain (SlotBox i)
+  reads_slot_box i stands q =
       let has = q.begins.activation.homes i home.Boxed stands in
       let there = slot_there q i (holds_box has.0) has.1 in
       let box = box_there setting q.begins.call.things has.0 there.2.0 there.2.2 in
@@ -174,16 +178,17 @@ module _ (setting : Setting) (s : FormScope) (d m size k n : ℕ) where
           (gives_at {credit = 300} (start_charged setting (start q) 1) (code_at setting k n) (captured_into s.code d i) there.at.word (value_at (Some b) q.z.state) (omega arith) box.low
           (part_loaded q (of_box (Some b)) i there) box.value)
 
-  reads : (p : VariablePlace) → VariableStands s.flat p → Reads p
-  reads (Slot i) stands = reads_slot i stands
-  reads (SlotBox i) stands = reads_slot_box i stands
-  reads (CapturedValue i) stands = reads_captured i stands
-  reads (CapturedBox i) stands = reads_captured_box i stands
+  reads : (p : VariablePlace) → VariableStands s.flat p → KnownPlace setting s d m size p → (q : Point setting s d m size)
+      → EndsAt setting 300 (start_charged setting (start q) 1) (gives (value_of p q.env q.z) (charged 1 q.z)) (run setting s d m size k n (variable_into s.code d p) q.regs q.y)
+  reads (Slot i) stands known q = reads_slot i stands q
+  reads (SlotBox i) stands known q = reads_slot_box i stands q
+  reads (CapturedValue i) stands known q = reads_captured i stands q (known q)
+  reads (CapturedBox i) stands known q = reads_captured_box i stands q (known q)
 
   -- **variables**
-  pub variable_here : (p : VariablePlace) → VariableStands s.flat p → HereInFunctions setting s d m size k n (local p)
+  pub variable_here : (p : VariablePlace) → VariableStands s.flat p → KnownPlace setting s d m size p → Here setting s d m size k n (local p)
   unfolding mean lower
-  variable_here p stands q functions = ends_charged setting {c1 = 300} (start q) 1 (omega arith) (reads p stands q functions)
+  variable_here p stands known q = ends_charged setting {c1 = 300} (start q) 1 (omega arith) (reads p stands known q)
 
 pub variables_law : LawOfVariables
-variables_law setting s d m size k turns p stands = variable_here setting s d m size k turns p stands
+variables_law setting s d m size k turns p stands known = variable_here setting s d m size k turns p stands known

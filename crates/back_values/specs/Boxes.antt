@@ -10,6 +10,7 @@ use Rattle.mid_code.specs.MidCode.{code_of}
 use Rattle.mid_code.specs.State.{Registers, register, MidState, MidOutcome, Next}
 use Rattle.mid_arena.specs.Places.{WordsOf}
 use Rattle.back_lowering.specs.Leaves.{boxes_made}
+use Rattle.back_lowering.specs.Registers.{of_code, enough_for}
 use Rattle.back_lowering.specs.Steps.{Steps}
 use Rattle.back_relation.specs.Setting.{Setting}
 use Rattle.back_relation.specs.Placed.{IsPlaced}
@@ -49,6 +50,7 @@ module _ (setting : Setting) where
     pub below : (r : ℕ) → r < d → slice_get regs' r ≡ slice_get regs r
     pub frame : z'.frame ≡ z.frame
     pub captured : z'.captured ≡ z.captured
+    pub same_variables : z'.state.variables ≡ z.state.variables
     pub up : z.state.units ≤ z'.state.units
 
   -- what new variables with boxes come to: what goes on where they were made; or the meaning has no words left; or the code has none
@@ -62,6 +64,6 @@ module _ (setting : Setting) where
   LawOfBoxes =
       (k n room : ℕ) (hs : List Home) (vs : List Value) (ws : List ℕ) (d t : ℕ) (w : World) (z : FlatState) (regs : Registers) (y : MidState) (rest : Steps)
       (next : FlatState → FlatEvaluated) → IsPlaced setting → Things setting w z y → Clean w y → RoomFor setting.limit room z.state y → length vs ≡ length hs
-      → WordsOf w.places vs ws → WordsIn d ws regs → d + length hs ≤ t → t + 1 < length regs → ((z : FlatState) → FlatGrown z (next z).state)
+      → WordsOf w.places vs ws → WordsIn d ws regs → d + length hs ≤ t → enough_for (of_code (code_of (boxes_made hs d t))) ≤ length regs → ((z : FlatState) → FlatGrown z (next z).state)
       → BoxesEnd hs vs d w z regs y next (λ g x. exec (code_at setting k n) (code_of rest) g x) (with_boxes setting.limit hs z next)
       (exec (code_at setting k n) (code_of (boxes_made hs d t ++ rest)) regs y)

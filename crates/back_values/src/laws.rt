@@ -1,5 +1,6 @@
 // The laws of variables, boxes, bindings, functions and global variables, each as the contract of a function that does nothing.
 ghost use Rattle.back_relation.specs.Setting.{Setting};
+ghost use Rattle.back_values.specs.Bindings.{LawOfBindings};
 ghost use Rattle.back_values.specs.Boxes.{LawOfBoxes};
 ghost use Rattle.back_values.specs.Variables.{LawOfVariables};
 
@@ -11,4 +12,9 @@ pub fn law_variables()
 /// New variables get boxes.
 pub fn law_boxes()
     ensures { (setting : Setting) → LawOfBoxes setting }
+{}
+
+/// Bindings of `let`.
+pub fn law_bindings()
+    ensures { LawOfBindings }
 {}
