@@ -1,0 +1,6 @@
+pub mod Scopes
+pub mod Frames
+pub mod Programs
+pub mod Held
+pub mod Others
+pub mod Bodies
