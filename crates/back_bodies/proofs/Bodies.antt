@@ -1,17 +1,18 @@
 -- **The body of a function**: its site is taken, its variables get boxes, its form runs in slots of its own, and the word is returned.
-use Rattle.std.proofs.Common.{◌≡◌, ℕ, suc, ◌+◌, ◌*◌, ◌<◌, ◌≤◌, true, List, [], ◌∷◌, ◌++◌, length, Option, Some, refl, sym, ap, ◌∙◌, subst, length-append, arith}
+use Rattle.std.proofs.Common.{◌≡◌, inl, ℕ, suc, ◌+◌, ◌*◌, ◌<◌, ◌≤◌, true, List, [], ◌∷◌, ◌++◌, length, Option, Some, refl, sym, ap, ◌∙◌, subst, length-append, arith, Bool, false}
+use Rattle.base.specs.declared.place.Place.{Place}
 use Rattle.std.specs.Prelude.{◌-◌, max, slice_get, slice_set, if◌then◌else◌}
 use Rattle.std.proofs.Math.ListN.{length-set}
 use Rattle.lang_meaning.specs.Objects.{Called}
 use Rattle.lang_meaning.specs.Values.{Value}
-use Rattle.lang_meaning.specs.State.{DynamicContext}
+use Rattle.lang_meaning.specs.State.{DynamicContext, no_place}
 use Rattle.flat_language.specs.declared.program.FlatProcedure.{FlatProcedure}
 use Rattle.flat_language.specs.FlatMeaning.{mean}
 use Rattle.flat_language.specs.FlatNodes.{homes}
 use Rattle.flat_language.specs.FlatSignals.{form}
 use Rattle.flat_language.specs.FlatState.{FrameSlot, Captured, FlatEnvironment, no_environment, FlatState, FlatEvaluated, new_slots, new_boxes, with_values, with_slots, with_frame, in_own_frame, under}
 use Rattle.mid_code.specs.declared.program.MidProcedure.{MidProcedure}
-use Rattle.mid_code.specs.Arena.{word_in, stack_from}
+use Rattle.mid_code.specs.Arena.{word_in, word_at, stack_from}
 use Rattle.mid_code.specs.Costs.{entry_cost, return_cost}
 use Rattle.mid_code.specs.Meaning.{Context, exec}
 use Rattle.mid_code.specs.MidCode.{return_word, code_of}
@@ -35,8 +36,6 @@ use Rattle.back_lowering.specs.Steps.{Steps, load_from}
 use Rattle.back_relation.specs.Setting.{Setting}
 use Rattle.back_relation.specs.Room.{words_for, words_for_handler}
 use Rattle.back_relation.specs.Worlds.{World, Later, Standing}
-use Rattle.back_relation.specs.StackWords.{HasWordAt}
-use Rattle.back_relation.specs.Things.{SiteIs}
 use Rattle.back_relation.specs.Around.{CallBegins}
 use Rattle.back_relation.specs.Activation.{IsOwn, ScopeStands, SiteHeld}
 use Rattle.back_relation.specs.Ends.{WorldKept, Around, full_there, stopped, CallEnds}
@@ -62,8 +61,9 @@ use Rattle.back_calling.specs.Entering.{Inside, BodyComes}
 use Rattle.back_calling.proofs.Entered.{entered_levels_law}
 use Rattle.back_calling.proofs.Inner.{going_on_law}
 use Rattle.back_calling.proofs.Outward.{self_out}
-use Rattle.back_bodies.specs.Bodies.{LawOfSitedBodies}
-use Rattle.back_bodies.proofs.Frames.{framed, world_framed, around_framed, form_returned}
+use Rattle.back_bodies.specs.Bodies.{LawOfBodies}
+use Rattle.back_bodies.proofs.Frames.{framed, world_framed, around_framed, form_returned, at_place, call_at_place, ends_at_place}
+use Rattle.back_bodies.proofs.Siteless.{means_at_all_sites}
 use Rattle.back_bodies.proofs.Held.{ExtraHeld, held_by, extra_below, more_count}
 use Rattle.back_bodies.proofs.Others.{BoxesCome, were_made, are_full, are_stopped, boxes_come}
 use Rattle.back_bodies.proofs.Programs.{body_scope, BodyStands, body_stands}
@@ -84,15 +84,15 @@ module _ (setting : Setting) (extra : Extra) (q : FlatProcedure) where
   no_slot : (r i : ℕ) → n ≤ r → slice_get (registers_from 0 n) i ≡ Some r → ⊥
   no_slot r i low e = let h = register_of 0 n i r e in omega (arith, low, h.0, h.1)
 
-  -- **the registers of a scope that asks for its site**
-  scope_stands : asks_site q.body ≡ true → ScopeStands (scope_of setting.names setting.at setting.program extra q) d
-  scope_stands asks = record {
+  -- **the registers of a body's scope**
+  scope_stands : ScopeStands (scope_of setting.names setting.at setting.program extra q) d
+  scope_stands = record {
     slots_below = λ i r e. let h = register_of 0 n i r e in omega (arith, h.0, h.1);
     slots_apart = λ i j r e f. let g = register_of 0 n i r e in let h = register_of 0 n j r f in omega (arith, g.0, h.0);
     exits = λ i x e. absurd (cc e);
     self = (omega arith, λ i e. no_slot n i (omega arith) e);
     method = λ m e. method_own extra m e;
-    site = λ r e. site_own r (sym (ap (λ t. if t then Held sr else Known 0) asks) ∙ e);
+    site = λ r e. site_own (asks_site q.body) r e;
   }
     where
       method_own : (x : Extra) (m : ℕ) → method_at setting.names setting.at setting.program x n ≡ Some m
@@ -107,14 +107,19 @@ module _ (setting : Setting) (extra : Extra) (q : FlatProcedure) where
             (omega (arith, same), λ i f. no_slot (m + 2) i (omega (arith, same)) f),
           )
 
-      site_own : (r : ℕ) → Held sr ≡ Held r → IsOwn (scope_of setting.names setting.at setting.program extra q) d r
-      site_own r e = let same : sr ≡ r = cc e in (omega (arith, same), λ i f. no_slot r i (omega (arith, same)) f)
+      site_own : (t : Bool) (r : ℕ) → (if t then Held sr else Known 0) ≡ Held r → IsOwn (scope_of setting.names setting.at setting.program extra q) d r
+      site_own true r e = let same : sr ≡ r = cc e in (omega (arith, same), λ i f. no_slot r i (omega (arith, same)) f)
+      site_own false r e = absurd (cc e)
 
 -- ---- the form of a body
 
-module _ (setting : Setting) (k : ℕ) (extra : Extra) (q : FlatProcedure) (asks : asks_site q.body ≡ true)
+module _ (setting : Setting) (k : ℕ) (extra : Extra) (q : FlatProcedure)
     (does : DoesForm setting setting.turns_each (context_at setting k) (code_at setting k setting.turns_each) q.body) (cs : List Captured) (called_as : Option Called)
-    (rs valid : List Standing) (around : DynamicContext) where
+    (rs valid : List Standing) (outside : DynamicContext) (place : Place) where
+  -- the site is one at which the form means the same
+  abbrev around : DynamicContext
+  around = at_place place outside
+
   abbrev c : Context
   c = code_at setting k setting.turns_each
 
@@ -131,9 +136,9 @@ module _ (setting : Setting) (k : ℕ) (extra : Extra) (q : FlatProcedure) (asks
   form_begins :
       {entry : ℕ} {w : World} {z : FlatState} {regs : Registers} {y : MidState} (vs : List Value) (count : ℕ) (stands : BodyStands setting entry extra q cs w) → length vs ≡ length (homes q)
       → CallBegins setting rs valid inside w around (framed (new_slots (homes q) vs count) z) y → SlotsIn w 0 (new_slots (homes q) vs count) regs
-      → ExtraHeld setting extra q cs called_as w z regs y → (number : ℕ) → register (sr setting extra q) regs ≡ Some number → SiteIs setting number around.site → d setting extra q < length regs
+      → ExtraHeld setting extra q cs called_as w z regs y → SiteHeld setting regs (scope_of setting.names setting.at setting.program extra q).site place → d setting extra q < length regs
       → Begins setting rs valid (body_scope setting extra q stands.kinds stands.forms stands.in_procedure) (d setting extra q) inside w env around (framed (new_slots (homes q) vs count) z) regs y
-  form_begins {w = w} {z = z} {regs = regs} {y = y} vs count stands many call slots held number site_there is there = record {
+  form_begins {w = w} {z = z} {regs = regs} {y = y} vs count stands many call slots held site there = record {
     call = call;
     activation = record {
       slot_count = registers_count 0 (n setting extra q) ∙ sym (new_count (homes q) vs count many);
@@ -147,9 +152,9 @@ module _ (setting : Setting) (k : ℕ) (extra : Extra) (q : FlatProcedure) (asks
       made_by = stands.made_by;
       self = held.self;
       method = held.method;
-      site = subst (λ p. SiteHeld setting regs p around.site) (sym (ap (λ t. if t then Held (sr setting extra q) else Known 0) asks)) (number, site_there, is);
+      site = site;
     };
-    scope = scope_stands setting extra q asks;
+    scope = scope_stands setting extra q;
     method_there = held.there;
     first = there;
   }
@@ -157,16 +162,17 @@ module _ (setting : Setting) (k : ℕ) (extra : Extra) (q : FlatProcedure) (asks
   -- **what it comes to, and its word returned**
   form_ends :
       {entry : ℕ} {w : World} {z : FlatState} {regs : Registers} {y : MidState} (vs : List Value) (count : ℕ) (stands : BodyStands setting entry extra q cs w) → length vs ≡ length (homes q)
-      → CallBegins setting rs valid inside w around (framed (new_slots (homes q) vs count) z) y → SlotsIn w 0 (new_slots (homes q) vs count) regs
-      → ExtraHeld setting extra q cs called_as w z regs y → (number : ℕ) → register (sr setting extra q) regs ≡ Some number → SiteIs setting number around.site → d setting extra q < length regs
-      → enough_for (of_code (code_of value)) ≤ length regs
-      → CallEnds setting (0 + return_cost) setting.turns_each rs valid w around z y
-      (with_frame z.frame (below_at setting (suc k) (form q.body) env around (framed (new_slots (homes q) vs count) z)))
+      → CallBegins setting rs valid inside w outside (framed (new_slots (homes q) vs count) z) y → SlotsIn w 0 (new_slots (homes q) vs count) regs
+      → ExtraHeld setting extra q cs called_as w z regs y → SiteHeld setting regs (scope_of setting.names setting.at setting.program extra q).site place → d setting extra q < length regs
+      → enough_for (of_code (code_of value)) ≤ length regs → ((x : FlatState) → mean (context_at setting k) q.body env outside x ≡ mean (context_at setting k) q.body env around x)
+      → CallEnds setting (0 + return_cost) setting.turns_each rs valid w outside z y
+      (with_frame z.frame (below_at setting (suc k) (form q.body) env outside (framed (new_slots (homes q) vs count) z)))
       (exec c (code_of (value ++ (return_word (d setting extra q) ∷ []))) regs y)
-  form_ends {w = w} {z = z} {regs = regs} {y = y} vs count stands many call slots held number site_there is there enough =
-      subst
+  form_ends {w = w} {z = z} {regs = regs} {y = y} vs count stands many call slots held site there enough same =
+      ends_at_place setting place
+      (subst
       (λ r. CallEnds setting (0 + return_cost) setting.turns_each rs valid w around z y (with_frame z.frame r) (exec c (code_of (value ++ (return_word (d setting extra q) ∷ []))) regs y))
-      (sym (meaning_below setting k q.body env around (framed (new_slots (homes q) vs count) z)))
+      (sym (meaning_below setting k q.body env outside (framed (new_slots (homes q) vs count) z) ∙ same (framed (new_slots (homes q) vs count) z)))
       (subst
       (λ p.
       CallEnds setting (0 + return_cost) setting.turns_each rs valid w around z y
@@ -174,7 +180,7 @@ module _ (setting : Setting) (k : ℕ) (extra : Extra) (q : FlatProcedure) (asks
       (sym (in_two_parts c value (return_word (d setting extra q) ∷ []) regs y))
       (form_returned setting c (new_slots (homes q) vs count) (λ g x. steps_grow setting k setting.turns_each (return_word (d setting extra q) ∷ []) g x)
       (does rs valid (body_scope setting extra q stands.kinds stands.forms stands.in_procedure) (d setting extra q) inside stands.first w env around
-      (framed (new_slots (homes q) vs count) z) regs y stands.stands (form_begins vs count stands many call slots held number site_there is there) enough (omega arith))))
+      (framed (new_slots (homes q) vs count) z) regs y stands.stands (form_begins vs count stands many (call_at_place setting place call) slots held site there) enough (omega arith)))))
 
 -- ---- the whole body
 
@@ -192,7 +198,7 @@ stands_later {cs = cs} l s = record {
   there = s.there;
 }
 
-module _ (setting : Setting) (right : ProgramIsRight setting) (k entry : ℕ) (extra : Extra) (q : FlatProcedure) (asks : asks_site q.body ≡ true)
+module _ (setting : Setting) (right : ProgramIsRight setting) (k entry : ℕ) (extra : Extra) (q : FlatProcedure)
     (does : DoesForm setting setting.turns_each (context_at setting k) (code_at setting k setting.turns_each) q.body) (rs valid : List Standing) (cs : List Captured)
     (called_as : Option Called) (vs : List Value) (ws more : List ℕ) (w : World) (around : DynamicContext) (z : FlatState) (y : MidState)
     (function : IsFunction setting entry extra q) (fits : CapturedFits setting w entry extra q cs)
@@ -201,7 +207,7 @@ module _ (setting : Setting) (right : ProgramIsRight setting) (k entry : ℕ) (e
   p = body_of setting.names setting.at setting.program extra q
 
   abbrev the_value : Steps
-  the_value = value setting k extra q asks does cs called_as rs valid around
+  the_value = value setting k extra q does cs called_as rs valid around around.site
 
   abbrev boxes : Steps
   boxes = boxes_made (homes q) 0 (d setting extra q)
@@ -245,14 +251,8 @@ module _ (setting : Setting) (right : ProgramIsRight setting) (k entry : ℕ) (e
   abbrev s : ℕ
   s = sr setting extra q
 
-  abbrev regs1 : ℕ → Registers
-  regs1 number = slice_set (slice_set regs0 s (Some 0)) s (Some number)
-
   size0 : length regs0 ≡ p.registers
   size0 = first_count p.registers (ws ++ more) (omega (arith, all_count))
-
-  size1 : (number : ℕ) → length (regs1 number) ≡ p.registers
-  size1 number = length-set (slice_set regs0 s (Some 0)) s (Some number) ∙ length-set regs0 s (Some 0) ∙ size0
 
   abbrev taken : Steps
   taken = site_taken setting.names setting.at setting.program extra q
@@ -275,30 +275,62 @@ module _ (setting : Setting) (right : ProgramIsRight setting) (k entry : ℕ) (e
   enough_return : d setting extra q < p.registers
   enough_return = let h : max (d setting extra q + 1) 0 ≤ p.registers = registers_behind the_value (return_word (d setting extra q) ∷ []) p.registers enough_last in omega (arith, h)
 
-  -- the site is taken
-  taken_runs :
-      (y' : MidState) (number : ℕ) → HasWordAt y' site_address number
-      → RunsTo (code_at setting k setting.turns_each) (code_of taken) regs0 y' (ends falls (regs1 number) (mid_charged 14 y'))
-  taken_runs y' number there =
+  -- the site was taken, where the body asks for it: at a place at which the form means the same
+  record Taken (y' : MidState) : Type 0 where
+    place : Place
+    same : (x : FlatState)
+        → mean (context_at setting k) q.body (record no_environment { captured = cs; method = called_as }) around x
+        ≡ mean (context_at setting k) q.body (record no_environment { captured = cs; method = called_as }) (at_place place around) x
+    regs : Registers
+    paid : ℕ
+    runs : RunsTo (code_at setting k setting.turns_each) (code_of taken) regs0 y' (ends falls regs (mid_charged paid y'))
+    few : paid ≤ 14
+    beside : (r : ℕ) → (r ≡ s → ⊥) → slice_get regs r ≡ slice_get regs0 r
+    count : length regs ≡ p.registers
+    held : (regs' : Registers) → register s regs' ≡ register s regs → SiteHeld setting regs' (scope_of setting.names setting.at setting.program extra q).site place
+
+  taken_by : (y' : MidState) → ((x : ℕ) → word_at y'.arena x ≡ word_at y.arena x) → (asked : Bool) → asks_site q.body ≡ asked → Taken y'
+  taken_by y' words true asks =
+      let site = b.site asks in
       let code : taken ≡ load_from s s site_address = ap (λ t. if t then load_from s s site_address else []) asks in
-      subst (λ ss. RunsTo (code_at setting k setting.turns_each) (code_of ss) regs0 y' (ends falls (regs1 number) (mid_charged 14 y'))) (sym code)
-      (costing {n = y'.cost + 14}
-      (and_then constant_falls
-      (and_then
-      (load_falls (register_here regs0 s 0 (omega (arith, size0, enough_return))) (address_above 0 site_address site_address (omega arith) (omega arith)) there)
-      none_left))
-      (omega arith))
-
-  beside_site : (number r : ℕ) → (r ≡ s → ⊥) → slice_get (regs1 number) r ≡ slice_get regs0 r
-  beside_site number r other =
-      set_elsewhere (slice_set regs0 s (Some 0)) s r (Some number) (λ e. other (sym e)) ∙ set_elsewhere regs0 s r (Some 0) (λ e. other (sym e))
-
-  site_register_has : (number : ℕ) → register s (regs1 number) ≡ Some number
-  site_register_has number = register_here (slice_set regs0 s (Some 0)) s number (omega (arith, length-set regs0 s (Some 0), size0, enough_return))
-
-  variables_there : (number : ℕ) → WordsIn 0 ws (regs1 number)
-  variables_there number =
-      words_kept 0 ws regs0 (regs1 number) (λ r low high. ap word_in (beside_site number r (λ e. omega (arith, e, high, word_count)))) (first_words p.registers ws more)
+      let first = slice_set regs0 s (Some 0) in
+      let size : length first ≡ p.registers = length-set regs0 s (Some 0) ∙ size0 in
+      record {
+        place = around.site;
+        same = λ x. refl;
+        regs = slice_set first s (Some site.0);
+        paid = 14;
+        runs =
+            subst (λ ss. RunsTo (code_at setting k setting.turns_each) (code_of ss) regs0 y' (ends falls (slice_set first s (Some site.0)) (mid_charged 14 y'))) (sym code)
+            (costing {n = y'.cost + 14}
+            (and_then constant_falls
+            (and_then
+            (load_falls (register_here regs0 s 0 (omega (arith, size0, enough_return))) (address_above 0 site_address site_address (omega arith) (omega arith))
+            (words site_address ∙ site.1))
+            none_left))
+            (omega arith));
+        few = omega arith;
+        beside = λ r other. set_elsewhere first s r (Some site.0) (λ e. other (sym e)) ∙ set_elsewhere regs0 s r (Some 0) (λ e. other (sym e));
+        count = length-set first s (Some site.0) ∙ size;
+        held = λ regs' e.
+            subst (λ x. SiteHeld setting regs' x around.site) (sym (ap (λ t. if t then Held s else Known 0) asks))
+            (site.0, e ∙ register_here first s site.0 (omega (arith, size, enough_return)), site.2);
+      }
+  taken_by y' words false asks =
+      let code : taken ≡ [] = ap (λ t. if t then load_from s s site_address else []) asks in
+      record {
+        place = no_place;
+        same = λ x. means_at_all_sites setting k q.body no_place asks (record no_environment { captured = cs; method = called_as }) around x;
+        regs = regs0;
+        paid = 0;
+        runs =
+            subst (λ ss. RunsTo (code_at setting k setting.turns_each) (code_of ss) regs0 y' (ends falls regs0 (mid_charged 0 y'))) (sym code)
+            (costing {n = y'.cost + 0} none_left (omega arith));
+        few = omega arith;
+        beside = λ r other. refl;
+        count = size0;
+        held = λ regs' e. subst (λ x. SiteHeld setting regs' x no_place) (sym (ap (λ t. if t then Held s else Known 0) asks)) (inl (refl, refl));
+      }
 
   -- what is paid of a body beside its entry
   abbrev body_paid : ℕ
@@ -314,15 +346,19 @@ module _ (setting : Setting) (right : ProgramIsRight setting) (k entry : ℕ) (e
 
   -- ---- where its variables have their boxes
 
-  module _ (y' : MidState) (i : Inside setting rs valid (words_for setting.names setting.program q.body) (entry_cost p.parameters) w around z y y') (number : ℕ) (is : SiteIs setting number around.site) where
+  module _ (y' : MidState) (i : Inside setting rs valid (words_for setting.names setting.program q.body) (entry_cost p.parameters) w around z y y') (site : Taken y') where
     abbrev y1 : MidState
-    y1 = mid_charged 14 y'
+    y1 = mid_charged site.paid y'
+
+    variables_there : WordsIn 0 ws site.regs
+    variables_there =
+        words_kept 0 ws regs0 site.regs (λ r low high. ap word_in (site.beside r (λ e. omega (arith, e, high, word_count)))) (first_words p.registers ws more)
 
     paid_world : WorldKept setting w w z z y' y1
-    paid_world = world_cost setting 14 i.call.things
+    paid_world = world_cost setting site.paid i.call.things
 
     paid_around : Around setting 14 z z y' y1
-    paid_around = around_cost setting z y' 14 (omega arith)
+    paid_around = around_cost setting z y' site.paid site.few
 
     abbrev w1 : World
     w1 = cleaned setting paid_world.things
@@ -339,8 +375,8 @@ module _ (setting : Setting) (right : ProgramIsRight setting) (k entry : ℕ) (e
           same_size = refl;
         })
 
-    module _ (w' : World) (z' : FlatState) (regs' : Registers) (y2 : MidState) (m : BoxesMade setting (homes q) vs 0 z.state.variables w1 w' z z' (regs1 number) regs' y1 y2)
-        (others : (r : ℕ) → 0 + length (homes q) ≤ r → r < d setting extra q → slice_get regs' r ≡ slice_get (regs1 number) r) where
+    module _ (w' : World) (z' : FlatState) (regs' : Registers) (y2 : MidState) (m : BoxesMade setting (homes q) vs 0 z.state.variables w1 w' z z' site.regs regs' y1 y2)
+        (others : (r : ℕ) → 0 + length (homes q) ≤ r → r < d setting extra q → slice_get regs' r ≡ slice_get site.regs r) where
       abbrev zc : FlatState
       zc = with_values (new_boxes (homes q) vs) z'
 
@@ -373,7 +409,7 @@ module _ (setting : Setting) (right : ProgramIsRight setting) (k entry : ℕ) (e
       extras_there : (j : ℕ) → j < length more → register (variable_count q + j) regs' ≡ register j (as_registers more)
       extras_there j few =
           ap word_in
-          (others (variable_count q + j) (omega arith) (omega (arith, few, extras_count)) ∙ beside_site number (variable_count q + j) (λ e. omega (arith, e, few, extras_count)))
+          (others (variable_count q + j) (omega arith) (omega (arith, few, extras_count)) ∙ site.beside (variable_count q + j) (λ e. omega (arith, e, few, extras_count)))
           ∙ more_words p.registers ws more (variable_count q) j (sym word_count) few
 
       held_first : ExtraHeld setting extra q cs called_as w z regs' y'
@@ -394,37 +430,37 @@ module _ (setting : Setting) (right : ProgramIsRight setting) (k entry : ℕ) (e
       }
 
       size2 : length regs' ≡ p.registers
-      size2 = m.count ∙ size1 number
+      size2 = m.count ∙ site.count
 
       -- **the form, and its word returned**
       made_ends : CallEnds setting body_paid setting.turns_each rs valid w around z y' (next z') (exec (code_at setting k setting.turns_each) (code_of last) regs' y2)
       made_ends =
           going_on_law setting 14 (0 + return_cost) body_paid setting.turns_each setting.turns_each rs valid w w' around z zc y' y2 (next z')
           (exec (code_at setting k setting.turns_each) (code_of last) regs' y2) whole_world whole_around (omega (arith, few_extras)) (let up = m.up in omega (arith, up)) m.frame
-          (form_ends setting k extra q asks does cs called_as rs valid around vs (length z'.state.variables)
-          (stands_later whole_world.later (body_stands setting right entry extra q cs w function fits)) b.variable_count call_there slots_there held_there number
-          (ap word_in (others s (omega arith) (omega arith)) ∙ site_register_has number) is (omega (arith, size2, enough_return)) (omega (arith, size2, enough_value)))
+          (form_ends setting k extra q does cs called_as rs valid around site.place vs (length z'.state.variables)
+          (stands_later whole_world.later (body_stands setting right entry extra q cs w function fits)) b.variable_count call_there slots_there held_there
+          (site.held regs' (ap word_in (others s (omega arith) (omega arith)))) (omega (arith, size2, enough_return)) (omega (arith, size2, enough_value)) site.same)
 
     -- all that comes behind the site
     behind_ends : CallEnds setting body_paid setting.turns_each rs valid w around z y' (mean_inside (context_at setting (suc k)) q cs called_as vs around z)
-        (exec (code_at setting k setting.turns_each) (code_of (boxes ++ last)) (regs1 number) y1)
+        (exec (code_at setting k setting.turns_each) (code_of (boxes ++ last)) site.regs y1)
     behind_ends =
         by
         (boxes_come setting k setting.turns_each (words_for setting.names setting.program q.body + words_for_handler * length around.handlers) (homes q) vs ws 0 (d setting extra q) w1 z
-        (regs1 number) y1 last next right.placed.placed (things_cleaned setting paid_world.things) (is_clean setting paid_world.things)
+        site.regs y1 last next right.placed.placed (things_cleaned setting paid_world.things) (is_clean setting paid_world.things)
         (room_after setting.limit _ _ z z y' y1 (omega arith) paid_around.charged i.call.room) b.variable_count b.variables
-        (variables_there number) (omega arith) (omega (arith, size1 number, enough_boxes)) next_grows)
+        variables_there (omega arith) (omega (arith, site.count, enough_boxes)) next_grows)
       where
         by :
-            BoxesCome setting (homes q) vs 0 (d setting extra q) w1 z (regs1 number) y1 next (λ g x. exec (code_at setting k setting.turns_each) (code_of last) g x)
-            (mean_inside (context_at setting (suc k)) q cs called_as vs around z) (exec (code_at setting k setting.turns_each) (code_of (boxes ++ last)) (regs1 number) y1)
+            BoxesCome setting (homes q) vs 0 (d setting extra q) w1 z site.regs y1 next (λ g x. exec (code_at setting k setting.turns_each) (code_of last) g x)
+            (mean_inside (context_at setting (suc k)) q cs called_as vs around z) (exec (code_at setting k setting.turns_each) (code_of (boxes ++ last)) site.regs y1)
             → CallEnds setting body_paid setting.turns_each rs valid w around z y' (mean_inside (context_at setting (suc k)) q cs called_as vs around z)
-            (exec (code_at setting k setting.turns_each) (code_of (boxes ++ last)) (regs1 number) y1)
+            (exec (code_at setting k setting.turns_each) (code_of (boxes ++ last)) site.regs y1)
         by (were_made w' z' regs' y2 m others e f) =
             subst
             (λ r.
             CallEnds setting body_paid setting.turns_each rs valid w around z y' r
-            (exec (code_at setting k setting.turns_each) (code_of (boxes ++ last)) (regs1 number) y1))
+            (exec (code_at setting k setting.turns_each) (code_of (boxes ++ last)) site.regs y1))
             (sym e)
             (subst (λ o. CallEnds setting body_paid setting.turns_each rs valid w around z y' (next z') o) (sym f) (made_ends w' z' regs' y2 m others))
         by (are_full x) = full_there x
@@ -436,12 +472,11 @@ module _ (setting : Setting) (right : ProgramIsRight setting) (k entry : ℕ) (e
       → CallEnds setting body_paid setting.turns_each rs valid w around z y' (mean_inside (context_at setting (suc k)) q cs called_as vs around z)
       (exec (code_at setting k setting.turns_each) (code_of p.body) regs0 y')
   body_comes y' i =
-      let site = b.site asks in
-      let run = parts_then taken (boxes ++ last) (taken_runs y' site.0 (i.words site_address ∙ site.1))
-      (record { same = refl }) in
+      let site = taken_by y' i.words (asks_site q.body) refl in
+      let run = parts_then taken (boxes ++ last) site.runs (record { same = refl }) in
       subst
       (λ o. CallEnds setting body_paid setting.turns_each rs valid w around z y' (mean_inside (context_at setting (suc k)) q cs called_as vs around z) o)
-      (sym run.same) (behind_ends y' i site.0 site.2)
+      (sym run.same) (behind_ends y' i site)
 
   -- **the call of a body**
   called_ends :
@@ -465,6 +500,6 @@ module _ (setting : Setting) (right : ProgramIsRight setting) (k entry : ℕ) (e
       (mean_inside (context_at setting (suc k)) q cs called_as vs around z))
       same body_comes))
 
-pub sited_bodies_law : LawOfSitedBodies
-sited_bodies_law setting k entry extra q right asks does rs valid turns cs called_as vs ws more w around z y function fits b =
-    called_ends setting right k entry extra q asks does rs valid cs called_as vs ws more w around z y function fits b turns
+pub bodies_law : LawOfBodies
+bodies_law setting k entry extra q right does rs valid turns cs called_as vs ws more w around z y function fits b =
+    called_ends setting right k entry extra q does rs valid cs called_as vs ws more w around z y function fits b turns

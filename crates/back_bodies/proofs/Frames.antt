@@ -1,5 +1,6 @@
 -- What is said of a state is said of it with another frame; and what a form comes to, whose word is returned.
 use Rattle.std.proofs.Common.{ℕ, ◌+◌, List, [], ◌∷◌, refl, sym, ◌∙◌, subst, arith}
+use Rattle.base.specs.declared.place.Place.{Place}
 use Rattle.lang_meaning.specs.State.{DynamicContext}
 use Rattle.flat_language.specs.FlatState.{FrameSlot, FlatEnvironment, FlatState, FlatEvaluated, with_frame}
 use Rattle.mid_code.specs.Costs.{return_cost}
@@ -13,6 +14,7 @@ use Rattle.mid_arena.proofs.Running.{RunsTo, and_ends, return_ends}
 use Rattle.back_relation.specs.Setting.{Setting}
 use Rattle.back_relation.specs.Worlds.{World, Standing}
 use Rattle.back_relation.specs.Things.{Things}
+use Rattle.back_relation.specs.Around.{CallBegins}
 use Rattle.back_relation.specs.Activation.{FormScope}
 use Rattle.back_relation.specs.Ends.{WorldKept, Around, done, left_by, full_there, stopped, few_turns, CallEnds}
 use Rattle.back_relation.specs.Forms.{FormEnds}
@@ -135,3 +137,76 @@ module _ (setting : Setting) where
           (sym (go_on_last q.end q next refl (stopped_last setting r q.end x.because)))
           (stopped (record { because = x.because; printed = x.printed }))
       by (few_turns x) = few_turns x
+
+-- ---- another site
+
+abbrev pub at_place : Place → DynamicContext → DynamicContext
+at_place p around = record around { site = p }
+
+module _ (setting : Setting) (p : Place) where
+  -- what is around does not hang on the site
+  pub call_at_place :
+      {rs valid : List Standing} {n : ℕ} {w : World} {around : DynamicContext} {z : FlatState} {y : MidState} → CallBegins setting rs valid n w around z y
+      → CallBegins setting rs valid n w (at_place p around) z y
+  call_at_place b =
+      let t = b.around_stands in
+      record {
+        things = b.things;
+        around_stands = record {
+          current = t.current;
+          link = t.link;
+          handlers_cell = t.handlers_cell;
+          bindings_cell = t.bindings_cell;
+          current_word = t.current_word;
+          link_word = t.link_word;
+          handlers_word = t.handlers_word;
+          bindings_word = t.bindings_word;
+          chain = t.chain;
+          records = t.records;
+          links = t.links;
+          handlers = t.handlers;
+          bindings = t.bindings;
+          ends_at_end = t.ends_at_end;
+          end_record = t.end_record;
+          end_valid = t.end_valid;
+          end_word = t.end_word;
+        };
+        room = b.room;
+      }
+
+  -- nor does what a call comes to
+  pub ends_at_place :
+      {credit m : ℕ} {rs valid : List Standing} {w : World} {around : DynamicContext} {z : FlatState} {y : MidState} {r : FlatEvaluated} {q : MidOutcome}
+      → CallEnds setting credit m rs valid w (at_place p around) z y r q → CallEnds setting credit m rs valid w around z y r q
+  ends_at_place (done x) = done x
+  ends_at_place (left_by x) =
+      let t = x.transfer in
+      left_by (record {
+        transfer = record {
+          exit_number = t.exit_number;
+          result = t.result;
+          landing = t.landing;
+          outcome = t.outcome;
+          target = t.target;
+          valid_target = t.valid_target;
+          to = t.to;
+          outer = t.outer;
+          stop = t.stop;
+          word = t.word;
+          end = t.end;
+          blocks = t.blocks;
+          w' = t.w';
+          of_value = t.of_value;
+          world = t.world;
+          paid = t.paid;
+          pending = t.pending;
+          landing_word = t.landing_word;
+          landing_stands = t.landing_stands;
+          landing_is = t.landing_is;
+          lands = t.lands;
+        };
+        frame = x.frame;
+      })
+  ends_at_place (full_there x) = full_there x
+  ends_at_place (stopped x) = stopped x
+  ends_at_place (few_turns x) = few_turns x

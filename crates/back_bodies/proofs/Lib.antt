@@ -4,3 +4,4 @@ pub mod Programs
 pub mod Held
 pub mod Others
 pub mod Bodies
+pub mod Siteless
