@@ -1,0 +1,3 @@
+pub mod Searches
+pub mod Links
+pub mod Tags
