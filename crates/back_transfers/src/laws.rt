@@ -1,4 +1,5 @@
 // The laws of transfers, each as the contract of a function that does nothing.
+ghost use Rattle.back_transfers.specs.Law.{LawOfTransfers};
 ghost use Rattle.back_transfers.specs.Links.{LawOfLinks};
 ghost use Rattle.back_transfers.specs.Tags.{LawOfTags};
 
@@ -10,4 +11,9 @@ pub fn law_links()
 /// An exit is sought by its kind and its tag.
 pub fn law_tags()
     ensures { LawOfTags }
+{}
+
+/// A transfer to the record of a valid exit.
+pub fn law_transfers()
+    ensures { LawOfTransfers }
 {}
