@@ -105,6 +105,14 @@ module _ (setting : Setting) (placed : IsPlaced setting) {skip : ℕ} {w : World
   pub word_behind : (x n : ℕ) → control_address + 20 ≤ x → x < control_address + 36 → HasWordAt y x n → HasWordAt y' x n
   word_behind x n low high e = behind x low (omega arith) ∙ e
 
+  pub control_touched : ControlBack y y'
+  control_touched = record {
+    current = λ n e. word_in_front current_address n (omega arith) e;
+    link = λ n e. word_in_front link_address n (omega arith) e;
+    handlers = λ n e. word_behind handlers_address n (omega arith) (omega arith) e;
+    bindings = λ n e. word_behind bindings_address n (omega arith) (omega arith) e;
+  }
+
   module _ (from : ℕ) (above : stack_from y.arena ≤ from) (above' : stack_from y'.arena ≤ from) (least : (a : ℕ) → stack_from y.arena ≤ a → stack_from y'.arena ≤ a → from ≤ a) where
     abbrev pub w' : World
     w' = world_cut from w
@@ -169,12 +177,4 @@ module _ (setting : Setting) (placed : IsPlaced setting) {skip : ℕ} {w : World
       end = λ n e. word_behind end_address n (omega arith) (omega arith) e;
       more_exits = omega arith;
       same_size = g.size;
-    }
-
-    pub control_touched : ControlBack y y'
-    control_touched = record {
-      current = λ n e. word_in_front current_address n (omega arith) e;
-      link = λ n e. word_in_front link_address n (omega arith) e;
-      handlers = λ n e. word_behind handlers_address n (omega arith) (omega arith) e;
-      bindings = λ n e. word_behind bindings_address n (omega arith) (omega arith) e;
     }

@@ -6,3 +6,4 @@ pub mod Frames
 pub mod Transfer
 pub mod Within
 pub mod Combined
+pub mod Bodies

@@ -1,5 +1,5 @@
 -- The search of an exit by its number.
-use Rattle.std.proofs.Common.{◌≡◌, inl, inr, ℕ, zero, suc, ◌+◌, ◌*◌, ◌<◌, ◌≤◌, Bool, true, false, List, [], ◌∷◌, length, Option, Some, refl, sym, ap, ◌∙◌, subst, arith}
+use Rattle.std.proofs.Common.{◌≡◌, ◌⊎◌, inl, inr, ℕ, zero, suc, ◌+◌, ◌*◌, ◌<◌, ◌≤◌, Bool, true, false, List, [], ◌∷◌, length, Option, Some, refl, sym, ap, ◌∙◌, subst, arith}
 use Rattle.std.specs.Prelude.{◌==◌, ◌^◌, nat_lt, if◌then◌else◌}
 use Rattle.std.proofs.lemmas.Bool.{ne_eqb}
 use Rattle.std.proofs.lemmas.Bool.Decides.{nat_tests}
@@ -13,9 +13,9 @@ use Rattle.back_lowering.specs.ControlWords.{record_serial, record_link}
 use Rattle.back_relation.specs.Worlds.{World, Standing, for_exit, IsIn, Links, EndsAtEnd, record_of_exit}
 use Rattle.back_relation.specs.StackWords.{RecordAt, UseAt}
 use Rattle.back_combining.specs.Walks.{costing}
-use Rattle.back_transfers.specs.Searches.{Finds, Misses}
+use Rattle.back_transfers.specs.Searches.{Finds, Misses, IsLong}
 use Rattle.back_transfers.specs.Links.{link_registers, has_number, NumberSought, found, missing, LinksWalked, LawOfLinks}
-use Rattle.back_transfers.proofs.Searches.{finds_first, finds_behind, misses_none, misses_behind}
+use Rattle.back_transfers.proofs.Searches.{finds_first, finds_behind, misses_none, misses_behind, long_first, long_behind}
 
 -- no exit has a number from a greater one on
 none_below : (rs : List Standing) (e a most : ℕ) (xs : List Exit) (vs : List Standing) → Links rs a most xs vs → most ≤ e → Misses (has_number e) xs
@@ -94,26 +94,32 @@ module _ (procedures : List MidProcedure) (below : Task → MidState → MidOutc
       by (missing f g s) = missing f (omega (arith, g)) (misses_behind (has_number e) x xs other s)
 
   links_walked :
-      (xs : List Exit) (vs : List Standing) (n a most : ℕ) (r5 : Option ℕ) (cost : ℕ) → Links rs a most xs vs → EndsAtEnd xs → length xs ≤ n
-      → WalkedTo n a r5 cost xs vs
-  links_walked [] vs n a most r5 cost l end h = absurd end
-  links_walked (x ∷ xs) [] n a most r5 cost l end h = absurd l
-  links_walked (x ∷ []) (v ∷ vs) n a most r5 cost l end h =
-      subst (λ b. WalkedTo n b r5 cost (x ∷ []) (v ∷ vs)) (sym l.0)
-      (stops n r5 cost x v [] vs (linked w y x v small l.2 (records v l.1)) l.4 (let same : x.number ≡ 0 = ap (λ (x : Exit). x.number) end in grind (arith, nat_tests)))
-  links_walked (x ∷ x' ∷ xs) (v ∷ vs) n a most r5 cost l end h =
-      subst (λ b. WalkedTo n b r5 cost (x ∷ x' ∷ xs) (v ∷ vs)) (sym l.0)
-      (by n h (nat_lt e x.number) refl (λ m c g. links_walked (x' ∷ xs) vs m v.link x.number (Some x.number) c l.4 end.1 g))
+      (xs : List Exit) (vs : List Standing) (n a most : ℕ) (r5 : Option ℕ) (cost : ℕ) → Links rs a most xs vs → EndsAtEnd xs
+      → WalkedTo n a r5 cost xs vs ⊎ IsLong (has_number e) xs n
+  links_walked [] vs n a most r5 cost l end = absurd end
+  links_walked (x ∷ xs) [] n a most r5 cost l end = absurd l
+  links_walked (x ∷ []) (v ∷ vs) n a most r5 cost l end =
+      inl (subst (λ b. WalkedTo n b r5 cost (x ∷ []) (v ∷ vs)) (sym l.0)
+      (stops n r5 cost x v [] vs (linked w y x v small l.2 (records v l.1)) l.4 (let same : x.number ≡ 0 = ap (λ (x : Exit). x.number) end in grind (arith, nat_tests))))
+  links_walked (x ∷ x' ∷ xs) (v ∷ vs) n a most r5 cost l end =
+      subst (λ b. WalkedTo n b r5 cost (x ∷ x' ∷ xs) (v ∷ vs) ⊎ IsLong (has_number e) (x ∷ x' ∷ xs) n) (sym l.0)
+      (by n (nat_lt e x.number) refl (λ m c. links_walked (x' ∷ xs) vs m v.link x.number (Some x.number) c l.4 end.1))
     where
       here : Linked y x v
       here = linked w y x v small l.2 (records v l.1)
 
-      by : (n : ℕ) → length (x ∷ x' ∷ xs) ≤ n → (b : Bool) → nat_lt e x.number ≡ b
-          → ((m c : ℕ) → length (x' ∷ xs) ≤ m → WalkedTo m v.link (Some x.number) c (x' ∷ xs) vs) → WalkedTo n v.address r5 cost (x ∷ x' ∷ xs) (v ∷ vs)
-      by n h false g inner = stops n r5 cost x v (x' ∷ xs) vs here l.4 g
-      by zero h true g inner = absurd (omega arith)
-      by (suc n) h true g inner = passes n r5 cost x v (x' ∷ xs) vs here g (inner n (cost + 8 + 12 + 8 + 2) (omega arith))
+      further : (n : ℕ) → nat_lt e x.number ≡ true → WalkedTo n v.link (Some x.number) (cost + 8 + 12 + 8 + 2) (x' ∷ xs) vs ⊎ IsLong (has_number e) (x' ∷ xs) n
+          → WalkedTo (suc n) v.address r5 cost (x ∷ x' ∷ xs) (v ∷ vs) ⊎ IsLong (has_number e) (x ∷ x' ∷ xs) (suc n)
+      further n g (inl rest) = inl (passes n r5 cost x v (x' ∷ xs) vs here g rest)
+      further n g (inr rest) = inr (long_behind (has_number e) x (x' ∷ xs) n (grind (arith, nat_tests)) rest)
+
+      by : (n : ℕ) → (b : Bool) → nat_lt e x.number ≡ b
+          → ((m c : ℕ) → WalkedTo m v.link (Some x.number) c (x' ∷ xs) vs ⊎ IsLong (has_number e) (x' ∷ xs) m)
+          → WalkedTo n v.address r5 cost (x ∷ x' ∷ xs) (v ∷ vs) ⊎ IsLong (has_number e) (x ∷ x' ∷ xs) n
+      by n false g inner = inl (stops n r5 cost x v (x' ∷ xs) vs here l.4 g)
+      by zero true g inner = inr (long_first (has_number e) x (x' ∷ xs))
+      by (suc n) true g inner = further n g (inner n (cost + 8 + 12 + 8 + 2))
 
 pub links_law : LawOfLinks
-links_law procedures below number word landing r6 w y rs xs vs n a most r5 cost small records links end enough =
-    links_walked procedures below number word landing r6 w y rs small records xs vs n a most r5 cost links end enough
+links_law procedures below number word landing r6 w y rs xs vs n a most r5 cost small records links end =
+    links_walked procedures below number word landing r6 w y rs small records xs vs n a most r5 cost links end

@@ -1,5 +1,5 @@
 -- The search of an exit by its kind and its tag.
-use Rattle.std.proofs.Common.{◌≡◌, inl, inr, ℕ, zero, suc, ◌+◌, ◌*◌, ◌<◌, ◌≤◌, Bool, true, false, List, [], ◌∷◌, length, Option, Some, refl, sym, ap, ◌∙◌, subst, arith}
+use Rattle.std.proofs.Common.{◌≡◌, ◌⊎◌, inl, inr, ℕ, zero, suc, ◌+◌, ◌*◌, ◌<◌, ◌≤◌, Bool, true, false, List, [], ◌∷◌, length, Option, Some, refl, sym, ap, ◌∙◌, subst, arith}
 use Rattle.std.specs.Prelude.{◌==◌, ◌^◌, not, if◌then◌else◌}
 use Rattle.std.proofs.lemmas.Bool.{ne_eqb, eq-eqb}
 use Rattle.lang_meaning.specs.State.{Exit, end_exit}
@@ -14,9 +14,9 @@ use Rattle.back_lowering.specs.Steps.{Steps, constant, load, if_equal}
 use Rattle.back_relation.specs.Worlds.{World, Standing, for_exit, IsIn, Links, EndsAtEnd, record_of_exit}
 use Rattle.back_relation.specs.StackWords.{RecordAt, UseAt, kind_number}
 use Rattle.back_combining.specs.Walks.{costing}
-use Rattle.back_transfers.specs.Searches.{Finds, Misses}
+use Rattle.back_transfers.specs.Searches.{Finds, Misses, IsLong}
 use Rattle.back_transfers.specs.Tags.{tag_registers, TagTells, of_kind, of_end, of_other, TagSought, found, missing, TagsWalked, LawOfTags}
-use Rattle.back_transfers.proofs.Searches.{finds_first, finds_behind, misses_none, misses_behind}
+use Rattle.back_transfers.proofs.Searches.{finds_first, finds_behind, misses_none, misses_behind, long_first, long_behind}
 use Rattle.back_transfers.proofs.Links.{Linked, linked}
 
 abbrev head_steps : (kind : ℕ) → Steps
@@ -170,35 +170,37 @@ module _ (procedures : List MidProcedure) (below : Task → MidState → MidOutc
             (finds_behind p x x' xs rest.passed other s)
         by (missing f g s) = missing f (omega (arith, g)) (misses_behind p x xs other s)
 
-  -- what goes on from the next exit on
+  -- what goes on from an exit on
+  abbrev Ended : ℕ → ℕ → ℕ → Option ℕ → Option ℕ → Option ℕ → ℕ → List Exit → List Standing → Type 0
+  Ended n most a r4 r5 r6 cost xs vs = WalkedTo n most a r4 r5 r6 cost xs vs ⊎ IsLong p xs n
+
   abbrev More : Exit → Standing → List Exit → List Standing → Type 0
-  More x v xs vs = (m : ℕ) (four five : Option ℕ) (c : ℕ) → length xs ≤ m → WalkedTo m x.number v.link four five (Some 1) c xs vs
+  More x v xs vs = (m : ℕ) (four five : Option ℕ) (c : ℕ) → Ended m x.number v.link four five (Some 1) c xs vs
 
   kind_there : (x : Exit) (v : Standing) → v.role ≡ for_exit x → RecordAt w y v → word_at y.arena (v.address + record_kind) ≡ Some (kind_number (for_exit x))
   kind_there x v role at = at.kind ∙ ap (λ u. Some (kind_number u)) role
 
   tags_walked :
-      (xs : List Exit) (vs : List Standing) (n a most : ℕ) (r4 r5 r6 : Option ℕ) (cost : ℕ) → Links rs a most xs vs → EndsAtEnd xs → length xs ≤ n
-      → WalkedTo n most a r4 r5 r6 cost xs vs
-  tags_walked [] vs n a most r4 r5 r6 cost l end h = absurd end
-  tags_walked (x ∷ xs) [] n a most r4 r5 r6 cost l end h = absurd l
-  tags_walked (x ∷ []) (v ∷ vs) n a most r4 r5 r6 cost l end h =
-      subst (λ b. WalkedTo n most b r4 r5 r6 cost (x ∷ []) (v ∷ vs)) (sym l.0) (by (tells x v l.1 l.2))
+      (xs : List Exit) (vs : List Standing) (n a most : ℕ) (r4 r5 r6 : Option ℕ) (cost : ℕ) → Links rs a most xs vs → EndsAtEnd xs
+      → Ended n most a r4 r5 r6 cost xs vs
+  tags_walked [] vs n a most r4 r5 r6 cost l end = absurd end
+  tags_walked (x ∷ xs) [] n a most r4 r5 r6 cost l end = absurd l
+  tags_walked (x ∷ []) (v ∷ vs) n a most r4 r5 r6 cost l end =
+      subst (λ b. Ended n most b r4 r5 r6 cost (x ∷ []) (v ∷ vs)) (sym l.0) (by (tells x v l.1 l.2))
     where
       is_end : x.kind ≡ end_exit
       is_end = ap (λ (x : Exit). x.kind) end
 
-      by : TagTells kind tag p y x v → WalkedTo n most v.address r4 r5 r6 cost (x ∷ []) (v ∷ vs)
+      by : TagTells kind tag p y x v → Ended n most v.address r4 r5 r6 cost (x ∷ []) (v ∷ vs)
       by (of_kind k other t tag_word same) = absurd (other is_end)
       by (of_end k e f) =
-          stops x v (linked w y x v small l.2 (records v l.1)) (kind_there x v l.2 (records v l.1)) n most 0 r4 r5 r6 cost (x ∷ []) (v ∷ vs)
+          inl (stops x v (linked w y x v small l.2 (records v l.1)) (kind_there x v l.2 (records v l.1)) n most 0 r4 r5 r6 cost (x ∷ []) (v ∷ vs)
           (head_end x v (linked w y x v small l.2 (records v l.1)) (kind_there x v l.2 (records v l.1)) n r4 r5 r6 cost k (end_number x e))
-          (missing refl refl (misses_behind p x [] f (misses_none p)))
+          (missing refl refl (misses_behind p x [] f (misses_none p))))
       by (of_other k e other f) = absurd (other is_end)
-  tags_walked (x ∷ x' ∷ xs) (v ∷ vs) n a most r4 r5 r6 cost l end h =
-      subst (λ b. WalkedTo n most b r4 r5 r6 cost (x ∷ x' ∷ xs) (v ∷ vs)) (sym l.0)
-      (by (tells x v l.1 l.2) n h
-      (λ m four five c g. tags_walked (x' ∷ xs) vs m v.link x.number four five (Some 1) c l.4 end.1 g))
+  tags_walked (x ∷ x' ∷ xs) (v ∷ vs) n a most r4 r5 r6 cost l end =
+      subst (λ b. Ended n most b r4 r5 r6 cost (x ∷ x' ∷ xs) (v ∷ vs)) (sym l.0)
+      (by (tells x v l.1 l.2) n (λ m four five c. tags_walked (x' ∷ xs) vs m v.link x.number four five (Some 1) c l.4 end.1))
     where
       here : Linked y x v
       here = linked w y x v small l.2 (records v l.1)
@@ -206,24 +208,29 @@ module _ (procedures : List MidProcedure) (below : Task → MidState → MidOutc
       there : word_at y.arena (v.address + record_kind) ≡ Some (kind_number (for_exit x))
       there = kind_there x v l.2 (records v l.1)
 
-      by_tag : (b : Bool) → p x ≡ b → (t : ℕ) → kind_number (for_exit x) ≡ kind → word_at y.arena (v.address + record_tag) ≡ Some t → (t == tag) ≡ p x
-          → (n : ℕ) → length (x ∷ x' ∷ xs) ≤ n → More x v (x' ∷ xs) vs → WalkedTo n most v.address r4 r5 r6 cost (x ∷ x' ∷ xs) (v ∷ vs)
-      by_tag true e t k tag_word same n h inner =
-          stops x v here there n most v.address r4 r5 r6 cost (x ∷ x' ∷ xs) (v ∷ vs) (head_same x v here there n r4 r5 r6 cost t (eq-eqb _ _ k) tag_word (same ∙ e))
-          (found x v e l.3 refl l.1 l.2 (ap (λ b. if b then Some v else record_of_exit x.number (x' ∷ xs) vs) (eq-eqb x.number x.number refl)) (finds_first p x (x' ∷ xs) e))
-      by_tag false e t k tag_word same zero h inner = absurd (omega arith)
-      by_tag false e t k tag_word same (suc n) h inner =
-          let head = head_tag x v here there (suc n) r4 r5 r6 cost t (eq-eqb _ _ k) tag_word (same ∙ e) in
-          passes x v here there n most r4 r5 r6 cost (x' ∷ xs) vs e l.3 head (inner n head.four head.five (head.total + 12 + 8 + 2) (omega arith))
+      further : (n : ℕ) → p x ≡ false → (head : HeadIs (suc n) v.address r4 r5 r6 cost v.address 1 56)
+          → Ended n x.number v.link head.four head.five (Some 1) (head.total + 12 + 8 + 2) (x' ∷ xs) vs → Ended (suc n) most v.address r4 r5 r6 cost (x ∷ x' ∷ xs) (v ∷ vs)
+      further n e head (inl rest) = inl (passes x v here there n most r4 r5 r6 cost (x' ∷ xs) vs e l.3 head rest)
+      further n e head (inr rest) = inr (long_behind p x (x' ∷ xs) n e rest)
 
-      by : TagTells kind tag p y x v → (n : ℕ) → length (x ∷ x' ∷ xs) ≤ n → More x v (x' ∷ xs) vs → WalkedTo n most v.address r4 r5 r6 cost (x ∷ x' ∷ xs) (v ∷ vs)
-      by (of_kind k other t tag_word same) n h inner = by_tag (p x) refl t k tag_word same n h inner
-      by (of_end k e f) n h inner = absurd (end.0 e)
-      by (of_other k e other f) zero h inner = absurd (omega arith)
-      by (of_other k e other f) (suc n) h inner =
+      by_tag : (b : Bool) → p x ≡ b → (t : ℕ) → kind_number (for_exit x) ≡ kind → word_at y.arena (v.address + record_tag) ≡ Some t → (t == tag) ≡ p x
+          → (n : ℕ) → More x v (x' ∷ xs) vs → Ended n most v.address r4 r5 r6 cost (x ∷ x' ∷ xs) (v ∷ vs)
+      by_tag true e t k tag_word same n inner =
+          inl (stops x v here there n most v.address r4 r5 r6 cost (x ∷ x' ∷ xs) (v ∷ vs) (head_same x v here there n r4 r5 r6 cost t (eq-eqb _ _ k) tag_word (same ∙ e))
+          (found x v e l.3 refl l.1 l.2 (ap (λ b. if b then Some v else record_of_exit x.number (x' ∷ xs) vs) (eq-eqb x.number x.number refl)) (finds_first p x (x' ∷ xs) e)))
+      by_tag false e t k tag_word same zero inner = inr (long_first p x (x' ∷ xs))
+      by_tag false e t k tag_word same (suc n) inner =
+          let head = head_tag x v here there (suc n) r4 r5 r6 cost t (eq-eqb _ _ k) tag_word (same ∙ e) in
+          further n e head (inner n head.four head.five (head.total + 12 + 8 + 2))
+
+      by : TagTells kind tag p y x v → (n : ℕ) → More x v (x' ∷ xs) vs → Ended n most v.address r4 r5 r6 cost (x ∷ x' ∷ xs) (v ∷ vs)
+      by (of_kind k other t tag_word same) n inner = by_tag (p x) refl t k tag_word same n inner
+      by (of_end k e f) n inner = absurd (end.0 e)
+      by (of_other k e other f) zero inner = inr (long_first p x (x' ∷ xs))
+      by (of_other k e other f) (suc n) inner =
           let head = head_other x v here there (suc n) r4 r5 r6 cost k e in
-          passes x v here there n most r4 r5 r6 cost (x' ∷ xs) vs f l.3 head (inner n head.four head.five (head.total + 12 + 8 + 2) (omega arith))
+          further n f head (inner n head.four head.five (head.total + 12 + 8 + 2))
 
 pub tags_law : LawOfTags
-tags_law procedures below kind tag word p w y rs xs vs n a most r4 r5 r6 cost small records tells links end enough =
-    tags_walked procedures below kind tag word p w y rs small records tells xs vs n a most r4 r5 r6 cost links end enough
+tags_law procedures below kind tag word p w y rs xs vs n a most r4 r5 r6 cost small records tells links end =
+    tags_walked procedures below kind tag word p w y rs small records tells xs vs n a most r4 r5 r6 cost links end

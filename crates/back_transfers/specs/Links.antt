@@ -1,5 +1,5 @@
 -- The search of an exit by its number: a loop of a routine along the links, where numbers fall, with a turn for each exit that it passes.
-use Rattle.std.specs.Prelude.{◌≡◌, ℕ, ◌+◌, ◌*◌, ◌^◌, ◌<◌, ◌≤◌, ◌==◌, Bool, false, List, [], ◌∷◌, length, Option, Some}
+use Rattle.std.specs.Prelude.{◌≡◌, ◌⊎◌, ℕ, ◌+◌, ◌*◌, ◌^◌, ◌<◌, ◌≤◌, ◌==◌, Bool, false, List, [], ◌∷◌, length, Option, Some}
 use Rattle.lang_meaning.specs.State.{Exit}
 use Rattle.mid_code.specs.declared.operation.Comparison.TheVariants.{LessUnsigned}
 use Rattle.mid_code.specs.declared.operation.Counted.TheVariants.{Turn}
@@ -12,7 +12,7 @@ use Rattle.back_lowering.specs.Steps.{load, test_of}
 use Rattle.back_relation.specs.Worlds.{World, Standing, IsIn, Links, EndsAtEnd, record_of_exit}
 use Rattle.back_relation.specs.StackWords.{RecordAt}
 use Rattle.back_combining.specs.Walks.{costing}
-use Rattle.back_transfers.specs.Searches.{Finds, Misses}
+use Rattle.back_transfers.specs.Searches.{Finds, Misses, IsLong}
 
 -- the exit's number is in register 0, the record of a valid exit in 4
 abbrev pub along_links : MidStep
@@ -44,10 +44,10 @@ pub record LinksWalked (procedures : List MidProcedure) (below : Task → MidSta
   pub cost_is : total ≡ cost + 30 * passed + 20
   pub sought : NumberSought number xs vs passed at serial
 
--- with a turn for each valid exit the loop finds what the meaning finds
+-- the loop finds what the meaning finds, or the meaning charges more units than there are turns
 abbrev pub LawOfLinks : Type 0
 LawOfLinks =
     (procedures : List MidProcedure) (below : Task → MidState → MidOutcome) (number word landing : ℕ) (r6 : Option ℕ) (w : World) (y : MidState) (rs : List Standing)
     (xs : List Exit) (vs : List Standing) (n a most : ℕ) (r5 : Option ℕ) (cost : ℕ)
-    → length y.arena.memory ≤ 2 ^ 24 → ((r : Standing) → IsIn r rs → RecordAt w y r) → Links rs a most xs vs → EndsAtEnd xs → length xs ≤ n
-    → LinksWalked procedures below n number word landing r6 y a r5 cost xs vs
+    → length y.arena.memory ≤ 2 ^ 24 → ((r : Standing) → IsIn r rs → RecordAt w y r) → Links rs a most xs vs → EndsAtEnd xs
+    → LinksWalked procedures below n number word landing r6 y a r5 cost xs vs ⊎ IsLong (has_number number) xs n

@@ -1,5 +1,5 @@
 -- The search of an exit by its kind and its tag: a loop of a routine along the links, with a turn for each exit that it looks at.
-use Rattle.std.specs.Prelude.{◌≡◌, ℕ, ◌+◌, ◌*◌, ◌^◌, ◌<◌, ◌≤◌, ◌==◌, Bool, true, false, List, [], ◌∷◌, length, Option, Some}
+use Rattle.std.specs.Prelude.{◌≡◌, ◌⊎◌, ℕ, ◌+◌, ◌*◌, ◌^◌, ◌<◌, ◌≤◌, ◌==◌, Bool, true, false, List, [], ◌∷◌, length, Option, Some}
 use Rattle.lang_meaning.specs.State.{Exit, end_exit}
 use Rattle.mid_code.specs.declared.program.MidProcedure.{MidProcedure}
 use Rattle.mid_code.specs.Arena.{stack_from, word_at}
@@ -12,7 +12,7 @@ use Rattle.back_lowering.specs.Steps.{constant, load, if_equal}
 use Rattle.back_relation.specs.Worlds.{World, Standing, for_exit, IsIn, Links, EndsAtEnd, record_of_exit}
 use Rattle.back_relation.specs.StackWords.{RecordAt, kind_number}
 use Rattle.back_combining.specs.Walks.{costing}
-use Rattle.back_transfers.specs.Searches.{Finds, Misses}
+use Rattle.back_transfers.specs.Searches.{Finds, Misses, IsLong}
 
 -- the tag is in register 0, the record of a valid exit in 3, and 2 is 0
 abbrev pub along_tags : (kind : ℕ) → MidStep
@@ -61,11 +61,11 @@ pub record TagsWalked (procedures : List MidProcedure) (below : Task → MidStat
   pub within : total ≤ cost + 78 * (passed + 1)
   pub sought : TagSought p rs most xs vs passed at
 
--- with a turn for each valid exit the loop finds what the meaning finds
+-- the loop finds what the meaning finds, or the meaning charges more units than there are turns
 abbrev pub LawOfTags : Type 0
 LawOfTags =
     (procedures : List MidProcedure) (below : Task → MidState → MidOutcome) (kind tag word : ℕ) (p : Exit → Bool) (w : World) (y : MidState) (rs : List Standing)
     (xs : List Exit) (vs : List Standing) (n a most : ℕ) (r4 r5 r6 : Option ℕ) (cost : ℕ)
     → length y.arena.memory ≤ 2 ^ 24 → ((r : Standing) → IsIn r rs → RecordAt w y r)
     → ((x : Exit) (v : Standing) → IsIn v rs → v.role ≡ for_exit x → TagTells kind tag p y x v) → Links rs a most xs vs → EndsAtEnd xs
-    → length xs ≤ n → TagsWalked procedures below n kind tag word p y rs most a r4 r5 r6 cost xs vs
+    → TagsWalked procedures below n kind tag word p y rs most a r4 r5 r6 cost xs vs ⊎ IsLong p xs n
