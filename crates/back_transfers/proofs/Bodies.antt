@@ -1,36 +1,30 @@
 -- **The body of a routine**: where it begins, in a frame of its own, and what the call comes to behind it.
-use Rattle.std.proofs.Common.{◌≡◌, ℕ, zero, suc, ◌+◌, ◌*◌, ◌<◌, ◌≤◌, Bool, true, false, List, [], ◌∷◌, ◌++◌, length, Option, Some, None, refl, sym, ap, ◌∙◌, subst, arith}
-use Rattle.std.specs.Prelude.{slice_get, slice_set}
-use Rattle.std.proofs.Math.ListN.{length-set}
+use Rattle.std.proofs.Common.{◌≡◌, ℕ, ◌+◌, ◌*◌, ◌≤◌, List, [], ◌∷◌, length, refl, sym, ap, ◌∙◌, subst, arith}
 use Rattle.lang_meaning.specs.State.{DynamicContext, Limit, words, unlimited}
-use Rattle.lang_meaning.specs.State as base
 use Rattle.lang_meaning.specs.Prefixes.{IsPrefix}
-use Rattle.flat_language.specs.FlatState.{FlatState, FlatEvaluated, charged}
-use Rattle.mid_code.specs.Arena.{Arena, Block, activation_frame, begin_of, stack_from, left, words_of, blocks_from, with_word, with_blocks, with_new_block}
-use Rattle.mid_code.specs.Meaning.{Context, exec, leaves, left_from}
-use Rattle.mid_code.specs.Meaning.{called as mid_called}
+use Rattle.flat_language.specs.FlatState.{FlatState, FlatEvaluated}
+use Rattle.mid_code.specs.Arena.{Block, activation_frame, begin_of, stack_from, left, words_of, blocks_from, with_blocks, with_new_block}
+use Rattle.mid_code.specs.Meaning.{leaves, left_from}
 use Rattle.mid_code.specs.Costs.{entry_cost}
 use Rattle.mid_code.specs.State.{End, falls, returns, cuts, no_room, no_level, no_turn, halts, unhandled, exhausted, stuck, ends, with_arena, MidState, MidOutcome}
-use Rattle.mid_arena.specs.Places.{Spot, of_other}
-use Rattle.mid_arena.specs.Standing.{ArenaStands, SpotStands}
-use Rattle.mid_arena.specs.Growing.{Grows, Changes}
+use Rattle.mid_arena.specs.Places.{of_other}
+use Rattle.mid_arena.specs.Standing.{SpotStands}
+use Rattle.mid_arena.specs.Growing.{Grows}
 use Rattle.mid_arena.proofs.FixedChanges.{one_word}
-use Rattle.mid_arena.proofs.Growing.{changes_of_growing, grows_same, spot_below}
+use Rattle.mid_arena.proofs.Growing.{changes_of_growing, spot_below}
 use Rattle.mid_arena.proofs.Memory.{grows_with_new_block, left_with_new_block, grows_with_blocks}
-use Rattle.mid_arena.proofs.OwnWords.{changes_in_spot}
-use Rattle.back_lowering.specs.ControlWords.{control_address, control_words, target_address, landing_address, site_address, end_address}
+use Rattle.back_lowering.specs.ControlWords.{target_address, landing_address, site_address, end_address}
 use Rattle.back_relation.specs.Setting.{Setting, control_spot}
 use Rattle.back_relation.specs.Placed.{IsPlaced}
 use Rattle.back_relation.specs.Room.{words_for_handler}
-use Rattle.back_relation.specs.Worlds.{World, Later, Standing, Chain}
+use Rattle.back_relation.specs.Worlds.{World, Later, Standing}
 use Rattle.back_relation.specs.StackWords.{HasWordAt}
 use Rattle.back_relation.specs.Things.{Things}
 use Rattle.back_relation.specs.Around.{AroundStands, RoomFor, CallBegins, SiteStored}
-use Rattle.back_relation.specs.Ends.{ControlBack, WorldKept, Around, ChargedFrom, Transfers, Because, CallEnds, done, left_by, full_there, stopped, few_turns}
+use Rattle.back_relation.specs.Ends.{ControlBack, WorldKept, Around, Transfers, Because, CallEnds, done, left_by, full_there, stopped, few_turns}
 use Rattle.back_combining.specs.Cuts.{world_cut}
 use Rattle.back_combining.proofs.Cuts.{later_cut}
-use Rattle.back_combining.proofs.Straight.{world_units}
-use Rattle.back_combining.proofs.Worlds.{later_same, later_then, plain_later, word_later, Deeper, record_stays, handlers_stay, bindings_stay, links_raise, chain_lower}
+use Rattle.back_combining.proofs.Worlds.{later_then, plain_later, word_later, Deeper, record_stays, handlers_stay, bindings_stay, links_raise, chain_lower}
 use Rattle.back_transfers.proofs.Entries.{laid_frame}
 use Rattle.back_transfers.proofs.Frames.{one_stands, IsOfTransfer, Touched, world_touched, control_touched, word_behind}
 

@@ -1,5 +1,5 @@
 -- How a routine is entered: its procedure by its number, with the frame that is used, and its body.
-use Rattle.std.proofs.Common.{◌≡◌, ℕ, zero, suc, ◌+◌, ◌*◌, ◌<◌, ◌≤◌, Bool, true, false, List, [], ◌∷◌, ◌++◌, length, map, Option, Some, refl, sym, ap, ◌∙◌, subst, arith}
+use Rattle.std.proofs.Common.{◌≡◌, ℕ, zero, suc, ◌+◌, ◌<◌, ◌≤◌, Bool, true, false, List, [], ◌∷◌, ◌++◌, length, map, Some, refl, sym, ap, ◌∙◌, subst, arith}
 use Rattle.std.specs.Prelude.{slice_get, nat_le, max}
 use Rattle.std.proofs.lemmas.Bool.Decides.{nat_tests}
 use Rattle.std.proofs.lemmas.List.{length-map}
@@ -15,18 +15,18 @@ use Rattle.mid_code.specs.declared.operation.Counted.TheVariants.{Turn}
 use Rattle.mid_code.specs.declared.program.MidProcedure.{MidProcedure}
 use Rattle.mid_code.specs.Arena.{activation_frame, left, with_new_block}
 use Rattle.mid_code.specs.Costs.{entry_cost}
-use Rattle.mid_code.specs.Meaning.{Context, count, enter, levels, exec, leaves}
+use Rattle.mid_code.specs.Meaning.{levels, exec, leaves}
 use Rattle.mid_code.specs.Meaning.{turns as mid_turns}
 use Rattle.mid_code.specs.MidCode.{code_of}
-use Rattle.mid_code.specs.State.{Registers, first_registers, no_room, no_turn, ends, with_some, with_arena, MidState, MidOutcome}
+use Rattle.mid_code.specs.State.{Registers, first_registers, no_room, no_turn, ends, with_arena, MidState, MidOutcome}
 use Rattle.mid_code.specs.State.{charged as mid_charged}
-use Rattle.mid_arena.proofs.Running.{RunsTo, some_found, enters, enters_wanting}
+use Rattle.mid_arena.proofs.Running.{some_found, enters, enters_wanting}
 use Rattle.back_lowering.specs.Placement.{routines_from, primitive_count}
 use Rattle.back_lowering.specs.declared.placement.Placement.{Placement}
 use Rattle.back_lowering.specs.Program.{procedure_with, entries_from, lambda_entries_from, bodies_from, lambda_bodies, primitives, routines, main_form, start, lowered, body_of, itself, numbers_below}
 use Rattle.back_lowering.specs.Registers.{of_code, enough_for, frame_for}
 use Rattle.back_lowering.specs.Steps.{Steps}
-use Rattle.back_relation.specs.Setting.{Setting, WithinFrame, FramesWithin}
+use Rattle.back_relation.specs.Setting.{Setting, FramesWithin}
 use Rattle.back_relation.specs.Placed.{IsPlaced}
 use Rattle.back_relation.specs.Worlds.{World, Standing}
 use Rattle.back_relation.specs.Things.{WithinLimit}

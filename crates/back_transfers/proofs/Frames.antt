@@ -1,22 +1,22 @@
 -- What stands where the frame of a routine was laid, a control word of transfers stored, or blocks ended by a cut.
-use Rattle.std.proofs.Common.{◌≡◌, ◌⊎◌, inl, inr, ℕ, zero, suc, ◌+◌, ◌*◌, ◌<◌, ◌≤◌, Bool, true, false, List, [], ◌∷◌, ◌++◌, length, Some, None, refl, sym, ap, ◌∙◌, subst, arith}
+use Rattle.std.proofs.Common.{◌≡◌, ℕ, zero, suc, ◌+◌, ◌*◌, ◌<◌, ◌≤◌, Bool, true, false, List, [], ◌∷◌, ◌++◌, length, Some, refl, ap, ◌∙◌, arith}
 use Rattle.std.specs.Prelude.{slice_get, ◌==◌, ◌%◌, ◌&&◌, nat_le, if◌then◌else◌}
 use Rattle.std.proofs.lemmas.Bool.Decides.{nat_tests}
 use Rattle.std.proofs.lemmas.Bool.{le-leb}
 use Rattle.flat_language.specs.FlatState.{FlatState}
-use Rattle.mid_code.specs.Arena.{Arena, Block, is_open, begin_of, stack_from, lent_from, words_of, blocks_from, word_at}
+use Rattle.mid_code.specs.Arena.{Arena, Block, is_open, stack_from, lent_from, blocks_from, word_at}
 use Rattle.mid_code.specs.State.{MidState}
-use Rattle.mid_arena.specs.Places.{Spot, end_of, of_other, spot_of}
-use Rattle.mid_arena.specs.Standing.{ArenaStands, SpotStands, IsLentPart, of_laid, of_heap}
+use Rattle.mid_arena.specs.Places.{Spot, end_of, of_other}
+use Rattle.mid_arena.specs.Standing.{SpotStands, IsLentPart, of_laid, of_heap}
 use Rattle.mid_arena.specs.Growing.{Changes}
 use Rattle.mid_arena.specs.Law.{SameStreams}
 use Rattle.mid_arena.proofs.FixedChanges.{one_word}
 use Rattle.mid_arena.proofs.Growing.{changes_part, spot_below}
-use Rattle.back_lowering.specs.ControlWords.{control_address, control_words, serials_address, current_address, link_address, handlers_address, bindings_address, site_address, end_address}
+use Rattle.back_lowering.specs.ControlWords.{control_address, control_words, serials_address, current_address, link_address, handlers_address, bindings_address, end_address}
 use Rattle.back_lowering.specs.Placement.{global_address, dynamic_address}
 use Rattle.back_relation.specs.Setting.{Setting, control_spot}
-use Rattle.back_relation.specs.Placed.{IsPlaced, HasGlobal, HasDynamic}
-use Rattle.back_relation.specs.Worlds.{World, BoxPlace, on_heap, on_stack, gone, Later}
+use Rattle.back_relation.specs.Placed.{IsPlaced}
+use Rattle.back_relation.specs.Worlds.{World, BoxPlace, on_heap, on_stack, gone}
 use Rattle.back_relation.specs.StackWords.{StackKept, HasWordAt}
 use Rattle.back_relation.specs.Things.{Things}
 use Rattle.back_relation.specs.Ends.{WorldKept, ControlBack}

@@ -7,3 +7,7 @@ pub mod Transfer
 pub mod Within
 pub mod Combined
 pub mod Bodies
+pub mod Returning
+pub mod Points
+pub mod Leaving
+pub mod Tagged

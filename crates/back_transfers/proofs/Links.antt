@@ -1,5 +1,5 @@
 -- The search of an exit by its number.
-use Rattle.std.proofs.Common.{◌≡◌, ◌⊎◌, inl, inr, ℕ, zero, suc, ◌+◌, ◌*◌, ◌<◌, ◌≤◌, Bool, true, false, List, [], ◌∷◌, length, Option, Some, refl, sym, ap, ◌∙◌, subst, arith}
+use Rattle.std.proofs.Common.{◌≡◌, ◌⊎◌, inl, inr, ℕ, zero, suc, ◌+◌, ◌<◌, ◌≤◌, Bool, true, false, List, [], ◌∷◌, length, Option, Some, refl, sym, ap, ◌∙◌, subst, arith}
 use Rattle.std.specs.Prelude.{◌==◌, ◌^◌, nat_lt, if◌then◌else◌}
 use Rattle.std.proofs.lemmas.Bool.{ne_eqb}
 use Rattle.std.proofs.lemmas.Bool.Decides.{nat_tests}
@@ -12,8 +12,7 @@ use Rattle.mid_arena.proofs.Running.{and_then, none_left, load_falls, address_up
 use Rattle.back_lowering.specs.ControlWords.{record_serial, record_link}
 use Rattle.back_relation.specs.Worlds.{World, Standing, for_exit, IsIn, Links, EndsAtEnd, record_of_exit}
 use Rattle.back_relation.specs.StackWords.{RecordAt, UseAt}
-use Rattle.back_combining.specs.Walks.{costing}
-use Rattle.back_transfers.specs.Searches.{Finds, Misses, IsLong}
+use Rattle.back_transfers.specs.Searches.{Misses, IsLong}
 use Rattle.back_transfers.specs.Links.{link_registers, has_number, NumberSought, found, missing, LinksWalked, LawOfLinks}
 use Rattle.back_transfers.proofs.Searches.{finds_first, finds_behind, misses_none, misses_behind, long_first, long_behind}
 

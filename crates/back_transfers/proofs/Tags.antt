@@ -1,6 +1,6 @@
 -- The search of an exit by its kind and its tag.
-use Rattle.std.proofs.Common.{◌≡◌, ◌⊎◌, inl, inr, ℕ, zero, suc, ◌+◌, ◌*◌, ◌<◌, ◌≤◌, Bool, true, false, List, [], ◌∷◌, length, Option, Some, refl, sym, ap, ◌∙◌, subst, arith}
-use Rattle.std.specs.Prelude.{◌==◌, ◌^◌, not, if◌then◌else◌}
+use Rattle.std.proofs.Common.{◌≡◌, ◌⊎◌, inl, inr, ℕ, zero, suc, ◌+◌, ◌<◌, ◌≤◌, Bool, true, false, List, [], ◌∷◌, length, Option, Some, refl, sym, ap, ◌∙◌, subst, arith}
+use Rattle.std.specs.Prelude.{◌==◌, ◌^◌, if◌then◌else◌}
 use Rattle.std.proofs.lemmas.Bool.{ne_eqb, eq-eqb}
 use Rattle.lang_meaning.specs.State.{Exit, end_exit}
 use Rattle.mid_code.specs.declared.program.MidProcedure.{MidProcedure}
@@ -8,13 +8,13 @@ use Rattle.mid_code.specs.Arena.{word_at}
 use Rattle.mid_code.specs.State.{Registers, falls, ends, MidState, MidOutcome}
 use Rattle.mid_code.specs.MidCode.{code_of}
 use Rattle.mid_code.specs.Meaning.{Task}
-use Rattle.mid_arena.proofs.Running.{StepsTo, RunsTo, and_then, none_left, load_falls, constant_falls, choose_first_falls, choose_second_falls, address_up, repeat_falls, repeat_turn, turning}
+use Rattle.mid_arena.proofs.Running.{RunsTo, and_then, none_left, load_falls, constant_falls, choose_first_falls, choose_second_falls, address_up, repeat_falls, repeat_turn, turning}
 use Rattle.back_lowering.specs.ControlWords.{record_kind, record_link, record_tag, end_kind}
 use Rattle.back_lowering.specs.Steps.{Steps, constant, load, if_equal}
 use Rattle.back_relation.specs.Worlds.{World, Standing, for_exit, IsIn, Links, EndsAtEnd, record_of_exit}
-use Rattle.back_relation.specs.StackWords.{RecordAt, UseAt, kind_number}
+use Rattle.back_relation.specs.StackWords.{RecordAt, kind_number}
 use Rattle.back_combining.specs.Walks.{costing}
-use Rattle.back_transfers.specs.Searches.{Finds, Misses, IsLong}
+use Rattle.back_transfers.specs.Searches.{IsLong}
 use Rattle.back_transfers.specs.Tags.{tag_registers, TagTells, of_kind, of_end, of_other, TagSought, found, missing, TagsWalked, LawOfTags}
 use Rattle.back_transfers.proofs.Searches.{finds_first, finds_behind, misses_none, misses_behind, long_first, long_behind}
 use Rattle.back_transfers.proofs.Links.{Linked, linked}

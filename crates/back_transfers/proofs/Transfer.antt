@@ -1,6 +1,6 @@
 -- **The transfer to the record of a valid exit**: its routine walks outwards to the first record where the transfer stops, and cuts to it.
-use Rattle.std.proofs.Common.{◌≡◌, ◌⊎◌, inl, inr, ℕ, zero, suc, ◌+◌, ◌*◌, ◌<◌, ◌≤◌, Bool, true, false, List, [], ◌∷◌, ◌++◌, length, Option, Some, None, refl, sym, ap, ◌∙◌, subst, arith}
-use Rattle.std.specs.Prelude.{slice_get, ◌==◌, ◌^◌, ◌||◌, nat_le, if◌then◌else◌}
+use Rattle.std.proofs.Common.{◌≡◌, inl, inr, ℕ, suc, ◌+◌, ◌*◌, ◌<◌, ◌≤◌, Bool, true, false, List, [], ◌∷◌, ◌++◌, length, Some, None, refl, sym, ap, ◌∙◌, subst, arith}
+use Rattle.std.specs.Prelude.{slice_get, ◌==◌, ◌||◌, nat_le, if◌then◌else◌}
 use Rattle.std.proofs.lemmas.Bool.{eq-eqb}
 use Rattle.std.proofs.lemmas.Bool.Decides.{nat_tests}
 use Rattle.std.proofs.Math.ListN.{length-set}
@@ -8,20 +8,19 @@ use Rattle.lang_meaning.specs.State.{DynamicContext, Exit, Landing}
 use Rattle.lang_meaning.specs.Values.{Value}
 use Rattle.flat_language.specs.FlatState.{FlatState}
 use Rattle.flat_language.specs.FlatState.{leaves as flat_leaves}
-use Rattle.mid_code.specs.Arena.{Arena, Block, activation_frame, begin_of, stack_from, left, words_of, is_lent, word_at, with_word, with_blocks, with_new_block, blocks_from, outside_of}
-use Rattle.mid_code.specs.Meaning.{Context, cut, exec, leaves}
+use Rattle.mid_code.specs.Arena.{Arena, Block, activation_frame, begin_of, stack_from, left, word_at, with_word, with_blocks, with_new_block, blocks_from, outside_of}
+use Rattle.mid_code.specs.Meaning.{Context, exec, leaves}
 use Rattle.mid_code.specs.MidCode.{cut_to, code_of}
-use Rattle.mid_code.specs.State.{Registers, register, falls, cuts, ends, with_some, with_arena, charged, MidState, MidOutcome}
-use Rattle.mid_arena.specs.Places.{Spot, of_other}
+use Rattle.mid_code.specs.State.{Registers, register, falls, cuts, ends, with_arena, charged, MidState}
+use Rattle.mid_arena.specs.Places.{of_other}
 use Rattle.mid_arena.specs.Standing.{ArenaStands, SpotStands}
 use Rattle.mid_arena.specs.Growing.{Grows, Changes}
 use Rattle.mid_arena.proofs.FixedChanges.{one_word}
 use Rattle.mid_arena.proofs.Growing.{changes_of_growing, changes_both, spot_below, spot_grown}
 use Rattle.mid_arena.proofs.Memory.{in_spot_lent, in_spot_there, word_here, grows_with_new_block, grows_with_blocks}
 use Rattle.mid_arena.proofs.OwnWords.{changes_further}
-use Rattle.mid_arena.proofs.Running.{StepsTo, RunsTo, and_then, and_ends, none_left, some_found, constant_falls, load_falls, store_falls, address_up, address_above}
-use Rattle.back_lowering.specs.ControlWords.{control_address, control_words, record_kind, record_outer, cleanup_kind, current_address, target_address, landing_address, end_address}
-use Rattle.back_lowering.specs.Placement.{routines_from}
+use Rattle.mid_arena.proofs.Running.{StepsTo, RunsTo, and_then, and_ends, some_found, constant_falls, load_falls, store_falls, address_above}
+use Rattle.back_lowering.specs.ControlWords.{record_kind, record_outer, current_address, target_address, landing_address}
 use Rattle.back_lowering.specs.RoutineCodes.{transfer_code}
 use Rattle.back_lowering.specs.Program.{procedure_with}
 use Rattle.back_lowering.specs.Routines.{transfer_routine}
@@ -41,8 +40,8 @@ use Rattle.back_combining.proofs.Worlds.{word_later}
 use Rattle.back_combining.specs.Cuts.{world_cut}
 use Rattle.mid_code.specs.declared.operation.Counted.TheVariants.{Turn}
 use Rattle.back_transfers.specs.Within.{TransferWithin, transfer_words, transfer_credit, transfer_spare}
-use Rattle.back_transfers.proofs.Entries.{UsedAt, routine_used, routine_registers, routine_frame, laid_frame, routine_enters}
-use Rattle.back_transfers.proofs.Frames.{memory_holds, found_outer, one_stands, IsOfTransfer, Touched, world_touched, word_behind}
+use Rattle.back_transfers.proofs.Entries.{UsedAt, routine_used, routine_registers, laid_frame, routine_enters}
+use Rattle.back_transfers.proofs.Frames.{memory_holds, found_outer, one_stands, IsOfTransfer, Touched, world_touched}
 
 -- ---- lists
 

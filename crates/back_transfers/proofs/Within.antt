@@ -1,18 +1,17 @@
 -- What a call comes to, where it is paid more, has more words of the stack, or leaves fewer turns over.
-use Rattle.std.proofs.Common.{◌≡◌, ℕ, ◌+◌, ◌≤◌, List, length, Some, refl, arith}
+use Rattle.std.proofs.Common.{ℕ, ◌≤◌, List, arith}
 use Rattle.lang_meaning.specs.State.{DynamicContext, Limit, words, unlimited}
 use Rattle.lang_meaning.specs.State as base
 use Rattle.flat_language.specs.FlatState.{FlatState, FlatEvaluated}
 use Rattle.mid_code.specs.State.{MidState, MidOutcome}
 use Rattle.back_relation.specs.Setting.{Setting}
 use Rattle.back_relation.specs.Placed.{IsPlaced}
-use Rattle.back_relation.specs.Room.{routine_words}
 use Rattle.back_relation.specs.Worlds.{World, Standing}
 use Rattle.back_relation.specs.Around.{RoomFor, CallBegins}
 use Rattle.back_relation.specs.Ends.{Around, CallEnds, done, left_by, full_there, stopped, few_turns}
-use Rattle.back_relation.specs.RoutineClaims.{TransferDoes, RoutineBegins}
+use Rattle.back_relation.specs.RoutineClaims.{TransferDoes}
 use Rattle.back_combining.proofs.Then.{transfers_less}
-use Rattle.back_transfers.specs.Within.{TransferWithin, transfer_words}
+use Rattle.back_transfers.specs.Within.{transfer_words}
 use Rattle.back_transfers.proofs.Transfer.{transfer_does}
 
 module _ (setting : Setting) where

@@ -2,7 +2,7 @@
 use Rattle.std.specs.Prelude.{◌≡◌, ◌⊎◌, ℕ, ◌+◌, ◌*◌, ◌^◌, ◌<◌, ◌≤◌, ◌==◌, Bool, true, false, List, [], ◌∷◌, length, Option, Some}
 use Rattle.lang_meaning.specs.State.{Exit, end_exit}
 use Rattle.mid_code.specs.declared.program.MidProcedure.{MidProcedure}
-use Rattle.mid_code.specs.Arena.{stack_from, word_at}
+use Rattle.mid_code.specs.Arena.{word_at}
 use Rattle.mid_code.specs.Meaning.{Task, context_of, exec_step, turns}
 use Rattle.mid_code.specs.MidCode.{MidStep}
 use Rattle.mid_code.specs.State.{Registers, falls, ends, MidState, MidOutcome}

@@ -1,20 +1,22 @@
 -- What routines do that other routines call: they have fewer words of the stack than a form gives, they are paid no more than they cost, and they
 -- leave turns over for those that called them.
-use Rattle.std.specs.Prelude.{◌≡◌, ℕ, ◌+◌, List, [], ◌∷◌, Some, slice_get}
-use Rattle.lang_meaning.specs.State.{DynamicContext, Landing}
+use Rattle.std.specs.Prelude.{◌≡◌, ⊤, ℕ, ◌+◌, ◌<◌, List, [], ◌∷◌, Some, slice_get}
+use Rattle.lang_meaning.specs.State.{DynamicContext, Exit, ExitKind, catch_exit, signal_exit, Landing, at_segment}
 use Rattle.lang_meaning.specs.Values.{Value}
+use Rattle.lang_meaning.specs.Objects.{built_in_classes}
+use Rattle.flat_language.specs.FlatSignals.{signal}
 use Rattle.flat_language.specs.FlatState.{FlatState, FlatEvaluated, leaves}
 use Rattle.mid_code.specs.State.{MidState}
 use Rattle.back_lowering.specs.ControlWords.{landing_address}
-use Rattle.back_lowering.specs.Routines.{transfer_routine}
+use Rattle.back_lowering.specs.Routines.{transfer_routine, failing_routine}
 use Rattle.back_relation.specs.Setting.{Setting}
-use Rattle.back_relation.specs.Worlds.{World, LandsIn, Standing, record_of_exit}
+use Rattle.back_relation.specs.Worlds.{World, LandsIn, Standing, for_exit, IsIn, record_of_exit}
 use Rattle.back_relation.specs.StackWords.{HasWordAt}
-use Rattle.back_relation.specs.Around.{CallBegins}
+use Rattle.back_relation.specs.Around.{CallBegins, SiteStored}
 use Rattle.back_relation.specs.Ends.{LandingIs, CallEnds}
-use Rattle.back_relation.specs.Forms.{code_at}
+use Rattle.back_relation.specs.Forms.{context_at, code_at}
 use Rattle.back_relation.specs.Procedures.{called}
-use Rattle.back_relation.specs.RoutineClaims.{WordIs}
+use Rattle.back_relation.specs.RoutineClaims.{WordIs, routine_credit}
 
 -- how many words of the stack a transfer lays, what it is paid, and how many turns it leaves over
 abbrev pub transfer_words : ℕ
@@ -40,3 +42,30 @@ module _ (setting : Setting) (k turns : ℕ) (rs valid : List Standing) (w : Wor
       → record_of_exit e around.exits valid ≡ Some target → WordIs setting w word v → HasWordAt y landing_address landing_word
       → LandingIs setting landing_word landing → LandsIn (slice_get w.exit_forms e) landing
       → DoesWithin transfer_words transfer_spare transfer_credit (transfer_routine setting.at) (target.address ∷ word ∷ []) (leaves e v landing z)
+
+-- a new condition that is signalled: words of the stack, and what it is paid
+abbrev pub failing_words : ℕ
+failing_words = 31
+
+module _ (setting : Setting) (k turns : ℕ) (rs valid : List Standing) (w : World) (around : DynamicContext) (z : FlatState) (y : MidState) where
+  -- a condition of a class without slots is signalled
+  abbrev pub FailingWithin : Type 0
+  FailingWithin =
+      (class : ℕ) → class < built_in_classes → SiteStored setting around y
+      → DoesWithin setting k turns rs valid w around z y failing_words 0 routine_credit (failing_routine setting.at) (class ∷ []) (signal (context_at setting k) class [] around z)
+
+-- wherever it is
+abbrev pub FailsWithin : Setting → (k : ℕ) → Type 0
+FailsWithin setting k =
+    (turns : ℕ) (rs valid : List Standing) (w : World) (around : DynamicContext) (z : FlatState) (y : MidState) → FailingWithin setting k turns rs valid w around z y
+
+-- the exits of catches and of signals, which transfers leave to by a tag
+abbrev pub IsTagged : ExitKind → Type 0
+IsTagged (catch_exit tag) = ⊤
+IsTagged (signal_exit c mark) = ⊤
+IsTagged kind = ⊥
+
+-- no form that is a tagbody made such an exit, so that a transfer to it lands where it is to land
+abbrev pub TagsLand : World → List Standing → Type 0
+TagsLand w rs =
+    (x : Exit) (v : Standing) → IsIn v rs → v.role ≡ for_exit x → IsTagged x.kind → LandsIn (slice_get w.exit_forms x.number) (at_segment 0)

@@ -1,5 +1,5 @@
 // The laws of transfers, each as the contract of a function that does nothing.
-ghost use Rattle.back_transfers.specs.Law.{LawOfTransfers};
+ghost use Rattle.back_transfers.specs.Law.{LawOfTransfers, LawOfLeaving};
 ghost use Rattle.back_transfers.specs.Links.{LawOfLinks};
 ghost use Rattle.back_transfers.specs.Tags.{LawOfTags};
 
@@ -16,4 +16,9 @@ pub fn law_tags()
 /// A transfer to the record of a valid exit.
 pub fn law_transfers()
     ensures { LawOfTransfers }
+{}
+
+/// Transfers to an exit that is sought.
+pub fn law_leaving()
+    ensures { LawOfLeaving }
 {}
