@@ -1,0 +1,4 @@
+pub mod Boxes
+pub mod Standing
+pub mod Marking
+pub mod Unhandled
