@@ -1,4 +1,5 @@
 pub mod Boxes
 pub mod Standing
 pub mod Marking
+pub mod Drawing
 pub mod Unhandled

@@ -19,6 +19,7 @@ use Rattle.mid_code.specs.Arena.{Arena, word_at, with_word, is_lent}
 use Rattle.mid_code.specs.Meaning.{Context, exec}
 use Rattle.mid_code.specs.MidCode.{code_of}
 use Rattle.mid_code.specs.State.{Registers, falls, ends, with_arena, MidState, MidOutcome}
+use Rattle.back_lowering.specs.ControlWords.{control_address, control_words}
 use Rattle.back_lowering.specs.RoutineCodes.{mark_set}
 use Rattle.back_lowering.specs.Steps.{Steps}
 use Rattle.mid_arena.specs.Tags.{object_tag, instance_header}
@@ -53,7 +54,7 @@ pub record ConditionIs (program : ProgramRows) (z : meaning.State) (c : Value) :
   pub stored : fetch z c ≡ Some (instance class slots mark)
   pub below : is_below program class serious_condition_class ≡ true
 
-condition_of :
+pub condition_of :
     (program : ProgramRows) (z : meaning.State) (built_in : begins_with_built_in program.classes built_in_precedence built_in_slots ≡ true) (c : Value) → is_condition program z c ≡ true
     → ConditionIs program z c
 condition_of program z built_in c h = by c h
@@ -88,28 +89,28 @@ condition_of program z built_in c h = by c h
 
 module _ (setting : Setting) {w : World} {z : FlatState} {y : MidState} (t : Things setting w z y) (c mark : Value) (c_word mark_word : ℕ)
     (condition : ConditionIs (tables setting.program) z.state c) (of_condition : word_of w.places c ≡ Some c_word) (of_mark : word_of w.places mark ≡ Some mark_word) where
-  it : ObjectFound setting.names (tables setting.program) w.places z.state y t.represents c c_word (instance condition.class condition.slots condition.mark)
+  pub it : ObjectFound setting.names (tables setting.program) w.places z.state y t.represents c c_word (instance condition.class condition.slots condition.mark)
   it = object_found setting.names (tables setting.program) w.places z.state y t.represents c c_word (instance condition.class condition.slots condition.mark) of_condition condition.stored
 
-  abbrev count : ℕ
+  abbrev pub count : ℕ
   count = length condition.slots
 
-  abbrev place : ℕ
+  abbrev pub place : ℕ
   place = it.spot.address + 4 * (2 + count)
 
-  abbrev now : Object
+  abbrev pub now : Object
   now = instance condition.class condition.slots mark
 
-  abbrev z_marked : meaning.State
+  abbrev pub z_marked : meaning.State
   z_marked = changed it.number now z.state
 
-  marked_is : marked c mark z.state ≡ z_marked
+  pub marked_is : marked c mark z.state ≡ z_marked
   marked_is = ap (λ o. marked_at c mark o z.state) condition.stored ∙ ap (λ v. marked_at v mark (Some (instance condition.class condition.slots condition.mark)) z.state) it.value
 
   words_are : it.spot.words ≡ 3 + count
   words_are = it.stands.size.words ∙ words_of_condition (tables setting.program) condition.class count condition.below
 
-  abbrev a_marked : Arena
+  abbrev pub a_marked : Arena
   a_marked = with_word place mark_word y.arena
 
   aligned : place % 4 ≡ 0
@@ -151,6 +152,10 @@ module _ (setting : Setting) {w : World} {z : FlatState} {y : MidState} (t : Thi
 
   kept : KeepsWords w.places z.state y.arena a_marked
   kept = kept_changed setting.names (tables setting.program) w.places z.state y t.represents it.number it.spot it.found a_marked spot_changes (instance condition.class condition.slots condition.mark) it.stored (λ p e. cc e)
+
+  -- control words are as they were
+  pub control_kept : (x : ℕ) → control_address ≤ x → x < control_address + 4 * (control_words + setting.variable_words) → word_at a_marked x ≡ word_at y.arena x
+  control_kept x low high = kept.others 0 (control_spot setting) t.control x low high
 
   abbrev pub marked_state : ℕ → MidState
   marked_state cost = record y { arena = a_marked; cost = cost }
@@ -199,8 +204,8 @@ module _ (setting : Setting) {w : World} {z : FlatState} {y : MidState} (t : Thi
     pub mark_runs :
         (steps : Steps) {q : MidOutcome}
         → exec cx (code_of steps) (Some c_word ∷ Some mark_word ∷ Some (4 * count + c_word) ∷ Some 2 ∷ rest) (marked_state (y.cost + 58)) ≡ q
-        → exec cx (code_of (mark_set ++ steps)) (Some c_word ∷ Some mark_word ∷ r2 ∷ r3 ∷ rest) y ≡ q
-    mark_runs steps same =
+        → exec cx (code_of (mark_set setting.at ++ steps)) (Some c_word ∷ Some mark_word ∷ r2 ∷ r3 ∷ rest) y ≡ q
+    mark_runs steps {q = q} same =
         let small = low in
         let word = it.word in
         let cost : y.cost + 8 + 6 + 10 + 6 + 10 + 10 + 8 ≡ y.cost + 58 = omega arith in
@@ -213,4 +218,4 @@ module _ (setting : Setting) {w : World} {z : FlatState} {y : MidState} (t : Thi
         (and_then
         (store_falls refl refl (address_above (4 * count + c_word) 6 place (omega (arith, word)) (omega (arith, small, word)))
         (in_spot_lent place it.spot_stands aligned (omega arith) (let h = within in omega (arith, h))))
-        (record { same = subst (λ n. exec cx (code_of steps) (Some c_word ∷ Some mark_word ∷ Some (4 * count + c_word) ∷ Some 2 ∷ rest) (marked_state n) ≡ _) (sym cost) same })))))))).same
+        (record { same = subst (λ n. exec cx (code_of steps) (Some c_word ∷ Some mark_word ∷ Some (4 * count + c_word) ∷ Some 2 ∷ rest) (marked_state n) ≡ q) (sym cost) same })))))))).same
