@@ -3,3 +3,4 @@ pub mod Standing
 pub mod Marking
 pub mod Drawing
 pub mod Unhandled
+pub mod Conditions

@@ -46,7 +46,7 @@ use Rattle.back_combining.proofs.Worlds.{word_later}
 use Rattle.back_transfers.proofs.Frames.{memory_holds}
 use Rattle.back_transfers.specs.Links.{along_links, link_registers, has_number, NumberSought, found, missing, LinksWalked}
 use Rattle.back_transfers.specs.Searches.{IsLong}
-use Rattle.back_transfers.specs.Within.{FailsWithin, transfer_words, failing_words}
+use Rattle.back_transfers.specs.Within.{IsBuiltInCondition, FailsWithin, transfer_words, failing_words}
 use Rattle.back_transfers.proofs.Links.{links_law}
 use Rattle.back_transfers.proofs.Entries.{UsedAt, routine_used, routine_registers, laid_frame, routine_enters}
 use Rattle.back_transfers.proofs.Transfer.{transfer_does}
@@ -117,7 +117,7 @@ module _ (setting : Setting) (placed : IsPlaced setting) (k t : ℕ) {rs valid :
 
   -- a new condition is signalled
   pub failing_last :
-      (fails : FailsWithin setting k) (to class : ℕ) (regs : Registers) → class < built_in_classes → CallBegins setting rs valid failing_words w around z y → SiteStored setting around y
+      (fails : FailsWithin setting k) (to class : ℕ) (regs : Registers) → IsBuiltInCondition class 0 → CallBegins setting rs valid failing_words w around z y → SiteStored setting around y
       → to < length regs
       → CallEnds setting 366 (t + 0) rs valid w around z y (signal (context_at setting k) class [] around z) (exec (code_at setting k t) (code_of (signals_steps setting.at to class)) regs y)
   failing_last fails to class regs small begins site low =
@@ -135,6 +135,10 @@ module _ (setting : Setting) (placed : IsPlaced setting) (k t : ℕ) {rs valid :
 
       steps : exec (code_at setting k t) (code_of (signals_steps setting.at to class)) regs y ≡ exec (code_at setting k t) (code_of (returning setting.at to (failing_routine setting.at) (to ∷ []))) regs' y'
       steps = (and_then constant_falls (record { same = refl })).same
+
+-- a control error is one
+pub control_error_is : IsBuiltInCondition control_error_class 0
+control_error_is = record { low = omega arith; high = omega arith; slots = refl }
 
 -- ---- leaving by a number
 
@@ -213,7 +217,7 @@ module _ (setting : Setting) (placed : IsPlaced setting) (k t : ℕ) (fails : Fa
         subst (λ q. CallEnds setting 262 (suc t + 0) rs valid w around z y r q) (sym (runs here))
         (subst (λ p. CallEnds setting 262 (suc t + 0) rs valid w around z y p (exec c (code_of fails_code) registers_then (charged 12 y_walked))) (sym meant)
         (call_behind setting there.world there.around {c2 = 366} (let total = walked.cost_is in omega (arith, total, few)) refl (omega arith)
-        (failing_last setting placed k t fails 6 control_error_class registers_then (omega arith) (point_begins setting there.world there.around begins) (there.site around site) (omega arith))))
+        (failing_last setting placed k t fails 6 control_error_class registers_then control_error_is (point_begins setting there.world there.around begins) (there.site around site) (omega arith))))
 
   body_comes : CallEnds setting 262 (suc t + 0) rs valid w around z y r (exec c (code_of (leave_code setting.at)) registers_first y)
   body_comes =

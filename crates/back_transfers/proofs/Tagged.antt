@@ -54,7 +54,7 @@ use Rattle.back_transfers.proofs.Within.{call_less, begins_less}
 use Rattle.back_transfers.proofs.Bodies.{world_of, body_begins, body_leaves, laid_site, of_landing}
 use Rattle.back_transfers.proofs.Returning.{HoldAll, call_behind, first_alone, second_alone}
 use Rattle.back_transfers.proofs.Points.{Moved, point_begins, moved_stored, stored_state, word_stored, store_lent, moved_cost}
-use Rattle.back_transfers.proofs.Leaving.{tasks_below, signal_later, transfer_used, returning_last, signals_last, transfer_last, failing_last}
+use Rattle.back_transfers.proofs.Leaving.{tasks_below, signal_later, transfer_used, returning_last, signals_last, transfer_last, failing_last, control_error_is}
 
 turned : (a b : ℕ) → (a == b) ≡ (b == a)
 turned a b = grind (arith, nat_tests)
@@ -214,7 +214,7 @@ module _ (setting : Setting) (placed : IsPlaced setting) (k t : ℕ) (fails : Fa
   fails_comes u cost regs low some few =
       let there = moved_cost setting placed things u cost in
       call_behind setting there.world there.around {c2 = 366} (omega (arith, few)) refl (omega (arith, some))
-      (failing_last setting placed k t fails 6 control_error_class regs (omega arith) (point_begins setting there.world there.around begins) (there.site around site) low)
+      (failing_last setting placed k t fails 6 control_error_class regs control_error_is (point_begins setting there.world there.around begins) (there.site around site) low)
 
   -- no valid exit was found
   not_zero : (at : ℕ) (target : Standing) → IsIn target rs → at ≡ target.address → (at == 0) ≡ false

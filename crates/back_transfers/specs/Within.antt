@@ -1,9 +1,10 @@
 -- What routines do that other routines call: they have fewer words of the stack than a form gives, they are paid no more than they cost, and they
 -- leave turns over for those that called them.
-use Rattle.std.specs.Prelude.{◌≡◌, ⊤, ℕ, ◌+◌, ◌<◌, List, [], ◌∷◌, Some, slice_get}
+use Rattle.std.specs.Prelude.{◌≡◌, ⊤, ℕ, ◌+◌, ◌<◌, ◌≤◌, List, [], ◌∷◌, Some, slice_get, slice_index_or}
 use Rattle.lang_meaning.specs.State.{DynamicContext, Exit, ExitKind, catch_exit, signal_exit, Landing, at_segment}
 use Rattle.lang_meaning.specs.Values.{Value}
-use Rattle.lang_meaning.specs.Objects.{built_in_classes}
+use Rattle.lang_meaning.specs.Objects.{built_in_classes, serious_condition_class}
+use Rattle.lang_meaning.specs.BuiltIn.{built_in_slots}
 use Rattle.flat_language.specs.FlatSignals.{signal}
 use Rattle.flat_language.specs.FlatState.{FlatState, FlatEvaluated, leaves}
 use Rattle.mid_code.specs.State.{MidState}
@@ -43,7 +44,13 @@ module _ (setting : Setting) (k turns : ℕ) (rs valid : List Standing) (w : Wor
       → LandingIs setting landing_word landing → LandsIn (slice_get w.exit_forms e) landing
       → DoesWithin transfer_words transfer_spare transfer_credit (transfer_routine setting.at) (target.address ∷ word ∷ []) (leaves e v landing z)
 
--- a new condition that is signalled: words of the stack, and what it is paid
+-- a class of conditions that is built in, whose instances have so many slots
+pub record IsBuiltInCondition (class count : ℕ) : Type 0 where
+  pub low : serious_condition_class ≤ class
+  pub high : class < built_in_classes
+  pub slots : slice_index_or built_in_slots class 0 ≡ count
+
+-- how many words of the stack there are for a new condition that is signalled
 abbrev pub failing_words : ℕ
 failing_words = 31
 
@@ -51,7 +58,7 @@ module _ (setting : Setting) (k turns : ℕ) (rs valid : List Standing) (w : Wor
   -- a condition of a class without slots is signalled
   abbrev pub FailingWithin : Type 0
   FailingWithin =
-      (class : ℕ) → class < built_in_classes → SiteStored setting around y
+      (class : ℕ) → IsBuiltInCondition class 0 → SiteStored setting around y
       → DoesWithin setting k turns rs valid w around z y failing_words 0 routine_credit (failing_routine setting.at) (class ∷ []) (signal (context_at setting k) class [] around z)
 
 -- wherever it is
