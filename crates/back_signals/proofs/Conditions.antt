@@ -46,10 +46,10 @@ get_front (x ∷ xs) ys (suc i) h = get_front xs ys i (omega (arith, h))
 module _ (setting : Setting) {w : World} {z : FlatState} {y : MidState} (t : Things setting w z y) (class word : ℕ) (vs : List Value) (ws : List ℕ)
     (is : IsBuiltInCondition class (length vs)) (of_class : word_of w.places (class_value setting.names (tables setting.program) class) ≡ Some word) (are : WordsOf w.places vs ws)
     (room : 3 + length vs ≤ left y.arena) where
-  abbrev program : ProgramRows
+  abbrev pub program : ProgramRows
   program = tables setting.program
 
-  is_class : is_below program class serious_condition_class ≡ true
+  pub is_class : is_below program class serious_condition_class ≡ true
   is_class = let low = is.low in is_condition_class program t.represents.built_in class (omega (arith, low)) is.high
 
   slots_are : length vs ≡ length (slots program class)
@@ -154,3 +154,9 @@ module _ (setting : Setting) {w : World} {z : FlatState} {y : MidState} (t : Thi
       let blocks = ap (λ bs. words_of bs) (begun_blocks (3 + length vs) words_made y.arena) in
       let aligned = t.represents.arena.aligned in
       omega (arith, to, below, size, blocks, aligned)
+
+  -- words below are as they were
+  pub word_made_before : (x : ℕ) → x < 220 → word_at arena_made x ≡ word_at y.arena x
+  word_made_before x h =
+      let low = spot_below t.represents.arena (t.represents.spots (of_other 1) (control_spot setting) t.control) in
+      grown.heap.words x (omega (arith, h, low))

@@ -4,3 +4,4 @@ pub mod Marking
 pub mod Drawing
 pub mod Unhandled
 pub mod Conditions
+pub mod Making
