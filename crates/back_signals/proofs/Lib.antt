@@ -5,3 +5,4 @@ pub mod Drawing
 pub mod Unhandled
 pub mod Conditions
 pub mod Making
+pub mod Failing
