@@ -1,0 +1,143 @@
+-- The routines that make a condition and signal it: of a class without slots, with one slot, and a domain error.
+use Rattle.std.proofs.Common.{◌≡◌, ℕ, zero, suc, ◌+◌, ◌*◌, ◌<◌, ◌≤◌, Bool, true, false, List, [], ◌∷◌, ◌++◌, length, map, Option, Some, None, refl, sym, ap, ◌∙◌, subst, arith}
+use Rattle.std.specs.Prelude.{slice_get, slice_set, ◌^◌, ◌%◌}
+use Rattle.lang_meaning.specs.InitialHeap.{class_value}
+use Rattle.lang_meaning.specs.Objects.{domain_error_class, built_in_classes}
+use Rattle.lang_meaning.specs.State.{DynamicContext}
+use Rattle.lang_meaning.specs.Values.{Value}
+use Rattle.flat_language.specs.FlatNodes.{tables}
+use Rattle.flat_language.specs.FlatSignals.{signal, signal_domain_error}
+use Rattle.flat_language.specs.FlatState.{FlatState, FlatEvaluated}
+use Rattle.mid_code.specs.declared.operation.Counted.TheVariants.{Turn}
+use Rattle.mid_code.specs.Arena.{left, word_at}
+use Rattle.mid_code.specs.Meaning.{Context, exec, leaves}
+use Rattle.mid_code.specs.MidCode.{code_of}
+use Rattle.mid_code.specs.State.{Registers, no_room, ends, MidState, MidOutcome}
+use Rattle.mid_arena.specs.Tags.{nil_word, object_tag, instance_header}
+use Rattle.mid_arena.specs.FixedWords.{class_address}
+use Rattle.mid_arena.specs.Places.{of_other, word_of}
+use Rattle.mid_arena.specs.Standing.{ArenaStands}
+use Rattle.mid_arena.proofs.Growing.{spot_below}
+use Rattle.mid_arena.proofs.Making.{begun, begun_grows}
+use Rattle.mid_arena.proofs.Memory.{heap_below}
+use Rattle.mid_arena.proofs.Running.{and_then, and_ends, constant_falls, compute_known, request_falls, request_wanting, load_falls, store_in_heap, address_here, address_above}
+use Rattle.mid_arena.proofs.WordFacts.{four_times_count, sum_fits}
+use Rattle.back_lowering.specs.RoutineCodes.{failing_code, failing_with_code, domain_code, returning}
+use Rattle.back_lowering.specs.Program.{procedure_with}
+use Rattle.back_lowering.specs.Routines.{raise_routine, failing_routine, failing_with_routine, domain_routine}
+use Rattle.back_relation.specs.Setting.{Setting, control_spot}
+use Rattle.back_relation.specs.Placed.{IsPlaced}
+use Rattle.back_relation.specs.Worlds.{World, Standing}
+use Rattle.back_relation.specs.Around.{CallBegins, SiteStored}
+use Rattle.back_relation.specs.Ends.{CallEnds}
+use Rattle.back_relation.specs.Forms.{context_at, code_at}
+use Rattle.back_relation.specs.RoutineClaims.{WordIs}
+use Rattle.back_combining.proofs.Growth.{grown_later}
+use Rattle.back_transfers.specs.Within.{IsBuiltInCondition, FailsWithin, failing_words}
+use Rattle.back_transfers.proofs.Frames.{memory_holds}
+use Rattle.back_transfers.proofs.Entries.{UsedAt, routine_used, routine_registers, laid_frame, routine_enters}
+use Rattle.back_transfers.proofs.Bodies.{world_of, body_begins, body_leaves, laid_site}
+use Rattle.back_transfers.proofs.Leaving.{signal_later}
+use Rattle.back_transfers.proofs.Returning.{HoldAll}
+use Rattle.back_signals.specs.Within.{raise_words, RaisesWithin}
+use Rattle.back_signals.proofs.Conditions.{state_made}
+use Rattle.back_signals.proofs.Making.{class_there, class_word, condition_comes, printed_more}
+
+-- ---- a class without slots
+
+module _ (setting : Setting) (placed : IsPlaced setting) (k t raise_credit : ℕ) (low : raise_credit ≤ 1000) (raises : RaisesWithin setting k 0 raise_credit) (rs valid : List Standing) (w : World) (around : DynamicContext)
+    (z : FlatState) (y : MidState) (begins : CallBegins setting rs valid raise_words w around z y) (site : SiteStored setting around y) where
+  open begins use {things}
+
+  abbrev cx : Context
+  cx = code_at setting k t
+
+  abbrev arena_there : ArenaStands y.arena
+  arena_there = things.represents.arena
+
+  heap_small : y.arena.heap_to ≤ 2 ^ 26
+  heap_small = heap_below arena_there
+
+  heap_high : 220 ≤ y.arena.heap_to
+  heap_high = let low = spot_below arena_there (things.represents.spots (of_other 1) (control_spot setting) things.control) in omega (arith, low)
+
+  module _ (class : ℕ) (is : IsBuiltInCondition class 0) where
+    abbrev word : ℕ
+    word = class_word setting placed k t raise_credit 274 raises rs valid w around z y begins site class [] [] is tt
+
+    abbrev q : MidOutcome
+    q = exec cx (code_of (failing_code setting.at)) (Some class ∷ None ∷ None ∷ None ∷ None ∷ []) y
+
+    loaded : (room : 3 ≤ left y.arena) → word_at (begun 3 (instance_header 0 ∷ []) y.arena) (4 * class + 0) ≡ Some word
+    loaded room =
+        let high = is.high in
+        let h = heap_high in
+        (begun_grows 3 (instance_header 0 ∷ []) arena_there room (omega arith)).heap.words (4 * class + 0) (omega (arith, high, h))
+        ∙ ap (word_at y.arena) (omega arith)
+        ∙ (class_there setting placed k t raise_credit 274 raises rs valid w around z y begins site class [] [] is tt).stands
+
+    failing_runs : 3 ≤ left y.arena → q ≡ exec cx (code_of (returning setting.at 3 (raise_routine setting.at) (3 ∷ 4 ∷ []))) (Some class ∷ None ∷ Some 2 ∷ Some (y.arena.heap_to + 2) ∷ Some nil_word ∷ [])
+        (record y { arena = begun 3 (instance_header 0 ∷ word ∷ nil_word ∷ []) y.arena; cost = y.cost + 6 + 10 + 6 + 20 + 6 + 8 + 8 + 8 + 6 + 8 + 6 + 10 })
+    unfolding failing_code
+    failing_runs room =
+        let small = heap_small in
+        let high = is.high in
+        let aligned = arena_there.aligned in
+        let heap = arena_there.heap in
+        (and_then constant_falls
+        (and_then (compute_known refl refl (four_times_count class (omega (arith, high))))
+        (and_then constant_falls
+        (and_then (request_falls refl room)
+        (and_then constant_falls
+        (and_then (store_in_heap refl refl (address_here y.arena.heap_to (omega arith)) aligned heap (omega arith))
+        (and_then (load_falls refl (address_above (4 * class) 0 (4 * class + 0) refl (omega (arith, high))) (loaded room))
+        (and_then (store_in_heap refl refl (address_above y.arena.heap_to 4 (y.arena.heap_to + 4) refl (omega arith)) (omega (arith, aligned)) (omega (arith, heap)) (omega arith))
+        (and_then constant_falls
+        (and_then (store_in_heap refl refl (address_above y.arena.heap_to 8 (y.arena.heap_to + 4 + 4) (omega arith) (omega arith)) (omega (arith, aligned)) (omega (arith, heap)) (omega arith))
+        (and_then constant_falls
+        (and_then (compute_known refl refl (sum_fits y.arena.heap_to 2 (omega arith)))
+        (record { same = refl }))))))))))))).same
+
+    failing_wants : left y.arena < 3 → q ≡ ends (no_room 3 (left y.arena)) (Some class ∷ None ∷ Some (4 * class) ∷ Some 3 ∷ None ∷ []) (record y { cost = y.cost + 6 + 10 + 6 + 20 })
+    unfolding failing_code
+    failing_wants wants =
+        let high = is.high in
+        (and_then constant_falls
+        (and_then (compute_known refl refl (four_times_count class (omega (arith, high))))
+        (and_then constant_falls
+        (and_ends tt (request_wanting refl wants))))).same
+
+    failing_comes : CallEnds setting 274 (suc t + 0) rs valid w around z y (signal (context_at setting k) class [] around z) q
+    failing_comes =
+        condition_comes setting placed k t raise_credit 274 raises rs valid w around z y begins site class [] [] is tt q
+        (printed_more setting k t (code_of (failing_code setting.at)) (Some class ∷ None ∷ None ∷ None ∷ None ∷ []) y)
+        (λ room. (
+          (Some class ∷ None ∷ Some 2 ∷ Some (y.arena.heap_to + 2) ∷ Some nil_word ∷ []),
+          y.cost + 6 + 10 + 6 + 20 + 6 + 8 + 8 + 8 + 6 + 8 + 6 + 10,
+          (refl, (refl, tt)),
+          omega arith,
+          omega (arith, low),
+          failing_runs room,
+        ))
+        (λ wants. ((Some class ∷ None ∷ Some (4 * class) ∷ Some 3 ∷ None ∷ []), record y { cost = y.cost + 6 + 10 + 6 + 20 }, failing_wants wants, refl))
+
+-- **a condition of a class without slots is signalled**
+pub failing_does : (setting : Setting) → IsPlaced setting → (k raise_credit : ℕ) → raise_credit ≤ 1000 → RaisesWithin setting k 0 raise_credit → FailsWithin setting k
+unfolding failing_code
+failing_does setting placed k raise_credit low raises turns rs valid w around z y class is site begins =
+    routine_enters setting k (failing_routine setting.at) 1 (failing_code setting.at) used (class ∷ []) refl y turns begins.things.represents.printed
+    (grown_later (signal_later setting k class [] around z)) (let all = memory_holds setting begins.things in omega (arith, all)) begins.room begins.things.within_limit (omega arith) by
+  where
+    used : UsedAt setting.procedures (failing_routine setting.at) (procedure_with Turn 1 (failing_code setting.at))
+    used = routine_used setting placed 7 (procedure_with Turn 1 (failing_code setting.at)) refl
+
+    by : (t : ℕ) → turns ≡ suc t → used.frame ≤ left y.arena
+        → CallEnds setting 300 (turns + 0) rs valid w around z y (signal (context_at setting k) class [] around z)
+        (leaves y.arena.blocks (exec (code_at setting k t) (code_of (failing_code setting.at)) (routine_registers setting 1 (failing_code setting.at) (class ∷ [])) (laid_frame setting used.frame 1 y)))
+    by t same room =
+        subst (λ n. CallEnds setting 300 (n + 0) rs valid w around z y (signal (context_at setting k) class [] around z)
+        (leaves y.arena.blocks (exec (code_at setting k t) (code_of (failing_code setting.at)) (routine_registers setting 1 (failing_code setting.at) (class ∷ [])) (laid_frame setting used.frame 1 y)))) (sym same)
+        (body_leaves setting placed begins.things used.frame 1 room (omega arith)
+        (failing_comes setting placed k t raise_credit low raises rs valid (world_of setting placed w y) around z (laid_frame setting used.frame 1 y)
+        (body_begins setting placed begins.things used.frame 1 room raise_words (let few = used.fewer in omega (arith, few)) begins)
+        (laid_site setting placed begins.things used.frame 1 room around site) class is))

@@ -1,0 +1,43 @@
+-- What the routines of signals do that other routines call: how many words of the stack they have, what they are paid, and how many turns they
+-- leave over.
+use Rattle.std.specs.Prelude.{◌≡◌, ℕ, true, List, [], ◌∷◌}
+use Rattle.lang_meaning.specs.Classes.{is_condition}
+use Rattle.lang_meaning.specs.State.{DynamicContext}
+use Rattle.lang_meaning.specs.Values.{Value}
+use Rattle.flat_language.specs.FlatNodes.{tables}
+use Rattle.flat_language.specs.FlatSignals.{signal_under}
+use Rattle.flat_language.specs.FlatState.{FlatState}
+use Rattle.mid_code.specs.State.{MidState}
+use Rattle.back_lowering.specs.Routines.{raise_routine}
+use Rattle.back_relation.specs.Setting.{Setting}
+use Rattle.back_relation.specs.Worlds.{World, Standing}
+use Rattle.back_relation.specs.Around.{SiteStored}
+use Rattle.back_relation.specs.Forms.{context_at}
+use Rattle.back_relation.specs.RoutineClaims.{WordIs}
+use Rattle.back_transfers.specs.Within.{DoesWithin}
+
+-- a signal lays its own frame and that of the transfer
+abbrev pub raise_words : ℕ
+raise_words = 26
+
+-- what is paid for one that no handler takes, and the turns that it leaves over
+abbrev pub unhandled_credit : ℕ
+unhandled_credit = 356
+
+abbrev pub unhandled_spare : ℕ
+unhandled_spare = 47
+
+module _ (setting : Setting) (k turns : ℕ) (rs valid : List Standing) (w : World) (around : DynamicContext) (z : FlatState) (y : MidState) where
+  -- a condition is signalled under the handlers around
+  abbrev pub RaiseWithin : (spare credit : ℕ) → Type 0
+  RaiseWithin spare credit =
+      (c mark : Value) (c_word mark_word : ℕ) → is_condition (tables setting.program) z.state c ≡ true → WordIs setting w c_word c → WordIs setting w mark_word mark
+      → SiteStored setting around y
+      → DoesWithin setting k turns rs valid w around z y raise_words spare credit (raise_routine setting.at) (c_word ∷ mark_word ∷ [])
+      (signal_under (context_at setting k) around.handlers c mark around z)
+
+-- wherever it is
+abbrev pub RaisesWithin : Setting → (k spare credit : ℕ) → Type 0
+RaisesWithin setting k spare credit =
+    (turns : ℕ) (rs valid : List Standing) (w : World) (around : DynamicContext) (z : FlatState) (y : MidState)
+    → RaiseWithin setting k turns rs valid w around z y spare credit

@@ -1,0 +1,19 @@
+-- The laws of the routines of transfers, put together.
+use Rattle.back_transfers.specs.Law.{LawOfTransfers, LawOfLeaving}
+use Rattle.back_transfers.proofs.Transfer.{transfer_does}
+use Rattle.back_transfers.proofs.Within.{transfer_routine_does}
+use Rattle.back_transfers.proofs.Leaving.{leave_does}
+use Rattle.back_transfers.proofs.Tagged.{throw_does, continue_does}
+
+pub transfers_law : LawOfTransfers
+transfers_law = record {
+  does = λ setting k turns rs valid w around z y placed. transfer_routine_does setting placed k turns rs valid w around z y;
+  within = λ setting k turns rs valid w around z y placed. transfer_does setting placed k turns rs valid w around z y;
+}
+
+pub leaving_law : LawOfLeaving
+leaving_law = record {
+  by_number = λ setting k turns rs valid w around z y placed fails. leave_does setting placed k turns fails rs valid w around z y;
+  to_catch = λ setting k turns rs valid w around z y placed fails land. throw_does setting placed k turns fails rs valid w around z y land;
+  to_signal = λ setting k turns rs valid w around z y placed fails land. continue_does setting placed k turns fails rs valid w around z y land;
+}

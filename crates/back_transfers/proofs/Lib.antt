@@ -1,0 +1,13 @@
+pub mod Searches
+pub mod Links
+pub mod Tags
+pub mod Entries
+pub mod Frames
+pub mod Transfer
+pub mod Within
+pub mod Combined
+pub mod Bodies
+pub mod Returning
+pub mod Points
+pub mod Leaving
+pub mod Tagged
