@@ -1,0 +1,22 @@
+-- How a primitive is called: its procedure among those of the setting, and the words of its arguments.
+use Rattle.std.specs.Prelude.{◌≡◌, ⊤, ℕ, ◌+◌, List, [], ◌∷◌, Some, slice_get}
+use Rattle.lang_meaning.specs.declared.primitive.Primitive.{Primitive}
+use Rattle.lang_meaning.specs.model.ShapeCode.{primitive_number}
+use Rattle.mid_code.specs.declared.program.MidProcedure.{MidProcedure}
+use Rattle.mid_code.specs.State.{Registers, register}
+use Rattle.mid_arena.specs.Answers.{IsPrimitive}
+use Rattle.mid_arena.specs.Codes.{procedure_of}
+use Rattle.back_lowering.specs.Placement.{primitives_from}
+use Rattle.back_relation.specs.Setting.{Setting, WithinFrame}
+
+-- words are in registers one after another
+abbrev pub WordsIn : ℕ → List ℕ → Registers → Type 0
+WordsIn d [] regs = ⊤
+WordsIn d (w ∷ ws) regs = (register d regs ≡ Some w) × WordsIn (d + 1) ws regs
+
+-- the procedure of a primitive, whose frame is at most the one that was given, does what the primitive does
+pub record PrimitiveThere (setting : Setting) (which : Primitive) : Type 0 where
+  pub procedure : MidProcedure
+  pub there : slice_get setting.procedures (primitives_from setting.at + primitive_number which) ≡ Some procedure
+  pub within : WithinFrame (procedure_of which) procedure
+  pub does : IsPrimitive which procedure
