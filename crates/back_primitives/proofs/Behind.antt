@@ -92,37 +92,44 @@ value_stands setting {w} {z} {y} t set z2 y2 keeps represents kept size blocks =
 
 -- ---- an object more
 
--- the state where an object of so many words was made, and so many units and words of the heap were charged
-abbrev pub with_made : (size units symbols : ℕ) → Object → meaning.State → meaning.State
-with_made size units symbols o z = record (meaning.stored o (meaning.charged units (meaning.with_words size 0 z))) { symbols = symbols }
+-- a state with one object more, for which so many words were charged
+pub record OneMore (size : ℕ) (o : Object) (z z3 : meaning.State) : Type 0 where
+  pub store : z3.store ≡ z.store ++ o ∷ []
+  pub variables : z3.variables ≡ z.variables
+  pub globals : z3.globals ≡ z.globals
+  pub dynamics : z3.dynamics ≡ z.dynamics
+  pub exits : z3.exits ≡ z.exits
+  pub heap : z3.heap ≡ z.heap + size
+  pub stack : z3.stack ≡ z.stack + 0
 
 pub object_stands :
-    (setting : Setting) {w : World} {z : FlatState} {y : MidState} (t : Things setting w z y) (size units symbols : ℕ) (o : Object) (s : Spot) (y2 : MidState)
-    → IsNoFunction o → has_room setting.limit (z.state.heap + z.state.stack + size + 0) ≡ true
-    → Represents setting.names (tables setting.program) (with_object s w.places) (with_made size units symbols o z.state) y2
+    (setting : Setting) {w : World} {z : FlatState} {y : MidState} (t : Things setting w z y) (size : ℕ) (o : Object) (s : Spot) (z3 : meaning.State) (y2 : MidState)
+    → OneMore size o z.state z3 → IsNoFunction o → has_room setting.limit (z.state.heap + z.state.stack + size + 0) ≡ true
+    → Represents setting.names (tables setting.program) (with_object s w.places) z3 y2
     → KeepsWords w.places z.state y.arena y2.arena → length y2.arena.memory ≡ length y.arena.memory → y2.arena.blocks ≡ y.arena.blocks
-    → StandsBehind setting w z y (with_object s w.places) (with_made size units symbols o z.state) y2
-object_stands setting {w} {z} {y} t size units symbols o s y2 other room represents kept same_size blocks = record {
+    → StandsBehind setting w z y (with_object s w.places) z3 y2
+object_stands setting {w} {z} {y} t size o s z3 y2 one other room represents kept same_size blocks = record {
   represents = represents;
   spots = λ p r e. old_spot s w.places p r e;
   kept = most_kept setting t y2.arena kept;
   within = within setting.limit room;
-  variables = refl;
-  globals = refl;
-  dynamics = refl;
-  exits = refl;
+  variables = one.variables;
+  globals = one.globals;
+  dynamics = one.dynamics;
+  exits = one.exits;
   functions = λ i p r e f.
-      let old = function_was z.state.store o i p other e in
+      let old = function_was z.state.store o i p other (ap (λ os. slice_get os i) (sym one.store) ∙ e) in
       let low : i < length z.state.store = slice_get_within z.state.store i (function p) old in
       (old, spot_was w.places s r i (omega (arith, low, t.represents.count)) f);
-  generics = λ i g e. generic_was z.state.store o i g other e;
+  generics = λ i g e. generic_was z.state.store o i g other (ap (λ os. slice_get os i) (sym one.store) ∙ e);
   size = same_size;
   blocks = blocks;
 }
   where
-    within : (l : Limit) → has_room l (z.state.heap + z.state.stack + size + 0) ≡ true → WithinLimit l (with_made size units symbols o z.state)
+    within : (l : Limit) → has_room l (z.state.heap + z.state.stack + size + 0) ≡ true → WithinLimit l z3
     within unlimited h = tt
-    within (words m) h = let low : z.state.heap + z.state.stack + size + 0 ≤ m = grind (arith, nat_tests) in omega (arith, low)
+    within (words m) h =
+        let low : z.state.heap + z.state.stack + size + 0 ≤ m = grind (arith, nat_tests) in omega (arith, low, one.heap, one.stack)
 
 -- ---- requests of the meaning
 

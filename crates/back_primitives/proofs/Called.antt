@@ -1,5 +1,5 @@
 -- The procedure of a primitive is called: what the call comes to, with turns enough, and what it costs.
-use Rattle.std.proofs.Common.{◌≡◌, ◌⊎◌, inl, inr, ℕ, zero, suc, ◌+◌, ◌-◌, ◌*◌, ◌<◌, ◌≤◌, List, [], ◌∷◌, length, Option, Some, None, refl, sym, ap, ◌∙◌, subst, ⊎_elim, arith}
+use Rattle.std.proofs.Common.{◌≡◌, ◌⊎◌, inl, inr, true, ℕ, zero, suc, ◌+◌, ◌-◌, ◌*◌, ◌<◌, ◌≤◌, List, [], ◌∷◌, length, Option, Some, None, refl, sym, ap, ◌∙◌, subst, ⊎_elim, arith}
 use Rattle.std.specs.Prelude.{slice_get, slice_set}
 use Rattle.std.proofs.lemmas.Bool.{cases_lt}
 use Rattle.lang_meaning.specs.Arity.{arity}
@@ -116,13 +116,16 @@ module _ (setting : Setting) (k n : ℕ) (which : Primitive) (there : PrimitiveT
   the_call = called (code_at setting k n) (primitives_from setting.at + primitive_number which) ws y
 
   -- what the call came to, within both bounds of its cost
-  pub record CameTo (q : MidOutcome) : Type 0 where
-    pub comes : Comes setting.names (tables setting.program) places z y there.procedure.frame the_answer q
-    pub cost : IsWithin setting.names (tables setting.program) places z y (arity which) the_answer q
-    pub plain : q.state.cost ≤ y.cost + cost_of which + repeated (units_behind - z.units) (loop_costs which)
+  pub record CameTo (answer : Answer) (q : MidOutcome) : Type 0 where
+    pub comes : Comes setting.names (tables setting.program) places z y there.procedure.frame answer q
+    pub cost : IsWithin setting.names (tables setting.program) places z y (arity which) answer q
+    pub plain :
+        q.state.cost
+        ≤ y.cost + cost_of which + repeated (units_after setting.names (tables setting.program) answer - z.units) (loop_costs which)
 
   came :
-      Represents setting.names (tables setting.program) places z y → WordsOf places vs ws → length vs ≡ arity which → units_behind - z.units < n → CameTo the_call
+      Represents setting.names (tables setting.program) places z y → WordsOf places vs ws → length vs ≡ arity which → units_behind - z.units < n
+      → CameTo the_answer the_call
   came r are many turns_left =
       let p = there.procedure in
       let below = levels setting.procedures setting.turns_each k in
@@ -135,12 +138,12 @@ module _ (setting : Setting) (k n : ℕ) (which : Primitive) (there : PrimitiveT
       let loops : repeated du (loops_of (code_of p.body)) ≡ repeated du (loop_costs which) = ap (λ c. repeated du (loops_of c)) same_body in
       let reached = comes_reached setting.names (tables setting.program) places z y p.frame the_answer _ did.comes in
       let same = same_with_more setting.procedures setting.turns_each k (suc du) n (enter p ws) y (omega (arith, turns_left)) reached in
-      subst CameTo
+      subst (CameTo the_answer)
       (sym (called_there setting k n (primitives_from setting.at + primitive_number which) p ws y there.there (ap (λ (p : MidProcedure). p.counted) there.within.same) ∙ same))
       (record { comes = did.comes; cost = did.cost; plain = omega (arith, most, same_cost, loops) })
 
   -- **with turns enough**, or there were few for what was charged
   pub came_or_few :
       Represents setting.names (tables setting.program) places z y → WordsOf places vs ws → length vs ≡ arity which
-      → CameTo the_call ⊎ (n ≤ units_behind - z.units)
+      → CameTo the_answer the_call ⊎ (n ≤ units_behind - z.units)
   came_or_few r are many = ⊎_elim (λ enough. inl (came r are many enough)) (λ few. inr few) (cases_lt (units_behind - z.units) n)

@@ -6,3 +6,6 @@ pub mod Costs
 pub mod EachCost
 pub mod Behind
 pub mod Called
+pub mod Signalled
+pub mod Applied
+pub mod Answered
