@@ -9,3 +9,4 @@ pub mod Called
 pub mod Signalled
 pub mod Applied
 pub mod Answered
+pub mod Choosing
