@@ -10,3 +10,4 @@ pub mod Signalled
 pub mod Applied
 pub mod Answered
 pub mod Choosing
+pub mod Quick
