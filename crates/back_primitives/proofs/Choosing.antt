@@ -26,7 +26,7 @@ use Rattle.back_combining.specs.Starts.{Start, EndsAt, ReachedFrom}
 use Rattle.back_combining.proofs.Activations.{activation_later}
 use Rattle.back_combining.proofs.Choices.{jumps}
 use Rattle.back_combining.proofs.Parts.{single_step}
-use Rattle.back_combining.proofs.Starts.{start_after, behind}
+use Rattle.back_combining.proofs.Starts.{start_after, reached_same, behind}
 use Rattle.back_combining.proofs.Straight.{same_here, world_cost, around_cost}
 use Rattle.back_combining.proofs.Worlds.{later_same}
 use Rattle.back_primitives.specs.Calling.{WordsIn}
@@ -94,6 +94,10 @@ module _ (setting : Setting) where
         in_register = there;
         of_value = of_value;
       }))
+
+  -- with more paid before
+  pub ends_less : {c1 credit : ℕ} (a : Start setting) {r : FlatEvaluated} {q : MidOutcome} → c1 ≤ credit → EndsAt setting c1 a r q → EndsAt setting credit a r q
+  ends_less {c1} a enough e = behind setting {c1 = 0} {c2 = c1} a a.d (omega arith) (reached_same setting {credit = 0} a a.d) (omega (arith, enough)) (omega arith) e
 
   -- ---- choices
 

@@ -11,3 +11,4 @@ pub mod Applied
 pub mod Answered
 pub mod Choosing
 pub mod Quick
+pub mod QuickNumbers
