@@ -50,6 +50,9 @@ beside_set {d} {regs} {regs'} r word low b = record {
 pub beside_less : {d e : ℕ} {regs regs' : Registers} → d ≤ e → Beside e regs regs' → Beside d regs regs'
 beside_less l b = record { count = b.count; same = λ i few. b.same i (omega (arith, few, l)) }
 
+pub beside_then : {d : ℕ} {regs regs' regs'' : Registers} → Beside d regs regs' → Beside d regs' regs'' → Beside d regs regs''
+beside_then b e = record { count = e.count ∙ b.count; same = λ i few. e.same i few ∙ b.same i few }
+
 pub register_kept : {d : ℕ} {regs regs' : Registers} (r : ℕ) → r < d → Beside d regs regs' → register r regs' ≡ register r regs
 register_kept r few b = ap word_in (b.same r few)
 

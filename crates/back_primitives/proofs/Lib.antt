@@ -12,3 +12,4 @@ pub mod Answered
 pub mod Choosing
 pub mod Quick
 pub mod QuickNumbers
+pub mod QuickSums

@@ -69,16 +69,16 @@ known_tag at literals f word e = absurd (cc e)
 module _ (setting : Setting) (k : ℕ) (a : Start setting) (which : Primitive) (v1 v2 : Value) (w1 w2 : ℕ) (f1 f2 : FlatForm)
     (g : Applies setting k a which (v1 ∷ v2 ∷ []) (w1 ∷ w2 ∷ []))
     (known : KnownWords setting.at setting.program.literals (form_and f1 (form_and f2 no_form)) (w1 ∷ w2 ∷ [])) where
-  abbrev c : Context
+  abbrev pub c : Context
   c = code_at setting k a.turns
 
-  abbrev t : ℕ
+  abbrev pub t : ℕ
   t = a.d + 2
 
-  abbrev the_meaning : FlatEvaluated
+  abbrev pub the_meaning : FlatEvaluated
   the_meaning = meant setting k a which (v1 ∷ v2 ∷ []) (w1 ∷ w2 ∷ []) g
 
-  abbrev slowly : Steps
+  abbrev pub slowly : Steps
   slowly = slow setting k a which (v1 ∷ v2 ∷ []) (w1 ∷ w2 ∷ []) g
 
   -- some steps do what is meant, wherever registers behind those of the arguments were set
@@ -91,13 +91,13 @@ module _ (setting : Setting) (k : ℕ) (a : Start setting) (which : Primitive) (
   ofIntegers credit first =
       (i j : ℤ) → v1 ≡ integer i → v2 ≡ integer j → in_range i ≡ true → in_range j ≡ true → w1 ≡ integer_word i → w2 ≡ integer_word j → DoesThere credit first
 
-  up_meant : a.z.state.units ≤ the_meaning.state.state.units
+  pub up_meant : a.z.state.units ≤ the_meaning.state.state.units
   up_meant = answer_up setting k which (v1 ∷ v2 ∷ []) a.around a.z
 
-  first_told : IntegerTold v1 w1
+  pub first_told : IntegerTold v1 w1
   first_told = integer_told setting.names (tables setting.program) a.w.places a.z.state a.y a.begins.call.things.represents v1 w1 g.of_values.0
 
-  second_told : IntegerTold v2 w2
+  pub second_told : IntegerTold v2 w2
   second_told = integer_told setting.names (tables setting.program) a.w.places a.z.state a.y a.begins.call.things.represents v2 w2 g.of_values.1.0
 
   -- both words are those of integers
@@ -109,11 +109,11 @@ module _ (setting : Setting) (k : ℕ) (a : Start setting) (which : Primitive) (
       by (no_integer p q) o = absurd (cc (sym e ∙ q))
       by (integer_found i p q r x y) (no_integer p' q') = absurd (cc (sym f ∙ q'))
 
-  slowly_does : {credit : ℕ} → 210 + 256 * arity which ≤ credit → SignalPaid which credit → DoesThere credit slowly
+  pub slowly_does : {credit : ℕ} → 210 + 256 * arity which ≤ credit → SignalPaid which credit → DoesThere credit slowly
   slowly_does paid signals regs y begins beside enough = slow_ends setting k a which (v1 ∷ v2 ∷ []) (w1 ∷ w2 ∷ []) g regs y begins beside enough paid signals
 
   -- one of both, in a choice
-  chosen_does :
+  pub chosen_does :
       {credit : ℕ} (first second : Steps) (b : Bool) → (b ≡ true → DoesThere credit first) → (b ≡ false → DoesThere credit second)
       → enough_for (of_code (code_of first)) ≤ length a.regs → enough_for (of_code (code_of second)) ≤ length a.regs
       → (regs : Registers) (y : MidState) (begins : Begins setting a.rs a.valid a.s a.d a.n a.w a.env a.around a.z regs y) → Beside (a.d + 2) a.regs regs
@@ -171,7 +171,7 @@ module _ (setting : Setting) (k : ℕ) (a : Start setting) (which : Primitive) (
   -- ---- comparisons
 
   -- what is meant where both are integers and the primitive answers so
-  meant_at :
+  pub meant_at :
       (i j : ℤ) (answer : Answer) → v1 ≡ integer i → v2 ≡ integer j
       → primitive setting.names (tables setting.program) which (integer i ∷ integer j ∷ []) a.z.state ≡ answer
       → answered (context_at setting k) answer a.around a.z ≡ the_meaning
