@@ -13,3 +13,4 @@ pub mod Choosing
 pub mod Quick
 pub mod QuickNumbers
 pub mod QuickSums
+pub mod QuickKinds
