@@ -14,3 +14,5 @@ pub mod Quick
 pub mod QuickNumbers
 pub mod QuickSums
 pub mod QuickKinds
+pub mod Trying
+pub mod QuickElements

@@ -49,7 +49,7 @@ use Rattle.back_primitives.proofs.Quick.{named, branches_named, answer_up, start
 -- ---- what is known of arguments
 
 -- which registers are asked, by what is known
-abbrev asked_by : (d : ℕ) → Option ℕ → List ℕ → List ℕ
+abbrev pub asked_by : (d : ℕ) → Option ℕ → List ℕ → List ℕ
 asked_by d (Some word) more = more
 asked_by d None more = d ∷ more
 
