@@ -173,3 +173,205 @@ module _ (setting : Setting) (k : ℕ) (a : Start setting) (v1 v2 : Value) (w1 w
         (tried_where c d t {most = 24} LessUnsigned (d + 1) (t + 1) w2 count element [] b r1 (mid_charged 8 y) (ready_set (t + 1) count (omega arith) ready).second
         (register_here regs (t + 1) count (omega (arith, there))) so (omega arith)
         (does r1 (mid_charged 12 (mid_charged 8 y)) (ready_set (t + 1) count (omega arith) ready) same))
+
+    -- whether the header is a vector's
+    headed_tried :
+        {o : Option ℕ} (asked : List ℕ) (h : ℕ) (b : Bool) → 2 ≤ w1 → w1 < 2 ^ 32 → word_at a.y.arena (w1 - 2) ≡ Some h → (h == vector_header) ≡ b
+        → ((regs' : Registers) (y' : MidState) → Ready regs' → y'.arena ≡ a.y.arena → Tried c d t regs' y' 82 (if b then where_integers asked (t + 1) counted [] else []) o)
+        → Tried c d t regs y 110 (headed asked) o
+    headed_tried {o} asked h b some low stands so does =
+        let r1 : Registers = slice_set regs (t + 1) (Some h) in
+        let r2 : Registers = slice_set r1 (t + 2) (Some vector_header) in
+        let there = ready.there in
+        let n1 : length r1 ≡ length regs = length-set regs (t + 1) (Some h) in
+        tried_behind c d t {most = 102} (load_header (t + 1) d) _ 8 regs r1 y
+        (load_falls ready.first (address_below w1 1 (w1 - 2) (omega (arith, some)) low) (ap (λ m. word_at m (w1 - 2)) same ∙ stands)) (beside_two regs (t + 1) h (omega arith)) (omega arith)
+        (tried_behind c d t {most = 96} (constant (t + 2) vector_header) _ 6 r1 r2 (mid_charged 8 y) constant_falls (beside_two r1 (t + 2) vector_header (omega arith)) (omega arith)
+        (tried_where c d t {most = 82} Equal (t + 1) (t + 2) h vector_header (where_integers asked (t + 1) counted []) [] b r2 (mid_charged 6 (mid_charged 8 y))
+        (register_beside r1 (t + 2) (t + 1) (Some vector_header) (λ e. omega (arith, e)) ∙ register_here regs (t + 1) h (omega (arith, there)))
+        (register_here r1 (t + 2) vector_header (omega (arith, there, n1))) so (omega arith)
+        (does r2 (mid_charged 12 (mid_charged 6 (mid_charged 8 y)))
+        (ready_set (t + 2) vector_header (omega arith) (ready_set (t + 1) h (omega arith) ready)) same)))
+
+    tried_less : {o : Option ℕ} {few many : ℕ} {code : Steps} → few ≤ many → Tried c d t regs y few code o → Tried c d t regs y many code o
+    tried_less l h = record { regs' = h.regs'; cost = h.cost; run = h.run; within = let small = h.within in omega (arith, small, l); kept = h.kept }
+
+  -- the first steps, where the tag is the one of other objects, or not
+  front_tried :
+      {o : Option ℕ} (asked : List ℕ) (b : Bool) → t + 2 < length a.regs → (w1 % 4 == object_tag) ≡ b
+      → ((regs' : Registers) (y' : MidState) → Ready regs' → y'.arena ≡ a.y.arena → Tried c d t regs' y' 110 (if b then headed asked else []) o)
+      → Tried c d t a.regs a.y 152 (front asked) o
+  front_tried asked b there so does =
+      let r1 : Registers = slice_set a.regs t (Some 1) in
+      let ready : Ready r1 = record {
+        first = register_beside a.regs t d (Some 1) (λ e. omega (arith, e)) ∙ g.in_registers.0;
+        second = register_beside a.regs t (d + 1) (Some 1) (λ e. omega (arith, e)) ∙ g.in_registers.1.0;
+        flag = register_here a.regs t 1 (omega (arith, there));
+        there = omega (arith, there, length-set a.regs t (Some 1));
+      } in
+      tried_behind c d t {most = 146} (constant t 1) _ 6 a.regs r1 a.y constant_falls (beside_two a.regs t 1 (omega arith)) (omega arith)
+      (tag_tried {most = 110} d w1 object_tag (headed asked) b r1 (mid_charged 6 a.y) ready ready.first (omega arith) so (λ regs' y' ready' same. does regs' y' ready' same))
+
+  nothing_tried : (most : ℕ) (regs : Registers) (y : MidState) → Ready regs → Tried c d t regs y most [] None
+  nothing_tried most regs y ready = tried_none c d t regs y most ready.flag
+
+  -- ---- what is found out
+
+  -- where the first is a vector, and the second is asked as far as it is not known
+  module _ (us : List Value) (is_vector : as_vector (fetch a.z.state v1) ≡ Some us)
+      (it : ObjectFound setting.names (tables setting.program) a.w.places a.z.state a.y represented v1 w1 (vector us)) where
+    start_low : it.spot.address + 8 + 4 * length us ≤ 2 ^ 26
+    start_low = let high = spot_low represented.arena it.spot_stands in omega (arith, high, it.stands.size.words)
+
+    -- the element is there
+    counted_found :
+        {o : Option ℕ} (n : ℤ) (b : Bool) → in_range n ≡ true → w2 ≡ integer_word n → is_some (index_of n (length us)) ≡ b
+        → ((regs' : Registers) (y' : MidState) → Ready regs' → y'.arena ≡ a.y.arena → Tried c d t regs' y' 24 (if b then element else []) o)
+        → (regs : Registers) (y : MidState) → Ready regs → y.arena ≡ a.y.arena → Tried c d t regs y 46 counted o
+    counted_found n b r x so does regs y ready same =
+        counted_tried regs y ready same (4 * length us) (it.spot.address + 4) b (omega (arith, it.word)) (omega (arith, start_low)) it.stands.count
+        (ap (λ w. compares LessUnsigned w (4 * length us)) x ∙ index_tested n (length us) r (omega (arith, start_low)) ∙ so) does
+
+    asked_found :
+        {o : Option ℕ} (n : ℤ) (known_second : Option ℕ) → (w2 % 4 == 0) ≡ true
+        → ((regs : Registers) (y : MidState) → Ready regs → y.arena ≡ a.y.arena → Tried c d t regs y 46 counted o)
+        → (regs : Registers) (y : MidState) → Ready regs → y.arena ≡ a.y.arena → Tried c d t regs y 82 (where_integers (asked_by (d + 1) known_second []) (t + 1) counted []) o
+    asked_found n None so does regs y ready same =
+        tag_tried {most = 46} (d + 1) w2 0 counted true regs y ready ready.second (omega arith) so (λ regs' y' ready' again. does regs' y' ready' (again ∙ same))
+    asked_found n (Some u) so does regs y ready same = tried_less regs y ready same {few = 46} (omega arith) (does regs y ready same)
+
+    -- what is meant where the index is right
+    element_meant :
+        (n : ℤ) (i : ℕ) → as_integer v2 ≡ Some n → index_of n (length us) ≡ Some i → the_meaning ≡ gives (slice_index_or us i nil) a.z
+    element_meant n i e f =
+        ap (λ o. answered (context_at setting k)
+        (needs o (domain_error v1 vector_class a.z.state) (λ vs. needs (as_integer v2) (domain_error v2 integer_class a.z.state) (λ m.
+        needs (index_of m (length vs)) (program_error a.z.state) (λ j. result (slice_index_or vs j nil) a.z.state)))) a.around a.z) is_vector
+        ∙ ap (λ o. answered (context_at setting k)
+        (needs o (domain_error v2 integer_class a.z.state) (λ m.
+        needs (index_of m (length us)) (program_error a.z.state) (λ j. result (slice_index_or us j nil) a.z.state))) a.around a.z) e
+        ∙ ap (λ o. answered (context_at setting k)
+        (needs o (program_error a.z.state) (λ j. result (slice_index_or us j nil) a.z.state)) a.around a.z) f
+
+  found_out :
+      (known_second : Option ℕ) → known_integer setting.at setting.program.literals f2 ≡ known_second → t + 2 < length a.regs
+      → Found 152 a.regs a.y (front (asked_by (d + 1) known_second []))
+  found_out known_second is_known there = by (vector_told setting.names (tables setting.program) a.w.places a.z.state a.y represented v1 w1 g.of_values.0)
+    where
+      asked : List ℕ
+      asked = asked_by (d + 1) known_second []
+
+      word_low : w1 < 2 ^ 32
+      word_low = word_told setting.names (tables setting.program) a.w.places a.z.state a.y represented v1 w1 g.of_values.0
+
+      two_there : (w1 % 4 == object_tag) ≡ true → 2 ≤ w1
+      two_there e = grind (arith, nat_tests)
+
+      -- a second one that is known is an integer
+      no_integer_known : (w2 % 4 == 0) ≡ false → (o : Option ℕ) → known_integer setting.at setting.program.literals f2 ≡ o → o ≡ None
+      no_integer_known other None e = refl
+      no_integer_known other (Some u) e =
+          let so : (w2 % 4 == 0) ≡ true = ap (λ w. w % 4 == 0) (known.1.0 u e) ∙ known_tag setting.at setting.program.literals f2 u e in absurd (cc (sym other ∙ so))
+
+      vector_found :
+          (us : List Value) → as_vector (fetch a.z.state v1) ≡ Some us
+          → ObjectFound setting.names (tables setting.program) a.w.places a.z.state a.y represented v1 w1 (vector us) → (w1 % 4 == object_tag) ≡ true
+          → word_at a.y.arena (w1 - 2) ≡ Some vector_header → IntegerTold v2 w2 → Found 152 a.regs a.y (front asked)
+      vector_found us is_vector it tag header (no_integer e other) =
+          not_taken (front_tried asked true there tag (λ regs y ready same.
+          headed_tried regs y ready same asked vector_header true (two_there tag) word_low header refl (λ regs' y' ready' same'.
+          subst (λ o. Tried c d t regs' y' 82 (where_integers (asked_by (d + 1) o []) (t + 1) counted []) None) (sym (no_integer_known other known_second is_known))
+          (tag_tried {most = 46} (d + 1) w2 0 counted false regs' y' ready' ready'.second (omega arith) other (λ regs'' y'' ready'' again. nothing_tried 46 regs'' y'' ready'')))))
+      vector_found us is_vector it tag header (integer_found n e f r x so) = by_index (index_of n (length us)) refl
+        where
+          by_index : (o : Option ℕ) → index_of n (length us) ≡ o → Found 152 a.regs a.y (front asked)
+          by_index None none =
+              not_taken (front_tried asked true there tag (λ regs y ready same.
+              headed_tried regs y ready same asked vector_header true (two_there tag) word_low header refl
+              (asked_found us is_vector it n known_second so
+              (counted_found us is_vector it n false r x (ap (λ o. is_some o) none) (λ regs' y' ready' again. nothing_tried 24 regs' y' ready')))))
+          by_index (Some i) some =
+              let low = (index_is n (length us) i some).1 in
+              let at = it.stands.values i low in
+              let small = start_low us is_vector it in
+              let word_is : w2 ≡ 4 * i = x ∙ index_word n (length us) i (omega (arith, small)) some in
+              taken at.word (slice_index_or us i nil) at.of_value (element_meant us is_vector it n i f some)
+              (front_tried asked true there tag (λ regs y ready same.
+              headed_tried regs y ready same asked vector_header true (two_there tag) word_low header refl
+              (asked_found us is_vector it n known_second so
+              (counted_found us is_vector it n true r x (ap (λ o. is_some o) some) (λ regs' y' ready' again.
+              element_tried regs' y' ready' again at.word (it.spot.address + 8 + 4 * i) (omega (arith, it.word, word_is)) (omega (arith, small, low)) at.stands)))))
+
+      by : FoundByHeader as_vector vector (λ h. h == vector_header) a.y.arena (fetch a.z.state v1) w1 → Found 152 a.regs a.y (front asked)
+      by (found_other_tag none other) = not_taken (front_tried asked false there other (λ regs y ready same. nothing_tried 110 regs y ready))
+      by (found_other_kind h none tag at other) =
+          not_taken (front_tried asked true there tag (λ regs y ready same.
+          headed_tried regs y ready same asked h false (two_there tag) word_low at other (λ regs' y' ready' again. nothing_tried 82 regs' y' ready')))
+      by (found_kind us e f tag at so) =
+          vector_found us f (object_found setting.names (tables setting.program) a.w.places a.z.state a.y represented v1 w1 (vector us) g.of_values.0 e) tag at
+          (integer_told setting.names (tables setting.program) a.w.places a.z.state a.y represented v2 w2 g.of_values.1.0)
+
+  -- **an element of a vector**
+  pub element_ends :
+      enough_for (of_code (code_of (element_where (asked_integers setting.at setting.program.literals (d + 1) (form_and f2 no_form)) d t slowly))) ≤ length a.regs
+      → EndsAt setting 900 a the_meaning
+      (exec c (code_of (element_where (asked_integers setting.at setting.program.literals (d + 1) (form_and f2 no_form)) d t slowly)) a.regs a.y)
+  element_ends enough = by (known_integer setting.at setting.program.literals f2) refl enough
+    where
+      up : a.z.state.units ≤ the_meaning.state.state.units
+      up = answer_up setting k VectorRef (v1 ∷ v2 ∷ []) a.around a.z
+
+      paid : SignalPaid VectorRef 728
+      paid = let cost = quick_paid VectorRef refl in (omega arith, omega (arith, cost))
+
+      by : (o : Option ℕ) → known_integer setting.at setting.program.literals f2 ≡ o → enough_for (of_code (code_of (front (asked_by (d + 1) o []) ++ last))) ≤ length a.regs
+          → EndsAt setting 900 a the_meaning (exec c (code_of (front (asked_by (d + 1) o []) ++ last)) a.regs a.y)
+      by o e enough = found (found_out o e there)
+        where
+          there : t + 2 < length a.regs
+          there =
+              let next_one : t + 1 + 1 < length a.regs = named (of_code (code_of (front (asked_by (d + 1) o []) ++ last))) 5 (t + 1 + 1) (length a.regs) refl enough in
+              omega (arith, next_one)
+
+          slow_enough : enough_for (of_code (code_of slowly)) ≤ length a.regs
+          slow_enough =
+              (branches_named ((t + 1) ∷ t ∷ (t + 1) ∷ []) (of_code (code_of slowly)) [] (length a.regs)
+              (registers_behind (front (asked_by (d + 1) o [])) last (length a.regs) enough)).0
+
+          found : Found 152 a.regs a.y (front (asked_by (d + 1) o [])) → EndsAt setting 900 a the_meaning (exec c (code_of (front (asked_by (d + 1) o []) ++ last)) a.regs a.y)
+          found (taken word u of_value means h) =
+              let regs : Registers = slice_set h.regs' (t + 1) (Some 0) in
+              let few = h.within in
+              let count : length h.regs' ≡ length a.regs = h.kept.0.count in
+              behind_steps setting {c1 = 20} a c (front (asked_by (d + 1) o [])) last h.regs' h.cost the_meaning h.run h.kept.0 (omega (arith, few))
+              (subst (λ r. EndsAt setting 20 (start_beside setting a h.regs' h.cost h.kept.0) r (exec c (code_of last) h.regs' (mid_charged h.cost a.y))) (sym means)
+              (quick_ends setting (start_beside setting a h.regs' h.cost h.kept.0) c (code_of last) regs 20 word u
+              (costing {n = a.y.cost + h.cost + 20}
+              (and_then constant_falls
+              (and_then (choose_second_falls (register_beside h.regs' (t + 1) t (Some 0) (λ e. omega (arith, e)) ∙ h.kept.2)
+              (register_here h.regs' (t + 1) 0 (omega (arith, there, count))) refl none_left) none_left))
+              (omega arith))
+              (beside_set (t + 1) 0 (omega arith) (beside_none a.d h.regs'))
+              (register_beside h.regs' (t + 1) d (Some 0) (λ e. omega (arith, e)) ∙ h.kept.1) of_value (omega arith)))
+          found (not_taken h) =
+              let regs : Registers = slice_set h.regs' (t + 1) (Some 0) in
+              let few = h.within in
+              let count : length h.regs' ≡ length a.regs = h.kept.0.count in
+              let beside : Beside a.d a.regs h.regs' = beside_less (omega arith) h.kept.0 in
+              let b : Start setting = start_beside setting a h.regs' h.cost beside in
+              let chosen : Chosen setting c h.regs' (mid_charged h.cost a.y) (d + 2) 20 last slowly [] true = record {
+                regs' = regs;
+                cost = 18;
+                run =
+                    in_sum 18 (code_of slowly) regs (mid_charged 12 (mid_charged 6 (mid_charged h.cost a.y)))
+                    (and_then constant_falls
+                    (compared c Different t (t + 1) 1 0 slowly [] true regs (mid_charged 6 (mid_charged h.cost a.y))
+                    (register_beside h.regs' (t + 1) t (Some 0) (λ e. omega (arith, e)) ∙ h.kept.1) (register_here h.regs' (t + 1) 0 (omega (arith, there, count))) refl))
+                    refl (omega arith);
+                beside = beside_set (t + 1) 0 (omega arith) (beside_none (d + 2) h.regs');
+                within = omega arith;
+              } in
+              behind_steps setting {c1 = 748} a c (front (asked_by (d + 1) o [])) last h.regs' h.cost the_meaning h.run beside (omega (arith, few))
+              (chosen_ends setting {c1 = 728} b c chosen (omega arith) the_meaning up (omega arith)
+              (slow_ends setting k a VectorRef (v1 ∷ v2 ∷ []) (w1 ∷ w2 ∷ []) g regs (mid_charged 18 (mid_charged h.cost a.y))
+              (start_beside setting b regs 18 (beside_less (omega arith) chosen.beside)).begins (beside_then h.kept.0 chosen.beside) slow_enough (omega arith) paid))
