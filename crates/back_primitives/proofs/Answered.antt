@@ -68,14 +68,14 @@ use Rattle.back_primitives.proofs.Signalled.{under_later, signalling_credit, pen
 quarters : (x h n : ℕ) → h + 4 * n ≤ x → (x - (h + 4 * n)) / 4 + n ≡ (x - h) / 4
 quarters x h n low = omega arith
 
-left_behind :
+pub left_behind :
     (a b : Arena) (n : ℕ) → ArenaStands b → length b.memory ≡ length a.memory → b.blocks ≡ a.blocks → b.heap_to ≡ a.heap_to + 4 * n → left b + n ≡ left a
 left_behind a b n s size blocks to =
     let from : stack_from b ≡ stack_from a = ap (λ m. begin_of m b.blocks) size ∙ ap (begin_of (length a.memory)) blocks in
     let room : a.heap_to + 4 * n ≤ stack_from a = subst (λ x. a.heap_to + 4 * n ≤ x) from (subst (λ x. x ≤ stack_from b) to s.room) in
     ap (λ x. x + n) (ap (λ x. (x - b.heap_to) / 4) from ∙ ap (λ h. (stack_from a - h) / 4) to) ∙ quarters (stack_from a) a.heap_to n room
 
-charged_by : (l l' h h' s s' n : ℕ) → l' + n ≡ l → h' ≡ h + n → s' ≡ s + 0 → l + h + s ≤ l' + h' + s'
+pub charged_by : (l l' h h' s s' n : ℕ) → l' + n ≡ l → h' ≡ h + n → s' ≡ s + 0 → l + h + s ≤ l' + h' + s'
 charged_by l l' h h' s s' n e f g = omega (arith, e, f, g)
 
 paid_value :
@@ -93,7 +93,7 @@ no_wonder l m n s f h k room fits small few = omega (arith, room, fits, small, f
 at_most : (a b : ℕ) → nat_le a b ≡ true → a ≤ b
 at_most a b e = grind (arith, nat_tests)
 
-room_ended :
+pub room_ended :
     (setting : Setting) (l : Limit) (o : Outcome) (n size frame : ℕ) (z : FlatState) (y : MidState) → RoomFor l n z.state y
     → has_room l (z.state.heap + z.state.stack + size + 0) ≡ true → frame ≤ n → left y.arena < frame + size → RoomEnded setting l o
 room_ended setting unlimited o n size frame z y room fits small few = tt

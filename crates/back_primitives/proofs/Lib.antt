@@ -16,3 +16,5 @@ pub mod QuickSums
 pub mod QuickKinds
 pub mod Trying
 pub mod QuickElements
+pub mod QuickConses
+pub mod Applying

@@ -45,7 +45,8 @@ use Rattle.back_relation.specs.Forms.{Begins, context_at, code_at}
 use Rattle.back_combining.specs.Starts.{Start, EndsAt}
 use Rattle.back_combining.proofs.Fitting.{enough_front, enough_behind}
 use Rattle.back_calling.proofs.Growing.{tasks_below}
-use Rattle.back_primitives.specs.Calling.{WordsIn, PrimitiveThere, PendingDoesAnywhere, KnownWords}
+use Rattle.back_primitives.specs.Applying.{Applies}
+use Rattle.back_primitives.specs.Calling.{KnownWords}
 use Rattle.back_primitives.proofs.Answered.{SignalPaid, by_procedure_ends}
 use Rattle.back_primitives.proofs.Choosing.{Beside, beside_none, beside_set, beside_less, words_kept, start_beside, quick_ends, Chosen, chosen_ends, compared, in_sum, tag_chosen, integers_chosen}
 
@@ -106,16 +107,6 @@ start_with setting a regs y begins = record {
   y = y;
   begins = begins;
 }
-
--- what a primitive needs to be applied to words in registers
-pub record Applies (setting : Setting) (k : ℕ) (a : Start setting) (which : Primitive) (vs : List Value) (ws : List ℕ) : Type 0 where
-  pub placed : IsPlaced setting
-  pub there : PrimitiveThere setting which
-  pub pending : PendingDoesAnywhere setting k a.turns a.rs a.valid a.around
-  pub room : routine_words ≤ a.n
-  pub of_values : WordsOf a.w.places vs ws
-  pub in_registers : WordsIn a.d ws a.regs
-  pub many : length vs ≡ arity which
 
 module _ (setting : Setting) (k : ℕ) (a : Start setting) (which : Primitive) (vs : List Value) (ws : List ℕ) (g : Applies setting k a which vs ws) where
   abbrev pub meant : FlatEvaluated

@@ -37,11 +37,12 @@ use Rattle.back_relation.specs.Setting.{Setting}
 use Rattle.back_relation.specs.Forms.{context_at, code_at}
 use Rattle.back_combining.specs.Starts.{Start, EndsAt}
 use Rattle.back_combining.proofs.Fitting.{registers_behind}
+use Rattle.back_primitives.specs.Applying.{Applies}
 use Rattle.back_primitives.specs.Calling.{KnownWords}
 use Rattle.back_primitives.proofs.Answered.{SignalPaid}
 use Rattle.back_primitives.proofs.Choosing.{Beside, beside_none, beside_set, beside_less, beside_then, register_kept, low_bits, start_beside, quick_ends, Chosen, chosen_ends, compared, in_sum}
 use Rattle.back_primitives.proofs.EachCost.{quick_paid}
-use Rattle.back_primitives.proofs.Quick.{named, branches_named, answer_up, Applies, meant, slow, slow_ends}
+use Rattle.back_primitives.proofs.Quick.{named, branches_named, answer_up, meant, slow, slow_ends}
 use Rattle.back_primitives.proofs.QuickKinds.{behind_steps}
 use Rattle.back_primitives.proofs.QuickNumbers.{asked_by, known_tag}
 use Rattle.back_primitives.proofs.Trying.{IsKept, Tried, tried_none, tried_behind, tried_where}

@@ -33,10 +33,11 @@ use Rattle.back_relation.specs.Setting.{Setting}
 use Rattle.back_relation.specs.Forms.{context_at, code_at}
 use Rattle.back_combining.specs.Starts.{Start, EndsAt}
 use Rattle.back_combining.proofs.Starts.{behind}
+use Rattle.back_primitives.specs.Applying.{Applies}
 use Rattle.back_primitives.proofs.Answered.{SignalPaid}
 use Rattle.back_primitives.proofs.Choosing.{Beside, beside_none, beside_set, beside_less, register_kept, reached_beside, start_beside, quick_ends, Chosen, chosen_ends, tag_chosen}
 use Rattle.back_primitives.proofs.EachCost.{is_quick, quick_paid}
-use Rattle.back_primitives.proofs.Quick.{named, branches_named, answer_up, Applies, meant, slow, slow_ends, truth_ends}
+use Rattle.back_primitives.proofs.Quick.{named, branches_named, answer_up, meant, slow, slow_ends, truth_ends}
 
 -- steps that only set registers, and what comes behind them
 pub behind_steps :

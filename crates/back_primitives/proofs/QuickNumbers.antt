@@ -40,11 +40,12 @@ use Rattle.back_lowering.specs.Steps.{Steps, move}
 use Rattle.back_relation.specs.Setting.{Setting}
 use Rattle.back_relation.specs.Forms.{Begins, context_at, code_at}
 use Rattle.back_combining.specs.Starts.{Start, EndsAt}
+use Rattle.back_primitives.specs.Applying.{Applies}
 use Rattle.back_primitives.specs.Calling.{KnownWords}
 use Rattle.back_primitives.proofs.Answered.{SignalPaid}
 use Rattle.back_primitives.proofs.Choosing.{Beside, beside_none, beside_set, beside_less, register_kept, start_beside, quick_ends, ends_less, Chosen, chosen_ends, compared, in_sum, tag_chosen, integers_chosen}
 use Rattle.back_primitives.proofs.Costs.{both_true}
-use Rattle.back_primitives.proofs.Quick.{named, branches_named, answer_up, start_with, Applies, meant, slow, slow_ends, truth_ends}
+use Rattle.back_primitives.proofs.Quick.{named, branches_named, answer_up, start_with, meant, slow, slow_ends, truth_ends}
 
 -- ---- what is known of arguments
 

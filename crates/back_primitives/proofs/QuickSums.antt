@@ -35,11 +35,12 @@ use Rattle.back_lowering.specs.Steps.{Steps, move, compute, constant, where_so, 
 use Rattle.back_relation.specs.Setting.{Setting}
 use Rattle.back_relation.specs.Forms.{Begins, code_at}
 use Rattle.back_combining.specs.Starts.{Start, EndsAt}
+use Rattle.back_primitives.specs.Applying.{Applies}
 use Rattle.back_primitives.specs.Calling.{KnownWords}
 use Rattle.back_primitives.proofs.Answered.{SignalPaid}
 use Rattle.back_primitives.proofs.Choosing.{Beside, beside_none, beside_set, beside_less, beside_then, register_kept, start_beside, quick_ends, Chosen, chosen_ends, compared, in_sum}
 use Rattle.back_primitives.proofs.EachCost.{is_quick, quick_paid}
-use Rattle.back_primitives.proofs.Quick.{named, branches_named, start_with, Applies, meant, slow}
+use Rattle.back_primitives.proofs.Quick.{named, branches_named, start_with, meant, slow}
 use Rattle.back_primitives.proofs.QuickNumbers.{DoesThere, ofIntegers, up_meant, slowly_does, chosen_does, meant_at}
 
 -- ---- what the words tell
