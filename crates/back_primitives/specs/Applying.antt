@@ -1,0 +1,63 @@
+-- **What is to be shown of primitives**: their code does what their answers mean, where the words of all arguments are in registers.
+use Rattle.std.specs.Prelude.{◌≡◌, ℕ, ◌+◌, ◌*◌, ◌≤◌, List, length}
+use Rattle.lang_meaning.specs.Arity.{arity}
+use Rattle.lang_meaning.specs.declared.primitive.Primitive.{Primitive}
+use Rattle.lang_meaning.specs.Primitives.{primitive}
+use Rattle.lang_meaning.specs.Values.{Value}
+use Rattle.flat_language.specs.FlatForm.{FlatForms}
+use Rattle.flat_language.specs.FlatNodes.{tables, count_forms}
+use Rattle.flat_language.specs.FlatSignals.{answered}
+use Rattle.flat_language.specs.FlatState.{FlatEvaluated}
+use Rattle.mid_code.specs.Meaning.{exec}
+use Rattle.mid_code.specs.MidCode.{code_of}
+use Rattle.mid_arena.specs.Places.{WordsOf}
+use Rattle.back_lowering.specs.Primitives.{by_procedure, apply_primitive}
+use Rattle.back_lowering.specs.Registers.{of_code, enough_for}
+use Rattle.back_lowering.specs.Steps.{Steps}
+use Rattle.back_relation.specs.Setting.{Setting}
+use Rattle.back_relation.specs.Placed.{IsPlaced}
+use Rattle.back_relation.specs.Room.{routine_words}
+use Rattle.back_relation.specs.Forms.{context_at, code_at}
+use Rattle.back_combining.specs.Starts.{Start, EndsAt}
+use Rattle.back_primitives.specs.Calling.{WordsIn, PrimitiveThere, PendingDoesAnywhere, KnownWords}
+
+-- what a primitive needs to be applied to words in registers
+pub record Applies (setting : Setting) (k : ℕ) (a : Start setting) (which : Primitive) (vs : List Value) (ws : List ℕ) : Type 0 where
+  pub placed : IsPlaced setting
+  pub there : PrimitiveThere setting which
+  pub pending : PendingDoesAnywhere setting k a.turns a.rs a.valid a.around
+  pub room : routine_words ≤ a.n
+  pub of_values : WordsOf a.w.places vs ws
+  pub in_registers : WordsIn a.d ws a.regs
+  pub many : length vs ≡ arity which
+
+-- what is paid of the cost before: the units of the form
+abbrev pub primitive_credit : Primitive → ℕ
+primitive_credit which = 300 + 300 * arity which
+
+module _ (setting : Setting) (k : ℕ) (a : Start setting) (which : Primitive) (vs : List Value) where
+  abbrev pub answer_meant : FlatEvaluated
+  answer_meant = answered (context_at setting k) (primitive setting.names (tables setting.program) which vs a.z.state) a.around a.z
+
+  -- steps do what the answer means
+  abbrev pub StepsAnswer : Steps → Type 0
+  StepsAnswer steps = EndsAt setting (primitive_credit which) a answer_meant (exec (code_at setting k a.turns) (code_of steps) a.regs a.y)
+
+-- the registers that steps name are there
+abbrev pub NamesThere : {setting : Setting} → Start setting → Steps → Type 0
+NamesThere a steps = enough_for (of_code (code_of steps)) ≤ length a.regs
+
+-- a primitive is applied by its procedure
+abbrev pub LawOfProcedures : Type 0
+LawOfProcedures =
+    (setting : Setting) (k : ℕ) (a : Start setting) (which : Primitive) (vs : List Value) (ws : List ℕ) → Applies setting k a which vs ws
+    → NamesThere a (by_procedure setting.at which (length ws) a.d a.s.code.site)
+    → StepsAnswer setting k a which vs (by_procedure setting.at which (length ws) a.d a.s.code.site)
+
+-- **a primitive is applied**, in line where that is quick
+abbrev pub LawOfApplying : Type 0
+LawOfApplying =
+    (setting : Setting) (k : ℕ) (a : Start setting) (which : Primitive) (fs : FlatForms) (vs : List Value) (ws : List ℕ) → Applies setting k a which vs ws
+    → KnownWords setting.at setting.program.literals fs ws → count_forms fs ≡ arity which
+    → NamesThere a (apply_primitive setting.at setting.program.literals which fs (count_forms fs) a.d a.s.code.site)
+    → StepsAnswer setting k a which vs (apply_primitive setting.at setting.program.literals which fs (count_forms fs) a.d a.s.code.site)

@@ -1,0 +1,12 @@
+// The laws of primitives, each as the contract of a function that does nothing.
+ghost use Rattle.back_primitives.specs.Applying.{LawOfProcedures, LawOfApplying};
+
+/// A primitive is applied by its procedure.
+pub fn law_procedures()
+    ensures { LawOfProcedures }
+{}
+
+/// A primitive is applied, in line where that is quick.
+pub fn law_applying()
+    ensures { LawOfApplying }
+{}
