@@ -1,0 +1,17 @@
+// The laws of routines that only look, each as the contract of a function that does nothing.
+ghost use Rattle.back_looking.specs.Looking.{LawOfFunctionTests, LawOfClassNumbers, LawOfBindings};
+
+/// Whether a value is a function.
+pub fn law_function_tests()
+    ensures { LawOfFunctionTests }
+{}
+
+/// The number of a value's class.
+pub fn law_class_numbers()
+    ensures { LawOfClassNumbers }
+{}
+
+/// Where the value of a dynamic variable is.
+pub fn law_bindings()
+    ensures { LawOfBindings }
+{}
