@@ -1,2 +1,5 @@
 pub mod RecordSteps
 pub mod Going
+pub mod Touching
+pub mod Inside
+pub mod Charging
