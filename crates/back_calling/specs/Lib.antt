@@ -1,0 +1,4 @@
+pub mod Storing
+pub mod Calling
+pub mod Entering
+pub mod Inner

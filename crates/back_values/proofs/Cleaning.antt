@@ -1,0 +1,138 @@
+-- Variables whose place is in no block of the stack that stands are nowhere: no result has to say more of them.
+use Rattle.std.proofs.Common.{◌≡◌, ℕ, zero, suc, ◌+◌, ◌≤◌, Bool, true, false, List, [], ◌∷◌, length, Some, refl, sym, ap, ◌∙◌, arith}
+use Rattle.std.specs.Prelude.{slice_get, nat_le, if◌then◌else◌}
+use Rattle.std.proofs.lemmas.Bool.Decides.{nat_tests}
+use Rattle.std.proofs.lemmas.Bool.{le-leb}
+use Rattle.lang_meaning.specs.declared.program.LiteralRow.{LiteralRow}
+use Rattle.flat_language.specs.FlatState.{FlatState}
+use Rattle.mid_code.specs.Arena.{stack_from}
+use Rattle.mid_code.specs.State.{MidState}
+use Rattle.mid_arena.specs.Places.{Owner}
+use Rattle.back_relation.specs.Setting.{Setting}
+use Rattle.back_relation.specs.Worlds.{World, BoxPlace, on_heap, on_stack, gone, Later, BoxesApart}
+use Rattle.back_relation.specs.StackWords.{StackKept}
+use Rattle.back_relation.specs.Things.{Things, BoxStands}
+use Rattle.back_combining.specs.Cuts.{box_cut, boxes_cut, world_cut}
+use Rattle.back_combining.specs.Starts.{Start, ReachedFrom}
+use Rattle.back_combining.proofs.Activations.{activation_later}
+use Rattle.back_combining.proofs.Cuts.{later_cut}
+use Rattle.back_combining.proofs.Starts.{start_after}
+use Rattle.back_values.specs.Boxes.{Clean}
+use Rattle.back_values.proofs.Moved.{control_moves, further_moves, slot_moves, literals_move, symbols_move, method_moves, functions_move, box_moves}
+
+cut_count : (from : ℕ) (bs : List BoxPlace) → length (boxes_cut from bs) ≡ length bs
+cut_count from [] = refl
+cut_count from (b ∷ bs) = ap (λ n. suc n) (cut_count from bs)
+
+-- what is left of a place behind a cut
+left_places : (from i : ℕ) (bs : List BoxPlace) (c : BoxPlace) → slice_get (boxes_cut from bs) i ≡ Some c → (b : BoxPlace) × (slice_get bs i ≡ Some b) × (c ≡ box_cut from b)
+left_places from i [] c e = absurd (cc e)
+left_places from zero (b ∷ bs) c e = (b, refl, cc e)
+left_places from (suc i) (b ∷ bs) c e = left_places from i bs c e
+
+stack_above : (from i a : ℕ) (bs : List BoxPlace) → slice_get (boxes_cut from bs) i ≡ Some (on_stack a) → from ≤ a
+stack_above from i a [] e = absurd (cc e)
+stack_above from zero a (on_heap b ∷ bs) e = absurd (cc e)
+stack_above from zero a (on_stack b ∷ bs) e = by (nat_le from b) refl e
+  where
+    by : (t : Bool) → nat_le from b ≡ t → Some (if t then on_stack b else gone) ≡ Some (on_stack a) → from ≤ a
+    by true g f = let same : b ≡ a = cc f in grind (arith, nat_tests)
+    by false g f = absurd (cc f)
+stack_above from zero a (gone ∷ bs) e = absurd (cc e)
+stack_above from (suc i) a (b ∷ bs) e = stack_above from i a bs e
+
+found : (from i : ℕ) (bs : List BoxPlace) (b : BoxPlace) → slice_get bs i ≡ Some b → slice_get (boxes_cut from bs) i ≡ Some (box_cut from b)
+found from i [] b e = absurd (cc e)
+found from zero (c ∷ bs) b e = let same : c ≡ b = cc e in ap (λ x. Some (box_cut from x)) same
+found from (suc i) (c ∷ bs) b e = found from i bs b e
+
+module _ (setting : Setting) {w : World} {z : FlatState} {y : MidState} (t : Things setting w z y) where
+  abbrev pub cleaned : World
+  cleaned = world_cut (stack_from y.arena) w
+
+  pub is_clean : Clean cleaned y
+  is_clean i a e = stack_above (stack_from y.arena) i a w.boxes e
+
+  abbrev All : Owner → Type 0
+  All p = Unit {0}
+
+  heap_was : (i a : ℕ) → slice_get cleaned.boxes i ≡ Some (on_heap a) → slice_get w.boxes i ≡ Some (on_heap a)
+  heap_was i a e = let old = left_places (stack_from y.arena) i w.boxes (on_heap a) e in by old.0 old.1 old.2
+    where
+      by : (b : BoxPlace) → slice_get w.boxes i ≡ Some b → on_heap a ≡ box_cut (stack_from y.arena) b → slice_get w.boxes i ≡ Some (on_heap a)
+      by (on_heap x) f g = let same : x ≡ a = cc g in f ∙ ap (λ n. Some (on_heap n)) same
+      by (on_stack x) f g = absurd (choice (nat_le (stack_from y.arena) x) g)
+        where
+          choice : (t : Bool) → on_heap a ≡ (if t then on_stack x else gone) → ⊥
+          choice true h = absurd (cc h)
+          choice false h = absurd (cc h)
+      by gone f g = absurd (cc g)
+
+  box_stands : (i : ℕ) (c : BoxPlace) → slice_get cleaned.boxes i ≡ Some c → BoxStands setting cleaned z.state y.arena i c
+  box_stands i (on_heap a) e =
+      box_moves setting y t (later_cut (stack_from y.arena) w) All (λ p s stays f x low high. refl) i (on_heap a) z.state refl (λ k. tt) (t.boxes i (on_heap a) (heap_was i a e))
+  box_stands i (on_stack a) e =
+      box_moves setting y t (later_cut (stack_from y.arena) w) All (λ p s stays f x low high. refl) i (on_stack a) z.state refl refl
+      (t.boxes i (on_stack a) ((later_cut (stack_from y.arena) w).none_new i a e))
+  box_stands i gone e = tt
+
+  pub things_cleaned : Things setting cleaned z y
+  things_cleaned =
+      let l : Later w cleaned = later_cut (stack_from y.arena) w in
+      record {
+        represents = t.represents;
+        within_limit = t.within_limit;
+        control = t.control;
+        further = t.further;
+        serials = t.serials;
+        globals = t.globals;
+        dynamics = t.dynamics;
+        literals = literals_move setting y t l All (λ p s stays f x low high. refl);
+        symbols = t.symbols;
+        box_count = cut_count (stack_from y.arena) w.boxes ∙ t.box_count;
+        boxes_apart = record {
+          heap = λ i j a e f. t.boxes_apart.heap i j a (heap_was i a e) (heap_was j a f);
+          stack = λ i j a e f. t.boxes_apart.stack i j a (l.none_new i a e) (l.none_new j a f);
+        };
+        boxes = box_stands;
+        methods = λ i a called e. method_moves setting y t l All (λ p s stays f x low high. refl) a called (λ k late f. tt) (t.methods i a called e);
+        exit_forms = t.exit_forms;
+        functions = λ i p s e f. functions_move setting y t l All (λ p s stays f x low high. refl) (λ i. tt) i p s e f;
+        generics = t.generics;
+      }
+
+  pub stack_cleaned : StackKept w cleaned y y
+  stack_cleaned = record {
+    words = λ x low high plain. refl;
+    bindings = λ i a e low high. found (stack_from y.arena) i w.boxes (on_stack a) e ∙ ap (λ t. Some (if t then on_stack a else gone)) (le-leb _ _ high);
+  }
+
+module _ (setting : Setting) where
+  -- **any point is one where all places on the stack are in blocks that stand**
+  pub reached_clean : (a : Start setting) → ReachedFrom setting 0 a a.d (cleaned setting a.begins.call.things) a.z a.regs a.y
+  reached_clean a = record {
+    kept = record {
+      world = record {
+        later = later_cut (stack_from a.y.arena) a.w;
+        things = things_cleaned setting a.begins.call.things;
+        stack = stack_cleaned setting a.begins.call.things;
+        end = λ k e. e;
+        more_exits = omega arith;
+        same_size = refl;
+      };
+      activation =
+          activation_later setting {d = a.d} {y = a.y} (later_cut (stack_from a.y.arena) a.w)
+          (record { blocks = refl; size = refl; stack = stack_cleaned setting a.begins.call.things }) refl (λ n cs k. k) (λ r few. refl) a.begins.scope
+          a.begins.activation;
+      registers = record { count = refl; same = λ i few n. refl };
+    };
+    back = record {
+      control = record { current = λ k e. e; link = λ k e. e; handlers = λ k e. e; bindings = λ k e. e };
+      blocks = refl;
+      charged = omega arith;
+      paid = omega arith;
+    };
+  }
+
+  abbrev pub start_clean : Start setting → Start setting
+  start_clean a = start_after setting a a.d a.d a.n (omega arith) (omega arith) (omega arith) a.begins.first (reached_clean a)

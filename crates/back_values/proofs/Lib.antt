@@ -1,0 +1,13 @@
+pub mod Moved
+pub mod Cleaning
+pub mod Far
+pub mod CapturedWords
+pub mod Variables
+pub mod NewBoxes
+pub mod BoxesMade
+pub mod Frames
+pub mod Slots
+pub mod Bindings
+pub mod SetSlots
+pub mod SetBoxes
+pub mod SetVariables

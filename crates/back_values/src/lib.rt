@@ -1,0 +1,4 @@
+// Variables, boxes, bindings, functions and global variables.
+#![tactic(auto)]
+
+pub mod laws;
