@@ -65,7 +65,7 @@ class_known names program z built_in there v = by v
 abbrev given : Setting → MidProcedure
 given setting = procedure_with Turn 1 (class_code setting.at)
 
-given_small : (setting : Setting) → (given setting).frame ≤ 48
+given_small : (setting : Setting) → (given setting).frame ≤ 8
 unfolding class_code class_word object_code class_by_header
 given_small setting = omega arith
 
@@ -113,7 +113,7 @@ body_finds setting k n frame w z y v word t e some =
 
 -- **the number of a value's class**
 pub class_numbers_law : LawOfClassNumbers
-class_numbers_law setting k turns rs valid w around z y placed v word e =
-    looks_up setting k turns rs valid w around z y class_most (class_routine setting.at) (word ∷ []) (4 * class_of z.state v) (given setting)
+class_numbers_law setting k turns rs valid w around z y room placed v word e =
+    looks_up setting k turns rs valid w around z y room class_most (class_routine setting.at) (word ∷ []) (4 * class_of z.state v) (given setting)
     (routine_used setting 20 (given setting) placed refl) refl refl (given_small setting)
     (λ n frame few begins some. inl (body_finds setting k n frame w z y v word begins.things e some))

@@ -20,18 +20,19 @@ use Rattle.mid_arena.proofs.Leaving.{leaves_returned}
 use Rattle.mid_arena.proofs.Running.{RunsTo, turning, frame_of, entered, enters, enters_wanting}
 use Rattle.back_lowering.specs.ControlWords.{current_address, link_address, serials_address, handlers_address, bindings_address, end_address}
 use Rattle.back_relation.specs.Setting.{Setting, control_spot}
-use Rattle.back_relation.specs.Room.{routine_words, words_for_handler}
+use Rattle.back_relation.specs.Room.{words_for_handler}
 use Rattle.back_relation.specs.Worlds.{World, BoxPlace, on_heap, on_stack, gone, Standing}
 use Rattle.back_relation.specs.Things.{Things, WithinLimit}
 use Rattle.back_relation.specs.Around.{RoomFor, CallBegins}
 use Rattle.back_relation.specs.Ends.{WorldKept, Around, RoomEnded, Ends, done, stopped, few_turns}
 use Rattle.back_relation.specs.Forms.{code_at}
 use Rattle.back_relation.specs.Procedures.{called}
-use Rattle.back_relation.specs.RoutineClaims.{Looks, LooksUp}
+use Rattle.back_relation.specs.RoutineClaims.{Looks}
 use Rattle.back_combining.proofs.Growth.{same_prefix}
 use Rattle.back_combining.proofs.Worlds.{later_same}
 use Rattle.back_exits.specs.Going.{BoxWas, GoesOn}
 use Rattle.back_exits.proofs.Moving.{things_go_on}
+use Rattle.back_looking.specs.Looking.{looking_words, LooksAnywhere}
 use Rattle.back_looking.proofs.Finding.{Used}
 use Rattle.back_looking.proofs.Frames.{framed, framed_grows, framed_stack, framed_word}
 
@@ -117,10 +118,10 @@ module _ (setting : Setting) (k turns_left : ℕ) (rs valid : List Standing) (w 
 
   -- its procedure is entered
   enters_so :
-      (most : ℕ) (ws : List ℕ) (word n : ℕ) (p : MidProcedure) → length ws ≡ p.parameters → p.frame ≤ routine_words → CallBegins setting rs valid routine_words w around z y
+      (room most : ℕ) (ws : List ℕ) (word n : ℕ) (p : MidProcedure) → length ws ≡ p.parameters → p.frame ≤ room → CallBegins setting rs valid room w around z y
       → (p.frame ≤ left y.arena → BodyLooks setting k n p ws word most y ⊎ (turns_left ≤ length y.arena.memory))
       → Reached most word (turns setting.procedures below (suc n) (enter p ws) y)
-  enters_so most ws word n p many small begins body = ⊎_elim without with_room (cases_lt (left y.arena) p.frame)
+  enters_so room most ws word n p many small begins body = ⊎_elim without with_room (cases_lt (left y.arena) p.frame)
     where
       printed : IsPrefix y.printed z.state.printed
       printed = subst (λ ps. IsPrefix ps z.state.printed) (sym begins.things.represents.printed) (same_prefix z.state.printed)
@@ -128,7 +129,7 @@ module _ (setting : Setting) (k turns_left : ℕ) (rs valid : List Standing) (w 
       ended : left y.arena < p.frame → (l : Limit) → setting.limit ≡ l → RoomEnded setting l (meaning.value nil)
       ended few unlimited same = tt
       ended few (words m) same =
-          frame_left setting.limit (routine_words + words_for_handler * length around.handlers) p.frame z.state y (omega (arith, small))
+          frame_left setting.limit (room + words_for_handler * length around.handlers) p.frame z.state y (omega (arith, small))
           begins.room begins.things.within_limit few m same
 
       without : left y.arena < p.frame → Reached most word (turns setting.procedures below (suc n) (enter p ws) y)
@@ -151,13 +152,13 @@ module _ (setting : Setting) (k turns_left : ℕ) (rs valid : List Standing) (w 
 
   -- **a routine that only looks**: its body returns the word, or there are few turns
   pub looks_up :
-      (most number : ℕ) (ws : List ℕ) (word : ℕ) (given : MidProcedure) (u : Used given setting.procedures number) → given.counted ≡ Turn
-      → length ws ≡ given.parameters → given.frame ≤ routine_words
-      → ((n frame : ℕ) → turns_left ≡ suc n → CallBegins setting rs valid routine_words w around z y → frame ≤ left y.arena
+      (room most number : ℕ) (ws : List ℕ) (word : ℕ) (given : MidProcedure) (u : Used given setting.procedures number) → given.counted ≡ Turn
+      → length ws ≡ given.parameters → given.frame ≤ looking_words
+      → ((n frame : ℕ) → turns_left ≡ suc n → CallBegins setting rs valid room w around z y → frame ≤ left y.arena
       → BodyLooks setting k n (with_frame_of frame given) ws word most y ⊎ (turns_left ≤ length y.arena.memory))
-      → LooksUp setting k turns_left rs valid w around z y most number ws word
+      → LooksAnywhere setting k turns_left rs valid w around z y room most number ws word
   unfolding turns with_some
-  looks_up most number ws word given u counted many small body begins = by turns_left refl
+  looks_up room most number ws word given u counted many small body enough begins = by turns_left refl
     where
       p : MidProcedure
       p = with_frame_of u.used.frame given
@@ -173,4 +174,4 @@ module _ (setting : Setting) (k turns_left : ℕ) (rs valid : List Standing) (w 
       by zero e = few_turns (omega (arith, e))
       by (suc n) e =
           subst (λ q. Reached most word q) (sym (entering ∙ ap (λ m. turns setting.procedures below m (enter p ws) y) e))
-          (enters_so most ws word n p many (omega (arith, small, u.within.frame)) begins.0 (λ some. body n u.used.frame e begins.0 some))
+          (enters_so room most ws word n p many (omega (arith, small, u.within.frame, enough)) begins (λ some. body n u.used.frame e begins some))

@@ -28,7 +28,7 @@ use Rattle.back_lowering.specs.Routines.{is_function_routine}
 use Rattle.back_relation.specs.Setting.{Setting}
 use Rattle.back_relation.specs.Things.{Things}
 use Rattle.back_relation.specs.Worlds.{World}
-use Rattle.back_looking.specs.Looking.{LawOfFunctionTests}
+use Rattle.back_looking.specs.Looking.{LawOfFunctionTests, LawOfFunctionClaims}
 use Rattle.back_looking.proofs.Entering.{with_frame_of, BodyLooks, looks_up}
 use Rattle.back_looking.proofs.Finding.{routine_used}
 
@@ -146,7 +146,7 @@ kind_told setting c y w answer low (of_kind h some tag at kind) = by (h == funct
 abbrev given : Setting → MidProcedure
 given setting = procedure_with Turn 1 (is_function_code setting.at)
 
-given_small : (setting : Setting) → (given setting).frame ≤ 48
+given_small : (setting : Setting) → (given setting).frame ≤ 8
 unfolding is_function_code
 given_small setting = omega arith
 
@@ -167,7 +167,11 @@ body_says setting k n frame w z y v word t e some =
 
 -- **whether a value is a function**
 pub function_tests_law : LawOfFunctionTests
-function_tests_law setting k turns rs valid w around z y placed v word e =
-    looks_up setting k turns rs valid w around z y 150 (is_function_routine setting.at) (word ∷ []) (told_word (is_function (fetch z.state v))) (given setting)
+function_tests_law setting k turns rs valid w around z y room placed v word e =
+    looks_up setting k turns rs valid w around z y room 150 (is_function_routine setting.at) (word ∷ []) (told_word (is_function (fetch z.state v))) (given setting)
     (routine_used setting 19 (given setting) placed refl) refl refl (given_small setting)
     (λ n frame few begins some. inl (body_says setting k n frame w z y v word begins.things e some))
+
+pub function_claims_law : LawOfFunctionClaims
+function_claims_law setting k turns rs valid w around z y placed v word e begins =
+    function_tests_law setting k turns rs valid w around z y 48 placed v word e (omega arith) begins.0

@@ -1,5 +1,5 @@
 // The laws of routines that only look, each as the contract of a function that does nothing.
-ghost use Rattle.back_looking.specs.Looking.{LawOfFunctionTests, LawOfClassNumbers, LawOfBindings};
+ghost use Rattle.back_looking.specs.Looking.{LawOfFunctionTests, LawOfFunctionClaims, LawOfClassNumbers, LawOfBindings, LawOfBindingClaims};
 
 /// Whether a value is a function.
 pub fn law_function_tests()
@@ -14,4 +14,14 @@ pub fn law_class_numbers()
 /// Where the value of a dynamic variable is.
 pub fn law_bindings()
     ensures { LawOfBindings }
+{}
+
+/// The same, as the relation of lowered code claims it.
+pub fn law_binding_claims()
+    ensures { LawOfBindingClaims }
+{}
+
+/// Whether a value is a function, as the relation of lowered code claims it.
+pub fn law_function_claims()
+    ensures { LawOfFunctionClaims }
 {}
