@@ -5,3 +5,5 @@ pub mod Cells
 pub mod Bound
 pub mod DynamicLet
 pub mod DynamicForms
+pub mod Points
+pub mod Handlers
