@@ -148,7 +148,7 @@ module _ (setting : Setting) (k turns : ℕ) (rs valid : List Standing) (s : For
 
 -- ---- the form
 
-names_inside :
+pub names_inside :
     (block size word limit : ℕ) (inside landing : MidCode) → enough_for (of_code (code_of (with_block block size word inside landing ∷ []))) ≤ limit
     → enough_for (of_code inside) ≤ limit
 names_inside block size word limit inside landing h =

@@ -36,6 +36,11 @@ use Rattle.back_bindings.proofs.Within.{outer_around, inner_world}
 use Rattle.back_bindings.proofs.Lent.{lent_arena, lent_address, lent_state, Lent, lent_size, lent_high, lent_low, lent_above, lent_grows, lent_world, control_stays, handlers_inside, bindings_inside, lent_within}
 use Rattle.back_bindings.proofs.Lending.{Opened}
 
+-- the steps in front of the form
+abbrev pub handler_steps : (d : ℕ) → Steps
+handler_steps d =
+    store d (d + 1) handler_function ∷ constant d 0 ∷ load (d + 2) d handlers_address ∷ store (d + 2) (d + 1) handler_outer ∷ store (d + 1) d handlers_address ∷ []
+
 module _ (setting : Setting) (placed : IsPlaced setting) (a : Start setting) (k : ℕ) (h : Value) (word : ℕ) (held : register a.d a.regs ≡ Some word) (of_value : word_of a.w.places h ≡ Some word)
     (body : Steps) (room : handler_words + 2 ≤ left a.y.arena) (fits : a.d + 3 < length a.regs) where
   abbrev e : ℕ
@@ -45,8 +50,7 @@ module _ (setting : Setting) (placed : IsPlaced setting) (a : Start setting) (k 
   c = code_at setting k a.turns
 
   abbrev pub handler_head : Steps
-  handler_head =
-      store a.d e handler_function ∷ constant a.d 0 ∷ load (a.d + 2) a.d handlers_address ∷ store (a.d + 2) e handler_outer ∷ store e a.d handlers_address ∷ []
+  handler_head = handler_steps a.d
 
   abbrev address : ℕ
   address = lent_address setting placed a handler_words

@@ -7,3 +7,4 @@ pub mod DynamicLet
 pub mod DynamicForms
 pub mod Points
 pub mod Handlers
+pub mod HandlerForms
