@@ -1,0 +1,10 @@
+pub mod Within
+pub mod Lent
+pub mod Lending
+pub mod Cells
+pub mod Bound
+pub mod DynamicLet
+pub mod DynamicForms
+pub mod Points
+pub mod Handlers
+pub mod HandlerForms
