@@ -1,0 +1,3 @@
+pub mod Padding
+pub mod Starting
+pub mod Images
