@@ -21,7 +21,7 @@ use Rattle.back_stepping.specs.Moments.{state_at, later, moment, beside, AreSmal
 use Rattle.back_stepping.proofs.Coming.{sets_none}
 use Rattle.back_stepping.proofs.Operands.{set_small}
 use Rattle.back_emission.proofs.Scratch.{far_jumps}
-use Rattle.back_start.specs.Images.{IsImage, IsFirst}
+use Rattle.back_start.specs.Images.{HasStart, IsFirst}
 use Rattle.back_start.specs.Laws.{loaded, LawOfFirst, LawOfStart}
 use Rattle.back_start.proofs.Padding.{zeros, padded, stands_padded, program_padded, in_front}
 
@@ -67,7 +67,7 @@ start_small words arena few small i =
 -- behind the jump
 
 module _ (program : LineProgram) (l : Located) (Fact : (number line register : ℕ) → Place → Type 0) (good : IsGood program l Fact)
-    (at entry : ℕ) (image : List ℕ) (arena : ℕ) (input : List ℕ) (z : MidState) (i : IsImage program l at entry image) (f : IsFirst l image arena input z) where
+    (at entry : ℕ) (image : List ℕ) (arena : ℕ) (input : List ℕ) (z : MidState) (i : HasStart program l at entry image) (f : IsFirst l image arena input z) where
   abbrev words : List ℕ
   words = laid_words image arena
 

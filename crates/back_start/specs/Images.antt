@@ -14,7 +14,7 @@ start_code l at entry = far_jump_code 1 at (l.entry_at entry)
 
 -- The words of an image have the code of a program with its tables, and at a position the jump to a procedure; behind it stands the code that
 -- ends a run.
-pub record IsImage (program : LineProgram) (l : Located) (at entry : ℕ) (image : List ℕ) : Type 0 where
+pub record HasStart (program : LineProgram) (l : Located) (at entry : ℕ) (image : List ℕ) : Type 0 where
   pub code : HasProgram program l image
   pub start : Stands l image at (start_code l at entry)
   pub behind : l.end_at ≡ at + 2

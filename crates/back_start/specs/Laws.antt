@@ -19,14 +19,14 @@ use Rattle.back_places.specs.StepLaw.{Comes, Known}
 use Rattle.back_runs.specs.Ends.{IsSaid, EndsAs}
 use Rattle.back_runs.specs.MachineRuns.{StaysKnown}
 use Rattle.back_runs.specs.ProgramRuns.{Begins, DoesAs}
-use Rattle.back_start.specs.Images.{IsImage, IsFirst, first_state}
+use Rattle.back_start.specs.Images.{HasStart, IsFirst, first_state}
 
 -- The words laid beside the code stand at the front of the image, in front of those of arguments: then the state that has them, and nothing
 -- else, is one with which a run begins.
 abbrev pub LawOfFirst : Type 0
 LawOfFirst =
     (program : LineProgram) (l : Located) (at entry : ℕ) (image laid rest : List ℕ) (arena : ℕ) (input : List ℕ)
-    → IsImage program l at entry image → image ≡ laid ++ rest → length laid ≤ l.arguments_at → length image ≤ arena → arena ≤ 2 ^ 24
+    → HasStart program l at entry image → image ≡ laid ++ rest → length laid ≤ l.arguments_at → length image ≤ arena → arena ≤ 2 ^ 24
     → ((i : ℕ) → slice_index input i < 2 ^ 32) → IsFirst l image arena input (first_state laid (length image) arena input)
 
 -- the moment at which the machine has been loaded with an image, and has executed nothing
@@ -45,7 +45,7 @@ abbrev pub LawOfStart : Type 0
 LawOfStart =
     (program : LineProgram) (l : Located) (known : (number line register : ℕ) → Place → Bool) → IsGood program l (Known known)
     → (at entry : ℕ) (image : List ℕ) (arena : ℕ) (input : List ℕ) (z : MidState) (p : LineProcedure)
-    → IsImage program l at entry image → IsFirst l image arena input z → slice_get program.procedures entry ≡ Some p
+    → HasStart program l at entry image → IsFirst l image arena input z → slice_get program.procedures entry ≡ Some p
     → Started program l (Known known) at entry image arena input z
 
 -- where the first procedure returns to, the machine halts in three instructions, with the word that was returned
@@ -74,5 +74,5 @@ LawOfImageRuns =
     (program : MidProgram) (l : Located) (known : (number line register : ℕ) → Place → Bool)
     → is_checked_program program ≡ true → IsGood (program_lines program) l (Known known)
     → (at entry : ℕ) (image : List ℕ) (arena : ℕ) (input : List ℕ) (z : MidState) (p : LineProcedure)
-    → IsImage (program_lines program) l at entry image → IsFirst l image arena input z → slice_get (program_lines program).procedures entry ≡ Some p
+    → HasStart (program_lines program) l at entry image → IsFirst l image arena input z → slice_get (program_lines program).procedures entry ≡ Some p
     → ImageRuns program l (Known known) at entry image arena input z
