@@ -4,3 +4,7 @@ pub mod Rests
 pub mod Positions
 pub mod Near
 pub mod LaidOut
+pub mod Instructions
+pub mod OwnSlots
+pub mod LineInstructions
+pub mod Pieces
