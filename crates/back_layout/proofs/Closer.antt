@@ -1,8 +1,8 @@
 -- Two positions in two layouts: in the second one they are in the same order, and no further apart.
-use Rattle.std.proofs.Common.{◌≡◌, ℕ, zero, suc, ◌+◌, ◌-◌, ◌≤◌, Bool, true, false, List, [], ◌∷◌, refl, sym, ap, ◌∙◌, arith, eqb-true}
+use Rattle.std.proofs.Common.{◌≡◌, ℕ, zero, suc, ◌+◌, ◌≤◌, Bool, true, false, List, [], ◌∷◌, refl, arith, eqb-true}
 use Rattle.std.specs.Prelude.{◌&&◌, ◌==◌, slice_index}
 use Rattle.std.proofs.lemmas.Bool.Decides.{nat_tests}
-use Rattle.back_layout.specs.Sizes.{jump_size, goes_over_nothing}
+use Rattle.back_layout.specs.Sizes.{jump_size}
 
 pub record Closer (from to from' to' : ℕ) : Type 0 where
   pub before : from ≤ to

@@ -1,6 +1,6 @@
 -- The pieces of code are instructions: their registers, immediates and offsets are in range.
-use Rattle.std.proofs.Common.{inl, inr, ◌≡◌, ℕ, zero, suc, ◌+◌, ◌-◌, ◌*◌, ◌/◌, ◌%◌, ◌^◌, ◌<◌, ◌≤◌, ℤ, pos, negsuc, Bool, true, false, List, [], ◌∷◌, ◌++◌, length, map, Option, Some, None, refl, sym, ap, ◌∙◌, arith, ltb-true, leb-true}
-use Rattle.std.specs.Prelude.{◌⊎◌, ◌==◌, nat_lt, nat_le, slice_get, slice_index, if◌then◌else◌}
+use Rattle.std.proofs.Common.{◌≡◌, ℕ, zero, suc, ◌+◌, ◌-◌, ◌*◌, ◌%◌, ◌^◌, ◌<◌, ℤ, pos, negsuc, Bool, true, false, List, [], ◌∷◌, ◌++◌, length, Option, Some, None, refl, arith, ltb-true, leb-true}
+use Rattle.std.specs.Prelude.{◌==◌, nat_lt, nat_le, slice_index, if◌then◌else◌}
 use Rattle.std.proofs.lemmas.Int.{ints}
 use Rattle.rv_encode.specs.declared.instruction.Instr.{Instr}
 use Rattle.rv_encode.specs.declared.instruction.Instr.TheVariants.{Lui, Lw, Sw, Addi, Add, Slti, Sltiu, Xori, Ori, Andi}
@@ -180,10 +180,9 @@ module _ (way : Way) (frame : ℕ) where
   binary_is first second target op h k m =
       both_are (read_code way 5 first)
       (read_code way 6 second ++ (arithmetic_of op (given_in target) (read_in 5 first) (read_in 6 second) ∷ keep_code way target)) (read_is way frame 5 first (omega arith) h)
-      (both_are (read_code way 6 second) (arithmetic_of op (given_in target) (read_in 5 first) (read_in 6 second) ∷ keep_code way target) (read_is way frame 6 second (omega arith) k)
-      (
+      (both_are (read_code way 6 second) (arithmetic_of op (given_in target) (read_in 5 first) (read_in 6 second) ∷ keep_code way target) (read_is way frame 6 second (omega arith) k) (
         arithmetic_is op (given_in target) (read_in 5 first) (read_in 6 second) (given_small way frame target m) (read_in_small way frame 5 first (omega arith) h)
-        (read_in_small way frame 6 second (omega arith) k),
+            (read_in_small way frame 6 second (omega arith) k),
         keep_is way frame target m,
       ))
 
@@ -300,8 +299,8 @@ module _ (words_at frame : ℕ) where
       either_is (nat_lt i 14) (at_slot (from_stack 0) k (Sw (argument_register i))) (at_word (words_at + i) (Lw 5) ++ at_slot (from_stack 0) k (Sw 5))
       (λ e. slot_is (from_stack 0) frame k (Sw (argument_register i)) (store_access (argument_register i) (argument_small i)) h)
       (λ e.
-        both_are (at_word (words_at + i) (Lw 5)) (at_slot (from_stack 0) k (Sw 5)) (word_is (words_at + i) (Lw 5) (load_access 5 (omega arith)))
-        (slot_is (from_stack 0) frame k (Sw 5) (store_access 5 (omega arith)) h))
+      both_are (at_word (words_at + i) (Lw 5)) (at_slot (from_stack 0) k (Sw 5)) (word_is (words_at + i) (Lw 5) (load_access 5 (omega arith)))
+      (slot_is (from_stack 0) frame k (Sw 5) (store_access 5 (omega arith)) h))
   parameter_is i (AsConstant w) h = tt
 
   pub parameters_are : (i : ℕ) (ps : List Place) → AllWithin frame ps → AreInstrs (parameters_code words_at i ps)
@@ -326,8 +325,8 @@ pub room_is : (full at words : ℕ) → AreInstrs (room_code full at words)
 room_is full at words =
     either_is (words == 0) [] (stack_code (2 ^ 32 - 4 * words) ++ room_test_code full (at + length (stack_code (2 ^ 32 - 4 * words))) words) (λ e. tt)
     (λ e.
-      both_are (stack_code (2 ^ 32 - 4 * words)) (room_test_code full (at + length (stack_code (2 ^ 32 - 4 * words))) words) (stack_is (2 ^ 32 - 4 * words))
-      (room_test_is full (at + length (stack_code (2 ^ 32 - 4 * words))) words))
+    both_are (stack_code (2 ^ 32 - 4 * words)) (room_test_code full (at + length (stack_code (2 ^ 32 - 4 * words))) words) (stack_is (2 ^ 32 - 4 * words))
+    (room_test_is full (at + length (stack_code (2 ^ 32 - 4 * words))) words))
 
 pub full_is : AreInstrs full_code
 full_is =

@@ -1,13 +1,10 @@
 -- The layout is good: code stands line behind line, near jumps are near enough, and with own slots all is decided well.
-use Rattle.std.proofs.Common.{◌≡◌, ℕ, ◌<◌, ◌≤◌, ◌^◌, true, Some, refl, sym, ap, ◌∙◌}
-use Rattle.std.specs.Prelude.{slice_get}
-use Rattle.mid_lines.specs.declared.line.Line.{Line}
+use Rattle.std.proofs.Common.{ℕ, sym, ap, ◌∙◌}
 use Rattle.mid_lines.specs.declared.line.LineProgram.{LineProgram}
 use Rattle.mid_lines.specs.Lines.{line_of}
-use Rattle.mid_lines.specs.StackLaw.{frame_of}
 use Rattle.back_places.specs.declared.place.Place.{Place}
 use Rattle.back_places.specs.Places.{Located}
-use Rattle.back_places.specs.Good.{Laid, IsGood}
+use Rattle.back_places.specs.Good.{IsGood}
 use Rattle.back_places.specs.StepLaw.{Known}
 use Rattle.back_trivial.specs.OwnSlots.{IsPlacedWell, IsLaidWell}
 use Rattle.back_layout.specs.Layout.{with_front, near_in, far_placed, with_near, laid_out}

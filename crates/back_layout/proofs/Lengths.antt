@@ -181,7 +181,6 @@ module _ (l : Located) (near : ℕ → ℕ → Bool) where
       let from = 0 + length (before_call_code l number line (Procedure n) arguments) in
       append_no_longer (before_call_code l number line (Procedure n) arguments) (jump_code (near number line) 1 from 0) (jump_code false 1 from 0)
       (jump_no_longer (near number line) 1 from 0 from 0)
-
   call_no_longer number line (Word r) arguments = omega arith
 
   operation_no_longer :

@@ -8,3 +8,4 @@ pub mod Instructions
 pub mod OwnSlots
 pub mod LineInstructions
 pub mod Pieces
+pub mod Words

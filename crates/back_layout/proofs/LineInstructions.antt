@@ -1,8 +1,7 @@
 -- The code of a line, what stands behind it, and the entry of a procedure are instructions, where places are within reach.
-use Rattle.std.proofs.Common.{inl, inr, ◌≡◌, ℕ, zero, suc, ◌+◌, ◌-◌, ◌*◌, ◌^◌, ◌<◌, ◌≤◌, ℤ, Bool, true, false, List, [], ◌∷◌, ◌++◌, length, map, Option, Some, None, refl, sym, ap, subst, ◌∙◌, arith, ltb-true}
+use Rattle.std.proofs.Common.{inl, inr, ◌≡◌, ℕ, suc, ◌+◌, ◌-◌, ◌*◌, ◌^◌, ◌<◌, Bool, true, false, List, [], ◌∷◌, ◌++◌, length, Some, refl, arith, ltb-true}
 use Rattle.std.specs.Prelude.{◌⊎◌, nat_lt, slice_get, if◌then◌else◌}
-use Rattle.rv_encode.specs.declared.instruction.Instr.{Instr}
-use Rattle.rv_encode.specs.declared.instruction.Instr.TheVariants.{Lui, Jalr, Bge, Bgeu, Lw, Sw, Addi, Add, Sub, Slli, Srli, Ecall}
+use Rattle.rv_encode.specs.declared.instruction.Instr.TheVariants.{Lui, Jalr, Bge, Lw, Sw, Addi, Add, Sub, Slli, Ecall}
 use Rattle.mid_code.specs.declared.operation.Callee.{Callee}
 use Rattle.mid_code.specs.declared.operation.Callee.TheVariants.{Procedure, Word}
 use Rattle.mid_code.specs.declared.operation.Operation.{Operation}
@@ -10,18 +9,17 @@ use Rattle.mid_code.specs.declared.operation.Operation.TheVariants as operation
 use Rattle.mid_code.specs.Arena.{header_words}
 use Rattle.mid_lines.specs.declared.line.Line.{Line}
 use Rattle.mid_lines.specs.declared.line.Line.TheVariants.{Do, Branch, Switch, Jump, Lay, Landed, GiveBack, Lend, GiveBackLent, Return, Cut, Halt, Unhandled}
-use Rattle.mid_lines.specs.declared.line.LineProcedure.{LineProcedure}
 use Rattle.mid_lines.specs.declared.line.LineProgram.{LineProgram}
 use Rattle.mid_lines.specs.Lines.{line_of}
 use Rattle.mid_lines.specs.StackLaw.{frame_of}
 use Rattle.back_places.specs.declared.place.Place.{Place}
 use Rattle.back_places.specs.declared.place.Place.TheVariants.{InRegister, InSlot, AsConstant}
 use Rattle.back_places.specs.Places.{Located, Way, from_stack, past_lent, no_way, way_at, depth_in, reachable, is_from_stack}
-use Rattle.back_places.specs.Operands.{high_part, low_part, address_code, at_slot, load_into, read_in, read_code, given_in, keep_code, move_code}
+use Rattle.back_places.specs.Operands.{high_part, low_part, address_code, load_into, read_in, read_code, given_in, keep_code, move_code}
 use Rattle.back_places.specs.Selection.{branch_code, jump_code, low_12}
 use Rattle.back_places.specs.Passing.{pass_code, parameters_code}
 use Rattle.back_places.specs.Blocks.{raise_code, room_code, full_here_code}
-use Rattle.back_places.specs.LineCode.{few_requested_code, requested_code, request_code, link_code, table_jump_code, sources, before_call_code, call_jump_code, call_code, taken_code, operation_code, is_silent_jump, tested_code, lent_code, switch_code, lend_code, lay_code, before_return_code, cut_code, unhandled_code, line_code, behind_code, save_code, entry_code}
+use Rattle.back_places.specs.LineCode.{few_requested_code, requested_code, request_code, link_code, table_jump_code, sources, before_call_code, call_jump_code, operation_code, is_silent_jump, tested_code, lent_code, lend_code, lay_code, before_return_code, line_code, behind_code, save_code, entry_code}
 use Rattle.back_places.specs.Facts.{IsPlace, Reads, callee_registers, GoodEntry, GoodLine, GoodOperation}
 use Rattle.back_places.specs.Good.{reach_at, LaysOne}
 use Rattle.back_trivial.specs.OwnSlots.{IsPlacedWell}
@@ -31,9 +29,17 @@ use Rattle.back_layout.proofs.Instructions.{AreInstrs, both_are, either_is, low_
 
 module _ (way : Way) (frame : ℕ) where
   few_is : (words : ℕ) (target : Place) → words < 512 → Within (reachable way frame) target → AreInstrs (few_requested_code way words target)
-  few_is words target few h =
-      ((omega arith, omega arith, omega (arith, few)), ((omega arith, omega arith, (omega arith, refl)), ((omega arith, omega arith, omega (arith, few)), both_are full_here_code (move_code way (InRegister 3) target ++ Addi 3 5 0 ∷ []) full_here_is
-        (both_are (move_code way (InRegister 3) target) (Addi 3 5 0 ∷ []) (move_is way frame (InRegister 3) target (omega arith) h) ((omega arith, omega arith, omega arith), tt)))))
+  few_is words target few h = (
+    (omega arith, omega arith, omega (arith, few)),
+    (
+      (omega arith, omega arith, (omega arith, refl)),
+      (
+        (omega arith, omega arith, omega (arith, few)),
+        both_are full_here_code (move_code way (InRegister 3) target ++ Addi 3 5 0 ∷ []) full_here_is
+            (both_are (move_code way (InRegister 3) target) (Addi 3 5 0 ∷ []) (move_is way frame (InRegister 3) target (omega arith) h) ((omega arith, omega arith, omega arith), tt)),
+      ),
+    ),
+  )
 
   requested_is : (target : Place) → Within (reachable way frame) target → AreInstrs (requested_code way target)
   requested_is target h =
@@ -115,8 +121,7 @@ module _
       let b = read base h.gives.reads.0 in
       both_are (read_code way 5 (l.source number line base))
       (Lw (given_in (l.target number line)) (read_in 5 (l.source number line base)) (low_12 offset) ∷ keep_code way (l.target number line))
-      (read_is way frame 5 (l.source number line base) (omega arith) b)
-      (
+      (read_is way frame 5 (l.source number line base) (omega arith) b) (
         (given_small way frame (l.target number line) given, read_in_small way frame 5 (l.source number line base) (omega arith) b, low_12_small offset),
         keep_is way frame (l.target number line) given,
       )

@@ -1,13 +1,12 @@
 -- Jumps that are near with all jumps far are near in the end: nothing is further apart then.
-use Rattle.std.proofs.Common.{inl, inr, ◌≡◌, ℕ, zero, suc, ◌+◌, ◌-◌, ◌*◌, ◌^◌, ◌<◌, ◌≤◌, Bool, true, false, List, [], ◌∷◌, ◌++◌, length, take, Option, Some, None, refl, sym, ap, subst, ◌∙◌, arith, length-append, ltb-true, leb-true, le-leb}
-use Rattle.std.specs.Prelude.{◌⊎◌, ◌&&◌, nat_lt, nat_le, slice_get, slice_index}
+use Rattle.std.proofs.Common.{inl, inr, ◌≡◌, ℕ, suc, ◌+◌, ◌-◌, ◌^◌, ◌<◌, ◌≤◌, Bool, true, false, List, ◌++◌, length, take, Option, Some, None, refl, sym, ap, subst, ◌∙◌, arith, length-append, ltb-true, leb-true}
+use Rattle.std.specs.Prelude.{◌⊎◌, nat_lt, nat_le, slice_get, slice_index}
 use Rattle.std.proofs.lemmas.Bool.Decides.{nat_tests}
-use Rattle.mid_code.specs.declared.operation.Callee.{Callee}
 use Rattle.mid_code.specs.declared.operation.Callee.TheVariants.{Procedure, Word}
 use Rattle.mid_code.specs.declared.operation.Operation.{Operation}
 use Rattle.mid_code.specs.declared.operation.Operation.TheVariants as operation
 use Rattle.mid_lines.specs.declared.line.Line.{Line}
-use Rattle.mid_lines.specs.declared.line.Line.TheVariants.{Do, Branch, Switch, Jump, Lay, Landed, GiveBack, Lend, GiveBackLent, Return, Cut, Halt, Unhandled}
+use Rattle.mid_lines.specs.declared.line.Line.TheVariants.{Do, Branch, Jump}
 use Rattle.mid_lines.specs.declared.line.LineProcedure.{LineProcedure}
 use Rattle.mid_lines.specs.declared.line.LineProgram.{LineProgram}
 use Rattle.mid_lines.specs.Lines.{lines_in, line_of}
@@ -16,9 +15,9 @@ use Rattle.mid_lines.proofs.Conjunctions.{front_true, back_true}
 use Rattle.back_places.specs.Places.{Located}
 use Rattle.back_places.specs.Operands.{read_in}
 use Rattle.back_places.specs.Selection.{WithinBranch, WithinJump, jump_code, branch_code}
-use Rattle.back_places.specs.LineCode.{before_call_code, tested_code, line_code, behind_code}
+use Rattle.back_places.specs.LineCode.{before_call_code, tested_code, line_code}
 use Rattle.back_places.specs.Good.{Reaches}
-use Rattle.back_layout.specs.Sizes.{unplaced, procedure_rests, entry_size, procedure_size, code_size, all_targets, lines_there}
+use Rattle.back_layout.specs.Sizes.{procedure_rests, entry_size, procedure_size, code_size, all_targets, lines_there}
 use Rattle.back_layout.specs.Layout.{first_at, entry_place, body_place, line_place, placed, all_far, is_near_branch, is_near_jump, line_is_near}
 use Rattle.back_layout.proofs.Lengths.{with_jumps}
 use Rattle.back_layout.proofs.Closer.{Closer, and_then, moved_on, closer_at, less_at}
@@ -102,6 +101,14 @@ order i j = by (nat_le i j) refl
     by : (t : Bool) → nat_le i j ≡ t → (i ≤ j) ⊎ (j < i)
     by true e = inl (leb-true i j e)
     by false e = inr (grind (arith, nat_tests, e))
+
+pub procedure_there :
+    (program : LineProgram) (number line : ℕ) (x : Line) → line_of program number line ≡ Some x → (p : LineProcedure) × (slice_get program.procedures number ≡ Some p)
+procedure_there program number line x e = by (slice_get program.procedures number) refl
+  where
+    by : (o : Option LineProcedure) → slice_get program.procedures number ≡ o → (p : LineProcedure) × (slice_get program.procedures number ≡ Some p)
+    by None h = absurd (cc (sym (ap (λ u. slice_get (lines_in u) line) h) ∙ e))
+    by (Some p) h = (p, h)
 
 module _ (program : LineProgram) (l : Located) (near : ℕ → ℕ → Bool) where
   entry_kept : (number : ℕ) (o : Option LineProcedure) → entry_size (with_jumps l near) number o ≡ entry_size (all_far l) number o
@@ -222,19 +229,12 @@ module _ (program : LineProgram) (l : Located) (near : ℕ → ℕ → Bool) whe
   front_within : {X : Type 0} (xs ys : List X) → length xs ≤ length (xs ++ ys)
   front_within xs ys = omega (arith, length-append xs ys)
 
-  procedure_there : (number line : ℕ) (x : Line) → line_of program number line ≡ Some x → (p : LineProcedure) × (slice_get program.procedures number ≡ Some p)
-  procedure_there number line x e = by (slice_get program.procedures number) refl
-    where
-      by : (o : Option LineProcedure) → slice_get program.procedures number ≡ o → (p : LineProcedure) × (slice_get program.procedures number ≡ Some p)
-      by None h = absurd (cc (sym (ap (λ u. slice_get (lines_in u) line) h) ∙ e))
-      by (Some p) h = (p, h)
-
   operation_reaches :
       (number line : ℕ) (o : Operation) → line_of program number line ≡ Some (Do o) → line_is_near (placed program (all_far l)) number line (Do o) ≡ true
       → Reaches (placed program (with_jumps l near)) number line (Do o)
   operation_reaches number line (operation.Call to (Procedure n) arguments) e h =
       let t = length (before_call_code l number line (Procedure n) arguments) in
-      let there = procedure_there number line (Do (operation.Call to (Procedure n) arguments)) e in
+      let there = procedure_there program number line (Do (operation.Call to (Procedure n) arguments)) e in
       jump_within (first_line number line + t) (first_entry n) (last_line number line + t) (last_entry n)
       (to_entry number line t
       (jump_behind (all_far l) number line t (Do (operation.Call to (Procedure n) arguments)) e (front_within (before_call_code l number line (Procedure n) arguments) (jump_code false 1 (first_line number line + t) (first_entry n))))

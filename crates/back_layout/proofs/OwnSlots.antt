@@ -1,5 +1,5 @@
 -- Where each register has a slot of its own, and there are as many words for arguments as the longest call has, the layout is good whole.
-use Rattle.std.proofs.Common.{◌≡◌, ℕ, zero, suc, ◌≤◌, ◌<◌, ◌^◌, true, max, List, [], ◌∷◌, length, Option, Some, None, refl, sym, ap, ◌∙◌, arith}
+use Rattle.std.proofs.Common.{◌≡◌, ℕ, zero, suc, ◌≤◌, max, List, [], ◌∷◌, Option, Some, None, refl, ap, arith}
 use Rattle.std.specs.Prelude.{slice_get}
 use Rattle.mid_code.specs.declared.operation.Operation.{Operation}
 use Rattle.mid_code.specs.declared.operation.Operation.TheVariants as operation
@@ -7,7 +7,7 @@ use Rattle.mid_code.specs.declared.program.MidProgram.{MidProgram}
 use Rattle.mid_lines.specs.declared.line.Line.{Line}
 use Rattle.mid_lines.specs.declared.line.Line.TheVariants.{Do}
 use Rattle.mid_lines.specs.declared.line.LineProcedure.{LineProcedure}
-use Rattle.mid_lines.specs.Lines.{lines_in, line_of}
+use Rattle.mid_lines.specs.Lines.{lines_in}
 use Rattle.mid_lines.specs.Flattened.{program_lines}
 use Rattle.back_places.specs.Places.{Located}
 use Rattle.back_places.specs.StepLaw.{Known}

@@ -1,5 +1,5 @@
 -- Pieces of a list of words, at their places.
-use Rattle.std.proofs.Common.{◌≡◌, ℕ, zero, suc, ◌+◌, ◌<◌, ◌≤◌, List, [], ◌∷◌, ◌++◌, length, map, Option, Some, None, refl, sym, ap, subst, ◌∙◌, arith, append_assoc, append-nil, length-append}
+use Rattle.std.proofs.Common.{◌≡◌, ℕ, zero, suc, ◌+◌, ◌<◌, ◌≤◌, List, [], ◌∷◌, ◌++◌, length, map, Some, refl, sym, ap, ◌∙◌, arith, append_assoc, append-nil, length-append}
 use Rattle.std.specs.Prelude.{slice_get, slice_index}
 use Rattle.rv_encode.specs.declared.instruction.Instr.{Instr}
 use Rattle.rv_encode.specs.Encodes.{word_of}
@@ -79,8 +79,7 @@ word_at words at (suc k) to w (x ∷ xs) e g h = word_at words (at + 1) k to w x
 pub code_in : (words : List ℕ) (at : ℕ) (code : List Instr) → AreInstrs code → IsIn words at (map word_of code) → HasCode words at code
 code_in words at [] h k = tt
 code_in words at (i ∷ more) h k =
-    let longer = within words at (word_of i ∷ map word_of more) k in
-    (
+    let longer = within words at (word_of i ∷ map word_of more) k in (
       omega (arith, longer),
       word_in words at (word_of i) (map word_of more) k,
       h.0,

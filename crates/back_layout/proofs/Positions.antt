@@ -1,5 +1,5 @@
 -- Positions follow each other: each is behind the one before by the length of the code there.
-use Rattle.std.proofs.Common.{◌≡◌, ℕ, zero, suc, ◌+◌, ◌-◌, ◌*◌, ◌^◌, ◌<◌, ◌≤◌, Bool, true, false, List, [], ◌∷◌, length, take, Option, Some, None, refl, sym, ap, ◌∙◌, arith, ltb-true}
+use Rattle.std.proofs.Common.{◌≡◌, ℕ, zero, suc, ◌+◌, ◌-◌, ◌*◌, ◌^◌, ◌<◌, ◌≤◌, Bool, true, false, List, [], ◌∷◌, length, take, Some, refl, sym, ap, ◌∙◌, arith, ltb-true}
 use Rattle.std.specs.Prelude.{◌&&◌, ◌==◌, nat_lt, slice_get, slice_index}
 use Rattle.mid_lines.specs.declared.line.Line.{Line}
 use Rattle.mid_lines.specs.declared.line.Line.TheVariants.{Jump}
@@ -8,8 +8,8 @@ use Rattle.mid_lines.specs.declared.line.LineProgram.{LineProgram}
 use Rattle.mid_lines.specs.Lines.{line_of}
 use Rattle.mid_lines.specs.StackLaw.{frame_of}
 use Rattle.back_places.specs.Places.{Located}
-use Rattle.back_places.specs.LineCode.{is_silent_jump, line_code, behind_code, entry_code}
-use Rattle.back_layout.specs.Sizes.{unplaced, jump_size, goes_over_nothing, line_size, procedure_rests, entry_size, procedure_size, code_size, all_targets, lines_there}
+use Rattle.back_places.specs.LineCode.{line_code, behind_code, entry_code}
+use Rattle.back_layout.specs.Sizes.{unplaced, jump_size, line_size, procedure_rests, entry_size, procedure_size, code_size, all_targets, lines_there}
 use Rattle.back_layout.specs.Layout.{first_at, entry_place, body_place, line_place, table_place, behind_size, back_place, placed}
 use Rattle.back_layout.specs.Laws.{ArePositions}
 use Rattle.back_layout.proofs.Lengths.{IsNoJump, line_same, behind_same, entry_same, jump_same}

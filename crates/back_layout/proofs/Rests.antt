@@ -1,5 +1,5 @@
 -- What is left from each line on: it falls by the words of a line, and with more jumps near it falls by no more.
-use Rattle.std.proofs.Common.{◌≡◌, ℕ, zero, suc, ◌+◌, ◌-◌, ◌≤◌, Bool, true, false, List, [], ◌∷◌, length, take, Option, Some, None, refl, sym, ap, ◌∙◌, arith}
+use Rattle.std.proofs.Common.{◌≡◌, ℕ, zero, suc, ◌+◌, ◌-◌, ◌≤◌, Bool, List, [], ◌∷◌, length, take, Option, Some, None, sym, ap, ◌∙◌, arith}
 use Rattle.std.specs.Prelude.{nat_lt, slice_get, slice_index}
 use Rattle.mid_lines.specs.declared.line.Line.{Line}
 use Rattle.mid_lines.specs.declared.line.Line.TheVariants.{Do, Branch, Switch, Jump, Lay, Landed, GiveBack, Lend, GiveBackLent, Return, Cut, Halt, Unhandled}
@@ -7,8 +7,7 @@ use Rattle.mid_lines.specs.declared.line.LineProcedure.{LineProcedure}
 use Rattle.mid_lines.specs.Lines.{lines_in}
 use Rattle.mid_lines.specs.StackLaw.{frame_in}
 use Rattle.back_places.specs.Places.{Located}
-use Rattle.back_places.specs.LineCode.{line_code, behind_code}
-use Rattle.back_layout.specs.Sizes.{unplaced, own_size, line_size, rests, procedure_rests, procedure_size, code_size, all_targets}
+use Rattle.back_layout.specs.Sizes.{own_size, line_size, rests, procedure_rests, procedure_size, code_size}
 use Rattle.back_layout.specs.Layout.{all_far}
 use Rattle.back_layout.proofs.Closer.{Closer, Shrunk, closer_at, less_at, same_place, moved_on, jump_shrunk}
 use Rattle.back_layout.proofs.Lengths.{IsNoJump, with_jumps, line_no_longer, behind_kept}
@@ -41,8 +40,8 @@ module _ (l : Located) (number frame : ℕ) where
       record {
         later = rests l number frame (from + 1) ys;
         falls =
-          ap (λ z. slice_index (rests l number frame (from + 1) ys) 0 + line_size l number frame from z (rests l number frame (from + 1) ys)) same
-          ∙ ap (λ n. slice_index (rests l number frame (from + 1) ys) 0 + line_size l number frame n x (rests l number frame (from + 1) ys)) (sym there);
+            ap (λ z. slice_index (rests l number frame (from + 1) ys) 0 + line_size l number frame from z (rests l number frame (from + 1) ys)) same
+            ∙ ap (λ n. slice_index (rests l number frame (from + 1) ys) 0 + line_size l number frame n x (rests l number frame (from + 1) ys)) (sym there);
         later_are = λ k m is. let n : k ≡ m = omega (arith, is) in ap (λ j. slice_index (rests l number frame (from + 1) ys) j) n;
       }
   step_at from (suc i) line (y ∷ ys) x e h =
@@ -104,10 +103,9 @@ module _ (l : Located) (near : ℕ → ℕ → Bool) where
   rests_shrunk number frame line (x ∷ xs) =
       let h = rests_shrunk number frame (line + 1) xs in
       let us = rests (all_far l) number frame (line + 1) xs in
-      let vs = rests (with_jumps l near) number frame (line + 1) xs in
-      (
+      let vs = rests (with_jumps l near) number frame (line + 1) xs in (
         with_line_shrunk (slice_index us 0) (slice_index vs 0) (line_size (all_far l) number frame line x us) (line_size (with_jumps l near) number frame line x vs)
-        (line_smaller number frame line x us vs h),
+            (line_smaller number frame line x us vs h),
         h,
       )
 

@@ -6,7 +6,6 @@ use Rattle.mid_lines.specs.declared.line.Line.{Line}
 use Rattle.mid_lines.specs.declared.line.LineProcedure.{LineProcedure}
 use Rattle.mid_lines.specs.declared.line.LineProgram.{LineProgram}
 use Rattle.mid_lines.specs.Lines.{line_of}
-use Rattle.mid_lines.specs.LinesChecked.{is_checked_line_program}
 use Rattle.mid_lines.specs.Flattened.{program_lines}
 use Rattle.mid_lines.specs.StackLaw.{frame_of}
 use Rattle.back_places.specs.declared.place.Place.{Place}
@@ -59,6 +58,6 @@ LawOfOwnSlotsLaidOut =
 abbrev pub LawOfWords : Type 0
 LawOfWords =
     (program : LineProgram) (l : Located) (known : (number line register : ℕ) → Place → Bool) (entry : ℕ)
-    → is_checked_line_program program ≡ true → IsPlacedWell program (laid_out program l) (Known known)
+    → IsPlacedWell program (laid_out program l) (Known known)
     → HasProgram program (laid_out program l) (image program (laid_out program l) entry)
     × (length (image program (laid_out program l) entry) ≡ (laid_out program l).code_to)

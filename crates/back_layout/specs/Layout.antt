@@ -1,11 +1,10 @@
 -- Where all stands in the image. At its front are the words laid beside the code, those in which arguments are passed, and the table of
 -- procedures; then the code that begins a run, that which ends it, that for want of words, and procedure behind procedure.
-use Rattle.std.specs.Prelude.{ℕ, ◌+◌, ◌-◌, ◌^◌, Bool, false, ◌&&◌, nat_lt, nat_le, List, length, take, slice_get, slice_index, Option, Some, None}
+use Rattle.std.specs.Prelude.{ℕ, ◌+◌, ◌-◌, ◌^◌, Bool, false, ◌&&◌, nat_lt, nat_le, length, take, slice_get, slice_index, Option, Some, None}
 use Rattle.mid_code.specs.declared.operation.Callee.TheVariants.{Procedure}
 use Rattle.mid_code.specs.declared.operation.Operation.TheVariants.{Call}
 use Rattle.mid_lines.specs.declared.line.Line.{Line}
 use Rattle.mid_lines.specs.declared.line.Line.TheVariants.{Do, Branch, Jump}
-use Rattle.mid_lines.specs.declared.line.LineProcedure.{LineProcedure}
 use Rattle.mid_lines.specs.declared.line.LineProgram.{LineProgram}
 use Rattle.mid_lines.specs.Lines.{line_of}
 use Rattle.back_places.specs.Places.{Located}

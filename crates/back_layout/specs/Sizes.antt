@@ -1,6 +1,6 @@
 -- How many words code takes, wherever it stands: that of a line, of an entry, of a procedure. A line's code is as long at every position; only
 -- whether its jump is near counts, and whether a jump forward goes over lines without instructions.
-use Rattle.std.specs.Prelude.{ℕ, zero, suc, ◌+◌, ◌-◌, ◌==◌, Bool, true, false, ◌&&◌, nat_lt, List, [], ◌∷◌, ◌++◌, length, take, slice_get, slice_index, Option, Some, None}
+use Rattle.std.specs.Prelude.{ℕ, ◌+◌, ◌-◌, ◌==◌, Bool, true, false, ◌&&◌, nat_lt, List, [], ◌∷◌, ◌++◌, length, slice_index, Option, Some, None}
 use Rattle.mid_lines.specs.declared.line.Line.{Line}
 use Rattle.mid_lines.specs.declared.line.Line.TheVariants.{Switch, Jump}
 use Rattle.mid_lines.specs.declared.line.LineProcedure.{LineProcedure}
