@@ -1,5 +1,5 @@
 -- The words of the image have the program: each piece of code stands at its position.
-use Rattle.std.proofs.Common.{◌≡◌, ℕ, zero, suc, ◌+◌, ◌-◌, ◌*◌, ◌<◌, ◌≤◌, List, [], ◌∷◌, ◌++◌, length, map, take, replicate, Option, Some, None, refl, sym, ap, subst, ◌∙◌, arith, length-append}
+use Rattle.std.proofs.Common.{◌≡◌, ℕ, zero, suc, ◌+◌, ◌-◌, ◌*◌, ◌^◌, ◌<◌, ◌≤◌, List, [], ◌∷◌, ◌++◌, length, map, take, replicate, Option, Some, None, refl, sym, ap, subst, ◌∙◌, arith, length-append}
 use Rattle.std.specs.Prelude.{slice_get, slice_index}
 use Rattle.std.proofs.lemmas.List.{map-append, length-map, length-replicate}
 use Rattle.rv_encode.specs.declared.instruction.Instr.{Instr}
@@ -21,8 +21,9 @@ use Rattle.back_layout.specs.Sizes.{rests, procedure_rests, entry_size, procedur
 use Rattle.back_layout.specs.Layout.{start_at, first_at, entry_place, body_place, line_place, table_place, back_place, placed, with_near, laid_out}
 use Rattle.back_layout.specs.Image.{lines_code, procedure_words, procedures_words, entries_table, start_code, image}
 use Rattle.back_layout.specs.Laws.{LawOfWords}
-use Rattle.back_layout.proofs.Positions.{entry_is, back_is, behind_is}
-use Rattle.back_layout.proofs.Instructions.{AreInstrs, full_is, end_is}
+use Rattle.back_layout.proofs.Positions.{entry_is, back_is, behind_is, line_within}
+use Rattle.back_layout.proofs.Instructions.{AreInstrs, both_are, far_jump_is, full_is, end_is}
+use Rattle.rv_encode.proofs.Fit.{word_of-fits}
 use Rattle.back_layout.proofs.LineInstructions as instructions
 use Rattle.back_layout.proofs.Near.{procedure_there}
 use Rattle.back_layout.proofs.Pieces.{IsIn, front_of, back_of, whole_in, moved_to, same_piece, within, WordAt, word_at, code_in}
@@ -296,6 +297,31 @@ seven_long a b c d e f g =
       length-append f g,
     )
 
+-- words that are words
+
+abbrev pub AreSmall : List ℕ → Type 0
+AreSmall xs = (i : ℕ) → slice_index xs i < 2 ^ 32
+
+small_both : (xs ys : List ℕ) → AreSmall xs → AreSmall ys → AreSmall (xs ++ ys)
+small_both [] ys h k i = k i
+small_both (x ∷ xs) ys h k zero = h 0
+small_both (x ∷ xs) ys h k (suc i) = small_both xs ys (λ j. h (suc j)) k i
+
+zeros_small : (n : ℕ) → AreSmall (replicate n 0)
+zeros_small zero i = omega arith
+zeros_small (suc n) zero = omega arith
+zeros_small (suc n) (suc i) = zeros_small n i
+
+code_small : (code : List Instr) → AreInstrs code → AreSmall (map word_of code)
+code_small [] h i = omega arith
+code_small (x ∷ more) h zero = word_of-fits x h.0
+code_small (x ∷ more) h (suc i) = code_small more h.1 i
+
+get_laid : (xs ys : List ℕ) (i w : ℕ) → slice_get xs i ≡ Some w → slice_index (xs ++ ys) i ≡ w
+get_laid [] ys i w h = absurd (cc h)
+get_laid (x ∷ xs) ys zero w h = cc h
+get_laid (x ∷ xs) ys (suc i) w h = get_laid xs ys i w h
+
 -- the whole image
 module _ (program : LineProgram) (l : Located) (entry : ℕ) where
   abbrev N : Located
@@ -403,6 +429,9 @@ module _ (program : LineProgram) (l : Located) (entry : ℕ) where
       by : (from at size rest : ℕ) → from ≤ at → from ≤ at + size + rest
       by from at size rest h = omega (arith, h)
 
+  start_is : AreInstrs (start_code program L entry)
+  start_is = far_jump_is 1 (start_at program L) (L.entry_at entry) (omega arith)
+
   procedure_there_in : (number : ℕ) (p : LineProcedure) → slice_get program.procedures number ≡ Some p → ProcedureIn program N words number p
   procedure_there_in number p h =
       procedure_in program N words number p h
@@ -474,5 +503,67 @@ module _ (program : LineProgram) (l : Located) (entry : ℕ) where
       end = stands (start_at program l + 2) end_code end_is (omega arith) (front_of words (start_at program l + 2) (map word_of end_code) from_full end_in);
     }
 
+    -- all are words
+
+    lines_are : (number line : ℕ) (xs : List Line) → AreLines program N number line xs → AreInstrs (lines_code L number (frame_of program number).words line xs)
+    lines_are number line [] h = tt
+    lines_are number line (x ∷ xs) h =
+        let there = first_there program N number line x xs h in
+        both_are (line_code L number (frame_of program number).words line x) (behind_code L number line x ++ lines_code L number (frame_of program number).words (line + 1) xs)
+        (instructions.line_is program L Fact placed number line x there (placed.lines number line x there))
+        (both_are (behind_code L number line x) (lines_code L number (frame_of program number).words (line + 1) xs) (instructions.behind_is program L Fact placed number line x)
+        (lines_are number (line + 1) xs (rest_lines program N number line x xs h)))
+
+    module _ (low : L.code_to < 2 ^ 24) where
+      address_small : (at : ℕ) → at ≤ L.code_to → 4 * at < 2 ^ 32
+      address_small at h = omega (arith, h, low)
+
+      targets_small : (number : ℕ) (to : List ℕ) → AreSmall (map (λ line. 4 * line_place program N number line) to)
+      targets_small number [] i = omega arith
+      targets_small number (t ∷ to) zero = address_small (line_place program N number t) (line_within program N number t)
+      targets_small number (t ∷ to) (suc i) = targets_small number to i
+
+      procedures_small : (number : ℕ) (ps : List LineProcedure) → AreProcedures program N number ps → AreSmall (procedures_words L number ps)
+      procedures_small number [] h = λ i. omega arith
+      procedures_small number (p ∷ ps) h =
+          let there = h 0 number p (omega arith) refl in
+          let framed = ap (λ n. lines_code L number n 0 p.lines) (same_frame program N number p there) in
+          small_both (procedure_words L number p) (procedures_words L (number + 1) ps)
+          (small_both (map word_of (entry_code L number p.frame)) (map word_of (lines_code L number p.frame 0 p.lines) ++ map (λ line. 4 * line_place program N number line) (all_targets p.lines))
+          (code_small (entry_code L number p.frame) (instructions.entry_is L Fact number p.frame p.parameters (placed.entries number p there)))
+          (small_both (map word_of (lines_code L number p.frame 0 p.lines)) (map (λ line. 4 * line_place program N number line) (all_targets p.lines))
+          (code_small (lines_code L number p.frame 0 p.lines) (subst AreInstrs (sym framed) (lines_are number 0 p.lines (of_procedure program N number p there))))
+          (targets_small number (all_targets p.lines))))
+          (procedures_small (number + 1) ps (λ j m q e g. h (suc j) m q (omega (arith, e)) g))
+
+      entry_low : (number : ℕ) → entry_place program N number ≤ L.code_to
+      entry_low number =
+          by (entry_place program N number) (entry_size N number (slice_get program.procedures number)) _ L.code_to (line_within program N number 0)
+        where
+          by : (at size rest to : ℕ) → at + size + rest ≤ to → at ≤ to
+          by at size rest to h = omega (arith, h)
+
+      table_small : (number : ℕ) (ps : List LineProcedure) → AreSmall (entries_table L number ps)
+      table_small number [] i = omega arith
+      table_small number (p ∷ ps) zero = address_small (entry_place program N number) (entry_low number)
+      table_small number (p ∷ ps) (suc i) = table_small (number + 1) ps i
+
+      pub all_small : AreSmall program.laid → AreSmall words
+      all_small laid =
+          small_both program.laid from_arguments laid
+          (small_both (replicate l.argument_words 0) from_table (zeros_small l.argument_words)
+          (small_both (entries_table L 0 program.procedures) from_start (table_small 0 program.procedures)
+          (small_both (map word_of (start_code program L entry)) from_end (code_small (start_code program L entry) start_is)
+          (small_both (map word_of end_code) from_full (code_small end_code end_is)
+          (small_both (map word_of full_code) from_procedures (code_small full_code full_is) (procedures_small 0 program.procedures (all_procedures program N)))))))
+
 pub law_of_words : LawOfWords
-law_of_words program l known entry placed = (program_in program l entry (Known known) placed, words_long program l entry)
+law_of_words program l known entry placed = record {
+  program_there = program_in program l entry (Known known) placed;
+  laid = λ i w e. get_laid program.laid (from_arguments program l entry) i w e;
+  start =
+      stands program l entry (start_at program l) (start_code program (laid_out program l) entry) (start_is program l entry) (omega arith)
+      (front_of (words program l entry) (start_at program l) (map word_of (start_code program (laid_out program l) entry)) (from_end program l entry) (start_in program l entry));
+  long = words_long program l entry;
+  small = λ laid low. all_small program l entry (Known known) placed low laid;
+}

@@ -1,5 +1,5 @@
 -- The laws of the layout.
-use Rattle.std.specs.Prelude.{◌≡◌, ◌≤◌, ◌<◌, ℕ, ◌+◌, ◌*◌, ◌^◌, Bool, true, length, slice_get, Some}
+use Rattle.std.specs.Prelude.{◌≡◌, ◌≤◌, ◌<◌, ℕ, ◌+◌, ◌*◌, ◌^◌, Bool, true, List, length, slice_get, slice_index, Some}
 use Rattle.mid_code.specs.declared.program.MidProgram.{MidProgram}
 use Rattle.mid_code.specs.Checked.{is_checked_program}
 use Rattle.mid_lines.specs.declared.line.Line.{Line}
@@ -12,12 +12,12 @@ use Rattle.back_places.specs.declared.place.Place.{Place}
 use Rattle.back_places.specs.Places.{Located}
 use Rattle.back_places.specs.LineCode.{line_code, behind_code, entry_code}
 use Rattle.back_places.specs.Good.{IsGood}
-use Rattle.back_places.specs.Relation.{HasProgram}
+use Rattle.back_places.specs.Relation.{Stands, HasProgram}
 use Rattle.back_places.specs.StepLaw.{Known}
 use Rattle.back_trivial.specs.FrameFound.{finds_frames}
 use Rattle.back_trivial.specs.OwnSlots.{is_in_own_slot, IsPlacedWell, IsLaidWell}
-use Rattle.back_layout.specs.Layout.{laid_out}
-use Rattle.back_layout.specs.Image.{image}
+use Rattle.back_layout.specs.Layout.{start_at, laid_out}
+use Rattle.back_layout.specs.Image.{start_code, image}
 use Rattle.back_layout.specs.OwnSlots.{own_slots_laid_out}
 
 -- Each position is behind the one before by the length of its code, up to where code ends; and where that is below 2^24, addresses are words.
@@ -54,10 +54,17 @@ LawOfOwnSlotsLaidOut =
     (program : MidProgram) → is_checked_program program ≡ true → finds_frames program ≡ true → (own_slots_laid_out program).code_to < 2 ^ 24
     → IsGood (program_lines program) (own_slots_laid_out program) (Known (is_in_own_slot (program_lines program)))
 
--- the words of the image have the program, and are as many as the end of the code says
+-- Words are an image: they have the program, begin with the words laid beside the code, have the jump to the procedure in which a run begins, and are
+-- as many as positions say. Where the laid words are words and the image is small enough, all are.
+pub record IsImage (program : LineProgram) (l : Located) (entry : ℕ) (words : List ℕ) : Type 0 where
+  pub program_there : HasProgram program l words
+  pub laid : (i w : ℕ) → slice_get program.laid i ≡ Some w → slice_index words i ≡ w
+  pub start : Stands l words (start_at program l) (start_code program l entry)
+  pub long : length words ≡ l.code_to
+  pub small : ((i : ℕ) → slice_index program.laid i < 2 ^ 32) → l.code_to < 2 ^ 24 → (i : ℕ) → slice_index words i < 2 ^ 32
+
+-- so are those of the image, where decisions are good but for positions
 abbrev pub LawOfWords : Type 0
 LawOfWords =
     (program : LineProgram) (l : Located) (known : (number line register : ℕ) → Place → Bool) (entry : ℕ)
-    → IsPlacedWell program (laid_out program l) (Known known)
-    → HasProgram program (laid_out program l) (image program (laid_out program l) entry)
-    × (length (image program (laid_out program l) entry) ≡ (laid_out program l).code_to)
+    → IsPlacedWell program (laid_out program l) (Known known) → IsImage program (laid_out program l) entry (image program (laid_out program l) entry)
