@@ -1,0 +1,6 @@
+// The images of programs with their positions, and what they do.
+#![tactic(auto)]
+
+pub mod laws;
+
+pub use laws::{law_emitted_runs, law_first_states, law_images};
