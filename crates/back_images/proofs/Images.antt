@@ -40,7 +40,7 @@ law_of_first_states program l known entry arena input placed low laid room small
     (subst (λ n. n ≤ arena) (sym e) room) small bytes)
 
 -- good decisions are good but for positions
-placed_well :
+pub placed_well :
     (program : LineProgram) (l : Located) (known : (number line register : ℕ) → Place → Bool) → IsGood program l (Known known)
     → IsPlacedWell program l (Known known)
 placed_well program l known g = record {

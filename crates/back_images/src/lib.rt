@@ -2,5 +2,6 @@
 #![tactic(auto)]
 
 pub mod laws;
+pub mod worked;
 
 pub use laws::{law_emitted_runs, law_first_states, law_images};
