@@ -50,7 +50,7 @@ begins =
 ends : EndsAs r.end r.state machine_run
 ends =
     let e = law_of_emitted_runs printing 0 128 [] z _ refl refl (omega (arith, small)) none_laid refl begins in
-    e.runs_as.in_time 198 0 3 (subst (λ x. IsSaid x) (sym end_is) tt) (omega (arith, cost_is))
+    e.runs_as.in_time 160 0 3 (subst (λ x. IsSaid x) (sym end_is) tt) (omega (arith, cost_is))
 
 pub bytes_printed : BytesPrinted
 bytes_printed =

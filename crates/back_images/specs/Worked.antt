@@ -1,5 +1,5 @@
 -- A worked program on the machine: a loop that prints three bytes.
-use Rattle.std.specs.Prelude.{◌≡◌, ◌*◌, [], ◌∷◌}
+use Rattle.std.specs.Prelude.{◌≡◌, ◌+◌, ◌*◌, [], ◌∷◌}
 use Rattle.rv_machine.specs.declared.ending.Ending.TheVariants.{Halt}
 use Rattle.rv_machine.specs.Run.{Ended, run_of}
 use Rattle.mid_code.specs.declared.operation.Arithmetic.TheVariants as which
@@ -19,9 +19,10 @@ printing = program (procedure 0 3 4
     (code_of (perform (Put 0) ∷ perform (Compute 0 which.Add 0 1) ∷ []))
     ∷ return_word 0 ∷ []) ∷ [])
 
--- its image in an arena of 128 words, with no input: 200 instructions are more than the 160 that it costs, and the two of the start
+-- its image in an arena of 128 words, with no input, and as many instructions as it costs: those of an entry, three constants, four tests, three
+-- turns and a return
 abbrev pub machine_run : Ended
-machine_run = run_of (emitted printing 0) (4 * emitted_start printing) 128 [] 200
+machine_run = run_of (emitted printing 0) (4 * emitted_start printing) 128 [] (20 + 3 * 6 + 4 * 12 + 3 * (8 + 10 + 2) + 14)
 
 abbrev pub BytesPrinted : Type 0
 BytesPrinted = (machine_run.ending ≡ Halt 68) × (machine_run.at.printed ≡ 65 ∷ 66 ∷ 67 ∷ [])

@@ -1,5 +1,5 @@
 -- Ends, and runs of whole images.
-use Rattle.std.proofs.Common.{inl, inr, ◌≡◌, ℕ, suc, ◌+◌, List, [], ◌∷◌, ◌++◌, sym, ap, subst, ◌∙◌, arith}
+use Rattle.std.proofs.Common.{inl, inr, ◌≡◌, ℕ, suc, ◌+◌, ◌-◌, ◌≤◌, List, [], ◌∷◌, ◌++◌, sym, ap, subst, ◌∙◌, arith}
 use Rattle.std.specs.Prelude.{Bool, true, slice_index}
 use Rattle.base.specs.Arithmetic.{sum32}
 use Rattle.rv_encode.specs.declared.instruction.Instr.TheVariants.{Addi}
@@ -21,11 +21,12 @@ use Rattle.back_places.specs.StepLaw.{Comes, Known}
 use Rattle.back_stepping.specs.Moments.{state_at, Ready}
 use Rattle.back_stepping.proofs.Operands.{prepared_one}
 use Rattle.back_emission.proofs.Ends.{holding, called_with}
-use Rattle.back_runs.specs.Ends.{EndsAs}
+use Rattle.back_runs.specs.Ends.{IsSaid, EndsAs}
 use Rattle.back_runs.specs.ProgramRuns.{DoesAs}
 use Rattle.back_runs.proofs.Ending.{at_end}
 use Rattle.back_runs.proofs.Programs.{law_of_program_runs}
 use Rattle.back_start.specs.Laws.{loaded, Started, LawOfEnd, ImageRuns, LawOfImageRuns}
+use Rattle.back_start.proofs.FirstEntry.{ends_early}
 use Rattle.back_start.proofs.Starting.{law_of_start}
 
 module _ (program : LineProgram) (l : Located) (Fact : (number line register : ℕ) → Place → Type 0) (first : List Block) where
@@ -65,15 +66,23 @@ module _ (program : MidProgram) (l : Located) (known : (number line register : �
     ];
   }
 
+  in_time :
+      (n k turns_each : ℕ) → IsSaid (runs program k turns_each entry [] z).end → (runs program k turns_each entry [] z).state.cost ≤ z.cost + n
+      → EndsAs (runs program k turns_each entry [] z).end (runs program k turns_each entry [] z).state (run_from n (loaded image at arena input))
+  in_time n k turns_each said few =
+      let early = ends_early program l known checked good entry z s.moment s.begins k turns_each said in
+      let e : n ≡ 2 + (early.count + suc (n - early.count - 3)) = omega (arith, early.cheap, few) in
+      subst (λ x. EndsAs (runs program k turns_each entry [] z).end (runs program k turns_each entry [] z).state x)
+      (sym (ap (λ i. run_from i (loaded image at arena input)) e ∙ s.comes.whole (early.count + suc (n - early.count - 3))))
+      (early.ends (n - early.count - 3))
+
   image_runs : ImageRuns program l (Known known) at entry image arena input z
   image_runs =
       record {
         started = s;
         does = λ n k turns_each le lt stay.
             behind n k turns_each ((law_of_program_runs program l known checked good entry [] z s.moment s.begins n k turns_each).does le lt stay);
-        in_time = λ n k turns_each said few.
-            subst (λ x. EndsAs (runs program k turns_each entry [] z).end (runs program k turns_each entry [] z).state x) (sym (s.comes.whole n))
-            ((law_of_program_runs program l known checked good entry [] z s.moment s.begins n k turns_each).in_time said few);
+        in_time = in_time;
       }
 
 pub law_of_image_runs : LawOfImageRuns

@@ -55,7 +55,8 @@ LawOfEnd =
     → (z : MidState) (words : List ℕ) (m : Moment) → Machine program l (Known known) first z words m → m.state.pc ≡ 4 * l.end_at
     → (more : ℕ) → EndsAs (returns (slice_index m.state.registers 12)) z (run_from (3 + more) m)
 
--- what n instructions do behind the start, beside the run of a program with so many levels and turns
+-- What instructions of an image do, beside the run of a program with so many levels and turns: 2 for the start, and n. Where the run comes to an
+-- end, the image has ended so within what the run costs: the start, and the environment call at the end, are paid by the first entry.
 pub record ImageRuns
     (program : MidProgram) (l : Located) (Fact : (number line register : ℕ) → Place → Type 0) (at entry : ℕ) (image : List ℕ) (arena : ℕ) (input : List ℕ)
     (z : MidState) : Type 0 where
@@ -65,8 +66,8 @@ pub record ImageRuns
       → StaysKnown (program_lines program) l Fact z.arena.blocks (begin entry [] z) started.moment n
       → DoesAs (runs program k turns_each entry [] z) (loaded image at arena input) (2 + n)
   pub in_time :
-      (n k turns_each : ℕ) → IsSaid (runs program k turns_each entry [] z).end → (runs program k turns_each entry [] z).state.cost < z.cost + n
-      → EndsAs (runs program k turns_each entry [] z).end (runs program k turns_each entry [] z).state (run_from (2 + n) (loaded image at arena input))
+      (n k turns_each : ℕ) → IsSaid (runs program k turns_each entry [] z).end → (runs program k turns_each entry [] z).state.cost ≤ z.cost + n
+      → EndsAs (runs program k turns_each entry [] z).end (runs program k turns_each entry [] z).state (run_from n (loaded image at arena input))
 
 -- **Images do what programs mean**: each program of middle code in form, with good decisions, in every arena in which a run begins.
 abbrev pub LawOfImageRuns : Type 0
