@@ -22,7 +22,7 @@ use Rattle.back_places.specs.Relation.{EntersIn, Relates}
 use Rattle.back_places.specs.StepLaw.{Follows, IsLawful, Known}
 use Rattle.back_steps.proofs.AllLines.{law_of_steps}
 use Rattle.back_runs.specs.Ends.{IsSaid, EndsAs}
-use Rattle.back_runs.specs.MachineRuns.{IsKnown, HasCome, StaysKnown, HasDone, LawOfMachineRuns}
+use Rattle.back_runs.specs.MachineRuns.{IsKnown, HasCome, StaysKnown, HasDone, LawOfKnownSteps, LawOfMachineRuns}
 use Rattle.back_runs.proofs.Following.{same_weight, no_steps, no_count, then_run, then_count}
 use Rattle.back_runs.proofs.Ending.{at_end}
 
@@ -136,11 +136,11 @@ module _ (program : LineProgram) (l : Located) (Fact : (number line register : �
 
   -- what is known from a stage on is known behind a step
   stays_behind :
-      (s : Stage) (m : Moment) (n r : ℕ) (f : Follows program l Fact first s m) → n ≡ f.count + r → StaysKnown program l Fact first s m n
+      (s : Stage) (m : Moment) (n r : ℕ) → Relates program l Fact first s m → (f : Follows program l Fact first s m) → n ≡ f.count + r → StaysKnown program l Fact first s m n
       → StaysKnown program l Fact first (next program s) f.moment r
   unfolding after
-  stays_behind s m n r f e stay steps g few k =
-      stay (suc steps) (then_run program l Fact first s m steps f g) (omega (arith, e, few, then_count program l Fact first s m steps f g)) k
+  stays_behind s m n r at f e stay steps g few k =
+      stay (suc steps) (then_run program l Fact first s m steps at f g) (omega (arith, e, few, then_count program l Fact first s m steps at f g)) k
 
   -- steps that weigh enough, or come to an end, do so behind a step
   covers :
@@ -175,7 +175,7 @@ module _ (program : LineProgram) (l : Located) (known : (number line register : 
           let h = known_lawful program (next program s) k in
           behind program l (Known known) first s m (suc n) (suc n - f.count) f e h
           (rest (next program s) f.moment (suc n - f.count) f.relates k
-          (stays_behind program l (Known known) first s m (suc n) (suc n - f.count) f e stay)
+          (stays_behind program l (Known known) first s m (suc n) (suc n - f.count) r f e stay)
           (covers program l (Known known) first s m (suc n) (suc n - f.count) steps f e h c))
 
   -- the next stage, where an instruction is left
@@ -206,3 +206,8 @@ module _ (program : LineProgram) (l : Located) (known : (number line register : 
 
 pub law_of_machine_runs : LawOfMachineRuns
 law_of_machine_runs program l known first checked good s m r k n steps stay c = does program l known first checked good steps s m n r k stay c
+
+pub law_of_known_steps : LawOfKnownSteps
+law_of_known_steps program l known first s m n known_steps steps f few here =
+    let h = known_lawful program (after program steps s) here in
+    known_steps steps (omega (arith, few, f.heavy h)) (omega (arith, few, f.drawn h)) here

@@ -1,3 +1,4 @@
+pub mod Drawing
 pub mod Following
 pub mod Ending
 pub mod Doing

@@ -107,7 +107,7 @@ law_of_known_runs program l known first entry arguments z m n k turns_each le lt
     stays program entry arguments z n k turns_each le lt lawful l (Known known) first m
 
 -- ends of which something is said are reached
-said_reached : (e : End) → IsSaid e → IsReached e
+pub said_reached : (e : End) → IsSaid e → IsReached e
 said_reached (returns w) h = tt
 said_reached (halts w) h = tt
 said_reached (unhandled class site condition) h = tt

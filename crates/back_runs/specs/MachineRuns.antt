@@ -14,6 +14,7 @@ use Rattle.back_places.specs.Places.{Located}
 use Rattle.back_places.specs.Good.{IsGood}
 use Rattle.back_places.specs.Relation.{Relates}
 use Rattle.back_places.specs.StepLaw.{Known}
+use Rattle.back_runs.specs.Draws.{draws}
 use Rattle.back_runs.specs.Runs.{FollowsRun}
 use Rattle.back_runs.specs.Ends.{EndsAs}
 
@@ -57,6 +58,18 @@ module _ (program : LineProgram) (l : Located) (Fact : (number line register : �
 
   abbrev pub HasDone : Stage → Moment → (n : ℕ) → Type 0
   HasDone s m n = IsAmid s m n ⊎ HasEnded s m n
+
+-- By lines alone: no step behind fewer than so many calls and jumps backwards, and fewer than so many serial numbers drawn, leads there. Then no
+-- step leads there that the machine begins within so many instructions, as each of these takes one.
+abbrev pub StepsAreKnown : LineProgram → Stage → (n : ℕ) → Type 0
+StepsAreKnown program s n =
+    (steps : ℕ) → weights program steps s < n → draws program steps s < n → IsKnown program (after program steps s)
+    → IsKnown program (after program (suc steps) s)
+
+abbrev pub LawOfKnownSteps : Type 0
+LawOfKnownSteps =
+    (program : LineProgram) (l : Located) (known : (number line register : ℕ) → Place → Bool) (first : List Block) (s : Stage) (m : Moment) (n : ℕ)
+    → StepsAreKnown program s n → StaysKnown program l (Known known) first s m n
 
 -- So many instructions have done what lines do, where steps of lines weigh more than these, or lines have ended by then.
 abbrev pub LawOfMachineRuns : Type 0

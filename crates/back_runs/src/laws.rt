@@ -2,11 +2,11 @@
 
 ghost use Rattle.back_runs.specs.Runs.{LawOfRuns};
 ghost use Rattle.back_runs.specs.Ends.{LawOfGoingOn};
-ghost use Rattle.back_runs.specs.MachineRuns.{LawOfMachineRuns};
+ghost use Rattle.back_runs.specs.MachineRuns.{LawOfKnownSteps, LawOfMachineRuns};
 ghost use Rattle.back_runs.specs.ProgramRuns.{LawOfWeighing, LawOfKnownRuns, LawOfProgramRuns};
 
 /// Where decisions are good, so many steps of lines from a stage that the machine is at are matched by a run of instructions, in no more
-/// than these steps cost, and in no fewer than they weigh.
+/// than these steps cost, in no fewer than they weigh, and in no fewer than they draw serial numbers.
 pub fn law_runs()
     ensures { LawOfRuns }
 {}
@@ -14,6 +14,12 @@ pub fn law_runs()
 /// A run of the machine that has ended as lines do stays so: more instructions change nothing.
 pub fn law_going_on()
     ensures { LawOfGoingOn }
+{}
+
+/// Where no step of lines behind fewer than so many calls and jumps backwards, and fewer than so many serial numbers drawn, leads to where
+/// nothing is known of the machine, no step does that the machine begins within so many instructions.
+pub fn law_known_steps()
+    ensures { LawOfKnownSteps }
 {}
 
 /// What so many instructions have done: what they have printed is a beginning of what lines have printed at some stage that comes after steps

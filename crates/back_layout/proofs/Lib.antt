@@ -1,0 +1,11 @@
+pub mod Lengths
+pub mod Closer
+pub mod Rests
+pub mod Positions
+pub mod Near
+pub mod LaidOut
+pub mod Instructions
+pub mod OwnSlots
+pub mod LineInstructions
+pub mod Pieces
+pub mod Words

@@ -1,0 +1,3 @@
+pub mod LineSizes
+pub mod TreeSizes
+pub mod Sizes

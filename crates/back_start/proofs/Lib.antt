@@ -1,0 +1,4 @@
+pub mod Padding
+pub mod Starting
+pub mod FirstEntry
+pub mod Images
