@@ -1,0 +1,8 @@
+// Instructions appended to a list of them, piece by piece as the definitions of code say.
+#![tactic(auto)]
+
+pub mod operands;
+pub mod ways;
+
+pub use operands::CodeList;
+pub use ways::{Access, FrameWay};
