@@ -1,7 +1,9 @@
 // Instructions appended to a list of them, piece by piece as the definitions of code say.
 #![tactic(auto)]
 
+pub mod blocks;
 pub mod operands;
+pub mod selection;
 pub mod ways;
 
 pub use operands::CodeList;
