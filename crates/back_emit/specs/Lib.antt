@@ -1,1 +1,3 @@
 pub mod Ways
+pub mod OwnCode
+pub mod Fits

@@ -3,8 +3,11 @@
 
 pub mod blocks;
 pub mod operands;
+pub mod registers;
 pub mod selection;
+pub mod spots;
 pub mod ways;
 
 pub use operands::CodeList;
+pub use spots::Spot;
 pub use ways::{Access, FrameWay};
