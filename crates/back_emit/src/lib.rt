@@ -3,6 +3,7 @@
 
 pub mod blocks;
 pub mod operands;
+pub mod passing;
 pub mod registers;
 pub mod selection;
 pub mod spots;
