@@ -2,13 +2,16 @@
 #![tactic(auto)]
 
 pub mod blocks;
+pub mod errors;
 pub mod operands;
+pub mod operations;
 pub mod passing;
 pub mod registers;
 pub mod selection;
 pub mod spots;
 pub mod ways;
 
+pub use errors::EmitError;
 pub use operands::CodeList;
 pub use spots::Spot;
 pub use ways::{Access, FrameWay};
