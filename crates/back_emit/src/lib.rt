@@ -3,6 +3,7 @@
 
 pub mod blocks;
 pub mod errors;
+pub mod lines;
 pub mod operands;
 pub mod operations;
 pub mod passing;
