@@ -34,9 +34,15 @@ ReachesLink s (Return r) = IsReached s.way 0
 ReachesLink s x = Unit {0}
 
 -- what is asked for the code of a line of a procedure with so many registers and lines
-pub record FitsLine (s : Spot) (registers lines : ℕ) (x : Line) : Type 0 where
+pub record FitsLine (s : Spot) (registers : ℕ) (x : Line) : Type 0 where
+  pub lines : ℕ
   pub spot : FitsSpot s registers
   pub few : registers < 2 ^ 30
   pub fits : line_fits registers lines x ≡ true
   pub passed : s.arguments_at + passed_by x ≤ 2 ^ 24
   pub link : ReachesLink s x
+
+-- an operation that is no call
+abbrev pub IsPlain : Operation → Type 0
+IsPlain (operation.Call to callee arguments) = ⊥
+IsPlain o = Unit {0}

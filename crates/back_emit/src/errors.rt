@@ -1,5 +1,7 @@
 // Why no image is made.
 
+ghost use Rattle.std.specs.Prelude.{◌≡◌};
+
 use base::NoMemory;
 use thiserror::Error;
 
@@ -13,6 +15,10 @@ pub enum EmitError {
 }
 
 impl From<NoMemory> for EmitError {
+    ghost use Rattle.back_emit.specs.declared.errors.EmitError.TheVariants as emit;
+
+    ghost from_gives = { λ _ e. e ≡ emit.NoMemory };
+
     fn from(_: NoMemory) -> EmitError {
         EmitError::NoMemory
     }

@@ -2,6 +2,7 @@
 #![tactic(auto)]
 
 pub mod blocks;
+pub mod code_of_lines;
 pub mod errors;
 pub mod lines;
 pub mod operands;
