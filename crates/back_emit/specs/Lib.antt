@@ -1,3 +1,4 @@
 pub mod Ways
 pub mod OwnCode
 pub mod Fits
+pub mod Agree
