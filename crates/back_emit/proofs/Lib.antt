@@ -1,3 +1,4 @@
 pub mod Passed
 pub mod Short
 pub mod FromSpots
+pub mod WaysOfTrees

@@ -2,3 +2,4 @@ pub mod Ways
 pub mod OwnCode
 pub mod Fits
 pub mod Agree
+pub mod TreeWays
