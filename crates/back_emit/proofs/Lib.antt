@@ -1,0 +1,4 @@
+pub mod Passed
+pub mod Short
+pub mod FromSpots
+pub mod WaysOfTrees

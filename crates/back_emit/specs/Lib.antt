@@ -1,0 +1,5 @@
+pub mod Ways
+pub mod OwnCode
+pub mod Fits
+pub mod Agree
+pub mod TreeWays

@@ -1,0 +1,14 @@
+// The laws of spots and of ways, as the contracts of functions that do nothing.
+
+ghost use Rattle.back_emit.specs.Agree.{LawOfSpots};
+ghost use Rattle.back_emit.specs.TreeWays.{LawOfTreeWays};
+
+/// Where a line's spot says what was decided, and each register is in a slot of its own, the code of the line is the code from its spot.
+pub fn law_spots()
+    ensures { LawOfSpots }
+{}
+
+/// The ways to the frame at the lines of a tree are those past the records that stand there.
+pub fn law_tree_ways()
+    ensures { LawOfTreeWays }
+{}
