@@ -1,3 +1,5 @@
 pub mod Scopes
 pub mod Cutoffs
 pub mod CleanupRecords
+pub mod Outside
+pub mod Behind
