@@ -3,3 +3,5 @@ pub mod Cutoffs
 pub mod CleanupRecords
 pub mod Outside
 pub mod Behind
+pub mod Calls
+pub mod Ending
