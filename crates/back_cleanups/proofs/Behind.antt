@@ -248,7 +248,7 @@ module _ (setting : Setting) (placed : IsPlaced setting) (k turns : ℕ) (a : St
     all_here : record_inside setting a for_cleanup ∷ a.rs ≡ l.to ∷ l.outer
     all_here = sym (cleanup_stops l.target.address (record_inside setting a for_cleanup) a.rs refl) ∙ l.stop
 
-    to_here : record_inside setting a for_cleanup ≡ l.to
+    pub to_here : record_inside setting a for_cleanup ≡ l.to
     to_here = cc all_here
 
     pub blocks_then : q.state.arena.blocks ≡ record_of record_words ∷ a.y.arena.blocks

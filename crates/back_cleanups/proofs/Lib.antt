@@ -5,3 +5,5 @@ pub mod Outside
 pub mod Behind
 pub mod Calls
 pub mod Ending
+pub mod Cleaned
+pub mod Unwinds

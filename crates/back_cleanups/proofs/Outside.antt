@@ -171,3 +171,26 @@ module _ (setting : Setting) (a : Start setting) where
             };
             charged = let first = came.charged in let from = from_came in omega (arith, first, charged, from);
           }
+
+    -- behind a cleanup that ran because the form fell out
+    pub reached_behind :
+        (around_stands : AroundStands setting w a.rs a.valid a.around z y) (m : ℕ) (fewer : m ≤ a.n) (there : a.d + 3 < length a.regs) (x : ReachedFrom setting credit a a.d w z g y) {r : FlatEvaluated} {q : MidOutcome}
+        (f : FellFrom setting 0 (cleanup_start {valid = a.valid} {exits = a.around.exits} around_stands m fewer there) (a.d + 3) r q) → ReachedFrom setting credit a a.d f.w' r.state q.registers q.state
+    reached_behind around_stands m fewer there x {r} {q} f =
+        let behind : Came setting a (credit + 0) f.w' r.state q.registers q.state = came_behind {valid = a.valid} {exits = a.around.exits} around_stands m fewer there f in
+        let first = x.back.control in
+        let then = f.reached.back.control in
+        record {
+          kept = record { world = behind.world; activation = behind.activation; registers = behind.registers };
+          back = record {
+            control = record {
+              current = λ n e. then.current n (first.current n e);
+              link = λ n e. then.link n (first.link n e);
+              handlers = λ n e. then.handlers n (first.handlers n e);
+              bindings = λ n e. then.bindings n (first.bindings n e);
+            };
+            blocks = behind.blocks;
+            charged = behind.charged;
+            paid = let paid = behind.paid in omega (arith, paid);
+          };
+        }
