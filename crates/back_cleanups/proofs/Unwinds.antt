@@ -379,3 +379,35 @@ module _ (setting : Setting) (placed : IsPlaced setting) (m size k : ℕ) (f cle
 
   pub unwind_code_sim : ChargesAt setting 600 a whole (exec c (code_of (step ∷ behind_steps)) a.regs a.y)
   unwind_code_sim = subst (λ q. ChargesAt setting 600 a whole q) (sym (step_then c step behind_steps a.regs a.y)) unwind_step
+
+pub unwinds_law : LawOfUnwinds
+unfolding mean lower
+unwinds_law setting s d m n size k turns f cleanup placed there enough enough_words goes f_here cleanup_here p =
+    let a0 : Start setting = start_at setting s d n size turns p in
+    let same = p.count in
+    units_then setting 600 0 a0 2 (omega arith)
+    (unwind_code_sim setting placed m size k f cleanup (start_charged setting a0 2) (omega (arith, there, same)) p.count enough enough_words goes f_here cleanup_here)
+
+pub whole_unwinds_law : LawOfWholeUnwinds
+unfolding lower
+whole_unwinds_law setting k turns f cleanup placed goes f_does cleanup_does rs valid s d n first w env around z regs y stands known begins registers words =
+    let size : ℕ = length regs in
+    let laying : Steps = record_laid (d + 1) (d + 6) cleanup_kind in
+    let f_code : Steps = (lower setting.names setting.at setting.program (inside_cleanup s).code (d + 6) f).value in
+    let cleanup_code : Steps = (lower setting.names setting.at setting.program (in_cleanup s).code (d + 3) cleanup).value in
+    let block : MidStep = with_block (d + 1) record_words d (code_of (laying ++ (f_code ++ behind_form d))) (code_of (landing_steps d)) in
+    let behind : Steps = cleanup_code ++ end_steps setting d in
+    let block_fits : enough_for (of_code (code_of (block ∷ []))) ≤ size = registers_front (block ∷ []) behind size registers in
+    let behind_fits : enough_for (of_code (code_of behind)) ≤ size = registers_behind (block ∷ []) behind size registers in
+    let inside_fits : enough_for (of_code (code_of (laying ++ (f_code ++ behind_form d)))) ≤ size =
+    inside_registers (d + 1) d (of_code (code_of (laying ++ (f_code ++ behind_form d)))) (of_code (code_of (landing_steps d))) size block_fits in
+    let front : enough_for (of_code (code_of laying)) ≤ size = registers_front laying (f_code ++ behind_form d) size inside_fits in
+    let wide : d + 6 + 1 + 1 ≤ size = second_register (d + 6) (d + 6 + 1) (of_code (code_of (drop 2 laying))) size front in
+    let f_fits : enough_for (of_code (code_of f_code)) ≤ size = registers_front f_code (behind_form d) size (registers_behind laying (f_code ++ behind_form d) size inside_fits) in
+    let cleanup_fits : enough_for (of_code (code_of cleanup_code)) ≤ size = registers_front cleanup_code (end_steps setting d) size behind_fits in
+    unwinds_law setting s d (words_for setting.names setting.program f) n size k turns f cleanup placed (omega (arith, wide)) (omega (arith, words)) (omega (arith, words)) goes
+    (charges_here setting (inside_cleanup s) (d + 6) (words_for setting.names setting.program f) size k turns first f f_does
+    (record { stands = stands.stands.0; fits = stands.fits.0; leads = stands.leads.0; placed = stands.placed.0 }) known f_fits (omega arith))
+    (charges_here setting (in_cleanup s) (d + 3) n size k turns first cleanup cleanup_does
+    (record { stands = stands.stands.1; fits = stands.fits.1; leads = stands.leads.1; placed = stands.placed.1 }) known cleanup_fits (omega (arith, words)))
+    (record { rs = rs; valid = valid; w = w; env = env; around = around; z = z; regs = regs; y = y; begins = begins; count = refl })
