@@ -86,7 +86,7 @@ ends_from e (x ∷ y ∷ ys) (v ∷ vs) t f h = by (x.number == e) f (λ g. ends
     by false g inner = inner g
 
 -- **what is around a cleanup during a transfer**: the exits from the target on, with the target's record as the link
-module _ (setting : Setting) {w w' : World} {rs valid : List Standing} {around : DynamicContext} {z z' : FlatState} {y y' : MidState} (e : ℕ) (target : Standing) (later : Later w w') (h : Same w w' y y')
+module _ (setting : Setting) {w w' : World} {rs valid : List Standing} {around : DynamicContext} {z : FlatState} (z' : FlatState) {y y' : MidState} (e : ℕ) (target : Standing) (later : Later w w') (h : Same w w' y y')
     (more : z.state.exits ≤ z'.state.exits) (t : AroundStands setting w rs valid around z y) (found : record_of_exit e around.exits valid ≡ Some target)
     (end : (n : ℕ) → HasWordAt y end_address n → HasWordAt y' end_address n) (says : ControlSays y'.arena t.current target.address t.handlers_cell t.bindings_cell) where
   pub cutoff : LinksFrom rs e z'.state.exits around.exits valid target

@@ -53,7 +53,7 @@ behind_body d = record_left (d + 1) (d + 7) ++ (move d (d + 6) ∷ [])
 abbrev pub landing_steps : ℕ → Steps
 landing_steps d = record_landed (d + 1) (d + 6)
 
-left_controls : (current link : ℕ) → AreControls (left_stores current link)
+pub left_controls : (current link : ℕ) → AreControls (left_stores current link)
 left_controls current link = (refl, (omega arith, omega arith), (λ e. absurd (omega (arith, e))), (refl, (omega arith, omega arith), (λ e. absurd (omega (arith, e))), tt))
 
 landed_controls : (current link handlers bindings : ℕ) → AreControls (landed_stores current link handlers bindings)
@@ -81,12 +81,12 @@ module _ (setting : Setting) {w : World} {z : FlatState} {y : MidState} (t : Thi
   spot_back : SpotStands back (control_spot setting)
   spot_back = spot_stands y.arena back (control_spot setting) refl refl refl (omega arith) (control_of setting t)
 
-  control_back : (i : ℕ) (puts : List Put) → are_puts puts ≡ true → i < 36 → i % 4 ≡ 0
+  pub control_back : (i : ℕ) (puts : List Put) → are_puts puts ≡ true → i < 36 → i % 4 ≡ 0
       → word_at (stores (pairs at puts) back) (control_address + i) ≡ or_before (last_control i puts) (word_at back (control_address + i))
   control_back i puts are few word =
       control_stands at aligned above_controls i puts back are few (control_lent setting spot_back i few word) (control_there setting spot_back grows.heap.stands i few)
 
-  control_stays : (i n : ℕ) → i < 36 → HasWordAt y (control_address + i) n → word_at back (control_address + i) ≡ Some n
+  pub control_stays : (i n : ℕ) → i < 36 → HasWordAt y (control_address + i) n → word_at back (control_address + i) ≡ Some n
   control_stays i n few e = let low = spot_below t.represents.arena (control_of setting t) in grows.words (control_address + i) (omega (arith, low, few)) ∙ e
 
 module _ (setting : Setting) (placed : IsPlaced setting) (k turns : ℕ) (a : Start setting) {units cost : ℕ} {x : Exit} {w : World} {z : FlatState} {regs : Registers} {y : MidState}
