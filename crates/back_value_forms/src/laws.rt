@@ -1,6 +1,7 @@
 // The laws of variables, bindings, global variables and functions, wherever the forms stand, each as the contract of a function that does nothing.
 ghost use Rattle.std.specs.Prelude.{ℕ};
 ghost use Rattle.back_relation.specs.Setting.{Setting};
+ghost use Rattle.back_value_forms.specs.Sites.{LawOfSites};
 ghost use Rattle.back_value_forms.specs.Wholes.{LawOfWholeVariables, LawOfWholeSetting, LawOfWholeBindings, LawOfWholeFunctions, LawOfWholeGlobals, LawOfWholeSettingGlobals, LawOfWholeDefinitions, LawOfWholeJudging};
 
 /// Variables are read.
@@ -41,4 +42,9 @@ pub fn law_whole_definitions()
 /// Forms that are judged by their value.
 pub fn law_whole_judging()
     ensures { (setting : Setting) (k turns : ℕ) → LawOfWholeJudging setting k turns }
+{}
+
+/// Forms with a site.
+pub fn law_sites()
+    ensures { (setting : Setting) (k turns : ℕ) → LawOfSites setting k turns }
 {}
