@@ -70,7 +70,7 @@ bindings_mean context (binding_and h f bs) vs env around z next =
     flat_same (mean context f env around z) (λ v x. mean_bindings context bs (vs ++ v ∷ []) env around x next)
     (λ v x. mean_arguments context (forms_of bs) (vs ++ v ∷ []) env around x next) (λ v x. bindings_mean context bs (vs ++ v ∷ []) env around x next)
 
-bindings_steps :
+pub bindings_steps :
     (setting : Setting) (s : Scope) (d : ℕ) (bs : FlatBindings)
     → lower_bindings setting.names setting.at setting.program s d bs ≡ lower_arguments setting.names setting.at setting.program s d (forms_of bs)
 unfolding lower

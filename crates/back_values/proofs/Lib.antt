@@ -11,9 +11,3 @@ pub mod Bindings
 pub mod SetSlots
 pub mod SetBoxes
 pub mod SetVariables
-pub mod NewGlobals
-pub mod Signals
-pub mod Globals
-pub mod NewFunctions
-pub mod FunctionParts
-pub mod Functions

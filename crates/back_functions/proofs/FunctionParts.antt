@@ -45,7 +45,7 @@ use Rattle.std.proofs.lemmas.Bool.{ne_eqb}
 use Rattle.back_values.specs.Variables.{CapturedByFunctions}
 use Rattle.back_values.proofs.CapturedWords.{PartThere, of_kind, is_value, is_box, is_exit, is_method, part_there}
 use Rattle.back_values.proofs.Far.{Loaded, load_far_runs, store_far_runs, charged_twice}
-use Rattle.back_values.proofs.NewFunctions.{CapturedAre}
+use Rattle.back_functions.proofs.NewFunctions.{CapturedAre}
 use Rattle.back_values.proofs.SetBoxes.{late_two}
 use Rattle.back_values.proofs.Variables.{slot_there, there_is}
 

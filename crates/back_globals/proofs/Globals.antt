@@ -49,12 +49,12 @@ use Rattle.back_combining.proofs.Straight.{same_here, world_cost, around_cost}
 use Rattle.back_combining.proofs.Then.{same_world}
 use Rattle.back_combining.proofs.Worlds.{later_same}
 use Rattle.back_values.specs.Boxes.{Clean}
-use Rattle.back_values.specs.Globals.{FailsHere, LawOfGlobals, LawOfSettingGlobals, LawOfDefinitions}
+use Rattle.back_globals.specs.Globals.{FailsHere, LawOfGlobals, LawOfSettingGlobals, LawOfDefinitions}
 use Rattle.back_values.proofs.Cleaning.{is_clean, reached_clean}
 use Rattle.back_values.proofs.Far.{Stored, load_from_runs, store_to_runs, charged_twice}
-use Rattle.back_values.proofs.NewGlobals.{global_lent, global_low, world_global, around_global}
+use Rattle.back_globals.proofs.NewGlobals.{global_lent, global_low, world_global, around_global}
 use Rattle.back_values.proofs.SetVariables.{given_where}
-use Rattle.back_values.proofs.Signals.{signal_grows}
+use Rattle.back_globals.proofs.Signals.{signal_grows}
 
 -- registers that code may use are others
 pub reached_registers :

@@ -61,13 +61,13 @@ use Rattle.back_combining.proofs.Points.{point_after}
 use Rattle.back_combining.proofs.Starts.{start_charged, ends_charged, behind}
 use Rattle.back_combining.proofs.Then.{same_world}
 use Rattle.back_values.specs.Boxes.{Clean}
-use Rattle.back_values.specs.Functions.{LawOfFunctions}
+use Rattle.back_functions.specs.Functions.{LawOfFunctions}
 use Rattle.back_values.specs.Variables.{CapturedByFunctions}
 use Rattle.back_values.proofs.BoxesMade.{steps_grow, full_printed}
 use Rattle.back_values.proofs.CapturedWords.{of_kind, is_exit}
 use Rattle.back_values.proofs.Cleaning.{is_clean, reached_clean}
-use Rattle.back_values.proofs.FunctionParts.{AsBefore, PartsDone, ObjectHere, parts_done}
-use Rattle.back_values.proofs.NewFunctions.{captured_count, words_asked, function_meant, function_is, world_made, around_made, function_world}
+use Rattle.back_functions.proofs.FunctionParts.{AsBefore, PartsDone, ObjectHere, parts_done}
+use Rattle.back_functions.proofs.NewFunctions.{captured_count, words_asked, function_meant, function_is, world_made, around_made, function_world}
 use Rattle.back_values.proofs.SetVariables.{given_where}
 
 -- ---- of what kinds parts are, and which forms made exits among them
