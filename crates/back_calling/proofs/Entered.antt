@@ -22,12 +22,13 @@ use Rattle.mid_arena.proofs.Memory.{grows_with_new_block, left_with_new_block, g
 use Rattle.mid_arena.proofs.Representing.{represents_grown}
 use Rattle.mid_arena.proofs.Running.{frame_of, entered, some_found, first_chosen, second_chosen}
 use Rattle.back_lowering.specs.ControlWords.{current_address, link_address, handlers_address, bindings_address, end_address, landing_address}
+use Rattle.back_lowering.specs.Program.{lowered}
 use Rattle.back_relation.specs.Setting.{Setting, FramesWithin}
 use Rattle.back_relation.specs.Room.{words_for_handler}
 use Rattle.back_relation.specs.Worlds.{World, BoxPlace, on_heap, on_stack, gone, Standing}
 use Rattle.back_relation.specs.Things.{Things, WithinLimit}
 use Rattle.back_relation.specs.Around.{RoomFor, AroundStands, CallBegins}
-use Rattle.back_relation.specs.Ends.{RoomEnded, Because, done, left_by, full_there, stopped, few_turns, Returned, LeftCall, CallEnds}
+use Rattle.back_relation.specs.Ends.{Ends, RoomEnded, Because, done, left_by, full_there, stopped, few_turns, Returned, LeftCall, CallEnds}
 use Rattle.back_relation.specs.Forms.{code_at}
 use Rattle.back_relation.specs.Procedures.{called}
 use Rattle.back_combining.specs.Starts.{FlatGrown}
@@ -358,3 +359,14 @@ module _ (setting : Setting) where
       let u = used_at _ setting.procedures number p setting.frames found in
       subst (λ o. CallEnds setting (credit + entry_cost p.parameters) m rs valid w around z y r o) (sym (called_by k n number p ws y Level counted u))
       (level_ends setting room inside credit m p ws rs valid w around z y r u.frame u.within many enough grown b k n none body)
+
+  -- where there is no level, nothing is said of the frame
+  pub no_level_ends :
+      {Done Left : Type 0} (turns number m : ℕ) (p : MidProcedure) (ws : List ℕ) (w : World) (z : FlatState) (y : MidState) (r : FlatEvaluated)
+      → slice_get (lowered setting.names setting.at setting.program) number ≡ Some p → p.counted ≡ Level → r.outcome ≡ more → FlatGrown z r.state → Things setting w z y
+      → Ends setting Done Left m z y r (called (code_at setting zero turns) number ws y)
+  unfolding levels
+  no_level_ends {Done} {Left} turns number m p ws w z y r found counted none grown t =
+      let u = used_at _ setting.procedures number p setting.frames found in
+      subst (λ o. Ends setting Done Left m z y r o) (sym (called_by zero turns number p ws y Level counted u))
+      (stopped (record { because = none; printed = subst (λ ps. IsPrefix ps r.state.state.printed) (sym t.represents.printed) grown.printed }))

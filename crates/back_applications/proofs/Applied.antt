@@ -1,0 +1,188 @@
+-- A function is entered at its body, where there is a level and the words of its application.
+use Rattle.std.proofs.Common.{◌≡◌, ℕ, zero, suc, ◌+◌, ◌*◌, ◌≤◌, Bool, true, List, [], ◌∷◌, ◌++◌, length, Some, None, refl, sym, ap, ◌∙◌, subst, arith}
+use Rattle.std.specs.Prelude.{pos, slice_get, is_some, option_to_list, if◌then◌else◌}
+use Rattle.std.proofs.lemmas.Bool.{eq-eqb}
+use Rattle.std.proofs.lemmas.List.{append-nil}
+use Rattle.lang_meaning.specs.Counts.{application_words}
+use Rattle.lang_meaning.specs.Objects.{program_error_class}
+use Rattle.lang_meaning.specs.Signals.{takes}
+use Rattle.lang_meaning.specs.State.{DynamicContext, Limit, words, unlimited, has_room}
+use Rattle.lang_meaning.specs.Values.{Value, integer, nil}
+use Rattle.flat_language.specs.declared.program.FlatProcedure.{FlatProcedure}
+use Rattle.flat_language.specs.FlatMeaning.{flat_meaning_at}
+use Rattle.flat_language.specs.FlatNodes.{homes, nodes}
+use Rattle.flat_language.specs.FlatSignals.{FlatSignals, nothing as no_task, form, descend, enter, gathered, with_record, with_boxes}
+use Rattle.flat_language.specs.FlatState.{Captured, FlatEnvironment, no_environment, FlatState, FlatEvaluated, charged, gives, go_on, in_frame, in_own_frame, with_slots}
+use Rattle.flat_laws.specs.FlatLater.{FlatLater}
+use Rattle.flat_laws.proofs.Applied.{boxes}
+use Rattle.flat_laws.proofs.Combined.{own_slots_left}
+use Rattle.flat_laws.proofs.Later.{later_kept}
+use Rattle.mid_code.specs.declared.operation.Counted.TheVariants.{Level}
+use Rattle.mid_code.specs.Costs.{return_cost, entry_cost}
+use Rattle.mid_code.specs.Law.{Grown}
+use Rattle.mid_code.specs.Meaning.{enter as mid_enter, count, exec}
+use Rattle.mid_code.specs.MidCode.{return_word, code_of}
+use Rattle.mid_code.specs.State.{first_registers, MidState, MidOutcome}
+use Rattle.mid_code.specs.State.{charged as mid_charged}
+use Rattle.mid_code.proofs.Growth.{with_some_grown, count_grown, levels_grow, turns_grow}
+use Rattle.mid_arena.specs.Places.{WordsOf}
+use Rattle.mid_arena.proofs.WordFacts.{low_word_of_word}
+use Rattle.mid_arena.proofs.Running.{and_then, constant_falls}
+use Rattle.back_lowering.specs.Placement.{body_of_procedure}
+use Rattle.back_lowering.specs.Program.{Extra, nothing, its_method, itself, procedure_with, body_of}
+use Rattle.back_lowering.specs.RoutineCodes.{level_code}
+use Rattle.back_lowering.specs.Routines.{level_routine}
+use Rattle.back_lowering.specs.Sites.{asks_site}
+use Rattle.back_lowering.specs.Steps.{constant}
+use Rattle.back_relation.specs.Setting.{Setting}
+use Rattle.back_relation.specs.Room.{routine_words, words_for_handler}
+use Rattle.back_relation.specs.Worlds.{World, Standing}
+use Rattle.back_relation.specs.Around.{RoomFor, CallBegins, SiteStored}
+use Rattle.back_relation.specs.Ends.{done, left_by, full_there, stopped, few_turns, CallEnds}
+use Rattle.back_relation.specs.Forms.{below_at, context_at, code_at}
+use Rattle.back_relation.specs.Procedures.{called, mean_inside, body_words, ExtraGiven, BodyBegins}
+use Rattle.back_combining.proofs.Growth.{same_flat}
+use Rattle.back_combining.proofs.Straight.{things_units, world_cost, around_cost}
+use Rattle.back_calling.specs.Entering.{Inside}
+use Rattle.back_calling.proofs.Entered.{entered_levels_law, no_level_ends}
+use Rattle.back_calling.proofs.Growing.{tasks_below}
+use Rattle.back_calling.proofs.Inner.{going_on_law, returns_law}
+use Rattle.back_calling.proofs.Numbers.{numbers_law}
+use Rattle.back_applications.specs.Applying.{application_credit, LawOfApplyingBodies, LawOfLevelsThere}
+use Rattle.back_applications.proofs.Charging.{asked, things_charged, around_charged, calls_charged, framed_ends, within_asked}
+
+module _ (setting : Setting) where
+  -- ---- levels
+
+  level_gives : (j : ℕ) (env : FlatEnvironment) (around : DynamicContext) (z : FlatState) → below_at setting (suc j) no_task env around z ≡ gives nil z
+  unfolding flat_meaning_at
+  level_gives zero env around z = refl
+  level_gives (suc j) env around z = refl
+
+  -- where there is a level, what comes behind it
+  pub level_there : (j : ℕ) (next : FlatState → FlatEvaluated) (around : DynamicContext) (z : FlatState) → descend (below_at setting (suc j)) next around z ≡ next z
+  level_there j next around z = ap (λ s. go_on s (λ v after. next after)) (level_gives j no_environment around z)
+
+  pub called_grows : (k turns number : ℕ) (ws : List ℕ) (y : MidState) → Grown y (called (code_at setting k turns) number ws y).state
+  called_grows k turns number ws y =
+      with_some_grown (slice_get setting.procedures number) (λ p rs x. count (code_at setting k turns) p.counted (mid_enter p ws) x) [] y
+      (λ p.
+      count_grown (code_at setting k turns) (levels_grow setting.procedures setting.turns_each k)
+      (turns_grow setting.procedures _ (levels_grow setting.procedures setting.turns_each k) turns) p.counted (mid_enter p ws) y)
+
+  -- ---- bodies
+
+  module _ (j m n entry : ℕ) (extra : Extra) (q : FlatProcedure) (cs : List Captured) (vs : List Value) (around : DynamicContext) where
+    abbrev size : ℕ
+    size = application_words (nodes q.body) + length vs
+
+    abbrev inner : FlatState → FlatEvaluated
+    inner entered = mean_inside (context_at setting (suc j)) q cs None vs around (charged (length vs) entered)
+
+    inside_later : (x : FlatState) → FlatLater x (mean_inside (context_at setting (suc j)) q cs None vs around x).state
+    inside_later x =
+        (boxes {R = FlatLater} {k = later_kept} setting.limit around.exits (homes q) x
+        (λ ready. own_slots_left (homes q) vs ready (λ y. tasks_below setting (suc j) (form q.body) (record no_environment { captured = cs; method = None }) around y))).grows
+
+    -- a function without further arguments
+    entered_is : (wrong : FlatSignals) (z : FlatState) → q.rest ≡ None → length vs ≡ length q.required
+        → enter (context_at setting (suc j)) wrong q cs None vs around z ≡ in_frame setting.limit size inner z
+    entered_is wrong z none same =
+        ap (λ t. either t (is_some q.rest)) takes_them ∙ ap (λ o. either true (is_some o)) none
+      where
+        either : Bool → Bool → FlatEvaluated
+        either t rest =
+            if t then
+            in_frame setting.limit size
+            (λ entered. gathered setting.limit (length q.required) rest vs (charged (length vs) entered) (λ ws gone.
+            with_record setting.limit None q.keeps_method gone (λ recorded.
+            with_boxes setting.limit (homes q) recorded (λ ready.
+            in_own_frame (λ y.
+            below_at setting (suc j) (form q.body) (record no_environment { captured = cs; method = None }) around (with_slots (homes q) ws y))
+            ready))))
+            z
+            else wrong program_error_class [] around z
+
+        takes_them : takes (length q.required) (is_some q.rest) (length vs) ≡ true
+        takes_them = ap (λ o. takes (length q.required) (is_some o) (length vs)) none ∙ eq-eqb _ _ (sym same)
+
+    homes_count : q.rest ≡ None → length (homes q) ≡ length q.required
+    homes_count none = ap (λ o. length (q.required ++ option_to_list o)) none ∙ ap length (append-nil q.required)
+
+    extra_charged : (w : World) (z z' : FlatState) (y : MidState) (given : List ℕ) (x : Extra) → z'.captured ≡ z.captured → ExtraGiven setting w z y x q cs None given
+        → ExtraGiven setting w z' y x q cs None given
+    extra_charged w z z' y given nothing e g = g
+    extra_charged w z z' y given its_method e g = g
+    extra_charged w z z' y given itself e g = rw e g
+
+    begun :
+        {rs valid : List Standing} {w : World} {z : FlatState} {y : MidState} {ws given : List ℕ} → has_room setting.limit (z.state.heap + z.state.stack + 0 + size) ≡ true → q.rest ≡ None
+        → length vs ≡ length q.required → CallBegins setting rs valid n w around z y → WordsOf w.places vs ws → ExtraGiven setting w z y extra q cs None given
+        → (asks_site q.body ≡ true → SiteStored setting around y)
+        → BodyBegins setting rs valid extra q cs None vs ws given w around (charged (length vs) (asked size z)) y
+    begun {w = w} {z = z} {y = y} {given = given} room none same b variables extras site = record {
+      call = record {
+        things = things_units setting (length vs) (things_charged setting (asked size z) b.things refl refl refl refl refl (within_asked setting size z room));
+        around_stands = around_charged setting (charged (length vs) (asked size z)) refl b.around_stands;
+        room = room_by setting.limit b.room;
+      };
+      variables = variables;
+      variable_count = same ∙ sym (homes_count none);
+      extras = extra_charged w z (charged (length vs) (asked size z)) y given extra refl extras;
+      site = site;
+    }
+      where
+        room_by : (l : Limit) → RoomFor l (n + words_for_handler * length around.handlers) z.state y
+            → RoomFor l (body_words q + words_for_handler * length around.handlers) (charged (length vs) (asked size z)).state y
+        room_by unlimited h = tt
+        room_by (words k) h = omega (arith, h, same, homes_count none)
+
+  pub applying_bodies_law : LawOfApplyingBodies setting
+  applying_bodies_law zero turns m n entry extra q wrong cs vs ws given rs valid w around z y found function fits none same fewer does b variables extras site =
+      no_level_ends setting turns (body_of_procedure setting.at entry) m (body_of setting.names setting.at setting.program extra q) (ws ++ given) w z y _ found refl refl (same_flat z) b.things
+  applying_bodies_law (suc j) turns m n entry extra q wrong cs vs ws given rs valid w around z y found function fits none same fewer does b variables extras site =
+      subst (λ r. CallEnds setting application_credit m rs valid w around z y r (called (code_at setting (suc j) turns) (body_of_procedure setting.at entry) (ws ++ given) y))
+      (sym (level_there j (λ entered. enter (context_at setting (suc j)) wrong q cs None vs around entered) around z ∙ entered_is j m n entry extra q cs vs around wrong z none same))
+      (framed_ends setting (size j m n entry extra q cs vs around) (inner j m n entry extra q cs vs around) (sym (sym b.things.represents.printed))
+      (called_grows (suc j) turns (body_of_procedure setting.at entry) (ws ++ given) y)
+      (λ room. (
+        (inside_later j m n entry extra q cs vs around (charged (length vs) (asked (size j m n entry extra q cs vs around) z))).stack,
+        calls_charged setting (length vs) (omega (arith, same, homes_count j m n entry extra q cs vs around none))
+            (going_less fewer
+            (does j refl rs valid turns cs None vs ws given w around (charged (length vs) (asked (size j m n entry extra q cs vs around) z)) y function fits
+            (begun j m n entry extra q cs vs around room none same b variables extras site))),
+      )))
+    where
+      going_less : {c : ℕ} {x : FlatState} {r : FlatEvaluated} {o : MidOutcome} → m ≤ setting.turns_each → CallEnds setting c setting.turns_each rs valid w around x y r o
+          → CallEnds setting c m rs valid w around x y r o
+      going_less few (done u) = done u
+      going_less few (left_by u) = left_by u
+      going_less few (full_there u) = full_there u
+      going_less few (stopped u) = stopped u
+      going_less few (few_turns u) = few_turns (omega (arith, few, u))
+
+  -- ---- the routine that does nothing
+
+  pub levels_there_law : LawOfLevelsThere setting
+  unfolding level_code
+  levels_there_law zero turns m rs valid w around z y placed b =
+      no_level_ends setting turns (level_routine setting.at) m (procedure_with Level 0 (level_code setting.at)) [] w z y _ ((numbers_law setting).routine 15 _ placed refl) refl refl (same_flat z)
+      b.things
+  levels_there_law (suc j) turns m rs valid w around z y placed b =
+      subst (λ r. CallEnds setting 40 m rs valid w around z y r (called (code_at setting (suc j) turns) (level_routine setting.at) [] y))
+      (sym (level_there j (λ entered. gives (integer (pos 0)) entered) around z))
+      (entered_levels_law setting (suc j) turns (level_routine setting.at) m routine_words 0 20 (procedure_with Level 0 (level_code setting.at)) [] rs valid w around z y
+      (gives (integer (pos 0)) z) ((numbers_law setting).routine 15 _ placed refl) refl refl (omega arith) (same_flat z) b (λ e. absurd (cc e))
+      (λ i e y' here. level_returns i y' here))
+    where
+      level_returns :
+          (i : ℕ) (y' : MidState) → Inside setting rs valid 0 (entry_cost 0) w around z y y'
+          → CallEnds setting 20 m rs valid w around z y' (gives (integer (pos 0)) z)
+          (exec (code_at setting i setting.turns_each) (code_of (level_code setting.at)) (first_registers (procedure_with Level 0 (level_code setting.at)).registers []) y')
+      level_returns i y' here =
+          let c = code_at setting i setting.turns_each in
+          let run = and_then {c = c} {s = constant 0 0} {code = code_of (return_word 0 ∷ [])} {rs = None ∷ []} {z = y'} constant_falls (record { same = refl }) in
+          subst (λ q. CallEnds setting 20 m rs valid w around z y' (gives (integer (pos 0)) z) q) (sym run.same)
+          (going_on_law setting 6 return_cost 20 m m rs valid w w around z z y' (mid_charged 6 y') (gives (integer (pos 0)) z)
+          (exec c (code_of (return_word 0 ∷ [])) (Some 0 ∷ []) (mid_charged 6 y')) (world_cost setting 6 here.call.things) (around_cost setting z y' 6 (omega arith)) (omega arith) (omega arith) refl
+          (returns_law setting c return_cost m 0 0 [] rs valid w around z (mid_charged 6 y') (Some 0 ∷ []) (integer (pos 0)) (world_cost setting 6 here.call.things).things refl (ap (λ x. Some x) (low_word_of_word 0 (omega arith))) (omega arith)))

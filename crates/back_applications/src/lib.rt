@@ -1,0 +1,4 @@
+// Applications: functions that are entered at their bodies.
+#![tactic(auto)]
+
+pub mod laws;
