@@ -5,4 +5,5 @@ pub mod Drawing
 pub mod Unhandled
 pub mod Conditions
 pub mod Making
+pub mod Storing
 pub mod Failing
