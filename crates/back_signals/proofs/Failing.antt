@@ -1,21 +1,21 @@
 -- The routines that make a condition and signal it: of a class without slots, with one slot, and a domain error.
-use Rattle.std.proofs.Common.{◌≡◌, ℕ, zero, suc, ◌+◌, ◌*◌, ◌<◌, ◌≤◌, Bool, true, false, List, [], ◌∷◌, ◌++◌, length, map, Option, Some, None, refl, sym, ap, ◌∙◌, subst, arith}
-use Rattle.std.specs.Prelude.{slice_get, slice_set, ◌^◌, ◌%◌}
+use Rattle.std.proofs.Common.{◌≡◌, ℕ, suc, ◌+◌, ◌*◌, ◌<◌, ◌≤◌, List, [], ◌∷◌, Some, None, refl, sym, ap, ◌∙◌, subst, arith}
+use Rattle.std.specs.Prelude.{◌^◌}
 use Rattle.lang_meaning.specs.InitialHeap.{class_value}
 use Rattle.lang_meaning.specs.Objects.{domain_error_class, built_in_classes}
 use Rattle.lang_meaning.specs.State.{DynamicContext}
 use Rattle.lang_meaning.specs.Values.{Value}
 use Rattle.flat_language.specs.FlatNodes.{tables}
-use Rattle.flat_language.specs.FlatSignals.{signal, signal_domain_error}
-use Rattle.flat_language.specs.FlatState.{FlatState, FlatEvaluated}
+use Rattle.flat_language.specs.FlatSignals.{signal}
+use Rattle.flat_language.specs.FlatState.{FlatState}
 use Rattle.mid_code.specs.declared.operation.Counted.TheVariants.{Turn}
 use Rattle.mid_code.specs.Arena.{left, word_at}
 use Rattle.mid_code.specs.Meaning.{Context, exec, leaves}
 use Rattle.mid_code.specs.MidCode.{code_of}
-use Rattle.mid_code.specs.State.{Registers, no_room, ends, MidState, MidOutcome}
-use Rattle.mid_arena.specs.Tags.{nil_word, object_tag, instance_header}
+use Rattle.mid_code.specs.State.{no_room, ends, MidState, MidOutcome}
+use Rattle.mid_arena.specs.Tags.{nil_word, instance_header}
 use Rattle.mid_arena.specs.FixedWords.{class_address}
-use Rattle.mid_arena.specs.Places.{of_other, word_of}
+use Rattle.mid_arena.specs.Places.{of_other}
 use Rattle.mid_arena.specs.Standing.{ArenaStands, ValueAt}
 use Rattle.mid_arena.proofs.Growing.{spot_below}
 use Rattle.mid_arena.proofs.Making.{begun, begun_grows}
@@ -33,14 +33,12 @@ use Rattle.back_relation.specs.Ends.{CallEnds}
 use Rattle.back_relation.specs.Forms.{context_at, code_at}
 use Rattle.back_relation.specs.RoutineClaims.{WordIs}
 use Rattle.back_combining.proofs.Growth.{grown_later}
-use Rattle.back_transfers.specs.Within.{IsBuiltInCondition, FailsWithin, failing_words}
+use Rattle.back_transfers.specs.Within.{IsBuiltInCondition, FailsWithin}
 use Rattle.back_transfers.proofs.Frames.{memory_holds}
 use Rattle.back_transfers.proofs.Entries.{UsedAt, routine_used, routine_registers, laid_frame, routine_enters}
 use Rattle.back_transfers.proofs.Bodies.{world_of, body_begins, body_leaves, laid_site}
 use Rattle.back_transfers.proofs.Leaving.{signal_later}
-use Rattle.back_transfers.proofs.Returning.{HoldAll}
 use Rattle.back_signals.specs.Within.{raise_words, RaisesWithin, FailingWithWithin, DomainWithin}
-use Rattle.back_signals.proofs.Conditions.{state_made}
 use Rattle.back_signals.proofs.Storing.{with_runs, domain_runs}
 use Rattle.back_signals.proofs.Making.{class_there, class_word, condition_comes, printed_more}
 

@@ -7,3 +7,5 @@ pub mod Conditions
 pub mod Making
 pub mod Storing
 pub mod Failing
+pub mod Pending
+pub mod Combined

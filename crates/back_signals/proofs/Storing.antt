@@ -1,13 +1,13 @@
 -- The code that requests and stores the words of a condition, one step after another.
-use Rattle.std.proofs.Common.{◌≡◌, ℕ, ◌+◌, ◌*◌, ◌<◌, ◌≤◌, List, [], ◌∷◌, ◌++◌, Option, Some, None, refl, arith}
-use Rattle.std.specs.Prelude.{◌^◌, ◌%◌, pos}
+use Rattle.std.proofs.Common.{◌≡◌, ℕ, ◌+◌, ◌*◌, ◌<◌, ◌≤◌, [], ◌∷◌, Some, None, refl, arith}
+use Rattle.std.specs.Prelude.{◌^◌, ◌%◌}
 use Rattle.mid_code.specs.Arena.{left, word_at, with_word}
 use Rattle.mid_code.specs.Meaning.{Context, exec}
 use Rattle.mid_code.specs.MidCode.{code_of}
-use Rattle.mid_code.specs.State.{Registers, register, falls, no_room, ends, charged, with_arena, MidState}
+use Rattle.mid_code.specs.State.{Registers, register, falls, ends, charged, with_arena, MidState}
 use Rattle.mid_arena.specs.Tags.{nil_word, instance_header}
 use Rattle.mid_arena.proofs.Making.{begun}
-use Rattle.mid_arena.proofs.Running.{StepsTo, and_then, and_ends, constant_falls, compute_known, request_falls, request_wanting, load_falls, store_in_heap, address_here, address_above}
+use Rattle.mid_arena.proofs.Running.{StepsTo, and_then, constant_falls, compute_known, request_falls, load_falls, store_in_heap, address_above}
 use Rattle.mid_arena.proofs.WordFacts.{four_times_count, sum_fits}
 use Rattle.back_lowering.specs.RoutineCodes.{failing_with_code, domain_code, returning}
 use Rattle.back_lowering.specs.Routines.{raise_routine}
