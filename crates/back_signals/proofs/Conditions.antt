@@ -1,11 +1,10 @@
 -- A new condition: its words are requested and stored, and all stands with one object more.
-use Rattle.std.proofs.Common.{◌≡◌, ℕ, zero, suc, ◌+◌, ◌*◌, ◌<◌, ◌≤◌, Bool, true, false, List, [], ◌∷◌, ◌++◌, length, map, Option, Some, None, refl, sym, ap, ◌∙◌, subst, arith}
-use Rattle.std.specs.Prelude.{slice_get, slice_index_or, nat_le}
+use Rattle.std.proofs.Common.{◌≡◌, ℕ, zero, suc, ◌+◌, ◌*◌, ◌<◌, ◌≤◌, true, List, [], ◌∷◌, ◌++◌, length, map, Some, refl, sym, ap, ◌∙◌, arith}
+use Rattle.std.specs.Prelude.{slice_get}
 use Rattle.std.proofs.lemmas.Bool.Decides.{nat_tests}
 use Rattle.std.proofs.lemmas.List.{length-append}
 use Rattle.std.proofs.lemmas.Option.{slice_get_within}
 use Rattle.lang_meaning.specs.declared.program.ProgramRows.{ProgramRows}
-use Rattle.lang_meaning.specs.BuiltIn.{built_in_slots}
 use Rattle.lang_meaning.specs.Classes.{is_below, slots}
 use Rattle.lang_meaning.specs.InitialHeap.{class_value}
 use Rattle.lang_meaning.specs.Objects.{Object, instance, function, generic_function, serious_condition_class}
@@ -18,25 +17,23 @@ use Rattle.flat_language.specs.FlatState.{FlatState}
 use Rattle.mid_code.specs.Arena.{Arena, left, words_of, word_at}
 use Rattle.mid_code.specs.State.{MidState}
 use Rattle.mid_arena.specs.Tags.{object_tag, instance_header, nil_word}
-use Rattle.mid_arena.specs.Places.{Spot, end_of, Places, of_object, of_other, spot_in, spot_of, with_object, word_of, WordsOf}
+use Rattle.mid_arena.specs.Places.{Spot, Places, of_object, of_other, spot_in, spot_of, with_object, word_of, WordsOf}
 use Rattle.mid_arena.specs.Growing.{Grows}
-use Rattle.mid_arena.specs.Represents.{Represents}
 use Rattle.mid_arena.specs.Answers.{KeepsWords}
 use Rattle.mid_arena.proofs.BuiltInFacts.{is_condition_class, slot_count_is, built_in_known}
 use Rattle.mid_arena.proofs.Doing.{SameObjects}
 use Rattle.mid_arena.proofs.Growing.{spot_below}
 use Rattle.mid_arena.proofs.Keeping.{old_spot, words_of_condition, as_many_words}
-use Rattle.mid_arena.proofs.Making.{begun, begun_heap, begun_blocks, begun_grows, condition_at, stored_words, represents_new, pointer_made}
+use Rattle.mid_arena.proofs.Making.{begun, begun_heap, begun_blocks, begun_grows, condition_at, represents_new, pointer_made}
 use Rattle.mid_arena.proofs.Memory.{room_below}
 use Rattle.mid_arena.proofs.Owners.{FrontOrEnd, at_front, at_end, front_or_end}
 use Rattle.mid_arena.proofs.Representing.{kept_grown}
-use Rattle.back_lowering.specs.ControlWords.{control_address, control_words}
 use Rattle.back_relation.specs.Setting.{Setting, control_spot}
 use Rattle.back_relation.specs.Worlds.{World}
 use Rattle.back_relation.specs.Things.{Things, WithinLimit}
 use Rattle.back_relation.specs.Ends.{ChargedFrom}
 use Rattle.back_transfers.specs.Within.{IsBuiltInCondition}
-use Rattle.back_signals.proofs.Standing.{StandsBehind, KeepsMost}
+use Rattle.back_signals.proofs.Standing.{StandsBehind}
 
 get_front : {X : Type 0} (xs ys : List X) (i : ℕ) → i < length xs → slice_get (xs ++ ys) i ≡ slice_get xs i
 get_front [] ys i h = absurd (omega arith)

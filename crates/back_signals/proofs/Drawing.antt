@@ -1,6 +1,6 @@
 -- A serial number is drawn for an exit that no form made.
-use Rattle.std.proofs.Common.{◌≡◌, ℕ, zero, suc, ◌+◌, ◌*◌, ◌<◌, ◌≤◌, Bool, true, false, List, [], ◌∷◌, ◌++◌, length, Option, Some, None, refl, sym, ap, ◌∙◌, arith}
-use Rattle.std.specs.Prelude.{slice_get, slice_set, ◌==◌, ◌%◌, ◌/◌, ◌^◌, ◌-◌, pos}
+use Rattle.std.proofs.Common.{◌≡◌, ℕ, ◌+◌, ◌<◌, ◌≤◌, true, false, List, [], ◌∷◌, ◌++◌, Option, Some, None, refl, ap, ◌∙◌, arith}
+use Rattle.std.specs.Prelude.{slice_get, ◌==◌, ◌/◌, ◌^◌, ◌-◌, pos}
 use Rattle.std.proofs.Math.ListN.{length-set}
 use Rattle.std.proofs.lemmas.Bool.{ne_eqb}
 use Rattle.std.proofs.lemmas.Bool.Decides.{nat_tests}
@@ -9,7 +9,7 @@ use Rattle.base.specs.Names.{slice_get-front}
 use Rattle.lang_meaning.specs.declared.scope.ExitForm.{ExitForm}
 use Rattle.flat_language.specs.FlatState.{FlatState, exit_made}
 use Rattle.mid_code.specs.declared.operation.Operation.TheVariants.{Draw}
-use Rattle.mid_code.specs.Arena.{Arena, stack_from, word_at, with_word}
+use Rattle.mid_code.specs.Arena.{stack_from, word_at, with_word}
 use Rattle.mid_code.specs.Meaning.{Context, draw, exec_step}
 use Rattle.mid_code.specs.Meaning.{store as mid_store}
 use Rattle.mid_code.specs.MidCode.{perform}
@@ -20,18 +20,17 @@ use Rattle.mid_arena.specs.Standing.{SpotStands}
 use Rattle.mid_arena.proofs.Growing.{spot_below}
 use Rattle.mid_arena.proofs.Memory.{in_spot_lent, in_spot_there, word_here, word_elsewhere}
 use Rattle.mid_arena.proofs.OwnWords.{changes_in_spot}
-use Rattle.mid_arena.proofs.Running.{StepsTo, address_up}
-use Rattle.back_lowering.specs.ControlWords.{control_address, control_words, serials_address, current_address, link_address, handlers_address, bindings_address, site_address, end_address}
+use Rattle.mid_arena.proofs.Running.{address_up}
+use Rattle.back_lowering.specs.ControlWords.{serials_address, current_address, link_address, handlers_address, bindings_address, site_address, end_address}
 use Rattle.back_lowering.specs.Placement.{global_address, dynamic_address}
 use Rattle.back_relation.specs.Setting.{Setting, control_spot}
-use Rattle.back_relation.specs.Placed.{HasGlobal, HasDynamic}
-use Rattle.back_relation.specs.Worlds.{World, BoxPlace, on_heap, on_stack, gone, Later}
-use Rattle.back_relation.specs.StackWords.{HasWordAt, StackKept}
+use Rattle.back_relation.specs.Worlds.{World, BoxPlace, on_heap, on_stack, gone}
+use Rattle.back_relation.specs.StackWords.{HasWordAt}
 use Rattle.back_relation.specs.Things.{Things}
 use Rattle.back_relation.specs.Around.{SiteStored}
 use Rattle.lang_meaning.specs.State.{DynamicContext}
-use Rattle.back_relation.specs.Ends.{ControlBack, WorldKept, Around}
-use Rattle.back_combining.specs.Cuts.{boxes_cut, world_cut}
+use Rattle.back_relation.specs.Ends.{WorldKept, Around}
+use Rattle.back_combining.specs.Cuts.{boxes_cut}
 use Rattle.back_combining.proofs.Cuts.{later_cut}
 use Rattle.back_exits.specs.Going.{BoxWas, GoesOn, world_with}
 use Rattle.back_exits.proofs.Moving.{things_go_on}

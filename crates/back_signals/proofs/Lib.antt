@@ -5,4 +5,7 @@ pub mod Drawing
 pub mod Unhandled
 pub mod Conditions
 pub mod Making
+pub mod Storing
 pub mod Failing
+pub mod Pending
+pub mod Combined

@@ -1,20 +1,19 @@
 -- A new condition is made and signalled: what the meaning does, from what the code comes to.
-use Rattle.std.proofs.Common.{◌≡◌, ℕ, zero, suc, ◌+◌, ◌*◌, ◌<◌, ◌≤◌, Bool, true, false, List, [], ◌∷◌, ◌++◌, length, map, Option, Some, None, refl, sym, ap, ◌∙◌, subst, arith}
-use Rattle.std.specs.Prelude.{slice_get, ◌==◌, if◌then◌else◌}
+use Rattle.std.proofs.Common.{◌≡◌, ℕ, suc, ◌+◌, ◌*◌, ◌<◌, ◌≤◌, Bool, true, false, List, [], ◌∷◌, ◌++◌, length, map, Some, refl, sym, ap, ◌∙◌, subst, arith}
+use Rattle.std.specs.Prelude.{if◌then◌else◌}
 use Rattle.std.proofs.lemmas.Bool.Decides.{nat_tests}
 use Rattle.base.specs.Names.{slice_get-behind}
 use Rattle.lang_meaning.specs.Classes.{is_condition, is_below, class_of_object}
 use Rattle.lang_meaning.specs.InitialHeap.{class_value}
 use Rattle.lang_meaning.specs.Objects.{instance, serious_condition_class}
 use Rattle.lang_meaning.specs.Prefixes.{IsPrefix}
-use Rattle.lang_meaning.specs.Primitives.{instance_words}
 use Rattle.lang_meaning.specs.State.{DynamicContext, Limit, words, unlimited, full, has_room, room_left}
 use Rattle.lang_meaning.specs.State as meaning
 use Rattle.lang_meaning.specs.Values.{Value, nil, object}
 use Rattle.flat_language.specs.FlatNodes.{tables}
 use Rattle.flat_language.specs.FlatSignals.{signal, signal_under}
 use Rattle.flat_language.specs.FlatState.{FlatState, FlatEvaluated}
-use Rattle.mid_code.specs.Arena.{left, word_at}
+use Rattle.mid_code.specs.Arena.{left}
 use Rattle.mid_code.specs.Law.{Grown}
 use Rattle.mid_code.specs.Meaning.{Context, exec}
 use Rattle.mid_code.specs.MidCode.{MidCode, code_of}
@@ -22,13 +21,13 @@ use Rattle.mid_code.specs.State.{Registers, no_room, ends, charged, MidState, Mi
 use Rattle.mid_code.proofs.Growth.{exec_grown, levels_grow, turns_grow}
 use Rattle.mid_arena.specs.Tags.{nil_word}
 use Rattle.mid_arena.specs.FixedWords.{class_address}
-use Rattle.mid_arena.specs.Places.{word_of, WordsOf}
+use Rattle.mid_arena.specs.Places.{WordsOf}
 use Rattle.mid_arena.specs.Standing.{ValueAt}
 use Rattle.mid_arena.proofs.BuiltInFacts.{is_condition_class}
 use Rattle.mid_arena.proofs.Keeping.{words_of_condition}
 use Rattle.mid_arena.proofs.Making.{Room, room_for, is_left, is_wanting}
 use Rattle.mid_code.specs.declared.operation.Counted.TheVariants.{Turn}
-use Rattle.back_lowering.specs.ControlWords.{control_address, site_address}
+use Rattle.back_lowering.specs.ControlWords.{site_address}
 use Rattle.back_lowering.specs.RoutineCodes.{raise_code, returning}
 use Rattle.back_lowering.specs.Program.{procedure_with}
 use Rattle.back_lowering.specs.Routines.{raise_routine}
@@ -48,7 +47,7 @@ use Rattle.back_transfers.proofs.Points.{point_begins}
 use Rattle.back_transfers.proofs.Returning.{HoldAll, call_behind, returning_comes}
 use Rattle.back_signals.specs.Within.{raise_words, RaisesWithin}
 use Rattle.back_signals.proofs.Standing.{world_behind, world_kept_behind, control_behind}
-use Rattle.back_signals.proofs.Conditions.{size_is, is_class, made, state_made, places_made, spot_made, meaning_made, made_behind, pointer_is, made_charged, word_made_before}
+use Rattle.back_signals.proofs.Conditions.{is_class, state_made, places_made, meaning_made, made_behind, pointer_is, made_charged, word_made_before}
 
 pub raise_used : (setting : Setting) → IsPlaced setting → UsedAt setting.procedures (raise_routine setting.at) (procedure_with Turn 2 (raise_code setting.at))
 raise_used setting placed = routine_used setting placed 4 (procedure_with Turn 2 (raise_code setting.at)) refl

@@ -1,12 +1,11 @@
 -- The mark of a condition is set: the words of the instance, and what stands behind.
-use Rattle.std.proofs.Common.{◌≡◌, ℕ, zero, suc, ◌+◌, ◌*◌, ◌<◌, ◌≤◌, Bool, true, false, List, [], ◌∷◌, ◌++◌, length, Option, Some, None, refl, sym, ap, ◌∙◌, subst, arith}
-use Rattle.std.specs.Prelude.{slice_get, slice_set, slice_index_or, nat_le, if◌then◌else◌, ◌==◌, ◌%◌, ◌/◌, ◌^◌, ◌≢◌}
+use Rattle.std.proofs.Common.{◌≡◌, ℕ, suc, ◌+◌, ◌*◌, ◌<◌, ◌≤◌, Bool, true, false, List, ◌∷◌, ◌++◌, length, Option, Some, None, refl, sym, ap, ◌∙◌, subst, arith}
+use Rattle.std.specs.Prelude.{slice_get, slice_index_or, nat_le, if◌then◌else◌, ◌%◌, ◌/◌, ◌^◌, ◌≢◌}
 use Rattle.std.proofs.Math.ListN.{length-set}
-use Rattle.std.proofs.lemmas.Bool.Decides.{nat_tests}
 use Rattle.lang_meaning.specs.declared.program.ProgramRows.{ProgramRows}
 use Rattle.lang_meaning.specs.BuiltIn.{built_in_precedence, built_in_slots}
 use Rattle.lang_meaning.specs.Facts.{begins_with_built_in}
-use Rattle.lang_meaning.specs.Classes.{is_condition, fetch, class_of, class_of_object, is_below}
+use Rattle.lang_meaning.specs.Classes.{is_condition, fetch, class_of_object, is_below}
 use Rattle.lang_meaning.specs.Objects.{Object, cons, string, vector, instance, function, closure, generic_function, class_object, input_stream, output_stream, fresh_symbol, serious_condition_class, built_in_class_class, standard_class_class}
 use Rattle.lang_meaning.specs.Signals.{marked, marked_at}
 use Rattle.lang_meaning.specs.State.{Limit, words, unlimited, changed}
@@ -14,20 +13,17 @@ use Rattle.lang_meaning.specs.State as meaning
 use Rattle.lang_meaning.specs.Values.{Value, integer, character, symbol, nil, object}
 use Rattle.flat_language.specs.FlatNodes.{tables}
 use Rattle.flat_language.specs.FlatState.{FlatState}
-use Rattle.mid_code.specs.declared.operation.Arithmetic.TheVariants as which
-use Rattle.mid_code.specs.Arena.{Arena, word_at, with_word, is_lent}
+use Rattle.mid_code.specs.Arena.{Arena, word_at, with_word}
 use Rattle.mid_code.specs.Meaning.{Context, exec}
 use Rattle.mid_code.specs.MidCode.{code_of}
-use Rattle.mid_code.specs.State.{Registers, falls, ends, with_arena, MidState, MidOutcome}
+use Rattle.mid_code.specs.State.{Registers, MidState, MidOutcome}
 use Rattle.back_lowering.specs.ControlWords.{control_address, control_words}
 use Rattle.back_lowering.specs.RoutineCodes.{mark_set}
 use Rattle.back_lowering.specs.Steps.{Steps}
-use Rattle.mid_arena.specs.Tags.{object_tag, instance_header}
-use Rattle.mid_arena.specs.Places.{Spot, end_of, Places, of_object, of_other, spot_of, word_of}
-use Rattle.mid_arena.specs.Standing.{ArenaStands, SpotStands, ValueAt, SlotAt}
+use Rattle.mid_arena.specs.Places.{end_of, word_of}
+use Rattle.mid_arena.specs.Standing.{SlotAt}
 use Rattle.mid_arena.specs.Layouts.{InstanceAt}
 use Rattle.mid_arena.specs.Growing.{Changes}
-use Rattle.mid_arena.specs.Represents.{Represents}
 use Rattle.mid_arena.proofs.Arguments.{ObjectFound, object_found}
 use Rattle.mid_arena.proofs.FixedChanges.{one_word}
 use Rattle.mid_arena.proofs.Growing.{changes_part, spot_below}
@@ -44,7 +40,7 @@ use Rattle.mid_arena.specs.Answers.{KeepsWords}
 use Rattle.back_relation.specs.Setting.{Setting, control_spot}
 use Rattle.back_relation.specs.Worlds.{World}
 use Rattle.back_relation.specs.Things.{Things, WithinLimit}
-use Rattle.back_signals.proofs.Standing.{StandsBehind, KeepsMost}
+use Rattle.back_signals.proofs.Standing.{StandsBehind}
 
 -- a condition is an instance
 pub record ConditionIs (program : ProgramRows) (z : meaning.State) (c : Value) : Type 0 where

@@ -1,13 +1,12 @@
 -- **A condition for which there is no handler**: the program ends at the site, by a transfer to its end.
-use Rattle.std.proofs.Common.{◌≡◌, ℕ, zero, suc, ◌+◌, ◌*◌, ◌<◌, ◌≤◌, Bool, true, false, List, [], ◌∷◌, ◌++◌, length, Option, Some, None, refl, sym, ap, ◌∙◌, subst, arith}
-use Rattle.std.specs.Prelude.{slice_get, slice_set, ◌==◌, ◌^◌, ◌-◌, pos}
+use Rattle.std.proofs.Common.{◌≡◌, ℕ, suc, ◌+◌, ◌*◌, ◌<◌, ◌≤◌, Bool, true, false, List, [], ◌∷◌, Option, Some, None, refl, sym, ap, ◌∙◌, subst, arith}
+use Rattle.std.specs.Prelude.{slice_get, ◌==◌, ◌^◌, ◌-◌}
 use Rattle.std.proofs.lemmas.Bool.{eq-eqb}
 use Rattle.std.proofs.lemmas.Bool.Decides.{nat_tests}
 use Rattle.base.specs.declared.place.Place.{Place}
 use Rattle.lang_meaning.specs.declared.scope.ExitForm.{ExitForm}
 use Rattle.lang_meaning.specs.declared.scope.ExitForm.TheVariants.{Block, Tagbody}
 use Rattle.lang_meaning.specs.Prefixes.{IsPrefix}
-use Rattle.lang_meaning.specs.Classes.{is_condition}
 use Rattle.lang_meaning.specs.State.{DynamicContext, at_site}
 use Rattle.lang_meaning.specs.State as meaning
 use Rattle.lang_meaning.specs.Values.{Value}
@@ -21,23 +20,22 @@ use Rattle.flat_laws.proofs.Applied.{signals_under}
 use Rattle.flat_laws.proofs.Later.{later_kept}
 use Rattle.mid_code.specs.declared.operation.Comparison.TheVariants.{Equal}
 use Rattle.mid_code.specs.declared.operation.Counted.TheVariants.{Turn}
-use Rattle.mid_code.specs.declared.operation.Operation.TheVariants.{Draw}
 use Rattle.mid_code.specs.Arena.{left, is_lent}
 use Rattle.mid_arena.specs.Places.{of_other}
 use Rattle.mid_arena.proofs.Memory.{in_spot_lent}
 use Rattle.mid_code.specs.Meaning.{Context, exec, leaves}
-use Rattle.mid_code.specs.MidCode.{perform, code_of}
-use Rattle.mid_code.specs.State.{Registers, falls, exhausted, ends, charged, MidState, MidOutcome}
-use Rattle.mid_arena.proofs.Running.{StepsTo, and_then, and_ends, constant_falls, load_falls, store_falls, address_above}
+use Rattle.mid_code.specs.MidCode.{code_of}
+use Rattle.mid_code.specs.State.{Registers, exhausted, ends, charged, MidState, MidOutcome}
+use Rattle.mid_arena.proofs.Running.{and_then, and_ends, constant_falls, load_falls, store_falls, address_above}
 use Rattle.back_lowering.specs.ControlWords.{serials_address, handlers_address, landing_address, site_address, end_address}
 use Rattle.back_lowering.specs.RoutineCodes.{raise_code, unhandled_code, handler_applied, returning}
 use Rattle.back_lowering.specs.Program.{procedure_with}
 use Rattle.back_lowering.specs.Routines.{transfer_routine, raise_routine}
-use Rattle.back_lowering.specs.Steps.{Steps, constant, load, store, test_of, if_equal}
+use Rattle.back_lowering.specs.Steps.{constant, load, test_of, if_equal}
 use Rattle.back_relation.specs.Setting.{Setting, control_spot}
 use Rattle.back_relation.specs.Placed.{IsPlaced}
 use Rattle.back_relation.specs.Worlds.{World, LandsIn, Standing}
-use Rattle.back_relation.specs.StackWords.{HasWordAt, HandlersAt}
+use Rattle.back_relation.specs.StackWords.{HandlersAt}
 use Rattle.back_relation.specs.Around.{CallBegins, SiteStored}
 use Rattle.back_relation.specs.Ends.{WorldKept, Around, CallEnds, stopped}
 use Rattle.back_relation.specs.Forms.{context_at, code_at}
@@ -54,7 +52,6 @@ use Rattle.back_transfers.proofs.Returning.{HoldAll, call_behind, first_alone}
 use Rattle.back_transfers.proofs.Points.{Moved, point_begins, moved_stored, stored_state, word_stored, store_lent}
 use Rattle.back_transfers.proofs.Leaving.{tasks_below, transfer_used, returning_last, transfer_last}
 use Rattle.back_signals.specs.Law.{LawOfUnhandled}
-use Rattle.back_signals.specs.Within.{raise_words, unhandled_credit, unhandled_spare}
 use Rattle.back_signals.proofs.Standing.{world_behind, world_kept_behind, control_behind}
 use Rattle.back_signals.proofs.Marking.{ConditionIs, condition_of, z_marked, marked_is, marked_state, marked_behind, mark_runs, count, control_kept}
 use Rattle.back_signals.proofs.Drawing.{draw_ends, drawn_world, drawn_state, drawn_kept, drawn_around, drawn_site}

@@ -1,15 +1,34 @@
 -- The laws of the routines of signals.
-use Rattle.std.specs.Prelude.{◌≡◌, ℕ, List, []}
+use Rattle.std.specs.Prelude.{◌≡◌, ℕ, ◌+◌, ◌≤◌, List, []}
 use Rattle.lang_meaning.specs.State.{DynamicContext}
 use Rattle.flat_language.specs.FlatState.{FlatState}
 use Rattle.mid_code.specs.State.{MidState}
 use Rattle.back_relation.specs.Setting.{Setting}
 use Rattle.back_relation.specs.Placed.{IsPlaced}
 use Rattle.back_relation.specs.Worlds.{World, Standing}
-use Rattle.back_signals.specs.Within.{RaiseWithin, unhandled_credit, unhandled_spare}
+use Rattle.back_signals.specs.Within.{RaiseWithin, RaisesWithin, FailingWithWithin, DomainWithin, PendingWithin, unhandled_credit, unhandled_spare}
+use Rattle.back_transfers.specs.Within.{FailingWithin}
 
 -- a condition for which there is no handler ends the program, at the site
 abbrev pub LawOfUnhandled : Type 0
 LawOfUnhandled =
     (setting : Setting) (k turns : ℕ) (rs valid : List Standing) (w : World) (around : DynamicContext) (z : FlatState) (y : MidState) → IsPlaced setting
     → around.handlers ≡ [] → RaiseWithin setting k turns rs valid w around z y unhandled_spare unhandled_credit
+
+-- a condition of a class without slots, one of a class with one slot, and a domain error
+pub record NewConditions (setting : Setting) (k turns : ℕ) (rs valid : List Standing) (w : World) (around : DynamicContext) (z : FlatState) (y : MidState) : Type 0 where
+  pub class_alone : FailingWithin setting k turns rs valid w around z y
+  pub with_word : FailingWithWithin setting k turns rs valid w around z y
+  pub domain : DomainWithin setting k turns rs valid w around z y
+
+-- New conditions, where it is known what a signal does that is paid no more than 1,000: the units of their words pay for it.
+abbrev pub LawOfNewConditions : Type 0
+LawOfNewConditions =
+    (setting : Setting) (k credit turns : ℕ) (rs valid : List Standing) (w : World) (around : DynamicContext) (z : FlatState) (y : MidState) → IsPlaced setting → credit ≤ 1000
+    → RaisesWithin setting k 0 credit → NewConditions setting k turns rs valid w around z y
+
+-- the condition that a primitive made costs 106 more than its signal, and a turn
+abbrev pub LawOfPending : Type 0
+LawOfPending =
+    (setting : Setting) (k spare credit turns : ℕ) (rs valid : List Standing) (w : World) (around : DynamicContext) (z : FlatState) (y : MidState) → IsPlaced setting → spare ≤ 55
+    → RaisesWithin setting k (spare + 1) credit → PendingWithin setting k turns rs valid w around z y spare (credit + 106)

@@ -1,20 +1,23 @@
 -- What the routines of signals do that other routines call: how many words of the stack they have, what they are paid, and how many turns they
 -- leave over.
-use Rattle.std.specs.Prelude.{◌≡◌, ℕ, true, List, [], ◌∷◌}
+use Rattle.std.specs.Prelude.{◌≡◌, ℕ, ◌<◌, true, List, [], ◌∷◌}
 use Rattle.lang_meaning.specs.Classes.{is_condition}
+use Rattle.lang_meaning.specs.Objects.{built_in_classes}
 use Rattle.lang_meaning.specs.State.{DynamicContext}
-use Rattle.lang_meaning.specs.Values.{Value}
+use Rattle.lang_meaning.specs.Values.{Value, nil}
 use Rattle.flat_language.specs.FlatNodes.{tables}
-use Rattle.flat_language.specs.FlatSignals.{signal_under}
+use Rattle.flat_language.specs.FlatSignals.{signal, signal_domain_error, signal_under}
 use Rattle.flat_language.specs.FlatState.{FlatState}
 use Rattle.mid_code.specs.State.{MidState}
-use Rattle.back_lowering.specs.Routines.{raise_routine}
+use Rattle.mid_arena.specs.FixedWords.{pending_address}
+use Rattle.mid_arena.specs.Standing.{ValueAt}
+use Rattle.back_lowering.specs.Routines.{raise_routine, pending_routine, failing_with_routine, domain_routine}
 use Rattle.back_relation.specs.Setting.{Setting}
 use Rattle.back_relation.specs.Worlds.{World, Standing}
 use Rattle.back_relation.specs.Around.{SiteStored}
 use Rattle.back_relation.specs.Forms.{context_at}
-use Rattle.back_relation.specs.RoutineClaims.{WordIs}
-use Rattle.back_transfers.specs.Within.{DoesWithin}
+use Rattle.back_relation.specs.RoutineClaims.{WordIs, routine_credit}
+use Rattle.back_transfers.specs.Within.{IsBuiltInCondition, DoesWithin}
 
 -- a signal lays its own frame and that of the transfer
 abbrev pub raise_words : ℕ
@@ -41,3 +44,27 @@ abbrev pub RaisesWithin : Setting → (k spare credit : ℕ) → Type 0
 RaisesWithin setting k spare credit =
     (turns : ℕ) (rs valid : List Standing) (w : World) (around : DynamicContext) (z : FlatState) (y : MidState)
     → RaiseWithin setting k turns rs valid w around z y spare credit
+
+-- a condition of a class with one slot, and a domain error: words of the stack for them
+abbrev pub making_words : ℕ
+making_words = 32
+
+module _ (setting : Setting) (k turns : ℕ) (rs valid : List Standing) (w : World) (around : DynamicContext) (z : FlatState) (y : MidState) where
+  abbrev pub FailingWithWithin : Type 0
+  FailingWithWithin =
+      (class : ℕ) (v : Value) (word : ℕ) → WordIs setting w word v → IsBuiltInCondition class 1 → SiteStored setting around y
+      → DoesWithin setting k turns rs valid w around z y making_words 0 routine_credit (failing_with_routine setting.at) (class ∷ word ∷ [])
+      (signal (context_at setting k) class (v ∷ []) around z)
+
+  abbrev pub DomainWithin : Type 0
+  DomainWithin =
+      (v : Value) (expected word : ℕ) → expected < built_in_classes → WordIs setting w word v → SiteStored setting around y
+      → DoesWithin setting k turns rs valid w around z y making_words 0 routine_credit (domain_routine setting.at) (word ∷ expected ∷ [])
+      (signal_domain_error (context_at setting k) (signal (context_at setting k)) v expected around z)
+
+  -- the condition that a primitive made
+  abbrev pub PendingWithin : (spare credit : ℕ) → Type 0
+  PendingWithin spare credit =
+      (c : Value) → is_condition (tables setting.program) z.state c ≡ true → ValueAt w.places y.arena pending_address c → SiteStored setting around y
+      → DoesWithin setting k turns rs valid w around z y making_words spare credit (pending_routine setting.at) []
+      (signal_under (context_at setting k) around.handlers c nil around z)

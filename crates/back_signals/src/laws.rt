@@ -1,7 +1,17 @@
 // The laws of signals, each as the contract of a function that does nothing.
-ghost use Rattle.back_signals.specs.Law.{LawOfUnhandled};
+ghost use Rattle.back_signals.specs.Law.{LawOfUnhandled, LawOfNewConditions, LawOfPending};
 
 /// A condition for which there is no handler.
 pub fn law_unhandled()
     ensures { LawOfUnhandled }
+{}
+
+/// New conditions that are signalled.
+pub fn law_conditions()
+    ensures { LawOfNewConditions }
+{}
+
+/// The condition that a primitive made.
+pub fn law_pending()
+    ensures { LawOfPending }
 {}

@@ -1,5 +1,5 @@
 -- **The body of a routine**: where it begins, in a frame of its own, and what the call comes to behind it.
-use Rattle.std.proofs.Common.{◌≡◌, ℕ, ◌+◌, ◌*◌, ◌≤◌, List, [], ◌∷◌, length, refl, sym, ap, ◌∙◌, subst, arith}
+use Rattle.std.proofs.Common.{◌≡◌, ℕ, ◌+◌, ◌*◌, ◌<◌, ◌≤◌, List, [], ◌∷◌, length, refl, sym, ap, ◌∙◌, subst, arith}
 use Rattle.lang_meaning.specs.State.{DynamicContext, Limit, words, unlimited}
 use Rattle.lang_meaning.specs.Prefixes.{IsPrefix}
 use Rattle.flat_language.specs.FlatState.{FlatState, FlatEvaluated}
@@ -13,7 +13,7 @@ use Rattle.mid_arena.specs.Growing.{Grows}
 use Rattle.mid_arena.proofs.FixedChanges.{one_word}
 use Rattle.mid_arena.proofs.Growing.{changes_of_growing, spot_below}
 use Rattle.mid_arena.proofs.Memory.{grows_with_new_block, left_with_new_block, grows_with_blocks}
-use Rattle.back_lowering.specs.ControlWords.{target_address, landing_address, site_address, end_address}
+use Rattle.back_lowering.specs.ControlWords.{control_address, target_address, landing_address, site_address, end_address}
 use Rattle.back_relation.specs.Setting.{Setting, control_spot}
 use Rattle.back_relation.specs.Placed.{IsPlaced}
 use Rattle.back_relation.specs.Room.{words_for_handler}
@@ -26,7 +26,7 @@ use Rattle.back_combining.specs.Cuts.{world_cut}
 use Rattle.back_combining.proofs.Cuts.{later_cut}
 use Rattle.back_combining.proofs.Worlds.{later_then, plain_later, word_later, Deeper, record_stays, handlers_stay, bindings_stay, links_raise, chain_lower}
 use Rattle.back_transfers.proofs.Entries.{laid_frame}
-use Rattle.back_transfers.proofs.Frames.{one_stands, IsOfTransfer, Touched, world_touched, control_touched, word_behind}
+use Rattle.back_transfers.proofs.Frames.{one_stands, IsOfTransfer, Touched, world_touched, control_touched, word_in_front, word_behind}
 
 abbrev pub frame_block : ℕ → Block
 frame_block f = record { words = f; kind = activation_frame }
@@ -169,6 +169,10 @@ module _ (setting : Setting) (placed : IsPlaced setting) where
 
     pub laid_site : (around : DynamicContext) → SiteStored setting around y → SiteStored setting around y'
     laid_site around s = (s.0, word_behind setting placed of_target t laid_touched site_address s.0 (omega arith) (omega arith) s.1, s.2)
+
+    -- words in front of those of transfers are as they were
+    pub laid_before : (x n : ℕ) → x < control_address + 12 → HasWordAt y x n → HasWordAt y' x n
+    laid_before x n h e = word_in_front setting placed of_target t laid_touched x n h e
 
     pub laid_left : left y'.arena + f ≡ left y.arena
     laid_left = left_with_new_block (frame_block f) t.represents.arena room

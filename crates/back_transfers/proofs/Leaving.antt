@@ -8,7 +8,7 @@ use Rattle.back_combining.proofs.Straight.{world_cost, around_cost}
 use Rattle.std.proofs.lemmas.Bool.{eq-eqb}
 use Rattle.lang_meaning.specs.State.{DynamicContext, Landing}
 use Rattle.lang_meaning.specs.Values.{Value}
-use Rattle.lang_meaning.specs.Objects.{control_error_class, built_in_classes}
+use Rattle.lang_meaning.specs.Objects.{control_error_class}
 use Rattle.flat_language.specs.FlatSignals.{signal, transfer}
 use Rattle.flat_language.specs.FlatState.{FlatState, FlatEvaluated}
 use Rattle.flat_language.specs.FlatState.{charged as flat_charged}
