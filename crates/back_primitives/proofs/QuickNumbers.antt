@@ -1,49 +1,36 @@
 -- Quick ways of numbers: comparisons, sums and differences of integers.
-use Rattle.std.proofs.Common.{◌≡◌, ℕ, zero, suc, ◌+◌, ◌*◌, ◌^◌, ◌<◌, ◌≤◌, ℤ, pos, Bool, true, false, List, [], ◌∷◌, ◌++◌, length, Option, Some, None, refl, sym, ap, ◌∙◌, subst, arith}
-use Rattle.std.specs.Prelude.{negsuc, ◌+ℤ◌, ◌-ℤ◌, neg_ℤ, slice_get, slice_set, ◌==◌, ◌%◌, ◌&&◌, not, nat_lt, int_lt, if◌then◌else◌}
-use Rattle.std.proofs.lemmas.Bool.Decides.{nat_tests}
-use Rattle.std.proofs.lemmas.Int.{ints}
-use Rattle.std.proofs.Math.ListN.{length-set}
-use borrow.Author.Differences.{up, down, true_is_lt, false_is_lt}
-use Rattle.base.specs.Arithmetic.{sum32, difference32, less_signed, one_if_less_signed}
+use Rattle.std.proofs.Common.{◌≡◌, ℕ, ◌+◌, ◌*◌, ◌<◌, ◌≤◌, ℤ, Bool, true, false, List, [], ◌∷◌, length, Option, Some, None, refl, sym, ap, ◌∙◌, subst, arith}
+use Rattle.std.specs.Prelude.{slice_get, ◌==◌, ◌%◌, ◌&&◌, if◌then◌else◌}
 use Rattle.lang_meaning.specs.Arity.{arity}
 use Rattle.lang_meaning.specs.declared.primitive.Primitive.{Primitive}
 use Rattle.lang_meaning.specs.declared.program.LiteralRow.{LiteralRow}
 use Rattle.lang_meaning.specs.declared.program.LiteralRow.TheVariants as row
 use Rattle.lang_meaning.specs.Primitives.{Answer, result, primitive}
 use Rattle.lang_meaning.specs.Values.{Value, integer, truth, in_range}
-use Rattle.flat_language.specs.FlatForm.{FlatForm, literal, FlatForms, no_form, form_and}
+use Rattle.flat_language.specs.FlatForm.{FlatForm, literal, no_form, form_and}
 use Rattle.flat_language.specs.FlatNodes.{tables}
 use Rattle.flat_language.specs.FlatSignals.{answered}
-use Rattle.flat_language.specs.FlatState.{FlatEvaluated, gives}
-use Rattle.mid_code.specs.declared.operation.Arithmetic.{Arithmetic}
-use Rattle.mid_code.specs.declared.operation.Arithmetic.TheVariants as which_one
+use Rattle.flat_language.specs.FlatState.{FlatEvaluated}
 use Rattle.mid_code.specs.declared.operation.Comparison.{Comparison}
-use Rattle.mid_code.specs.declared.operation.Comparison.TheVariants.{Equal, Less}
 use Rattle.mid_code.specs.Meaning.{Context, exec}
 use Rattle.mid_code.specs.MidCode.{code_of}
 use Rattle.mid_code.specs.State.{Registers, register, MidState}
 use Rattle.mid_code.specs.State.{charged as mid_charged}
-use Rattle.mid_code.specs.Words.{computed, compares}
+use Rattle.mid_code.specs.Words.{compares}
 use Rattle.mid_arena.specs.Tags.{integer_word}
-use Rattle.mid_arena.proofs.Arguments.{integer_word_there}
-use Rattle.mid_arena.proofs.ArithmeticSum.{bit_of, sum_is, difference_is, sum_in_range, change_in_range, rise_in_range}
-use Rattle.mid_arena.proofs.Registers.{register_here, register_beside}
-use Rattle.mid_arena.proofs.Running.{and_then, none_left, costing, constant_falls, compute_known, move_falls}
 use Rattle.mid_arena.proofs.Telling.{IntegerTold, integer_found, no_integer, integer_told}
-use Rattle.mid_arena.proofs.WordFacts.{integer_word_of_pos, integer_word_of_negsuc, range_tells, integers_compare_less}
 use Rattle.back_lowering.specs.declared.placement.Placement.{Placement}
 use Rattle.back_lowering.specs.Placement.{literal_word}
-use Rattle.back_lowering.specs.Primitives.{truth_where, where_integers, integer_in, known_integer, asked_integers, by_procedure}
+use Rattle.back_lowering.specs.Primitives.{truth_where, where_integers, integer_in, known_integer, asked_integers}
 use Rattle.back_lowering.specs.Registers.{of_code, enough_for}
-use Rattle.back_lowering.specs.Steps.{Steps, move}
+use Rattle.back_lowering.specs.Steps.{Steps}
 use Rattle.back_relation.specs.Setting.{Setting}
 use Rattle.back_relation.specs.Forms.{Begins, context_at, code_at}
 use Rattle.back_combining.specs.Starts.{Start, EndsAt}
 use Rattle.back_primitives.specs.Applying.{Applies}
 use Rattle.back_primitives.specs.Calling.{KnownWords}
 use Rattle.back_primitives.proofs.Answered.{SignalPaid}
-use Rattle.back_primitives.proofs.Choosing.{Beside, beside_none, beside_set, beside_less, register_kept, start_beside, quick_ends, ends_less, Chosen, chosen_ends, compared, in_sum, tag_chosen, integers_chosen}
+use Rattle.back_primitives.proofs.Choosing.{Beside, beside_none, beside_less, register_kept, start_beside, ends_less, Chosen, chosen_ends, tag_chosen, integers_chosen}
 use Rattle.back_primitives.proofs.Costs.{both_true}
 use Rattle.back_primitives.proofs.Quick.{named, branches_named, answer_up, start_with, meant, slow, slow_ends, truth_ends}
 
