@@ -1,6 +1,6 @@
 -- **A primitive is applied by its procedure**: whatever it answers, the code does what the answer means.
-use Rattle.std.proofs.Common.{◌≡◌, ◌⊎◌, inl, inr, ℕ, suc, ◌+◌, ◌-◌, ◌*◌, ◌/◌, ◌<◌, ◌≤◌, Bool, true, false, List, [], ◌∷◌, ◌++◌, length, map, Option, Some, None, refl, sym, ap, ◌∙◌, subst, arith}
-use Rattle.std.specs.Prelude.{slice_get, nat_le}
+use Rattle.std.proofs.Common.{◌≡◌, ◌⊎◌, inl, inr, ℕ, suc, ◌+◌, ◌-◌, ◌*◌, ◌/◌, ◌<◌, ◌≤◌, Bool, true, false, List, [], ◌∷◌, ◌++◌, length, map, Some, refl, sym, ap, ◌∙◌, subst, arith}
+use Rattle.std.specs.Prelude.{nat_le}
 use Rattle.std.proofs.lemmas.Bool.{ne_eqb, le-leb}
 use Rattle.std.proofs.lemmas.Bool.Decides.{nat_tests}
 use Rattle.std.proofs.Math.ListN.{length-set}
@@ -28,10 +28,9 @@ use Rattle.mid_code.specs.Meaning as mid
 use Rattle.mid_code.specs.MidCode.{code_of}
 use Rattle.mid_code.specs.State.{MidState, MidOutcome}
 use Rattle.mid_code.specs.State.{charged as mid_charged}
-use Rattle.mid_arena.specs.Answers.{Enlarged, Returned, Pending, RoomWanting, Comes, done, no_words, new_spot, units_after}
+use Rattle.mid_arena.specs.Answers.{Returned, Pending, RoomWanting, Comes, done, no_words, units_after}
 use Rattle.mid_arena.specs.CodeCosts.{cost_of}
-use Rattle.mid_arena.specs.Places.{Spot, Places, with_object, WordsOf}
-use Rattle.mid_arena.specs.Represents.{Represents}
+use Rattle.mid_arena.specs.Places.{Spot, with_object, WordsOf}
 use Rattle.mid_arena.specs.Standing.{ArenaStands}
 use Rattle.mid_arena.specs.Tags.{object_tag, signal_word, tag_of}
 use Rattle.mid_arena.proofs.BuiltInFacts.{is_condition_class, condition_words}
@@ -49,7 +48,7 @@ use Rattle.back_relation.specs.Setting.{Setting}
 use Rattle.back_relation.specs.Placed.{IsPlaced}
 use Rattle.back_relation.specs.Room.{routine_words, words_for_handler}
 use Rattle.back_relation.specs.Around.{RoomFor}
-use Rattle.back_relation.specs.Ends.{ChargedFrom, RoomEnded}
+use Rattle.back_relation.specs.Ends.{RoomEnded}
 use Rattle.back_relation.specs.Forms.{context_at, code_at}
 use Rattle.back_relation.specs.Things.{Things, WithinLimit}
 use Rattle.back_combining.specs.Starts.{Start, EndsAt}
@@ -132,375 +131,375 @@ module _ (setting : Setting) (placed : IsPlaced setting) (k : ℕ) (a : Start se
     (q : MidOutcome)
     (is : exec_step (code_at setting k a.turns) (call a.d (primitives_from setting.at + primitive_number which) (registers_from a.d (length ws))) a.regs a.y ≡ mid.called q a.d a.regs)
   where
-  abbrev number : ℕ
-  number = primitives_from setting.at + primitive_number which
+    abbrev number : ℕ
+    number = primitives_from setting.at + primitive_number which
 
-  abbrev arguments : List ℕ
-  arguments = registers_from a.d (length ws)
+    abbrev arguments : List ℕ
+    arguments = registers_from a.d (length ws)
 
-  abbrev signalling : Steps
-  signalling = site_stored a.s.code.site a.d (a.d + 1) ++ (call a.d (pending_routine setting.at) [] ∷ [])
+    abbrev signalling : Steps
+    signalling = site_stored a.s.code.site a.d (a.d + 1) ++ (call a.d (pending_routine setting.at) [] ∷ [])
 
-  abbrev y1 : MidState
-  y1 = mid_charged (call_cost (length ws)) a.y
+    abbrev y1 : MidState
+    y1 = mid_charged (call_cost (length ws)) a.y
 
-  abbrev Does : ℕ → FlatEvaluated → Type 0
-  Does credit r =
-      EndsAt setting credit a r
-      (exec (code_at setting k a.turns) (code_of (by_procedure setting.at which (length ws) a.d a.s.code.site)) a.regs a.y)
+    abbrev Does : ℕ → FlatEvaluated → Type 0
+    Does credit r =
+        EndsAt setting credit a r
+        (exec (code_at setting k a.turns) (code_of (by_procedure setting.at which (length ws) a.d a.s.code.site)) a.regs a.y)
 
-  abbrev Outcomes : Answer → Type 0
-  Outcomes answer =
-      CameTo setting k a.turns which there a.w.places a.z.state y1 vs ws answer q
-      ⊎ (a.turns ≤ units_after setting.names (tables setting.program) answer - a.z.state.units)
+    abbrev Outcomes : Answer → Type 0
+    Outcomes answer =
+        CameTo setting k a.turns which there a.w.places a.z.state y1 vs ws answer q
+        ⊎ (a.turns ≤ units_after setting.names (tables setting.program) answer - a.z.state.units)
 
-  t : Things setting a.w a.z a.y
-  t = a.begins.call.things
+    t : Things setting a.w a.z a.y
+    t = a.begins.call.things
 
-  frame_small : there.procedure.frame ≤ a.n + words_for_handler * length a.around.handlers
-  frame_small = let small = there.within.frame in omega (arith, small, room)
+    frame_small : there.procedure.frame ≤ a.n + words_for_handler * length a.around.handlers
+    frame_small = let small = there.within.frame in omega (arith, small, room)
 
-  no_room_ended : (o : Outcome) (size : ℕ) → has_room setting.limit (a.z.state.heap + a.z.state.stack + size + 0) ≡ true → left a.y.arena < there.procedure.frame + size
-      → RoomEnded setting setting.limit o
-  no_room_ended o size fits few =
-      room_ended setting setting.limit o (a.n + words_for_handler * length a.around.handlers) size there.procedure.frame a.z a.y a.begins.call.room fits frame_small few
+    no_room_ended : (o : Outcome) (size : ℕ) → has_room setting.limit (a.z.state.heap + a.z.state.stack + size + 0) ≡ true → left a.y.arena < there.procedure.frame + size
+        → RoomEnded setting setting.limit o
+    no_room_ended o size fits few =
+        room_ended setting setting.limit o (a.n + words_for_handler * length a.around.handlers) size there.procedure.frame a.z a.y a.begins.call.room fits frame_small few
 
-  -- ---- a value
+    -- ---- a value
 
-  result_ends :
-      {credit : ℕ} (v : Value) (z2 : meaning.State) → PrimitiveKeeps (set_by which vs) a.z.state z2 → Outcomes (result v z2) → 210 + 256 * arity which ≤ credit
-      → Does credit (gives v (record a.z { state = z2 }))
-  result_ends v z2 keeps (inr few) enough =
-      few_ends setting a (z2.units - a.z.state.units) (gives v (record a.z { state = z2 })) _ few (let up = keeps.units in omega (arith, up))
-  result_ends {credit} v z2 keeps (inl came) enough = by came.comes
-    where
-      by : Comes setting.names (tables setting.program) a.w.places a.z.state y1 there.procedure.frame (result v z2) q → Does credit (gives v (record a.z { state = z2 }))
-      by (no_words x) =
-          wanting_ends setting placed k a two number arguments signalling q is x.asked_for x.left_then (gives v (record a.z { state = z2 })) x.end x.wanting
-          (no_room_ended (value v) 0 (within_room setting.limit a.z.state t.within_limit) x.together)
-          (subst (λ ps. IsPrefix ps z2.printed) (sym x.represents.printed) keeps.printed)
-      by (done x) =
-          value_ends setting placed k a two number arguments signalling q is {word = x.word} {places = a.w.places} {z2 = z2} {c1 = 190 + 256 * arity which}
-          (record {
-            end = x.end;
-            stands = value_stands setting t (set_by which vs) z2 q.state keeps x.represents x.kept x.arena.size x.blocks;
-            charged =
-                charged_by (left a.y.arena) (left q.state.arena) a.z.state.heap z2.heap a.z.state.stack z2.stack 0
-                (left_behind a.y.arena q.state.arena 0 x.represents.arena x.arena.size x.blocks x.arena.heap_to) (omega (arith, keeps.heap)) (omega (arith, keeps.stack));
-            paid = paid_value q.state.cost a.y.cost (length ws) (arity which) a.z.state.units z2.units came.cost count keeps.units;
-            up = keeps.units;
-          })
-          v x.of_value
-          (ne_eqb x.word signal_word (tells_value setting.names (tables setting.program) a.w.places z2 q.state x.represents v x.word x.of_value).no_signal) (omega (arith, enough))
-
-  -- ---- an object
-
-  -- what the call came to where an object was to be made
-  abbrev Made : (size : ℕ) → Spot → meaning.State → Type 0
-  Made size s z3 =
-      (Returned setting.names (tables setting.program) a.w.places a.z.state y1 (with_object s a.w.places) (object (length a.z.state.store)) z3 size q
-      ⊎ RoomWanting setting.names (tables setting.program) a.w.places a.z.state y1 there.procedure.frame size q)
-      × (q.state.cost + 250 * a.z.state.units ≤ y1.cost + 150 + 250 * (arity which + z3.units))
-
-  made_ends :
-      {credit : ℕ} (size : ℕ) (o : Object) (s : Spot) (z3 : meaning.State) → OneMore size o a.z.state z3 → IsNoFunction o → a.z.state.units ≤ z3.units
-      → z3.printed ≡ a.z.state.printed → has_room setting.limit (a.z.state.heap + a.z.state.stack + size + 0) ≡ true
-      → Made size s z3 ⊎ (a.turns ≤ z3.units - a.z.state.units) → 210 + 256 * arity which ≤ credit
-      → Does credit (gives (object (length a.z.state.store)) (record a.z { state = z3 }))
-  made_ends size o s z3 one other up same fits (inr few) enough =
-      few_ends setting a (z3.units - a.z.state.units) (gives (object (length a.z.state.store)) (record a.z { state = z3 })) _ few (omega (arith, up))
-  made_ends {credit} size o s z3 one other up same fits (inl came) enough = by came.0
-    where
-      by : Returned setting.names (tables setting.program) a.w.places a.z.state y1 (with_object s a.w.places) (object (length a.z.state.store)) z3 size q
-          ⊎ RoomWanting setting.names (tables setting.program) a.w.places a.z.state y1 there.procedure.frame size q
-          → Does credit (gives (object (length a.z.state.store)) (record a.z { state = z3 }))
-      by (inr x) =
-          wanting_ends setting placed k a two number arguments signalling q is x.asked_for x.left_then
-          (gives (object (length a.z.state.store)) (record a.z { state = z3 })) x.end x.wanting (no_room_ended (value (object (length a.z.state.store))) size fits x.together)
-          (subst (λ ps. IsPrefix ps z3.printed) (same ∙ sym x.represents.printed) (itself z3.printed))
-        where
-          itself : (ps : List ℕ) → IsPrefix ps ps
-          itself ps = record { rest = []; is = nothing_more ps }
-            where
-              nothing_more : (xs : List ℕ) → xs ++ [] ≡ xs
-              nothing_more [] = refl
-              nothing_more (x ∷ xs) = ap (λ ys. x ∷ ys) (nothing_more xs)
-      by (inl x) =
-          value_ends setting placed k a two number arguments signalling q is {word = x.word} {places = with_object s a.w.places} {z2 = z3} {c1 = 190 + 256 * arity which}
-          (record {
-            end = x.end;
-            stands = object_stands setting t size o s z3 q.state one other fits x.represents x.kept x.arena.size x.blocks;
-            charged =
-                charged_by (left a.y.arena) (left q.state.arena) a.z.state.heap z3.heap a.z.state.stack z3.stack size
-                (left_behind a.y.arena q.state.arena size x.represents.arena x.arena.size x.blocks x.arena.heap_to) one.heap one.stack;
-            paid = paid_value q.state.cost a.y.cost (length ws) (arity which) a.z.state.units z3.units came.1 count up;
-            up = up;
-          })
-          (object (length a.z.state.store)) x.of_value
-          (ne_eqb x.word signal_word
-          (tells_value setting.names (tables setting.program) (with_object s a.w.places) z3 q.state x.represents (object (length a.z.state.store)) x.word x.of_value).no_signal)
-          (omega (arith, enough))
-
-  -- an object of so many words, and units beside them
-  makes_ends :
-      {credit : ℕ} (size besides : ℕ) (o : Object) (z2 : meaning.State) → z2 ≡ a.z.state → IsNoFunction o → Outcomes (makes size besides o z2)
-      → 210 + 256 * arity which ≤ credit → Does credit (answered (context_at setting k) (makes size besides o z2) a.around a.z)
-  makes_ends {credit} size besides o z2 same other outcome enough =
-      subst (λ x. Outcomes (makes size besides o x) → Does credit (answered (context_at setting k) (makes size besides o x) a.around a.z)) (sym same)
-      (λ outcome. by outcome (has_room setting.limit (a.z.state.heap + a.z.state.stack + size + 0)) refl) outcome
-    where
-      following : FlatState → FlatEvaluated
-      following entered = gives (object (length entered.state.store)) (on_state (λ y. meaning.stored o (meaning.charged (size + besides) y)) entered)
-
-      after : meaning.State
-      after = meaning.stored o (meaning.charged (size + besides) (meaning.with_words size 0 a.z.state))
-
-      made : Outcomes (makes size besides o a.z.state)
-          → Made size (record { address = y1.arena.heap_to; words = size; tag = tag_of o }) after ⊎ (a.turns ≤ after.units - a.z.state.units)
-      made (inr few) = inr (omega (arith, few))
-      made (inl came) = inl (by came.comes, omega (arith, came.cost))
-        where
-          by : Comes setting.names (tables setting.program) a.w.places a.z.state y1 there.procedure.frame (makes size besides o a.z.state) q
-              → Returned setting.names (tables setting.program) a.w.places a.z.state y1 (with_object (record { address = y1.arena.heap_to; words = size; tag = tag_of o }) a.w.places)
-              (object (length a.z.state.store)) after size q
-              ⊎ RoomWanting setting.names (tables setting.program) a.w.places a.z.state y1 there.procedure.frame size q
-          by (no_words x) = inr x
-          by (done x) = inl (record {
-            word = x.word;
-            end = x.end;
-            of_value = x.of_value;
-            represents = represents_same setting.names (tables setting.program) _ (meaning.stored o a.z.state) after q.state refl refl refl refl x.represents;
-            arena = x.arena;
-            blocks = x.blocks;
-            kept = x.kept;
-          })
-
-      by : Outcomes (makes size besides o a.z.state) → (b : Bool) → has_room setting.limit (a.z.state.heap + a.z.state.stack + size + 0) ≡ b
-          → Does credit (answered (context_at setting k) (makes size besides o a.z.state) a.around a.z)
-      by outcome true e =
-          subst (Does credit) (sym (request_granted setting.limit size a.z following e))
-          (made_ends size o (record { address = y1.arena.heap_to; words = size; tag = tag_of o }) after
-          (record { store = refl; variables = refl; globals = refl; dynamics = refl; exits = refl; heap = refl; stack = refl }) other (omega arith) refl e (made outcome) enough)
-      by outcome false e =
-          subst (Does credit) (sym (request_refused setting.limit size a.z following e))
-          (full_ends setting k a (code_of (by_procedure setting.at which (length ws) a.d a.s.code.site)) (size + 0) (room_left setting.limit (a.z.state.heap + a.z.state.stack))
-          a.z.state refl)
-
-  -- the next fresh symbol
-  symbols_end :
-      {credit : ℕ} (z2 : meaning.State) → z2 ≡ a.z.state → Outcomes (makes_symbol z2) → 210 + 256 * arity which ≤ credit
-      → Does credit (answered (context_at setting k) (makes_symbol z2) a.around a.z)
-  symbols_end {credit} z2 same outcome enough =
-      subst (λ x. Outcomes (makes_symbol x) → Does credit (answered (context_at setting k) (makes_symbol x) a.around a.z)) (sym same)
-      (λ outcome. by outcome (has_room setting.limit (a.z.state.heap + a.z.state.stack + 2 + 0)) refl) outcome
-    where
-      o : Object
-      o = fresh_symbol a.z.state.symbols
-
-      following : FlatState → FlatEvaluated
-      following entered =
-          gives (object (length entered.state.store))
-          (on_state (λ (x : meaning.State). record x { symbols = x.symbols + 1 }) (on_state (λ y. meaning.stored o (meaning.charged (2 + 0) y)) entered))
-
-      after : meaning.State
-      after = record (meaning.stored o (meaning.charged (2 + 0) (meaning.with_words 2 0 a.z.state))) { symbols = a.z.state.symbols + 1 }
-
-      made : Outcomes (makes_symbol a.z.state)
-          → Made 2 (record { address = y1.arena.heap_to; words = 2; tag = object_tag }) after ⊎ (a.turns ≤ after.units - a.z.state.units)
-      made (inr few) = inr (omega (arith, few))
-      made (inl came) = inl (by came.comes, omega (arith, came.cost))
-        where
-          by : Comes setting.names (tables setting.program) a.w.places a.z.state y1 there.procedure.frame (makes_symbol a.z.state) q
-              → Returned setting.names (tables setting.program) a.w.places a.z.state y1 (with_object (record { address = y1.arena.heap_to; words = 2; tag = object_tag }) a.w.places)
-              (object (length a.z.state.store)) after 2 q
-              ⊎ RoomWanting setting.names (tables setting.program) a.w.places a.z.state y1 there.procedure.frame 2 q
-          by (no_words x) = inr x
-          by (done x) = inl (record {
-            word = x.word;
-            end = x.end;
-            of_value = x.of_value;
-            represents =
-                represents_same setting.names (tables setting.program) _ (record (meaning.stored o a.z.state) { symbols = a.z.state.symbols + 1 }) after q.state refl refl
-                refl refl x.represents;
-            arena = x.arena;
-            blocks = x.blocks;
-            kept = x.kept;
-          })
-
-      by : Outcomes (makes_symbol a.z.state) → (b : Bool) → has_room setting.limit (a.z.state.heap + a.z.state.stack + 2 + 0) ≡ b
-          → Does credit (answered (context_at setting k) (makes_symbol a.z.state) a.around a.z)
-      by outcome true e =
-          subst (Does credit) (sym (request_granted setting.limit 2 a.z following e))
-          (made_ends 2 o (record { address = y1.arena.heap_to; words = 2; tag = object_tag }) after
-          (record { store = refl; variables = refl; globals = refl; dynamics = refl; exits = refl; heap = refl; stack = refl }) tt (omega arith) refl e (made outcome) enough)
-      by outcome false e =
-          subst (Does credit) (sym (request_refused setting.limit 2 a.z following e))
-          (full_ends setting k a (code_of (by_procedure setting.at which (length ws) a.d a.s.code.site)) (2 + 0) (room_left setting.limit (a.z.state.heap + a.z.state.stack))
-          a.z.state refl)
-
-  -- ---- a condition
-
-  -- what the call came to where a condition was to be made
-  abbrev Signalled : (class : ℕ) → List Value → (size charged : ℕ) → meaning.State → Type 0
-  Signalled class slots size charged z2 =
-      (Pending setting.names (tables setting.program) a.w.places a.z.state y1
-      (with_object (record { address = y1.arena.heap_to; words = size; tag = object_tag }) a.w.places) class slots z2 size q
-      ⊎ RoomWanting setting.names (tables setting.program) a.w.places a.z.state y1 there.procedure.frame size q)
-      × (q.state.cost ≤ y1.cost + cost_of which + repeated (charged + size) (loop_costs which))
-
-  module _ (class : ℕ) (slots : List Value) (low : serious_condition_class < suc class) (high : class < built_in_classes) (charged : ℕ) where
-    abbrev size : ℕ
-    size = instance_words (tables setting.program) class (length slots)
-
-    abbrev condition : Object
-    condition = instance class (map (λ v. Some v) slots) nil
-
-    abbrev before : FlatState
-    before = record a.z { state = meaning.charged charged a.z.state }
-
-    abbrev behind : meaning.State
-    behind = meaning.stored condition (meaning.charged (size + 0) (meaning.with_words size 0 (meaning.charged charged a.z.state)))
-
-    abbrev meant : FlatEvaluated
-    meant = signal_under (context_at setting k) a.around.handlers (object (length a.z.state.store)) nil a.around (record a.z { state = behind })
-
-    some_words : 3 ≤ size
-    some_words = let known = condition_words (tables setting.program) t.represents.built_in class (length slots) low high in omega (arith, known)
-
-    meant_later : FlatLater (record a.z { state = behind }) meant.state
-    meant_later = under_later setting k a.around.handlers (object (length a.z.state.store)) a.around (record a.z { state = behind })
-
-    is_condition_there : is_condition (tables setting.program) behind (object (length a.z.state.store)) ≡ true
-    is_condition_there =
-        ap (λ o. is_below (tables setting.program) (class_of_object o) serious_condition_class) (slice_get-behind a.z.state.store condition)
-        ∙ is_condition_class (tables setting.program) t.represents.built_in class low high
-
-    signalled_ends :
-        {credit : ℕ} → has_room setting.limit (a.z.state.heap + a.z.state.stack + size + 0) ≡ true
-        → Signalled class slots size charged (meaning.charged charged a.z.state) ⊎ (a.turns ≤ charged + size) → SignalPaid which credit → Does credit meant
-    signalled_ends fits (inr few) enough =
-        few_ends setting a (charged + size) meant _ few (let up = meant_later.later.units in omega (arith, up))
-    signalled_ends {credit} fits (inl came) enough = by came.0
+    result_ends :
+        {credit : ℕ} (v : Value) (z2 : meaning.State) → PrimitiveKeeps (set_by which vs) a.z.state z2 → Outcomes (result v z2) → 210 + 256 * arity which ≤ credit
+        → Does credit (gives v (record a.z { state = z2 }))
+    result_ends v z2 keeps (inr few) enough =
+        few_ends setting a (z2.units - a.z.state.units) (gives v (record a.z { state = z2 })) _ few (let up = keeps.units in omega (arith, up))
+    result_ends {credit} v z2 keeps (inl came) enough = by came.comes
       where
-        by : Pending setting.names (tables setting.program) a.w.places a.z.state y1
-            (with_object (record { address = y1.arena.heap_to; words = size; tag = object_tag }) a.w.places) class slots (meaning.charged charged a.z.state) size q
-            ⊎ RoomWanting setting.names (tables setting.program) a.w.places a.z.state y1 there.procedure.frame size q
-            → Does credit meant
-        by (inr x) =
-            wanting_ends setting placed k a two number arguments signalling q is x.asked_for x.left_then meant x.end x.wanting
-            (no_room_ended meant.outcome size fits x.together)
-            (subst (λ ps. IsPrefix ps meant.state.state.printed) (sym x.represents.printed) meant_later.later.printed)
-        by (inl x) =
-            let handed : HandedBack setting placed k a two number arguments signalling q is signal_word
-            (with_object (record { address = y1.arena.heap_to; words = size; tag = object_tag }) a.w.places) behind (credit - 380) =
-            record {
+        by : Comes setting.names (tables setting.program) a.w.places a.z.state y1 there.procedure.frame (result v z2) q → Does credit (gives v (record a.z { state = z2 }))
+        by (no_words x) =
+            wanting_ends setting placed k a two number arguments signalling q is x.asked_for x.left_then (gives v (record a.z { state = z2 })) x.end x.wanting
+            (no_room_ended (value v) 0 (within_room setting.limit a.z.state t.within_limit) x.together)
+            (subst (λ ps. IsPrefix ps z2.printed) (sym x.represents.printed) keeps.printed)
+        by (done x) =
+            value_ends setting placed k a two number arguments signalling q is {word = x.word} {places = a.w.places} {z2 = z2} {c1 = 190 + 256 * arity which}
+            (record {
               end = x.end;
-              stands =
-                  object_stands setting t size condition (record { address = y1.arena.heap_to; words = size; tag = object_tag }) behind q.state
-                  (record { store = refl; variables = refl; globals = refl; dynamics = refl; exits = refl; heap = refl; stack = refl }) tt fits
-                  (represents_same setting.names (tables setting.program) _ (meaning.stored condition (meaning.charged charged a.z.state)) behind q.state refl refl refl refl x.represents)
-                  x.kept x.arena.size x.blocks;
+              stands = value_stands setting t (set_by which vs) z2 q.state keeps x.represents x.kept x.arena.size x.blocks;
               charged =
-                  charged_by (left a.y.arena) (left q.state.arena) a.z.state.heap behind.heap a.z.state.stack behind.stack size
-                  (left_behind a.y.arena q.state.arena size x.represents.arena x.arena.size x.blocks x.arena.heap_to) refl refl;
-              paid =
-                  paid_signal q.state.cost a.y.cost (length ws) (arity which) (cost_of which) (repeated (charged + size) (loop_costs which)) (loop_costs which) charged size
-                  a.z.state.units credit came.1 (repeated_paid (charged + size) (loop_costs which) (loops_small which) (omega (arith, some_words))) count enough.0 enough.1;
-              up = omega arith;
-            } in
-            signal_ends setting placed k a two number arguments signalling q is {c1 = credit - 380} handed {c2 = signalling_credit setting k} meant refl
-            (omega (arith, enough.0)) meant_later.later.units
-            (pending_ends setting k (behind_test setting placed k a two number arguments signalling q is handed) (object (length a.z.state.store)) pending
-            (omega (arith, two, length-set (called_registers setting placed k a two number arguments signalling q is handed) (a.d + 1) (Some signal_word), length-set a.regs a.d (Some signal_word)))
-            room is_condition_there (record { word = x.pending.word; of_value = x.pending.of_value; stands = x.pending.stands }))
+                  charged_by (left a.y.arena) (left q.state.arena) a.z.state.heap z2.heap a.z.state.stack z2.stack 0
+                  (left_behind a.y.arena q.state.arena 0 x.represents.arena x.arena.size x.blocks x.arena.heap_to) (omega (arith, keeps.heap)) (omega (arith, keeps.stack));
+              paid = paid_value q.state.cost a.y.cost (length ws) (arity which) a.z.state.units z2.units came.cost count keeps.units;
+              up = keeps.units;
+            })
+            v x.of_value
+            (ne_eqb x.word signal_word (tells_value setting.names (tables setting.program) a.w.places z2 q.state x.represents v x.word x.of_value).no_signal) (omega (arith, enough))
 
-    condition_ends :
-        {credit : ℕ} → Signalled class slots size charged (meaning.charged charged a.z.state) ⊎ (a.turns ≤ charged + size) → SignalPaid which credit
-        → Does credit (signal (context_at setting k) class slots a.around before)
-    condition_ends {credit} outcome enough = by (has_room setting.limit (a.z.state.heap + a.z.state.stack + size + 0)) refl
+    -- ---- an object
+
+    -- what the call came to where an object was to be made
+    abbrev Made : (size : ℕ) → Spot → meaning.State → Type 0
+    Made size s z3 =
+        (Returned setting.names (tables setting.program) a.w.places a.z.state y1 (with_object s a.w.places) (object (length a.z.state.store)) z3 size q
+        ⊎ RoomWanting setting.names (tables setting.program) a.w.places a.z.state y1 there.procedure.frame size q)
+        × (q.state.cost + 250 * a.z.state.units ≤ y1.cost + 150 + 250 * (arity which + z3.units))
+
+    made_ends :
+        {credit : ℕ} (size : ℕ) (o : Object) (s : Spot) (z3 : meaning.State) → OneMore size o a.z.state z3 → IsNoFunction o → a.z.state.units ≤ z3.units
+        → z3.printed ≡ a.z.state.printed → has_room setting.limit (a.z.state.heap + a.z.state.stack + size + 0) ≡ true
+        → Made size s z3 ⊎ (a.turns ≤ z3.units - a.z.state.units) → 210 + 256 * arity which ≤ credit
+        → Does credit (gives (object (length a.z.state.store)) (record a.z { state = z3 }))
+    made_ends size o s z3 one other up same fits (inr few) enough =
+        few_ends setting a (z3.units - a.z.state.units) (gives (object (length a.z.state.store)) (record a.z { state = z3 })) _ few (omega (arith, up))
+    made_ends {credit} size o s z3 one other up same fits (inl came) enough = by came.0
+      where
+        by : Returned setting.names (tables setting.program) a.w.places a.z.state y1 (with_object s a.w.places) (object (length a.z.state.store)) z3 size q
+            ⊎ RoomWanting setting.names (tables setting.program) a.w.places a.z.state y1 there.procedure.frame size q
+            → Does credit (gives (object (length a.z.state.store)) (record a.z { state = z3 }))
+        by (inr x) =
+            wanting_ends setting placed k a two number arguments signalling q is x.asked_for x.left_then
+            (gives (object (length a.z.state.store)) (record a.z { state = z3 })) x.end x.wanting (no_room_ended (value (object (length a.z.state.store))) size fits x.together)
+            (subst (λ ps. IsPrefix ps z3.printed) (same ∙ sym x.represents.printed) (itself z3.printed))
+          where
+            itself : (ps : List ℕ) → IsPrefix ps ps
+            itself ps = record { rest = []; is = nothing_more ps }
+              where
+                nothing_more : (xs : List ℕ) → xs ++ [] ≡ xs
+                nothing_more [] = refl
+                nothing_more (x ∷ xs) = ap (λ ys. x ∷ ys) (nothing_more xs)
+        by (inl x) =
+            value_ends setting placed k a two number arguments signalling q is {word = x.word} {places = with_object s a.w.places} {z2 = z3} {c1 = 190 + 256 * arity which}
+            (record {
+              end = x.end;
+              stands = object_stands setting t size o s z3 q.state one other fits x.represents x.kept x.arena.size x.blocks;
+              charged =
+                  charged_by (left a.y.arena) (left q.state.arena) a.z.state.heap z3.heap a.z.state.stack z3.stack size
+                  (left_behind a.y.arena q.state.arena size x.represents.arena x.arena.size x.blocks x.arena.heap_to) one.heap one.stack;
+              paid = paid_value q.state.cost a.y.cost (length ws) (arity which) a.z.state.units z3.units came.1 count up;
+              up = up;
+            })
+            (object (length a.z.state.store)) x.of_value
+            (ne_eqb x.word signal_word
+            (tells_value setting.names (tables setting.program) (with_object s a.w.places) z3 q.state x.represents (object (length a.z.state.store)) x.word x.of_value).no_signal)
+            (omega (arith, enough))
+
+    -- an object of so many words, and units beside them
+    makes_ends :
+        {credit : ℕ} (size besides : ℕ) (o : Object) (z2 : meaning.State) → z2 ≡ a.z.state → IsNoFunction o → Outcomes (makes size besides o z2)
+        → 210 + 256 * arity which ≤ credit → Does credit (answered (context_at setting k) (makes size besides o z2) a.around a.z)
+    makes_ends {credit} size besides o z2 same other outcome enough =
+        subst (λ x. Outcomes (makes size besides o x) → Does credit (answered (context_at setting k) (makes size besides o x) a.around a.z)) (sym same)
+        (λ outcome. by outcome (has_room setting.limit (a.z.state.heap + a.z.state.stack + size + 0)) refl) outcome
       where
         following : FlatState → FlatEvaluated
+        following entered = gives (object (length entered.state.store)) (on_state (λ y. meaning.stored o (meaning.charged (size + besides) y)) entered)
+
+        after : meaning.State
+        after = meaning.stored o (meaning.charged (size + besides) (meaning.with_words size 0 a.z.state))
+
+        made : Outcomes (makes size besides o a.z.state)
+            → Made size (record { address = y1.arena.heap_to; words = size; tag = tag_of o }) after ⊎ (a.turns ≤ after.units - a.z.state.units)
+        made (inr few) = inr (omega (arith, few))
+        made (inl came) = inl (by came.comes, omega (arith, came.cost))
+          where
+            by : Comes setting.names (tables setting.program) a.w.places a.z.state y1 there.procedure.frame (makes size besides o a.z.state) q
+                → Returned setting.names (tables setting.program) a.w.places a.z.state y1 (with_object (record { address = y1.arena.heap_to; words = size; tag = tag_of o }) a.w.places)
+                (object (length a.z.state.store)) after size q
+                ⊎ RoomWanting setting.names (tables setting.program) a.w.places a.z.state y1 there.procedure.frame size q
+            by (no_words x) = inr x
+            by (done x) = inl (record {
+              word = x.word;
+              end = x.end;
+              of_value = x.of_value;
+              represents = represents_same setting.names (tables setting.program) _ (meaning.stored o a.z.state) after q.state refl refl refl refl x.represents;
+              arena = x.arena;
+              blocks = x.blocks;
+              kept = x.kept;
+            })
+
+        by : Outcomes (makes size besides o a.z.state) → (b : Bool) → has_room setting.limit (a.z.state.heap + a.z.state.stack + size + 0) ≡ b
+            → Does credit (answered (context_at setting k) (makes size besides o a.z.state) a.around a.z)
+        by outcome true e =
+            subst (Does credit) (sym (request_granted setting.limit size a.z following e))
+            (made_ends size o (record { address = y1.arena.heap_to; words = size; tag = tag_of o }) after
+            (record { store = refl; variables = refl; globals = refl; dynamics = refl; exits = refl; heap = refl; stack = refl }) other (omega arith) refl e (made outcome) enough)
+        by outcome false e =
+            subst (Does credit) (sym (request_refused setting.limit size a.z following e))
+            (full_ends setting k a (code_of (by_procedure setting.at which (length ws) a.d a.s.code.site)) (size + 0) (room_left setting.limit (a.z.state.heap + a.z.state.stack))
+            a.z.state refl)
+
+    -- the next fresh symbol
+    symbols_end :
+        {credit : ℕ} (z2 : meaning.State) → z2 ≡ a.z.state → Outcomes (makes_symbol z2) → 210 + 256 * arity which ≤ credit
+        → Does credit (answered (context_at setting k) (makes_symbol z2) a.around a.z)
+    symbols_end {credit} z2 same outcome enough =
+        subst (λ x. Outcomes (makes_symbol x) → Does credit (answered (context_at setting k) (makes_symbol x) a.around a.z)) (sym same)
+        (λ outcome. by outcome (has_room setting.limit (a.z.state.heap + a.z.state.stack + 2 + 0)) refl) outcome
+      where
+        o : Object
+        o = fresh_symbol a.z.state.symbols
+
+        following : FlatState → FlatEvaluated
         following entered =
-            signal_under (context_at setting k) a.around.handlers (object (length entered.state.store)) nil a.around
-            (on_state (λ y. meaning.stored condition (meaning.charged (size + 0) y)) entered)
+            gives (object (length entered.state.store))
+            (on_state (λ (x : meaning.State). record x { symbols = x.symbols + 1 }) (on_state (λ y. meaning.stored o (meaning.charged (2 + 0) y)) entered))
 
-        by : (b : Bool) → has_room setting.limit (a.z.state.heap + a.z.state.stack + size + 0) ≡ b
-            → Does credit (signal (context_at setting k) class slots a.around before)
-        by true e = subst (Does credit) (sym (request_granted setting.limit size before following e)) (signalled_ends e outcome enough)
-        by false e =
-            subst (Does credit) (sym (request_refused setting.limit size before following e))
-            (full_ends setting k a (code_of (by_procedure setting.at which (length ws) a.d a.s.code.site)) (size + 0)
-            (room_left setting.limit (a.z.state.heap + a.z.state.stack)) (meaning.charged charged a.z.state) refl)
+        after : meaning.State
+        after = record (meaning.stored o (meaning.charged (2 + 0) (meaning.with_words 2 0 a.z.state))) { symbols = a.z.state.symbols + 1 }
 
-  -- the condition of a class without slots
-  fails_end :
-      {credit : ℕ} (class : ℕ) (slots : List Value) (z2 : meaning.State) → PlainCondition class → IsCounted a.z.state z2 → Outcomes (fails class slots z2)
-      → SignalPaid which credit → Does credit (answered (context_at setting k) (fails class slots z2) a.around a.z)
-  fails_end {credit} class slots z2 plain counted outcome enough =
-      subst (λ x. Outcomes (fails class slots x) → Does credit (answered (context_at setting k) (fails class slots x) a.around a.z)) (sym counted.is)
-      (λ outcome. condition_ends class slots (plain_low plain) (plain_high plain) counted.units (by outcome) enough) outcome
-    where
-      words_made : ℕ
-      words_made = instance_words (tables setting.program) class (length slots)
+        made : Outcomes (makes_symbol a.z.state)
+            → Made 2 (record { address = y1.arena.heap_to; words = 2; tag = object_tag }) after ⊎ (a.turns ≤ after.units - a.z.state.units)
+        made (inr few) = inr (omega (arith, few))
+        made (inl came) = inl (by came.comes, omega (arith, came.cost))
+          where
+            by : Comes setting.names (tables setting.program) a.w.places a.z.state y1 there.procedure.frame (makes_symbol a.z.state) q
+                → Returned setting.names (tables setting.program) a.w.places a.z.state y1 (with_object (record { address = y1.arena.heap_to; words = 2; tag = object_tag }) a.w.places)
+                (object (length a.z.state.store)) after 2 q
+                ⊎ RoomWanting setting.names (tables setting.program) a.w.places a.z.state y1 there.procedure.frame 2 q
+            by (no_words x) = inr x
+            by (done x) = inl (record {
+              word = x.word;
+              end = x.end;
+              of_value = x.of_value;
+              represents =
+                  represents_same setting.names (tables setting.program) _ (record (meaning.stored o a.z.state) { symbols = a.z.state.symbols + 1 }) after q.state refl refl
+                  refl refl x.represents;
+              arena = x.arena;
+              blocks = x.blocks;
+              kept = x.kept;
+            })
 
-      difference : a.z.state.units + counted.units + words_made - a.z.state.units ≡ counted.units + words_made
-      difference = omega arith
+        by : Outcomes (makes_symbol a.z.state) → (b : Bool) → has_room setting.limit (a.z.state.heap + a.z.state.stack + 2 + 0) ≡ b
+            → Does credit (answered (context_at setting k) (makes_symbol a.z.state) a.around a.z)
+        by outcome true e =
+            subst (Does credit) (sym (request_granted setting.limit 2 a.z following e))
+            (made_ends 2 o (record { address = y1.arena.heap_to; words = 2; tag = object_tag }) after
+            (record { store = refl; variables = refl; globals = refl; dynamics = refl; exits = refl; heap = refl; stack = refl }) tt (omega arith) refl e (made outcome) enough)
+        by outcome false e =
+            subst (Does credit) (sym (request_refused setting.limit 2 a.z following e))
+            (full_ends setting k a (code_of (by_procedure setting.at which (length ws) a.d a.s.code.site)) (2 + 0) (room_left setting.limit (a.z.state.heap + a.z.state.stack))
+            a.z.state refl)
 
-      by : Outcomes (fails class slots (meaning.charged counted.units a.z.state))
-          → Signalled class slots words_made counted.units (meaning.charged counted.units a.z.state) ⊎ (a.turns ≤ counted.units + words_made)
-      by (inr few) = inr (omega (arith, few, difference))
-      by (inl came) =
-          inl (comes came.comes, subst (λ n. q.state.cost ≤ y1.cost + cost_of which + repeated n (loop_costs which)) difference came.plain)
+    -- ---- a condition
+
+    -- what the call came to where a condition was to be made
+    abbrev Signalled : (class : ℕ) → List Value → (size charged : ℕ) → meaning.State → Type 0
+    Signalled class slots size charged z2 =
+        (Pending setting.names (tables setting.program) a.w.places a.z.state y1
+        (with_object (record { address = y1.arena.heap_to; words = size; tag = object_tag }) a.w.places) class slots z2 size q
+        ⊎ RoomWanting setting.names (tables setting.program) a.w.places a.z.state y1 there.procedure.frame size q)
+        × (q.state.cost ≤ y1.cost + cost_of which + repeated (charged + size) (loop_costs which))
+
+    module _ (class : ℕ) (slots : List Value) (low : serious_condition_class < suc class) (high : class < built_in_classes) (charged : ℕ) where
+      abbrev size : ℕ
+      size = instance_words (tables setting.program) class (length slots)
+
+      abbrev condition : Object
+      condition = instance class (map (λ v. Some v) slots) nil
+
+      abbrev before : FlatState
+      before = record a.z { state = meaning.charged charged a.z.state }
+
+      abbrev behind : meaning.State
+      behind = meaning.stored condition (meaning.charged (size + 0) (meaning.with_words size 0 (meaning.charged charged a.z.state)))
+
+      abbrev meant : FlatEvaluated
+      meant = signal_under (context_at setting k) a.around.handlers (object (length a.z.state.store)) nil a.around (record a.z { state = behind })
+
+      some_words : 3 ≤ size
+      some_words = let known = condition_words (tables setting.program) t.represents.built_in class (length slots) low high in omega (arith, known)
+
+      meant_later : FlatLater (record a.z { state = behind }) meant.state
+      meant_later = under_later setting k a.around.handlers (object (length a.z.state.store)) a.around (record a.z { state = behind })
+
+      is_condition_there : is_condition (tables setting.program) behind (object (length a.z.state.store)) ≡ true
+      is_condition_there =
+          ap (λ o. is_below (tables setting.program) (class_of_object o) serious_condition_class) (slice_get-behind a.z.state.store condition)
+          ∙ is_condition_class (tables setting.program) t.represents.built_in class low high
+
+      signalled_ends :
+          {credit : ℕ} → has_room setting.limit (a.z.state.heap + a.z.state.stack + size + 0) ≡ true
+          → Signalled class slots size charged (meaning.charged charged a.z.state) ⊎ (a.turns ≤ charged + size) → SignalPaid which credit → Does credit meant
+      signalled_ends fits (inr few) enough =
+          few_ends setting a (charged + size) meant _ few (let up = meant_later.later.units in omega (arith, up))
+      signalled_ends {credit} fits (inl came) enough = by came.0
         where
-          comes : Comes setting.names (tables setting.program) a.w.places a.z.state y1 there.procedure.frame (fails class slots (meaning.charged counted.units a.z.state)) q
-              → Pending setting.names (tables setting.program) a.w.places a.z.state y1
-              (with_object (record { address = y1.arena.heap_to; words = words_made; tag = object_tag }) a.w.places) class slots (meaning.charged counted.units a.z.state) words_made q
-              ⊎ RoomWanting setting.names (tables setting.program) a.w.places a.z.state y1 there.procedure.frame words_made q
-          comes (no_words x) = inr x
-          comes (done x) = inl x
+          by : Pending setting.names (tables setting.program) a.w.places a.z.state y1
+              (with_object (record { address = y1.arena.heap_to; words = size; tag = object_tag }) a.w.places) class slots (meaning.charged charged a.z.state) size q
+              ⊎ RoomWanting setting.names (tables setting.program) a.w.places a.z.state y1 there.procedure.frame size q
+              → Does credit meant
+          by (inr x) =
+              wanting_ends setting placed k a two number arguments signalling q is x.asked_for x.left_then meant x.end x.wanting
+              (no_room_ended meant.outcome size fits x.together)
+              (subst (λ ps. IsPrefix ps meant.state.state.printed) (sym x.represents.printed) meant_later.later.printed)
+          by (inl x) =
+              let handed : HandedBack setting placed k a two number arguments signalling q is signal_word
+              (with_object (record { address = y1.arena.heap_to; words = size; tag = object_tag }) a.w.places) behind (credit - 380) =
+              record {
+                end = x.end;
+                stands =
+                    object_stands setting t size condition (record { address = y1.arena.heap_to; words = size; tag = object_tag }) behind q.state
+                    (record { store = refl; variables = refl; globals = refl; dynamics = refl; exits = refl; heap = refl; stack = refl }) tt fits
+                    (represents_same setting.names (tables setting.program) _ (meaning.stored condition (meaning.charged charged a.z.state)) behind q.state refl refl refl refl x.represents)
+                    x.kept x.arena.size x.blocks;
+                charged =
+                    charged_by (left a.y.arena) (left q.state.arena) a.z.state.heap behind.heap a.z.state.stack behind.stack size
+                    (left_behind a.y.arena q.state.arena size x.represents.arena x.arena.size x.blocks x.arena.heap_to) refl refl;
+                paid =
+                    paid_signal q.state.cost a.y.cost (length ws) (arity which) (cost_of which) (repeated (charged + size) (loop_costs which)) (loop_costs which) charged size
+                    a.z.state.units credit came.1 (repeated_paid (charged + size) (loop_costs which) (loops_small which) (omega (arith, some_words))) count enough.0 enough.1;
+                up = omega arith;
+              } in
+              signal_ends setting placed k a two number arguments signalling q is {c1 = credit - 380} handed {c2 = signalling_credit setting k} meant refl
+              (omega (arith, enough.0)) meant_later.later.units
+              (pending_ends setting k (behind_test setting placed k a two number arguments signalling q is handed) (object (length a.z.state.store)) pending
+              (omega (arith, two, length-set (called_registers setting placed k a two number arguments signalling q is handed) (a.d + 1) (Some signal_word), length-set a.regs a.d (Some signal_word)))
+              room is_condition_there (record { word = x.pending.word; of_value = x.pending.of_value; stands = x.pending.stands }))
 
-  -- a domain error
-  domain_ends :
-      {credit : ℕ} (v : Value) (expected : ℕ) (z2 : meaning.State) → IsCounted a.z.state z2 → Outcomes (domain_error v expected z2)
-      → SignalPaid which credit → Does credit (answered (context_at setting k) (domain_error v expected z2) a.around a.z)
-  domain_ends {credit} v expected z2 counted outcome enough =
-      subst (λ x. Outcomes (domain_error v expected x) → Does credit (answered (context_at setting k) (domain_error v expected x) a.around a.z)) (sym counted.is)
-      (λ outcome. condition_ends domain_error_class slots (omega arith) (omega arith) counted.units (by outcome) enough) outcome
-    where
-      slots : List Value
-      slots = v ∷ class_value setting.names (tables setting.program) expected ∷ []
-
-      words_made : ℕ
-      words_made = instance_words (tables setting.program) domain_error_class 2
-
-      difference : a.z.state.units + counted.units + words_made - a.z.state.units ≡ counted.units + words_made
-      difference = omega arith
-
-      by : Outcomes (domain_error v expected (meaning.charged counted.units a.z.state))
-          → Signalled domain_error_class slots words_made counted.units (meaning.charged counted.units a.z.state) ⊎ (a.turns ≤ counted.units + words_made)
-      by (inr few) = inr (omega (arith, few, difference))
-      by (inl came) =
-          inl (comes came.comes, subst (λ n. q.state.cost ≤ y1.cost + cost_of which + repeated n (loop_costs which)) difference came.plain)
+      condition_ends :
+          {credit : ℕ} → Signalled class slots size charged (meaning.charged charged a.z.state) ⊎ (a.turns ≤ charged + size) → SignalPaid which credit
+          → Does credit (signal (context_at setting k) class slots a.around before)
+      condition_ends {credit} outcome enough = by (has_room setting.limit (a.z.state.heap + a.z.state.stack + size + 0)) refl
         where
-          comes : Comes setting.names (tables setting.program) a.w.places a.z.state y1 there.procedure.frame (domain_error v expected (meaning.charged counted.units a.z.state)) q
-              → Pending setting.names (tables setting.program) a.w.places a.z.state y1
-              (with_object (record { address = y1.arena.heap_to; words = words_made; tag = object_tag }) a.w.places) domain_error_class slots
-              (meaning.charged counted.units a.z.state) words_made q
-              ⊎ RoomWanting setting.names (tables setting.program) a.w.places a.z.state y1 there.procedure.frame words_made q
-          comes (no_words x) = inr x
-          comes (done x) = inl x
+          following : FlatState → FlatEvaluated
+          following entered =
+              signal_under (context_at setting k) a.around.handlers (object (length entered.state.store)) nil a.around
+              (on_state (λ y. meaning.stored condition (meaning.charged (size + 0) y)) entered)
 
-  -- ---- any answer
+          by : (b : Bool) → has_room setting.limit (a.z.state.heap + a.z.state.stack + size + 0) ≡ b
+              → Does credit (signal (context_at setting k) class slots a.around before)
+          by true e = subst (Does credit) (sym (request_granted setting.limit size before following e)) (signalled_ends e outcome enough)
+          by false e =
+              subst (Does credit) (sym (request_refused setting.limit size before following e))
+              (full_ends setting k a (code_of (by_procedure setting.at which (length ws) a.d a.s.code.site)) (size + 0)
+              (room_left setting.limit (a.z.state.heap + a.z.state.stack)) (meaning.charged charged a.z.state) refl)
 
-  pub answer_ends :
-      {credit : ℕ} (answer : Answer) → AnswerKeeps (set_by which vs) a.z.state answer → IsProper answer → Outcomes answer → 210 + 256 * arity which ≤ credit
-      → (IsSignal answer → SignalPaid which credit) → Does credit (answered (context_at setting k) answer a.around a.z)
-  answer_ends (result v z2) keeps proper outcome enough signals = result_ends v z2 keeps outcome enough
-  answer_ends (makes n besides o z2) keeps proper outcome enough signals = makes_ends n besides o z2 keeps proper outcome enough
-  answer_ends (makes_symbol z2) keeps proper outcome enough signals = symbols_end z2 keeps outcome enough
-  answer_ends (fails class slots z2) keeps proper outcome enough signals = fails_end class slots z2 proper.0 keeps outcome (signals tt)
-  answer_ends (domain_error v expected z2) keeps proper outcome enough signals =
-      domain_ends v expected z2 (counted_none a.z.state z2 keeps) outcome (signals tt)
+    -- the condition of a class without slots
+    fails_end :
+        {credit : ℕ} (class : ℕ) (slots : List Value) (z2 : meaning.State) → PlainCondition class → IsCounted a.z.state z2 → Outcomes (fails class slots z2)
+        → SignalPaid which credit → Does credit (answered (context_at setting k) (fails class slots z2) a.around a.z)
+    fails_end {credit} class slots z2 plain counted outcome enough =
+        subst (λ x. Outcomes (fails class slots x) → Does credit (answered (context_at setting k) (fails class slots x) a.around a.z)) (sym counted.is)
+        (λ outcome. condition_ends class slots (plain_low plain) (plain_high plain) counted.units (by outcome) enough) outcome
+      where
+        words_made : ℕ
+        words_made = instance_words (tables setting.program) class (length slots)
+
+        difference : a.z.state.units + counted.units + words_made - a.z.state.units ≡ counted.units + words_made
+        difference = omega arith
+
+        by : Outcomes (fails class slots (meaning.charged counted.units a.z.state))
+            → Signalled class slots words_made counted.units (meaning.charged counted.units a.z.state) ⊎ (a.turns ≤ counted.units + words_made)
+        by (inr few) = inr (omega (arith, few, difference))
+        by (inl came) =
+            inl (comes came.comes, subst (λ n. q.state.cost ≤ y1.cost + cost_of which + repeated n (loop_costs which)) difference came.plain)
+          where
+            comes : Comes setting.names (tables setting.program) a.w.places a.z.state y1 there.procedure.frame (fails class slots (meaning.charged counted.units a.z.state)) q
+                → Pending setting.names (tables setting.program) a.w.places a.z.state y1
+                (with_object (record { address = y1.arena.heap_to; words = words_made; tag = object_tag }) a.w.places) class slots (meaning.charged counted.units a.z.state) words_made q
+                ⊎ RoomWanting setting.names (tables setting.program) a.w.places a.z.state y1 there.procedure.frame words_made q
+            comes (no_words x) = inr x
+            comes (done x) = inl x
+
+    -- a domain error
+    domain_ends :
+        {credit : ℕ} (v : Value) (expected : ℕ) (z2 : meaning.State) → IsCounted a.z.state z2 → Outcomes (domain_error v expected z2)
+        → SignalPaid which credit → Does credit (answered (context_at setting k) (domain_error v expected z2) a.around a.z)
+    domain_ends {credit} v expected z2 counted outcome enough =
+        subst (λ x. Outcomes (domain_error v expected x) → Does credit (answered (context_at setting k) (domain_error v expected x) a.around a.z)) (sym counted.is)
+        (λ outcome. condition_ends domain_error_class slots (omega arith) (omega arith) counted.units (by outcome) enough) outcome
+      where
+        slots : List Value
+        slots = v ∷ class_value setting.names (tables setting.program) expected ∷ []
+
+        words_made : ℕ
+        words_made = instance_words (tables setting.program) domain_error_class 2
+
+        difference : a.z.state.units + counted.units + words_made - a.z.state.units ≡ counted.units + words_made
+        difference = omega arith
+
+        by : Outcomes (domain_error v expected (meaning.charged counted.units a.z.state))
+            → Signalled domain_error_class slots words_made counted.units (meaning.charged counted.units a.z.state) ⊎ (a.turns ≤ counted.units + words_made)
+        by (inr few) = inr (omega (arith, few, difference))
+        by (inl came) =
+            inl (comes came.comes, subst (λ n. q.state.cost ≤ y1.cost + cost_of which + repeated n (loop_costs which)) difference came.plain)
+          where
+            comes : Comes setting.names (tables setting.program) a.w.places a.z.state y1 there.procedure.frame (domain_error v expected (meaning.charged counted.units a.z.state)) q
+                → Pending setting.names (tables setting.program) a.w.places a.z.state y1
+                (with_object (record { address = y1.arena.heap_to; words = words_made; tag = object_tag }) a.w.places) domain_error_class slots
+                (meaning.charged counted.units a.z.state) words_made q
+                ⊎ RoomWanting setting.names (tables setting.program) a.w.places a.z.state y1 there.procedure.frame words_made q
+            comes (no_words x) = inr x
+            comes (done x) = inl x
+
+    -- ---- any answer
+
+    pub answer_ends :
+        {credit : ℕ} (answer : Answer) → AnswerKeeps (set_by which vs) a.z.state answer → IsProper answer → Outcomes answer → 210 + 256 * arity which ≤ credit
+        → (IsSignal answer → SignalPaid which credit) → Does credit (answered (context_at setting k) answer a.around a.z)
+    answer_ends (result v z2) keeps proper outcome enough signals = result_ends v z2 keeps outcome enough
+    answer_ends (makes n besides o z2) keeps proper outcome enough signals = makes_ends n besides o z2 keeps proper outcome enough
+    answer_ends (makes_symbol z2) keeps proper outcome enough signals = symbols_end z2 keeps outcome enough
+    answer_ends (fails class slots z2) keeps proper outcome enough signals = fails_end class slots z2 proper.0 keeps outcome (signals tt)
+    answer_ends (domain_error v expected z2) keeps proper outcome enough signals =
+        domain_ends v expected z2 (counted_none a.z.state z2 keeps) outcome (signals tt)
 
 -- **a primitive is applied by its procedure** to the words in registers from the first one on
 pub by_procedure_ends :

@@ -1,5 +1,5 @@
 -- What the answers of primitives make and signal: no function is made, and conditions are of classes that are built in.
-use Rattle.std.proofs.Common.{◌≡◌, ℕ, ◌+◌, Bool, true, false, List, [], ◌∷◌, refl, Option, Some, None, length}
+use Rattle.std.proofs.Common.{◌≡◌, ℕ, Bool, true, false, List, [], ◌∷◌, refl, Option, Some, None, length}
 use Rattle.std.specs.List.{position_or_len}
 use Rattle.std.specs.Prelude.{ℤ, pos, ◌+ℤ◌, ◌-ℤ◌, ◌*ℤ◌, slice_get, if◌then◌else◌}
 use Rattle.lang_meaning.specs.declared.primitive.Primitive.{Primitive}

@@ -1,17 +1,17 @@
 -- What the code that applies a primitive by its procedure comes to, by what the call came to: a value, a condition, or an end.
-use Rattle.std.proofs.Common.{◌≡◌, ℕ, ◌+◌, ◌*◌, ◌<◌, ◌≤◌, Bool, true, false, List, [], ◌∷◌, ◌++◌, length, Option, Some, None, refl, sym, ap, ◌∙◌, subst, arith}
+use Rattle.std.proofs.Common.{◌≡◌, ℕ, ◌+◌, ◌<◌, ◌≤◌, false, List, [], ◌∷◌, ◌++◌, length, Some, refl, sym, ap, ◌∙◌, subst, arith}
 use Rattle.std.specs.Prelude.{slice_set, ◌==◌}
 use Rattle.std.proofs.Math.ListN.{length-set}
 use Rattle.lang_meaning.specs.Prefixes.{IsPrefix}
 use Rattle.lang_meaning.specs.State.{full}
 use Rattle.lang_meaning.specs.State as meaning
 use Rattle.lang_meaning.specs.Values.{Value}
-use Rattle.flat_language.specs.FlatState.{FlatState, FlatEvaluated, gives}
+use Rattle.flat_language.specs.FlatState.{FlatEvaluated, gives}
 use Rattle.mid_code.specs.Law.{Grown}
 use Rattle.mid_code.specs.Meaning.{Context, exec, exec_step}
 use Rattle.mid_code.specs.Meaning as mid
 use Rattle.mid_code.specs.MidCode.{MidCode, code_of}
-use Rattle.mid_code.specs.State.{Registers, register, falls, returns, no_room, ends, MidState, MidOutcome, jumped}
+use Rattle.mid_code.specs.State.{Registers, register, falls, returns, no_room, ends, MidOutcome, jumped}
 use Rattle.mid_code.specs.State.{charged as mid_charged}
 use Rattle.mid_code.proofs.Growth.{exec_grown, levels_grow, turns_grow}
 use Rattle.mid_arena.specs.Places.{Places, word_of}

@@ -1,12 +1,11 @@
 -- **A primitive is applied**, in line where that is quick: one case a primitive.
-use Rattle.std.proofs.Common.{◌≡◌, true, ℕ, zero, suc, ◌+◌, ◌*◌, ◌<◌, ◌≤◌, ℤ, List, [], ◌∷◌, length, refl, sym, ap, ◌∙◌, subst, arith}
+use Rattle.std.proofs.Common.{◌≡◌, true, ℕ, zero, suc, ◌+◌, ◌*◌, ◌≤◌, List, [], ◌∷◌, length, refl, sym, ◌∙◌, subst, arith}
 use Rattle.std.specs.Prelude.{not, int_lt, int_le}
 use Rattle.lang_meaning.specs.Arity.{arity}
 use Rattle.lang_meaning.specs.declared.primitive.Primitive.{Primitive}
 use Rattle.lang_meaning.specs.declared.primitive.Primitive.TheVariants.{Add, Subtract, NumberEqual, NumberNotEqual, NumberLess, NumberAtMost, NumberGreater, NumberAtLeast, Same, IsNull, IsCons, IsInteger, Cons, Car, Cdr, VectorRef}
-use Rattle.lang_meaning.specs.declared.primitive.Primitive.TheVariants.{Multiply, Divide, Modulo, IsSymbol, IsCharacter, IsString, IsVector, IsFunction, IsGeneric, SetCar, SetCdr, MakeString, MakeVector, StringLength, VectorLength, CharAt}
-use Rattle.lang_meaning.specs.declared.primitive.Primitive.TheVariants.{SetCharAt, SetVectorRef, CharCode, CodeChar, SymbolName, SymbolSerial, Gensym, ClassOf, ClassName, IsSubclass, IsInstance, Allocate, SlotCount, SlotPlace, SlotRef, SlotSet}
-use Rattle.lang_meaning.specs.declared.primitive.Primitive.TheVariants.{SlotBound, SlotInitargs, SlotInitform, Continuable, StandardInput, StandardOutput, PutChar, IsFreshLine, GetByte, PeekByte}
+use Rattle.lang_meaning.specs.declared.primitive.Primitive.TheVariants.{Gensym}
+use Rattle.lang_meaning.specs.declared.primitive.Primitive.TheVariants.{StandardInput, StandardOutput, IsFreshLine, GetByte, PeekByte}
 use Rattle.lang_meaning.specs.declared.program.ProgramRows.{ProgramRows}
 use Rattle.lang_meaning.specs.Primitives.{primitive}
 use Rattle.lang_meaning.specs.State as meaning
@@ -18,13 +17,12 @@ use Rattle.mid_code.specs.MidCode.{code_of}
 use Rattle.mid_arena.proofs.Keeping.{as_many_words}
 use Rattle.mid_arena.proofs.WordFacts.{integers_compare_equal, integers_compare_different, integers_compare_less, integers_compare_at_least, integers_compare_at_most, not_below}
 use Rattle.back_lowering.specs.Primitives.{by_procedure, apply_primitive}
-use Rattle.back_lowering.specs.Registers.{of_code, enough_for}
+use Rattle.back_lowering.specs.Registers.{of_code}
 use Rattle.back_relation.specs.Setting.{Setting}
 use Rattle.back_combining.specs.Starts.{Start}
 use Rattle.back_primitives.specs.Applying.{Applies, StepsAnswer, NamesThere, LawOfProcedures, LawOfApplying}
 use Rattle.back_primitives.specs.Calling.{KnownWords}
 use Rattle.back_primitives.proofs.Answered.{IsSignal, SignalPaid, by_procedure_ends}
-use Rattle.back_primitives.proofs.Choosing.{ends_less}
 use Rattle.back_primitives.proofs.EachCost.{is_quick, each_paid, quick_paid}
 use Rattle.back_primitives.proofs.Quick.{named, slow_names}
 use Rattle.back_primitives.proofs.QuickConses.{cons_ends}

@@ -1,21 +1,21 @@
 -- What stands where a primitive gave a value, and where an object was made.
-use Rattle.std.proofs.Common.{◌≡◌, ◌⊎◌, inl, inr, ℕ, suc, ◌+◌, ◌*◌, ◌<◌, ◌≤◌, Bool, true, false, List, [], ◌∷◌, ◌++◌, length, Option, Some, None, refl, sym, ap, ◌∙◌, subst, ⊎_elim, arith}
-use Rattle.std.specs.Prelude.{slice_get, nat_le, if◌then◌else◌}
+use Rattle.std.proofs.Common.{◌≡◌, ℕ, suc, ◌+◌, ◌<◌, ◌≤◌, true, false, List, [], ◌∷◌, ◌++◌, length, Option, Some, None, sym, ap, ◌∙◌, subst, ⊎_elim, arith}
+use Rattle.std.specs.Prelude.{slice_get, if◌then◌else◌}
 use Rattle.std.proofs.lemmas.Bool.Decides.{nat_tests}
 use Rattle.std.proofs.lemmas.Option.{slice_get_within}
 use Rattle.base.specs.Names.{slice_get-push}
-use Rattle.lang_meaning.specs.Objects.{Object, cons, string, vector, instance, function, closure, generic_function, class_object, input_stream, output_stream, fresh_symbol}
-use Rattle.lang_meaning.specs.Values.{Value, object}
+use Rattle.lang_meaning.specs.Objects.{Object, function, generic_function}
+use Rattle.lang_meaning.specs.Values.{Value}
 use Rattle.lang_meaning.specs.State.{Limit, words, unlimited, Outcome, full, has_room, room_left}
 use Rattle.lang_meaning.specs.State as meaning
 use Rattle.flat_language.specs.FlatNodes.{tables}
 use Rattle.flat_language.specs.FlatState.{FlatState, FlatEvaluated, on_state, request}
 use Rattle.flat_laws.specs.Blanks.{blank}
-use Rattle.flat_laws.specs.PrimitiveKeeps.{PrimitiveKeeps, IsCounted}
+use Rattle.flat_laws.specs.PrimitiveKeeps.{PrimitiveKeeps}
 use Rattle.mid_code.specs.Arena.{Arena}
 use Rattle.mid_code.specs.State.{MidState}
 use Rattle.mid_arena.specs.Answers.{KeepsWords}
-use Rattle.mid_arena.specs.Places.{Spot, Places, of_object, of_other, spot_in, spot_of, with_object}
+use Rattle.mid_arena.specs.Places.{Spot, Places, of_object, spot_in, spot_of, with_object}
 use Rattle.mid_arena.specs.Represents.{Represents}
 use Rattle.mid_arena.proofs.Keeping.{old_spot, spot_in_tells}
 use Rattle.back_relation.specs.Setting.{Setting, control_spot}

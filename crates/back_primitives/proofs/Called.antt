@@ -16,11 +16,11 @@ use Rattle.mid_code.specs.Law.{IsReached}
 use Rattle.mid_code.specs.Meaning.{Context, Task, enter, count, exec, exec_step, levels, turns}
 use Rattle.mid_code.specs.Meaning as mid
 use Rattle.mid_code.specs.MidCode.{code_of}
-use Rattle.mid_code.specs.State.{Registers, MidState, MidOutcome, Next, End, falls, returns, no_room, ends, with_some, with_registers}
+use Rattle.mid_code.specs.State.{Registers, MidState, MidOutcome, Next, falls, returns, no_room, ends, with_some, with_registers}
 use Rattle.mid_code.specs.State.{charged as mid_charged}
-use Rattle.mid_arena.specs.Answers.{Returned, Pending, RoomWanting, Done, Comes, done, no_words, units_after, IsWithin}
+use Rattle.mid_arena.specs.Answers.{Done, Comes, done, no_words, units_after, IsWithin}
 use Rattle.mid_arena.specs.CodeCosts.{procedure_cost, cost_of}
-use Rattle.mid_arena.specs.Codes.{procedure_of, code_of_primitive}
+use Rattle.mid_arena.specs.Codes.{code_of_primitive}
 use Rattle.mid_arena.specs.Places.{Places, WordsOf}
 use Rattle.mid_arena.specs.Represents.{Represents}
 use Rattle.mid_arena.proofs.EachPrimitive.{each_costs}

@@ -1,23 +1,23 @@
 -- Steps that set registers behind the first ones and choose: the code goes on with what was chosen, and a value may come at once.
-use Rattle.std.proofs.Common.{◌≡◌, ℕ, zero, suc, ◌+◌, ◌*◌, ◌<◌, ◌≤◌, Bool, true, false, List, [], ◌∷◌, ◌++◌, length, Option, Some, None, refl, sym, ap, ◌∙◌, subst, arith}
+use Rattle.std.proofs.Common.{◌≡◌, ℕ, ◌+◌, ◌<◌, ◌≤◌, Bool, true, false, List, [], ◌∷◌, length, Some, refl, sym, ap, ◌∙◌, subst, arith}
 use Rattle.std.specs.Prelude.{slice_get, slice_set, ◌==◌, ◌%◌, ◌&&◌, bit_and, bit_or, if◌then◌else◌}
 use Rattle.std.proofs.lemmas.Bool.{eq-eqb, ne_eqb}
 use Rattle.std.proofs.lemmas.Bool.Decides.{nat_tests}
 use Rattle.std.proofs.lemmas.Nat.{and_mask, or_mod, and_or_self, and_le_l, or_comm}
 use Rattle.std.proofs.Math.ListN.{length-set}
 use Rattle.lang_meaning.specs.Values.{Value}
-use Rattle.flat_language.specs.FlatState.{FlatState, FlatEvaluated, gives}
+use Rattle.flat_language.specs.FlatState.{FlatEvaluated, gives}
 use Rattle.mid_code.specs.Arena.{word_in}
-use Rattle.mid_code.specs.Meaning.{Context, exec, exec_step}
+use Rattle.mid_code.specs.Meaning.{Context, exec}
 use Rattle.mid_code.specs.declared.operation.Comparison.{Comparison}
-use Rattle.mid_code.specs.MidCode.{MidCode, MidStep, no_step, step_and, code_of}
+use Rattle.mid_code.specs.MidCode.{MidCode, code_of}
 use Rattle.mid_code.specs.State.{Registers, register, falls, ends, MidState, MidOutcome, jumped}
 use Rattle.mid_code.specs.State.{charged as mid_charged}
 use Rattle.mid_code.specs.Words.{compares}
 use Rattle.mid_arena.specs.Places.{word_of}
 use Rattle.mid_arena.proofs.Lists.{set_elsewhere}
 use Rattle.mid_arena.proofs.Registers.{register_here, register_beside}
-use Rattle.mid_arena.proofs.Running.{RunsTo, and_then, none_left, costing, constant_falls, compute_known, choose_first, choose_second}
+use Rattle.mid_arena.proofs.Running.{RunsTo, and_then, constant_falls, compute_known, choose_first, choose_second}
 use Rattle.back_lowering.specs.Steps.{Steps, where_so}
 use Rattle.back_lowering.specs.Primitives.{where_tag, where_integers}
 use Rattle.back_relation.specs.Setting.{Setting}

@@ -1,7 +1,6 @@
 -- What code costs that calls nothing: no more than its steps say, and its loops once more for each turn that is left.
-use Rattle.std.proofs.Common.{◌≡◌, ℕ, zero, suc, ◌+◌, ◌*◌, ◌≤◌, Bool, true, false, List, [], ◌∷◌, length, Option, Some, None, refl, sym, ap, ◌∙◌, subst, arith}
-use Rattle.std.specs.Prelude.{◌&&◌, slice_set}
-use Rattle.mid_code.specs.declared.operation.Counted.{Counted}
+use Rattle.std.proofs.Common.{◌≡◌, ℕ, zero, suc, ◌+◌, ◌≤◌, Bool, true, false, List, [], ◌∷◌, Option, Some, None, refl, arith}
+use Rattle.std.specs.Prelude.{◌&&◌}
 use Rattle.mid_code.specs.declared.operation.Counted.TheVariants.{Level, Turn}
 use Rattle.mid_code.specs.declared.operation.Operation.{Operation}
 use Rattle.mid_code.specs.declared.operation.Operation.TheVariants.{Move, Constant, Compute, Load, Store, Request, Draw, Put, Get, Call}
@@ -11,7 +10,7 @@ use Rattle.mid_code.specs.Arena.{Block}
 use Rattle.mid_code.specs.Costs.{operation_cost, test_cost, jump_cost, return_cost, entry_cost}
 use Rattle.mid_code.specs.MidCode.{MidStep, perform, choose, switch, repeat, with_block, lend, return_word, cut_to, halt_with, end_unhandled, MidCode, no_step, step_and, code_of}
 use Rattle.mid_code.specs.State.{Registers, first_registers, MidState, End, falls, MidOutcome, Next, ends, charged, go_on, go_on_from, with_some, choose_by, jumped}
-use Rattle.mid_code.specs.Meaning.{get_from, test, Task, enter, again, Context, context_of, operate, left_from, leaves, exec, exec_step, run_task, turns}
+use Rattle.mid_code.specs.Meaning.{get_from, test, Task, enter, again, Context, context_of, operate, left_from, leaves, exec, exec_step, turns}
 use Rattle.mid_arena.specs.CodeCosts.{step_cost, code_cost, procedure_cost}
 use Rattle.mid_arena.proofs.Running.{loop_again, loop_turn, loop_test, entered}
 
@@ -161,7 +160,7 @@ module _ (c : Context) where
     simple_cost (step_and s code) rs z e =
         let two = both_true (is_simple_step s) (is_simple code) e in
         let all = go_on_cost (exec_step c s rs z) (λ rs y. exec c code rs y) (z.cost + step_cost s) (code_cost code) (simple_step_cost s rs z two.0)
-          (λ rs y. simple_cost code rs y two.1) in
+        (λ rs y. simple_cost code rs y two.1) in
         omega (arith, all)
 
 -- with so many turns
@@ -179,15 +178,15 @@ module _ (procedures : List MidProcedure) (below : Task → MidState → MidOutc
   unfolding exec
   loop_once n head body t rs z h k further =
       let all = go_on_cost (exec (with_turns n) head rs z) (loop_test (with_turns n) Turn head t body) (z.cost + code_cost head)
-        (test_cost + code_cost body + jump_cost + repeated n (step_cost (repeat Turn head t body)))
-        (simple_cost (with_turns n) head rs z h)
-        (λ rs' y.
-        test_at_most t (loop_turn (with_turns n) Turn head t body) (ends falls) rs' y (y.cost + (test_cost + code_cost body + jump_cost + repeated n (step_cost (repeat Turn head t body)))) (omega arith)
-        (let turn = go_on_cost (jumped (exec (with_turns n) body rs' (charged test_cost y))) (loop_again (with_turns n) Turn head t body) (y.cost + test_cost + code_cost body + jump_cost)
-          (repeated n (step_cost (repeat Turn head t body)))
-          (jumped_cost (exec (with_turns n) body rs' (charged test_cost y)) (y.cost + test_cost + code_cost body) (simple_cost (with_turns n) body rs' (charged test_cost y) k)) (λ rs'' x. further rs'' x) in
-        omega (arith, turn))
-        (omega arith)) in
+      (test_cost + code_cost body + jump_cost + repeated n (step_cost (repeat Turn head t body)))
+      (simple_cost (with_turns n) head rs z h)
+      (λ rs' y.
+      test_at_most t (loop_turn (with_turns n) Turn head t body) (ends falls) rs' y (y.cost + (test_cost + code_cost body + jump_cost + repeated n (step_cost (repeat Turn head t body)))) (omega arith)
+      (let turn = go_on_cost (jumped (exec (with_turns n) body rs' (charged test_cost y))) (loop_again (with_turns n) Turn head t body) (y.cost + test_cost + code_cost body + jump_cost)
+      (repeated n (step_cost (repeat Turn head t body)))
+      (jumped_cost (exec (with_turns n) body rs' (charged test_cost y)) (y.cost + test_cost + code_cost body) (simple_cost (with_turns n) body rs' (charged test_cost y) k)) (λ rs'' x. further rs'' x) in
+      omega (arith, turn))
+      (omega arith)) in
       omega (arith, all)
 
   loop_cost :
@@ -231,8 +230,8 @@ module _ (procedures : List MidProcedure) (below : Task → MidState → MidOutc
         let two = both_true (is_plain_step s) (is_plain code) e in
         let sum = repeated_sum n (loop_of_step s) (loops_of code) in
         let all = go_on_cost (exec_step (with_turns n) s rs z) (λ rs y. exec (with_turns n) code rs y) (z.cost + step_cost s + repeated n (loop_of_step s))
-          (code_cost code + repeated n (loops_of code)) (plain_step_cost n s rs z two.0)
-          (λ rs y. let rest = plain_cost n code rs y two.1 in omega (arith, rest)) in
+        (code_cost code + repeated n (loops_of code)) (plain_step_cost n s rs z two.0)
+        (λ rs y. let rest = plain_cost n code rs y two.1 in omega (arith, rest)) in
         omega (arith, all, sum)
 
   -- **a procedure**, whatever its frame

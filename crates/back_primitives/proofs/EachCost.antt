@@ -4,12 +4,9 @@ use Rattle.std.specs.Prelude.{◌&&◌, nat_le, if◌then◌else◌}
 use Rattle.std.proofs.lemmas.Bool.Decides.{nat_tests}
 use Rattle.lang_meaning.specs.Arity.{arity}
 use Rattle.lang_meaning.specs.declared.primitive.Primitive.{Primitive}
-use Rattle.lang_meaning.specs.declared.primitive.Primitive.TheVariants.{Add, Subtract, Multiply, Divide, Modulo, NumberEqual, NumberNotEqual, NumberLess, NumberAtMost, NumberGreater}
-use Rattle.lang_meaning.specs.declared.primitive.Primitive.TheVariants.{NumberAtLeast, Same, IsNull, IsCons, IsInteger, IsSymbol, IsCharacter, IsString, IsVector, IsFunction, IsGeneric, Cons, Car}
-use Rattle.lang_meaning.specs.declared.primitive.Primitive.TheVariants.{Cdr, SetCar, SetCdr, MakeString, MakeVector, StringLength, VectorLength, CharAt, VectorRef, SetCharAt, SetVectorRef}
-use Rattle.lang_meaning.specs.declared.primitive.Primitive.TheVariants.{CharCode, CodeChar, SymbolName, SymbolSerial, Gensym, ClassOf, ClassName, IsSubclass, IsInstance, Allocate, SlotCount}
-use Rattle.lang_meaning.specs.declared.primitive.Primitive.TheVariants.{SlotPlace, SlotRef, SlotSet, SlotBound, SlotInitargs, SlotInitform, Continuable, StandardInput, StandardOutput, PutChar}
-use Rattle.lang_meaning.specs.declared.primitive.Primitive.TheVariants.{IsFreshLine, GetByte, PeekByte}
+use Rattle.lang_meaning.specs.declared.primitive.Primitive.TheVariants.{Add, Subtract, NumberEqual, NumberNotEqual, NumberLess, NumberAtMost, NumberGreater}
+use Rattle.lang_meaning.specs.declared.primitive.Primitive.TheVariants.{NumberAtLeast, Car}
+use Rattle.lang_meaning.specs.declared.primitive.Primitive.TheVariants.{Cdr, VectorRef}
 use Rattle.mid_code.specs.MidCode.{code_of}
 use Rattle.mid_arena.specs.CodeCosts.{procedure_cost, cost_of}
 use Rattle.mid_arena.specs.Codes.{procedure_of, code_of_primitive}

@@ -18,3 +18,5 @@ pub mod Trying
 pub mod QuickElements
 pub mod QuickConses
 pub mod Applying
+pub mod Tested
+pub mod Judging

@@ -1,15 +1,12 @@
 -- Quick ways: what is asked of arguments, and the slow way where they are not of the kind.
-use Rattle.std.proofs.Common.{◌≡◌, ℕ, zero, suc, ◌+◌, ◌*◌, ◌<◌, ◌≤◌, ℤ, Bool, true, false, List, [], ◌∷◌, ◌++◌, length, Option, Some, None, refl, sym, ap, ◌∙◌, subst, arith}
-use Rattle.std.specs.Prelude.{slice_get, slice_set, max, ◌==◌, ◌%◌, ◌&&◌, if◌then◌else◌}
+use Rattle.std.proofs.Common.{◌≡◌, ℕ, zero, suc, ◌+◌, ◌*◌, ◌<◌, ◌≤◌, Bool, true, false, List, [], ◌∷◌, ◌++◌, length, Some, refl, arith}
+use Rattle.std.specs.Prelude.{slice_get, slice_set, if◌then◌else◌}
 use Rattle.lang_meaning.specs.Arity.{arity}
 use Rattle.lang_meaning.specs.declared.primitive.Primitive.{Primitive}
-use Rattle.lang_meaning.specs.declared.program.LiteralRow.{LiteralRow}
-use Rattle.lang_meaning.specs.declared.program.LiteralRow.TheVariants as row
 use Rattle.lang_meaning.specs.Primitives.{primitive}
 use Rattle.lang_meaning.specs.State.{DynamicContext}
 use Rattle.std.proofs.Math.ListN.{length-set}
-use Rattle.lang_meaning.specs.Values.{Value, integer, truth, in_range}
-use Rattle.flat_language.specs.FlatForm.{FlatForm, literal, FlatForms, no_form, form_and}
+use Rattle.lang_meaning.specs.Values.{Value, truth}
 use Rattle.flat_language.specs.FlatNodes.{tables}
 use Rattle.flat_language.specs.FlatSignals.{answered}
 use Rattle.flat_language.specs.FlatState.{FlatState, FlatEvaluated, gives}
@@ -19,36 +16,30 @@ use Rattle.flat_laws.proofs.Later.{later_kept}
 use Rattle.flat_laws.proofs.Steps.{primitive_step}
 use Rattle.mid_code.specs.declared.operation.Comparison.{Comparison}
 use Rattle.mid_code.specs.Meaning.{Context, exec}
-use Rattle.mid_code.specs.MidCode.{MidStep, code_of}
-use Rattle.mid_code.specs.State.{Registers, register, falls, ends, MidState}
+use Rattle.mid_code.specs.MidCode.{code_of}
+use Rattle.mid_code.specs.State.{Registers, register, MidState}
 use Rattle.mid_code.specs.State.{charged as mid_charged}
 use Rattle.mid_code.specs.Words.{compares}
 use Rattle.mid_arena.specs.FixedWords.{true_address}
-use Rattle.mid_arena.specs.Places.{word_of, WordsOf}
-use Rattle.mid_arena.specs.Tags.{nil_word, integer_word}
+use Rattle.mid_arena.specs.Tags.{nil_word}
 use Rattle.mid_arena.proofs.Registers.{register_here}
 use Rattle.mid_arena.proofs.Running.{and_then, none_left, costing, constant_falls, load_falls, address_above}
-use Rattle.mid_arena.proofs.Telling.{IntegerTold, integer_found, no_integer, integer_told}
 use Rattle.back_lowering.specs.declared.placement.Placement.{Placement}
 use Rattle.back_lowering.specs.declared.scope.SitePlace.{SitePlace}
-use Rattle.back_lowering.specs.Placement.{literal_word}
-use Rattle.back_lowering.specs.Primitives.{truth_where, where_tag, where_integers, integer_in, known_integer, asked_integers, by_procedure}
-use Rattle.back_lowering.specs.Registers.{of_step, of_code, enough_for}
+use Rattle.back_lowering.specs.Primitives.{truth_where, by_procedure}
+use Rattle.back_lowering.specs.Registers.{of_code, enough_for}
 use Rattle.back_lowering.specs.Leaves.{site_stored}
 use Rattle.back_lowering.specs.Routines.{pending_routine}
 use Rattle.back_lowering.specs.Scope.{registers_from}
-use Rattle.back_lowering.specs.Steps.{Steps, constant, call, if_equal, load_from, where_so}
+use Rattle.back_lowering.specs.Steps.{Steps, constant, call, if_equal, load_from}
 use Rattle.back_relation.specs.Setting.{Setting}
-use Rattle.back_relation.specs.Placed.{IsPlaced}
-use Rattle.back_relation.specs.Room.{routine_words}
 use Rattle.back_relation.specs.Forms.{Begins, context_at, code_at}
 use Rattle.back_combining.specs.Starts.{Start, EndsAt}
 use Rattle.back_combining.proofs.Fitting.{enough_front, enough_behind}
 use Rattle.back_calling.proofs.Growing.{tasks_below}
 use Rattle.back_primitives.specs.Applying.{Applies}
-use Rattle.back_primitives.specs.Calling.{KnownWords}
 use Rattle.back_primitives.proofs.Answered.{SignalPaid, by_procedure_ends}
-use Rattle.back_primitives.proofs.Choosing.{Beside, beside_none, beside_set, beside_less, words_kept, start_beside, quick_ends, Chosen, chosen_ends, compared, in_sum, tag_chosen, integers_chosen}
+use Rattle.back_primitives.proofs.Choosing.{Beside, beside_none, beside_set, beside_less, words_kept, start_beside, quick_ends, Chosen, chosen_ends, compared}
 
 -- ---- registers that code names
 

@@ -1,23 +1,22 @@
 -- A cons is made in line.
-use Rattle.std.proofs.Common.{◌≡◌, ℕ, ◌+◌, ◌*◌, ◌%◌, ◌^◌, ◌<◌, ◌≤◌, Bool, true, false, List, [], ◌∷◌, length, Option, Some, None, refl, sym, ap, ◌∙◌, subst, arith}
+use Rattle.std.proofs.Common.{◌≡◌, ℕ, ◌+◌, ◌*◌, ◌<◌, ◌≤◌, Bool, true, false, [], ◌∷◌, length, Some, refl, sym, ◌∙◌, subst, arith}
 use Rattle.std.specs.Prelude.{slice_set}
 use Rattle.std.proofs.Math.ListN.{length-set}
 use Rattle.lang_meaning.specs.declared.primitive.Primitive.TheVariants.{Cons}
-use Rattle.lang_meaning.specs.Objects.{Object, cons}
+use Rattle.lang_meaning.specs.Objects.{cons}
 use Rattle.lang_meaning.specs.Prefixes.{IsPrefix}
 use Rattle.lang_meaning.specs.State.{value, has_room, room_left}
 use Rattle.lang_meaning.specs.State as meaning
 use Rattle.lang_meaning.specs.Values.{Value, object}
 use Rattle.flat_language.specs.FlatNodes.{tables}
 use Rattle.flat_language.specs.FlatState.{FlatState, FlatEvaluated, on_state, gives}
-use Rattle.mid_code.specs.declared.operation.Arithmetic.TheVariants as how
 use Rattle.mid_code.specs.Arena.{Arena, left}
 use Rattle.mid_code.specs.Meaning.{Context, exec}
 use Rattle.mid_code.specs.MidCode.{code_of}
 use Rattle.mid_code.specs.State.{Registers, register, falls, returns, no_room, ends, MidState}
 use Rattle.mid_arena.specs.Answers.{Returned}
 use Rattle.mid_arena.specs.Layouts.{ConsAt}
-use Rattle.mid_arena.specs.Places.{Spot, Places, word_of, with_object}
+use Rattle.mid_arena.specs.Places.{Spot, word_of, with_object}
 use Rattle.mid_arena.specs.Represents.{Represents}
 use Rattle.mid_arena.specs.Tags.{cons_tag}
 use Rattle.mid_arena.proofs.Doing.{alike_self}

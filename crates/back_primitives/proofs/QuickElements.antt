@@ -1,14 +1,13 @@
 -- The quick way of an element of a vector.
-use Rattle.std.proofs.Common.{◌≡◌, ℕ, zero, suc, ◌+◌, ◌-◌, ◌*◌, ◌^◌, ◌<◌, ◌≤◌, ℤ, pos, Bool, true, false, List, [], ◌∷◌, ◌++◌, length, Option, Some, None, refl, sym, ap, ◌∙◌, subst, arith}
-use Rattle.std.specs.Prelude.{negsuc, slice_get, slice_set, slice_index_or, ◌==◌, ◌%◌, is_some, if◌then◌else◌}
+use Rattle.std.proofs.Common.{◌≡◌, ℕ, ◌+◌, ◌-◌, ◌*◌, ◌^◌, ◌<◌, ◌≤◌, ℤ, Bool, true, false, List, [], ◌∷◌, ◌++◌, length, Option, Some, None, refl, sym, ap, ◌∙◌, subst, arith}
+use Rattle.std.specs.Prelude.{slice_set, slice_index_or, ◌==◌, ◌%◌, is_some, if◌then◌else◌}
 use Rattle.std.proofs.lemmas.Bool.Decides.{nat_tests}
 use Rattle.std.proofs.Math.ListN.{length-set}
-use Rattle.lang_meaning.specs.Arity.{arity}
 use Rattle.lang_meaning.specs.Classes.{fetch}
 use Rattle.lang_meaning.specs.declared.primitive.Primitive.TheVariants.{VectorRef}
 use Rattle.lang_meaning.specs.Objects.{vector, vector_class, integer_class}
-use Rattle.lang_meaning.specs.Primitives.{Answer, result, domain_error, program_error, needs, as_vector, as_integer, index_of, primitive}
-use Rattle.lang_meaning.specs.Values.{Value, nil, integer, in_range}
+use Rattle.lang_meaning.specs.Primitives.{result, domain_error, program_error, needs, as_vector, as_integer, index_of}
+use Rattle.lang_meaning.specs.Values.{Value, nil, in_range}
 use Rattle.flat_language.specs.FlatForm.{FlatForm, no_form, form_and}
 use Rattle.flat_language.specs.FlatNodes.{tables}
 use Rattle.flat_language.specs.FlatSignals.{answered}
@@ -18,7 +17,7 @@ use Rattle.mid_code.specs.declared.operation.Comparison.TheVariants.{Equal, Diff
 use Rattle.mid_code.specs.Arena.{word_at}
 use Rattle.mid_code.specs.Meaning.{Context, exec}
 use Rattle.mid_code.specs.MidCode.{code_of}
-use Rattle.mid_code.specs.State.{Registers, register, falls, ends, MidState}
+use Rattle.mid_code.specs.State.{Registers, register, MidState}
 use Rattle.mid_code.specs.State.{charged as mid_charged}
 use Rattle.mid_code.specs.Words.{compares}
 use Rattle.mid_arena.specs.Places.{word_of}
@@ -27,7 +26,7 @@ use Rattle.mid_arena.specs.Tags.{object_tag, vector_header, integer_word}
 use Rattle.mid_arena.proofs.Arguments.{ObjectFound, object_found, word_told}
 use Rattle.mid_arena.proofs.Memory.{spot_low}
 use Rattle.mid_arena.proofs.Registers.{register_here, register_beside}
-use Rattle.mid_arena.proofs.Running.{RunsTo, and_then, none_left, costing, parts_then, constant_falls, compute_known, load_falls, address_above, address_below, choose_second_falls}
+use Rattle.mid_arena.proofs.Running.{and_then, none_left, costing, constant_falls, compute_known, load_falls, address_above, address_below, choose_second_falls}
 use Rattle.mid_arena.proofs.Telling.{FoundByHeader, found_kind, found_other_kind, found_other_tag, vector_told, IntegerTold, integer_found, no_integer, integer_told}
 use Rattle.mid_arena.proofs.WordFacts.{sum_fits, index_is, index_word, index_tested}
 use Rattle.back_lowering.specs.Primitives.{element_where, where_integers, where_tag, asked_integers, known_integer}
@@ -40,12 +39,12 @@ use Rattle.back_combining.proofs.Fitting.{registers_behind}
 use Rattle.back_primitives.specs.Applying.{Applies}
 use Rattle.back_primitives.specs.Calling.{KnownWords}
 use Rattle.back_primitives.proofs.Answered.{SignalPaid}
-use Rattle.back_primitives.proofs.Choosing.{Beside, beside_none, beside_set, beside_less, beside_then, register_kept, low_bits, start_beside, quick_ends, Chosen, chosen_ends, compared, in_sum}
+use Rattle.back_primitives.proofs.Choosing.{Beside, beside_none, beside_set, beside_less, beside_then, low_bits, start_beside, quick_ends, Chosen, chosen_ends, compared, in_sum}
 use Rattle.back_primitives.proofs.EachCost.{quick_paid}
 use Rattle.back_primitives.proofs.Quick.{named, branches_named, answer_up, meant, slow, slow_ends}
 use Rattle.back_primitives.proofs.QuickKinds.{behind_steps}
 use Rattle.back_primitives.proofs.QuickNumbers.{asked_by, known_tag}
-use Rattle.back_primitives.proofs.Trying.{IsKept, Tried, tried_none, tried_behind, tried_where}
+use Rattle.back_primitives.proofs.Trying.{Tried, tried_none, tried_behind, tried_where}
 
 module _ (setting : Setting) (k : ℕ) (a : Start setting) (v1 v2 : Value) (w1 w2 : ℕ) (f1 f2 : FlatForm)
     (g : Applies setting k a VectorRef (v1 ∷ v2 ∷ []) (w1 ∷ w2 ∷ []))

@@ -1,13 +1,13 @@
 -- Quick ways of one word: whether two values are the same, of which kind one is, and the parts of a cons.
-use Rattle.std.proofs.Common.{◌≡◌, ℕ, zero, suc, ◌+◌, ◌*◌, ◌^◌, ◌<◌, ◌≤◌, ℤ, pos, Bool, true, false, List, [], ◌∷◌, ◌++◌, length, Option, Some, None, refl, sym, ap, ◌∙◌, subst, arith}
-use Rattle.std.specs.Prelude.{negsuc, slice_get, slice_set, ◌==◌, ◌%◌, is_some, if◌then◌else◌}
+use Rattle.std.proofs.Common.{◌≡◌, ℕ, ◌+◌, ◌<◌, ◌≤◌, Bool, true, false, [], ◌∷◌, ◌++◌, length, Option, Some, refl, sym, ap, ◌∙◌, subst, arith}
+use Rattle.std.specs.Prelude.{slice_set, ◌==◌, ◌%◌, is_some, if◌then◌else◌}
 use Rattle.std.proofs.Math.ListN.{length-set}
 use Rattle.lang_meaning.specs.Arity.{arity}
 use Rattle.lang_meaning.specs.Classes.{fetch}
 use Rattle.lang_meaning.specs.declared.primitive.Primitive.{Primitive}
 use Rattle.lang_meaning.specs.declared.primitive.Primitive.TheVariants.{Same, IsNull, IsCons, IsInteger, Car, Cdr}
-use Rattle.lang_meaning.specs.Objects.{Object, cons, cons_class}
-use Rattle.lang_meaning.specs.Primitives.{Answer, result, domain_error, needs, as_cons, as_integer, primitive}
+use Rattle.lang_meaning.specs.Objects.{cons, cons_class}
+use Rattle.lang_meaning.specs.Primitives.{result, domain_error, needs, as_cons, as_integer, primitive}
 use Rattle.lang_meaning.specs.Values.{Value, nil, truth, same}
 use Rattle.flat_language.specs.FlatNodes.{tables}
 use Rattle.flat_language.specs.FlatSignals.{answered}
@@ -15,7 +15,7 @@ use Rattle.flat_language.specs.FlatState.{FlatEvaluated, gives}
 use Rattle.mid_code.specs.declared.operation.Comparison.TheVariants.{Equal}
 use Rattle.mid_code.specs.Meaning.{Context, exec}
 use Rattle.mid_code.specs.MidCode.{code_of}
-use Rattle.mid_code.specs.State.{Registers, register, falls, ends, MidState}
+use Rattle.mid_code.specs.State.{Registers, register, falls, ends}
 use Rattle.mid_code.specs.State.{charged as mid_charged}
 use Rattle.mid_arena.specs.FixedWords.{true_address}
 use Rattle.mid_arena.specs.Represents.{Represents}

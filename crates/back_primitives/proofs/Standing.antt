@@ -1,6 +1,6 @@
 -- What words say goes on being said where objects are made or changed, and where a site is stored: what functions captured, the words that code
 -- has for itself and the stack are as they were.
-use Rattle.std.proofs.Common.{◌≡◌, ℕ, zero, suc, ◌+◌, ◌*◌, ◌^◌, ◌<◌, ◌≤◌, List, [], ◌∷◌, length, Option, Some, None, refl, sym, ap, ◌∙◌, subst, arith}
+use Rattle.std.proofs.Common.{◌≡◌, ℕ, zero, suc, ◌+◌, ◌*◌, ◌<◌, ◌≤◌, List, [], ◌∷◌, length, Option, Some, None, refl, sym, ap, ◌∙◌, subst, arith}
 use Rattle.std.specs.Prelude.{slice_get, slice_index_or}
 use Rattle.std.proofs.lemmas.Option.{slice_get_within}
 use Rattle.lang_meaning.specs.declared.program.LiteralRow.{LiteralRow}
@@ -20,12 +20,11 @@ use Rattle.mid_arena.specs.Standing.{ValueAt, SlotAt, SameWords, SameStack}
 use Rattle.back_lowering.specs.ControlWords.{control_address, control_words, current_address, link_address, serials_address, handlers_address, bindings_address, site_address, end_address}
 use Rattle.back_lowering.specs.Placement.{literal_word, symbol_word, global_address, dynamic_address}
 use Rattle.back_relation.specs.Setting.{Setting, spots_at_start}
-use Rattle.back_relation.specs.Placed.{HasGlobal, HasDynamic, IsVariableWord, IsPlaced}
+use Rattle.back_relation.specs.Placed.{IsVariableWord, IsPlaced}
 use Rattle.back_relation.specs.Worlds.{World, BoxPlace, on_heap, on_stack, gone, Later}
-use Rattle.back_relation.specs.StackWords.{HasWordAt, StackKept}
 use Rattle.back_relation.specs.Things.{Things, TakenSpot, WithinLimit, CapturedIs, CapturedAt, BoxStands, MethodStands, FunctionStands, LiteralIs}
 use Rattle.back_relation.specs.Activation.{RegistersKept}
-use Rattle.back_relation.specs.Ends.{ControlBack, ChargedFrom, PaidFrom, WorldKept, Around}
+use Rattle.back_relation.specs.Ends.{ControlBack, ChargedFrom, PaidFrom, WorldKept}
 use Rattle.back_combining.specs.Cuts.{world_cut}
 use Rattle.back_combining.specs.Starts.{Start, ReachedFrom}
 use Rattle.back_combining.proofs.Activations.{SameBelow, made_by_later, activation_later}

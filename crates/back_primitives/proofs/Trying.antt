@@ -1,17 +1,16 @@
 -- Steps that try something: it is done, and its word stands in the first register, or the registers of the arguments are as they were. A register
 -- behind them says which.
-use Rattle.std.proofs.Common.{◌≡◌, ℕ, ◌+◌, ◌<◌, ◌≤◌, Bool, true, false, List, [], ◌∷◌, length, Option, Some, None, refl, sym, ap, ◌∙◌, subst, arith}
-use Rattle.std.specs.Prelude.{slice_set, if◌then◌else◌}
+use Rattle.std.proofs.Common.{◌≡◌, ℕ, ◌+◌, ◌≤◌, Bool, true, false, [], ◌∷◌, Option, Some, None, arith}
+use Rattle.std.specs.Prelude.{if◌then◌else◌}
 use Rattle.mid_code.specs.declared.operation.Comparison.{Comparison}
 use Rattle.mid_code.specs.Meaning.{Context}
 use Rattle.mid_code.specs.MidCode.{MidStep, code_of}
 use Rattle.mid_code.specs.State.{Registers, register, falls, ends, MidState}
 use Rattle.mid_code.specs.State.{charged as mid_charged}
 use Rattle.mid_code.specs.Words.{compares}
-use Rattle.mid_arena.proofs.Registers.{register_here}
 use Rattle.mid_arena.proofs.Running.{RunsTo, StepsTo, and_then, none_left, costing, choose_first_falls, choose_second_falls}
 use Rattle.back_lowering.specs.Steps.{Steps, where_so}
-use Rattle.back_primitives.proofs.Choosing.{Beside, beside_none, beside_less, beside_then, register_kept}
+use Rattle.back_primitives.proofs.Choosing.{Beside, beside_none, beside_less, beside_then}
 
 -- what is tried has a word, or not
 abbrev pub IsKept : (d t : ℕ) → (regs regs' : Registers) → Option ℕ → Type 0

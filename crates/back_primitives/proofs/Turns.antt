@@ -1,7 +1,7 @@
 -- A procedure that is entered with more turns does the same, where it came to an end with fewer.
-use Rattle.std.proofs.Common.{◌≡◌, ℕ, zero, suc, ◌≤◌, List, [], refl, arith}
+use Rattle.std.proofs.Common.{◌≡◌, ℕ, zero, suc, ◌≤◌, List, [], arith}
 use Rattle.mid_code.specs.declared.program.MidProcedure.{MidProcedure}
-use Rattle.mid_code.specs.Law.{IsReached, OutcomeExtends}
+use Rattle.mid_code.specs.Law.{IsReached}
 use Rattle.mid_code.specs.Meaning.{Task, levels, turns}
 use Rattle.mid_code.specs.State.{MidState, MidOutcome}
 use Rattle.mid_code.proofs.Growth.{TasksGrow, turns_grow, levels_grow}
