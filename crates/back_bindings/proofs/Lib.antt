@@ -8,3 +8,4 @@ pub mod DynamicForms
 pub mod Points
 pub mod Handlers
 pub mod HandlerForms
+pub mod Dynamics

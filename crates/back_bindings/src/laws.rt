@@ -1,7 +1,17 @@
 // The laws of dynamic variables and handlers, each as the contract of a function that does nothing.
-ghost use Rattle.back_bindings.specs.Forms.{LawOfDynamicLets};
+ghost use Rattle.back_bindings.specs.Forms.{LawOfDynamicLets, LawOfDynamics, LawOfHandlers};
 
 /// Dynamic bindings around a form.
 pub fn law_dynamic_lets()
     ensures { LawOfDynamicLets }
+{}
+
+/// The value of a dynamic variable.
+pub fn law_dynamics()
+    ensures { LawOfDynamics }
+{}
+
+/// A handler around a form.
+pub fn law_handlers()
+    ensures { LawOfHandlers }
 {}
