@@ -9,3 +9,4 @@ pub mod Points
 pub mod Handlers
 pub mod HandlerForms
 pub mod Dynamics
+pub mod TwoWords
