@@ -1,19 +1,18 @@
 -- Bindings of `let`: values, boxes, the body in more slots, and what was there before.
-use Rattle.std.proofs.Common.{◌≡◌, ℕ, zero, suc, ◌+◌, ◌*◌, ◌<◌, ◌≤◌, List, [], ◌∷◌, ◌++◌, length, take, Option, Some, refl, sym, ap, ◌∙◌, subst, append_assoc, arith}
-use Rattle.std.specs.Prelude.{slice_get, slice_set}
+use Rattle.std.proofs.Common.{◌≡◌, ℕ, ◌+◌, ◌*◌, ◌<◌, ◌≤◌, List, [], ◌∷◌, ◌++◌, length, take, refl, sym, ap, ◌∙◌, subst, arith}
 use Rattle.lang_meaning.specs.State.{DynamicContext, Outcome, value, exit, full, more}
 use Rattle.lang_meaning.specs.Values.{Value}
 use Rattle.flat_language.specs.declared.place.Home.{Home}
-use Rattle.flat_language.specs.FlatForm.{FlatForm, let_form, FlatForms, no_form, form_and, FlatBindings, no_binding, binding_and}
+use Rattle.flat_language.specs.FlatForm.{FlatForm, let_form, FlatBindings, no_binding, binding_and}
 use Rattle.flat_language.specs.FlatMeaning.{mean, mean_arguments, mean_bindings, binding_homes}
 use Rattle.flat_language.specs.FlatNodes.{count_forms, count_bindings}
 use Rattle.flat_language.specs.FlatSignals.{FlatContext, with_boxes}
-use Rattle.flat_language.specs.FlatState.{FrameSlot, FlatEnvironment, FlatState, FlatEvaluated, Captured, go_on_from, go_on, gives, charged, new_slots, new_boxes, in_new_slots, without_slots_from, under}
+use Rattle.flat_language.specs.FlatState.{FrameSlot, FlatEnvironment, FlatState, FlatEvaluated, go_on_from, go_on, gives, charged, new_slots, new_boxes, in_new_slots, without_slots_from, under}
 use Rattle.flat_language.specs.FlatState.{with_slots as with_frame_slots}
 use Rattle.mid_code.specs.Arena.{word_in}
 use Rattle.mid_code.specs.Meaning.{exec}
 use Rattle.mid_code.specs.MidCode.{code_of}
-use Rattle.mid_code.specs.State.{Registers, register, End, falls, no_room, no_level, no_turn, halts, unhandled, exhausted, stuck, returns, cuts, MidState, MidOutcome, Next}
+use Rattle.mid_code.specs.State.{Registers, End, falls, no_room, no_level, no_turn, halts, unhandled, exhausted, stuck, returns, cuts, MidState, MidOutcome, Next}
 use Rattle.mid_code.specs.State.{go_on as mid_go_on}
 use Rattle.mid_arena.proofs.Running.{and_then, none_left, move_falls, in_two_parts}
 use Rattle.back_lowering.specs.Codes.{lower, lower_arguments, lower_bindings}
@@ -27,26 +26,26 @@ use Rattle.back_relation.specs.Worlds.{World, Standing}
 use Rattle.back_relation.specs.Activation.{FormScope, with_slots, ActivationStands}
 use Rattle.back_relation.specs.Placed.{IsPlaced}
 use Rattle.back_relation.specs.Room.{words_for_handler}
-use Rattle.back_relation.specs.Ends.{Reached, Ends, done, left_by, full_there, stopped, few_turns, Because, Fell, Left}
-use Rattle.back_relation.specs.Forms.{FormEnds, context_at, code_at}
+use Rattle.back_relation.specs.Ends.{Reached, Ends, done, left_by, full_there, stopped, few_turns, Because, Left}
+use Rattle.back_relation.specs.Forms.{context_at, code_at}
 use Rattle.back_combining.specs.Points.{Point, start_at, run, value_steps, Here}
 use Rattle.back_combining.specs.Starts.{FlatGrown, Start, EndsAt, FellFrom, ReachedFrom}
 use Rattle.back_combining.proofs.Activations.{activation_later}
 use Rattle.back_combining.proofs.Choices.{go_gives}
 use Rattle.back_combining.proofs.FormGrowth.{form_grows}
-use Rattle.back_combining.proofs.Growth.{same_flat, same_prefix, both_flat, then_value}
+use Rattle.back_combining.proofs.Growth.{same_flat, then_value}
 use Rattle.back_combining.proofs.Parts.{go_on_falls}
 use Rattle.back_combining.proofs.Points.{point_after, code_grows}
-use Rattle.back_combining.proofs.Starts.{start_charged, ends_charged, start_after, gives_run, behind}
-use Rattle.back_combining.proofs.Then.{ends_then, ends_go_on, same_world, method_there_again}
+use Rattle.back_combining.proofs.Starts.{start_charged, ends_charged, gives_run, behind}
+use Rattle.back_combining.proofs.Then.{ends_go_on, same_world}
 use Rattle.mid_arena.specs.Places.{WordsOf}
 use Rattle.back_arguments.proofs.WordLists.{of_values_later}
-use Rattle.back_arguments.specs.Arguments.{WordsIn, arguments_steps, ArgumentsHere, ArgumentsThere}
+use Rattle.back_arguments.specs.Arguments.{WordsIn, ArgumentsHere}
 use Rattle.back_arguments.proofs.Arguments.{arguments_law}
 use Rattle.back_values.specs.Bindings.{forms_of, HomesAsSlots, LawOfBindings}
 use Rattle.back_values.specs.Boxes.{SlotsIn, extended, BoxesMade, BoxesEnd, made, no_words, no_space}
 use Rattle.back_values.proofs.BoxesMade.{boxes_law, boxes_grow}
-use Rattle.back_values.proofs.Cleaning.{is_clean, reached_clean, start_clean}
+use Rattle.back_values.proofs.Cleaning.{is_clean, reached_clean}
 use Rattle.back_values.proofs.Frames.{framed, ended_framed, call_framed, world_framed, around_framed, transfers_framed}
 use Rattle.back_values.proofs.Slots.{activation_extended, activation_dropped, scope_extended, registers_dropped}
 
@@ -71,7 +70,7 @@ bindings_mean context (binding_and h f bs) vs env around z next =
     flat_same (mean context f env around z) (λ v x. mean_bindings context bs (vs ++ v ∷ []) env around x next)
     (λ v x. mean_arguments context (forms_of bs) (vs ++ v ∷ []) env around x next) (λ v x. bindings_mean context bs (vs ++ v ∷ []) env around x next)
 
-bindings_steps :
+pub bindings_steps :
     (setting : Setting) (s : Scope) (d : ℕ) (bs : FlatBindings)
     → lower_bindings setting.names setting.at setting.program s d bs ≡ lower_arguments setting.names setting.at setting.program s d (forms_of bs)
 unfolding lower

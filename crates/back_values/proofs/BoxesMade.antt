@@ -1,6 +1,6 @@
 -- Boxes are made one after another.
-use Rattle.std.proofs.Common.{◌≡◌, ℕ, zero, suc, ◌+◌, ◌*◌, ◌^◌, ◌<◌, ◌≤◌, Bool, true, false, List, [], ◌∷◌, ◌++◌, length, Some, refl, sym, ap, ◌∙◌, subst, append_assoc, length-append, arith}
-use Rattle.std.specs.Prelude.{nat_le, slice_get, slice_set, if◌then◌else◌}
+use Rattle.std.proofs.Common.{◌≡◌, ℕ, suc, ◌+◌, ◌<◌, ◌≤◌, Bool, true, false, List, [], ◌∷◌, ◌++◌, length, Some, refl, sym, ap, ◌∙◌, subst, append_assoc, length-append, arith}
+use Rattle.std.specs.Prelude.{slice_set, if◌then◌else◌}
 use Rattle.std.proofs.lemmas.Bool.Decides.{nat_tests}
 use Rattle.std.proofs.lemmas.List.{append-nil}
 use Rattle.std.proofs.Math.ListN.{length-set}
@@ -10,13 +10,12 @@ use Rattle.lang_meaning.specs.Values.{Value}
 use Rattle.flat_language.specs.declared.place.Home.{Home}
 use Rattle.flat_language.specs.declared.place.Home.TheVariants as home
 use Rattle.flat_language.specs.FlatSignals.{with_boxes}
-use Rattle.flat_language.specs.FlatState.{FlatState, FlatEvaluated, new_slots, new_boxes, on_state, charged}
+use Rattle.flat_language.specs.FlatState.{FlatState, FlatEvaluated, new_slots, new_boxes}
 use Rattle.mid_code.specs.Arena.{word_in, left, with_heap}
 use Rattle.mid_code.specs.Law.{Grown}
 use Rattle.mid_code.specs.Meaning.{Context, exec}
 use Rattle.mid_code.specs.MidCode.{code_of}
-use Rattle.mid_code.specs.State.{Registers, register, falls, no_room, ends, MidState, MidOutcome}
-use Rattle.mid_code.specs.State.{charged as mid_charged}
+use Rattle.mid_code.specs.State.{Registers, register, MidState, MidOutcome}
 use Rattle.mid_code.proofs.Growth.{exec_grown, levels_grow, turns_grow}
 use Rattle.mid_arena.specs.Places.{Places, WordsOf, word_of}
 use Rattle.mid_arena.specs.Standing.{ArenaStands}
@@ -25,7 +24,7 @@ use Rattle.mid_arena.proofs.Lists.{set_elsewhere}
 use Rattle.mid_arena.proofs.Making.{Room, is_left, is_wanting, room_for}
 use Rattle.mid_arena.proofs.Memory.{heap_below, lent_in_heap}
 use Rattle.mid_arena.proofs.Registers.{register_here, register_beside}
-use Rattle.mid_arena.proofs.Running.{RunsTo, and_then, and_ends, none_left, constant_falls, request_falls, request_wanting, store_falls, move_falls, address_here}
+use Rattle.mid_arena.proofs.Running.{and_then, and_ends, constant_falls, request_falls, request_wanting, store_falls, move_falls, address_here}
 use Rattle.back_lowering.specs.Leaves.{boxes_made}
 use Rattle.back_lowering.specs.Registers.{of_code, enough_for}
 use Rattle.back_lowering.specs.Steps.{Steps, constant, request, store, move}
@@ -34,10 +33,10 @@ use Rattle.back_relation.specs.Placed.{IsPlaced}
 use Rattle.back_relation.specs.Worlds.{World}
 use Rattle.back_relation.specs.Things.{Things, WithinLimit}
 use Rattle.back_relation.specs.Around.{RoomFor}
-use Rattle.back_relation.specs.Ends.{WorldKept, Around, FullThere, Stopped, IsFullOrMore, RoomEnded}
+use Rattle.back_relation.specs.Ends.{FullThere, Stopped, RoomEnded}
 use Rattle.back_relation.specs.Forms.{code_at}
 use Rattle.back_combining.specs.Starts.{FlatGrown}
-use Rattle.back_combining.proofs.Growth.{same_prefix, both_prefix, same_flat, both_flat}
+use Rattle.back_combining.proofs.Growth.{same_prefix, same_flat, both_flat}
 use Rattle.back_combining.proofs.Starts.{room_after}
 use Rattle.back_combining.proofs.Then.{world_then, back_then}
 use Rattle.back_combining.proofs.Worlds.{later_same, word_later}
@@ -71,7 +70,7 @@ boxes_grow limit (home.Boxed ∷ hs) z next grown =
     by false inner = same_flat z
 
 -- no words are left for the meaning
-full_printed : (z : FlatState) (y : MidState) (q : MidOutcome) → y.printed ≡ z.state.printed → Grown y q.state → IsPrefix z.state.printed q.state.printed
+pub full_printed : (z : FlatState) (y : MidState) (q : MidOutcome) → y.printed ≡ z.state.printed → Grown y q.state → IsPrefix z.state.printed q.state.printed
 full_printed z y q same g = subst (λ p. IsPrefix p q.state.printed) same (record { rest = g.printed.0; is = sym g.printed.1 })
 
 pub within_asked : (l : Limit) (z : FlatState) → has_room l (z.state.heap + z.state.stack + 1 + 0) ≡ true → WithinLimit l (box_asked z).state

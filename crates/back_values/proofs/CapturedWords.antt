@@ -1,19 +1,20 @@
 -- What the function itself captured: it stands behind a pointer that is in a register.
-use Rattle.std.proofs.Common.{◌≡◌, ℕ, zero, suc, ◌+◌, ◌*◌, ◌^◌, ◌<◌, ◌≤◌, List, [], ◌∷◌, length, Option, Some, None, refl, sym, ap, ◌∙◌, subst, arith}
+use Rattle.std.proofs.Common.{◌≡◌, ℕ, zero, suc, ◌+◌, ◌*◌, ◌^◌, ◌<◌, List, [], ◌∷◌, Option, Some, refl, subst, arith}
 use Rattle.std.specs.Prelude.{slice_get}
 use Rattle.std.proofs.lemmas.Option.{slice_get_within}
-use Rattle.lang_meaning.specs.Objects.{Called, function}
+use Rattle.lang_meaning.specs.Objects.{Called}
 use Rattle.lang_meaning.specs.Values.{Value}
 use Rattle.flat_language.specs.declared.place.CapturedKind.{CapturedKind}
 use Rattle.flat_language.specs.declared.place.CapturedKind.TheVariants as kind
-use Rattle.flat_language.specs.FlatState.{Captured, of_value, of_box, of_exit, of_method, FlatState, under}
+use Rattle.flat_language.specs.FlatState.{Captured, of_value, of_box, of_exit, of_method, FlatState}
 use Rattle.mid_code.specs.Arena.{Arena, word_at}
-use Rattle.mid_code.specs.State.{Registers, register, MidState}
-use Rattle.mid_arena.specs.Places.{of_object, word_of}
+use Rattle.mid_code.specs.State.{MidState}
+use Rattle.mid_arena.specs.Places.{of_object}
+use Rattle.mid_arena.proofs.Growing.{spot_below}
 use Rattle.mid_arena.proofs.Memory.{spot_low}
 use Rattle.back_lowering.specs.Leaves.{captured_offset}
 use Rattle.back_relation.specs.Setting.{Setting}
-use Rattle.back_relation.specs.Worlds.{World, BoxIs}
+use Rattle.back_relation.specs.Worlds.{World}
 use Rattle.back_relation.specs.Things.{Things, IsOfKind, AreOfKinds, CapturedIs, CapturedAt, FunctionStands, MadeFunction}
 use Rattle.back_relation.specs.Activation.{SelfHeld}
 use Rattle.back_values.specs.Variables.{CapturedByFunctions}
@@ -71,6 +72,7 @@ pub record PartThere (w : World) (a : Arena) (self : Option ℕ) (n : ℕ) (c : 
   pub pointer : ℕ
   pub held : self ≡ Some pointer
   pub low : pointer + captured_offset n < 2 ^ 32
+  pub inside : pointer + captured_offset n < a.heap_to
   pub at : PartAt w a (pointer + captured_offset n) c
 
 pub part_there :
@@ -83,6 +85,7 @@ part_there setting {w} {z} {y} t functions self (b ∷ cs) h n c e =
     subst (λ o. FunctionStands setting w y.arena h.2.spot f.0 o) h.2.captured (t.functions h.2.number f.0 h.2.spot f.1 h.2.there) in
     let size = made.size in
     let end = spot_low t.represents.arena (t.represents.spots (of_object h.2.number) h.2.spot h.2.there) in
+    let below = spot_below t.represents.arena (t.represents.spots (of_object h.2.number) h.2.spot h.2.there) in
     let few = slice_get_within (b ∷ cs) n c e in
     let here = h.2.here in
     let at : h.2.spot.address + 8 + 4 * n ≡ h.0 + captured_offset n = omega (arith, here) in
@@ -90,5 +93,6 @@ part_there setting {w} {z} {y} t functions self (b ∷ cs) h n c e =
       pointer = h.0;
       held = h.1;
       low = omega (arith, here, size, end, few);
+      inside = omega (arith, here, size, below, few);
       at = subst (λ x. PartAt w y.arena x c) at (part_at w y.arena (h.2.spot.address + 8) (b ∷ cs) n c made.captured e);
     }

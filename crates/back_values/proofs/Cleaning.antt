@@ -1,15 +1,14 @@
 -- Variables whose place is in no block of the stack that stands are nowhere: no result has to say more of them.
-use Rattle.std.proofs.Common.{◌≡◌, ℕ, zero, suc, ◌+◌, ◌≤◌, Bool, true, false, List, [], ◌∷◌, length, Some, refl, sym, ap, ◌∙◌, arith}
+use Rattle.std.proofs.Common.{◌≡◌, ℕ, zero, suc, ◌≤◌, Bool, true, false, List, [], ◌∷◌, length, Some, refl, ap, ◌∙◌, arith}
 use Rattle.std.specs.Prelude.{slice_get, nat_le, if◌then◌else◌}
 use Rattle.std.proofs.lemmas.Bool.Decides.{nat_tests}
 use Rattle.std.proofs.lemmas.Bool.{le-leb}
-use Rattle.lang_meaning.specs.declared.program.LiteralRow.{LiteralRow}
 use Rattle.flat_language.specs.FlatState.{FlatState}
 use Rattle.mid_code.specs.Arena.{stack_from}
 use Rattle.mid_code.specs.State.{MidState}
 use Rattle.mid_arena.specs.Places.{Owner}
 use Rattle.back_relation.specs.Setting.{Setting}
-use Rattle.back_relation.specs.Worlds.{World, BoxPlace, on_heap, on_stack, gone, Later, BoxesApart}
+use Rattle.back_relation.specs.Worlds.{World, BoxPlace, on_heap, on_stack, gone, Later}
 use Rattle.back_relation.specs.StackWords.{StackKept}
 use Rattle.back_relation.specs.Things.{Things, BoxStands}
 use Rattle.back_combining.specs.Cuts.{box_cut, boxes_cut, world_cut}
@@ -18,7 +17,7 @@ use Rattle.back_combining.proofs.Activations.{activation_later}
 use Rattle.back_combining.proofs.Cuts.{later_cut}
 use Rattle.back_combining.proofs.Starts.{start_after}
 use Rattle.back_values.specs.Boxes.{Clean}
-use Rattle.back_values.proofs.Moved.{control_moves, further_moves, slot_moves, literals_move, symbols_move, method_moves, functions_move, box_moves}
+use Rattle.back_values.proofs.Moved.{literals_move, method_moves, functions_move, box_moves}
 
 cut_count : (from : ℕ) (bs : List BoxPlace) → length (boxes_cut from bs) ≡ length bs
 cut_count from [] = refl

@@ -1,5 +1,5 @@
 -- Words that are loaded and stored at any offset, and at any address that is known.
-use Rattle.std.proofs.Common.{◌≡◌, ℕ, ◌+◌, ◌%◌, ◌^◌, ◌<◌, ◌≤◌, Bool, true, false, List, [], ◌∷◌, ◌++◌, length, Some, refl, ap, ◌∙◌, subst, arith}
+use Rattle.std.proofs.Common.{◌≡◌, ℕ, ◌+◌, ◌^◌, ◌<◌, ◌≤◌, Bool, true, false, [], ◌∷◌, length, Some, refl, ap, ◌∙◌, arith}
 use Rattle.std.specs.Prelude.{nat_le, slice_get, slice_set, if◌then◌else◌}
 use Rattle.std.proofs.Math.ListN.{length-set}
 use Rattle.std.proofs.lemmas.List.{set-set}
@@ -12,6 +12,7 @@ use Rattle.mid_code.specs.State.{Registers, register, falls, ends, charged, with
 use Rattle.mid_arena.proofs.Lists.{set_elsewhere}
 use Rattle.mid_arena.proofs.Registers.{register_here, register_beside}
 use Rattle.mid_arena.proofs.Running.{RunsTo, and_then, none_left, constant_falls, compute_known, load_falls, store_falls, address_up, address_here}
+use Rattle.back_lowering.specs.Registers.{of_code, enough_for}
 use Rattle.back_lowering.specs.Steps.{Steps, constant, compute, load, store, load_far, store_far, load_from, store_to}
 
 -- steps that only bring a word into a register
@@ -114,14 +115,15 @@ module _ (c : Context) (regs : Registers) (y : MidState) where
           }
 
   pub store_far_runs :
-      (from base t offset b w : ℕ) → t < length regs → (t ≡ from → ⊥) → (t ≡ base → ⊥) → register from regs ≡ Some w → register base regs ≡ Some b → b + offset < 2 ^ 32
+      (from base t offset b w : ℕ) → enough_for (of_code (code_of (store_far from base t offset))) ≤ length regs → (t ≡ from → ⊥) → (t ≡ base → ⊥) → register from regs ≡ Some w → register base regs ≡ Some b → b + offset < 2 ^ 32
       → is_lent y.arena (b + offset) ≡ true → Stored c (store_far from base t offset) t regs y (b + offset) w
-  store_far_runs from base t offset b w there other apart here at low lent = by (nat_le offset 2047)
+  store_far_runs from base t offset b w fits other apart here at low lent = by (nat_le offset 2047) fits
     where
       by :
           (k : Bool)
+          → enough_for (of_code (code_of (if k then store from base offset ∷ [] else constant t offset ∷ compute t which.Add t base ∷ store from t 0 ∷ []))) ≤ length regs
           → Stored c (if k then store from base offset ∷ [] else constant t offset ∷ compute t which.Add t base ∷ store from t 0 ∷ []) t regs y (b + offset) w
-      by true = record {
+      by true fits = record {
         after = regs;
         count = refl;
         others = λ r far. refl;
@@ -129,7 +131,8 @@ module _ (c : Context) (regs : Registers) (y : MidState) where
         within = omega arith;
         run = and_then (store_falls here at (address_up b offset low) lent) none_left;
       }
-      by false =
+      by false fits =
+          let there : t < length regs = omega (arith, fits) in
           let regs1 : Registers = slice_set regs t (Some offset) in
           let regs2 : Registers = slice_set regs1 t (Some (b + offset)) in
           let there1 : t < length regs1 = omega (arith, there, length-set regs t (Some offset)) in

@@ -1,12 +1,12 @@
 -- Of the frame no words speak but those in registers: what words say goes on being said of a state with another frame.
-use Rattle.std.proofs.Common.{◌≡◌, ℕ, List, refl}
+use Rattle.std.proofs.Common.{ℕ, List}
 use Rattle.lang_meaning.specs.State.{DynamicContext}
 use Rattle.flat_language.specs.FlatState.{FrameSlot, FlatState, FlatEvaluated}
 use Rattle.mid_code.specs.State.{MidState, MidOutcome}
 use Rattle.back_relation.specs.Setting.{Setting}
 use Rattle.back_relation.specs.Worlds.{World, Standing}
 use Rattle.back_relation.specs.Things.{Things}
-use Rattle.back_relation.specs.Around.{AroundStands, CallBegins}
+use Rattle.back_relation.specs.Around.{CallBegins}
 use Rattle.back_relation.specs.Ends.{WorldKept, Around, Transfers}
 
 abbrev pub framed : List FrameSlot → FlatState → FlatState

@@ -1,5 +1,5 @@
 -- What words say goes on being said in a later world where the words of most spots stay: piece by piece.
-use Rattle.std.proofs.Common.{◌≡◌, ℕ, ◌+◌, ◌*◌, ◌<◌, ◌≤◌, List, [], ◌∷◌, length, Option, Some, None, refl, sym, ap, ◌∙◌, subst, arith}
+use Rattle.std.proofs.Common.{◌≡◌, ℕ, ◌+◌, ◌*◌, ◌<◌, ◌≤◌, List, [], ◌∷◌, length, Option, Some, None, sym, ◌∙◌, subst, arith}
 use Rattle.std.specs.Prelude.{slice_get}
 use Rattle.std.proofs.lemmas.Option.{slice_get_within}
 use Rattle.lang_meaning.specs.declared.program.LiteralRow.{LiteralRow}
@@ -11,7 +11,7 @@ use Rattle.lang_meaning.specs.State.{State}
 use Rattle.lang_meaning.specs.Values.{Value, symbol, named}
 use Rattle.flat_language.specs.FlatNodes.{tables}
 use Rattle.flat_language.specs.FlatState.{Captured, of_value, of_box, of_exit, of_method, FlatState, under}
-use Rattle.mid_code.specs.Arena.{Arena, word_at}
+use Rattle.mid_code.specs.Arena.{word_at}
 use Rattle.mid_code.specs.State.{MidState}
 use Rattle.mid_arena.specs.Places.{Spot, Owner, of_object, of_other, spot_of, word_of}
 use Rattle.mid_arena.specs.Standing.{ValueAt, SlotAt, SameWords}

@@ -1,21 +1,20 @@
 -- A new box: a word is requested, and the value is stored there.
-use Rattle.std.proofs.Common.{◌≡◌, ◌⊎◌, inl, inr, ℕ, zero, suc, ◌+◌, ◌*◌, ◌%◌, ◌^◌, ◌<◌, ◌≤◌, Bool, true, false, List, [], ◌∷◌, ◌++◌, length, Option, Some, None, refl, sym, ap, ◌∙◌, subst, length-append, arith}
-use Rattle.std.specs.Prelude.{nat_le, slice_get, slice_set, slice_index_or}
-use Rattle.std.proofs.lemmas.Bool.Decides.{nat_tests}
+use Rattle.std.proofs.Common.{◌≡◌, ◌⊎◌, inl, inr, ℕ, zero, suc, ◌+◌, ◌<◌, ◌≤◌, List, [], ◌∷◌, ◌++◌, length, Some, refl, sym, ap, ◌∙◌, subst, length-append, arith}
+use Rattle.std.specs.Prelude.{slice_get, slice_index_or}
 use Rattle.std.proofs.lemmas.Option.{slice_get_within}
 use Rattle.base.specs.Names.{slice_get-front, slice_get-behind, slice_get-push}
 use Rattle.lang_meaning.specs.Lookup.{value_at}
-use Rattle.lang_meaning.specs.State.{Limit, words, unlimited, has_room, with_words}
+use Rattle.lang_meaning.specs.State.{Limit, words, unlimited, with_words}
 use Rattle.lang_meaning.specs.Values.{Value, nil}
 use Rattle.flat_language.specs.FlatNodes.{tables}
 use Rattle.flat_language.specs.FlatState.{FlatState, on_state, charged}
-use Rattle.mid_code.specs.Arena.{Arena, begin_of, stack_from, left, word_at}
+use Rattle.mid_code.specs.Arena.{begin_of, stack_from, left}
 use Rattle.mid_code.specs.State.{MidState}
 use Rattle.mid_arena.specs.Growing.{Grows}
 use Rattle.mid_arena.specs.Places.{Spot, Owner, of_other, spot_of, with_other, word_of}
 use Rattle.mid_arena.specs.Standing.{SameWords}
 use Rattle.mid_arena.proofs.Growing.{spot_below, words_grown}
-use Rattle.mid_arena.proofs.Making.{begun, begun_heap, begun_blocks, begun_word}
+use Rattle.mid_arena.proofs.Making.{begun_heap, begun_blocks, begun_word}
 use Rattle.mid_arena.proofs.Memory.{room_below}
 use Rattle.mid_arena.proofs.OwnWords.{begun_state, begun_state_grows, represents_begun, old_spot_beside}
 use Rattle.mid_arena.proofs.Representing.{represents_same}
@@ -23,8 +22,7 @@ use Rattle.back_lowering.specs.ControlWords.{current_address, link_address, hand
 use Rattle.back_relation.specs.Setting.{Setting, spots_at_start}
 use Rattle.back_relation.specs.Placed.{IsPlaced}
 use Rattle.back_relation.specs.Worlds.{World, BoxPlace, on_heap, on_stack, gone, Later, BoxesApart}
-use Rattle.back_relation.specs.StackWords.{StackKept}
-use Rattle.back_relation.specs.Things.{Things, WithinLimit, TakenSpot, BoxStands}
+use Rattle.back_relation.specs.Things.{Things, WithinLimit, BoxStands}
 use Rattle.back_relation.specs.Ends.{WorldKept, Around}
 use Rattle.back_combining.proofs.Worlds.{word_later}
 use Rattle.back_values.specs.Boxes.{Clean, extended}

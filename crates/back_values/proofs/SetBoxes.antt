@@ -1,21 +1,21 @@
 -- The value in a box is another one.
-use Rattle.std.proofs.Common.{◌≡◌, ℕ, zero, suc, ◌+◌, ◌*◌, ◌%◌, ◌/◌, ◌^◌, ◌<◌, ◌≤◌, Bool, true, false, List, [], ◌∷◌, length, Option, Some, None, refl, sym, ap, ◌∙◌, subst, arith}
+use Rattle.std.proofs.Common.{◌≡◌, ℕ, zero, suc, ◌+◌, ◌*◌, ◌/◌, ◌<◌, ◌≤◌, Bool, true, false, List, [], ◌∷◌, length, Some, refl, sym, ap, ◌∙◌, subst, arith}
 use Rattle.std.specs.Prelude.{slice_get, slice_set, slice_index_or, ◌==◌}
 use Rattle.std.proofs.lemmas.Bool.{ne_eqb}
 use Rattle.std.proofs.lemmas.Bool.Decides.{nat_tests}
 use Rattle.std.proofs.lemmas.Option.{slice_get_within}
 use Rattle.std.proofs.Math.ListN.{length-set}
-use Rattle.lang_meaning.specs.Lookup.{value_at, set_at}
+use Rattle.lang_meaning.specs.Lookup.{set_at}
 use Rattle.lang_meaning.specs.Values.{Value, nil}
 use Rattle.lang_meaning.specs.State.{Limit, words, unlimited}
 use Rattle.flat_language.specs.FlatNodes.{tables}
 use Rattle.flat_language.specs.FlatState.{FlatState, on_state}
-use Rattle.mid_code.specs.Arena.{stack_from, is_lent, word_at, with_word}
+use Rattle.mid_code.specs.Arena.{is_lent, word_at, with_word}
 use Rattle.mid_code.specs.State.{MidState, with_arena}
 use Rattle.mid_code.specs.State.{charged as mid_charged}
 use Rattle.mid_arena.specs.Growing.{Changes}
 use Rattle.mid_arena.specs.Law.{KeepsOthers}
-use Rattle.mid_arena.specs.Places.{Spot, Owner, of_object, of_symbol, of_other, same_owner, spot_of, word_of}
+use Rattle.mid_arena.specs.Places.{Spot, Owner, of_other, same_owner, spot_of, word_of}
 use Rattle.mid_arena.specs.Represents.{Represents}
 use Rattle.mid_arena.specs.Standing.{SpotStands}
 use Rattle.mid_arena.proofs.Growing.{spot_below}
@@ -26,12 +26,11 @@ use Rattle.back_lowering.specs.ControlWords.{current_address, link_address, hand
 use Rattle.back_relation.specs.Setting.{Setting, spots_at_start}
 use Rattle.back_relation.specs.Placed.{IsPlaced}
 use Rattle.back_relation.specs.Worlds.{World, BoxPlace, on_heap, on_stack, gone, BoxIs}
-use Rattle.back_relation.specs.StackWords.{StackKept}
 use Rattle.back_relation.specs.Things.{Things, WithinLimit, TakenSpot, BoxStands}
 use Rattle.back_relation.specs.Ends.{WorldKept, Around}
 use Rattle.back_combining.proofs.Worlds.{later_same}
 use Rattle.back_values.specs.Boxes.{Clean}
-use Rattle.back_values.proofs.Moved.{KeepsBox, box_moves, method_moves, functions_move, literals_move, symbols_move, further_moves, control_moves, word_moves, serials_move, globals_move, dynamics_move}
+use Rattle.back_values.proofs.Moved.{KeepsBox, box_moves, method_moves, functions_move, further_moves, word_moves, serials_move, globals_move, dynamics_move}
 
 index_here : {X : Type 0} (xs : List X) (i : ℕ) (x e : X) → i < length xs → slice_index_or (slice_set xs i x) i e ≡ x
 index_here [] i x e h = absurd (omega arith)
@@ -46,11 +45,11 @@ index_elsewhere (y ∷ xs) (suc i) zero x e h = refl
 index_elsewhere (y ∷ xs) (suc i) (suc j) x e h = index_elsewhere xs i j x e (λ same. h (ap (λ n. suc n) same))
 
 -- spots that code took are none of the first ones
-late_two : (ws : List ℕ) (n : ℕ) → spots_at_start ws ≤ n → 2 ≤ n
+pub late_two : (ws : List ℕ) (n : ℕ) → spots_at_start ws ≤ n → 2 ≤ n
 late_two [] n h = h
 late_two (w ∷ ws) n h = omega (arith, h)
 
-late_three : (ws : List ℕ) (i word n : ℕ) → slice_get ws i ≡ Some word → spots_at_start ws ≤ n → 3 ≤ n
+pub late_three : (ws : List ℕ) (i word n : ℕ) → slice_get ws i ≡ Some word → spots_at_start ws ≤ n → 3 ≤ n
 late_three [] i word n e h = absurd (cc e)
 late_three (w ∷ ws) i word n e h = h
 

@@ -1,5 +1,5 @@
 -- A slot is set: its register has the new word.
-use Rattle.std.proofs.Common.{◌≡◌, ℕ, zero, suc, ◌+◌, ◌<◌, ◌≤◌, Bool, true, false, List, [], ◌∷◌, length, Option, Some, None, refl, sym, ap, ◌∙◌, subst, arith}
+use Rattle.std.proofs.Common.{◌≡◌, ℕ, ◌+◌, ◌<◌, Bool, true, false, List, length, Some, refl, sym, ap, ◌∙◌, subst, arith}
 use Rattle.std.specs.Prelude.{slice_get, slice_set, ◌==◌}
 use Rattle.std.proofs.lemmas.Bool.Decides.{nat_tests}
 use Rattle.std.proofs.lemmas.Option.{slice_get_within}
@@ -9,7 +9,7 @@ use Rattle.lang_meaning.specs.State.{DynamicContext}
 use Rattle.lang_meaning.specs.Values.{Value}
 use Rattle.flat_language.specs.declared.place.Home.{Home}
 use Rattle.flat_language.specs.declared.place.Home.TheVariants as home
-use Rattle.flat_language.specs.FlatState.{FrameSlot, holds, holds_box, FlatEnvironment, FlatState}
+use Rattle.flat_language.specs.FlatState.{FrameSlot, holds, FlatEnvironment, FlatState}
 use Rattle.mid_code.specs.State.{Registers, register, MidState}
 use Rattle.mid_arena.specs.Places.{word_of}
 use Rattle.mid_arena.proofs.Lists.{set_here, set_elsewhere}

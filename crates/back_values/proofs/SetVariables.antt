@@ -1,5 +1,5 @@
 -- Variables are set, wherever they are.
-use Rattle.std.proofs.Common.{◌≡◌, ℕ, ◌+◌, ◌^◌, ◌<◌, ◌≤◌, List, [], ◌∷◌, ◌++◌, length, Option, Some, None, refl, sym, ap, ◌∙◌, subst, arith}
+use Rattle.std.proofs.Common.{◌≡◌, ℕ, ◌+◌, ◌^◌, ◌<◌, ◌≤◌, [], ◌∷◌, ◌++◌, Option, Some, None, refl, sym, ap, ◌∙◌, subst, arith}
 use Rattle.std.specs.Prelude.{slice_get, slice_set}
 use Rattle.lang_meaning.specs.Lookup.{set_at}
 use Rattle.lang_meaning.specs.Values.{Value}
@@ -10,19 +10,19 @@ use Rattle.flat_language.specs.declared.place.VariablePlace.TheVariants.{Slot, S
 use Rattle.flat_language.specs.FlatForm.{FlatForm, set_local}
 use Rattle.flat_language.specs.FlatMeaning.{mean}
 use Rattle.flat_language.specs.FlatStanding.{VariableStands, IsNoCapturedValue}
-use Rattle.flat_language.specs.FlatState.{holds, holds_box, of_box, FlatEnvironment, FlatState, FlatEvaluated, gives, charged, on_state, set_to, box_held, box_in}
+use Rattle.flat_language.specs.FlatState.{holds, holds_box, of_box, FlatEnvironment, FlatState, gives, charged, on_state, set_to, box_held, box_in}
 use Rattle.mid_code.specs.Arena.{with_word}
-use Rattle.mid_code.specs.Meaning.{Context, exec}
+use Rattle.mid_code.specs.Meaning.{Context}
 use Rattle.mid_code.specs.MidCode.{code_of}
-use Rattle.mid_code.specs.State.{Registers, register, falls, ends, MidState, MidOutcome, with_arena}
-use Rattle.mid_code.specs.State.{charged as mid_charged, go_on as mid_go_on}
+use Rattle.mid_code.specs.State.{Registers, register, falls, ends, MidState, with_arena}
+use Rattle.mid_code.specs.State.{charged as mid_charged}
 use Rattle.mid_arena.specs.Places.{word_of}
 use Rattle.mid_arena.proofs.Registers.{register_here, register_beside}
 use Rattle.mid_arena.proofs.Running.{RunsTo, and_then, none_left, move_falls, store_falls, address_here, parts_then, in_two_parts}
 use Rattle.back_lowering.specs.Codes.{lower}
 use Rattle.back_lowering.specs.Leaves.{slot_into, slot_from, captured_into, variable_from, captured_offset}
 use Rattle.back_lowering.specs.Registers.{of_code, enough_for}
-use Rattle.back_lowering.specs.Steps.{Steps, move, store, load_far}
+use Rattle.back_lowering.specs.Steps.{Steps, move, store}
 use Rattle.back_relation.specs.Setting.{Setting}
 use Rattle.back_relation.specs.Worlds.{World, BoxIs}
 use Rattle.back_relation.specs.Activation.{FormScope}
@@ -40,14 +40,14 @@ use Rattle.back_combining.proofs.Straight.{set_beside, registers_set, world_cost
 use Rattle.back_combining.proofs.Then.{same_world}
 use Rattle.back_combining.proofs.Worlds.{later_same}
 use Rattle.back_combining.specs.Starts.{FlatGrown}
-use Rattle.back_combining.proofs.Fitting.{enough_front}
+use Rattle.back_combining.proofs.Fitting.{registers_behind}
 use Rattle.back_values.specs.Boxes.{Clean}
 use Rattle.back_values.specs.Variables.{CapturedByFunctions, KnownPlace, LawOfSetting}
 use Rattle.back_values.proofs.CapturedWords.{of_kind, is_box, part_there}
 use Rattle.back_values.proofs.Cleaning.{is_clean, reached_clean}
 use Rattle.back_values.proofs.Far.{Loaded, load_far_runs, charged_twice}
 use Rattle.back_values.proofs.Frames.{framed, world_framed, around_framed}
-use Rattle.back_values.proofs.SetBoxes.{box_lent, set_meant, set_state, world_set, around_set}
+use Rattle.back_values.proofs.SetBoxes.{box_lent, world_set, around_set}
 use Rattle.back_values.proofs.SetSlots.{activation_set, registers_of_set}
 use Rattle.back_values.proofs.Variables.{slot_there, box_there}
 
@@ -177,3 +177,73 @@ module _ (setting : Setting) (placed : IsPlaced setting) (s : FormScope) (d m si
           let fits' : enough_for (of_code (code_of (slot_into (d + 1) (Some r) ++ (store d (d + 1) 0 ∷ [])))) ≤ size =
           subst (λ o. enough_for (of_code (code_of (slot_into (d + 1) o ++ (store d (d + 1) 0 ∷ [])))) ≤ size) e fits in
           omega (arith, fits')
+
+  captured_box :
+      (i : ℕ) → slice_get s.flat.captured i ≡ Some kind.Boxed → ((q : Point setting s d m size) → CapturedByFunctions q.z)
+      → enough_for (of_code (code_of (variable_from s.code d (d + 1) (CapturedBox i)))) ≤ size → Sets (CapturedBox i)
+  captured_box i stands known fits q v word here is =
+      let found = of_kind s.flat.captured q.env.captured i kind.Boxed q.begins.activation.kinds stands in
+      let o = is_box found.0 found.2 in
+      by o.0 (found.1 ∙ ap (λ x. Some x) o.1)
+    where
+      there : d + 1 < size
+      there =
+          let last = registers_behind (captured_into s.code (d + 1) i) (store d (d + 1) 0 ∷ []) size fits in
+          omega (arith, last)
+
+      by :
+          (o : Option ℕ) → slice_get q.env.captured i ≡ Some (of_box o)
+          → EndsAt setting 300 (start q) (gives v (set_to (CapturedBox i) v q.env q.z)) (run setting s d m size k n (variable_from s.code d (d + 1) (CapturedBox i)) q.regs q.y)
+      by None at =
+          absurd (part_there setting q.begins.call.things (known q) (register s.code.function q.regs) q.env.captured q.begins.activation.self i (of_box None) at).at.is
+      by (Some b) at =
+          let part = part_there setting q.begins.call.things (known q) (register s.code.function q.regs) q.env.captured q.begins.activation.self i (of_box (Some b)) at in
+          let box = box_there setting q.begins.call.things b part.at.word part.at.is in
+          let r = reached_clean setting (start q) in
+          let own = q.begins.scope.self.0 in
+          behind setting {c1 = 0} {c2 = 300} (start q) d (omega arith) r (omega arith) (omega arith)
+          (subst (λ o. EndsAt setting 300 (start (cleaned_point q)) (gives v (on_state (λ y. set_at (box_in o) v y) q.z))
+          (run setting s d m size k n (captured_into s.code (d + 1) i ++ (store d (d + 1) 0 ∷ [])) q.regs q.y))
+          (sym at)
+          (set_box (cleaned_point q) v word here is b part.at.word (r.kept.world.later.boxes b part.at.word part.at.is) (is_clean setting q.begins.call.things) box.low there
+          (captured_into s.code (d + 1) i)
+          (load_far_runs c q.regs q.y (d + 1) s.code.function (captured_offset i) part.pointer part.at.word (omega (arith, there, q.count)) (λ e. omega (arith, own, e)) part.held part.low
+          part.at.stands)))
+
+  sets :
+      (p : VariablePlace) → VariableStands s.flat p → IsNoCapturedValue p → KnownPlace setting s d m size p
+      → enough_for (of_code (code_of (variable_from s.code d (d + 1) p))) ≤ size → Sets p
+  sets (Slot i) stands settable known fits = λ q v word here is. set_slot q v word here is i stands
+  sets (SlotBox i) stands settable known fits = slot_box i stands fits
+  sets (CapturedValue i) stands settable known fits = absurd settable
+  sets (CapturedBox i) stands settable known fits = captured_box i stands known fits
+
+  -- **a variable is set**
+  pub set_here :
+      (p : VariablePlace) (f : FlatForm) → VariableStands s.flat p → IsNoCapturedValue p → KnownPlace setting s d m size p
+      → enough_for (of_code (code_of (variable_from s.code d (d + 1) p))) ≤ size → Here setting s d m size k n f → Here setting s d m size k n (set_local p f)
+  unfolding mean lower
+  set_here p f stands settable known fits here q =
+      let a : Start setting = start_charged setting (start q) 1 in
+      let b : Point setting s d m size = record {
+        rs = q.rs;
+        valid = q.valid;
+        w = q.w;
+        env = q.env;
+        around = q.around;
+        z = charged 1 q.z;
+        regs = q.regs;
+        y = q.y;
+        begins = a.begins;
+        count = q.count;
+      } in
+      let behind_steps : Steps = variable_from s.code d (d + 1) p in
+      ends_charged setting {c1 = 300} (start q) 1 (omega arith)
+      (subst (λ o. EndsAt setting 300 a (mean (context_at setting k) (set_local p f) q.env q.around q.z) o)
+      (sym (in_two_parts c (value_steps setting s d m size k n f) behind_steps q.regs q.y))
+      (two setting {c1 = 0} {c2 = 300} a d (λ v z. gives v (set_to p v q.env z)) (λ g y. run setting s d m size k n behind_steps g y) (omega arith) (omega arith)
+      (form_grows setting k f q.env q.around (charged 1 q.z)).units (here b) (λ v z. set_grows p v q.env z) (λ g y. code_grows setting s d m size k n behind_steps g y)
+      (λ x. sets p stands settable known fits (point_after setting s d m size n b x.reached) x.result x.word x.in_register x.of_value)))
+
+pub setting_law : LawOfSetting
+setting_law setting s d m size k turns p f placed stands settable known fits here = set_here setting placed s d m size k turns p f stands settable known fits here

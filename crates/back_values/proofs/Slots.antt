@@ -1,5 +1,5 @@
 -- New slots in registers one after another: the activation stands with them, and without them again behind their end.
-use Rattle.std.proofs.Common.{◌≡◌, ◌⊎◌, inl, inr, ℕ, zero, suc, ◌+◌, ◌<◌, ◌≤◌, List, [], ◌∷◌, ◌++◌, length, take, Option, Some, None, refl, sym, ap, ◌∙◌, subst, length-append, arith}
+use Rattle.std.proofs.Common.{◌≡◌, ◌⊎◌, inl, inr, ℕ, zero, suc, ◌+◌, ◌<◌, ◌≤◌, List, [], ◌∷◌, ◌++◌, length, take, Some, refl, sym, ap, ◌∙◌, subst, length-append, arith}
 use Rattle.std.specs.Prelude.{slice_get}
 use Rattle.std.proofs.lemmas.Option.{slice_get_within}
 use Rattle.base.specs.Names.{slice_get-front}
@@ -14,10 +14,9 @@ use Rattle.back_lowering.specs.Scope.{registers_from}
 use Rattle.back_lowering.specs.Scope as code
 use Rattle.back_relation.specs.Setting.{Setting}
 use Rattle.back_relation.specs.Worlds.{World, Standing}
-use Rattle.back_relation.specs.Activation.{FormScope, with_slots, NoSlot, IsOwn, ScopeStands, RegistersKept, SlotHas, SlotIs, ActivationStands}
+use Rattle.back_relation.specs.Activation.{FormScope, with_slots, IsOwn, ScopeStands, RegistersKept, SlotHas, SlotIs, ActivationStands}
 use Rattle.back_values.specs.Boxes.{SlotsIn}
 use Rattle.back_values.proofs.Frames.{framed}
-use Rattle.back_values.proofs.Variables.{there_is}
 
 -- ---- lists
 

@@ -1,4 +1,4 @@
-// Variables, boxes, bindings, functions and global variables.
+// Variables, their boxes, and bindings of `let`.
 #![tactic(auto)]
 
 pub mod laws;

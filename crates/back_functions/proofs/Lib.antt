@@ -1,0 +1,3 @@
+pub mod NewFunctions
+pub mod FunctionParts
+pub mod Functions

@@ -1,0 +1,4 @@
+// Functions that forms make.
+#![tactic(auto)]
+
+pub mod laws;

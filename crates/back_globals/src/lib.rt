@@ -1,0 +1,4 @@
+// Global variables.
+#![tactic(auto)]
+
+pub mod laws;

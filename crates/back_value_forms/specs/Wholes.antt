@@ -1,0 +1,65 @@
+-- The laws of variables, bindings, global variables and functions, wherever the forms stand.
+use Rattle.std.specs.Prelude.{◌≡◌, ℕ, ◌+◌, ◌<◌, ◌≤◌, List}
+use Rattle.lang_meaning.specs.Objects.{unbound_variable_class}
+use Rattle.flat_language.specs.declared.place.FlatCapture.{FlatCapture}
+use Rattle.flat_language.specs.declared.place.VariablePlace.{VariablePlace}
+use Rattle.flat_language.specs.FlatForm.{FlatForm, local, set_local, global, set_global, def_global, let_form, make_function, FlatBindings}
+use Rattle.back_lowering.specs.Codes.{lower, by_value}
+use Rattle.back_lowering.specs.declared.scope.Scope.{Scope}
+use Rattle.back_relation.specs.Setting.{Setting}
+use Rattle.back_relation.specs.Activation.{FormScope}
+use Rattle.back_relation.specs.Forms.{DoesForm, JudgesForm, context_at, code_at}
+use Rattle.back_relation.specs.Placed.{HasSymbol, IsPlaced}
+use Rattle.back_relation.specs.Room.{routine_words}
+use Rattle.back_combining.specs.Forms.{AllDo}
+use Rattle.back_combining.specs.Points.{Point}
+use Rattle.back_globals.specs.Globals.{FailsHere}
+use Rattle.back_values.specs.Bindings.{forms_of, HomesAsSlots}
+use Rattle.back_values.specs.Variables.{CapturedByFunctions}
+
+-- wherever code begins, captured parts stand under functions, and there are as many homes as slots
+pub record PointsKnown (setting : Setting) : Type 0 where
+  pub functions : (s : FormScope) (d m size : ℕ) (q : Point setting s d m size) → CapturedByFunctions q.z
+  pub homes : (s : FormScope) (d m size : ℕ) → Point setting s d m size → HomesAsSlots s
+
+module _ (setting : Setting) (k turns : ℕ) where
+  abbrev pub Does : FlatForm → Type 0
+  Does f = DoesForm setting turns (context_at setting k) (code_at setting k turns) f
+
+  abbrev pub Judges : FlatForm → Type 0
+  Judges f = JudgesForm setting turns (context_at setting k) (code_at setting k turns) f
+
+  -- code that signals a condition of a class with the symbol of a name does so, where it has its words
+  abbrev pub FailsAnywhere : (credit class : ℕ) → Type 0
+  FailsAnywhere credit class =
+      (s : FormScope) (d m size name : ℕ) → HasSymbol setting name → d + 1 < size → routine_words ≤ m → FailsHere setting s d m size k turns credit class name
+
+  abbrev pub LawOfWholeVariables : Type 0
+  LawOfWholeVariables = (p : VariablePlace) → PointsKnown setting → Does (local p)
+
+  abbrev pub LawOfWholeSetting : Type 0
+  LawOfWholeSetting = (p : VariablePlace) (f : FlatForm) → IsPlaced setting → PointsKnown setting → Does f → Does (set_local p f)
+
+  abbrev pub LawOfWholeBindings : Type 0
+  LawOfWholeBindings =
+      (bs : FlatBindings) (body : FlatForm) → IsPlaced setting → PointsKnown setting → AllDo setting k turns (forms_of bs) → Does body → Does (let_form bs body)
+
+  abbrev pub LawOfWholeFunctions : Type 0
+  LawOfWholeFunctions = (p : ℕ) (parts : List FlatCapture) → IsPlaced setting → PointsKnown setting → Does (make_function p parts)
+
+  abbrev pub LawOfWholeGlobals : Type 0
+  LawOfWholeGlobals = (name : ℕ) → IsPlaced setting → FailsAnywhere 540 unbound_variable_class → Does (global name)
+
+  abbrev pub LawOfWholeSettingGlobals : Type 0
+  LawOfWholeSettingGlobals = (name : ℕ) (f : FlatForm) → IsPlaced setting → FailsAnywhere 540 unbound_variable_class → Does f → Does (set_global name f)
+
+  abbrev pub LawOfWholeDefinitions : Type 0
+  LawOfWholeDefinitions = (name : ℕ) (f : FlatForm) → IsPlaced setting → Does f → Does (def_global name f)
+
+  -- a form that is judged by its value is judged so, wherever it stands
+  abbrev pub LawOfWholeJudging : Type 0
+  LawOfWholeJudging =
+      (f : FlatForm)
+      → ((s : Scope) (d : ℕ)
+      → lower setting.names setting.at setting.program s d f ≡ by_value d (lower setting.names setting.at setting.program s d f).value)
+      → Does f → Judges f

@@ -1,0 +1,44 @@
+// The laws of variables, bindings, global variables and functions, wherever the forms stand, each as the contract of a function that does nothing.
+ghost use Rattle.std.specs.Prelude.{ℕ};
+ghost use Rattle.back_relation.specs.Setting.{Setting};
+ghost use Rattle.back_value_forms.specs.Wholes.{LawOfWholeVariables, LawOfWholeSetting, LawOfWholeBindings, LawOfWholeFunctions, LawOfWholeGlobals, LawOfWholeSettingGlobals, LawOfWholeDefinitions, LawOfWholeJudging};
+
+/// Variables are read.
+pub fn law_whole_variables()
+    ensures { (setting : Setting) (k turns : ℕ) → LawOfWholeVariables setting k turns }
+{}
+
+/// Variables are set.
+pub fn law_whole_setting()
+    ensures { (setting : Setting) (k turns : ℕ) → LawOfWholeSetting setting k turns }
+{}
+
+/// Bindings of `let`.
+pub fn law_whole_bindings()
+    ensures { (setting : Setting) (k turns : ℕ) → LawOfWholeBindings setting k turns }
+{}
+
+/// Functions that forms make.
+pub fn law_whole_functions()
+    ensures { (setting : Setting) (k turns : ℕ) → LawOfWholeFunctions setting k turns }
+{}
+
+/// Global variables are read.
+pub fn law_whole_globals()
+    ensures { (setting : Setting) (k turns : ℕ) → LawOfWholeGlobals setting k turns }
+{}
+
+/// Global variables are set.
+pub fn law_whole_setting_globals()
+    ensures { (setting : Setting) (k turns : ℕ) → LawOfWholeSettingGlobals setting k turns }
+{}
+
+/// Global variables are defined.
+pub fn law_whole_definitions()
+    ensures { (setting : Setting) (k turns : ℕ) → LawOfWholeDefinitions setting k turns }
+{}
+
+/// Forms that are judged by their value.
+pub fn law_whole_judging()
+    ensures { (setting : Setting) (k turns : ℕ) → LawOfWholeJudging setting k turns }
+{}
