@@ -1,20 +1,20 @@
 -- **A form with a handler**: the handler's value is to be a function; else that is a domain error.
-use Rattle.std.proofs.Common.{◌≡◌, ℕ, suc, ◌+◌, ◌*◌, ◌<◌, ◌≤◌, Bool, true, false, List, [], ◌∷◌, ◌++◌, length, Option, Some, refl, sym, ap, ◌∙◌, subst, arith}
-use Rattle.std.specs.Prelude.{slice_get, slice_set, if◌then◌else◌}
+use Rattle.std.proofs.Common.{◌≡◌, ℕ, ◌+◌, ◌<◌, ◌≤◌, Bool, true, false, [], ◌∷◌, ◌++◌, length, Some, refl, sym, ◌∙◌, subst, arith}
+use Rattle.std.specs.Prelude.{slice_set, if◌then◌else◌}
 use Rattle.std.proofs.Math.ListN.{length-set}
 use Rattle.lang_meaning.specs.Classes.{fetch}
 use Rattle.lang_meaning.specs.Objects.{function_class}
 use Rattle.lang_meaning.specs.Primitives.{is_function}
 use Rattle.lang_meaning.specs.State.{DynamicContext}
 use Rattle.lang_meaning.specs.Values.{Value}
-use Rattle.flat_language.specs.FlatForm.{FlatForm, with_handler}
+use Rattle.flat_language.specs.FlatForm.{with_handler}
 use Rattle.flat_language.specs.FlatMeaning.{mean, with_handler_value}
 use Rattle.flat_language.specs.FlatSignals.{signal, signal_domain_error}
-use Rattle.flat_language.specs.FlatState.{FlatEnvironment, FlatState, FlatEvaluated, charged, gives}
+use Rattle.flat_language.specs.FlatState.{FlatState, FlatEvaluated, charged}
 use Rattle.mid_code.specs.declared.operation.Comparison.TheVariants.{Equal}
 use Rattle.mid_code.specs.Meaning.{Context, exec, exec_step}
-use Rattle.mid_code.specs.MidCode.{MidCode, with_block, choose, code_of}
-use Rattle.mid_code.specs.State.{Registers, register, MidState, MidOutcome}
+use Rattle.mid_code.specs.MidCode.{with_block, code_of}
+use Rattle.mid_code.specs.State.{Registers, register, MidState}
 use Rattle.mid_code.specs.State.{charged as mid_charged}
 use Rattle.mid_arena.specs.Places.{word_of}
 use Rattle.mid_arena.proofs.Registers.{register_here, register_beside}
@@ -22,16 +22,15 @@ use Rattle.mid_arena.proofs.Running.{in_two_parts, step_falls, constant_falls, a
 use Rattle.back_lowering.specs.Codes.{lower, with_handler_code}
 use Rattle.back_lowering.specs.ControlWords.{handlers_address, handler_words}
 use Rattle.back_lowering.specs.Leaves.{domain_error}
-use Rattle.back_lowering.specs.Registers.{of_step, of_code, enough_for}
+use Rattle.back_lowering.specs.Registers.{of_code, enough_for}
 use Rattle.back_lowering.specs.Routines.{is_function_routine}
-use Rattle.back_lowering.specs.Steps.{Steps, move, constant, call, if_equal, test_of}
+use Rattle.back_lowering.specs.Steps.{Steps, move, constant, store, call, if_equal, test_of}
 use Rattle.back_relation.specs.Setting.{Setting}
 use Rattle.back_relation.specs.Placed.{IsPlaced}
 use Rattle.back_relation.specs.Room.{words_for, words_for_handler}
-use Rattle.back_relation.specs.Worlds.{World, Standing}
-use Rattle.back_relation.specs.Activation.{FormScope}
-use Rattle.back_relation.specs.Forms.{Begins, FormEnds, FormStands, context_at, code_at}
-use Rattle.back_combining.specs.Starts.{FlatGrown, Start, EndsAt, EndsFrom}
+use Rattle.back_relation.specs.Worlds.{World}
+use Rattle.back_relation.specs.Forms.{Begins, FormEnds, context_at, code_at}
+use Rattle.back_combining.specs.Starts.{FlatGrown, Start, EndsAt}
 use Rattle.back_combining.proofs.Choices.{after, choice, tested}
 use Rattle.back_combining.proofs.Fitting.{enough_front, enough_behind, registers_front, registers_behind}
 use Rattle.back_combining.proofs.FormGrowth.{form_grows}
@@ -44,12 +43,12 @@ use Rattle.back_calling.proofs.Sited.{failing_law}
 use Rattle.back_calling.specs.Storing.{stored_at, standing_world}
 use Rattle.back_lowering.specs.ControlWords.{site_address}
 use Rattle.back_looking.proofs.FunctionTests.{function_tests_law}
-use Rattle.back_bindings.specs.Forms.{Does, DomainClaims, LawOfHandlers}
+use Rattle.back_bindings.specs.Forms.{DomainClaims, LawOfHandlers}
 use Rattle.back_bindings.proofs.Within.{tail}
 use Rattle.back_bindings.proofs.Lending.{lends}
 use Rattle.back_bindings.proofs.Points.{code_grows}
 use Rattle.back_bindings.proofs.Handlers.{handler_steps, handler_opened}
-use Rattle.back_bindings.proofs.DynamicForms.{names_inside}
+use Rattle.back_bindings.proofs.DynamicForms.{from_here, names_inside}
 
 -- behind the handler's value, where it was asked whether it is a function
 module _ (setting : Setting) (placed : IsPlaced setting) (k : ℕ) (a : Start setting) (h : Value) (word : ℕ) (is : word_of a.w.places h ≡ Some word) (claims : DomainClaims setting k a.turns)
@@ -153,3 +152,128 @@ module _ (setting : Setting) (placed : IsPlaced setting) (k : ℕ) (a : Start se
           choice setting {c1 = 384} {credit = 398} (code_at setting k a.turns) zeroed (test_of Equal (a.d + 1) (a.d + 2)) (code_of (wrong setting placed k a h word is claims body fits m room some_room))
           (code_of (around_body setting placed k a h word is claims body fits m room some_room)) 0 0 true abbrev_error r (here_told e) here_zero refl (omega arith) up grown.units
           (λ f. wrong_ends setting placed k (tested setting zeroed) h word is claims body (omega (arith, fits, size)) m room some_room here_word) (λ f. absurd (cc f))
+
+-- ---- the form
+
+module _ (setting : Setting) (placed : IsPlaced setting) (k : ℕ) (a : Start setting) (h : Value) (word : ℕ) (held : register a.d a.regs ≡ Some word) (is : word_of a.w.places h ≡ Some word)
+    (claims : DomainClaims setting k a.turns) (body : Steps) (fits : a.d + 3 < length a.regs) (m : ℕ) (room : 4 + words_for_handler + m ≤ a.n) (some_room : 48 ≤ a.n)
+    (mean_body : DynamicContext → FlatState → FlatEvaluated) (body_grows : (around : DynamicContext) (z : FlatState) → FlatGrown z (mean_body around z).state)
+    (body_does : (w : World) (regs : Registers) (y : MidState) → Begins setting a.rs a.valid a.s (a.d + 3) m w a.env (record a.around { handlers = h ∷ a.around.handlers }) a.z regs y → length regs ≡ length a.regs
+    → FormEnds setting 0 a.turns a.rs a.valid a.s (a.d + 3) w a.env (record a.around { handlers = h ∷ a.around.handlers }) a.z regs y (mean_body (record a.around { handlers = h ∷ a.around.handlers }) a.z)
+    (exec (code_at setting k a.turns) (code_of body) regs y)) where
+  abbrev pub handler_meant : Value → DynamicContext → FlatState → FlatEvaluated
+  handler_meant v around z = with_handler_value (context_at setting k) v mean_body around z
+
+  pub handler_grows : (v : Value) (around : DynamicContext) (z : FlatState) → FlatGrown z (handler_meant v around z).state
+  handler_grows v around z = by (is_function (fetch z.state v))
+    where
+      by :
+          (b : Bool)
+          → FlatGrown z (if b then mean_body (record around { handlers = v ∷ around.handlers }) z else signal_domain_error (context_at setting k) (signal (context_at setting k)) v function_class around z).state
+      by true = body_grows (record around { handlers = v ∷ around.handlers }) z
+      by false = grown_later (domain_error_later setting k v function_class around z)
+
+  abbrev told : ℕ
+  told = if is_function (fetch a.z.state h) then 1 else 0
+
+  paid : Start setting
+  paid = start_after setting a a.d a.d a.n (omega arith) (omega arith) (omega arith) a.begins.first (reached_cost setting {credit = 46} a a.d 46 (omega arith))
+
+  -- **a handler around a form, behind the handler's value**
+  pub handled :
+      EndsAt setting 600 a (handler_meant h a.around a.z)
+      (exec (code_at setting k a.turns) (code_of (with_handler_code setting.names setting.at setting.program a.s.code.site a.d body)) a.regs a.y)
+  unfolding paid
+  handled =
+      subst (λ q. EndsAt setting 600 a (handler_meant h a.around a.z) q) (sym (step_then (code_at setting k a.turns) (call (a.d + 1) (is_function_routine setting.at) (a.d ∷ [])) rest a.regs a.y))
+      (form_looking_law setting (code_at setting k a.turns) a k a.d (a.d + 1) (is_function_routine setting.at) 150 told 600 (a.d ∷ []) (word ∷ []) (handler_meant h a.around a.z)
+      (λ g v. exec (code_at setting k a.turns) (code_of rest) g v) (omega arith) (omega (arith, fits)) (held, tt) (handler_grows h a.around a.z)
+      (λ g v. code_grows setting k a.turns (code_of rest) g v)
+      (function_tests_law setting k a.turns a.rs a.valid a.w a.around a.z paid.y a.n placed h word is (omega (arith, some_room)) paid.begins.call)
+      (λ x.
+      behind setting {c1 = 196} {c2 = 404} a (a.d + 1) (omega arith) x (omega arith) (omega arith)
+      (judged_ends setting placed k (start_after setting a (a.d + 1) a.d a.n (omega arith) (omega arith) (omega arith) a.begins.first x) h word
+      (register_beside a.regs (a.d + 1) a.d (Some told) (λ same. omega (arith, same)) ∙ held) is claims body (omega (arith, fits, length-set a.regs (a.d + 1) (Some told))) m room some_room
+      (mean_body (record a.around { handlers = h ∷ a.around.handlers }) a.z) (body_grows (record a.around { handlers = h ∷ a.around.handlers }) a.z)
+      (λ w z regs y e begins many. body_does w regs y begins (many ∙ length-set a.regs (a.d + 1) (Some told))) (is_function (fetch a.z.state h))
+      (register_here a.regs (a.d + 1) told (omega (arith, fits))))))
+    where
+      rest : Steps
+      rest =
+          constant (a.d + 2) 0
+          ∷ if_equal (a.d + 1) (a.d + 2) (wrong setting placed k a h word is claims body fits m room some_room) (around_body setting placed k a h word is claims body fits m room some_room) ∷ []
+
+-- **a handler around a form**
+pub handlers_law : LawOfHandlers
+unfolding mean lower
+handlers_law setting k turns handler body placed claims handler_does body_does rs valid s d n first w env around z regs y stands begins registers words =
+    ends_charged setting {c1 = 600} (from_here setting k turns rs valid s d n env around w z regs y begins) 2 (omega arith)
+    (subst (λ q. EndsAt setting 600 a (mean (context_at setting k) (with_handler handler body) env around z) q) (sym (in_two_parts (code_at setting k turns) value code regs y))
+    (two setting {c1 = 0} {c2 = 600} a d (λ v after. with_handler_value (context_at setting k) v (λ within ready. mean (context_at setting k) body env within ready) around after)
+    (λ g v. exec (code_at setting k turns) (code_of code) g v) (omega arith) (omega arith) (form_grows setting k handler env around (charged 2 z)).units
+    (handler_does rs valid s d n first w env around (charged 2 z) regs y
+    (record { stands = stands.stands.0; fits = stands.fits.0; leads = stands.leads.0; placed = stands.placed.0 }) a.begins (registers_front value code (length regs) registers)
+    (omega (arith, words)))
+    grows (λ g v. code_grows setting k turns (code_of code) g v)
+    (λ x.
+    let size = x.reached.kept.registers.count in
+    handled setting placed k (start_after setting a d d n (omega arith) (omega arith) (omega arith) begins.first x.reached) x.result x.word x.in_register x.of_value claims body_steps
+    (omega (arith, fits, size)) (words_for setting.names setting.program body) (omega (arith, words)) (omega (arith, words))
+    (λ within ready. mean (context_at setting k) body env within ready) (λ within ready. form_grows setting k body env within ready)
+    (λ w1 regs1 y1 inside many.
+    body_does rs valid s (d + 3) (words_for setting.names setting.program body) first w1 env _ _ regs1 y1
+    (record { stands = stands.stands.1; fits = stands.fits.1; leads = stands.leads.1; placed = stands.placed.1 }) inside
+    (subst (λ m. enough_for (of_code (code_of body_steps)) ≤ m) (sym (many ∙ size)) names_body) (omega arith)))))
+  where
+    a : Start setting
+    a = start_charged setting (from_here setting k turns rs valid s d n env around w z regs y begins) 2
+
+    value : Steps
+    value = (lower setting.names setting.at setting.program s.code d handler).value
+
+    body_steps : Steps
+    body_steps = (lower setting.names setting.at setting.program s.code (d + 3) body).value
+
+    code : Steps
+    code = with_handler_code setting.names setting.at setting.program s.code.site d body_steps
+
+    last : Steps
+    last = constant d 0 ∷ store (d + 2) d handlers_address ∷ move d (d + 3) ∷ []
+
+    block : Steps
+    block = with_block (d + 1) handler_words d (code_of (handler_steps d ++ (body_steps ++ last))) (code_of []) ∷ []
+
+    wrong_steps : Steps
+    wrong_steps = domain_error setting.at s.code.site (d + 1) d function_class ++ (move d (d + 1) ∷ [])
+
+    names_code : enough_for (of_code (code_of code)) ≤ length regs
+    names_code = registers_behind value code (length regs) registers
+
+    names_block : enough_for (of_code (code_of block)) ≤ length regs
+    names_block =
+        let all = enough_front (of_code (code_of wrong_steps) ++ of_code (code_of block)) [] in
+        let back = enough_behind (of_code (code_of wrong_steps)) (of_code (code_of block)) in
+        omega (arith, names_code, all, back)
+
+    names_inside_block : enough_for (of_code (code_of (handler_steps d ++ (body_steps ++ last)))) ≤ length regs
+    names_inside_block = names_inside (d + 1) handler_words d (length regs) (code_of (handler_steps d ++ (body_steps ++ last))) (code_of []) names_block
+
+    names_behind : enough_for (of_code (code_of (body_steps ++ last))) ≤ length regs
+    names_behind = registers_behind (handler_steps d) (body_steps ++ last) (length regs) names_inside_block
+
+    names_body : enough_for (of_code (code_of body_steps)) ≤ length regs
+    names_body = registers_front body_steps last (length regs) names_behind
+
+    fits : d + 3 < length regs
+    fits = let h = registers_behind body_steps last (length regs) names_behind in omega (arith, h)
+
+    grows : (v : Value) (x : FlatState) → FlatGrown x (with_handler_value (context_at setting k) v (λ within ready. mean (context_at setting k) body env within ready) around x).state
+    grows v x = by (is_function (fetch x.state v))
+      where
+        by :
+            (b : Bool)
+            → FlatGrown x
+            (if b then mean (context_at setting k) body env (record around { handlers = v ∷ around.handlers }) x
+            else signal_domain_error (context_at setting k) (signal (context_at setting k)) v function_class around x).state
+        by true = form_grows setting k body env (record around { handlers = v ∷ around.handlers }) x
+        by false = grown_later (domain_error_later setting k v function_class around x)

@@ -1,11 +1,11 @@
 -- **A handler around a form**: its cell is stored in a block that is lent, and is the innermost one while the form runs.
-use Rattle.std.proofs.Common.{◌≡◌, inl, inr, ℕ, ◌+◌, ◌*◌, ◌/◌, ◌%◌, ◌^◌, ◌<◌, ◌≤◌, Bool, true, List, [], ◌∷◌, ◌++◌, length, Option, Some, refl, sym, ap, ◌∙◌, subst, arith}
-use Rattle.std.specs.Prelude.{◌==◌, ◌&&◌, slice_get, slice_set}
+use Rattle.std.proofs.Common.{◌≡◌, inl, inr, ℕ, ◌+◌, ◌/◌, ◌%◌, ◌^◌, ◌<◌, ◌≤◌, true, List, [], ◌∷◌, length, Some, refl, ap, ◌∙◌, arith}
+use Rattle.std.specs.Prelude.{slice_get, slice_set}
 use Rattle.std.proofs.Math.ListN.{length-set}
 use Rattle.std.proofs.lemmas.Bool.{ne_eqb, le-leb, lt-ltb, eq-eqb, and_from, or_left, or_right}
 use Rattle.lang_meaning.specs.Values.{Value}
 use Rattle.flat_language.specs.FlatState.{FlatEvaluated}
-use Rattle.mid_code.specs.Arena.{Arena, begin_of, left, stack_from, is_within, is_lent, word_in, word_at, with_word}
+use Rattle.mid_code.specs.Arena.{begin_of, left, stack_from, is_within, is_lent, word_in, word_at, with_word}
 use Rattle.mid_code.specs.Meaning.{Context, exec}
 use Rattle.mid_code.specs.MidCode.{no_step, code_of}
 use Rattle.mid_code.specs.State.{Registers, register, falls, ends, MidState}
@@ -15,8 +15,8 @@ use Rattle.mid_arena.proofs.Growing.{spot_below, spot_grown}
 use Rattle.mid_arena.proofs.Lists.{set_elsewhere}
 use Rattle.mid_arena.proofs.Memory.{word_elsewhere, in_spot_lent, in_heap_there, lent_with_word}
 use Rattle.mid_arena.proofs.Registers.{register_here, register_beside}
-use Rattle.mid_arena.proofs.Running.{RunsTo, and_then, none_left, costing, constant_falls, load_falls, store_falls, address_above, address_up}
-use Rattle.back_lowering.specs.ControlWords.{control_address, handlers_address, bindings_address, end_address, handler_function, handler_outer, handler_words}
+use Rattle.mid_arena.proofs.Running.{RunsTo, and_then, none_left, costing, constant_falls, load_falls, store_falls, address_above}
+use Rattle.back_lowering.specs.ControlWords.{handlers_address, bindings_address, end_address, handler_function, handler_outer, handler_words}
 use Rattle.back_lowering.specs.Steps.{Steps, constant, load, store}
 use Rattle.back_relation.specs.Setting.{Setting, control_spot}
 use Rattle.back_relation.specs.Placed.{IsPlaced}
@@ -27,7 +27,6 @@ use Rattle.back_relation.specs.Things.{Things}
 use Rattle.back_relation.specs.Forms.{Begins, FormEnds, code_at}
 use Rattle.back_combining.specs.Cuts.{boxes_cut}
 use Rattle.back_combining.specs.Starts.{Start}
-use Rattle.back_combining.specs.Stores.{stores}
 use Rattle.back_combining.proofs.Cuts.{later_cut}
 use Rattle.back_combining.proofs.Windows.{stored_here}
 use Rattle.back_exits.proofs.Steps.{laid_state}

@@ -8,3 +8,5 @@ pub mod DynamicForms
 pub mod Points
 pub mod Handlers
 pub mod HandlerForms
+pub mod Dynamics
+pub mod TwoWords

@@ -1,31 +1,29 @@
 -- From one point of a form's code to the next, where some registers were set; and a routine that seeks a binding.
-use Rattle.std.proofs.Common.{◌≡◌, ℕ, ◌+◌, ◌*◌, ◌^◌, ◌<◌, ◌≤◌, List, [], ◌∷◌, length, Option, Some, refl, sym, ap, ◌∙◌, subst, arith}
+use Rattle.std.proofs.Common.{◌≡◌, ℕ, ◌+◌, ◌*◌, ◌^◌, ◌<◌, ◌≤◌, List, [], ◌∷◌, length, Some, refl, sym, ap, ◌∙◌, subst, arith}
 use Rattle.std.specs.Prelude.{slice_get, slice_set}
 use Rattle.std.proofs.Math.ListN.{length-set}
 use Rattle.std.specs.Str.{bytes_eq}
 use Rattle.lang_meaning.specs.Lookup.{text, passed}
 use Rattle.lang_meaning.specs.Values.{Value}
-use Rattle.flat_language.specs.FlatState.{FlatState, FlatEvaluated, gives}
+use Rattle.flat_language.specs.FlatState.{FlatEvaluated, gives}
 use Rattle.mid_code.specs.Arena.{word_in}
 use Rattle.mid_code.specs.Law.{Grown}
-use Rattle.mid_code.specs.Meaning.{Context, exec, exec_step}
+use Rattle.mid_code.specs.Meaning.{Context, exec}
 use Rattle.mid_code.specs.MidCode.{MidCode, code_of}
-use Rattle.mid_code.specs.State.{Registers, register, falls, ends, MidState, MidOutcome}
+use Rattle.mid_code.specs.State.{Registers, register, falls, ends, MidState}
 use Rattle.mid_code.specs.State.{charged as mid_charged}
 use Rattle.mid_code.proofs.Growth.{exec_grown, levels_grow, turns_grow}
 use Rattle.mid_arena.specs.Places.{word_of}
 use Rattle.mid_arena.proofs.Registers.{register_here}
-use Rattle.mid_arena.proofs.Running.{RunsTo, step_falls, constant_falls}
+use Rattle.mid_arena.proofs.Running.{step_falls, constant_falls}
 use Rattle.back_lowering.specs.Placement.{dynamic_address}
 use Rattle.back_lowering.specs.Routines.{binding_routine}
 use Rattle.back_lowering.specs.Steps.{Steps, constant, call}
 use Rattle.back_relation.specs.Setting.{Setting}
 use Rattle.back_relation.specs.Placed.{IsPlaced, HasDynamic}
-use Rattle.back_relation.specs.Worlds.{World}
 use Rattle.back_relation.specs.Ends.{done}
 use Rattle.back_relation.specs.Forms.{FormEnds, code_at}
-use Rattle.back_relation.specs.Procedures.{called}
-use Rattle.back_combining.specs.Starts.{FlatGrown, Start, EndsAt, EndsFrom, ReachedFrom}
+use Rattle.back_combining.specs.Starts.{FlatGrown, Start, EndsAt, ReachedFrom}
 use Rattle.back_combining.proofs.Activations.{activation_later}
 use Rattle.back_combining.proofs.Parts.{step_then}
 use Rattle.back_combining.proofs.Starts.{start_after, reached_cost, reached_set, behind}

@@ -1,13 +1,18 @@
 -- What is shown of the forms of dynamic variables, whose parts do what they mean.
-use Rattle.std.specs.Prelude.{⊤, ℕ, List}
+use Rattle.std.specs.Prelude.{⊤, ℕ, ◌+◌, ◌≤◌, List, [], ◌∷◌}
 use Rattle.lang_meaning.specs.State.{DynamicContext}
-use Rattle.flat_language.specs.FlatForm.{FlatForm, dynamic_let, dynamic, with_handler, FlatDynamics, no_dynamic, dynamic_and}
-use Rattle.flat_language.specs.FlatState.{FlatState}
+use Rattle.lang_meaning.specs.Values.{Value}
+use Rattle.flat_language.specs.FlatForm.{FlatForm, dynamic_let, dynamic, with_handler, throw, signal_form, continue_form, FlatDynamics, no_dynamic, dynamic_and}
+use Rattle.flat_language.specs.FlatMeaning.{mean_signal}
+use Rattle.flat_language.specs.FlatSignals.{throw_to, continue_with}
+use Rattle.flat_language.specs.FlatState.{FlatState, FlatEvaluated}
 use Rattle.mid_code.specs.State.{MidState}
+use Rattle.back_lowering.specs.Routines.{throw_routine, continue_routine, signal_routine}
 use Rattle.back_relation.specs.Setting.{Setting}
 use Rattle.back_relation.specs.Placed.{IsPlaced}
 use Rattle.back_relation.specs.Forms.{DoesForm, context_at, code_at}
-use Rattle.back_relation.specs.RoutineClaims.{FailingWithDoes, DomainDoes}
+use Rattle.back_relation.specs.RoutineClaims.{WordIs, FailingWithDoes, DomainDoes}
+use Rattle.back_relation.specs.RoutineClaims.{Does as RoutineDoes}
 use Rattle.back_relation.specs.Worlds.{World, Standing}
 
 -- a form does what it means, wherever it stands
@@ -44,3 +49,31 @@ abbrev pub LawOfHandlers : Type 0
 LawOfHandlers =
     (setting : Setting) (k turns : ℕ) (handler body : FlatForm) → IsPlaced setting → DomainClaims setting k turns → Does setting k turns handler
     → Does setting k turns body → Does setting k turns (with_handler handler body)
+
+-- A routine that is called with the words of two values does what they mean, for so much. A form that calls it has one unit, which pays for the storing
+-- of the site and the call too: so the routine is to cost no more than 228 beside its own units.
+abbrev pub TwoWordsDo : Setting → (k turns credit routine : ℕ) → (Value → Value → DynamicContext → FlatState → FlatEvaluated) → Type 0
+TwoWordsDo setting k turns credit routine act =
+    (rs valid : List Standing) (w : World) (around : DynamicContext) (z : FlatState) (y : MidState) (v x : Value) (word second : ℕ) → WordIs setting w word v
+    → WordIs setting w second x → RoutineDoes setting k turns rs valid w around z y credit routine (word ∷ second ∷ []) (act v x around z)
+
+-- a throw to a tag
+abbrev pub LawOfThrows : Type 0
+LawOfThrows =
+    (setting : Setting) (k turns credit : ℕ) (tag f : FlatForm) → credit + 72 ≤ 300
+    → TwoWordsDo setting k turns credit (throw_routine setting.at) (λ v x around z. throw_to (context_at setting k) v x around z) → Does setting k turns tag
+    → Does setting k turns f → Does setting k turns (throw tag f)
+
+-- a condition is signalled
+abbrev pub LawOfSignals : Type 0
+LawOfSignals =
+    (setting : Setting) (k turns credit : ℕ) (condition mark : FlatForm) → credit + 72 ≤ 300
+    → TwoWordsDo setting k turns credit (signal_routine setting.at) (λ v x around z. mean_signal (context_at setting k) v x around z)
+    → Does setting k turns condition → Does setting k turns mark → Does setting k turns (signal_form condition mark)
+
+-- a signal is continued
+abbrev pub LawOfContinuing : Type 0
+LawOfContinuing =
+    (setting : Setting) (k turns credit : ℕ) (condition f : FlatForm) → credit + 72 ≤ 300
+    → TwoWordsDo setting k turns credit (continue_routine setting.at) (λ v x around z. continue_with (context_at setting k) v x around z)
+    → Does setting k turns condition → Does setting k turns f → Does setting k turns (continue_form condition f)
