@@ -1,0 +1,251 @@
+-- Images of lowered programs, where lowering is right.
+use Rattle.std.proofs.Common.{inl, inr, ◌≡◌, ◌⊎◌, ℕ, suc, ◌+◌, ◌-◌, ◌*◌, ◌^◌, ◌<◌, ◌≤◌, List, [], ◌∷◌, ◌++◌, length, refl, sym, ap, subst, ◌∙◌, arith, append_assoc, Some}
+use Rattle.std.specs.Prelude.{Bool, true, slice_get}
+use Rattle.std.proofs.lemmas.Bool.{cases_lt}
+use Rattle.base.specs.declared.place.Place.{Place}
+use Rattle.lang_meaning.specs.Counts.{bound}
+use Rattle.lang_meaning.specs.Meaning.{ended_value, ended_unhandled, ended_full}
+use Rattle.lang_meaning.specs.Prefixes.{IsPrefix}
+use Rattle.lang_meaning.specs.State.{Limit, words, unlimited}
+use Rattle.lang_meaning.specs.Values.{Value}
+use Rattle.flat_language.specs.FlatMeaning.{flat_meaning}
+use Rattle.flat_unlimited.proofs.Runs.{law_of_unlimited_runs}
+use Rattle.rv_machine.specs.declared.ending.Ending.TheVariants.{Budget, Halt, Unhandled}
+use Rattle.rv_machine.specs.Run.{run_from, run_of}
+use Rattle.mid_code.specs.declared.program.MidProgram.{MidProgram}
+use Rattle.mid_code.specs.Checked.{is_checked_program}
+use Rattle.mid_code.specs.Meaning.{runs}
+use Rattle.mid_code.specs.State as mid
+use Rattle.mid_code.specs.State.{MidState, MidOutcome}
+use Rattle.mid_lines.specs.declared.line.LineProcedure.{LineProcedure}
+use Rattle.mid_lines.specs.declared.line.LineProgram.{LineProgram}
+use Rattle.mid_lines.specs.Flattened.{program_lines}
+use Rattle.mid_lines.specs.LineMeaning.{Stage, ended, begin, after}
+use Rattle.mid_lines.specs.Weights.{weights}
+use Rattle.back_relation.specs.Setting.{Setting}
+use Rattle.back_relation.specs.Worlds.{World}
+use Rattle.back_relation.specs.Program.{ProgramIsRight, ProgramBegins, meant_by, the_meaning, run, code_end, EndsAs as MeansEnd, RunsOutFor, IsReached, RunDoes, LoweringIsRight}
+use Rattle.back_places.specs.declared.place.Place.{Place as WordPlace}
+use Rattle.back_places.specs.Places.{Located}
+use Rattle.back_places.specs.Good.{IsGood}
+use Rattle.back_places.specs.StepLaw.{Known}
+use Rattle.back_runs.specs.Draws.{draws}
+use Rattle.back_runs.specs.Ends.{IsSaid, EndsAs}
+use Rattle.back_runs.specs.ProgramRuns.{DoesAs}
+use Rattle.back_runs.proofs.Doing.{law_of_known_steps}
+use Rattle.back_runs.proofs.Programs.{end_is}
+use Rattle.back_start.specs.Images.{HasStart, IsFirst}
+use Rattle.back_start.specs.Laws.{loaded, ImageRuns}
+use Rattle.back_start.proofs.Images.{law_of_image_runs}
+use Rattle.back_meant.specs.Laws.{with_limits, code_of_setting, entry_of, SerialsLast, HaltsAs, UnhandledAs, EndsWell, HasTurns, LawOfMeantRuns}
+use Rattle.back_meant.proofs.Steps.{steps_are_known}
+use Rattle.back_meant.proofs.Verdicts.{halt_as, unhandled_as, verdict}
+
+-- what stands in front of something empty is empty
+none_in_front : (xs rest : List ℕ) → xs ++ rest ≡ [] → xs ≡ []
+none_in_front [] rest e = refl
+none_in_front (x ∷ xs) rest e = absurd (cc e)
+
+module _ (lowering : LoweringIsRight) (base : Setting) (laid : List ℕ) (l : Located) (known : (number line register : ℕ) → WordPlace → Bool)
+    (right : (limit : Limit) (turns : ℕ) → ProgramIsRight (with_limits base limit turns))
+    (checked : is_checked_program (code_of_setting base laid) ≡ true) (good : IsGood (program_lines (code_of_setting base laid)) l (Known known))
+    (at : ℕ) (image : List ℕ) (arena : ℕ) (input : List ℕ) (w : World) (y : MidState) (p : LineProcedure)
+    (starts : HasStart (program_lines (code_of_setting base laid)) l at (entry_of base) image) (first : IsFirst l image arena input y)
+    (there : slice_get (program_lines (code_of_setting base laid)).procedures (entry_of base) ≡ Some p)
+    (begins : (turns : ℕ) → ProgramBegins (with_limits base unlimited turns) input w y)
+    (serials : SerialsLast (code_of_setting base laid) (entry_of base) y) where
+  abbrev program : MidProgram
+  program = code_of_setting base laid
+
+  abbrev entry : ℕ
+  entry = entry_of base
+
+  abbrev lines : LineProgram
+  lines = program_lines program
+
+  abbrev at_first : Stage
+  at_first = begin entry [] y
+
+  -- the run of the code, whatever words are laid beside it
+  same_run : (limit : Limit) (turns k : ℕ) → runs program k turns entry [] y ≡ run (with_limits base limit turns) k y
+  unfolding runs
+  same_run limit turns k = refl
+
+  image_runs : ImageRuns program l (Known known) at entry image arena input y
+  image_runs = law_of_image_runs program l known checked good at entry image arena input y p starts first there
+
+  -- turns enough for n levels without a limit, and at least n
+  abbrev turns_for : ℕ → ℕ
+  turns_for n = n + (16 * (flat_meaning base.names base.program input n unlimited).units + length y.arena.memory + 1)
+
+  abbrev free : ℕ → Setting
+  free n = with_limits base unlimited (turns_for n)
+
+  does_free : (n : ℕ) → RunDoes (free n) input n y
+  does_free n = lowering (free n) (right unlimited (turns_for n)) input n w y (begins (turns_for n)) (omega arith)
+
+  had_room : (n asked left_then : ℕ) → (the_meaning (free n) input n y).end ≡ ended_full asked left_then → ⊥
+  had_room n = law_of_unlimited_runs base.names base.program input n
+
+  -- lines are not stuck in steps that weigh at most n
+  not_stuck : (n steps : ℕ) (z : MidState) → after lines steps at_first ≡ ended mid.stuck z → weights lines steps at_first ≤ n → ⊥
+  not_stuck n steps z e light =
+      let x = end_is program entry [] y n n (turns_for n) (omega arith) (omega arith) steps mid.stuck z e light in
+      (does_free n).never_stuck refl (ap (λ r. r.end) (sym (same_run unlimited (turns_for n) n)) ∙ x.0)
+
+  not_exhausted : (n : ℕ) → n < 2 ^ 32 → (steps : ℕ) (z : MidState) → after lines (suc steps) at_first ≡ ended mid.exhausted z → draws lines steps at_first < n → ⊥
+  not_exhausted n few steps z e drawn = let last = serials steps z e in omega (arith, few, drawn, last)
+
+  -- 2 and q instructions do what the code does with at least as many levels
+  behind_start : (n q : ℕ) → n ≡ 2 + q → n < 2 ^ 32 → DoesAs (run (free n) n y) (loaded image at arena input) n
+  behind_start n q e few =
+      let stays = law_of_known_steps lines l known y.arena.blocks at_first image_runs.started.moment q
+      (steps_are_known lines at_first q (λ steps z h light. not_stuck n steps z h (omega (arith, light, e))) (λ steps z h drawn. not_exhausted n few steps z h (omega (arith, drawn, e)))) in
+      subst (λ r. DoesAs r (loaded image at arena input) n) (same_run unlimited (turns_for n) n)
+      (subst (λ i. DoesAs (runs program n (turns_for n) entry [] y) (loaded image at arena input) i) (sym e)
+      (image_runs.does q n (turns_for n) (omega (arith, e)) (omega (arith, e)) stays))
+
+  -- in the start nothing is printed
+  in_start : (n : ℕ) → n ≤ 2 → DoesAs (run (free n) n y) (loaded image at arena input) n
+  in_start n few =
+      let s = image_runs.started in
+      let c = s.comes.within n few in
+      let none : s.moment.printed ≡ [] = s.begins.enters.machine.printed ∙ first.printed in
+      let nothing = none_in_front (run_from n (loaded image at arena input)).at.printed c.0 (c.1 ∙ none) in
+      record { prints = ((run (free n) n y).state.printed, ap (λ x. x ++ (run (free n) n y).state.printed) nothing); ends = inl (s.comes.goes_on n few) }
+
+  does : (n : ℕ) → n < 2 ^ 32 → DoesAs (run (free n) n y) (loaded image at arena input) n
+  does n few = elim (cases_lt n 2) [
+    | inl start ↦ in_start n (omega (arith, start))
+    | inr on ↦ behind_start n (n - 2) (omega (arith, on)) few
+  ]
+
+  prefix : (n : ℕ) → n < 2 ^ 32 → IsPrefix (run_of image (4 * at) arena input n).at.printed (flat_meaning base.names base.program input n unlimited).printed
+  prefix n few =
+      let d = does n few in
+      let m = (does_free n).printed (had_room n) in
+      record {
+        rest = d.prints.0 ++ m.rest;
+        is = sym (append_assoc (run_of image (4 * at) arena input n).at.printed d.prints.0 m.rest) ∙ ap (λ x. x ++ m.rest) d.prints.1 ∙ m.is;
+      }
+
+  ends : (n : ℕ) → n < 2 ^ 32
+      → ((run_of image (4 * at) arena input n).ending ≡ Budget) ⊎ ((turns : ℕ) × EndsWell (with_limits base unlimited turns) input n y (run_of image (4 * at) arena input n))
+  ends n few = elim (does n few).ends [
+    | inl b ↦ inl b
+    | inr e ↦ inr (turns_for n, verdict (free n) input n y (does_free n) (had_room n) (run_of image (4 * at) arena input n) (code_end (free n) input n y) refl e (does_free n).ends)
+  ]
+
+  -- within so many words
+  module _ (m k turns n : ℕ) (starts_so : ProgramBegins (with_limits base (words m) turns) input w y) (enough : HasTurns (with_limits base (words m) turns) input k y)
+      (few : (meant_by (with_limits base (words m) turns) input k).state.state.exits ≤ 2 ^ 32) (paid : bound (the_meaning (with_limits base (words m) turns) input k y).units ≤ n) where
+    abbrev within : Setting
+    within = with_limits base (words m) turns
+
+    d : RunDoes within input k y
+    d = lowering within (right (words m) turns) input k w y starts_so enough
+
+    -- code that was said to end so has ended so on the machine
+    in_cost : ((asked left_then : ℕ) → (the_meaning within input k y).end ≡ ended_full asked left_then → ⊥) → IsSaid (code_end within input k y)
+        → IsReached within input k y (code_end within input k y) → EndsAs (code_end within input k y) (run within k y).state (run_of image (4 * at) arena input n)
+    in_cost room said reached =
+        let cost = d.cost reached room in
+        let free_start = starts_so.no_cost in
+        let same = same_run (words m) turns k in
+        subst (λ r. EndsAs r.end r.state (run_of image (4 * at) arena input n)) same
+        (image_runs.in_time n k turns (subst (λ r. IsSaid r.end) (sym same) said)
+        (subst (λ r. r.state.cost ≤ y.cost + n) (sym same) (omega (arith, cost, paid, free_start))))
+
+    -- how code has ended where the program has a value, or a condition that is not handled
+
+    pub record HasHalted (v : Value) : Type 0 where
+      pub word : ℕ
+      pub end : code_end within input k y ≡ mid.halts word
+      pub means : MeansEnd within input k y (mid.halts word) (ended_value v)
+
+    value_ends :
+        (v : Value) (e : mid.End) → code_end within input k y ≡ e
+        → MeansEnd within input k y e (ended_value v) ⊎ RunsOutFor within input k y (words m) e → HasHalted v
+    value_ends v (mid.halts word) c (inl r) = record { word = word; end = c; means = r }
+    value_ends v (mid.halts word) c (inr r) = absurd r
+    value_ends v (mid.unhandled class site word) c (inl r) = absurd r
+    value_ends v (mid.unhandled class site word) c (inr r) = absurd r
+    value_ends v (mid.returns word) c (inl r) = absurd r
+    value_ends v (mid.returns word) c (inr r) = absurd r
+    value_ends v (mid.no_room asked left_then) c (inl r) = absurd r
+    value_ends v (mid.no_room asked left_then) c (inr r) = absurd r
+    value_ends v mid.falls c (inl r) = absurd r
+    value_ends v mid.falls c (inr r) = absurd r
+    value_ends v (mid.cuts i word) c (inl r) = absurd r
+    value_ends v (mid.cuts i word) c (inr r) = absurd r
+    value_ends v mid.no_level c (inl r) = absurd r
+    value_ends v mid.no_level c (inr r) = absurd r
+    value_ends v mid.no_turn c (inl r) = absurd r
+    value_ends v mid.no_turn c (inr r) = absurd r
+    value_ends v mid.exhausted c (inl r) = absurd r
+    value_ends v mid.exhausted c (inr r) = absurd (omega (arith, few, r))
+    value_ends v mid.stuck c (inl r) = absurd r
+    value_ends v mid.stuck c (inr r) = absurd r
+
+    pub record HasNotHandled (v : Value) (place : Place) : Type 0 where
+      pub class : ℕ
+      pub site : ℕ
+      pub word : ℕ
+      pub end : code_end within input k y ≡ mid.unhandled class site word
+      pub means : MeansEnd within input k y (mid.unhandled class site word) (ended_unhandled v place)
+
+    unhandled_ends :
+        (v : Value) (place : Place) (e : mid.End) → code_end within input k y ≡ e
+        → MeansEnd within input k y e (ended_unhandled v place) ⊎ RunsOutFor within input k y (words m) e → HasNotHandled v place
+    unhandled_ends v place (mid.halts word) c (inl r) = absurd r
+    unhandled_ends v place (mid.halts word) c (inr r) = absurd r
+    unhandled_ends v place (mid.unhandled class site word) c (inl r) = record { class = class; site = site; word = word; end = c; means = r }
+    unhandled_ends v place (mid.unhandled class site word) c (inr r) = absurd r
+    unhandled_ends v place (mid.returns word) c (inl r) = absurd r
+    unhandled_ends v place (mid.returns word) c (inr r) = absurd r
+    unhandled_ends v place (mid.no_room asked left_then) c (inl r) = absurd r
+    unhandled_ends v place (mid.no_room asked left_then) c (inr r) = absurd r
+    unhandled_ends v place mid.falls c (inl r) = absurd r
+    unhandled_ends v place mid.falls c (inr r) = absurd r
+    unhandled_ends v place (mid.cuts i word) c (inl r) = absurd r
+    unhandled_ends v place (mid.cuts i word) c (inr r) = absurd r
+    unhandled_ends v place mid.no_level c (inl r) = absurd r
+    unhandled_ends v place mid.no_level c (inr r) = absurd r
+    unhandled_ends v place mid.no_turn c (inl r) = absurd r
+    unhandled_ends v place mid.no_turn c (inr r) = absurd r
+    unhandled_ends v place mid.exhausted c (inl r) = absurd r
+    unhandled_ends v place mid.exhausted c (inr r) = absurd (omega (arith, few, r))
+    unhandled_ends v place mid.stuck c (inl r) = absurd r
+    unhandled_ends v place mid.stuck c (inr r) = absurd r
+
+    of_value :
+        (v : Value) → (the_meaning within input k y).end ≡ ended_value v
+        → (word : ℕ) × ((run_of image (4 * at) arena input n).ending ≡ Halt word) × HaltsAs within input k y (run_of image (4 * at) arena input n) word
+    of_value v h =
+        let x = value_ends v (code_end within input k y) refl
+        (subst (λ g. MeansEnd within input k y (code_end within input k y) g ⊎ RunsOutFor within input k y (words m) (code_end within input k y)) h d.ends) in
+        let room : (asked left_then : ℕ) → (the_meaning within input k y).end ≡ ended_full asked left_then → ⊥ = λ asked left_then e. cc (h, e) in
+        let ended_so = subst (λ e. EndsAs e (run within k y).state (run_of image (4 * at) arena input n)) x.end
+        (in_cost room (subst (λ e. IsSaid e) (sym x.end) tt) (subst (λ e. IsReached within input k y e) (sym x.end) tt)) in
+        (x.word, ended_so.0, halt_as within input k y d room (run_of image (4 * at) arena input n) x.word v h x.end ended_so x.means)
+
+    of_condition :
+        (v : Value) (place : Place) → (the_meaning within input k y).end ≡ ended_unhandled v place
+        → (class : ℕ) × ((run_of image (4 * at) arena input n).ending ≡ Unhandled class) × UnhandledAs within input k y (run_of image (4 * at) arena input n) class
+    of_condition v place h =
+        let x = unhandled_ends v place (code_end within input k y) refl
+        (subst (λ g. MeansEnd within input k y (code_end within input k y) g ⊎ RunsOutFor within input k y (words m) (code_end within input k y)) h d.ends) in
+        let room : (asked left_then : ℕ) → (the_meaning within input k y).end ≡ ended_full asked left_then → ⊥ = λ asked left_then e. cc (h, e) in
+        let ended_so = subst (λ e. EndsAs e (run within k y).state (run_of image (4 * at) arena input n)) x.end
+        (in_cost room (subst (λ e. IsSaid e) (sym x.end) tt) (subst (λ e. IsReached within input k y e) (sym x.end) tt)) in
+        (x.class, ended_so.0, unhandled_as within input k y d room (run_of image (4 * at) arena input n) x.class x.site x.word v place h x.end ended_so x.means)
+
+pub law_of_meant_runs : LawOfMeantRuns
+law_of_meant_runs lowering base laid l known right checked good at image arena input w y p starts first there begins serials = record {
+  prefix = prefix lowering base laid l known right checked good at image arena input w y p starts first there begins serials;
+  ends = ends lowering base laid l known right checked good at image arena input w y p starts first there begins serials;
+  in_time = λ m k turns n starts_so enough few paid. (
+    of_value lowering base laid l known right checked good at image arena input w y p starts first there begins serials m k turns n starts_so enough few paid,
+    of_condition lowering base laid l known right checked good at image arena input w y p starts first there begins serials m k turns n starts_so enough few paid,
+  );
+}
