@@ -12,6 +12,7 @@ pub mod passing;
 pub mod registers;
 pub mod selection;
 pub mod spots;
+pub mod walking;
 pub mod ways;
 
 pub use errors::EmitError;
