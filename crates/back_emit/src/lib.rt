@@ -4,6 +4,7 @@
 pub mod blocks;
 pub mod code_of_lines;
 pub mod errors;
+pub mod finding;
 pub mod laws;
 pub mod lines;
 pub mod operands;
