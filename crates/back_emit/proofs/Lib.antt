@@ -2,3 +2,4 @@ pub mod Passed
 pub mod Short
 pub mod FromSpots
 pub mod WaysOfTrees
+pub mod Walked

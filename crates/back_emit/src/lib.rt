@@ -4,6 +4,7 @@
 pub mod blocks;
 pub mod code_of_lines;
 pub mod errors;
+pub mod finding;
 pub mod laws;
 pub mod lines;
 pub mod operands;
@@ -12,6 +13,7 @@ pub mod passing;
 pub mod registers;
 pub mod selection;
 pub mod spots;
+pub mod walking;
 pub mod ways;
 
 pub use errors::EmitError;
