@@ -1,10 +1,9 @@
 -- Behind a form with a cleanup: where it fell out, and where a transfer landed at its record.
-use Rattle.std.proofs.Common.{◌≡◌, ℕ, ◌+◌, ◌*◌, ◌<◌, ◌≤◌, Bool, true, false, List, [], ◌∷◌, ◌++◌, length, Option, Some, None, refl, sym, ap, ◌∙◌, subst, arith}
+use Rattle.std.proofs.Common.{◌≡◌, ℕ, ◌+◌, ◌<◌, ◌≤◌, Bool, true, false, List, [], ◌∷◌, ◌++◌, length, Option, Some, None, refl, sym, ap, ◌∙◌, arith}
 use Rattle.std.specs.Prelude.{◌%◌, ◌==◌, ◌||◌, if◌then◌else◌, slice_get, slice_set, map}
 use Rattle.std.proofs.Math.ListN.{length-set}
-use Rattle.lang_meaning.specs.State.{Exit}
 use Rattle.flat_language.specs.FlatState.{FlatState, FlatEvaluated}
-use Rattle.mid_code.specs.Arena.{Arena, Block, words_of, record_of, closed_record, stack_from, blocks_from, word_in, word_at, with_word, with_blocks}
+use Rattle.mid_code.specs.Arena.{Arena, Block, words_of, record_of, closed_record, blocks_from, word_in, word_at, with_word, with_blocks}
 use Rattle.mid_code.specs.Meaning.{Context, exec, give_back, run_landing}
 use Rattle.mid_code.specs.MidCode.{code_of}
 use Rattle.mid_code.specs.State.{Registers, register, falls, ends, MidState, MidOutcome, Next, with_arena, jumped, landed}
@@ -25,7 +24,7 @@ use Rattle.back_relation.specs.Placed.{IsPlaced}
 use Rattle.back_relation.specs.Worlds.{World, for_cleanup, Standing, is_cleanup, first_stop}
 use Rattle.back_relation.specs.StackWords.{HasWordAt}
 use Rattle.back_relation.specs.Activation.{NoSlot, RegistersKept, inside_cleanup}
-use Rattle.back_relation.specs.Ends.{ChargedFrom, WorldKept, Transfers}
+use Rattle.back_relation.specs.Ends.{ChargedFrom, Transfers}
 use Rattle.back_relation.specs.Forms.{Begins, code_at}
 use Rattle.back_combining.specs.Starts.{Start, FellFrom, ReachedFrom}
 use Rattle.back_combining.specs.Stores.{stores}
@@ -187,11 +186,11 @@ module _ (setting : Setting) (placed : IsPlaced setting) (k turns : ℕ) (a : St
           handlers_word =
               control_back setting t (record_of record_words) bs blocks (address_inside setting a) aligned high 20 l refl (omega arith) refl
               ∙ control_stays setting t (record_of record_words) bs blocks (address_inside setting a) aligned high 20 (around_at setting a).handlers_cell (omega arith)
-                (back.handlers (around_at setting a).handlers_cell laid.control.handlers_word);
+              (back.handlers (around_at setting a).handlers_cell laid.control.handlers_word);
           bindings_word =
               control_back setting t (record_of record_words) bs blocks (address_inside setting a) aligned high 24 l refl (omega arith) refl
               ∙ control_stays setting t (record_of record_words) bs blocks (address_inside setting a) aligned high 24 (around_at setting a).bindings_cell (omega arith)
-                (back.bindings (around_at setting a).bindings_cell laid.control.bindings_word);
+              (back.bindings (around_at setting a).bindings_cell laid.control.bindings_word);
         }
 
     taken : ChargedFrom a.z a.y r.state y3
@@ -234,7 +233,7 @@ module _ (setting : Setting) (placed : IsPlaced setting) (k turns : ℕ) (a : St
     word_held =
         register_beside (slice_set (slice_set q.registers (a.d + 7) (Some 0)) a.d (Some f.word)) (a.d + 1) a.d (Some 0) (λ e. omega (arith, e))
         ∙ register_here (slice_set q.registers (a.d + 7) (Some 0)) a.d f.word
-          (let wide = wide3 in let first = length-set (slice_set q.registers (a.d + 7) (Some 0)) a.d (Some f.word) in omega (arith, wide, first))
+        (let wide = wide3 in let first = length-set (slice_set q.registers (a.d + 7) (Some 0)) a.d (Some f.word) in omega (arith, wide, first))
 
     pub none_held : register (a.d + 1) g3 ≡ Some 0
     none_held = register_here (slice_set (slice_set q.registers (a.d + 7) (Some 0)) a.d (Some f.word)) (a.d + 1) 0 (let wide = wide3 in omega (arith, wide))
@@ -369,7 +368,7 @@ module _ (setting : Setting) (placed : IsPlaced setting) (k turns : ℕ) (a : St
         closes (record_of record_words) a.y.arena.blocks (λ rs x. mid_go_on (exec c (code_of (landing_steps a.d)) (slice_set rs a.d (Some t.left.transfer.word)) x) (give_back outside)) q.registers q.state blocks_then refl
         ∙ ap (λ p. mid_go_on p (give_back outside)) (parts_then (record_landed (a.d + 1) (a.d + 6)) (landing_loads a.d) (record { same = landed_runs }) loads_run).same
         ∙ gives_back closed a.y.arena.blocks g4
-          (with_arena (with_word link_address t.left.transfer.target.address (stores lands yc.arena)) (mid_charged 8 (mid_charged 8 (mid_charged 8 (with_stores lands 38 yc))))) refl refl
+        (with_arena (with_word link_address t.left.transfer.target.address (stores lands yc.arena)) (mid_charged 8 (mid_charged 8 (mid_charged 8 (with_stores lands 38 yc))))) refl refl
 
     pub during_says : ControlSays (stores all_stores b4) (around_at setting a).current t.left.transfer.target.address (around_at setting a).handlers_cell (around_at setting a).bindings_cell
     during_says =

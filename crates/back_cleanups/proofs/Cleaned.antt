@@ -1,5 +1,5 @@
 -- What a form with a cleanup means, by what the form comes to.
-use Rattle.std.proofs.Common.{◌≡◌, ℕ, ◌≤◌, List, Option, Some, None, refl, sym, ap, ◌∙◌, subst, arith}
+use Rattle.std.proofs.Common.{◌≡◌, ℕ, None, refl, sym, ap, ◌∙◌, subst, arith}
 use Rattle.std.specs.Prelude.{slice_get}
 use Rattle.std.proofs.lemmas.Option.{slice_get-get_or}
 use Rattle.std.proofs.Common.{length, ◌<◌}
@@ -7,7 +7,7 @@ use Rattle.lang_meaning.specs.State.{DynamicContext, Landing, exits_from, Outcom
 use Rattle.lang_meaning.specs.Values.{Value}
 use Rattle.flat_language.specs.FlatForm.{FlatForm}
 use Rattle.flat_language.specs.FlatMeaning.{mean}
-use Rattle.flat_language.specs.FlatState.{FlatEnvironment, FlatState, FlatEvaluated, FlatAct, gives, leaves, go_on, cleaned, cleaned_from}
+use Rattle.flat_language.specs.FlatState.{FlatEnvironment, FlatEvaluated, FlatAct, gives, leaves, go_on, cleaned, cleaned_from}
 use Rattle.mid_code.specs.State.{End, falls, returns, cuts, no_room, no_level, no_turn, halts, unhandled, exhausted, stuck}
 use Rattle.back_relation.specs.Setting.{Setting}
 use Rattle.back_relation.specs.Worlds.{World, Later, LandsIn}

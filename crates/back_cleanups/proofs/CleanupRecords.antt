@@ -1,11 +1,10 @@
 -- The record of a cleanup is laid.
-use Rattle.std.proofs.Common.{◌≡◌, ℕ, ◌+◌, ◌*◌, ◌<◌, ◌≤◌, List, [], ◌∷◌, ◌++◌, length, Some, refl, sym, ap, ◌∙◌, arith}
+use Rattle.std.proofs.Common.{◌≡◌, ℕ, ◌+◌, ◌≤◌, List, [], ◌∷◌, Some, refl, ap, ◌∙◌, arith}
 use Rattle.std.specs.Prelude.{slice_set}
 use Rattle.mid_code.specs.Arena.{left}
 use Rattle.mid_code.specs.Meaning.{Context, exec}
 use Rattle.mid_code.specs.MidCode.{code_of}
 use Rattle.mid_code.specs.State.{Registers, falls, ends, MidState}
-use Rattle.flat_language.specs.FlatState.{FlatState}
 use Rattle.back_lowering.specs.ControlWords.{serials_address, cleanup_kind}
 use Rattle.back_lowering.specs.Records.{record_laid}
 use Rattle.back_relation.specs.Setting.{Setting}
@@ -15,7 +14,6 @@ use Rattle.back_relation.specs.Forms.{code_at}
 use Rattle.back_combining.specs.Starts.{Start}
 use Rattle.back_combining.specs.Stores.{stores}
 use Rattle.back_combining.proofs.Windows.{set_here}
-use Rattle.back_exits.specs.Going.{exits_counted}
 use Rattle.back_exits.specs.Inside.{around_at, arena_inside, address_inside, LaidAt}
 use Rattle.back_exits.specs.RecordSteps.{record_registers}
 use Rattle.back_exits.specs.Touching.{touched, ExitsMade}
@@ -49,8 +47,8 @@ module _ (setting : Setting) (placed : IsPlaced setting) (k turns : ℕ) (a : St
       ap (λ rs. exec c (code_of (record_laid (a.d + 1) (a.d + 6) cleanup_kind)) rs (block_laid setting placed k turns a room win))
       (ap (λ rs. slice_set rs (a.d + 1) (Some at)) win.parts ∙ set_here c win.front a.d win.many _ (a.d + 1) 1 (Some at) refl)
       ∙ record_steps_law.laid c win.front win.tail a.d win.r0 win.r2 win.r3 win.r4 win.r5 win.r6 win.r7 cleanup_kind at (around_at setting a).current (around_at setting a).link
-        (around_at setting a).handlers_cell (around_at setting a).bindings_cell (block_laid setting placed k turns a room win) win.many (lent_control setting a placed room) (lent_record setting a placed room)
-        (says_inside setting a placed room)
+      (around_at setting a).handlers_cell (around_at setting a).bindings_cell (block_laid setting placed k turns a room win) win.many (lent_control setting a placed room) (lent_record setting a placed room)
+      (says_inside setting a placed room)
 
   pub made : ExitsMade a.w a.z a.w.exit_forms a.z.state.exits (stores (pairs at puts) (arena_inside setting a))
   made =

@@ -1,11 +1,11 @@
 -- Outside the record of a cleanup, before, in and behind the cleanup: what was kept since the form began.
-use Rattle.std.proofs.Common.{◌≡◌, ℕ, ◌+◌, ◌*◌, ◌<◌, ◌≤◌, List, [], ◌∷◌, length, Option, Some, None, refl, sym, ap, ◌∙◌, subst, arith}
+use Rattle.std.proofs.Common.{◌≡◌, ℕ, ◌+◌, ◌*◌, ◌<◌, ◌≤◌, List, length, Some, sym, ap, ◌∙◌, subst, arith}
 use Rattle.std.specs.Prelude.{slice_get}
 use Rattle.lang_meaning.specs.declared.scope.ExitForm.{ExitForm}
 use Rattle.lang_meaning.specs.State.{DynamicContext, Exit}
 use Rattle.flat_language.specs.FlatState.{FlatState, FlatEvaluated}
-use Rattle.mid_code.specs.Arena.{begin_of, stack_from, blocks_from, word_in}
-use Rattle.mid_code.specs.State.{Registers, register, MidState, MidOutcome}
+use Rattle.mid_code.specs.Arena.{stack_from, blocks_from, word_in}
+use Rattle.mid_code.specs.State.{Registers, MidState, MidOutcome}
 use Rattle.back_lowering.specs.declared.scope.OwnExit.{OwnExit}
 use Rattle.back_lowering.specs.declared.scope.Reach.TheVariants.{BySearch}
 use Rattle.back_relation.specs.Setting.{Setting}
@@ -22,7 +22,7 @@ use Rattle.back_combining.proofs.Worlds.{Same, stack_same, around_again}
 use Rattle.back_exits.specs.Charging.{TakenCharged, LeftCharged}
 use Rattle.back_exits.specs.Inside.{scope_with, environment_with, around_with, ExitsStand, around_at}
 use Rattle.back_exits.proofs.Inside.{world_both, exits_of, activation_with}
-use Rattle.back_cleanups.proofs.Scopes.{reaching, scope_mapped, searched_exits}
+use Rattle.back_cleanups.proofs.Scopes.{scope_mapped, searched_exits}
 
 -- from a point to a later one in its own activation, with the same blocks
 pub record Came (setting : Setting) (a : Start setting) (credit : ℕ) (w : World) (z : FlatState) (g : Registers) (y : MidState) : Type 0 where

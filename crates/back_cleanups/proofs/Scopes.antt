@@ -1,5 +1,5 @@
 -- The exits that a form with a cleanup may leave by, and its cleanup.
-use Rattle.std.proofs.Common.{◌≡◌, ℕ, zero, suc, ◌+◌, ◌<◌, ◌≤◌, List, [], ◌∷◌, length, map, Option, Some, None, refl, sym, ap, ◌∙◌, subst, arith}
+use Rattle.std.proofs.Common.{◌≡◌, ℕ, zero, suc, List, [], ◌∷◌, length, map, Some, refl, sym, ap, ◌∙◌, subst}
 use Rattle.std.specs.Prelude.{slice_get}
 use Rattle.lang_meaning.specs.declared.scope.ExitForm.{ExitForm}
 use Rattle.lang_meaning.specs.State.{Exit}
@@ -74,13 +74,12 @@ exits_inside setting a {units} {cost} {link} {w} {z} {regs} {y} laid =
           let own = a.begins.scope.exits n m.0 m.1 in
           let x : OwnExit = m.0 in
           subst (λ (u : OwnExit). (e : ℕ) × (slice_get a.env.exits n ≡ Some e) × (register u.serial regs ≡ Some e)
-          × ExitReached u.reach (new ∷ a.rs) a.valid a.around.exits e (register u.record_register regs)) m.2
-          (
+          × ExitReached u.reach (new ∷ a.rs) a.valid a.around.exits e (register u.record_register regs)) m.2 (
             old.0,
             old.1,
             ap word_in (laid.same x.serial own.0.0) ∙ old.2,
             subst (λ r. ExitReached (behind_cleanup x.reach) (new ∷ a.rs) a.valid a.around.exits old.0 r) (sym (ap word_in (laid.same x.record_register own.1.0)))
-              (reached_under_cleanup a.rs a.valid a.around.exits new x.reach old.0 (register x.record_register a.regs) old.3),
+                (reached_under_cleanup a.rs a.valid a.around.exits new x.reach old.0 (register x.record_register a.regs) old.3),
           );
       exit_forms = λ n e f. laid.world.later.exit_forms e (slice_get a.s.exits.own n) (t.exit_forms n e f);
     }

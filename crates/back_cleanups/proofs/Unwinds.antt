@@ -1,18 +1,17 @@
 -- **A form with a cleanup**, in all cases: the cleanup runs once, however the form is left.
-use Rattle.std.proofs.Common.{◌≡◌, ℕ, ◌+◌, ◌*◌, ◌<◌, ◌≤◌, Bool, true, false, List, [], ◌∷◌, ◌++◌, length, Option, Some, None, refl, sym, ap, ◌∙◌, subst, arith}
+use Rattle.std.proofs.Common.{◌≡◌, ℕ, ◌+◌, ◌<◌, ◌≤◌, Bool, true, false, [], ◌∷◌, ◌++◌, length, Some, refl, sym, ap, ◌∙◌, subst, arith}
 use Rattle.std.specs.Prelude.{drop, nat_le, slice_get, slice_set}
 use Rattle.std.proofs.lemmas.Bool.{leb-true, leb-false}
-use Rattle.lang_meaning.specs.State.{DynamicContext, exits_from}
-use Rattle.lang_meaning.specs.Values.{Value}
-use Rattle.flat_language.specs.FlatForm.{FlatForm, unwind}
+use Rattle.lang_meaning.specs.State.{exits_from}
+use Rattle.flat_language.specs.FlatForm.{FlatForm}
 use Rattle.flat_language.specs.FlatMeaning.{mean}
-use Rattle.flat_language.specs.FlatState.{FlatState, FlatEvaluated, charged, gives, leaves, go_on, cleaned}
+use Rattle.flat_language.specs.FlatState.{FlatState, FlatEvaluated, gives, leaves, go_on, cleaned}
 use Rattle.mid_code.specs.Arena.{left, word_in}
 use Rattle.mid_code.specs.Costs.{record_cost}
 use Rattle.mid_code.specs.Law.{Grown}
-use Rattle.mid_code.specs.Meaning.{Context, run_landing, give_back, exec, exec_step}
+use Rattle.mid_code.specs.Meaning.{Context, exec, exec_step}
 use Rattle.mid_code.specs.MidCode.{MidStep, with_block, code_of}
-use Rattle.mid_code.specs.State.{Registers, register, ends, MidState, MidOutcome, Next, jumped, landed}
+use Rattle.mid_code.specs.State.{Registers, register, MidState, MidOutcome, Next, landed}
 use Rattle.mid_code.specs.State.{go_on as mid_go_on}
 use Rattle.mid_code.proofs.Growth.{go_on_grown, landed_grown, same_grown, exec_grown, levels_grow, turns_grow, after_inside_grown, run_landing_grown}
 use Rattle.mid_arena.proofs.Running.{in_two_parts, go_on_twice}
@@ -25,9 +24,9 @@ use Rattle.back_lowering.specs.Steps.{Steps}
 use Rattle.back_relation.specs.Setting.{Setting}
 use Rattle.back_relation.specs.Placed.{IsPlaced}
 use Rattle.back_relation.specs.Room.{routine_words, words_for}
-use Rattle.back_relation.specs.Worlds.{World, LandsIn, for_cleanup, Standing, record_of_exit}
+use Rattle.back_relation.specs.Worlds.{World, LandsIn, for_cleanup, Standing}
 use Rattle.back_relation.specs.Around.{AroundStands}
-use Rattle.back_relation.specs.Activation.{FormScope, NoSlot, inside_cleanup, in_cleanup}
+use Rattle.back_relation.specs.Activation.{NoSlot, inside_cleanup, in_cleanup}
 use Rattle.back_relation.specs.Ends.{AreFew, Transfers, Ends, done, left_by, full_there, stopped, few_turns}
 use Rattle.back_relation.specs.Forms.{Begins, context_at, code_at}
 use Rattle.back_combining.specs.Points.{Point, start_at, value_steps}
@@ -39,7 +38,7 @@ use Rattle.back_combining.proofs.Parts.{go_on_falls, go_on_last, step_then}
 use Rattle.back_combining.proofs.Starts.{start_charged, scope_later}
 use Rattle.back_combining.proofs.Then.{same_world, stopped_last}
 use Rattle.back_combining.proofs.Worlds.{around_again, word_later}
-use Rattle.back_exits.specs.Charging.{FormsKnown, LeftCharged, ChargesBy, ChargesAt, ChargesHere}
+use Rattle.back_exits.specs.Charging.{LeftCharged, ChargesAt, ChargesHere}
 use Rattle.back_exits.specs.Inside.{around_with, around_at, address_inside, record_inside, LaidAt}
 use Rattle.back_exits.proofs.BlockRecords.{no_words, block_laid}
 use Rattle.back_exits.proofs.Charging.{part_then, units_then}
@@ -154,11 +153,11 @@ module _ (setting : Setting) (placed : IsPlaced setting) (m size k : ℕ) (f cle
     step_is =
         record_runs c (a.d + 1) record_words a.d (code_of inside_steps) (code_of (landing_steps a.d)) a.regs a.y room
         ∙ ap (λ q. landed (length a.y.arena.blocks) landing (mid_go_on q (after setting placed k a.turns a laid m begins wide)))
-          (in_two_parts c laying (f_steps ++ behind_form a.d) (slice_set a.regs (a.d + 1) (Some (address_inside setting a))) (block_laid setting placed k a.turns a room win)
-          ∙ ap (λ q. mid_go_on q (λ rs y. exec c (code_of (f_steps ++ behind_form a.d)) rs y)) (lays setting placed k a.turns a room win)
-          ∙ in_two_parts c f_steps (behind_form a.d) point.regs point.y)
+        (in_two_parts c laying (f_steps ++ behind_form a.d) (slice_set a.regs (a.d + 1) (Some (address_inside setting a))) (block_laid setting placed k a.turns a room win)
+        ∙ ap (λ q. mid_go_on q (λ rs y. exec c (code_of (f_steps ++ behind_form a.d)) rs y)) (lays setting placed k a.turns a room win)
+        ∙ in_two_parts c f_steps (behind_form a.d) point.regs point.y)
         ∙ ap (landed (length a.y.arena.blocks) landing)
-          (go_on_twice ran (λ rs y. exec c (code_of (behind_form a.d)) rs y) (after setting placed k a.turns a laid m begins wide))
+        (go_on_twice ran (λ rs y. exec c (code_of (behind_form a.d)) rs y) (after setting placed k a.turns a laid m begins wide))
 
     -- ---- the form fell out
 

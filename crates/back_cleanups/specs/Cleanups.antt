@@ -34,8 +34,8 @@ module _ (setting : Setting) where
       → record_of_exit e around.exits valid ≡ Some target → word_of w.places v ≡ Some word → HasWordAt y landing_address landing_word → LandingIs setting landing_word landing
       → LandsIn (slice_get w.exit_forms e) landing → CallBegins setting rs valid routine_words w around z y
       → Ends setting (Returned setting routine_credit w z y (leaves e v landing z) (called (code_at setting k turns) (transfer_routine setting.at) (target.address ∷ word ∷ []) y))
-        (CallLeftCharged routine_credit rs valid w around z y (leaves e v landing z) (called (code_at setting k turns) (transfer_routine setting.at) (target.address ∷ word ∷ []) y)) turns z y
-        (leaves e v landing z) (called (code_at setting k turns) (transfer_routine setting.at) (target.address ∷ word ∷ []) y)
+      (CallLeftCharged routine_credit rs valid w around z y (leaves e v landing z) (called (code_at setting k turns) (transfer_routine setting.at) (target.address ∷ word ∷ []) y)) turns z y
+      (leaves e v landing z) (called (code_at setting k turns) (transfer_routine setting.at) (target.address ∷ word ∷ []) y)
 
 -- a form with a cleanup, in one scope: own exits may be left by a transfer at most in the form, and by a search in the cleanup
 abbrev pub LawOfUnwinds : Type 0

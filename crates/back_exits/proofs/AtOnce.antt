@@ -1,6 +1,6 @@
 -- `return-from` and `go` to own exits that may be left at once.
-use Rattle.std.proofs.Common.{◌≡◌, ℕ, zero, suc, ◌+◌, ◌*◌, ◌<◌, ◌≤◌, Bool, true, false, List, [], ◌∷◌, ◌++◌, length, Option, Some, None, refl, sym, ap, ◌∙◌, subst, arith}
-use Rattle.std.specs.Prelude.{slice_get, slice_set, nat_lt}
+use Rattle.std.proofs.Common.{◌≡◌, ℕ, zero, suc, ◌+◌, ◌≤◌, true, [], ◌∷◌, ◌++◌, length, Option, Some, None, refl, sym, subst, arith}
+use Rattle.std.specs.Prelude.{slice_get, slice_set}
 use Rattle.std.proofs.lemmas.Bool.{ltb-true}
 use Rattle.std.proofs.Math.ListN.{length-set}
 use Rattle.lang_meaning.specs.declared.scope.ExitForm.{ExitForm}
@@ -12,8 +12,8 @@ use Rattle.lang_meaning.specs.Values.{Value, nil}
 use Rattle.flat_language.specs.declared.place.ExitPlace.TheVariants.{Own}
 use Rattle.flat_language.specs.FlatForm.{FlatForm, return_from, go}
 use Rattle.flat_language.specs.FlatMeaning.{mean}
-use Rattle.flat_language.specs.FlatSignals.{form, signal, transfer}
-use Rattle.flat_language.specs.FlatState.{FlatEnvironment, FlatState, FlatEvaluated, charged, leaves, exit_of}
+use Rattle.flat_language.specs.FlatSignals.{signal, transfer}
+use Rattle.flat_language.specs.FlatState.{FlatState, FlatEvaluated, charged, leaves, exit_of}
 use Rattle.flat_laws.specs.FlatLater.{FlatLater}
 use Rattle.flat_laws.proofs.Applied.{transfers}
 use Rattle.flat_laws.proofs.Combined.{Tasks}
@@ -21,20 +21,17 @@ use Rattle.flat_laws.proofs.Later.{later_kept}
 use Rattle.flat_laws.proofs.Levels.{nothing_below, levels_come}
 use Rattle.mid_code.specs.Meaning.{exec}
 use Rattle.mid_code.specs.MidCode.{cut_to, code_of}
-use Rattle.mid_code.specs.State.{Registers, register, falls, ends, MidState, MidOutcome}
-use Rattle.mid_code.specs.State.{charged as mid_charged, go_on as mid_go_on}
-use Rattle.mid_code.specs.Law.{Grown}
+use Rattle.mid_code.specs.State.{register, falls, ends, MidOutcome}
+use Rattle.mid_code.specs.State.{charged as mid_charged}
 use Rattle.mid_arena.specs.Places.{word_of}
 use Rattle.mid_arena.specs.Tags.{nil_word}
 use Rattle.mid_arena.proofs.Registers.{register_here}
 use Rattle.mid_arena.proofs.Running.{RunsTo, and_then, none_left, constant_falls, in_two_parts, parts_then}
 use Rattle.back_lowering.specs.Codes.{lower, exit_code}
-use Rattle.back_lowering.specs.declared.placement.Placement.{Placement}
 use Rattle.back_lowering.specs.declared.scope.OwnExit.{OwnExit}
-use Rattle.back_lowering.specs.declared.scope.Reach.{Reach}
 use Rattle.back_lowering.specs.declared.scope.Reach.TheVariants.{AtOnce}
 use Rattle.back_lowering.specs.declared.scope.Scope.{Scope}
-use Rattle.back_lowering.specs.Records.{landing_kept, to_own}
+use Rattle.back_lowering.specs.Records.{landing_kept}
 use Rattle.back_lowering.specs.Steps.{Steps, constant}
 use Rattle.back_relation.specs.Setting.{Setting}
 use Rattle.back_relation.specs.Placed.{IsPlaced}
@@ -42,9 +39,9 @@ use Rattle.back_relation.specs.Worlds.{World, LandsIn}
 use Rattle.back_relation.specs.Activation.{FormScope, ExitReached}
 use Rattle.back_relation.specs.Ends.{left_by}
 use Rattle.back_relation.specs.Forms.{below_at, context_at, code_at}
-use Rattle.back_combining.specs.Points.{Point, start_at, run, value_steps}
+use Rattle.back_combining.specs.Points.{Point, start_at}
 use Rattle.back_combining.specs.Starts.{FlatGrown, Start, FellFrom, ReachedFrom}
-use Rattle.back_combining.proofs.FormGrowth.{form_grows, task_later}
+use Rattle.back_combining.proofs.FormGrowth.{form_grows}
 use Rattle.back_combining.proofs.Growth.{grown_later}
 use Rattle.back_combining.proofs.Points.{code_grows}
 use Rattle.back_combining.proofs.Starts.{start_charged, reached_set}

@@ -9,7 +9,7 @@ use Rattle.lang_meaning.specs.Values.{Value}
 use Rattle.flat_language.specs.FlatForm.{FlatForm, block}
 use Rattle.flat_language.specs.FlatMeaning.{mean, charged_for}
 use Rattle.flat_language.specs.FlatMeaning.{with_exit as flat_with_exit}
-use Rattle.flat_language.specs.FlatSignals.{form, inside}
+use Rattle.flat_language.specs.FlatSignals.{inside}
 use Rattle.flat_language.specs.FlatState.{FlatState, FlatEvaluated, gives, exit_made}
 use Rattle.flat_language.specs.FlatState.{landed as flat_landed}
 use Rattle.mid_code.specs.Arena.{left}
@@ -30,7 +30,7 @@ use Rattle.back_relation.specs.Activation.{FormScope, with_exit}
 use Rattle.back_relation.specs.Forms.{Begins, context_at, code_at}
 use Rattle.back_combining.specs.Points.{Point, start_at, value_steps}
 use Rattle.back_combining.specs.Starts.{FlatGrown, Start, FellFrom}
-use Rattle.back_combining.proofs.FormGrowth.{form_grows, task_later}
+use Rattle.back_combining.proofs.FormGrowth.{form_grows}
 use Rattle.back_combining.proofs.Growth.{same_flat}
 use Rattle.back_combining.proofs.Parts.{single_step}
 use Rattle.back_combining.proofs.Windows.{here}

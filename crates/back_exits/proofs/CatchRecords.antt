@@ -1,12 +1,12 @@
 -- The record of a catch: its tag is stored, and it is laid as that of an exit.
-use Rattle.std.proofs.Common.{◌≡◌, ℕ, ◌+◌, ◌*◌, ◌<◌, ◌≤◌, true, false, List, [], ◌∷◌, ◌++◌, length, Option, Some, None, refl, sym, ap, ◌∙◌, subst, arith}
+use Rattle.std.proofs.Common.{◌≡◌, ℕ, ◌+◌, ◌<◌, ◌≤◌, true, false, List, [], ◌∷◌, ◌++◌, Option, Some, None, refl, sym, ap, ◌∙◌, arith}
 use Rattle.std.specs.Prelude.{◌%◌, ◌^◌, ◌-◌, ◌==◌, pos, slice_set}
 use Rattle.lang_meaning.specs.declared.scope.ExitForm.{ExitForm}
 use Rattle.lang_meaning.specs.State.{Exit, catch_exit}
 use Rattle.lang_meaning.specs.Values.{Value}
 use Rattle.flat_language.specs.FlatState.{FlatState}
 use Rattle.mid_code.specs.declared.operation.Operation.TheVariants.{Draw}
-use Rattle.mid_code.specs.Arena.{Arena, is_lent, left, word_at}
+use Rattle.mid_code.specs.Arena.{Arena, left, word_at}
 use Rattle.mid_code.specs.Costs.{record_cost}
 use Rattle.mid_code.specs.Meaning.{Context, exec}
 use Rattle.mid_code.specs.MidCode.{perform, code_of}
@@ -14,7 +14,7 @@ use Rattle.mid_code.specs.State.{Registers, register, falls, exhausted, ends, Mi
 use Rattle.mid_code.specs.State.{charged as mid_charged}
 use Rattle.mid_arena.specs.Places.{word_of}
 use Rattle.mid_arena.proofs.Running.{StepsTo, and_then, and_ends, parts_then}
-use Rattle.back_lowering.specs.ControlWords.{control_address, serials_address, current_address, link_address, handlers_address, bindings_address, catch_kind, record_serial, record_link, record_tag}
+use Rattle.back_lowering.specs.ControlWords.{control_address, serials_address, link_address, catch_kind, record_serial, record_link, record_tag}
 use Rattle.back_lowering.specs.Records.{record_laid, exit_laid}
 use Rattle.back_lowering.specs.Steps.{Steps, store}
 use Rattle.back_relation.specs.Setting.{Setting}
@@ -176,8 +176,7 @@ module _ (setting : Setting) (placed : IsPlaced setting) (k turns : ℕ) (a : St
     pub catch_stands : LaidAt setting a 0 162 (for_exit the_exit) at world_of_catch flat_of_catch laid_registers state_of_catch
     catch_stands =
         laid_stands setting a placed room c a.z (charges_none setting a) 162 (a.y.cost + 36 + 8 + 118) (omega arith) puts refl (a.w.exit_forms ++ None ∷ []) (a.z.state.exits + 1) (a.z.state.exits ∷ a.z.state.made) made
-        (for_exit the_exit) at refl refl refl refl refl refl
-        (
+        (for_exit the_exit) at refl refl refl refl refl refl (
           has 0 a.z.state.exits (omega arith) refl (ap Some a.begins.call.things.serials.2),
           has 12 (around_at setting a).link (omega arith) refl refl,
           record { word = word; of_value = of_value; stands = has 16 word (omega arith) refl refl },

@@ -1,14 +1,13 @@
 -- **A catch**, in all five cases.
-use Rattle.std.proofs.Common.{◌≡◌, ℕ, ◌+◌, ◌*◌, ◌<◌, ◌≤◌, Bool, true, false, List, [], ◌∷◌, ◌++◌, length, Option, Some, None, refl, sym, ap, ◌∙◌, subst, arith}
+use Rattle.std.proofs.Common.{◌≡◌, ℕ, ◌+◌, ◌≤◌, Bool, true, false, [], ◌∷◌, ◌++◌, length, Some, refl, sym, ap, ◌∙◌, subst, arith}
 use Rattle.std.specs.Prelude.{◌^◌, ◌-◌, ◌==◌, drop, nat_le, slice_set}
 use Rattle.std.proofs.lemmas.Bool.{leb-true, leb-false, eq-eqb}
 use Rattle.lang_meaning.specs.State.{DynamicContext, catch_exit}
 use Rattle.lang_meaning.specs.Values.{Value}
-use Rattle.flat_language.specs.FlatForm.{FlatForm, catch_form}
+use Rattle.flat_language.specs.FlatForm.{FlatForm}
 use Rattle.flat_language.specs.FlatMeaning.{mean}
-use Rattle.flat_language.specs.FlatSignals.{form, inside}
+use Rattle.flat_language.specs.FlatSignals.{inside}
 use Rattle.flat_language.specs.FlatState.{FlatEnvironment, FlatState, FlatEvaluated, charged, exit_made, caught, go_on}
-use Rattle.flat_language.specs.FlatState.{landed as flat_landed}
 use Rattle.mid_code.specs.Arena.{left}
 use Rattle.mid_code.specs.Costs.{record_cost}
 use Rattle.mid_code.specs.Meaning.{run_landing, give_back, exec, exec_step}
@@ -31,13 +30,13 @@ use Rattle.back_relation.specs.Forms.{Begins, context_at, code_at}
 use Rattle.back_combining.specs.Points.{Point, start_at, value_steps}
 use Rattle.back_combining.specs.Starts.{FlatGrown, Start, FellFrom}
 use Rattle.back_combining.proofs.Fitting.{registers_front, registers_behind}
-use Rattle.back_combining.proofs.FormGrowth.{form_grows, task_later}
+use Rattle.back_combining.proofs.FormGrowth.{form_grows}
 use Rattle.back_combining.proofs.Growth.{same_flat, both_flat, same_prefix}
 use Rattle.back_combining.proofs.Parts.{single_step}
 use Rattle.back_combining.proofs.Points.{code_grows}
 use Rattle.back_combining.proofs.Starts.{start_charged, scope_later}
 use Rattle.back_exits.specs.Blocks.{LawOfCatches, LawOfWholeCatches}
-use Rattle.back_exits.specs.Charging.{FormsKnown, ChargesAt, ChargesHere}
+use Rattle.back_exits.specs.Charging.{ChargesAt, ChargesHere}
 use Rattle.back_exits.specs.Inside.{around_with, address_inside, record_inside, LaidAt, IsInnermost}
 use Rattle.back_exits.proofs.BlockRecords.{no_words, no_serial}
 use Rattle.back_exits.proofs.Blocks.{gives_there}
@@ -105,7 +104,7 @@ module _ (setting : Setting) (placed : IsPlaced setting) (m size k : ℕ) (body 
     step_is :
         exec_step (code_at setting k a.turns) step a.regs a.y
         ≡ landed (length a.y.arena.blocks) (λ v rs y. run_landing (length a.y.arena.blocks) a.d (λ rs' x. exec (code_at setting k a.turns) (code_of (landing_steps a.d)) rs' x) v rs y)
-          (mid_go_on (exec (code_at setting k a.turns) (code_of inside_steps) set laid_then) (λ rs y. jumped (give_back (length a.y.arena.blocks) rs y)))
+        (mid_go_on (exec (code_at setting k a.turns) (code_of inside_steps) set laid_then) (λ rs y. jumped (give_back (length a.y.arena.blocks) rs y)))
     step_is = record_runs (code_at setting k a.turns) (a.d + 1) record_words a.d (code_of inside_steps) (code_of (landing_steps a.d)) a.regs a.y room
 
     abbrev number : ℕ

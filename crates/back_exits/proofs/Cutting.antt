@@ -1,5 +1,5 @@
 -- A cut to the record of an exit of the activation: what is left behind it.
-use Rattle.std.proofs.Common.{◌≡◌, ◌⊎◌, inl, inr, ℕ, zero, suc, ◌+◌, ◌*◌, ◌<◌, ◌≤◌, Bool, true, false, List, [], ◌∷◌, ◌++◌, length, Option, Some, None, refl, sym, ap, ◌∙◌, subst, arith}
+use Rattle.std.proofs.Common.{◌≡◌, ℕ, suc, ◌+◌, ◌<◌, ◌≤◌, Bool, true, false, List, [], ◌∷◌, ◌++◌, length, Option, Some, refl, sym, ap, ◌∙◌, subst, arith}
 use Rattle.std.specs.Prelude.{◌==◌, ◌&&◌, ◌||◌, if◌then◌else◌, slice_get, slice_set}
 use Rattle.std.proofs.lemmas.Bool.{eqb-true}
 use Rattle.std.proofs.Math.ListN.{length-set}
@@ -7,10 +7,10 @@ use Rattle.lang_meaning.specs.State.{Exit, Landing, at_segment}
 use Rattle.lang_meaning.specs.Values.{Value}
 use Rattle.flat_language.specs.FlatSignals.{search}
 use Rattle.flat_language.specs.FlatState.{FlatState, FlatEvaluated, charged, leaves}
-use Rattle.mid_code.specs.Arena.{Arena, Block, is_open, lent_from, begin_of, words_of, stack_from, outside_of, blocks_from, word_in, word_at, with_blocks}
+use Rattle.mid_code.specs.Arena.{Arena, Block, is_open, lent_from, stack_from, outside_of, blocks_from, with_blocks}
 use Rattle.mid_code.specs.Meaning.{Context, cut, exec}
 use Rattle.mid_code.specs.MidCode.{cut_to, code_of}
-use Rattle.mid_code.specs.State.{Registers, register, cuts, ends, MidState, MidOutcome, with_arena, with_some, with_register}
+use Rattle.mid_code.specs.State.{Registers, register, cuts, ends, MidState, with_arena, with_some, with_register}
 use Rattle.mid_code.specs.State.{charged as mid_charged}
 use Rattle.mid_arena.specs.Places.{word_of}
 use Rattle.mid_arena.specs.Standing.{ArenaStands}
@@ -20,7 +20,7 @@ use Rattle.mid_arena.proofs.Memory.{grows_with_blocks}
 use Rattle.mid_arena.proofs.Growing.{spot_below, spot_stands}
 use Rattle.mid_arena.proofs.Registers.{register_here, register_beside}
 use Rattle.mid_arena.proofs.Running.{StepsTo, RunsTo, and_then, and_ends, constant_falls, store_falls, address_above}
-use Rattle.back_lowering.specs.ControlWords.{control_address, serials_address, landing_address}
+use Rattle.back_lowering.specs.ControlWords.{serials_address, landing_address}
 use Rattle.back_lowering.specs.Records.{landing_kept}
 use Rattle.back_lowering.specs.Steps.{Steps}
 use Rattle.back_relation.specs.Setting.{Setting, control_spot}
@@ -28,15 +28,15 @@ use Rattle.back_relation.specs.Placed.{IsPlaced}
 use Rattle.back_relation.specs.Worlds.{World, LandsIn, Standing, IsIn, is_cleanup, Links, record_of_exit, first_stop}
 use Rattle.back_relation.specs.StackWords.{HasWordAt}
 use Rattle.back_relation.specs.Things.{Things}
-use Rattle.back_relation.specs.Activation.{RegistersKept, ActivationStands}
-use Rattle.back_relation.specs.Ends.{WorldKept, Transfers, Left}
+use Rattle.back_relation.specs.Activation.{ActivationStands}
+use Rattle.back_relation.specs.Ends.{WorldKept}
 use Rattle.back_combining.specs.Cuts.{boxes_cut}
 use Rattle.back_combining.specs.Starts.{Start}
 use Rattle.back_combining.specs.Stores.{stores}
 use Rattle.back_combining.proofs.Activations.{activation_later, SameBelow}
 use Rattle.back_combining.proofs.Straight.{world_units, things_units}
 use Rattle.back_combining.proofs.Windows.{stored_elsewhere}
-use Rattle.back_combining.proofs.Worlds.{Same, later_same}
+use Rattle.back_combining.proofs.Worlds.{Same}
 use Rattle.back_combining.proofs.Cuts.{words_fewer}
 use Rattle.back_exits.specs.Charging.{LeftCharged}
 use Rattle.back_exits.specs.Going.{world_with}
@@ -45,7 +45,7 @@ use Rattle.back_exits.specs.Touching.{Touched, touched, ExitsMade}
 use Rattle.back_exits.proofs.Exits.{found_record}
 use Rattle.back_exits.proofs.Inside.{world_both, method_shallower, exits_of, activation_with}
 use Rattle.back_exits.proofs.Leaving.{AreControls, controls_touch, controls_aligned, controls_differ}
-use Rattle.back_exits.proofs.Puts.{Put, of_control, pairs, control_stands}
+use Rattle.back_exits.proofs.Puts.{of_control, control_stands}
 use Rattle.back_exits.proofs.Touching.{world_touched, stored_from, stack_kept}
 use Rattle.back_exits.proofs.Words.{control_lent, control_there, control_of}
 
