@@ -1,5 +1,5 @@
 -- A form with a site: its activation has a site that is known, and goes on with the one of before.
-use Rattle.std.proofs.Common.{◌≡◌, inr, ℕ, ◌+◌, ◌<◌, ◌≤◌, List, length, Option, Some, refl, sym, ap, ◌∙◌, subst, arith}
+use Rattle.std.proofs.Common.{◌≡◌, inr, ℕ, ◌≤◌, List, refl, ap, ◌∙◌}
 use Rattle.base.specs.declared.place.Place.{Place}
 use Rattle.lang_meaning.specs.Meaning.{place_of_site}
 use Rattle.lang_meaning.specs.State.{DynamicContext}
@@ -8,16 +8,15 @@ use Rattle.flat_language.specs.FlatMeaning.{mean}
 use Rattle.flat_language.specs.FlatState.{FlatEnvironment, FlatState, FlatEvaluated}
 use Rattle.mid_code.specs.declared.operation.Test.{Test}
 use Rattle.mid_code.specs.Arena.{word_in}
-use Rattle.mid_code.specs.State.{Registers, register, MidState, MidOutcome}
+use Rattle.mid_code.specs.State.{Registers, MidState, MidOutcome}
 use Rattle.back_lowering.specs.Codes.{lower}
 use Rattle.back_lowering.specs.declared.scope.SitePlace.{SitePlace}
 use Rattle.back_lowering.specs.declared.scope.SitePlace.TheVariants.{Known, Held}
 use Rattle.back_relation.specs.Setting.{Setting}
 use Rattle.back_relation.specs.Worlds.{World, Standing}
-use Rattle.back_relation.specs.Around.{CallBegins}
-use Rattle.back_relation.specs.Activation.{FormScope, at_site, IsOwn, ScopeStands, RegistersKept, SiteHeld, ActivationStands}
-use Rattle.back_relation.specs.Ends.{Reached, Transfers, Ends, done, left_by, full_there, stopped, few_turns, Fell, Left}
-use Rattle.back_relation.specs.Forms.{Begins, FormEnds, FellJudged, TestEnds, FormStands}
+use Rattle.back_relation.specs.Activation.{FormScope, at_site, IsOwn, RegistersKept, SiteHeld, ActivationStands}
+use Rattle.back_relation.specs.Ends.{Reached, Transfers, Ends, done, left_by, full_there, stopped, few_turns, Left}
+use Rattle.back_relation.specs.Forms.{Begins, FormEnds, TestEnds, FormStands}
 use Rattle.back_value_forms.specs.Sites.{LawOfSites}
 use Rattle.back_value_forms.specs.Wholes.{Does, Judges}
 

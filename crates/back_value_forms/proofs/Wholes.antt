@@ -41,10 +41,10 @@ use Rattle.back_values.proofs.SetVariables.{setting_law}
 use Rattle.back_values.proofs.Variables.{variables_law}
 use Rattle.back_value_forms.specs.Wholes.{PointsKnown, LawOfWholeVariables, LawOfWholeSetting, LawOfWholeBindings, LawOfWholeFunctions, LawOfWholeGlobals, LawOfWholeSettingGlobals, LawOfWholeDefinitions, LawOfWholeJudging}
 
-step_fits : (s : MidStep) (ss : Steps) (size : ℕ) → enough_for (of_code (code_of (s ∷ ss))) ≤ size → enough_for (of_step s) ≤ size
+pub step_fits : (s : MidStep) (ss : Steps) (size : ℕ) → enough_for (of_code (code_of (s ∷ ss))) ≤ size → enough_for (of_step s) ≤ size
 step_fits s ss size h = let l = enough_front (of_step s) (of_code (code_of ss)) in omega (arith, h, l)
 
-rest_fits : (s : MidStep) (ss : Steps) (size : ℕ) → enough_for (of_code (code_of (s ∷ ss))) ≤ size → enough_for (of_code (code_of ss)) ≤ size
+pub rest_fits : (s : MidStep) (ss : Steps) (size : ℕ) → enough_for (of_code (code_of (s ∷ ss))) ≤ size → enough_for (of_code (code_of ss)) ≤ size
 rest_fits s ss size h = let l = enough_behind (of_step s) (of_code (code_of ss)) in omega (arith, h, l)
 
 -- a word that is stored names the register that is used
@@ -83,7 +83,7 @@ module _ (setting : Setting) where
 
 module _ (setting : Setting) (k turns : ℕ) where
   -- a point of its own scope
-  abbrev point :
+  abbrev pub point :
       (rs valid : List Standing) (s : FormScope) (d n : ℕ) (w : World) (env : FlatEnvironment) (around : DynamicContext) (z : FlatState) (regs : Registers) (y : MidState)
       → Begins setting rs valid s d n w env around z regs y → Point setting s d n (length regs)
   point rs valid s d n w env around z regs y begins =

@@ -1,7 +1,7 @@
 // The laws of variables, bindings, global variables and functions, wherever the forms stand, each as the contract of a function that does nothing.
 ghost use Rattle.std.specs.Prelude.{ℕ};
 ghost use Rattle.back_relation.specs.Setting.{Setting};
-ghost use Rattle.back_value_forms.specs.Sites.{LawOfSites};
+ghost use Rattle.back_value_forms.specs.Sites.{LawOfSites, LawOfWholeLiterals};
 ghost use Rattle.back_value_forms.specs.Wholes.{LawOfWholeVariables, LawOfWholeSetting, LawOfWholeBindings, LawOfWholeFunctions, LawOfWholeGlobals, LawOfWholeSettingGlobals, LawOfWholeDefinitions, LawOfWholeJudging};
 
 /// Variables are read.
@@ -47,4 +47,9 @@ pub fn law_whole_judging()
 /// Forms with a site.
 pub fn law_sites()
     ensures { (setting : Setting) (k turns : ℕ) → LawOfSites setting k turns }
+{}
+
+/// All literals.
+pub fn law_whole_literals()
+    ensures { (setting : Setting) (k turns : ℕ) → LawOfWholeLiterals setting k turns }
 {}
