@@ -1,5 +1,5 @@
 -- A function is entered at its body, where there is a level and the words of its application.
-use Rattle.std.proofs.Common.{◌≡◌, ℕ, zero, suc, ◌+◌, ◌*◌, ◌≤◌, Bool, true, List, [], ◌∷◌, ◌++◌, length, Some, None, refl, sym, ap, ◌∙◌, subst, arith}
+use Rattle.std.proofs.Common.{◌≡◌, ℕ, zero, suc, ◌+◌, ◌*◌, Bool, true, List, [], ◌∷◌, ◌++◌, length, Some, None, refl, sym, ap, ◌∙◌, subst, arith}
 use Rattle.std.specs.Prelude.{pos, slice_get, is_some, option_to_list, if◌then◌else◌}
 use Rattle.std.proofs.lemmas.Bool.{eq-eqb}
 use Rattle.std.proofs.lemmas.List.{append-nil}
@@ -22,9 +22,9 @@ use Rattle.mid_code.specs.Costs.{return_cost, entry_cost}
 use Rattle.mid_code.specs.Law.{Grown}
 use Rattle.mid_code.specs.Meaning.{enter as mid_enter, count, exec}
 use Rattle.mid_code.specs.MidCode.{return_word, code_of}
-use Rattle.mid_code.specs.State.{first_registers, MidState, MidOutcome}
+use Rattle.mid_code.specs.State.{first_registers, MidState}
 use Rattle.mid_code.specs.State.{charged as mid_charged}
-use Rattle.mid_code.proofs.Growth.{with_some_grown, count_grown, levels_grow, turns_grow}
+use Rattle.mid_code.proofs.Growth.{both_grown, charged_grown, with_some_grown, count_grown, levels_grow, turns_grow}
 use Rattle.mid_arena.specs.Places.{WordsOf}
 use Rattle.mid_arena.proofs.WordFacts.{low_word_of_word}
 use Rattle.mid_arena.proofs.Running.{and_then, constant_falls}
@@ -36,11 +36,12 @@ use Rattle.back_lowering.specs.Sites.{asks_site}
 use Rattle.back_lowering.specs.Steps.{constant}
 use Rattle.back_relation.specs.Setting.{Setting}
 use Rattle.back_relation.specs.Room.{routine_words, words_for_handler}
+use Rattle.back_relation.specs.Things.{Things}
 use Rattle.back_relation.specs.Worlds.{World, Standing}
 use Rattle.back_relation.specs.Around.{RoomFor, CallBegins, SiteStored}
-use Rattle.back_relation.specs.Ends.{done, left_by, full_there, stopped, few_turns, CallEnds}
+use Rattle.back_relation.specs.Ends.{CallEnds}
 use Rattle.back_relation.specs.Forms.{below_at, context_at, code_at}
-use Rattle.back_relation.specs.Procedures.{called, mean_inside, body_words, ExtraGiven, BodyBegins}
+use Rattle.back_relation.specs.Procedures.{called, mean_inside, body_words, body_credit, ExtraGiven, BodyBegins}
 use Rattle.back_combining.proofs.Growth.{same_flat}
 use Rattle.back_combining.proofs.Straight.{things_units, world_cost, around_cost}
 use Rattle.back_calling.specs.Entering.{Inside}
@@ -48,7 +49,7 @@ use Rattle.back_calling.proofs.Entered.{entered_levels_law, no_level_ends}
 use Rattle.back_calling.proofs.Growing.{tasks_below}
 use Rattle.back_calling.proofs.Inner.{going_on_law, returns_law}
 use Rattle.back_calling.proofs.Numbers.{numbers_law}
-use Rattle.back_applications.specs.Applying.{application_credit, LawOfApplyingBodies, LawOfLevelsThere}
+use Rattle.back_applications.specs.Applying.{LawOfApplyingBodies, LawOfLevelsThere}
 use Rattle.back_applications.proofs.Charging.{asked, things_charged, around_charged, calls_charged, framed_ends, within_asked}
 
 module _ (setting : Setting) where
@@ -138,35 +139,37 @@ module _ (setting : Setting) where
         room_by (words k) h = omega (arith, h, same, homes_count none)
 
   pub applying_bodies_law : LawOfApplyingBodies setting
-  applying_bodies_law zero turns m n entry extra q wrong cs vs ws given rs valid w around z y found function fits none same fewer does b variables extras site =
-      no_level_ends setting turns (body_of_procedure setting.at entry) m (body_of setting.names setting.at setting.program extra q) (ws ++ given) w z y _ found refl refl (same_flat z) b.things
-  applying_bodies_law (suc j) turns m n entry extra q wrong cs vs ws given rs valid w around z y found function fits none same fewer does b variables extras site =
-      subst (λ r. CallEnds setting application_credit m rs valid w around z y r (called (code_at setting (suc j) turns) (body_of_procedure setting.at entry) (ws ++ given) y))
+  applying_bodies_law zero turns m n entry paid credit extra q wrong cs vs ws given rs valid w around z y found function fits none same fewer enough does b things variables extras site =
+      no_level_ends setting turns (body_of_procedure setting.at entry) m (body_of setting.names setting.at setting.program extra q) (ws ++ given) w z y (mid_charged paid y) _ found refl refl
+      (same_flat z) b.things
+  applying_bodies_law (suc j) turns m n entry paid credit extra q wrong cs vs ws given rs valid w around z y found function fits none same fewer enough does b things variables extras site =
+      subst
+      (λ r. CallEnds setting credit m rs valid w around z y r (called (code_at setting (suc j) turns) (body_of_procedure setting.at entry) (ws ++ given) (mid_charged paid y)))
       (sym (level_there j (λ entered. enter (context_at setting (suc j)) wrong q cs None vs around entered) around z ∙ entered_is j m n entry extra q cs vs around wrong z none same))
-      (framed_ends setting (size j m n entry extra q cs vs around) (inner j m n entry extra q cs vs around) (sym (sym b.things.represents.printed))
-      (called_grows (suc j) turns (body_of_procedure setting.at entry) (ws ++ given) y)
+      (framed_ends setting (size j m n entry extra q cs vs around) (inner j m n entry extra q cs vs around) things.represents.printed
+      (both_grown (charged_grown paid y) (called_grows (suc j) turns (body_of_procedure setting.at entry) (ws ++ given) (mid_charged paid y)))
       (λ room. (
         (inside_later j m n entry extra q cs vs around (charged (length vs) (asked (size j m n entry extra q cs vs around) z))).stack,
-        calls_charged setting (length vs) (omega (arith, same, homes_count j m n entry extra q cs vs around none))
-            (going_less fewer
-            (does j refl rs valid turns cs None vs ws given w around (charged (length vs) (asked (size j m n entry extra q cs vs around) z)) y function fits
+        calls_charged setting (length vs) enough
+            (going_on_law setting paid (body_credit q) (body_credit q + paid) setting.turns_each m rs valid w w around (charged (length vs) (asked (size j m n entry extra q cs vs around) z))
+            (charged (length vs) (asked (size j m n entry extra q cs vs around) z)) y (mid_charged paid y) _ _ (world_cost setting paid (things_there room))
+            (around_cost setting (charged (length vs) (asked (size j m n entry extra q cs vs around) z)) y paid (omega arith)) (omega arith) (omega (arith, fewer)) refl
+            (does j refl rs valid turns cs None vs ws given w around (charged (length vs) (asked (size j m n entry extra q cs vs around) z)) (mid_charged paid y) function fits
             (begun j m n entry extra q cs vs around room none same b variables extras site))),
       )))
     where
-      going_less : {c : ℕ} {x : FlatState} {r : FlatEvaluated} {o : MidOutcome} → m ≤ setting.turns_each → CallEnds setting c setting.turns_each rs valid w around x y r o
-          → CallEnds setting c m rs valid w around x y r o
-      going_less few (done u) = done u
-      going_less few (left_by u) = left_by u
-      going_less few (full_there u) = full_there u
-      going_less few (stopped u) = stopped u
-      going_less few (few_turns u) = few_turns (omega (arith, few, u))
+      things_there : has_room setting.limit (z.state.heap + z.state.stack + 0 + size j m n entry extra q cs vs around) ≡ true
+          → Things setting w (charged (length vs) (asked (size j m n entry extra q cs vs around) z)) y
+      things_there room =
+          things_units setting (length vs)
+          (things_charged setting (asked (size j m n entry extra q cs vs around) z) things refl refl refl refl refl (within_asked setting (size j m n entry extra q cs vs around) z room))
 
   -- ---- the routine that does nothing
 
   pub levels_there_law : LawOfLevelsThere setting
   unfolding level_code
   levels_there_law zero turns m rs valid w around z y placed b =
-      no_level_ends setting turns (level_routine setting.at) m (procedure_with Level 0 (level_code setting.at)) [] w z y _ ((numbers_law setting).routine 15 _ placed refl) refl refl (same_flat z)
+      no_level_ends setting turns (level_routine setting.at) m (procedure_with Level 0 (level_code setting.at)) [] w z y y _ ((numbers_law setting).routine 15 _ placed refl) refl refl (same_flat z)
       b.things
   levels_there_law (suc j) turns m rs valid w around z y placed b =
       subst (λ r. CallEnds setting 40 m rs valid w around z y r (called (code_at setting (suc j) turns) (level_routine setting.at) [] y))

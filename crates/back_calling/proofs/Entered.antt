@@ -362,11 +362,11 @@ module _ (setting : Setting) where
 
   -- where there is no level, nothing is said of the frame
   pub no_level_ends :
-      {Done Left : Type 0} (turns number m : ℕ) (p : MidProcedure) (ws : List ℕ) (w : World) (z : FlatState) (y : MidState) (r : FlatEvaluated)
+      {Done Left : Type 0} (turns number m : ℕ) (p : MidProcedure) (ws : List ℕ) (w : World) (z : FlatState) (before y : MidState) (r : FlatEvaluated)
       → slice_get (lowered setting.names setting.at setting.program) number ≡ Some p → p.counted ≡ Level → r.outcome ≡ more → FlatGrown z r.state → Things setting w z y
-      → Ends setting Done Left m z y r (called (code_at setting zero turns) number ws y)
+      → Ends setting Done Left m z before r (called (code_at setting zero turns) number ws y)
   unfolding levels
-  no_level_ends {Done} {Left} turns number m p ws w z y r found counted none grown t =
+  no_level_ends {Done} {Left} turns number m p ws w z before y r found counted none grown t =
       let u = used_at _ setting.procedures number p setting.frames found in
-      subst (λ o. Ends setting Done Left m z y r o) (sym (called_by zero turns number p ws y Level counted u))
+      subst (λ o. Ends setting Done Left m z before r o) (sym (called_by zero turns number p ws y Level counted u))
       (stopped (record { because = none; printed = subst (λ ps. IsPrefix ps r.state.state.printed) (sym t.represents.printed) grown.printed }))
