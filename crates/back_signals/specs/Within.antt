@@ -39,10 +39,10 @@ module _ (setting : Setting) (k turns : ℕ) (rs valid : List Standing) (w : Wor
       → DoesWithin setting k turns rs valid w around z y raise_words spare credit (raise_routine setting.at) (c_word ∷ mark_word ∷ [])
       (signal_under (context_at setting k) around.handlers c mark around z)
 
--- wherever it is
-abbrev pub RaisesWithin : Setting → (k spare credit : ℕ) → Type 0
-RaisesWithin setting k spare credit =
-    (turns : ℕ) (rs valid : List Standing) (w : World) (around : DynamicContext) (z : FlatState) (y : MidState)
+-- wherever it is, with that around
+abbrev pub RaisesWithin : Setting → (k : ℕ) → DynamicContext → (spare credit : ℕ) → Type 0
+RaisesWithin setting k around spare credit =
+    (turns : ℕ) (rs valid : List Standing) (w : World) (z : FlatState) (y : MidState)
     → RaiseWithin setting k turns rs valid w around z y spare credit
 
 -- a condition of a class with one slot, and a domain error: words of the stack for them
