@@ -38,6 +38,7 @@ use Rattle.back_transfers.proofs.Frames.{memory_holds}
 use Rattle.back_transfers.proofs.Entries.{UsedAt, routine_used, routine_registers, laid_frame, routine_enters}
 use Rattle.back_transfers.proofs.Bodies.{world_of, body_begins, body_leaves, laid_site}
 use Rattle.back_transfers.proofs.Leaving.{signal_later}
+use Rattle.back_transfers.proofs.Within.{call_less}
 use Rattle.back_signals.specs.Within.{raise_words, RaisesWithin, FailingWithWithin, DomainWithin}
 use Rattle.back_signals.proofs.Storing.{with_runs, domain_runs}
 use Rattle.back_signals.proofs.Making.{class_there, class_word, condition_comes, printed_more}
@@ -106,7 +107,7 @@ module _ (setting : Setting) (placed : IsPlaced setting) (k t raise_credit : ℕ
         (and_then constant_falls
         (and_ends tt (request_wanting refl wants))))).same
 
-    failing_comes : CallEnds setting 274 (suc t + 0) rs valid w around z y (signal (context_at setting k) class [] around z) q
+    failing_comes : CallEnds setting 274 (suc t + 1) rs valid w around z y (signal (context_at setting k) class [] around z) q
     failing_comes =
         condition_comes setting placed k t raise_credit 274 rs valid w around raises z y begins site class [] [] is tt q
         (printed_more setting k t (code_of (failing_code setting.at)) (Some class ∷ None ∷ None ∷ None ∷ None ∷ []) y)
@@ -149,7 +150,7 @@ module _ (setting : Setting) (placed : IsPlaced setting) (k t raise_credit : ℕ
         (and_then constant_falls
         (and_ends tt (request_wanting refl wants))))).same
 
-    with_comes : CallEnds setting 268 (suc t + 0) rs valid w around z y (signal (context_at setting k) class (v ∷ []) around z) with_q
+    with_comes : CallEnds setting 268 (suc t + 1) rs valid w around z y (signal (context_at setting k) class (v ∷ []) around z) with_q
     with_comes =
         condition_comes setting placed k t raise_credit 268 rs valid w around raises z y begins site class (v ∷ []) (v_word ∷ []) is (of_value, tt) with_q
         (printed_more setting k t (code_of (failing_with_code setting.at)) (Some class ∷ Some v_word ∷ None ∷ None ∷ None ∷ []) y)
@@ -196,7 +197,7 @@ module _ (setting : Setting) (placed : IsPlaced setting) (k t raise_credit : ℕ
     unfolding domain_code
     domain_wants wants = (and_then constant_falls (and_then constant_falls (and_ends tt (request_wanting refl wants)))).same
 
-    domain_comes : CallEnds setting 268 (suc t + 0) rs valid w around z y (signal (context_at setting k) domain_error_class (v ∷ expected_class ∷ []) around z) domain_q
+    domain_comes : CallEnds setting 268 (suc t + 1) rs valid w around z y (signal (context_at setting k) domain_error_class (v ∷ expected_class ∷ []) around z) domain_q
     domain_comes =
         condition_comes setting placed k t raise_credit 268 rs valid w around raises z y begins site domain_error_class (v ∷ expected_class ∷ []) (v_word ∷ expected_there.word ∷ []) error_is
         (of_value, (expected_there.of_value, tt)) domain_q
@@ -208,17 +209,18 @@ module _ (setting : Setting) (placed : IsPlaced setting) (k t raise_credit : ℕ
 pub failing_does : (setting : Setting) → IsPlaced setting → (k raise_credit : ℕ) → raise_credit ≤ 1000 → (around : DynamicContext) → RaisesWithin setting k around 0 raise_credit → FailsWithin setting k around
 unfolding failing_code
 failing_does setting placed k raise_credit low around raises turns rs valid w z y class is site begins =
-    routine_enters setting k (failing_routine setting.at) 1 (failing_code setting.at) used (class ∷ []) refl y turns begins.things.represents.printed
-    (grown_later (signal_later setting k class [] around z)) (let all = memory_holds setting begins.things in omega (arith, all)) begins.room begins.things.within_limit (omega arith) by
+    call_less setting (omega arith) (omega arith)
+    (routine_enters setting k (failing_routine setting.at) 1 (failing_code setting.at) used (class ∷ []) refl y turns begins.things.represents.printed
+    (grown_later (signal_later setting k class [] around z)) (let all = memory_holds setting begins.things in omega (arith, all)) begins.room begins.things.within_limit (omega arith) by)
   where
     used : UsedAt setting.procedures (failing_routine setting.at) (procedure_with Turn 1 (failing_code setting.at))
     used = routine_used setting placed 7 (procedure_with Turn 1 (failing_code setting.at)) refl
 
     by : (t : ℕ) → turns ≡ suc t → used.frame ≤ left y.arena
-        → CallEnds setting 300 (turns + 0) rs valid w around z y (signal (context_at setting k) class [] around z)
+        → CallEnds setting 300 (turns + 1) rs valid w around z y (signal (context_at setting k) class [] around z)
         (leaves y.arena.blocks (exec (code_at setting k t) (code_of (failing_code setting.at)) (routine_registers setting 1 (failing_code setting.at) (class ∷ [])) (laid_frame setting used.frame 1 y)))
     by t same room =
-        subst (λ n. CallEnds setting 300 (n + 0) rs valid w around z y (signal (context_at setting k) class [] around z)
+        subst (λ n. CallEnds setting 300 (n + 1) rs valid w around z y (signal (context_at setting k) class [] around z)
         (leaves y.arena.blocks (exec (code_at setting k t) (code_of (failing_code setting.at)) (routine_registers setting 1 (failing_code setting.at) (class ∷ [])) (laid_frame setting used.frame 1 y)))) (sym same)
         (body_leaves setting placed begins.things used.frame 1 room (omega arith)
         (failing_comes setting placed k t raise_credit low rs valid (world_of setting placed w y) around raises z (laid_frame setting used.frame 1 y)
@@ -238,10 +240,10 @@ failing_with_does setting placed k raise_credit low turns rs valid w around rais
     used = routine_used setting placed 8 (procedure_with Turn 2 (failing_with_code setting.at)) refl
 
     by : (t : ℕ) → turns ≡ suc t → used.frame ≤ left y.arena
-        → CallEnds setting 300 (turns + 0) rs valid w around z y (signal (context_at setting k) class (v ∷ []) around z)
+        → CallEnds setting 300 (turns + 1) rs valid w around z y (signal (context_at setting k) class (v ∷ []) around z)
         (leaves y.arena.blocks (exec (code_at setting k t) (code_of (failing_with_code setting.at)) (routine_registers setting 2 (failing_with_code setting.at) (class ∷ word ∷ [])) (laid_frame setting used.frame 2 y)))
     by t same room =
-        subst (λ n. CallEnds setting 300 (n + 0) rs valid w around z y (signal (context_at setting k) class (v ∷ []) around z)
+        subst (λ n. CallEnds setting 300 (n + 1) rs valid w around z y (signal (context_at setting k) class (v ∷ []) around z)
         (leaves y.arena.blocks (exec (code_at setting k t) (code_of (failing_with_code setting.at)) (routine_registers setting 2 (failing_with_code setting.at) (class ∷ word ∷ [])) (laid_frame setting used.frame 2 y)))) (sym same)
         (body_leaves setting placed begins.things used.frame 2 room (omega arith)
         (with_comes setting placed k t raise_credit low rs valid (world_of setting placed w y) around raises z (laid_frame setting used.frame 2 y)
@@ -262,10 +264,10 @@ domain_does setting placed k raise_credit low turns rs valid w around raises z y
     used = routine_used setting placed 9 (procedure_with Turn 2 (domain_code setting.at)) refl
 
     by : (t : ℕ) → turns ≡ suc t → used.frame ≤ left y.arena
-        → CallEnds setting 300 (turns + 0) rs valid w around z y (signal (context_at setting k) domain_error_class (v ∷ class_value setting.names (tables setting.program) expected ∷ []) around z)
+        → CallEnds setting 300 (turns + 1) rs valid w around z y (signal (context_at setting k) domain_error_class (v ∷ class_value setting.names (tables setting.program) expected ∷ []) around z)
         (leaves y.arena.blocks (exec (code_at setting k t) (code_of (domain_code setting.at)) (routine_registers setting 2 (domain_code setting.at) (word ∷ expected ∷ [])) (laid_frame setting used.frame 2 y)))
     by t same room =
-        subst (λ n. CallEnds setting 300 (n + 0) rs valid w around z y (signal (context_at setting k) domain_error_class (v ∷ class_value setting.names (tables setting.program) expected ∷ []) around z)
+        subst (λ n. CallEnds setting 300 (n + 1) rs valid w around z y (signal (context_at setting k) domain_error_class (v ∷ class_value setting.names (tables setting.program) expected ∷ []) around z)
         (leaves y.arena.blocks (exec (code_at setting k t) (code_of (domain_code setting.at)) (routine_registers setting 2 (domain_code setting.at) (word ∷ expected ∷ [])) (laid_frame setting used.frame 2 y)))) (sym same)
         (body_leaves setting placed begins.things used.frame 2 room (omega arith)
         (domain_comes setting placed k t raise_credit low rs valid (world_of setting placed w y) around raises z (laid_frame setting used.frame 2 y)
