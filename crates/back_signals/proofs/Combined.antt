@@ -1,14 +1,55 @@
 -- The laws of signals, put together.
-use Rattle.back_signals.specs.Law.{LawOfNewConditions, LawOfPending}
+use Rattle.std.proofs.Common.{◌≡◌, ℕ, ◌≤◌, [], arith}
+use Rattle.lang_meaning.specs.State.{DynamicContext}
+use Rattle.back_relation.specs.Setting.{Setting}
+use Rattle.back_relation.specs.Placed.{IsPlaced}
+use Rattle.back_transfers.specs.Within.{FailsWithin, failing_words}
+use Rattle.back_transfers.proofs.Within.{call_less, begins_less}
+use Rattle.back_transfers.proofs.Leaving.{leave_does}
+use Rattle.back_transfers.proofs.Tagged.{throw_does, continue_does}
+use Rattle.back_signals.specs.Within.{RaisesWithin, unhandled_credit, making_words}
+use Rattle.back_signals.proofs.Unhandled.{unhandled_law}
+use Rattle.back_signals.specs.Law.{LawOfNewConditions, LawOfPending, LawOfUnhandledErrors}
 use Rattle.back_signals.proofs.Failing.{failing_does, failing_with_does, domain_does}
 use Rattle.back_signals.proofs.Pending.{pending_does}
 
 pub conditions_law : LawOfNewConditions
 conditions_law setting k credit turns rs valid w around z y placed low raises = record {
-  class_alone = failing_does setting placed k credit low raises turns rs valid w around z y;
-  with_word = failing_with_does setting placed k credit low raises turns rs valid w around z y;
-  domain = domain_does setting placed k credit low raises turns rs valid w around z y;
+  class_alone = failing_does setting placed k credit low around raises turns rs valid w z y;
+  with_word = failing_with_does setting placed k credit low turns rs valid w around raises z y;
+  domain = domain_does setting placed k credit low turns rs valid w around raises z y;
 }
 
 pub pending_law : LawOfPending
-pending_law setting k spare credit turns rs valid w around z y placed few raises = pending_does setting placed k spare credit few raises turns rs valid w around z y
+pending_law setting k spare credit turns rs valid w around z y placed few raises = pending_does setting placed k spare credit few turns rs valid w around raises z y
+
+-- a signal that no handler takes, with so many turns left over
+raises : (setting : Setting) → IsPlaced setting → (k : ℕ) (around : DynamicContext) → around.handlers ≡ [] → (spare : ℕ) → spare ≤ 47 → RaisesWithin setting k around spare unhandled_credit
+raises setting placed k around none spare few turns rs valid w z y c mark c_word mark_word condition of_condition of_mark site begins =
+    call_less setting (omega arith) (omega (arith, few)) (unhandled_law setting k turns rs valid w around z y placed none c mark c_word mark_word condition of_condition of_mark site begins)
+
+pub unhandled_errors_law : LawOfUnhandledErrors
+unhandled_errors_law setting k turns rs valid w around z y placed none = record {
+  failing = λ class is begins.
+      call_less setting (omega arith) (omega arith)
+      (fails turns rs valid w z y class is begins.1 (begins_less setting failing_words (omega arith) begins.0));
+  failing_with = λ class v word is of_value begins.
+      call_less setting (omega arith) (omega arith)
+      (failing_with_does setting placed k unhandled_credit (omega arith) turns rs valid w around signal_here z y class v word of_value is begins.1 (begins_less setting making_words (omega arith) begins.0));
+  domain = λ v expected word known of_value begins.
+      call_less setting (omega arith) (omega arith)
+      (domain_does setting placed k unhandled_credit (omega arith) turns rs valid w around signal_here z y v expected word known of_value begins.1 (begins_less setting making_words (omega arith) begins.0));
+  leave = leave_does setting placed k turns rs valid w around fails z y;
+  throw = λ land. throw_does setting placed k turns rs valid w around fails z y land;
+  continue = λ land. continue_does setting placed k turns rs valid w around fails z y land;
+  pending = λ c condition at begins.
+      call_less setting (omega arith) (omega arith)
+      (pending_does setting placed k 0 unhandled_credit (omega arith) turns rs valid w around (raises setting placed k around none 1 (omega arith)) z y c condition at begins.1
+      (begins_less setting making_words (omega arith) begins.0));
+}
+  where
+    signal_here : RaisesWithin setting k around 0 unhandled_credit
+    signal_here = raises setting placed k around none 0 (omega arith)
+
+    fails : FailsWithin setting k around
+    fails = failing_does setting placed k unhandled_credit (omega arith) around signal_here

@@ -8,4 +8,5 @@ pub mod Making
 pub mod Storing
 pub mod Failing
 pub mod Pending
+pub mod Signalling
 pub mod Combined

@@ -57,7 +57,7 @@ pub printed_more : (setting : Setting) (k t : ℕ) (code : MidCode) (regs : Regi
 printed_more setting k t code regs y =
     exec_grown (code_at setting k t) (levels_grow setting.procedures setting.turns_each k) (turns_grow setting.procedures _ (levels_grow setting.procedures setting.turns_each k) t) code regs y
 
-module _ (setting : Setting) (placed : IsPlaced setting) (k t raise_credit credit : ℕ) (raises : RaisesWithin setting k 0 raise_credit) (rs valid : List Standing) (w : World) (around : DynamicContext) (z : FlatState) (y : MidState)
+module _ (setting : Setting) (placed : IsPlaced setting) (k t raise_credit credit : ℕ) (rs valid : List Standing) (w : World) (around : DynamicContext) (raises : RaisesWithin setting k around 0 raise_credit) (z : FlatState) (y : MidState)
     (begins : CallBegins setting rs valid raise_words w around z y) (site : SiteStored setting around y) (class : ℕ) (vs : List Value) (ws : List ℕ) (is : IsBuiltInCondition class (length vs))
     (are : WordsOf w.places vs ws) where
   open begins use {things}
@@ -75,7 +75,7 @@ module _ (setting : Setting) (placed : IsPlaced setting) (k t raise_credit credi
   class_word = class_there.word
 
   abbrev Comes : MidOutcome → Type 0
-  Comes q = CallEnds setting credit (suc t + 0) rs valid w around z y r q
+  Comes q = CallEnds setting credit (suc t + 1) rs valid w around z y r q
 
   -- the meaning, where the words of the condition are known
   abbrev with_size : (size : ℕ) → Bool → FlatEvaluated
@@ -129,11 +129,11 @@ module _ (setting : Setting) (placed : IsPlaced setting) (k t raise_credit credi
         (regs : Registers) → HoldAll (3 ∷ 4 ∷ []) regs ((y.arena.heap_to + 2) ∷ nil_word ∷ []) → 3 < length regs → cost + 66 + raise_credit ≤ y.cost + 300 * (3 + length vs) + credit
         → Comes (exec cx (code_of (returning setting.at 3 (raise_routine setting.at) (3 ∷ 4 ∷ []))) regs y2)
     raised regs held low few =
-        subst (λ p. CallEnds setting credit (suc t + 0) rs valid w around z y p (exec cx (code_of (returning setting.at 3 (raise_routine setting.at) (3 ∷ 4 ∷ []))) regs y2))
+        subst (λ p. CallEnds setting credit (suc t + 1) rs valid w around z y p (exec cx (code_of (returning setting.at 3 (raise_routine setting.at) (3 ∷ 4 ∷ []))) regs y2))
         (sym (meant ∙ ap (with_size (3 + length vs)) fits))
         (call_behind setting kept around_made {c2 = 66 + raise_credit} (omega (arith, few)) refl (omega arith)
         (returning_comes setting setting.at cx 3 (raise_routine setting.at) (3 ∷ 4 ∷ []) ((y.arena.heap_to + 2) ∷ nil_word ∷ []) regs y2 (raise_used setting placed).there held low (omega arith) begins2.things
-        (raises t rs valid w2 around z2 (charged 52 y2) (object (length z.state.store)) nil (y.arena.heap_to + 2) nil_word condition
+        (raises t rs valid w2 z2 (charged 52 y2) (object (length z.state.store)) nil (y.arena.heap_to + 2) nil_word condition
         (pointer_is setting things class class_word vs ws is class_there.of_value are room (3 + length vs) (3 + length vs + 0)) refl site2 (begins_charged setting 52 begins2))))
 
   -- there is no room in the code
@@ -155,7 +155,7 @@ module _ (setting : Setting) (placed : IsPlaced setting) (k t raise_credit credi
   -- there is none in the meaning
   full_so : (q : MidOutcome) → Grown y q.state → has_room setting.limit (z.state.heap + z.state.stack + (3 + length vs) + 0) ≡ false → Comes q
   full_so q grown none =
-      subst (λ p. CallEnds setting credit (suc t + 0) rs valid w around z y p q) (sym (meant ∙ ap (with_size (3 + length vs)) none))
+      subst (λ p. CallEnds setting credit (suc t + 1) rs valid w around z y p q) (sym (meant ∙ ap (with_size (3 + length vs)) none))
       (full_there (record {
         asked = 3 + length vs + 0;
         left_then = room_left setting.limit (z.state.heap + z.state.stack);

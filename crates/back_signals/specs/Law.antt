@@ -1,5 +1,14 @@
 -- The laws of the routines of signals.
-use Rattle.std.specs.Prelude.{◌≡◌, ℕ, ◌+◌, ◌≤◌, List, []}
+use Rattle.std.specs.Prelude.{◌≡◌, ℕ, ◌+◌, ◌≤◌, true, List, [], ◌∷◌}
+use Rattle.lang_meaning.specs.Classes.{is_condition}
+use Rattle.lang_meaning.specs.Values.{Value, nil}
+use Rattle.flat_language.specs.FlatNodes.{tables}
+use Rattle.flat_language.specs.FlatSignals.{signal, signal_under}
+use Rattle.mid_arena.specs.FixedWords.{pending_address}
+use Rattle.mid_arena.specs.Standing.{ValueAt}
+use Rattle.back_lowering.specs.Routines.{pending_routine, failing_routine, failing_with_routine}
+use Rattle.back_relation.specs.Forms.{context_at}
+use Rattle.back_relation.specs.RoutineClaims.{WordIs, Does, DomainDoes, LeaveDoes, ThrowDoes, ContinueDoes, routine_credit}
 use Rattle.lang_meaning.specs.State.{DynamicContext}
 use Rattle.flat_language.specs.FlatState.{FlatState}
 use Rattle.mid_code.specs.State.{MidState}
@@ -7,7 +16,7 @@ use Rattle.back_relation.specs.Setting.{Setting}
 use Rattle.back_relation.specs.Placed.{IsPlaced}
 use Rattle.back_relation.specs.Worlds.{World, Standing}
 use Rattle.back_signals.specs.Within.{RaiseWithin, RaisesWithin, FailingWithWithin, DomainWithin, PendingWithin, unhandled_credit, unhandled_spare}
-use Rattle.back_transfers.specs.Within.{FailingWithin}
+use Rattle.back_transfers.specs.Within.{FailingWithin, IsBuiltInCondition, TagsLand}
 
 -- a condition for which there is no handler ends the program, at the site
 abbrev pub LawOfUnhandled : Type 0
@@ -25,10 +34,31 @@ pub record NewConditions (setting : Setting) (k turns : ℕ) (rs valid : List St
 abbrev pub LawOfNewConditions : Type 0
 LawOfNewConditions =
     (setting : Setting) (k credit turns : ℕ) (rs valid : List Standing) (w : World) (around : DynamicContext) (z : FlatState) (y : MidState) → IsPlaced setting → credit ≤ 1000
-    → RaisesWithin setting k 0 credit → NewConditions setting k turns rs valid w around z y
+    → RaisesWithin setting k around 0 credit → NewConditions setting k turns rs valid w around z y
 
 -- the condition that a primitive made costs 106 more than its signal, and a turn
 abbrev pub LawOfPending : Type 0
 LawOfPending =
     (setting : Setting) (k spare credit turns : ℕ) (rs valid : List Standing) (w : World) (around : DynamicContext) (z : FlatState) (y : MidState) → IsPlaced setting → spare ≤ 55
-    → RaisesWithin setting k (spare + 1) credit → PendingWithin setting k turns rs valid w around z y spare (credit + 106)
+    → RaisesWithin setting k around (spare + 1) credit → PendingWithin setting k turns rs valid w around z y spare (credit + 106)
+
+-- **what goes wrong where there is no handler**: so do the routines as forms call them
+pub record UnhandledErrors (setting : Setting) (k turns : ℕ) (rs valid : List Standing) (w : World) (around : DynamicContext) (z : FlatState) (y : MidState) : Type 0 where
+  pub failing :
+      (class : ℕ) → IsBuiltInCondition class 0
+      → Does setting k turns rs valid w around z y routine_credit (failing_routine setting.at) (class ∷ []) (signal (context_at setting k) class [] around z)
+  pub failing_with :
+      (class : ℕ) (v : Value) (word : ℕ) → IsBuiltInCondition class 1 → WordIs setting w word v
+      → Does setting k turns rs valid w around z y routine_credit (failing_with_routine setting.at) (class ∷ word ∷ []) (signal (context_at setting k) class (v ∷ []) around z)
+  pub domain : DomainDoes setting k turns rs valid w around z y
+  pub leave : LeaveDoes setting k turns rs valid w around z y
+  pub throw : TagsLand w rs → ThrowDoes setting k turns rs valid w around z y
+  pub continue : TagsLand w rs → ContinueDoes setting k turns rs valid w around z y
+  pub pending :
+      (c : Value) → is_condition (tables setting.program) z.state c ≡ true → ValueAt w.places y.arena pending_address c
+      → Does setting k turns rs valid w around z y (unhandled_credit + 106) (pending_routine setting.at) [] (signal_under (context_at setting k) around.handlers c nil around z)
+
+abbrev pub LawOfUnhandledErrors : Type 0
+LawOfUnhandledErrors =
+    (setting : Setting) (k turns : ℕ) (rs valid : List Standing) (w : World) (around : DynamicContext) (z : FlatState) (y : MidState) → IsPlaced setting
+    → around.handlers ≡ [] → UnhandledErrors setting k turns rs valid w around z y

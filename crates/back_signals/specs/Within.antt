@@ -5,13 +5,14 @@ use Rattle.lang_meaning.specs.Classes.{is_condition}
 use Rattle.lang_meaning.specs.Objects.{built_in_classes}
 use Rattle.lang_meaning.specs.State.{DynamicContext}
 use Rattle.lang_meaning.specs.Values.{Value, nil}
+use Rattle.flat_language.specs.FlatMeaning.{mean_signal}
 use Rattle.flat_language.specs.FlatNodes.{tables}
 use Rattle.flat_language.specs.FlatSignals.{signal, signal_domain_error, signal_under}
 use Rattle.flat_language.specs.FlatState.{FlatState}
 use Rattle.mid_code.specs.State.{MidState}
 use Rattle.mid_arena.specs.FixedWords.{pending_address}
 use Rattle.mid_arena.specs.Standing.{ValueAt}
-use Rattle.back_lowering.specs.Routines.{raise_routine, pending_routine, failing_with_routine, domain_routine}
+use Rattle.back_lowering.specs.Routines.{raise_routine, signal_routine, pending_routine, failing_with_routine, domain_routine}
 use Rattle.back_relation.specs.Setting.{Setting}
 use Rattle.back_relation.specs.Worlds.{World, Standing}
 use Rattle.back_relation.specs.Around.{SiteStored}
@@ -39,27 +40,31 @@ module _ (setting : Setting) (k turns : ℕ) (rs valid : List Standing) (w : Wor
       → DoesWithin setting k turns rs valid w around z y raise_words spare credit (raise_routine setting.at) (c_word ∷ mark_word ∷ [])
       (signal_under (context_at setting k) around.handlers c mark around z)
 
--- wherever it is
-abbrev pub RaisesWithin : Setting → (k spare credit : ℕ) → Type 0
-RaisesWithin setting k spare credit =
-    (turns : ℕ) (rs valid : List Standing) (w : World) (around : DynamicContext) (z : FlatState) (y : MidState)
+-- wherever it is, with that around
+abbrev pub RaisesWithin : Setting → (k : ℕ) → DynamicContext → (spare credit : ℕ) → Type 0
+RaisesWithin setting k around spare credit =
+    (turns : ℕ) (rs valid : List Standing) (w : World) (z : FlatState) (y : MidState)
     → RaiseWithin setting k turns rs valid w around z y spare credit
 
 -- a condition of a class with one slot, and a domain error: words of the stack for them
 abbrev pub making_words : ℕ
 making_words = 32
 
+-- and for a value that may be no condition
+abbrev pub signal_words : ℕ
+signal_words = 38
+
 module _ (setting : Setting) (k turns : ℕ) (rs valid : List Standing) (w : World) (around : DynamicContext) (z : FlatState) (y : MidState) where
   abbrev pub FailingWithWithin : Type 0
   FailingWithWithin =
       (class : ℕ) (v : Value) (word : ℕ) → WordIs setting w word v → IsBuiltInCondition class 1 → SiteStored setting around y
-      → DoesWithin setting k turns rs valid w around z y making_words 0 routine_credit (failing_with_routine setting.at) (class ∷ word ∷ [])
+      → DoesWithin setting k turns rs valid w around z y making_words 1 routine_credit (failing_with_routine setting.at) (class ∷ word ∷ [])
       (signal (context_at setting k) class (v ∷ []) around z)
 
   abbrev pub DomainWithin : Type 0
   DomainWithin =
       (v : Value) (expected word : ℕ) → expected < built_in_classes → WordIs setting w word v → SiteStored setting around y
-      → DoesWithin setting k turns rs valid w around z y making_words 0 routine_credit (domain_routine setting.at) (word ∷ expected ∷ [])
+      → DoesWithin setting k turns rs valid w around z y making_words 1 routine_credit (domain_routine setting.at) (word ∷ expected ∷ [])
       (signal_domain_error (context_at setting k) (signal (context_at setting k)) v expected around z)
 
   -- the condition that a primitive made
@@ -68,3 +73,10 @@ module _ (setting : Setting) (k turns : ℕ) (rs valid : List Standing) (w : Wor
       (c : Value) → is_condition (tables setting.program) z.state c ≡ true → ValueAt w.places y.arena pending_address c → SiteStored setting around y
       → DoesWithin setting k turns rs valid w around z y making_words spare credit (pending_routine setting.at) []
       (signal_under (context_at setting k) around.handlers c nil around z)
+
+  -- a value, which is signalled if it is a condition
+  abbrev pub SignalWithin : (credit : ℕ) → Type 0
+  SignalWithin credit =
+      (c mark : Value) (c_word mark_word : ℕ) → WordIs setting w c_word c → WordIs setting w mark_word mark → SiteStored setting around y
+      → DoesWithin setting k turns rs valid w around z y signal_words 0 credit (signal_routine setting.at) (c_word ∷ mark_word ∷ [])
+      (mean_signal (context_at setting k) c mark around z)

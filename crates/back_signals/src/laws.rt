@@ -1,5 +1,5 @@
 // The laws of signals, each as the contract of a function that does nothing.
-ghost use Rattle.back_signals.specs.Law.{LawOfUnhandled, LawOfNewConditions, LawOfPending};
+ghost use Rattle.back_signals.specs.Law.{LawOfUnhandled, LawOfNewConditions, LawOfPending, LawOfUnhandledErrors};
 
 /// A condition for which there is no handler.
 pub fn law_unhandled()
@@ -14,4 +14,9 @@ pub fn law_conditions()
 /// The condition that a primitive made.
 pub fn law_pending()
     ensures { LawOfPending }
+{}
+
+/// What goes wrong where there is no handler.
+pub fn law_unhandled_errors()
+    ensures { LawOfUnhandledErrors }
 {}

@@ -145,7 +145,7 @@ is_tagged_signal c end_exit e = absurd (cc e)
 
 -- ---- the body
 
-module _ (setting : Setting) (placed : IsPlaced setting) (k t : ℕ) (fails : FailsWithin setting k) (rs valid : List Standing) (w : World) (around : DynamicContext) (z : FlatState) (y : MidState)
+module _ (setting : Setting) (placed : IsPlaced setting) (k t : ℕ) (rs valid : List Standing) (w : World) (around : DynamicContext) (fails : FailsWithin setting k around) (z : FlatState) (y : MidState)
     (begins : CallBegins setting rs valid failing_words w around z y) (site : SiteStored setting around y) (kind tag word : ℕ) (v : Value) (of_value : WordIs setting w word v) where
   open begins use {things, around_stands}
 
@@ -230,7 +230,7 @@ module _ (setting : Setting) (placed : IsPlaced setting) (k t : ℕ) (fails : Fa
 
 -- ---- throw
 
-module _ (setting : Setting) (placed : IsPlaced setting) (k t : ℕ) (fails : FailsWithin setting k) (rs valid : List Standing) (w : World) (around : DynamicContext) (z : FlatState) (y : MidState)
+module _ (setting : Setting) (placed : IsPlaced setting) (k t : ℕ) (rs valid : List Standing) (w : World) (around : DynamicContext) (fails : FailsWithin setting k around) (z : FlatState) (y : MidState)
     (begins : CallBegins setting rs valid failing_words w around z y) (site : SiteStored setting around y) (land : TagsLand w rs) (tag v : Value) (tag_word word : ℕ) (of_tag : WordIs setting w tag_word tag)
     (of_value : WordIs setting w word v) where
   abbrev failing_steps : Steps
@@ -243,7 +243,7 @@ module _ (setting : Setting) (placed : IsPlaced setting) (k t : ℕ) (fails : Fa
   context = code_at setting k t
 
   -- where the search is done
-  module _ (kind : ℕ) (p : Exit → Bool) (walked : Walked setting placed k t fails rs valid w around z y begins site kind tag_word word v of_value p) where
+  module _ (kind : ℕ) (p : Exit → Bool) (walked : Walked setting placed k t rs valid w around fails z y begins site kind tag_word word v of_value p) where
     abbrev registers_then : Registers
     registers_then = tag_registers tag_word word walked.at walked.last4 walked.last5 walked.last6
 
@@ -261,35 +261,35 @@ module _ (setting : Setting) (placed : IsPlaced setting) (k t : ℕ) (fails : Fa
   abbrev ThrowEnds : Type 0
   ThrowEnds =
       CallEnds setting 268 (suc t + 0) rs valid w around z y thrown
-      (exec context (code_of (throw_code setting.at)) (registers_first setting placed k t fails rs valid w around z y begins site catch_kind tag_word word v of_value) y)
+      (exec context (code_of (throw_code setting.at)) (registers_first setting placed k t rs valid w around fails z y begins site catch_kind tag_word word v of_value) y)
 
   abbrev throw_choice : Steps
   throw_choice = if_equal 3 2 failing_steps found_steps ∷ []
 
-  throw_sought : (walked : Walked setting placed k t fails rs valid w around z y begins site catch_kind tag_word word v of_value is_catch_of)
+  throw_sought : (walked : Walked setting placed k t rs valid w around fails z y begins site catch_kind tag_word word v of_value is_catch_of)
       → TagSought is_catch_of rs z.state.exits around.exits valid walked.passed walked.at → ThrowEnds
   unfolding throw_code
   throw_sought walked (found x target is less at_is stands role there finds) =
       let here = second_alone context (test_of Equal 3 2) (code_of failing_steps) (code_of found_steps) (registers_then catch_kind is_catch_of walked) (y_walked catch_kind is_catch_of walked) refl refl
-      (not_zero setting placed k t fails rs valid w around z y begins site catch_kind tag_word word v of_value walked.at target stands at_is)
-      (found_last setting placed k t fails rs valid w around z y begins site catch_kind tag_word word v of_value walked.passed (walked.total + 12) walked.at walked.last4 walked.last5 walked.last6 x target at_is) in
+      (not_zero setting placed k t rs valid w around fails z y begins site catch_kind tag_word word v of_value walked.at target stands at_is)
+      (found_last setting placed k t rs valid w around fails z y begins site catch_kind tag_word word v of_value walked.passed (walked.total + 12) walked.at walked.last4 walked.last5 walked.last6 x target at_is) in
       subst (λ q. CallEnds setting 268 (suc t + 0) rs valid w around z y thrown q)
-      (sym (runs setting placed k t fails rs valid w around z y begins site catch_kind tag_word word v of_value is_catch_of walked throw_choice here))
+      (sym (runs setting placed k t rs valid w around fails z y begins site catch_kind tag_word word v of_value is_catch_of walked throw_choice here))
       (subst
       (λ p. CallEnds setting 268 (suc t + 0) rs valid w around z y p (exec context (code_of found_steps) (registers_then catch_kind is_catch_of walked) (record y { cost = walked.total + 12 })))
       (sym (finds (λ x. flat_leaves x.number v (at_segment 0)) (signal (context_at setting k) control_error_class [] around) z))
-      (found_comes setting placed k t fails rs valid w around z y begins site catch_kind tag_word word v of_value walked.passed (walked.total + 12) walked.at walked.last4 walked.last5 walked.last6 x target at_is
+      (found_comes setting placed k t rs valid w around fails z y begins site catch_kind tag_word word v of_value walked.passed (walked.total + 12) walked.at walked.last4 walked.last5 walked.last6 x target at_is
       (let within = walked.within in omega (arith, within)) there (land x target stands role (is_tagged_catch tag x.kind is))))
   throw_sought walked (missing none count misses) =
       let here = first_alone context (test_of Equal 3 2) (code_of failing_steps) (code_of found_steps) (registers_then catch_kind is_catch_of walked) (y_walked catch_kind is_catch_of walked) refl refl
       (eq-eqb walked.at 0 none)
       (signals_last setting placed k t 6 control_error_class (registers_then catch_kind is_catch_of walked) (record y { cost = walked.total + 12 }) (omega arith)) in
       subst (λ q. CallEnds setting 268 (suc t + 0) rs valid w around z y thrown q)
-      (sym (runs setting placed k t fails rs valid w around z y begins site catch_kind tag_word word v of_value is_catch_of walked throw_choice here))
+      (sym (runs setting placed k t rs valid w around fails z y begins site catch_kind tag_word word v of_value is_catch_of walked throw_choice here))
       (subst
       (λ p. CallEnds setting 268 (suc t + 0) rs valid w around z y p (exec context (code_of failing_steps) (registers_then catch_kind is_catch_of walked) (record y { cost = walked.total + 12 })))
       (sym (misses (λ x. flat_leaves x.number v (at_segment 0)) (signal (context_at setting k) control_error_class [] around) z))
-      (fails_comes setting placed k t fails rs valid w around z y begins site catch_kind tag_word word v of_value (length around.exits) (walked.total + 12) (registers_then catch_kind is_catch_of walked)
+      (fails_comes setting placed k t rs valid w around fails z y begins site catch_kind tag_word word v of_value (length around.exits) (walked.total + 12) (registers_then catch_kind is_catch_of walked)
       (omega arith) (omega (arith, count)) (let within = walked.within in omega (arith, within, count))))
 
   -- ---- to the signal of a condition, where the tag is the condition
@@ -303,7 +303,7 @@ module _ (setting : Setting) (placed : IsPlaced setting) (k t : ℕ) (fails : Fa
   abbrev ContinueEnds : Type 0
   ContinueEnds =
       CallEnds setting 268 (suc t + 0) rs valid w around z y continued
-      (exec context (code_of (continue_code setting.at)) (registers_first setting placed k t fails rs valid w around z y begins site signal_kind tag_word word v of_value) y)
+      (exec context (code_of (continue_code setting.at)) (registers_first setting placed k t rs valid w around fails z y begins site signal_kind tag_word word v of_value) y)
 
   abbrev mark_steps : Steps
   mark_steps = load 4 3 record_mark ∷ constant 5 nil_word ∷ if_equal 4 5 failing_steps found_steps ∷ []
@@ -311,7 +311,7 @@ module _ (setting : Setting) (placed : IsPlaced setting) (k t : ℕ) (fails : Fa
   abbrev continue_choice : Steps
   continue_choice = if_equal 3 2 failing_steps mark_steps ∷ []
 
-  module _ (walked : Walked setting placed k t fails rs valid w around z y begins site signal_kind tag_word word v of_value is_signal_of) where
+  module _ (walked : Walked setting placed k t rs valid w around fails z y begins site signal_kind tag_word word v of_value is_signal_of) where
     abbrev signal_then : Registers
     signal_then = registers_then signal_kind is_signal_of walked
 
@@ -351,13 +351,13 @@ module _ (setting : Setting) (placed : IsPlaced setting) (k t : ℕ) (fails : Fa
       chosen : (b : Bool) → is_continuable x.kind ≡ b → MarkChosen b
       chosen true e =
           let other : (mark.word == nil_word) ≡ false = mark.tells ∙ ap not e in
-          let last = found_last setting placed k t fails rs valid w around z y begins site signal_kind tag_word word v of_value walked.passed (walked.total + 12 + 8 + 6 + 12) walked.at (Some mark.word) (Some nil_word) walked.last6 x target at_is in
+          let last = found_last setting placed k t rs valid w around fails z y begins site signal_kind tag_word word v of_value walked.passed (walked.total + 12 + 8 + 6 + 12) walked.at (Some mark.word) (Some nil_word) walked.last6 x target at_is in
           let here = mark_runs (second_alone context (test_of Equal 4 5) (code_of failing_steps) (code_of found_steps) marked (record y { cost = walked.total + 12 + 8 + 6 }) refl refl other last) in
           record {
             last = subst (λ (q : MidOutcome). IsLast q.end) (sym here) last;
             comes =
                 subst (λ q. CallEnds setting 268 (suc t + 0) rs valid w around z y (Chosen true) q) (sym here)
-                (found_comes setting placed k t fails rs valid w around z y begins site signal_kind tag_word word v of_value walked.passed (walked.total + 12 + 8 + 6 + 12) walked.at (Some mark.word) (Some nil_word) walked.last6 x target at_is
+                (found_comes setting placed k t rs valid w around fails z y begins site signal_kind tag_word word v of_value walked.passed (walked.total + 12 + 8 + 6 + 12) walked.at (Some mark.word) (Some nil_word) walked.last6 x target at_is
                 (let within = walked.within in omega (arith, within)) there (land x target stands role (is_tagged_signal tag x.kind is)));
           }
       chosen false e =
@@ -368,7 +368,7 @@ module _ (setting : Setting) (placed : IsPlaced setting) (k t : ℕ) (fails : Fa
             last = subst (λ (q : MidOutcome). IsLast q.end) (sym here) last;
             comes =
                 subst (λ q. CallEnds setting 268 (suc t + 0) rs valid w around z y (Chosen false) q) (sym here)
-                (fails_comes setting placed k t fails rs valid w around z y begins site signal_kind tag_word word v of_value (walked.passed + 1) (walked.total + 12 + 8 + 6 + 12) marked (omega arith) (omega arith)
+                (fails_comes setting placed k t rs valid w around fails z y begins site signal_kind tag_word word v of_value (walked.passed + 1) (walked.total + 12 + 8 + 6 + 12) marked (omega arith) (omega arith)
                 (let within = walked.within in omega (arith, within)));
           }
 
@@ -377,9 +377,9 @@ module _ (setting : Setting) (placed : IsPlaced setting) (k t : ℕ) (fails : Fa
       continue_found =
           let by_mark = chosen (is_continuable x.kind) refl in
           let here = second_alone context (test_of Equal 3 2) (code_of failing_steps) (code_of mark_steps) signal_then (record y { cost = walked.total }) refl refl
-          (not_zero setting placed k t fails rs valid w around z y begins site signal_kind tag_word word v of_value walked.at target stands at_is) by_mark.last in
+          (not_zero setting placed k t rs valid w around fails z y begins site signal_kind tag_word word v of_value walked.at target stands at_is) by_mark.last in
           subst (λ q. CallEnds setting 268 (suc t + 0) rs valid w around z y continued q)
-          (sym (runs setting placed k t fails rs valid w around z y begins site signal_kind tag_word word v of_value is_signal_of walked continue_choice here))
+          (sym (runs setting placed k t rs valid w around fails z y begins site signal_kind tag_word word v of_value is_signal_of walked continue_choice here))
           (subst (λ p. CallEnds setting 268 (suc t + 0) rs valid w around z y p (exec context (code_of mark_steps) signal_then (record y { cost = walked.total + 12 })))
           (sym (finds (λ x n. if is_continuable x.kind then flat_leaves x.number v (at_segment 0) n else signal (context_at setting k) control_error_class [] around n)
           (signal (context_at setting k) control_error_class [] around) z))
@@ -392,12 +392,12 @@ module _ (setting : Setting) (placed : IsPlaced setting) (k t : ℕ) (fails : Fa
         (eq-eqb walked.at 0 none)
         (signals_last setting placed k t 6 control_error_class signal_then (record y { cost = walked.total + 12 }) (omega arith)) in
         subst (λ q. CallEnds setting 268 (suc t + 0) rs valid w around z y continued q)
-        (sym (runs setting placed k t fails rs valid w around z y begins site signal_kind tag_word word v of_value is_signal_of walked continue_choice here))
+        (sym (runs setting placed k t rs valid w around fails z y begins site signal_kind tag_word word v of_value is_signal_of walked continue_choice here))
         (subst
         (λ p. CallEnds setting 268 (suc t + 0) rs valid w around z y p (exec context (code_of failing_steps) signal_then (record y { cost = walked.total + 12 })))
         (sym (misses (λ x n. if is_continuable x.kind then flat_leaves x.number v (at_segment 0) n else signal (context_at setting k) control_error_class [] around n)
         (signal (context_at setting k) control_error_class [] around) z))
-        (fails_comes setting placed k t fails rs valid w around z y begins site signal_kind tag_word word v of_value (length around.exits) (walked.total + 12) signal_then
+        (fails_comes setting placed k t rs valid w around fails z y begins site signal_kind tag_word word v of_value (length around.exits) (walked.total + 12) signal_then
         (omega arith) (omega (arith, count)) (let within = walked.within in omega (arith, within, count))))
 
     continue_sought : TagSought is_signal_of rs z.state.exits around.exits valid walked.passed walked.at → ContinueEnds
@@ -406,7 +406,7 @@ module _ (setting : Setting) (placed : IsPlaced setting) (k t : ℕ) (fails : Fa
 
   continue_comes : ContinueEnds
   continue_comes =
-      by (searched setting placed k t fails rs valid w around z y begins site signal_kind tag_word word v of_value is_signal_of
+      by (searched setting placed k t rs valid w around fails z y begins site signal_kind tag_word word v of_value is_signal_of
       (λ x u stands role. signal_tells setting begins.things tag tag_word of_tag x u (begins.around_stands.records u stands) role))
     where
       grows : (b : Bool) (x : Exit) (n : FlatState)
@@ -414,7 +414,7 @@ module _ (setting : Setting) (placed : IsPlaced setting) (k t : ℕ) (fails : Fa
       grows true x n = omega arith
       grows false x n = (grown_later (signal_later setting k control_error_class [] around n)).units
 
-      by : Walked setting placed k t fails rs valid w around z y begins site signal_kind tag_word word v of_value is_signal_of ⊎ IsLong is_signal_of around.exits t → ContinueEnds
+      by : Walked setting placed k t rs valid w around fails z y begins site signal_kind tag_word word v of_value is_signal_of ⊎ IsLong is_signal_of around.exits t → ContinueEnds
       by (inl walked) = continue_sought walked walked.sought
       by (inr long) =
           let charges = long (λ x n. if is_continuable x.kind then flat_leaves x.number v (at_segment 0) n else signal (context_at setting k) control_error_class [] around n)
@@ -424,10 +424,10 @@ module _ (setting : Setting) (placed : IsPlaced setting) (k t : ℕ) (fails : Fa
 
   throw_comes : ThrowEnds
   throw_comes =
-      by (searched setting placed k t fails rs valid w around z y begins site catch_kind tag_word word v of_value is_catch_of
+      by (searched setting placed k t rs valid w around fails z y begins site catch_kind tag_word word v of_value is_catch_of
       (λ x u stands role. catch_tells setting begins.things tag tag_word of_tag x u (begins.around_stands.records u stands) role))
     where
-      by : Walked setting placed k t fails rs valid w around z y begins site catch_kind tag_word word v of_value is_catch_of ⊎ IsLong is_catch_of around.exits t → ThrowEnds
+      by : Walked setting placed k t rs valid w around fails z y begins site catch_kind tag_word word v of_value is_catch_of ⊎ IsLong is_catch_of around.exits t → ThrowEnds
       by (inl walked) = throw_sought walked walked.sought
       by (inr long) =
           let charges = long (λ x. flat_leaves x.number v (at_segment 0)) (signal (context_at setting k) control_error_class [] around) (λ x y. omega arith)
@@ -436,10 +436,10 @@ module _ (setting : Setting) (placed : IsPlaced setting) (k t : ℕ) (fails : Fa
 
 -- **the routine that leaves to a catch**
 pub throw_does :
-    (setting : Setting) → IsPlaced setting → (k turns : ℕ) → FailsWithin setting k → (rs valid : List Standing) (w : World) (around : DynamicContext) (z : FlatState) (y : MidState) → TagsLand w rs
+    (setting : Setting) → IsPlaced setting → (k turns : ℕ) → (rs valid : List Standing) (w : World) (around : DynamicContext) → FailsWithin setting k around → (z : FlatState) (y : MidState) → TagsLand w rs
     → ThrowDoes setting k turns rs valid w around z y
 unfolding throw_code
-throw_does setting placed k turns fails rs valid w around z y land tag v tag_word word of_tag of_value begins =
+throw_does setting placed k turns rs valid w around fails z y land tag v tag_word word of_tag of_value begins =
     call_less setting (omega arith) (omega arith)
     (routine_enters setting k (throw_routine setting.at) 2 (throw_code setting.at) used (tag_word ∷ word ∷ []) refl y turns begins.0.things.represents.printed
     (grown_later (throws {R = FlatLater} {k = later_kept} (context_at setting k) (tasks_below setting k) tag v around z).grows)
@@ -455,16 +455,16 @@ throw_does setting placed k turns fails rs valid w around z y land tag v tag_wor
         subst (λ n. CallEnds setting 300 (n + 0) rs valid w around z y (throw_to (context_at setting k) tag v around z)
         (leaves y.arena.blocks (exec (code_at setting k t) (code_of (throw_code setting.at)) (routine_registers setting 2 (throw_code setting.at) (tag_word ∷ word ∷ [])) (laid_frame setting used.frame 2 y)))) (sym same)
         (body_leaves setting placed begins.0.things used.frame 2 room (omega arith)
-        (throw_comes setting placed k t fails rs valid (world_of setting placed w y) around z (laid_frame setting used.frame 2 y)
+        (throw_comes setting placed k t rs valid (world_of setting placed w y) around fails z (laid_frame setting used.frame 2 y)
         (body_begins setting placed begins.0.things used.frame 2 room failing_words (let few = used.fewer in omega (arith, few)) begins.0)
         (laid_site setting placed begins.0.things used.frame 2 room around begins.1) land tag v tag_word word of_tag of_value))
 
 -- **the routine that leaves to the signal of a condition**
 pub continue_does :
-    (setting : Setting) → IsPlaced setting → (k turns : ℕ) → FailsWithin setting k → (rs valid : List Standing) (w : World) (around : DynamicContext) (z : FlatState) (y : MidState) → TagsLand w rs
+    (setting : Setting) → IsPlaced setting → (k turns : ℕ) → (rs valid : List Standing) (w : World) (around : DynamicContext) → FailsWithin setting k around → (z : FlatState) (y : MidState) → TagsLand w rs
     → ContinueDoes setting k turns rs valid w around z y
 unfolding continue_code
-continue_does setting placed k turns fails rs valid w around z y land tag v tag_word word of_tag of_value begins =
+continue_does setting placed k turns rs valid w around fails z y land tag v tag_word word of_tag of_value begins =
     call_less setting (omega arith) (omega arith)
     (routine_enters setting k (continue_routine setting.at) 2 (continue_code setting.at) used (tag_word ∷ word ∷ []) refl y turns begins.0.things.represents.printed
     (grown_later (continues {R = FlatLater} {k = later_kept} (context_at setting k) (tasks_below setting k) tag v around z).grows)
@@ -480,6 +480,6 @@ continue_does setting placed k turns fails rs valid w around z y land tag v tag_
         subst (λ n. CallEnds setting 300 (n + 0) rs valid w around z y (continue_with (context_at setting k) tag v around z)
         (leaves y.arena.blocks (exec (code_at setting k t) (code_of (continue_code setting.at)) (routine_registers setting 2 (continue_code setting.at) (tag_word ∷ word ∷ [])) (laid_frame setting used.frame 2 y)))) (sym same)
         (body_leaves setting placed begins.0.things used.frame 2 room (omega arith)
-        (continue_comes setting placed k t fails rs valid (world_of setting placed w y) around z (laid_frame setting used.frame 2 y)
+        (continue_comes setting placed k t rs valid (world_of setting placed w y) around fails z (laid_frame setting used.frame 2 y)
         (body_begins setting placed begins.0.things used.frame 2 room failing_words (let few = used.fewer in omega (arith, few)) begins.0)
         (laid_site setting placed begins.0.things used.frame 2 room around begins.1) land tag v tag_word word of_tag of_value))

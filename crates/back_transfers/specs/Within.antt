@@ -61,10 +61,10 @@ module _ (setting : Setting) (k turns : ℕ) (rs valid : List Standing) (w : Wor
       (class : ℕ) → IsBuiltInCondition class 0 → SiteStored setting around y
       → DoesWithin setting k turns rs valid w around z y failing_words 0 routine_credit (failing_routine setting.at) (class ∷ []) (signal (context_at setting k) class [] around z)
 
--- wherever it is
-abbrev pub FailsWithin : Setting → (k : ℕ) → Type 0
-FailsWithin setting k =
-    (turns : ℕ) (rs valid : List Standing) (w : World) (around : DynamicContext) (z : FlatState) (y : MidState) → FailingWithin setting k turns rs valid w around z y
+-- wherever it is, with that around
+abbrev pub FailsWithin : Setting → (k : ℕ) → DynamicContext → Type 0
+FailsWithin setting k around =
+    (turns : ℕ) (rs valid : List Standing) (w : World) (z : FlatState) (y : MidState) → FailingWithin setting k turns rs valid w around z y
 
 -- the exits of catches and of signals, which transfers leave to by a tag
 abbrev pub IsTagged : ExitKind → Type 0
