@@ -1,17 +1,15 @@
 -- **A primitive is judged**, where a form branches on what it says: one case a primitive.
-use Rattle.std.proofs.Common.{◌≡◌, true, false, ℕ, ◌+◌, ◌*◌, ◌<◌, ◌≤◌, ℤ, Bool, List, [], ◌∷◌, ◌++◌, length, Some, refl, sym, ap, ◌∙◌, subst, arith}
-use Rattle.std.specs.Prelude.{slice_set, ◌==◌, ◌%◌, not, is_some, int_lt, int_le, if◌then◌else◌}
+use Rattle.std.proofs.Common.{◌≡◌, true, false, ℕ, ◌+◌, ◌<◌, ◌≤◌, ℤ, Bool, List, [], ◌∷◌, ◌++◌, length, Some, refl, sym, ap, ◌∙◌, subst, arith}
+use Rattle.std.specs.Prelude.{slice_set, ◌==◌, ◌%◌, not, is_some, int_lt, int_le}
 use Rattle.std.proofs.Math.ListN.{length-set}
 use Rattle.lang_meaning.specs.Arity.{arity}
 use Rattle.lang_meaning.specs.Classes.{fetch}
 use Rattle.lang_meaning.specs.declared.primitive.Primitive.{Primitive}
 use Rattle.lang_meaning.specs.declared.primitive.Primitive.TheVariants.{NumberEqual, NumberNotEqual, NumberLess, NumberAtMost, NumberGreater, NumberAtLeast, Same, IsNull, IsCons, IsInteger}
-use Rattle.lang_meaning.specs.Objects.{cons}
-use Rattle.lang_meaning.specs.Primitives.{Answer, result, as_cons, as_integer, primitive}
+use Rattle.lang_meaning.specs.Primitives.{result, as_cons, as_integer, primitive}
 use Rattle.lang_meaning.specs.Values.{Value, integer, nil, truth, same, is_true, in_range, int_equal}
 use Rattle.flat_language.specs.FlatForm.{FlatForm, FlatForms, no_form, form_and}
 use Rattle.flat_language.specs.FlatNodes.{tables, count_forms}
-use Rattle.flat_language.specs.FlatSignals.{answered}
 use Rattle.flat_language.specs.FlatState.{FlatEvaluated, gives}
 use Rattle.mid_code.specs.declared.operation.Arithmetic.TheVariants as how
 use Rattle.mid_code.specs.declared.operation.Comparison.{Comparison}
@@ -29,12 +27,12 @@ use Rattle.mid_arena.proofs.Running.{RunsTo, and_then, none_left, costing, const
 use Rattle.mid_arena.proofs.Sameness.{same_value_same_word}
 use Rattle.mid_arena.proofs.Telling.{IntegerTold, integer_found, no_integer, integer_told, ConsTold, cons_found, no_cons, cons_told, nil_told}
 use Rattle.mid_arena.proofs.WordFacts.{integers_compare_equal, integers_compare_different, integers_compare_less, integers_compare_at_least, integers_compare_at_most, not_below}
-use Rattle.back_lowering.specs.Primitives.{where_integers, asked_integers, by_procedure, apply_primitive, Judged, comparison_judged, judge_primitive}
+use Rattle.back_lowering.specs.Primitives.{asked_integers, apply_primitive, comparison_judged, judge_primitive}
 use Rattle.back_lowering.specs.Registers.{of_code, enough_for}
 use Rattle.back_lowering.specs.Steps.{Steps, constant, compute, test_of, if_true}
 use Rattle.back_relation.specs.Setting.{Setting}
-use Rattle.back_relation.specs.Forms.{Begins, TestEnds, judged_credit, code_at}
-use Rattle.back_combining.specs.Starts.{Start, EndsAt}
+use Rattle.back_relation.specs.Forms.{TestEnds, judged_credit, code_at}
+use Rattle.back_combining.specs.Starts.{Start}
 use Rattle.back_combining.proofs.Starts.{reached_same}
 use Rattle.back_combining.proofs.Fitting.{registers_front, registers_behind}
 use Rattle.back_primitives.specs.Applying.{Applies, primitive_credit, answer_meant, TestAt, NamesThere, JudgesAnswer, LawOfJudgedPrimitives}
