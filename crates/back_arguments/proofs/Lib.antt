@@ -1,0 +1,5 @@
+pub mod WordLists
+pub mod Lowering
+pub mod Arguments
+pub mod FirstRegisters
+pub mod Lists
