@@ -102,27 +102,27 @@ module _ (setting : Setting) (k : ℕ) (a : Start setting) where
       → StepsAnswer setting k a which vs (apply_primitive setting.at setting.program.literals which fs (count_forms fs) a.d a.s.code.site)
 
   -- what is done of two arguments, and of one
-  with_two :
-      (which : Primitive) → arity which ≡ 2
+  pub with_two :
+      (Code : FlatForms → List Value → Type 0) (which : Primitive) → arity which ≡ 2
       → ((v1 v2 : Value) (w1 w2 : ℕ) (f1 f2 : FlatForm) → Applies setting k a which (v1 ∷ v2 ∷ []) (w1 ∷ w2 ∷ [])
-      → KnownWords setting.at setting.program.literals (form_and f1 (form_and f2 no_form)) (w1 ∷ w2 ∷ []) → Code which (form_and f1 (form_and f2 no_form)) (v1 ∷ v2 ∷ []))
+      → KnownWords setting.at setting.program.literals (form_and f1 (form_and f2 no_form)) (w1 ∷ w2 ∷ []) → Code (form_and f1 (form_and f2 no_form)) (v1 ∷ v2 ∷ []))
       → (fs : FlatForms) (vs : List Value) (ws : List ℕ) → Applies setting k a which vs ws → KnownWords setting.at setting.program.literals fs ws → count_forms fs ≡ arity which
-      → Code which fs vs
-  with_two which two does fs vs ws g known count =
+      → Code fs vs
+  with_two Code which two does fs vs ws g known count =
       by vs ws fs (as_two vs (g.many ∙ two)) (as_two ws (as_many_words a.w.places vs ws g.of_values ∙ g.many ∙ two)) (as_two_forms fs (count ∙ two)) g known
     where
       by : (vs : List Value) (ws : List ℕ) (fs : FlatForms) → TwoItems vs → TwoItems ws → TwoForms fs → Applies setting k a which vs ws
-          → KnownWords setting.at setting.program.literals fs ws → Code which fs vs
+          → KnownWords setting.at setting.program.literals fs ws → Code fs vs
       by vs ws fs (two_items v1 v2) (two_items w1 w2) (two_forms f1 f2) g known = does v1 v2 w1 w2 f1 f2 g known
 
-  with_one :
-      (which : Primitive) → arity which ≡ 1
-      → ((v : Value) (w : ℕ) (f : FlatForm) → Applies setting k a which (v ∷ []) (w ∷ []) → Code which (form_and f no_form) (v ∷ []))
-      → (fs : FlatForms) (vs : List Value) (ws : List ℕ) → Applies setting k a which vs ws → count_forms fs ≡ arity which → Code which fs vs
-  with_one which one does fs vs ws g count =
+  pub with_one :
+      (Code : FlatForms → List Value → Type 0) (which : Primitive) → arity which ≡ 1
+      → ((v : Value) (w : ℕ) (f : FlatForm) → Applies setting k a which (v ∷ []) (w ∷ []) → Code (form_and f no_form) (v ∷ []))
+      → (fs : FlatForms) (vs : List Value) (ws : List ℕ) → Applies setting k a which vs ws → count_forms fs ≡ arity which → Code fs vs
+  with_one Code which one does fs vs ws g count =
       by vs ws fs (as_one vs (g.many ∙ one)) (as_one ws (as_many_words a.w.places vs ws g.of_values ∙ g.many ∙ one)) (as_one_form fs (count ∙ one)) g
     where
-      by : (vs : List Value) (ws : List ℕ) (fs : FlatForms) → OneItem vs → OneItem ws → OneForm fs → Applies setting k a which vs ws → Code which fs vs
+      by : (vs : List Value) (ws : List ℕ) (fs : FlatForms) → OneItem vs → OneItem ws → OneForm fs → Applies setting k a which vs ws → Code fs vs
       by vs ws fs (one_item v) (one_item w) (one_form f) g = does v w f g
 
   -- the slow way is paid behind the question whether both are integers
@@ -135,71 +135,71 @@ module _ (setting : Setting) (k : ℕ) (a : Start setting) where
       subst (λ n. NamesThere a (by_procedure setting.at which n a.d a.s.code.site) → StepsAnswer setting k a which vs (by_procedure setting.at which n a.d a.s.code.site))
       (as_many_words a.w.places vs ws g.of_values ∙ g.many ∙ sym count) (procedures_law setting k a which vs ws g)
 
-  applied :
+  pub applied :
       (which : Primitive) (fs : FlatForms) (vs : List Value) (ws : List ℕ) → Applies setting k a which vs ws → KnownWords setting.at setting.program.literals fs ws
       → count_forms fs ≡ arity which → Code which fs vs
   applied Add fs vs ws g known count =
-      with_two Add refl (λ v1 v2 w1 w2 f1 f2 g known enough.
+      with_two (Code Add) Add refl (λ v1 v2 w1 w2 f1 f2 g known enough.
       integers_end setting k a Add v1 v2 w1 w2 f1 f2 g known {c1 = 854} _ (sums_do setting k a v1 v2 w1 w2 f1 f2 known g) (omega arith) (omega arith) (paid_behind Add refl refl) enough)
       fs vs ws g known count
   applied Subtract fs vs ws g known count =
-      with_two Subtract refl (λ v1 v2 w1 w2 f1 f2 g known enough.
+      with_two (Code Subtract) Subtract refl (λ v1 v2 w1 w2 f1 f2 g known enough.
       integers_end setting k a Subtract v1 v2 w1 w2 f1 f2 g known {c1 = 854} _ (differences_do setting k a v1 v2 w1 w2 f1 f2 known g) (omega arith) (omega arith)
       (paid_behind Subtract refl refl) enough)
       fs vs ws g known count
   applied NumberEqual fs vs ws g known count =
-      with_two NumberEqual refl (λ v1 v2 w1 w2 f1 f2 g known enough.
+      with_two (Code NumberEqual) NumberEqual refl (λ v1 v2 w1 w2 f1 f2 g known enough.
       integers_end setting k a NumberEqual v1 v2 w1 w2 f1 f2 g known {c1 = 854} _
       (compared_quick setting k a NumberEqual v1 v2 w1 w2 f1 f2 g known Equal a.d (a.d + 1) (λ x y. x) (λ x y. y) int_equal (λ regs e f. (e, f)) integers_compare_equal (λ i j. refl) (omega arith))
       (omega arith) (omega arith) (paid_behind NumberEqual refl refl) enough)
       fs vs ws g known count
   applied NumberNotEqual fs vs ws g known count =
-      with_two NumberNotEqual refl (λ v1 v2 w1 w2 f1 f2 g known enough.
+      with_two (Code NumberNotEqual) NumberNotEqual refl (λ v1 v2 w1 w2 f1 f2 g known enough.
       integers_end setting k a NumberNotEqual v1 v2 w1 w2 f1 f2 g known {c1 = 854} _
       (compared_quick setting k a NumberNotEqual v1 v2 w1 w2 f1 f2 g known Different a.d (a.d + 1) (λ x y. x) (λ x y. y) (λ i j. not (int_equal i j)) (λ regs e f. (e, f))
       integers_compare_different (λ i j. refl) (omega arith))
       (omega arith) (omega arith) (paid_behind NumberNotEqual refl refl) enough)
       fs vs ws g known count
   applied NumberLess fs vs ws g known count =
-      with_two NumberLess refl (λ v1 v2 w1 w2 f1 f2 g known enough.
+      with_two (Code NumberLess) NumberLess refl (λ v1 v2 w1 w2 f1 f2 g known enough.
       integers_end setting k a NumberLess v1 v2 w1 w2 f1 f2 g known {c1 = 854} _
       (compared_quick setting k a NumberLess v1 v2 w1 w2 f1 f2 g known Less a.d (a.d + 1) (λ x y. x) (λ x y. y) int_lt (λ regs e f. (e, f)) integers_compare_less (λ i j. refl) (omega arith))
       (omega arith) (omega arith) (paid_behind NumberLess refl refl) enough)
       fs vs ws g known count
   applied NumberAtMost fs vs ws g known count =
-      with_two NumberAtMost refl (λ v1 v2 w1 w2 f1 f2 g known enough.
+      with_two (Code NumberAtMost) NumberAtMost refl (λ v1 v2 w1 w2 f1 f2 g known enough.
       integers_end setting k a NumberAtMost v1 v2 w1 w2 f1 f2 g known {c1 = 854} _
       (compared_quick setting k a NumberAtMost v1 v2 w1 w2 f1 f2 g known AtLeast (a.d + 1) a.d (λ x y. y) (λ x y. x) int_le (λ regs e f. (f, e)) integers_compare_at_most (λ i j. refl) (omega arith))
       (omega arith) (omega arith) (paid_behind NumberAtMost refl refl) enough)
       fs vs ws g known count
   applied NumberGreater fs vs ws g known count =
-      with_two NumberGreater refl (λ v1 v2 w1 w2 f1 f2 g known enough.
+      with_two (Code NumberGreater) NumberGreater refl (λ v1 v2 w1 w2 f1 f2 g known enough.
       integers_end setting k a NumberGreater v1 v2 w1 w2 f1 f2 g known {c1 = 854} _
       (compared_quick setting k a NumberGreater v1 v2 w1 w2 f1 f2 g known Less (a.d + 1) a.d (λ x y. y) (λ x y. x) (λ i j. int_lt j i) (λ regs e f. (f, e))
       (λ i j r s. integers_compare_less j i s r) (λ i j. refl) (omega arith))
       (omega arith) (omega arith) (paid_behind NumberGreater refl refl) enough)
       fs vs ws g known count
   applied NumberAtLeast fs vs ws g known count =
-      with_two NumberAtLeast refl (λ v1 v2 w1 w2 f1 f2 g known enough.
+      with_two (Code NumberAtLeast) NumberAtLeast refl (λ v1 v2 w1 w2 f1 f2 g known enough.
       integers_end setting k a NumberAtLeast v1 v2 w1 w2 f1 f2 g known {c1 = 854} _
       (compared_quick setting k a NumberAtLeast v1 v2 w1 w2 f1 f2 g known AtLeast a.d (a.d + 1) (λ x y. x) (λ x y. y) (λ i j. int_le j i) (λ regs e f. (e, f))
       (λ i j r s. integers_compare_at_least i j r s ∙ not_below i j) (λ i j. refl) (omega arith))
       (omega arith) (omega arith) (paid_behind NumberAtLeast refl refl) enough)
       fs vs ws g known count
   applied Same fs vs ws g known count =
-      with_two Same refl (λ v1 v2 w1 w2 f1 f2 g known enough. same_ends setting k a v1 v2 w1 w2 g (omega arith)) fs vs ws g known count
+      with_two (Code Same) Same refl (λ v1 v2 w1 w2 f1 f2 g known enough. same_ends setting k a v1 v2 w1 w2 g (omega arith)) fs vs ws g known count
   applied IsNull fs vs ws g known count =
-      with_one IsNull refl (λ v w f g enough. null_ends setting k a v w g (named (of_code (code_of (apply_primitive setting.at setting.program.literals IsNull (form_and f no_form) 1 a.d a.s.code.site))) 0 (a.d + 1) (length a.regs) refl enough) (omega arith)) fs vs ws g count
+      with_one (Code IsNull) IsNull refl (λ v w f g enough. null_ends setting k a v w g (named (of_code (code_of (apply_primitive setting.at setting.program.literals IsNull (form_and f no_form) 1 a.d a.s.code.site))) 0 (a.d + 1) (length a.regs) refl enough) (omega arith)) fs vs ws g count
   applied IsCons fs vs ws g known count =
-      with_one IsCons refl (λ v w f g enough. is_cons_ends setting k a v w g (named (of_code (code_of (apply_primitive setting.at setting.program.literals IsCons (form_and f no_form) 1 a.d a.s.code.site))) 4 (a.d + 1 + 1) (length a.regs) refl enough) (omega arith)) fs vs ws g count
+      with_one (Code IsCons) IsCons refl (λ v w f g enough. is_cons_ends setting k a v w g (named (of_code (code_of (apply_primitive setting.at setting.program.literals IsCons (form_and f no_form) 1 a.d a.s.code.site))) 4 (a.d + 1 + 1) (length a.regs) refl enough) (omega arith)) fs vs ws g count
   applied IsInteger fs vs ws g known count =
-      with_one IsInteger refl (λ v w f g enough. is_integer_ends setting k a v w g (named (of_code (code_of (apply_primitive setting.at setting.program.literals IsInteger (form_and f no_form) 1 a.d a.s.code.site))) 4 (a.d + 1 + 1) (length a.regs) refl enough) (omega arith)) fs vs ws g count
+      with_one (Code IsInteger) IsInteger refl (λ v w f g enough. is_integer_ends setting k a v w g (named (of_code (code_of (apply_primitive setting.at setting.program.literals IsInteger (form_and f no_form) 1 a.d a.s.code.site))) 4 (a.d + 1 + 1) (length a.regs) refl enough) (omega arith)) fs vs ws g count
   applied Cons fs vs ws g known count =
-      with_two Cons refl (λ v1 v2 w1 w2 f1 f2 g known enough. cons_ends setting k a v1 v2 w1 w2 g (named (of_code (code_of (apply_primitive setting.at setting.program.literals Cons (form_and f1 (form_and f2 no_form)) 2 a.d a.s.code.site))) 7 (a.d + 2 + 1) (length a.regs) refl enough)) fs vs ws g known count
-  applied Car fs vs ws g known count = with_one Car refl (λ v w f g enough. car_ends setting k a v w g enough) fs vs ws g count
-  applied Cdr fs vs ws g known count = with_one Cdr refl (λ v w f g enough. cdr_ends setting k a v w g enough) fs vs ws g count
+      with_two (Code Cons) Cons refl (λ v1 v2 w1 w2 f1 f2 g known enough. cons_ends setting k a v1 v2 w1 w2 g (named (of_code (code_of (apply_primitive setting.at setting.program.literals Cons (form_and f1 (form_and f2 no_form)) 2 a.d a.s.code.site))) 7 (a.d + 2 + 1) (length a.regs) refl enough)) fs vs ws g known count
+  applied Car fs vs ws g known count = with_one (Code Car) Car refl (λ v w f g enough. car_ends setting k a v w g enough) fs vs ws g count
+  applied Cdr fs vs ws g known count = with_one (Code Cdr) Cdr refl (λ v w f g enough. cdr_ends setting k a v w g enough) fs vs ws g count
   applied VectorRef fs vs ws g known count =
-      with_two VectorRef refl (λ v1 v2 w1 w2 f1 f2 g known enough. element_ends setting k a v1 v2 w1 w2 f1 f2 g known enough) fs vs ws g known count
+      with_two (Code VectorRef) VectorRef refl (λ v1 v2 w1 w2 f1 f2 g known enough. element_ends setting k a v1 v2 w1 w2 f1 f2 g known enough) fs vs ws g known count
   applied which fs vs ws g known count = by_slow which fs vs ws g count
 
 pub applying_law : LawOfApplying

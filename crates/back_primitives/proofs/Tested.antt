@@ -1,5 +1,5 @@
 -- Tests: code fell out, and two registers compare as the value is true; what is shown of tests behind other steps.
-use Rattle.std.proofs.Common.{◌≡◌, ℕ, ◌+◌, ◌≤◌, Bool, [], ◌∷◌, ◌++◌, length, Some, refl, sym, ◌∙◌, subst, arith}
+use Rattle.std.proofs.Common.{◌≡◌, ℕ, ◌+◌, ◌≤◌, Bool, ◌++◌, length, Some, refl, sym, ◌∙◌, subst, arith}
 use Rattle.std.specs.Prelude.{◌==◌, not, if◌then◌else◌}
 use Rattle.lang_meaning.specs.Values.{Value, is_true}
 use Rattle.flat_language.specs.FlatState.{FlatState, FlatEvaluated, gives}
@@ -7,13 +7,13 @@ use Rattle.mid_code.specs.Costs.{jump_cost}
 use Rattle.mid_code.specs.declared.operation.Test.{Test}
 use Rattle.mid_code.specs.Law.{Grown}
 use Rattle.mid_code.specs.Meaning.{Context, exec}
-use Rattle.mid_code.specs.MidCode.{MidCode, code_of}
+use Rattle.mid_code.specs.MidCode.{code_of}
 use Rattle.mid_code.specs.State.{Registers, register, falls, ends, MidState, MidOutcome, Next, jumped}
 use Rattle.mid_code.specs.State.{charged as mid_charged, go_on as mid_go_on}
 use Rattle.mid_code.specs.Words.{compares}
 use Rattle.mid_code.proofs.Growth.{charged_grown, exec_grown, levels_grow, turns_grow}
 use Rattle.mid_arena.specs.Tags.{nil_word}
-use Rattle.mid_arena.proofs.Running.{RunsTo, parts_then, in_two_parts}
+use Rattle.mid_arena.proofs.Running.{RunsTo, in_two_parts}
 use Rattle.back_lowering.specs.Steps.{Steps}
 use Rattle.back_relation.specs.Setting.{Setting}
 use Rattle.back_relation.specs.Worlds.{World}

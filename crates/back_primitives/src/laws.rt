@@ -1,5 +1,5 @@
 // The laws of primitives, each as the contract of a function that does nothing.
-ghost use Rattle.back_primitives.specs.Applying.{LawOfProcedures, LawOfApplying};
+ghost use Rattle.back_primitives.specs.Applying.{LawOfProcedures, LawOfApplying, LawOfJudgedPrimitives};
 
 /// A primitive is applied by its procedure.
 pub fn law_procedures()
@@ -9,4 +9,9 @@ pub fn law_procedures()
 /// A primitive is applied, in line where that is quick.
 pub fn law_applying()
     ensures { LawOfApplying }
+{}
+
+/// A primitive is judged, where a form branches on what it says.
+pub fn law_judged_primitives()
+    ensures { LawOfJudgedPrimitives }
 {}
