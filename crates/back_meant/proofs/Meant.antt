@@ -9,6 +9,7 @@ use Rattle.lang_meaning.specs.Prefixes.{IsPrefix}
 use Rattle.lang_meaning.specs.State.{Limit, words, unlimited}
 use Rattle.lang_meaning.specs.Values.{Value}
 use Rattle.flat_language.specs.FlatMeaning.{flat_meaning}
+use Rattle.flat_exits.proofs.Runs.{law_of_exits_of_runs}
 use Rattle.flat_unlimited.proofs.Runs.{law_of_unlimited_runs}
 use Rattle.rv_machine.specs.declared.ending.Ending.TheVariants.{Budget, Halt, Unhandled}
 use Rattle.rv_machine.specs.Run.{run_from, run_of}
@@ -138,9 +139,13 @@ module _ (lowering : LoweringIsRight) (base : Setting) (laid : List ℕ) (l : Lo
 
   -- within so many words
   module _ (m k turns n : ℕ) (starts_so : ProgramBegins (with_limits base (words m) turns) input w y) (enough : HasTurns (with_limits base (words m) turns) input k y)
-      (few : (meant_by (with_limits base (words m) turns) input k).state.state.exits ≤ 2 ^ 32) (paid : bound (the_meaning (with_limits base (words m) turns) input k y).units ≤ n) where
+      (low : bound (the_meaning (with_limits base (words m) turns) input k y).units < 2 ^ 32) (paid : bound (the_meaning (with_limits base (words m) turns) input k y).units ≤ n) where
     abbrev within : Setting
     within = with_limits base (words m) turns
+
+    few : (meant_by within input k).state.state.exits ≤ 2 ^ 32
+    unfolding flat_meaning
+    few = let g = law_of_exits_of_runs base.names base.program input k (words m) in omega (arith, g, low)
 
     d : RunDoes within input k y
     d = lowering within (right (words m) turns) input k w y starts_so enough
@@ -244,8 +249,8 @@ pub law_of_meant_runs : LawOfMeantRuns
 law_of_meant_runs lowering base laid l known right checked good at image arena input w y p starts first there begins serials = record {
   prefix = prefix lowering base laid l known right checked good at image arena input w y p starts first there begins serials;
   ends = ends lowering base laid l known right checked good at image arena input w y p starts first there begins serials;
-  in_time = λ m k turns n starts_so enough few paid. (
-    of_value lowering base laid l known right checked good at image arena input w y p starts first there begins serials m k turns n starts_so enough few paid,
-    of_condition lowering base laid l known right checked good at image arena input w y p starts first there begins serials m k turns n starts_so enough few paid,
+  in_time = λ m k turns n starts_so enough low paid. (
+    of_value lowering base laid l known right checked good at image arena input w y p starts first there begins serials m k turns n starts_so enough low paid,
+    of_condition lowering base laid l known right checked good at image arena input w y p starts first there begins serials m k turns n starts_so enough low paid,
   );
 }

@@ -96,7 +96,7 @@ pub record MeantRuns (base : Setting) (image : List ℕ) (at arena : ℕ) (input
   -- with so many words, and any number of levels: within the charged count
   pub in_time :
       (m k turns n : ℕ) → ProgramBegins (with_limits base (words m) turns) input w y → HasTurns (with_limits base (words m) turns) input k y
-      → (meant_by (with_limits base (words m) turns) input k).state.state.exits ≤ 2 ^ 32
+      → bound (the_meaning (with_limits base (words m) turns) input k y).units < 2 ^ 32
       → bound (the_meaning (with_limits base (words m) turns) input k y).units ≤ n
       → ((v : Value) → (the_meaning (with_limits base (words m) turns) input k y).end ≡ ended_value v
       → (word : ℕ) × ((run_of image (4 * at) arena input n).ending ≡ Halt word)
