@@ -9,9 +9,10 @@ use Rattle.lang_meaning.specs.Prefixes.{IsPrefix}
 use Rattle.lang_meaning.specs.State.{Limit, words, unlimited}
 use Rattle.lang_meaning.specs.Values.{Value}
 use Rattle.flat_language.specs.FlatMeaning.{flat_meaning}
+use Rattle.flat_exits.proofs.Runs.{law_of_exits_of_runs}
 use Rattle.flat_unlimited.proofs.Runs.{law_of_unlimited_runs}
-use Rattle.rv_machine.specs.declared.ending.Ending.TheVariants.{Budget, Halt, Unhandled}
-use Rattle.rv_machine.specs.Run.{run_from, run_of}
+use Rattle.rv_machine.specs.declared.ending.Ending.TheVariants.{Budget, Halt, Unhandled, Full}
+use Rattle.rv_machine.specs.Run.{Ended, run_from, run_of}
 use Rattle.mid_code.specs.declared.program.MidProgram.{MidProgram}
 use Rattle.mid_code.specs.Checked.{is_checked_program}
 use Rattle.mid_code.specs.Meaning.{runs}
@@ -24,7 +25,7 @@ use Rattle.mid_lines.specs.LineMeaning.{Stage, ended, begin, after}
 use Rattle.mid_lines.specs.Weights.{weights}
 use Rattle.back_relation.specs.Setting.{Setting}
 use Rattle.back_relation.specs.Worlds.{World}
-use Rattle.back_relation.specs.Program.{ProgramIsRight, ProgramBegins, meant_by, the_meaning, run, code_end, EndsAs as MeansEnd, RunsOutFor, IsReached, RunDoes, LoweringIsRight}
+use Rattle.back_relation.specs.Program.{ProgramIsRight, ProgramBegins, meant_by, the_meaning, run, code_end, EndsAs as MeansEnd, RunsOutFor, IsReached, IsShort, RunDoes, LoweringIsRight}
 use Rattle.back_places.specs.declared.place.Place.{Place as WordPlace}
 use Rattle.back_places.specs.Places.{Located}
 use Rattle.back_places.specs.Good.{IsGood}
@@ -96,29 +97,65 @@ module _ (lowering : LoweringIsRight) (base : Setting) (laid : List ℕ) (l : Lo
   not_exhausted : (n : ℕ) → n < 2 ^ 32 → (steps : ℕ) (z : MidState) → after lines (suc steps) at_first ≡ ended mid.exhausted z → draws lines steps at_first < n → ⊥
   not_exhausted n few steps z e drawn = let last = serials steps z e in omega (arith, few, drawn, last)
 
-  -- 2 and q instructions do what the code does with at least as many levels
-  behind_start : (n q : ℕ) → n ≡ 2 + q → n < 2 ^ 32 → DoesAs (run (free n) n y) (loaded image at arena input) n
-  behind_start n q e few =
+  -- 2 and q instructions do what the code does with at least as many levels and turns
+  behind_start : (n q k turns : ℕ) → n ≡ 2 + q → n < 2 ^ 32 → n ≤ k → n ≤ turns → DoesAs (runs program k turns entry [] y) (loaded image at arena input) n
+  behind_start n q k turns e few le lt =
       let stays = law_of_known_steps lines l known y.arena.blocks at_first image_runs.started.moment q
       (steps_are_known lines at_first q (λ steps z h light. not_stuck n steps z h (omega (arith, light, e))) (λ steps z h drawn. not_exhausted n few steps z h (omega (arith, drawn, e)))) in
-      subst (λ r. DoesAs r (loaded image at arena input) n) (same_run unlimited (turns_for n) n)
-      (subst (λ i. DoesAs (runs program n (turns_for n) entry [] y) (loaded image at arena input) i) (sym e)
-      (image_runs.does q n (turns_for n) (omega (arith, e)) (omega (arith, e)) stays))
+      subst (λ i. DoesAs (runs program k turns entry [] y) (loaded image at arena input) i) (sym e)
+      (image_runs.does q k turns (omega (arith, e, le)) (omega (arith, e, lt)) stays)
 
   -- in the start nothing is printed
-  in_start : (n : ℕ) → n ≤ 2 → DoesAs (run (free n) n y) (loaded image at arena input) n
-  in_start n few =
+  in_start : (n k turns : ℕ) → n ≤ 2 → DoesAs (runs program k turns entry [] y) (loaded image at arena input) n
+  in_start n k turns few =
       let s = image_runs.started in
       let c = s.comes.within n few in
       let none : s.moment.printed ≡ [] = s.begins.enters.machine.printed ∙ first.printed in
       let nothing = none_in_front (run_from n (loaded image at arena input)).at.printed c.0 (c.1 ∙ none) in
-      record { prints = ((run (free n) n y).state.printed, ap (λ x. x ++ (run (free n) n y).state.printed) nothing); ends = inl (s.comes.goes_on n few) }
+      record {
+        prints = ((runs program k turns entry [] y).state.printed, ap (λ x. x ++ (runs program k turns entry [] y).state.printed) nothing);
+        ends = inl (s.comes.goes_on n few);
+      }
+
+  does_with : (n k turns : ℕ) → n < 2 ^ 32 → n ≤ k → n ≤ turns → DoesAs (runs program k turns entry [] y) (loaded image at arena input) n
+  does_with n k turns few le lt = elim (cases_lt n 2) [
+    | inl start ↦ in_start n k turns (omega (arith, start))
+    | inr on ↦ behind_start n (n - 2) k turns (omega (arith, on)) few le lt
+  ]
 
   does : (n : ℕ) → n < 2 ^ 32 → DoesAs (run (free n) n y) (loaded image at arena input) n
-  does n few = elim (cases_lt n 2) [
-    | inl start ↦ in_start n (omega (arith, start))
-    | inr on ↦ behind_start n (n - 2) (omega (arith, on)) few
-  ]
+  does n few =
+      subst (λ r. DoesAs r (loaded image at arena input) n) (same_run unlimited (turns_for n) n) (does_with n n (turns_for n) few (omega arith) (omega arith))
+
+  -- an end of code with which the machine has no room
+  no_room_is : (e : mid.End) (z : MidState) (x : Ended) (asked left_then : ℕ) → EndsAs e z x → x.ending ≡ Full asked left_then
+      → (a : ℕ) × (b : ℕ) × (e ≡ mid.no_room a b)
+  no_room_is (mid.no_room a b) z x asked left_then h f = (a, b, refl)
+  no_room_is (mid.halts word) z x asked left_then h f = absurd (cc (h.0, f))
+  no_room_is (mid.returns word) z x asked left_then h f = absurd (cc (h.0, f))
+  no_room_is (mid.unhandled class site word) z x asked left_then h f = absurd (cc (h.0, f))
+  no_room_is mid.falls z x asked left_then h f = absurd h
+  no_room_is (mid.cuts n word) z x asked left_then h f = absurd h
+  no_room_is mid.no_level z x asked left_then h f = absurd h
+  no_room_is mid.no_turn z x asked left_then h f = absurd h
+  no_room_is mid.exhausted z x asked left_then h f = absurd h
+  no_room_is mid.stuck z x asked left_then h f = absurd h
+
+  full : (n asked left_then : ℕ) → n < 2 ^ 32 → (run_of image (4 * at) arena input n).ending ≡ Full asked left_then
+      → (m k turns : ℕ) → ProgramBegins (with_limits base (words m) turns) input w y → HasTurns (with_limits base (words m) turns) input k y → n ≤ k → n ≤ turns
+      → IsShort (with_limits base (words m) turns) input k y (the_meaning (with_limits base (words m) turns) input k y).end
+  full n asked left_then few f m k turns starts_so enough le lt = by (does_with n k turns few le lt).ends
+    where
+      d : RunDoes (with_limits base (words m) turns) input k y
+      d = lowering (with_limits base (words m) turns) (right (words m) turns) input k w y starts_so enough
+
+      by : ((run_of image (4 * at) arena input n).ending ≡ Budget)
+          ⊎ EndsAs (runs program k turns entry [] y).end (runs program k turns entry [] y).state (run_of image (4 * at) arena input n)
+          → IsShort (with_limits base (words m) turns) input k y (the_meaning (with_limits base (words m) turns) input k y).end
+      by (inl b) = absurd (cc (b, f))
+      by (inr e) =
+          let x = no_room_is (runs program k turns entry [] y).end (runs program k turns entry [] y).state (run_of image (4 * at) arena input n) asked left_then e f in
+          d.room m x.0 x.1 refl (ap (λ r. r.end) (sym (same_run (words m) turns k)) ∙ x.2)
 
   prefix : (n : ℕ) → n < 2 ^ 32 → IsPrefix (run_of image (4 * at) arena input n).at.printed (flat_meaning base.names base.program input n unlimited).printed
   prefix n few =
@@ -138,9 +175,13 @@ module _ (lowering : LoweringIsRight) (base : Setting) (laid : List ℕ) (l : Lo
 
   -- within so many words
   module _ (m k turns n : ℕ) (starts_so : ProgramBegins (with_limits base (words m) turns) input w y) (enough : HasTurns (with_limits base (words m) turns) input k y)
-      (few : (meant_by (with_limits base (words m) turns) input k).state.state.exits ≤ 2 ^ 32) (paid : bound (the_meaning (with_limits base (words m) turns) input k y).units ≤ n) where
+      (low : bound (the_meaning (with_limits base (words m) turns) input k y).units < 2 ^ 32) (paid : bound (the_meaning (with_limits base (words m) turns) input k y).units ≤ n) where
     abbrev within : Setting
     within = with_limits base (words m) turns
+
+    few : (meant_by within input k).state.state.exits ≤ 2 ^ 32
+    unfolding flat_meaning
+    few = let g = law_of_exits_of_runs base.names base.program input k (words m) in omega (arith, g, low)
 
     d : RunDoes within input k y
     d = lowering within (right (words m) turns) input k w y starts_so enough
@@ -244,8 +285,9 @@ pub law_of_meant_runs : LawOfMeantRuns
 law_of_meant_runs lowering base laid l known right checked good at image arena input w y p starts first there begins serials = record {
   prefix = prefix lowering base laid l known right checked good at image arena input w y p starts first there begins serials;
   ends = ends lowering base laid l known right checked good at image arena input w y p starts first there begins serials;
-  in_time = λ m k turns n starts_so enough few paid. (
-    of_value lowering base laid l known right checked good at image arena input w y p starts first there begins serials m k turns n starts_so enough few paid,
-    of_condition lowering base laid l known right checked good at image arena input w y p starts first there begins serials m k turns n starts_so enough few paid,
+  full = full lowering base laid l known right checked good at image arena input w y p starts first there begins serials;
+  in_time = λ m k turns n starts_so enough low paid. (
+    of_value lowering base laid l known right checked good at image arena input w y p starts first there begins serials m k turns n starts_so enough low paid,
+    of_condition lowering base laid l known right checked good at image arena input w y p starts first there begins serials m k turns n starts_so enough low paid,
   );
 }
