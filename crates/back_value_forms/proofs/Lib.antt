@@ -1,3 +1,5 @@
 pub mod Wholes
 pub mod Sites
 pub mod Literals
+pub mod MethodPlaces
+pub mod NextMethods

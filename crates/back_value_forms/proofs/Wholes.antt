@@ -8,18 +8,19 @@ use Rattle.flat_language.specs.declared.place.VariablePlace.{VariablePlace}
 use Rattle.flat_language.specs.declared.place.VariablePlace.TheVariants.{Slot, SlotBox, CapturedValue, CapturedBox}
 use Rattle.flat_language.specs.FlatExits.{FlatExits, LeadForms, LeadValues}
 use Rattle.flat_language.specs.FlatFits.{FitForms, FitValues}
-use Rattle.flat_language.specs.FlatForm.{FlatBindings, no_binding, binding_and}
+use Rattle.flat_language.specs.FlatForm.{FlatForm, FlatBindings, no_binding, binding_and, prim, sited}
 use Rattle.flat_language.specs.FlatMeaning.{binding_homes}
 use Rattle.flat_language.specs.FlatStanding.{FlatScope, StandForms, StandValues}
 use Rattle.flat_language.specs.FlatState.{FlatEnvironment, FlatState}
 use Rattle.mid_code.specs.MidCode.{MidStep, code_of}
 use Rattle.mid_code.specs.State.{Registers, MidState}
-use Rattle.back_lowering.specs.Codes.{lower, lower_bindings}
+use Rattle.back_lowering.specs.Codes.{lower, lower_bindings, by_value}
 use Rattle.back_lowering.specs.Leaves.{boxes_made, variable_from, failing_with}
 use Rattle.back_lowering.specs.Placement.{global_address, symbol_word}
 use Rattle.mid_arena.specs.Tags.{unbound_word, nil_word}
 use Rattle.back_lowering.specs.Registers.{of_step, of_code, enough_for}
 use Rattle.back_lowering.specs.Scope.{registers_from}
+use Rattle.back_lowering.specs.declared.scope.Scope.{Scope}
 use Rattle.back_lowering.specs.Steps.{Steps, constant, move, store, if_equal, load_from, store_to}
 use Rattle.back_relation.specs.Setting.{Setting}
 use Rattle.back_relation.specs.Worlds.{World, Standing}
@@ -39,7 +40,7 @@ use Rattle.back_values.specs.Variables.{KnownPlace}
 use Rattle.back_values.proofs.Bindings.{bindings_steps, bindings_law}
 use Rattle.back_values.proofs.SetVariables.{setting_law}
 use Rattle.back_values.proofs.Variables.{variables_law}
-use Rattle.back_value_forms.specs.Wholes.{PointsKnown, LawOfWholeVariables, LawOfWholeSetting, LawOfWholeBindings, LawOfWholeFunctions, LawOfWholeGlobals, LawOfWholeSettingGlobals, LawOfWholeDefinitions, LawOfWholeJudging}
+use Rattle.back_value_forms.specs.Wholes.{PointsKnown, LawOfWholeVariables, LawOfWholeSetting, LawOfWholeBindings, LawOfWholeFunctions, LawOfWholeGlobals, LawOfWholeSettingGlobals, LawOfWholeDefinitions, LawOfWholeJudging, LawOfJudgedForms, IsByValue}
 
 pub step_fits : (s : MidStep) (ss : Steps) (size : ℕ) → enough_for (of_code (code_of (s ∷ ss))) ≤ size → enough_for (of_step s) ≤ size
 step_fits s ss size h = let l = enough_front (of_step s) (of_code (code_of ss)) in omega (arith, h, l)
@@ -191,3 +192,14 @@ module _ (setting : Setting) (k turns : ℕ) where
       judging_law setting s d n size k turns f value (omega (arith, one)) (same s.code d)
       (does_here setting s d n size k turns f first does stands (registers_front value ready size fits) words)
       (point rs valid s d n w env around z regs y begins)
+
+by_value_is :
+    (setting : Setting) (f : FlatForm) → IsByValue f → (s : Scope) (d : ℕ)
+    → lower setting.names setting.at setting.program s d f ≡ by_value d (lower setting.names setting.at setting.program s d f).value
+unfolding lower
+by_value_is setting (prim which fs) h s d = absurd h
+by_value_is setting (sited n f) h s d = absurd h
+by_value_is setting f h s d = refl
+
+pub judged_forms : (setting : Setting) (k turns : ℕ) → LawOfJudgedForms setting k turns
+judged_forms setting k turns f h does = whole_judging setting k turns f (by_value_is setting f h) does

@@ -1,9 +1,9 @@
 -- The laws of variables, bindings, global variables and functions, wherever the forms stand.
-use Rattle.std.specs.Prelude.{◌≡◌, ℕ, ◌+◌, ◌<◌, ◌≤◌, List}
+use Rattle.std.specs.Prelude.{◌≡◌, ⊤, ℕ, ◌+◌, ◌<◌, ◌≤◌, List}
 use Rattle.lang_meaning.specs.Objects.{unbound_variable_class}
 use Rattle.flat_language.specs.declared.place.FlatCapture.{FlatCapture}
 use Rattle.flat_language.specs.declared.place.VariablePlace.{VariablePlace}
-use Rattle.flat_language.specs.FlatForm.{FlatForm, local, set_local, global, set_global, def_global, let_form, make_function, FlatBindings}
+use Rattle.flat_language.specs.FlatForm.{FlatForm, local, set_local, global, set_global, def_global, let_form, make_function, FlatBindings, prim, sited}
 use Rattle.back_lowering.specs.Codes.{lower, by_value}
 use Rattle.back_lowering.specs.declared.scope.Scope.{Scope}
 use Rattle.back_relation.specs.Setting.{Setting}
@@ -21,6 +21,12 @@ use Rattle.back_values.specs.Variables.{CapturedByFunctions}
 pub record PointsKnown (setting : Setting) : Type 0 where
   pub functions : (s : FormScope) (d m size : ℕ) (q : Point setting s d m size) → CapturedByFunctions q.z
   pub homes : (s : FormScope) (d m size : ℕ) → Point setting s d m size → HomesAsSlots s
+
+-- all forms but two are judged by their values
+abbrev pub IsByValue : FlatForm → Type 0
+IsByValue (prim which fs) = ⊥
+IsByValue (sited n f) = ⊥
+IsByValue f = ⊤
 
 module _ (setting : Setting) (k turns : ℕ) where
   abbrev pub Does : FlatForm → Type 0
@@ -63,3 +69,6 @@ module _ (setting : Setting) (k turns : ℕ) where
       → ((s : Scope) (d : ℕ)
       → lower setting.names setting.at setting.program s d f ≡ by_value d (lower setting.names setting.at setting.program s d f).value)
       → Does f → Judges f
+
+  abbrev pub LawOfJudgedForms : Type 0
+  LawOfJudgedForms = (f : FlatForm) → IsByValue f → Does f → Judges f

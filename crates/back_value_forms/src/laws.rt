@@ -1,8 +1,9 @@
 // The laws of variables, bindings, global variables and functions, wherever the forms stand, each as the contract of a function that does nothing.
 ghost use Rattle.std.specs.Prelude.{ℕ};
 ghost use Rattle.back_relation.specs.Setting.{Setting};
+ghost use Rattle.back_value_forms.specs.Methods.{LawOfMethodPlaces, LawOfNextMethods, LawOfWholeNextMethods};
 ghost use Rattle.back_value_forms.specs.Sites.{LawOfSites, LawOfWholeLiterals};
-ghost use Rattle.back_value_forms.specs.Wholes.{LawOfWholeVariables, LawOfWholeSetting, LawOfWholeBindings, LawOfWholeFunctions, LawOfWholeGlobals, LawOfWholeSettingGlobals, LawOfWholeDefinitions, LawOfWholeJudging};
+ghost use Rattle.back_value_forms.specs.Wholes.{LawOfWholeVariables, LawOfWholeSetting, LawOfWholeBindings, LawOfWholeFunctions, LawOfWholeGlobals, LawOfWholeSettingGlobals, LawOfWholeDefinitions, LawOfWholeJudging, LawOfJudgedForms};
 
 /// Variables are read.
 pub fn law_whole_variables()
@@ -52,4 +53,24 @@ pub fn law_sites()
 /// All literals.
 pub fn law_whole_literals()
     ensures { (setting : Setting) (k turns : ℕ) → LawOfWholeLiterals setting k turns }
+{}
+
+/// The call of a method in registers.
+pub fn law_method_places()
+    ensures { LawOfMethodPlaces }
+{}
+
+/// Whether a method is left.
+pub fn law_next_methods()
+    ensures { LawOfNextMethods }
+{}
+
+/// Whether a method is left, wherever the form stands.
+pub fn law_whole_next_methods()
+    ensures { LawOfWholeNextMethods }
+{}
+
+/// All forms that are judged by their values.
+pub fn law_judged_forms()
+    ensures { (setting : Setting) (k turns : ℕ) → LawOfJudgedForms setting k turns }
 {}
