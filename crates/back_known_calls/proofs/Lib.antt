@@ -1,0 +1,2 @@
+pub mod KnownCalls
+pub mod Undefined

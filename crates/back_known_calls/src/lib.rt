@@ -1,0 +1,4 @@
+// Calls of functions that are known by their names.
+#![tactic(auto)]
+
+pub mod laws;
