@@ -1,21 +1,20 @@
 -- The routine that signals what may be no condition.
-use Rattle.std.proofs.Common.{◌≡◌, ℕ, zero, suc, ◌+◌, ◌*◌, ◌<◌, ◌≤◌, Bool, true, false, List, [], ◌∷◌, ◌++◌, length, Option, Some, None, refl, sym, ap, ◌∙◌, subst, arith}
-use Rattle.std.specs.Prelude.{slice_get, slice_set, ◌==◌, ◌^◌, ◌%◌, ◌/◌, ◌-◌, not, bit_and, if◌then◌else◌}
+use Rattle.std.proofs.Common.{◌≡◌, ℕ, suc, ◌+◌, ◌*◌, ◌<◌, ◌≤◌, Bool, true, false, List, [], ◌∷◌, length, Option, Some, None, refl, sym, ap, ◌∙◌, subst, arith}
+use Rattle.std.specs.Prelude.{slice_get, ◌==◌, ◌^◌, ◌%◌, ◌/◌, ◌-◌, not, bit_and, if◌then◌else◌}
 use Rattle.std.proofs.lemmas.Nat.{and_mask}
-
 use Rattle.std.proofs.lemmas.Bool.Decides.{nat_tests}
 use Rattle.lang_meaning.specs.Classes.{is_condition, fetch, is_below, class_of_object}
 use Rattle.lang_meaning.specs.InitialHeap.{class_value}
-use Rattle.lang_meaning.specs.Objects.{instance, class_object, serious_condition_class, built_in_classes}
+use Rattle.lang_meaning.specs.Objects.{class_object, serious_condition_class, domain_error_class}
 use Rattle.lang_meaning.specs.State.{DynamicContext}
-use Rattle.lang_meaning.specs.Values.{Value, truth}
+use Rattle.lang_meaning.specs.Values.{Value}
 use Rattle.lang_meaning.specs.Primitives.{as_instance}
 use Rattle.flat_language.specs.FlatMeaning.{mean_signal}
 use Rattle.flat_language.specs.FlatNodes.{tables}
 use Rattle.flat_language.specs.FlatSignals.{signal, signal_under, signal_domain_error}
 use Rattle.flat_language.specs.FlatState.{FlatState, FlatEvaluated}
 use Rattle.flat_laws.specs.FlatLater.{FlatLater}
-use Rattle.flat_laws.proofs.Applied.{signals_under, domain_signals}
+use Rattle.flat_laws.proofs.Applied.{signals_under}
 use Rattle.flat_laws.proofs.Later.{later_kept}
 use Rattle.mid_code.specs.declared.operation.Comparison.TheVariants.{Equal, Different}
 use Rattle.mid_code.specs.declared.operation.Counted.TheVariants.{Turn}
@@ -28,15 +27,12 @@ use Rattle.mid_code.specs.MidCode.{MidCode, choose, step_and, code_of}
 use Rattle.mid_code.specs.State.{Registers, register, falls, ends, charged, go_on, MidState, MidOutcome}
 use Rattle.mid_code.specs.Words.{compares}
 use Rattle.mid_arena.specs.Tags.{nil_word, object_tag, instance_header}
-use Rattle.mid_arena.specs.Places.{word_of, end_of}
-use Rattle.mid_arena.specs.Standing.{ValueAt}
-use Rattle.mid_arena.specs.Layouts.{ClassAt}
 use Rattle.mid_arena.proofs.Arguments.{ObjectFound, object_found}
-use Rattle.mid_arena.proofs.HeaderKinds.{instance_of, instance_is}
+use Rattle.mid_arena.proofs.HeaderKinds.{instance_of}
 use Rattle.mid_arena.proofs.Memory.{spot_low}
 use Rattle.mid_code.specs.declared.operation.Arithmetic.TheVariants as which
 use Rattle.base.specs.Arithmetic.{shift_left}
-use Rattle.mid_arena.proofs.Running.{RunsTo, none_left, and_then, constant_falls, compute_known, load_falls, address_above, address_below, address_up, choose_first, choose_first_falls, choose_second_falls}
+use Rattle.mid_arena.proofs.Running.{RunsTo, none_left, and_then, constant_falls, compute_known, load_falls, address_below, address_up, choose_first, choose_first_falls, choose_second_falls}
 use Rattle.mid_arena.proofs.Slots.{instance_low}
 use Rattle.mid_arena.proofs.Telling.{FoundByHeader, found_kind, found_other_kind, found_other_tag, instance_told, truth_told}
 use Rattle.mid_arena.proofs.WordFacts.{low_four_bits_tested}
@@ -57,13 +53,14 @@ use Rattle.back_combining.proofs.Straight.{world_cost, around_cost}
 use Rattle.back_combining.specs.Starts.{FlatGrown}
 use Rattle.back_transfers.proofs.Frames.{memory_holds}
 use Rattle.back_transfers.proofs.Entries.{UsedAt, routine_used, routine_registers, laid_frame, routine_enters}
-use Rattle.back_transfers.proofs.Bodies.{world_of, body_begins, body_leaves, laid_site, laid_world}
+use Rattle.back_transfers.proofs.Bodies.{world_of, body_begins, body_leaves, laid_site}
 use Rattle.back_transfers.proofs.Leaving.{tasks_below, begins_charged, returning_last, signal_later}
-use Rattle.back_transfers.proofs.Returning.{HoldAll, call_behind, returning_comes}
-use Rattle.back_transfers.proofs.Within.{begins_less}
-use Rattle.back_signals.specs.Within.{raise_words, making_words, RaisesWithin, DomainWithin, SignalWithin, signal_words}
+use Rattle.back_transfers.proofs.Returning.{call_behind, returning_comes}
+use Rattle.back_transfers.proofs.Within.{begins_less, call_less}
+use Rattle.back_signals.proofs.Failing.{domain_does}
+use Rattle.back_signals.specs.Within.{raise_words, making_words, RaisesWithin, DomainWithin, SignalWithin}
 use Rattle.back_signals.proofs.Making.{raise_used}
-use Rattle.back_signals.proofs.Marking.{ConditionIs, condition_of}
+use Rattle.back_signals.proofs.Marking.{condition_of}
 
 -- a branch that does not fall out is the end, whatever stands behind
 first_passes :
@@ -356,3 +353,42 @@ module _ (setting : Setting) (placed : IsPlaced setting) (k t credit : ℕ) (som
       by false e =
           subst (λ r. Ends r) (sym (ap (λ b. if b then signal_under (context_at setting k) around.handlers c mark around z else signal_domain_error (context_at setting k) (signal (context_at setting k)) c serious_condition_class around z) e))
           (wrong_so e (instance_told setting.names (tables setting.program) w.places z.state y things.represents c c_word of_condition))
+
+-- what is meant only grows
+meant_grows : (setting : Setting) (k : ℕ) (c mark : Value) (around : DynamicContext) (z : FlatState) → FlatGrown z (mean_signal (context_at setting k) c mark around z).state
+meant_grows setting k c mark around z = by (is_condition (tables setting.program) z.state c)
+  where
+    by : (b : Bool)
+        → FlatGrown z (if b then signal_under (context_at setting k) around.handlers c mark around z else signal_domain_error (context_at setting k) (signal (context_at setting k)) c serious_condition_class around z).state
+    by true = grown_later (signals_under {R = FlatLater} {k = later_kept} (context_at setting k) (tasks_below setting k) around.handlers c mark around z).grows
+    by false = grown_later (signal_later setting k domain_error_class (c ∷ class_value setting.names (tables setting.program) serious_condition_class ∷ []) around z)
+
+-- **a value is signalled if it is a condition**
+pub signal_does :
+    (setting : Setting) → IsPlaced setting → (k credit : ℕ) → 320 ≤ credit → credit ≤ 1000 → (around : DynamicContext) → RaisesWithin setting k around 1 credit → (turns : ℕ) (rs valid : List Standing) (w : World)
+    (z : FlatState) (y : MidState) → SignalWithin setting k turns rs valid w around z y (credit + 208)
+unfolding signal_code
+signal_does setting placed k credit some low around raises turns rs valid w z y c mark c_word mark_word of_condition of_mark site begins =
+    routine_enters setting k (signal_routine setting.at) 2 (signal_code setting.at) used (c_word ∷ mark_word ∷ []) refl y turns begins.things.represents.printed (meant_grows setting k c mark around z)
+    (let all = memory_holds setting begins.things in omega (arith, all)) begins.room begins.things.within_limit (omega arith) by
+  where
+    used : UsedAt setting.procedures (signal_routine setting.at) (procedure_with Turn 2 (signal_code setting.at))
+    used = routine_used setting placed 5 (procedure_with Turn 2 (signal_code setting.at)) refl
+
+    domains : (turns : ℕ) (rs valid : List Standing) (w : World) (z : FlatState) (y : MidState) → DomainWithin setting k turns rs valid w around z y
+    domains turns rs valid w z y =
+        domain_does setting placed k credit low turns rs valid w around
+        (λ turns rs valid w z y c mark c_word mark_word condition of_condition of_mark site begins.
+        call_less setting (omega arith) (omega arith) (raises turns rs valid w z y c mark c_word mark_word condition of_condition of_mark site begins))
+        z y
+
+    by : (t : ℕ) → turns ≡ suc t → used.frame ≤ left y.arena
+        → CallEnds setting (credit + 208) (turns + 0) rs valid w around z y (mean_signal (context_at setting k) c mark around z)
+        (leaves y.arena.blocks (exec (code_at setting k t) (code_of (signal_code setting.at)) (routine_registers setting 2 (signal_code setting.at) (c_word ∷ mark_word ∷ [])) (laid_frame setting used.frame 2 y)))
+    by t same room =
+        subst (λ n. CallEnds setting (credit + 208) (n + 0) rs valid w around z y (mean_signal (context_at setting k) c mark around z)
+        (leaves y.arena.blocks (exec (code_at setting k t) (code_of (signal_code setting.at)) (routine_registers setting 2 (signal_code setting.at) (c_word ∷ mark_word ∷ [])) (laid_frame setting used.frame 2 y)))) (sym same)
+        (body_leaves setting placed begins.things used.frame 2 room (omega arith)
+        (body_comes setting placed k t credit some rs valid (world_of setting placed w y) around raises z domains (laid_frame setting used.frame 2 y)
+        (body_begins setting placed begins.things used.frame 2 room making_words (let few = used.fewer in omega (arith, few)) begins)
+        (laid_site setting placed begins.things used.frame 2 room around site) c mark c_word mark_word of_condition of_mark))
