@@ -7,11 +7,12 @@ use Rattle.back_transfers.specs.Within.{FailsWithin, failing_words}
 use Rattle.back_transfers.proofs.Within.{call_less, begins_less}
 use Rattle.back_transfers.proofs.Leaving.{leave_does}
 use Rattle.back_transfers.proofs.Tagged.{throw_does, continue_does}
-use Rattle.back_signals.specs.Within.{RaisesWithin, unhandled_credit, making_words}
+use Rattle.back_signals.specs.Within.{RaisesWithin, unhandled_credit, making_words, signal_words}
 use Rattle.back_signals.proofs.Unhandled.{unhandled_law}
-use Rattle.back_signals.specs.Law.{LawOfNewConditions, LawOfPending, LawOfUnhandledErrors}
+use Rattle.back_signals.specs.Law.{LawOfNewConditions, LawOfPending, LawOfSignals, LawOfUnhandledErrors}
 use Rattle.back_signals.proofs.Failing.{failing_does, failing_with_does, domain_does}
 use Rattle.back_signals.proofs.Pending.{pending_does}
+use Rattle.back_signals.proofs.Signalling.{signal_does}
 
 pub conditions_law : LawOfNewConditions
 conditions_law setting k credit turns rs valid w around z y placed low raises = record {
@@ -22,6 +23,9 @@ conditions_law setting k credit turns rs valid w around z y placed low raises = 
 
 pub pending_law : LawOfPending
 pending_law setting k spare credit turns rs valid w around z y placed few raises = pending_does setting placed k spare credit few turns rs valid w around raises z y
+
+pub signals_law : LawOfSignals
+signals_law setting k credit turns rs valid w around z y placed some low raises = signal_does setting placed k credit some low around raises turns rs valid w z y
 
 -- a signal that no handler takes, with so many turns left over
 raises : (setting : Setting) → IsPlaced setting → (k : ℕ) (around : DynamicContext) → around.handlers ≡ [] → (spare : ℕ) → spare ≤ 47 → RaisesWithin setting k around spare unhandled_credit
@@ -42,6 +46,10 @@ unhandled_errors_law setting k turns rs valid w around z y placed none = record 
   leave = leave_does setting placed k turns rs valid w around fails z y;
   throw = λ land. throw_does setting placed k turns rs valid w around fails z y land;
   continue = λ land. continue_does setting placed k turns rs valid w around fails z y land;
+  signal = λ c mark c_word mark_word of_condition of_mark begins.
+      call_less setting (omega arith) (omega arith)
+      (signal_does setting placed k unhandled_credit (omega arith) (omega arith) around (raises setting placed k around none 1 (omega arith)) turns rs valid w z y c mark c_word mark_word of_condition of_mark begins.1
+      (begins_less setting signal_words (omega arith) begins.0));
   pending = λ c condition at begins.
       call_less setting (omega arith) (omega arith)
       (pending_does setting placed k 0 unhandled_credit (omega arith) turns rs valid w around (raises setting placed k around none 1 (omega arith)) z y c condition at begins.1

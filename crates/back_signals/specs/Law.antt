@@ -3,10 +3,11 @@ use Rattle.std.specs.Prelude.{◌≡◌, ℕ, ◌+◌, ◌≤◌, true, List, []
 use Rattle.lang_meaning.specs.Classes.{is_condition}
 use Rattle.lang_meaning.specs.Values.{Value, nil}
 use Rattle.flat_language.specs.FlatNodes.{tables}
+use Rattle.flat_language.specs.FlatMeaning.{mean_signal}
 use Rattle.flat_language.specs.FlatSignals.{signal, signal_under}
 use Rattle.mid_arena.specs.FixedWords.{pending_address}
 use Rattle.mid_arena.specs.Standing.{ValueAt}
-use Rattle.back_lowering.specs.Routines.{pending_routine, failing_routine, failing_with_routine}
+use Rattle.back_lowering.specs.Routines.{pending_routine, signal_routine, failing_routine, failing_with_routine}
 use Rattle.back_relation.specs.Forms.{context_at}
 use Rattle.back_relation.specs.RoutineClaims.{WordIs, Does, DomainDoes, LeaveDoes, ThrowDoes, ContinueDoes, routine_credit}
 use Rattle.lang_meaning.specs.State.{DynamicContext}
@@ -15,7 +16,7 @@ use Rattle.mid_code.specs.State.{MidState}
 use Rattle.back_relation.specs.Setting.{Setting}
 use Rattle.back_relation.specs.Placed.{IsPlaced}
 use Rattle.back_relation.specs.Worlds.{World, Standing}
-use Rattle.back_signals.specs.Within.{RaiseWithin, RaisesWithin, FailingWithWithin, DomainWithin, PendingWithin, unhandled_credit, unhandled_spare}
+use Rattle.back_signals.specs.Within.{RaiseWithin, RaisesWithin, FailingWithWithin, DomainWithin, PendingWithin, SignalWithin, unhandled_credit, unhandled_spare}
 use Rattle.back_transfers.specs.Within.{FailingWithin, IsBuiltInCondition, TagsLand}
 
 -- a condition for which there is no handler ends the program, at the site
@@ -42,6 +43,12 @@ LawOfPending =
     (setting : Setting) (k spare credit turns : ℕ) (rs valid : List Standing) (w : World) (around : DynamicContext) (z : FlatState) (y : MidState) → IsPlaced setting → spare ≤ 55
     → RaisesWithin setting k around (spare + 1) credit → PendingWithin setting k turns rs valid w around z y spare (credit + 106)
 
+-- a value is signalled if it is a condition; else it is a domain error: it costs 208 more than its signal, and a turn
+abbrev pub LawOfSignals : Type 0
+LawOfSignals =
+    (setting : Setting) (k credit turns : ℕ) (rs valid : List Standing) (w : World) (around : DynamicContext) (z : FlatState) (y : MidState) → IsPlaced setting → 320 ≤ credit → credit ≤ 1000
+    → RaisesWithin setting k around 1 credit → SignalWithin setting k turns rs valid w around z y (credit + 208)
+
 -- **what goes wrong where there is no handler**: so do the routines as forms call them
 pub record UnhandledErrors (setting : Setting) (k turns : ℕ) (rs valid : List Standing) (w : World) (around : DynamicContext) (z : FlatState) (y : MidState) : Type 0 where
   pub failing :
@@ -54,6 +61,9 @@ pub record UnhandledErrors (setting : Setting) (k turns : ℕ) (rs valid : List 
   pub leave : LeaveDoes setting k turns rs valid w around z y
   pub throw : TagsLand w rs → ThrowDoes setting k turns rs valid w around z y
   pub continue : TagsLand w rs → ContinueDoes setting k turns rs valid w around z y
+  pub signal :
+      (c mark : Value) (c_word mark_word : ℕ) → WordIs setting w c_word c → WordIs setting w mark_word mark
+      → Does setting k turns rs valid w around z y (unhandled_credit + 208) (signal_routine setting.at) (c_word ∷ mark_word ∷ []) (mean_signal (context_at setting k) c mark around z)
   pub pending :
       (c : Value) → is_condition (tables setting.program) z.state c ≡ true → ValueAt w.places y.arena pending_address c
       → Does setting k turns rs valid w around z y (unhandled_credit + 106) (pending_routine setting.at) [] (signal_under (context_at setting k) around.handlers c nil around z)

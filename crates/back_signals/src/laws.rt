@@ -1,5 +1,5 @@
 // The laws of signals, each as the contract of a function that does nothing.
-ghost use Rattle.back_signals.specs.Law.{LawOfUnhandled, LawOfNewConditions, LawOfPending, LawOfUnhandledErrors};
+ghost use Rattle.back_signals.specs.Law.{LawOfUnhandled, LawOfNewConditions, LawOfPending, LawOfSignals, LawOfUnhandledErrors};
 
 /// A condition for which there is no handler.
 pub fn law_unhandled()
@@ -19,4 +19,9 @@ pub fn law_pending()
 /// What goes wrong where there is no handler.
 pub fn law_unhandled_errors()
     ensures { LawOfUnhandledErrors }
+{}
+
+/// A value is signalled if it is a condition.
+pub fn law_signals()
+    ensures { LawOfSignals }
 {}
