@@ -1,0 +1,4 @@
+pub mod NewOutermost
+pub mod NewBound
+pub mod Definitions
+pub mod Settings

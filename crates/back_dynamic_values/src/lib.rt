@@ -1,0 +1,4 @@
+// New values of dynamic variables.
+#![tactic(auto)]
+
+pub mod laws;
