@@ -3,3 +3,4 @@ pub mod Short
 pub mod FromSpots
 pub mod WaysOfTrees
 pub mod Walked
+pub mod Counted

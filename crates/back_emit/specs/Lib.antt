@@ -3,3 +3,4 @@ pub mod OwnCode
 pub mod Fits
 pub mod Agree
 pub mod TreeWays
+pub mod OwnSizes

@@ -12,6 +12,7 @@ pub mod operations;
 pub mod passing;
 pub mod registers;
 pub mod selection;
+pub mod sizes;
 pub mod spots;
 pub mod walking;
 pub mod ways;

@@ -1,0 +1,89 @@
+-- What is left, counted from one line more on.
+use Rattle.std.proofs.Common.{◌≡◌, ℕ, zero, suc, ◌+◌, ◌-◌, ◌<◌, ◌≤◌, Bool, List, [], ◌∷◌, length, drop, replicate, Some, refl, sym, ap, subst, ◌∙◌, arith, length-set}
+use Rattle.std.proofs.lemmas.List.{length-replicate}
+use Rattle.std.specs.Prelude.{slice_get, slice_index, slice_set}
+use Rattle.mid_lines.specs.declared.line.Line.{Line}
+use Rattle.back_emit.specs.declared.spots.Sizing.{Sizing}
+use Rattle.back_emit.specs.declared.ways.FrameWay.{FrameWay}
+use Rattle.back_emit.specs.OwnSizes.{own_line_size, with_own_line, own_rests}
+
+drop_set : (xs : List ℕ) (i v : ℕ) → i < length xs → drop i (slice_set xs i v) ≡ v ∷ drop (suc i) xs
+drop_set [] i v h = absurd (omega (arith, h))
+drop_set (x ∷ xs) zero v h = refl
+drop_set (x ∷ xs) (suc i) v h = drop_set xs i v (omega (arith, h))
+
+drop_there : (xs : List Line) (i : ℕ) (x : Line) → slice_get xs i ≡ Some x → drop i xs ≡ x ∷ drop (suc i) xs
+drop_there [] i x h = absurd (cc h)
+drop_there (y ∷ ys) zero x h = let same : y ≡ x = cc h in ap (λ z. z ∷ ys) same
+drop_there (y ∷ ys) (suc i) x h = drop_there ys i x h
+
+pub index_drop : (xs : List ℕ) (i : ℕ) → slice_index (drop i xs) 0 ≡ slice_index xs i
+index_drop [] zero = refl
+index_drop [] (suc i) = refl
+index_drop (x ∷ xs) zero = refl
+index_drop (x ∷ xs) (suc i) = index_drop xs i
+
+pub index_drop_more : (xs : List ℕ) (i j n : ℕ) → n ≡ i + j → slice_index (drop i xs) j ≡ slice_index xs n
+index_drop_more xs zero j n e = let same : j ≡ n = omega (arith, e) in ap (λ k. slice_index xs k) same
+index_drop_more [] (suc i) j n e = refl
+index_drop_more (x ∷ xs) (suc i) j zero e = absurd (omega (arith, e))
+index_drop_more (x ∷ xs) (suc i) j (suc n) e = index_drop_more xs i j n (omega (arith, e))
+
+drop_zeros : (n m : ℕ) → m ≡ n + 1 → drop {A = ℕ} n (replicate m 0) ≡ 0 ∷ []
+drop_zeros n zero e = absurd (omega (arith, e))
+drop_zeros zero (suc m) e = let none : m ≡ 0 = omega (arith, e) in ap (λ k. 0 ∷ replicate k 0) none
+drop_zeros (suc n) (suc m) e = drop_zeros n m (omega (arith, e))
+
+drop_all_lines : (xs : List Line) → drop (length xs) xs ≡ []
+drop_all_lines [] = refl
+drop_all_lines (x ∷ xs) = drop_all_lines xs
+
+module _ (z : Sizing) (ways : List FrameWay) (nears : List Bool) (lines : List Line) where
+  -- from a line on, what is left is counted
+  pub record IsCounted (from : ℕ) (lefts : List ℕ) : Type 0 where
+    pub long : length lefts ≡ length lines + 1
+    pub counted : drop from lefts ≡ own_rests z ways nears from (drop from lines)
+
+  pub begun : (from : ℕ) (lefts : List ℕ) → from ≡ length lines → lefts ≡ replicate (length lines + 1) 0 → IsCounted from lefts
+  begun from lefts e is = record {
+    long = ap length is ∙ length-replicate (length lines + 1) 0;
+    counted =
+        ap (λ i. drop i lefts) e ∙ ap (λ xs. drop (length lines) xs) is ∙ drop_zeros (length lines) (length lines + 1) refl
+        ∙ ap (λ xs. own_rests z ways nears (length lines) xs) (sym (drop_all_lines lines)) ∙ ap (λ i. own_rests z ways nears i (drop i lines)) (sym e);
+  }
+
+  pub one_more :
+      (from at words left : ℕ) (x : Line) (lefts lefts' : List ℕ) → from ≡ at + 1 → slice_get lines at ≡ Some x → at < length lines
+      → words ≡ own_line_size z ways nears at x (drop (at + 1) lefts) → left ≡ slice_index lefts (at + 1)
+      → lefts' ≡ slice_set lefts at (left + words) → IsCounted from lefts → IsCounted at lefts'
+  one_more from at words left x lefts lefts' e there within w l is h =
+      let next : suc at ≡ from = omega (arith, e) in
+      let next_one : at + 1 ≡ suc at = omega arith in
+      let plus : at + 1 ≡ from = sym e in
+      let rest = h.counted in
+      let long = h.long in
+      let r = own_rests z ways nears from (drop from lines) in
+      record {
+        long = ap length is ∙ length-set lefts at (left + words) ∙ h.long;
+        counted =
+            ap (drop at) is ∙ drop_set lefts at (left + words) (omega (arith, within, long))
+            ∙ ap (λ i. (left + words) ∷ drop i lefts) next
+            ∙ ap (λ q. (left + words) ∷ q) rest
+            ∙ ap (λ n. (n + words) ∷ r) (l ∙ ap (slice_index lefts) plus ∙ sym (index_drop lefts from) ∙ ap (λ q. slice_index q 0) rest)
+            ∙ ap (λ n. (slice_index r 0 + n) ∷ r) (w ∙ ap (λ i. own_line_size z ways nears at x (drop i lefts)) plus ∙ ap (own_line_size z ways nears at x) rest)
+            ∙ ap (λ i. with_own_line z ways nears at x (own_rests z ways nears i (drop i lines))) e
+            ∙ ap (λ i. with_own_line z ways nears at x (own_rests z ways nears (at + 1) (drop i lines))) next_one
+            ∙ ap (own_rests z ways nears at) (sym (drop_there lines at x there));
+      }
+
+  pub one_more_of :
+      (n k words left : ℕ) (x : Line) (lefts lefts' : List ℕ) → n ≡ length lines → k < n → slice_get lines (n - 1 - k) ≡ Some x
+      → words ≡ own_line_size z ways nears (n - 1 - k) x (drop (n - 1 - k + 1) lefts) → left ≡ slice_index lefts (n - 1 - k + 1)
+      → lefts' ≡ slice_set lefts (n - 1 - k) (left + words) → IsCounted (length lines - k) lefts → IsCounted (length lines - (k + 1)) lefts'
+  one_more_of n k words left x lefts lefts' e below there w l is h =
+      let here : n - 1 - k ≡ length lines - (k + 1) = omega (arith, e) in
+      let from : length lines - k ≡ n - 1 - k + 1 = omega (arith, e, below) in
+      subst (λ i. IsCounted i lefts') here (one_more (length lines - k) (n - 1 - k) words left x lefts lefts' from there (omega (arith, e, below)) w l is h)
+
+  pub ended : (from : ℕ) (lefts : List ℕ) → from ≡ 0 → IsCounted from lefts → lefts ≡ own_rests z ways nears 0 lines
+  ended from lefts e h = ap (λ i. drop i lefts) (sym e) ∙ h.counted ∙ ap (λ i. own_rests z ways nears i (drop i lines)) e
