@@ -1,5 +1,5 @@
 -- Behind a cleanup: the value is there, or the transfer goes on.
-use Rattle.std.proofs.Common.{◌≡◌, ℕ, ◌+◌, ◌*◌, ◌<◌, ◌≤◌, List, [], ◌∷◌, length, Some, refl, sym, ap, ◌∙◌, subst, arith}
+use Rattle.std.proofs.Common.{◌≡◌, ℕ, ◌+◌, ◌<◌, ◌≤◌, List, [], ◌∷◌, length, Some, refl, sym, ap, ◌∙◌, subst, arith}
 use Rattle.std.specs.Prelude.{not, slice_get, slice_set}
 use Rattle.std.proofs.lemmas.Bool.{ne_eqb}
 use Rattle.std.proofs.Math.ListN.{length-set}
@@ -7,50 +7,36 @@ use Rattle.lang_meaning.specs.State.{Exit, Landing}
 use Rattle.lang_meaning.specs.Values.{Value}
 use Rattle.flat_language.specs.FlatState.{FlatState, gives, leaves}
 use Rattle.mid_code.specs.declared.operation.Comparison.TheVariants.{Different}
-use Rattle.mid_code.specs.Arena.{stack_from}
 use Rattle.mid_code.specs.Meaning.{Context, exec}
 use Rattle.mid_code.specs.MidCode.{code_of}
-use Rattle.mid_code.specs.State.{Registers, register, End, falls, cuts, no_room, no_level, exhausted, ends, MidState, MidOutcome}
+use Rattle.mid_code.specs.State.{Registers, register, End, falls, ends, MidState, MidOutcome}
 use Rattle.mid_code.specs.State.{charged as mid_charged}
 use Rattle.mid_arena.specs.Places.{word_of}
-use Rattle.mid_arena.proofs.Growing.{grows_same, spot_below}
+use Rattle.mid_arena.proofs.Growing.{spot_below}
 use Rattle.mid_arena.proofs.Lists.{set_elsewhere}
 use Rattle.mid_arena.proofs.Registers.{register_here, register_beside}
 use Rattle.mid_arena.proofs.Running.{RunsTo, and_then, and_ends, none_left, costing, constant_falls, store_falls, choose_first_ends, choose_second_falls, address_above}
-use Rattle.back_lowering.specs.ControlWords.{control_address, serials_address, landing_address}
+use Rattle.back_lowering.specs.ControlWords.{landing_address}
 use Rattle.back_lowering.specs.Routines.{transfer_routine}
 use Rattle.back_lowering.specs.Steps.{Steps, constant, store, call, if_different, test_of}
 use Rattle.back_relation.specs.Setting.{Setting}
 use Rattle.back_relation.specs.Placed.{IsPlaced}
-use Rattle.back_relation.specs.Room.{routine_words, words_for_handler}
+use Rattle.back_relation.specs.Room.{routine_words}
 use Rattle.back_relation.specs.Worlds.{World, LandsIn, Standing, record_of_exit}
-use Rattle.back_relation.specs.StackWords.{HasWordAt}
-use Rattle.back_relation.specs.Around.{AroundStands, CallBegins}
-use Rattle.back_relation.specs.Activation.{ActivationStands}
-use Rattle.back_relation.specs.Ends.{LandingIs, ControlBack, WorldKept, Transfers, Because, Returned, Ends, done, left_by, full_there, stopped, few_turns}
+use Rattle.back_relation.specs.Around.{AroundStands}
+use Rattle.back_relation.specs.Ends.{LandingIs, done}
 use Rattle.back_relation.specs.Forms.{code_at}
 use Rattle.back_relation.specs.Procedures.{called}
-use Rattle.back_combining.specs.Cuts.{boxes_cut}
 use Rattle.back_combining.specs.Starts.{Start, ReachedFrom}
-use Rattle.back_combining.specs.Stores.{stores}
-use Rattle.back_combining.proofs.Activations.{activation_later}
-use Rattle.back_combining.proofs.Cuts.{words_fewer}
 use Rattle.back_combining.proofs.Parts.{single_step}
-use Rattle.back_combining.proofs.Starts.{room_after, reached_set}
-use Rattle.back_combining.proofs.Windows.{stored_elsewhere}
-use Rattle.back_combining.proofs.Worlds.{Same, around_again}
-use Rattle.back_exits.specs.Charging.{LeftCharged, ChargesAt}
-use Rattle.back_exits.specs.Going.{world_with}
+use Rattle.back_combining.proofs.Starts.{reached_set}
+use Rattle.back_exits.specs.Charging.{ChargesAt}
 use Rattle.back_exits.specs.Inside.{around_with}
-use Rattle.back_exits.specs.Touching.{Touched, touched, ExitsMade}
+use Rattle.back_exits.specs.Touching.{touched}
 use Rattle.back_exits.proofs.Charging.{next_start, whole_then}
 use Rattle.back_exits.proofs.Exits.{found_record}
-use Rattle.back_exits.proofs.Inside.{world_both, method_shallower, exits_of, activation_with}
-use Rattle.back_exits.proofs.Leaving.{AreControls, controls_touch, controls_aligned, controls_differ}
-use Rattle.back_exits.proofs.Puts.{of_control, control_stands}
-use Rattle.back_exits.proofs.Touching.{world_touched, stored_from, stack_kept}
-use Rattle.back_exits.proofs.Words.{control_lent, control_there, control_of}
-use Rattle.back_cleanups.specs.Cleanups.{CallLeftCharged, TransferGoes}
+use Rattle.back_exits.proofs.Words.{control_lent, control_of}
+use Rattle.back_cleanups.specs.Cleanups.{TransferGoes}
 use Rattle.back_cleanups.proofs.Calls.{Passes, passes_last, called_passes, call_of_two}
 use Rattle.back_cleanups.proofs.Going.{transfer_passes}
 use Rattle.back_cleanups.proofs.Outside.{Came}

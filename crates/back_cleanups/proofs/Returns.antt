@@ -1,5 +1,5 @@
 -- `return-from` and `go` to own exits that are left by a transfer.
-use Rattle.std.proofs.Common.{◌≡◌, ℕ, ◌+◌, ◌*◌, ◌<◌, ◌≤◌, true, List, [], ◌∷◌, ◌++◌, length, Option, Some, refl, sym, ap, ◌∙◌, subst, arith}
+use Rattle.std.proofs.Common.{◌≡◌, ℕ, ◌+◌, ◌<◌, ◌≤◌, true, [], ◌∷◌, ◌++◌, length, Some, refl, sym, ◌∙◌, subst, arith}
 use Rattle.std.specs.Prelude.{slice_get, slice_set}
 use Rattle.std.proofs.Math.ListN.{length-set}
 use Rattle.lang_meaning.specs.Objects.{control_error_class}
@@ -10,7 +10,7 @@ use Rattle.flat_language.specs.declared.place.ExitPlace.TheVariants.{Own}
 use Rattle.flat_language.specs.FlatForm.{FlatForm, return_from, go}
 use Rattle.flat_language.specs.FlatMeaning.{mean}
 use Rattle.flat_language.specs.FlatSignals.{signal, transfer}
-use Rattle.flat_language.specs.FlatState.{FlatState, FlatEvaluated, charged, leaves, exit_of}
+use Rattle.flat_language.specs.FlatState.{FlatEvaluated, charged, leaves, exit_of}
 use Rattle.mid_code.specs.Meaning.{Context, exec}
 use Rattle.mid_code.specs.MidCode.{code_of}
 use Rattle.mid_code.specs.State.{Registers, register, End, falls, ends, MidState, MidOutcome}
@@ -36,7 +36,7 @@ use Rattle.back_relation.specs.Activation.{FormScope, ExitReached}
 use Rattle.back_relation.specs.Forms.{context_at, code_at}
 use Rattle.back_relation.specs.Procedures.{called}
 use Rattle.back_combining.specs.Points.{Point, start_at}
-use Rattle.back_combining.specs.Starts.{FlatGrown, Start, FellFrom, ReachedFrom}
+use Rattle.back_combining.specs.Starts.{Start, FellFrom, ReachedFrom}
 use Rattle.back_combining.proofs.FormGrowth.{form_grows}
 use Rattle.back_combining.proofs.Parts.{single_step}
 use Rattle.back_combining.proofs.Points.{code_grows}
