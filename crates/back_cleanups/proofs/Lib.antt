@@ -4,6 +4,8 @@ pub mod CleanupRecords
 pub mod Outside
 pub mod Behind
 pub mod Calls
+pub mod Going
 pub mod Ending
 pub mod Cleaned
 pub mod Unwinds
+pub mod Returns

@@ -1,1 +1,2 @@
 pub mod Cleanups
+pub mod Returns

@@ -56,12 +56,12 @@ cut_code : (setting : Setting) (s : Scope) (d landing i : ℕ) (x : OwnExit) →
 cut_code setting s d landing i x e f = rw e (rw f refl)
 
 -- a transfer lands in its form
-lands_in_block : (o : Option ExitForm) → is_block o ≡ true → LandsIn (Some o) (at_segment 0)
+pub lands_in_block : (o : Option ExitForm) → is_block o ≡ true → LandsIn (Some o) (at_segment 0)
 lands_in_block None h = tt
 lands_in_block (Some Block) h = tt
 lands_in_block (Some (Tagbody segments)) h = absurd (cc h)
 
-lands_in_segment : (o : Option ExitForm) (i : ℕ) → is_segment i o ≡ true → LandsIn (Some o) (at_segment i)
+pub lands_in_segment : (o : Option ExitForm) (i : ℕ) → is_segment i o ≡ true → LandsIn (Some o) (at_segment i)
 lands_in_segment None i h = tt
 lands_in_segment (Some Block) i h = tt
 lands_in_segment (Some (Tagbody segments)) i h = ltb-true i segments h
