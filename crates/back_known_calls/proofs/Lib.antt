@@ -1,2 +1,3 @@
 pub mod KnownCalls
 pub mod Undefined
+pub mod Wrong

@@ -1,5 +1,5 @@
 // The laws of known calls, each as the contract of a function that does nothing.
-ghost use Rattle.back_known_calls.specs.KnownCalls.{LawOfKnownCalls, LawOfUndefinedCalls};
+ghost use Rattle.back_known_calls.specs.KnownCalls.{LawOfKnownCalls, LawOfUndefinedCalls, LawOfWrongCalls};
 
 /// A call of a function by its name, with as many arguments as it takes.
 pub fn law_known_calls()
@@ -9,4 +9,9 @@ pub fn law_known_calls()
 /// A call of a name without a function.
 pub fn law_undefined_calls()
     ensures { LawOfUndefinedCalls }
+{}
+
+/// A call with a wrong number of arguments.
+pub fn law_wrong_calls()
+    ensures { LawOfWrongCalls }
 {}
