@@ -49,8 +49,8 @@ LawOfSignals =
     (setting : Setting) (k credit turns : ℕ) (rs valid : List Standing) (w : World) (around : DynamicContext) (z : FlatState) (y : MidState) → IsPlaced setting → 320 ≤ credit → credit ≤ 1000
     → RaisesWithin setting k around 1 credit → SignalWithin setting k turns rs valid w around z y (credit + 208)
 
--- **what goes wrong where there is no handler**: so do the routines as forms call them
-pub record UnhandledErrors (setting : Setting) (k turns : ℕ) (rs valid : List Standing) (w : World) (around : DynamicContext) (z : FlatState) (y : MidState) : Type 0 where
+-- **what goes wrong**: so do the routines as forms call them, where a signal is paid so much
+pub record Errors (setting : Setting) (k credit turns : ℕ) (rs valid : List Standing) (w : World) (around : DynamicContext) (z : FlatState) (y : MidState) : Type 0 where
   pub failing :
       (class : ℕ) → IsBuiltInCondition class 0
       → Does setting k turns rs valid w around z y routine_credit (failing_routine setting.at) (class ∷ []) (signal (context_at setting k) class [] around z)
@@ -63,12 +63,19 @@ pub record UnhandledErrors (setting : Setting) (k turns : ℕ) (rs valid : List 
   pub continue : TagsLand w rs → ContinueDoes setting k turns rs valid w around z y
   pub signal :
       (c mark : Value) (c_word mark_word : ℕ) → WordIs setting w c_word c → WordIs setting w mark_word mark
-      → Does setting k turns rs valid w around z y (unhandled_credit + 208) (signal_routine setting.at) (c_word ∷ mark_word ∷ []) (mean_signal (context_at setting k) c mark around z)
+      → Does setting k turns rs valid w around z y (credit + 208) (signal_routine setting.at) (c_word ∷ mark_word ∷ []) (mean_signal (context_at setting k) c mark around z)
   pub pending :
       (c : Value) → is_condition (tables setting.program) z.state c ≡ true → ValueAt w.places y.arena pending_address c
-      → Does setting k turns rs valid w around z y (unhandled_credit + 106) (pending_routine setting.at) [] (signal_under (context_at setting k) around.handlers c nil around z)
+      → Does setting k turns rs valid w around z y (credit + 106) (pending_routine setting.at) [] (signal_under (context_at setting k) around.handlers c nil around z)
 
+-- where it is known what a signal does
+abbrev pub LawOfErrors : Type 0
+LawOfErrors =
+    (setting : Setting) (k credit turns : ℕ) (rs valid : List Standing) (w : World) (around : DynamicContext) (z : FlatState) (y : MidState) → IsPlaced setting → 320 ≤ credit → credit ≤ 1000
+    → RaisesWithin setting k around 1 credit → Errors setting k credit turns rs valid w around z y
+
+-- so it is where there is no handler
 abbrev pub LawOfUnhandledErrors : Type 0
 LawOfUnhandledErrors =
     (setting : Setting) (k turns : ℕ) (rs valid : List Standing) (w : World) (around : DynamicContext) (z : FlatState) (y : MidState) → IsPlaced setting
-    → around.handlers ≡ [] → UnhandledErrors setting k turns rs valid w around z y
+    → around.handlers ≡ [] → Errors setting k unhandled_credit turns rs valid w around z y

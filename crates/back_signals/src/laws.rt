@@ -1,5 +1,5 @@
 // The laws of signals, each as the contract of a function that does nothing.
-ghost use Rattle.back_signals.specs.Law.{LawOfUnhandled, LawOfNewConditions, LawOfPending, LawOfSignals, LawOfUnhandledErrors};
+ghost use Rattle.back_signals.specs.Law.{LawOfUnhandled, LawOfNewConditions, LawOfPending, LawOfSignals, LawOfErrors, LawOfUnhandledErrors};
 
 /// A condition for which there is no handler.
 pub fn law_unhandled()
@@ -24,4 +24,9 @@ pub fn law_unhandled_errors()
 /// A value is signalled if it is a condition.
 pub fn law_signals()
     ensures { LawOfSignals }
+{}
+
+/// What goes wrong.
+pub fn law_errors()
+    ensures { LawOfErrors }
 {}
