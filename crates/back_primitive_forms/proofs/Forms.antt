@@ -45,6 +45,7 @@ use Rattle.back_primitives.specs.Calling.{WordsIn, KnownWords}
 use Rattle.back_primitives.proofs.Applying.{applying_law}
 use Rattle.back_primitives.proofs.Judging.{judged_law}
 use Rattle.back_primitive_forms.specs.Forms.{HasPrimitives, LawOfPrimitiveForms}
+use Rattle.back_primitive_forms.proofs.Found.{primitive_there}
 use Rattle.back_primitive_forms.proofs.Known.{agrees, same_arguments, known_words}
 
 words_in : (d : ℕ) (ws : List ℕ) (regs : Registers) → arguments.WordsIn d ws regs → WordsIn d ws regs
@@ -130,7 +131,7 @@ module _ (setting : Setting) (k turns : ℕ) (which : Primitive) (fs : FlatForms
       applies : Applies setting k there which vs x.words
       applies = record {
         placed = has.placed;
-        there = has.there which;
+        there = primitive_there setting which has.placed (has.does which);
         pending = has.pending rs valid around;
         room = omega (arith, words);
         of_values = x.of_values;
