@@ -1,13 +1,7 @@
--- A form begins: what wants more than the machine, and what is left to the machine alone.
-use Rattle.std.proofs.Common.{◌≡◌, ℕ, ◌-◌, false, List, [], length, Result, OnOk, refl, ap, sym, subst, arith}
+-- A form begins that wants more than the machine.
+use Rattle.std.proofs.Common.{◌≡◌, ℕ, ◌-◌, List, [], length, Result, OnOk, refl, ap, sym, subst, arith}
 use Rattle.std.proofs.lemmas.Result.{on_ok_weaker}
-use Rattle.base.specs.declared.datum.Name.{Name}
-use Rattle.lang_meaning.specs.declared.primitive.Primitive.{Primitive}
-use Rattle.flat_language.specs.declared.place.MethodPlace.{MethodPlace}
-use Rattle.flat_language.specs.declared.flat_core.FlatCoreForm.{FlatCoreForm}
-use Rattle.flat_language.specs.declared.flat_core.FlatCoreForm.TheVariants as kind
 use Rattle.flat_language.specs.FlatForm.{FlatForm, FlatForms}
-use Rattle.flat_language.specs.model.View.{view_form}
 use Rattle.eval_machine.specs.Configuration.{Operator}
 use Rattle.eval_machine.specs.Step.{arguments_step, operation_step}
 use Rattle.eval_store.specs.Words.{values_of}
@@ -16,27 +10,11 @@ use Rattle.eval_state.specs.declared.situation.Situation.{Situation}
 use Rattle.eval_state.specs.Frames.{operation_of}
 use Rattle.eval_state.specs.declared.machine.Machine.{Machine}
 use Rattle.eval_state.specs.View.{at, top, frames, state}
-use Rattle.eval_control.specs.Begins.{begins, FormWantsMore}
+use Rattle.eval_control.specs.Begins.{begins}
 use Rattle.eval_control.proofs.Leftover.{done}
 use Rattle.eval_step.specs.declared.evaluator.Evaluator.{Evaluator}
 use Rattle.eval_step.specs.Runs.{Runs}
 use Rattle.eval_step.proofs.Running.{runs_on}
-
-pub form_alone : (f : FlatCoreForm)
-    → ((x : Name) → f ≡ kind.Global x → ⊥)
-    → ((x : Name) → f ≡ kind.Dynamic x → ⊥)
-    → ((x : Name) (y : List FlatForm) → f ≡ kind.Call x y → ⊥)
-    → ((x : List FlatForm) → f ≡ kind.CallValue x → ⊥)
-    → ((x : Primitive) (y : List FlatForm) → f ≡ kind.Prim x y → ⊥)
-    → ((x : MethodPlace) → f ≡ kind.NextMethod x → ⊥)
-    → FormWantsMore (view_form f) ≡ false
-form_alone (kind.Global a) not_0 not_1 not_2 not_3 not_4 not_5 = absurd (not_0 a refl)
-form_alone (kind.Call a b) not_0 not_1 not_2 not_3 not_4 not_5 = absurd (not_2 a b refl)
-form_alone (kind.CallValue a) not_0 not_1 not_2 not_3 not_4 not_5 = absurd (not_3 a refl)
-form_alone (kind.Prim a b) not_0 not_1 not_2 not_3 not_4 not_5 = absurd (not_4 a b refl)
-form_alone (kind.Dynamic a) not_0 not_1 not_2 not_3 not_4 not_5 = absurd (not_1 a refl)
-form_alone (kind.NextMethod a) not_0 not_1 not_2 not_3 not_4 not_5 = absurd (not_5 a refl)
-form_alone w not_0 not_1 not_2 not_3 not_4 not_5 = refl
 
 -- the same form
 pub runs_begun : {T E : Type 0} (r : Result T E) (old new : Evaluator) (p : Situation) (f g : FlatForm) → f ≡ g

@@ -71,7 +71,32 @@ impl<'p> Evaluator<'p> {
                 situation,
             ),
             FlatCoreForm::NextMethod(place) => next_method_at(&mut self.machine, *place, situation),
-            _ => begin_kind(&mut self.machine, form, situation),
+            FlatCoreForm::Literal(_)
+            | FlatCoreForm::Local(_)
+            | FlatCoreForm::SetLocal(_, _)
+            | FlatCoreForm::SetGlobal(_, _)
+            | FlatCoreForm::DefGlobal(_, _)
+            | FlatCoreForm::Clauses(_)
+            | FlatCoreForm::Sequence(_)
+            | FlatCoreForm::Let(_, _)
+            | FlatCoreForm::MakeFunction(_, _)
+            | FlatCoreForm::Apply(_, _)
+            | FlatCoreForm::While(_, _)
+            | FlatCoreForm::Block(_)
+            | FlatCoreForm::Return(_, _)
+            | FlatCoreForm::Tagbody(_)
+            | FlatCoreForm::Go(_, _)
+            | FlatCoreForm::Catch(_, _)
+            | FlatCoreForm::Throw(_, _)
+            | FlatCoreForm::Unwind(_, _)
+            | FlatCoreForm::DynamicLet(_, _)
+            | FlatCoreForm::SetDynamic(_, _)
+            | FlatCoreForm::DefDynamic(_, _)
+            | FlatCoreForm::WithHandler(_, _)
+            | FlatCoreForm::Signal(_, _)
+            | FlatCoreForm::Continue(_, _)
+            | FlatCoreForm::HasNext(_)
+            | FlatCoreForm::Sited(_, _) => { begin_kind(&mut self.machine, form, situation) }
         }
     }
 

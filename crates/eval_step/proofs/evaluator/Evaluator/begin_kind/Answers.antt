@@ -2,13 +2,10 @@
 use Rattle.std.proofs.Common.{ap, refl}
 use Rattle.flat_language.specs.model.View.{view_form, forms}
 use Rattle.eval_machine.specs.Configuration.{call_name, call_first, compute}
-use Rattle.eval_step.proofs.Begun.{form_alone, runs_begun, arguments_begun}
+use Rattle.eval_step.proofs.Begun.{runs_begun, arguments_begun}
 use Rattle.eval_step.proofs.Lifting.{lifted_ok}
 use Rattle.eval_step.proofs.Fed.{prim_fed}
 use Rattle.eval_step.proofs.evaluator.Evaluator.begin_kind.Goals as goal
-
-pub begin_kind-requires : goal.begin_kind-requires
-begin_kind-requires c = form_alone c.args.form.now c.in_default.not-Global c.in_default.not-Dynamic c.in_default.not-Call c.in_default.not-CallValue c.in_default.not-Prim c.in_default.not-NextMethod
 
 pub returns-in-Global : goal.returns-in-Global
 returns-in-Global c = runs_begun c.named.result _ _ c.args.situation _ _ (ap view_form c.in-Global.is) c.named.ensures
@@ -29,8 +26,8 @@ pub returns-in-NextMethod : goal.returns-in-NextMethod
 returns-in-NextMethod c = runs_begun c.next_method_at.result _ _ c.args.situation _ _ (ap view_form c.in-NextMethod.is)
     (lifted_ok c.next_method_at.result c.args.self.now (record c.args.self.now { machine = c.next_method_at.new.machine }) _ refl c.next_method_at.ensures)
 
-pub returns-in_default : goal.returns-in_default
-returns-in_default c = lifted_ok c.begin_kind.result c.args.self.now (record c.args.self.now { machine = c.begin_kind.new.machine }) _ refl c.begin_kind.ensures
+pub returns-in-Literal : goal.returns-in-Literal
+returns-in-Literal c = lifted_ok c.begin_kind.result c.args.self.now (record c.args.self.now { machine = c.begin_kind.new.machine }) _ refl c.begin_kind.ensures
 
 pub arguments-requires-in-Prim : goal.arguments-requires-in-Prim
 arguments-requires-in-Prim c = prim_fed c.args.self.now (view_form c.args.form.now) c.in-Prim.which (forms c.in-Prim.list) c.args.self.now.machine.operands.items (ap view_form c.in-Prim.is) c.requires
