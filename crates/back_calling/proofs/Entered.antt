@@ -34,7 +34,7 @@ use Rattle.back_relation.specs.Procedures.{called}
 use Rattle.back_combining.specs.Starts.{FlatGrown}
 use Rattle.back_combining.proofs.Worlds.{later_same, Deeper, record_stays, handlers_stay, bindings_stay, chain_lower}
 use Rattle.back_calling.specs.Storing.{IsControl}
-use Rattle.back_calling.specs.Entering.{Inside, BodyComes, LawOfTurns, LawOfEnteredLevels}
+use Rattle.back_calling.specs.Entering.{Inside, InsideFrame, LawOfPaidTurns, BodyComes, LawOfTurns, LawOfEnteredLevels}
 use Rattle.back_calling.proofs.Framing.{frame_word, frame_back}
 use Rattle.back_calling.proofs.Moving.{BoxWas, Moves, things_moved}
 use Rattle.back_calling.proofs.Storing.{some_words}
@@ -322,6 +322,43 @@ module _ (setting : Setting) (room inside credit m : ℕ) (p : MidProcedure) (ws
   level_ends zero n none body = stopped (record { because = none refl; printed = printed_before })
   level_ends (suc j) n none body = procedure_ends (code_at setting j setting.turns_each) (body j refl)
 
+-- ---- where the meaning pays the frame inside
+
+module _ (setting : Setting) (credit m : ℕ) (p : MidProcedure) (ws : List ℕ) (rs valid : List Standing) (w : World) (around : DynamicContext) (z : FlatState) (y : MidState) (r : FlatEvaluated)
+    (f : ℕ) (within : f ≤ p.frame) (many : length ws ≡ p.parameters) (grown : FlatGrown z r.state) (things : Things setting w z y) (stands : AroundStands setting w rs valid around z y)
+    (wanting : left y.arena < p.frame → RoomEnded setting setting.limit r.outcome) where
+  paid_inside : (some : f ≤ left y.arena) → InsideFrame setting rs valid p.frame (entry_cost p.parameters) w around z y (entered (framed p f) y)
+  paid_inside some = record {
+    things = things_inside setting (framed p f) things some;
+    around_stands = around_inside setting (framed p f) things some stands;
+    words = words_inside setting (framed p f) things some;
+    grows = grows_inside setting (framed p f) things some;
+    heap = refl;
+    from = from_inside setting (framed p f) things some;
+    left_here = let left_there = left_inside setting (framed p f) things some in omega (arith, left_there, within);
+    cost = refl;
+  }
+
+  paid_ends :
+      (k n : ℕ) → m ≤ n + 50
+      → ((j : ℕ) → n ≡ suc j → (y' : MidState) → InsideFrame setting rs valid p.frame (entry_cost p.parameters) w around z y y'
+      → CallEnds setting credit m rs valid w around z y' r (exec (code_at setting k j) (code_of p.body) (first_registers p.registers ws) y'))
+      → CallEnds setting (credit + entry_cost p.parameters) m rs valid w around z y r ((code_at setting k n).further (enter (framed p f) ws) y)
+  unfolding turns
+  paid_ends k zero few body = few_turns (omega (arith, few, grown.units, some_words setting things))
+  paid_ends k (suc j) few body = by (cases_lt (left y.arena) f)
+    where
+      by : (left y.arena < f) ⊎ (f ≤ left y.arena) → CallEnds setting (credit + entry_cost p.parameters) m rs valid w around z y r (run_procedure (code_at setting k j) (framed p f) ws y)
+      by (inl short) =
+          subst (λ o. CallEnds setting (credit + entry_cost p.parameters) m rs valid w around z y r o) (sym (without_room (code_at setting k j) (framed p f) ws y many short))
+          (stopped (record {
+            because = (wanting (omega (arith, short, within)), short);
+            printed = subst (λ ps. IsPrefix ps r.state.state.printed) (sym things.represents.printed) grown.printed;
+          }))
+      by (inr some) =
+          subst (λ o. CallEnds setting (credit + entry_cost p.parameters) m rs valid w around z y r o) (sym (with_room (code_at setting k j) (framed p f) ws y many some))
+          (frame_ends setting (framed p f) things some (body j refl (entered (framed p f) y) (paid_inside some)))
+
 -- ---- by a number
 
 pub record UsedAt (procedures : List MidProcedure) (number : ℕ) (p : MidProcedure) : Type 0 where
@@ -359,6 +396,12 @@ module _ (setting : Setting) where
       let u = used_at _ setting.procedures number p setting.frames found in
       subst (λ o. CallEnds setting (credit + entry_cost p.parameters) m rs valid w around z y r o) (sym (called_by k n number p ws y Level counted u))
       (level_ends setting room inside credit m p ws rs valid w around z y r u.frame u.within many enough grown b k n none body)
+
+  pub paid_turns_law : LawOfPaidTurns setting
+  paid_turns_law k n number m credit p ws rs valid w around z y r found counted many few grown things stands wanting body =
+      let u = used_at _ setting.procedures number p setting.frames found in
+      subst (λ o. CallEnds setting (credit + entry_cost p.parameters) m rs valid w around z y r o) (sym (called_by k n number p ws y Turn counted u))
+      (paid_ends setting credit m p ws rs valid w around z y r u.frame u.within many grown things stands wanting k n few body)
 
   -- where there is no level, nothing is said of the frame
   pub no_level_ends :

@@ -1,12 +1,12 @@
 -- **A procedure that is entered**: its frame is laid, and its body runs from where all words are as they were. What the body comes to is what the
 -- call comes to.
-use Rattle.std.specs.Prelude.{◌≡◌, ℕ, zero, suc, ◌+◌, ◌≤◌, List, Some, length, slice_get}
+use Rattle.std.specs.Prelude.{◌≡◌, ℕ, zero, suc, ◌+◌, ◌<◌, ◌≤◌, List, Some, length, slice_get}
 use Rattle.lang_meaning.specs.State.{DynamicContext, more}
 use Rattle.flat_language.specs.declared.program.FlatProcedure.{FlatProcedure}
 use Rattle.flat_language.specs.FlatState.{FlatState, FlatEvaluated}
 use Rattle.mid_code.specs.declared.operation.Counted.TheVariants.{Level, Turn}
 use Rattle.mid_code.specs.declared.program.MidProcedure.{MidProcedure}
-use Rattle.mid_code.specs.Arena.{stack_from, word_at}
+use Rattle.mid_code.specs.Arena.{stack_from, left, word_at}
 use Rattle.mid_code.specs.Costs.{entry_cost}
 use Rattle.mid_code.specs.Meaning.{Context, exec}
 use Rattle.mid_code.specs.MidCode.{code_of}
@@ -17,8 +17,9 @@ use Rattle.back_lowering.specs.Program.{itself, extra_of, entry, body_of, routin
 use Rattle.back_relation.specs.Setting.{Setting}
 use Rattle.back_relation.specs.Placed.{IsPlaced}
 use Rattle.back_relation.specs.Worlds.{World, Standing}
-use Rattle.back_relation.specs.Around.{CallBegins}
-use Rattle.back_relation.specs.Ends.{CallEnds}
+use Rattle.back_relation.specs.Things.{Things}
+use Rattle.back_relation.specs.Around.{AroundStands, CallBegins}
+use Rattle.back_relation.specs.Ends.{RoomEnded, CallEnds}
 use Rattle.back_relation.specs.Forms.{code_at}
 use Rattle.back_relation.specs.Procedures.{called}
 use Rattle.back_combining.specs.Starts.{FlatGrown}
@@ -30,6 +31,17 @@ pub record Inside (setting : Setting) (rs valid : List Standing) (room paid : �
   pub grows : Grows y.arena y'.arena
   pub heap : y'.arena.heap_to ≡ y.arena.heap_to
   pub from : stack_from y'.arena ≤ stack_from y.arena
+  pub cost : y'.cost ≡ y.cost + paid
+
+-- The same where nothing is known of the room: of the words that were left at most the frame is gone.
+pub record InsideFrame (setting : Setting) (rs valid : List Standing) (frame paid : ℕ) (w : World) (around : DynamicContext) (z : FlatState) (y y' : MidState) : Type 0 where
+  pub things : Things setting w z y'
+  pub around_stands : AroundStands setting w rs valid around z y'
+  pub words : (x : ℕ) → word_at y'.arena x ≡ word_at y.arena x
+  pub grows : Grows y.arena y'.arena
+  pub heap : y'.arena.heap_to ≡ y.arena.heap_to
+  pub from : stack_from y'.arena ≤ stack_from y.arena
+  pub left_here : left y.arena ≤ left y'.arena + frame
   pub cost : y'.cost ≡ y.cost + paid
 
 module _ (setting : Setting) where
@@ -59,6 +71,16 @@ module _ (setting : Setting) where
       → slice_get (lowered setting.names setting.at setting.program) number ≡ Some p → p.counted ≡ Level → length ws ≡ p.parameters → p.frame + inside ≤ room
       → FlatGrown z r.state → CallBegins setting rs valid room w around z y → (k ≡ zero → r.outcome ≡ more)
       → ((j : ℕ) → k ≡ suc j → BodyComes (code_at setting j setting.turns_each) p credit m inside ws rs valid w around z y r)
+      → CallEnds setting (credit + entry_cost p.parameters) m rs valid w around z y r (called (code_at setting k turns) number ws y)
+
+  -- A procedure that counts a turn, whose frame the meaning pays inside: where it is not left, the meaning has no words.
+  abbrev pub LawOfPaidTurns : Type 0
+  LawOfPaidTurns =
+      (k turns number m credit : ℕ) (p : MidProcedure) (ws : List ℕ) (rs valid : List Standing) (w : World) (around : DynamicContext) (z : FlatState) (y : MidState) (r : FlatEvaluated)
+      → slice_get (lowered setting.names setting.at setting.program) number ≡ Some p → p.counted ≡ Turn → length ws ≡ p.parameters → m ≤ turns + 50 → FlatGrown z r.state
+      → Things setting w z y → AroundStands setting w rs valid around z y → (left y.arena < p.frame → RoomEnded setting setting.limit r.outcome)
+      → ((n : ℕ) → turns ≡ suc n → (y' : MidState) → InsideFrame setting rs valid p.frame (entry_cost p.parameters) w around z y y'
+      → CallEnds setting credit m rs valid w around z y' r (exec (code_at setting k n) (code_of p.body) (first_registers p.registers ws) y'))
       → CallEnds setting (credit + entry_cost p.parameters) m rs valid w around z y r (called (code_at setting k turns) number ws y)
 
   -- which procedures are entered by which numbers

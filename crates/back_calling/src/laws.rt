@@ -1,7 +1,7 @@
 // The laws of calling, each as the contract of a function that does nothing.
 ghost use Rattle.back_relation.specs.Setting.{Setting};
 ghost use Rattle.back_calling.specs.Calling.{LawOfFormCalls, LawOfSitedCalls, LawOfFailing};
-ghost use Rattle.back_calling.specs.Entering.{LawOfTurns, LawOfEnteredLevels, LawOfNumbers};
+ghost use Rattle.back_calling.specs.Entering.{LawOfTurns, LawOfPaidTurns, LawOfEnteredLevels, LawOfNumbers};
 ghost use Rattle.back_calling.specs.Inner.{LawOfGoingOn, LawOfPassing, LawOfReturns, LawOfReturning, LawOfCallsThen, LawOfLooking, LawOfFormLooking};
 ghost use Rattle.back_calling.specs.Storing.{LawOfStoring};
 
@@ -73,4 +73,9 @@ pub fn law_looking()
 /// A call of a routine that only looks, in a form.
 pub fn law_form_looking()
     ensures { (setting : Setting) → LawOfFormLooking setting }
+{}
+
+/// A procedure that is entered with a turn, whose frame the meaning pays inside.
+pub fn law_paid_turns()
+    ensures { (setting : Setting) → LawOfPaidTurns setting }
 {}

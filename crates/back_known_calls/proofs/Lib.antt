@@ -1,3 +1,4 @@
 pub mod KnownCalls
 pub mod Undefined
 pub mod Wrong
+pub mod Applies

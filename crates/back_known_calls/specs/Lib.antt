@@ -1,1 +1,2 @@
 pub mod KnownCalls
+pub mod Applies

@@ -1,4 +1,5 @@
 // The laws of known calls, each as the contract of a function that does nothing.
+ghost use Rattle.back_known_calls.specs.Applies.{LawOfApplies};
 ghost use Rattle.back_known_calls.specs.KnownCalls.{LawOfKnownCalls, LawOfUndefinedCalls, LawOfWrongCalls};
 
 /// A call of a function by its name, with as many arguments as it takes.
@@ -14,4 +15,9 @@ pub fn law_undefined_calls()
 /// A call with a wrong number of arguments.
 pub fn law_wrong_calls()
     ensures { LawOfWrongCalls }
+{}
+
+/// The application of a function to a list.
+pub fn law_applies()
+    ensures { LawOfApplies }
 {}
