@@ -1,0 +1,4 @@
+// Walks along the words of chains of methods.
+#![tactic(auto)]
+
+pub mod laws;
