@@ -4,3 +4,4 @@ pub mod FromSpots
 pub mod WaysOfTrees
 pub mod Walked
 pub mod Counted
+pub mod OwnRests

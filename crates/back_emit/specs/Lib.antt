@@ -4,3 +4,4 @@ pub mod Fits
 pub mod Agree
 pub mod TreeWays
 pub mod OwnSizes
+pub mod OwnLines

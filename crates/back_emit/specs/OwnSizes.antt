@@ -1,13 +1,16 @@
--- How many words are left from each line on, where each register is in a slot of its own, from the spots of lines.
-use Rattle.std.specs.Prelude.{◌≡◌, ℕ, ◌+◌, ◌-◌, ◌==◌, ◌&&◌, nat_lt, Bool, true, false, List, [], ◌∷◌, length, slice_get, slice_index, Option, Some, None}
+-- How many words are left from each line on, where each register is in a slot of its own: what `back_layout` counts, from the spots of lines.
+use Rattle.std.specs.Prelude.{◌≡◌, ◌<◌, ℕ, ◌+◌, Bool, false, List, [], ◌∷◌, length, slice_get, slice_index, Option, Some, None}
 use Rattle.mid_lines.specs.declared.line.Line.{Line}
 use Rattle.mid_lines.specs.declared.line.Line.TheVariants.{Jump}
+use Rattle.back_places.specs.Places.{Located}
+use Rattle.back_layout.specs.Sizes.{unplaced, jump_size, goes_over_nothing, rests}
 use Rattle.back_emit.specs.declared.spots.Spot.{Spot}
 use Rattle.back_emit.specs.declared.spots.Sizing.{Sizing}
 use Rattle.back_emit.specs.declared.ways.FrameWay.{FrameWay}
 use Rattle.back_emit.specs.declared.ways.FrameWay.TheVariants.{NoWay}
 use Rattle.back_emit.specs.OwnCode.{own_line, own_behind}
 use Rattle.back_emit.specs.Fits.{FitsLine}
+use Rattle.back_emit.specs.Agree.{AgreesAt}
 
 -- the way at a line, and whether its jump is near
 abbrev pub way_in : Option FrameWay → FrameWay
@@ -17,17 +20,6 @@ way_in (Some way) = way
 abbrev pub near_in : Option Bool → Bool
 near_in None = false
 near_in (Some near) = near
-
--- the words of a jump
-abbrev pub jump_words : (silent near : Bool) → ℕ
-jump_words true near = 0
-jump_words false true = 1
-jump_words false false = 2
-
--- Whether a jump goes forward to a line from which on as many words are left as from the next line on. In the list are these numbers of
--- words, from the next line on.
-abbrev pub is_over_nothing : (line to : ℕ) → (rests : List ℕ) → Bool
-is_over_nothing line to rests = nat_lt line to && (slice_index rests (to - (line + 1)) == slice_index rests 0)
 
 module _ (z : Sizing) (ways : List FrameWay) (nears : List Bool) where
   -- the spot of a line with no positions yet
@@ -49,7 +41,7 @@ module _ (z : Sizing) (ways : List FrameWay) (nears : List Bool) where
 
   -- the words of a line, where these are left from each later line on
   abbrev pub own_line_size : (line : ℕ) → Line → (rests : List ℕ) → ℕ
-  own_line_size line (Jump to) rests = jump_words (is_over_nothing line to rests) (near_in (slice_get nears line))
+  own_line_size line (Jump to) rests = jump_size (goes_over_nothing line to rests) (near_in (slice_get nears line))
   own_line_size line x rests = length (own_line (sizing_spot line) x) + length (own_behind (sizing_spot line) x)
 
   abbrev pub with_own_line : (line : ℕ) → Line → (rests : List ℕ) → List ℕ
@@ -62,3 +54,10 @@ module _ (z : Sizing) (ways : List FrameWay) (nears : List Bool) where
   -- what is asked of each line
   abbrev pub EachFits : List Line → Type 0
   EachFits xs = (line : ℕ) (x : Line) → slice_get xs line ≡ Some x → FitsLine (sizing_spot line) z.registers x
+
+-- where the spots say what was decided, this is what the layout counts
+abbrev pub LawOfOwnRests : Type 0
+LawOfOwnRests =
+    (l : Located) (number frame : ℕ) (z : Sizing) (ways : List FrameWay) (nears : List Bool) (xs : List Line)
+    → ((line : ℕ) (x : Line) → slice_get xs line ≡ Some x → AgreesAt (unplaced l) number frame line (sizing_spot z ways nears line) x)
+    → rests l number frame 0 xs ≡ own_rests z ways nears 0 xs

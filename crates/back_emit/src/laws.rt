@@ -2,6 +2,7 @@
 
 ghost use Rattle.back_emit.specs.Agree.{LawOfSpots};
 ghost use Rattle.back_emit.specs.TreeWays.{LawOfTreeWays};
+ghost use Rattle.back_emit.specs.OwnSizes.{LawOfOwnRests};
 
 /// Where a line's spot says what was decided, and each register is in a slot of its own, the code of the line is the code from its spot.
 pub fn law_spots()
@@ -11,4 +12,9 @@ pub fn law_spots()
 /// The ways to the frame at the lines of a tree are those past the records that stand there.
 pub fn law_tree_ways()
     ensures { LawOfTreeWays }
+{}
+
+/// What is left from each line on, counted from the spots of lines, is what the layout counts.
+pub fn law_own_rests()
+    ensures { LawOfOwnRests }
 {}

@@ -10,6 +10,7 @@ pub mod lines;
 pub mod operands;
 pub mod operations;
 pub mod passing;
+pub mod placing;
 pub mod registers;
 pub mod selection;
 pub mod sizes;

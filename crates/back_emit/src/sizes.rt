@@ -2,9 +2,10 @@
 
 ghost use Rattle.std.specs.Prelude.{◌≡◌, ◌+◌, ◌^◌, ◌<◌, ◌≤◌, [], ◌∷◌, length, drop, slice_index, replicate, IfOk, OnOk};
 ghost use Rattle.mid_lines.specs.declared.line.Line.TheVariants.{Jump};
+ghost use Rattle.back_layout.specs.Sizes.{jump_size, goes_over_nothing};
 ghost use Rattle.back_emit.specs.OwnCode.{own_line, own_behind};
 ghost use Rattle.back_emit.specs.Fits.{FitsLine};
-ghost use Rattle.back_emit.specs.OwnSizes.{jump_words, is_over_nothing, way_in, near_in, sizing_spot, own_line_size, own_rests, EachFits};
+ghost use Rattle.back_emit.specs.OwnSizes.{way_in, near_in, sizing_spot, own_line_size, own_rests, EachFits};
 ghost use Rattle.std.specs.Prelude.{slice_get};
 
 use crate::code_of_lines::{put_behind, put_line};
@@ -93,7 +94,7 @@ pub fn words_of_line(
 /// The words of a jump.
 pub fn words_of_jump(lefts: &LeftList, line: usize, to: usize, near: bool) -> usize
     requires { line < 2 ^ 63 }
-    ensures is { result ≡ jump_words (is_over_nothing line to (drop (line + 1) lefts.now)) near }
+    ensures is { result ≡ jump_size (goes_over_nothing line to (drop (line + 1) lefts.now)) near }
     ensures few { result ≤ 2 }
 {
     let silent = line < to && left_at(lefts, to) == left_at(lefts, line + 1);
