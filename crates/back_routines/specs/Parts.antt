@@ -1,0 +1,228 @@
+-- Parts of the code of routines.
+use Rattle.std.specs.Prelude.{ℕ, ◌+◌, ◌*◌, ◌^◌, ℤ, List, [], ◌∷◌, ◌++◌}
+use Rattle.lang_meaning.specs.Objects.{control_error_class, program_error_class, undefined_function_class}
+use Rattle.mid_code.specs.declared.operation.Arithmetic.TheVariants as which
+use Rattle.mid_code.specs.declared.operation.Comparison.{Comparison}
+use Rattle.mid_code.specs.declared.operation.Comparison.TheVariants.{Equal, Different, LessUnsigned}
+use Rattle.mid_code.specs.declared.operation.Counted.TheVariants.{Turn}
+use Rattle.mid_code.specs.declared.operation.Operation.TheVariants.{Store}
+use Rattle.mid_code.specs.MidCode.{MidStep, perform, repeat, with_block, lend, return_word, code_of}
+use Rattle.mid_arena.specs.Tags.{nil_word, cons_tag, object_tag, instance_header, function_header, generic_header}
+use Rattle.back_lowering.specs.declared.placement.Placement.{Placement}
+use Rattle.back_lowering.specs.ControlWords.{site_address, link_address, handlers_address, record_kind, record_link, record_tag, record_mark, signal_kind, end_kind, handler_function, handler_outer, binding_variable, around_method, before_method, after_method, primary_method, chain_end, generic_arity, generic_name}
+use Rattle.back_lowering.specs.Routines.{function_routine, failing_routine, failing_with_routine, raise_routine, generic_routine, chain_routine, class_routine}
+use Rattle.back_lowering.specs.Steps.{Steps, move, constant, compute, load, load_header, store, request, call, call_number, test_of, where_so, if_equal, if_different}
+use Rattle.back_lowering.specs.Primitives.{where_tag, car_into}
+use Rattle.back_lowering.specs.Records.{exit_laid, record_left}
+use Rattle.back_lowering.specs.RoutineCodes.{add_to, turns_while, returning, signals, transfers_to_found, wrong_number, arity_into, generic_into, chain_sought}
+
+-- what is asked of a record on the way to the first of a kind whose tag is in 0, or to the end
+abbrev pub tag_asked : (kind : ℕ) → Steps
+tag_asked kind =
+    constant 6 1 ∷ load 4 3 record_kind ∷ constant 5 kind
+    ∷ if_equal 4 5
+    (load 5 3 record_tag ∷ if_equal 5 0 (constant 6 0 ∷ []) [] ∷ [])
+    (constant 5 end_kind ∷ if_equal 4 5 (constant 6 0 ∷ constant 3 0 ∷ []) [] ∷ [])
+    ∷ []
+
+-- a condition that is not continuable is not continued
+abbrev pub continued : Placement → Steps
+continued at =
+    load 4 3 record_mark ∷ constant 5 nil_word ∷ if_equal 4 5 (signals at 6 control_error_class) (transfers_to_found at) ∷ []
+
+-- the handler is applied to the condition, which is a word of a block
+abbrev pub applied : Placement → Steps
+applied at = store 0 16 0 ∷ constant 17 1 ∷ call 6 (function_routine at) (5 ∷ 17 ∷ 16 ∷ []) ∷ []
+
+-- where the handler returns, that is a control error under the handlers outside it, at the same site
+abbrev pub returned : Placement → Steps
+returned at =
+    constant 5 0 ∷ store 7 5 site_address
+    ∷ constant 5 control_error_class ∷ call 6 (failing_routine at) (5 ∷ [])
+    ∷ record_left 8 14
+
+-- the handler is applied inside the record of the signal
+abbrev pub handler_inside : Placement → Steps
+handler_inside at =
+    store 0 8 record_tag ∷ store 1 8 record_mark
+    ∷ (exit_laid 13 8 14 signal_kind
+    ++ (load 5 4 handler_outer ∷ store 5 14 handlers_address ∷ load 5 4 handler_function
+    ∷ with_block 16 1 6 (code_of (applied at)) (code_of [])
+    ∷ returned at))
+
+-- an instance is signalled where its class is one of conditions
+abbrev pub condition_raised : Placement → Steps
+condition_raised at =
+    load 2 0 2 ∷ load 2 2 14 ∷ constant 3 nil_word ∷ if_different 2 3 (returning at 4 (raise_routine at) (0 ∷ 1 ∷ [])) [] ∷ []
+
+-- an object is signalled where it is an instance of such a class
+abbrev pub object_raised : Placement → Steps
+object_raised at =
+    load_header 2 0 ∷ constant 3 28 ∷ compute 2 which.ShiftLeft 2 3 ∷ constant 3 (instance_header 0 * 2 ^ 28)
+    ∷ if_equal 2 3 (condition_raised at) [] ∷ []
+
+-- the mark of the instance in 3, at an offset, is nil, and it is signalled
+abbrev pub raised_with : Placement → (mark : ℤ) → Steps
+raised_with at mark =
+    constant 4 nil_word ∷ perform (Store 4 3 mark) ∷ constant 2 object_tag ∷ compute 3 which.Add 3 2
+    ∷ returning at 3 (raise_routine at) (3 ∷ 4 ∷ [])
+
+-- the mark of the condition in 0 is the word in 1
+abbrev pub mark_set : Steps
+mark_set =
+    load_header 2 0 ∷ constant 3 4 ∷ compute 2 which.ShiftRight 2 3 ∷ constant 3 2 ∷ compute 2 which.ShiftLeft 2 3
+    ∷ compute 2 which.Add 2 0 ∷ store 1 2 6 ∷ []
+
+-- so many words for an instance with that many slots, whose class has its word at the address in 2; its address is in 3
+abbrev pub instance_begun : (slots : ℕ) → Steps
+instance_begun slots =
+    constant 3 (3 + slots) ∷ request 3 3 ∷ constant 4 (instance_header slots) ∷ store 4 3 0 ∷ load 4 2 0 ∷ store 4 3 4 ∷ []
+
+-- where the word of the class in a register is
+abbrev pub class_place : (to class : ℕ) → Steps
+class_place to class = constant to 2 ∷ compute to which.ShiftLeft class to ∷ []
+
+-- along the links to the first record of a kind whose tag is in 0, or to the end
+abbrev pub tag_sought : (kind : ℕ) → Steps
+tag_sought kind = constant 2 0 ∷ load 3 2 link_address ∷ turns_while (tag_asked kind) 6 2 (load 3 3 record_link ∷ []) ∷ []
+
+-- ---- applications
+
+-- twice how many arguments are required, and one more where there may be more, is in `arity`: whether so many as in `count` are taken
+abbrev pub where_takes : (arity count t : ℕ) → (wrong : Steps) → Steps
+where_takes arity count t wrong =
+    constant t 1 ∷ compute (t + 1) which.And arity t ∷ compute (t + 2) which.ShiftRight arity t
+    ∷ if_equal (t + 1) t (where_so LessUnsigned count (t + 2) wrong [] ∷ []) (where_so Different count (t + 2) wrong [] ∷ []) ∷ []
+
+-- one thing for a function, another for a generic function, whose value is in 0
+abbrev pub object_by_function : (t : ℕ) → (function generic : Steps) → Steps
+object_by_function t function generic =
+    load_header t 0 ∷ constant (t + 1) function_header
+    ∷ if_equal t (t + 1) function (constant (t + 1) generic_header ∷ if_equal t (t + 1) generic [] ∷ []) ∷ []
+
+abbrev pub by_function : (t : ℕ) → (function generic : Steps) → Steps
+by_function t function generic = where_tag 0 t object_tag (object_by_function t function generic) []
+
+-- a function is applied, and a generic function
+abbrev pub function_applied : Placement → Steps
+function_applied at =
+    arity_into at 3 5 0 ++ (where_takes 3 1 6 (wrong_number at 6) ++ (constant 3 0 ∷ call_number 6 5 (0 ∷ 3 ∷ 1 ∷ 2 ∷ []) ∷ return_word 6 ∷ []))
+
+abbrev pub generic_applied : Placement → Steps
+generic_applied at = generic_into at 3 4 0 ++ returning at 6 (generic_routine at) (3 ∷ 1 ∷ 2 ∷ [])
+
+-- how far the next step of the count is from the last one from which it began
+abbrev pub count_doubled : Steps
+count_doubled =
+    constant 7 1 ∷ compute 6 which.Subtract 6 7 ∷ constant 7 0
+    ∷ if_equal 6 7 (move 4 3 ∷ compute 5 which.Add 5 5 ∷ move 6 5 ∷ []) [] ∷ []
+
+abbrev pub conses_counted : MidStep
+conses_counted =
+    repeat Turn (code_of (constant 7 3 ∷ compute 7 which.And 3 7 ∷ constant 8 cons_tag ∷ [])) (test_of Equal 7 8)
+    (code_of (add_to 2 7 1 ++ (load 3 3 3 ∷ if_equal 3 4 (constant 3 0 ∷ []) count_doubled ∷ [])))
+
+abbrev pub list_counted : Steps
+list_counted = constant 2 0 ∷ move 3 1 ∷ move 4 1 ∷ constant 5 1 ∷ constant 6 1 ∷ conses_counted ∷ []
+
+abbrev pub list_copied : Steps
+list_copied =
+    move 3 1 ∷ move 4 9 ∷ constant 5 nil_word
+    ∷ turns_while [] 3 5 (car_into 6 3 ++ (store 6 4 0 ∷ load 3 3 3 ∷ add_to 4 6 4))
+    ∷ []
+
+abbrev pub element_into : Steps
+element_into =
+    move 10 1 ∷ constant 8 0 ∷ turns_while [] 7 8 (load 10 10 3 ∷ constant 8 4 ∷ compute 7 which.Subtract 7 8 ∷ constant 8 0 ∷ [])
+    ∷ car_into 7 10
+
+-- one specialised argument of a call
+abbrev pub group_added : Placement → (argument : Steps) → Steps
+group_added at argument =
+    load 7 4 0 ∷ (argument
+    ++ (call 7 (class_routine at) (7 ∷ []) ∷ load 8 4 4 ∷ compute 7 which.Add 7 8 ∷ load 7 7 0 ∷ compute 5 which.Add 5 7
+    ∷ (add_to 4 7 8 ++ (constant 7 1 ∷ compute 3 which.Subtract 3 7 ∷ []))))
+
+-- there is no chain
+abbrev pub undefined : Placement → Steps
+undefined at = load 7 0 generic_name ∷ constant 8 undefined_function_class ∷ returning at 7 (failing_with_routine at) (8 ∷ 7 ∷ [])
+
+-- the elements of a list are words of a block, to which a function is applied, and a chain
+abbrev pub lent : (inside : Steps) → MidStep
+lent inside = lend 9 2 (code_of inside)
+
+abbrev pub function_spread : Placement → Steps
+function_spread at =
+    arity_into at 3 11 0
+    ++ (where_takes 3 2 5 (wrong_number at 5)
+    ++ (lend 9 2 (code_of (list_copied ++ (constant 3 0 ∷ call_number 10 11 (0 ∷ 3 ∷ 2 ∷ 9 ∷ []) ∷ []))) ∷ return_word 10 ∷ []))
+
+abbrev pub chain_spread : Placement → Steps
+chain_spread at =
+    move 11 4 ∷ lend 9 2 (code_of (list_copied ++ (call 10 (chain_routine at) (11 ∷ 2 ∷ 9 ∷ []) ∷ []))) ∷ return_word 10 ∷ []
+
+abbrev pub generic_spread : Placement → Steps
+generic_spread at =
+    generic_into at 11 4 0
+    ++ (move 0 11 ∷ load 3 0 generic_arity
+    ∷ (where_takes 3 2 4 (signals at 4 program_error_class) ++ (chain_sought at element_into ++ chain_spread at)))
+
+-- ---- chains
+
+abbrev pub kind_into : (to word address : ℕ) → Steps
+kind_into to word address = load word address 0 ∷ constant to 7 ∷ compute to which.And word to ∷ []
+
+abbrev pub number_into : (to word t : ℕ) → Steps
+number_into to word t = constant t 3 ∷ compute to which.ShiftRight word t ∷ []
+
+-- as long as the kind of the method at an address compares so with another
+abbrev pub kinds_while : (address kind : ℕ) → Comparison → (body : Steps) → MidStep
+kinds_while address kind how body =
+    repeat Turn (code_of (kind_into 4 3 address ++ (constant 5 kind ∷ []))) (test_of how 4 5) (code_of body)
+
+-- one method of a kind is called
+abbrev pub method_called : Steps
+method_called =
+    number_into 3 3 5
+    ++ (constant 5 0 ∷ store 9 5 site_address ∷ call_number 6 3 (5 ∷ 5 ∷ 1 ∷ 2 ∷ []) ∷ add_to 7 4 4)
+
+abbrev pub methods_called : (kind : ℕ) → Steps
+methods_called kind = kinds_while 7 kind Equal method_called ∷ []
+
+abbrev pub around_called : Steps
+around_called =
+    number_into 3 3 4 ++ (constant 4 4 ∷ compute 4 which.Add 0 4 ∷ constant 5 0 ∷ call_number 6 3 (5 ∷ 4 ∷ 1 ∷ 2 ∷ []) ∷ return_word 6 ∷ [])
+
+abbrev pub primary_sought : MidStep
+primary_sought = kinds_while 8 primary_method LessUnsigned (add_to 8 4 4)
+
+abbrev pub primary_called : Steps
+primary_called =
+    load 3 8 0
+    ∷ (number_into 3 3 4
+    ++ (constant 4 4 ∷ compute 4 which.Add 8 4 ∷ constant 5 0 ∷ store 9 5 site_address ∷ call_number 8 3 (5 ∷ 4 ∷ 1 ∷ 2 ∷ [])
+    ∷ (methods_called after_method ++ (return_word 8 ∷ []))))
+
+abbrev pub chain_run : Steps
+chain_run =
+    constant 5 0 ∷ load 9 5 site_address
+    ∷ (kind_into 4 3 0
+    ++ (constant 5 around_method ∷ if_equal 4 5 around_called []
+    ∷ move 8 0 ∷ primary_sought ∷ move 7 0 ∷ (methods_called before_method ++ primary_called)))
+
+-- the chain is at its end
+abbrev pub end_judged : Placement → Steps
+end_judged at = kind_into 4 3 0 ++ (constant 5 chain_end ∷ if_equal 4 5 (signals at 4 control_error_class) [] ∷ [])
+
+-- ---- lists, methods, bindings
+
+abbrev pub cons_in_front : Steps
+cons_in_front =
+    constant 4 1 ∷ compute 1 which.Subtract 1 4 ∷ constant 4 4 ∷ compute 0 which.Subtract 0 4 ∷ load 5 0 0
+    ∷ constant 4 2 ∷ request 4 4 ∷ store 5 4 0 ∷ store 2 4 4 ∷ constant 5 cons_tag ∷ compute 2 which.Add 4 5 ∷ []
+
+abbrev pub word_copied : Steps
+word_copied = load 7 2 0 ∷ store 7 6 0 ∷ (add_to 2 7 4 ++ add_to 6 7 4)
+
+abbrev pub binding_asked : Steps
+binding_asked = constant 4 0 ∷ if_equal 2 1 [] (load 3 2 binding_variable ∷ if_equal 3 0 [] (constant 4 1 ∷ []) ∷ []) ∷ []

@@ -1,0 +1,450 @@
+// The code of applications.
+
+ghost use Rattle.std.specs.Prelude.{◌≡◌, ◌++◌, ◌+◌, ◌<◌, ◌^◌, [], ◌∷◌, OnOk, IfOk};
+ghost use Rattle.back_lowering.specs.RoutineCodes as routines;
+ghost use Rattle.back_routines.specs.Parts as parts;
+
+use crate::steps::{add_to, call_number, four, returning, signals, signals_domain, turns_while};
+use back_leaves::leaves::routine;
+use back_leaves::primitives::{car_into, where_tag};
+use back_leaves::steps::{
+    call, if_different, if_equal, move_word, one, setting, three, two, where_so,
+};
+use back_leaves::words::{
+    CHAIN, CLASS, FAILING_WITH, FUNCTION_CLASS, GENERIC, IS_FUNCTION, LEVEL, LIST_CLASS,
+    PROGRAM_ERROR_CLASS, UNDEFINED_FUNCTION_CLASS,
+};
+use back_lowering::Placement;
+use base::NoMemory;
+use mid_arena::steps::{comparing, compute, constant, load, return_word, store};
+use mid_arena::words::{CONS, FUNCTION, GENERIC as GENERIC_HEADER, NIL, OBJECT};
+use mid_code::{Arithmetic, Code, CodeStep, Comparison, Counted, Register, RegisterList, StepKind};
+use std::alloc::Global;
+
+/// The words of a generic function, by offsets.
+const ARITY: i32 = 0;
+
+const NAME: i32 = 4;
+
+const SPECIALISED: i32 = 8;
+
+const GROUPS: u32 = 12;
+
+// A wrong number of arguments is judged a level below.
+fn wrong_number(alloc: Global, at: &Placement, t: Register) -> Result<Code, NoMemory>
+    ensures { IfOk result (λ code. code ≡ routines.wrong_number at.now t) }
+{
+    let level = routine(at, LEVEL)?;
+    let signalled = signals(alloc, at, t, PROGRAM_ERROR_CLASS)?;
+    let mut code = Code::new(alloc);
+    code.push(call(t, level, RegisterList::new(alloc)))?;
+    code.append_list(signalled)?;
+    Ok(code)
+}
+
+// Whether so many arguments as in `count` are taken; what is done where they are not is given twice.
+fn where_takes(
+    code: &mut Code,
+    alloc: Global,
+    arity: Register,
+    count: Register,
+    t: Register,
+    few: Code,
+    other: Code,
+) -> Result<(), NoMemory>
+    requires same { other ≡ few }
+    requires free { t < 2 ^ 61 }
+    ensures { OnOk result (code.new ≡ code.old ++ parts.where_takes arity count t few) }
+{
+    let mut least = Code::new(alloc);
+    least.push(where_so(
+        Comparison::LessUnsigned,
+        count,
+        t + 2,
+        few,
+        Code::new(alloc),
+    ))?;
+    let mut just = Code::new(alloc);
+    just.push(where_so(Comparison::Different, count, t + 2, other, Code::new(alloc)))?;
+    code.push(constant(t, 1))?;
+    code.push(compute(t + 1, Arithmetic::And, arity, t))?;
+    code.push(compute(t + 2, Arithmetic::ShiftRight, arity, t))?;
+    code.push(if_equal(t + 1, t, least, just))
+}
+
+// The arity of the function in a register, whose number comes to n.
+fn arity_into(
+    code: &mut Code,
+    at: &Placement,
+    to: Register,
+    n: Register,
+    f: Register,
+) -> Result<(), NoMemory>
+    requires { to < 2 ^ 61 }
+    ensures { OnOk result (code.new ≡ code.old ++ routines.arity_into at.now to n f) }
+{
+    code.push(load(n, f, 2))?;
+    code.push(constant(to, 2))?;
+    code.push(compute(to, Arithmetic::ShiftLeft, n, to))?;
+    code.push(constant(to + 1, at.arities))?;
+    code.push(compute(to, Arithmetic::Add, to, to + 1))?;
+    code.push(load(to, to, 0))
+}
+
+// The words of the generic function in a register.
+fn generic_into(
+    code: &mut Code,
+    at: &Placement,
+    to: Register,
+    t: Register,
+    f: Register,
+) -> Result<(), NoMemory>
+    ensures { OnOk result (code.new ≡ code.old ++ routines.generic_into at.now to t f) }
+{
+    code.push(load(to, f, 2))?;
+    code.push(constant(t, at.generics))?;
+    code.push(compute(to, Arithmetic::Add, to, t))?;
+    code.push(load(to, to, 0))
+}
+
+// One thing for an object that is a function, another for a generic function.
+fn object_by_function(
+    alloc: Global,
+    t: Register,
+    function: Code,
+    generic: Code,
+) -> Result<Code, NoMemory>
+    requires { t < 2 ^ 61 }
+    ensures { IfOk result (λ code. code ≡ parts.object_by_function t function generic) }
+{
+    let mut other = Code::new(alloc);
+    other.push(constant(t + 1, GENERIC_HEADER))?;
+    other.push(if_equal(t, t + 1, generic, Code::new(alloc)))?;
+    let mut code = Code::new(alloc);
+    code.push(load(t, 0, -2))?;
+    code.push(constant(t + 1, FUNCTION))?;
+    code.push(if_equal(t, t + 1, function, other))?;
+    Ok(code)
+}
+
+// The same for any value.
+fn by_function(
+    code: &mut Code,
+    alloc: Global,
+    t: Register,
+    function: Code,
+    generic: Code,
+) -> Result<(), NoMemory>
+    requires { t < 2 ^ 61 }
+    ensures { OnOk result (code.new ≡ code.old ++ parts.by_function t function generic) }
+{
+    let object = object_by_function(alloc, t, function, generic)?;
+    where_tag(code, 0, t, OBJECT, object, Code::new(alloc))
+}
+
+// A function is applied.
+fn function_applied(alloc: Global, at: &Placement) -> Result<Code, NoMemory>
+    ensures { IfOk result (λ code. code ≡ parts.function_applied at.now) }
+{
+    let few = wrong_number(alloc, at, 6)?;
+    let other = wrong_number(alloc, at, 6)?;
+    let mut code = Code::new(alloc);
+    arity_into(&mut code, at, 3, 5, 0)?;
+    where_takes(&mut code, alloc, 3, 1, 6, few, other)?;
+    code.push(constant(3, 0))?;
+    code.push(call_number(6, 5, four(alloc, 0, 3, 1, 2)?))?;
+    code.push(return_word(6))?;
+    Ok(code)
+}
+
+// A generic function is applied.
+fn generic_applied(alloc: Global, at: &Placement) -> Result<Code, NoMemory>
+    ensures { IfOk result (λ code. code ≡ parts.generic_applied at.now) }
+{
+    let generic = routine(at, GENERIC)?;
+    let mut code = Code::new(alloc);
+    generic_into(&mut code, at, 3, 4, 0)?;
+    returning(&mut code, 6, generic, three(alloc, 3, 1, 2)?)?;
+    Ok(code)
+}
+
+/// The value in 0 is applied to as many words as 1 says, at the address in 2.
+#[tactic(auto, unfolding(back_lowering::specs::RoutineCodes::function_code))]
+pub fn function_code(alloc: Global, at: &Placement) -> Result<Code, NoMemory>
+    ensures { IfOk result (λ code. code ≡ routines.function_code at.now) }
+{
+    let function = function_applied(alloc, at)?;
+    let generic = generic_applied(alloc, at)?;
+    let wrong = signals_domain(alloc, at, 0, 3, FUNCTION_CLASS)?;
+    let mut code = Code::new(alloc);
+    by_function(&mut code, alloc, 3, function, generic)?;
+    code.append_list(wrong)?;
+    Ok(code)
+}
+
+/// Whether the value in 0 is a function.
+#[tactic(auto, unfolding(back_lowering::specs::RoutineCodes::is_function_code))]
+pub fn is_function_code(alloc: Global, at: &Placement) -> Result<Code, NoMemory>
+    ensures { IfOk result (λ code. code ≡ routines.is_function_code at.now) }
+{
+    let mut function = setting(alloc, 1, 1)?;
+    function.push(return_word(1))?;
+    let mut generic = setting(alloc, 1, 1)?;
+    generic.push(return_word(1))?;
+    let mut code = Code::new(alloc);
+    by_function(&mut code, alloc, 1, function, generic)?;
+    code.push(constant(1, 0))?;
+    code.push(return_word(1))?;
+    Ok(code)
+}
+
+// How far the next step of the count is.
+fn count_doubled(alloc: Global) -> Result<Code, NoMemory>
+    ensures { IfOk result (λ code. code ≡ parts.count_doubled) }
+{
+    let mut doubled = Code::new(alloc);
+    doubled.push(move_word(4, 3))?;
+    doubled.push(compute(5, Arithmetic::Add, 5, 5))?;
+    doubled.push(move_word(6, 5))?;
+    let mut code = Code::new(alloc);
+    code.push(constant(7, 1))?;
+    code.push(compute(6, Arithmetic::Subtract, 6, 7))?;
+    code.push(constant(7, 0))?;
+    code.push(if_equal(6, 7, doubled, Code::new(alloc)))?;
+    Ok(code)
+}
+
+// One cons is counted.
+fn cons_counted(alloc: Global) -> Result<CodeStep, NoMemory>
+    ensures { IfOk result (λ step. step ≡ parts.conses_counted) }
+{
+    let doubled = count_doubled(alloc)?;
+    let circle = setting(alloc, 3, 0)?;
+    let mut head = Code::new(alloc);
+    head.push(constant(7, 3))?;
+    head.push(compute(7, Arithmetic::And, 3, 7))?;
+    head.push(constant(8, CONS))?;
+    let mut body = Code::new(alloc);
+    add_to(&mut body, 2, 7, 1)?;
+    body.push(load(3, 3, 3))?;
+    body.push(if_equal(3, 4, circle, doubled))?;
+    Ok(CodeStep::new(StepKind::Repeat {
+        counted: Counted::Turn,
+        head,
+        test: comparing(Comparison::Equal, 7, 8),
+        body,
+    }))
+}
+
+// How many conses the list in 1 has.
+fn list_counted(alloc: Global) -> Result<Code, NoMemory>
+    ensures { IfOk result (λ code. code ≡ parts.list_counted) }
+{
+    let counting = cons_counted(alloc)?;
+    let mut code = Code::new(alloc);
+    code.push(constant(2, 0))?;
+    code.push(move_word(3, 1))?;
+    code.push(move_word(4, 1))?;
+    code.push(constant(5, 1))?;
+    code.push(constant(6, 1))?;
+    code.push(counting)?;
+    Ok(code)
+}
+
+// The words of the list in 1 are copied to the address in 9.
+fn list_copied(alloc: Global) -> Result<Code, NoMemory>
+    ensures { IfOk result (λ code. code ≡ parts.list_copied) }
+{
+    let mut body = car_into(alloc, 6, 3)?;
+    body.push(store(6, 4, 0))?;
+    body.push(load(3, 3, 3))?;
+    add_to(&mut body, 4, 6, 4)?;
+    let mut code = Code::new(alloc);
+    code.push(move_word(3, 1))?;
+    code.push(move_word(4, 9))?;
+    code.push(constant(5, NIL))?;
+    code.push(turns_while(Code::new(alloc), 3, 5, body))?;
+    Ok(code)
+}
+
+// The element of the list in 1 whose offset is in 7 comes to 7.
+fn element_into(alloc: Global) -> Result<Code, NoMemory>
+    ensures { IfOk result (λ code. code ≡ parts.element_into) }
+{
+    let element = car_into(alloc, 7, 10)?;
+    let mut body = Code::new(alloc);
+    body.push(load(10, 10, 3))?;
+    body.push(constant(8, 4))?;
+    body.push(compute(7, Arithmetic::Subtract, 7, 8))?;
+    body.push(constant(8, 0))?;
+    let mut code = Code::new(alloc);
+    code.push(move_word(10, 1))?;
+    code.push(constant(8, 0))?;
+    code.push(turns_while(Code::new(alloc), 7, 8, body))?;
+    code.append_list(element)?;
+    Ok(code)
+}
+
+// One specialised argument of a call.
+fn group_added(alloc: Global, at: &Placement, argument: Code) -> Result<Code, NoMemory>
+    ensures { IfOk result (λ code. code ≡ parts.group_added at.now argument) }
+{
+    let class = routine(at, CLASS)?;
+    let mut code = Code::new(alloc);
+    code.push(load(7, 4, 0))?;
+    code.append_list(argument)?;
+    code.push(call(7, class, one(alloc, 7)?))?;
+    code.push(load(8, 4, 4))?;
+    code.push(compute(7, Arithmetic::Add, 7, 8))?;
+    code.push(load(7, 7, 0))?;
+    code.push(compute(5, Arithmetic::Add, 5, 7))?;
+    add_to(&mut code, 4, 7, 8)?;
+    code.push(constant(7, 1))?;
+    code.push(compute(3, Arithmetic::Subtract, 3, 7))?;
+    Ok(code)
+}
+
+// The offset of the tuple of groups of a call.
+fn groups_added(alloc: Global, at: &Placement, argument: Code) -> Result<Code, NoMemory>
+    ensures { IfOk result (λ code. code ≡ routines.groups_added at.now argument) }
+{
+    let body = group_added(alloc, at, argument)?;
+    let mut code = Code::new(alloc);
+    code.push(constant(5, 0))?;
+    code.push(constant(6, 0))?;
+    code.push(turns_while(Code::new(alloc), 3, 6, body))?;
+    Ok(code)
+}
+
+// There is no chain: the function is undefined.
+fn undefined(alloc: Global, at: &Placement) -> Result<Code, NoMemory>
+    ensures { IfOk result (λ code. code ≡ parts.undefined at.now) }
+{
+    let failing = routine(at, FAILING_WITH)?;
+    let mut code = Code::new(alloc);
+    code.push(load(7, 0, NAME))?;
+    code.push(constant(8, UNDEFINED_FUNCTION_CLASS))?;
+    returning(&mut code, 7, failing, two(alloc, 8, 7)?)?;
+    Ok(code)
+}
+
+// The chain of a call of the generic function whose words are at 0 comes to 4.
+fn chain_sought(alloc: Global, at: &Placement, argument: Code) -> Result<Code, NoMemory>
+    ensures { IfOk result (λ code. code ≡ routines.chain_sought at.now argument) }
+{
+    let groups = groups_added(alloc, at, argument)?;
+    let none = undefined(alloc, at)?;
+    let mut code = Code::new(alloc);
+    code.push(load(3, 0, SPECIALISED))?;
+    code.push(constant(4, GROUPS))?;
+    code.push(compute(4, Arithmetic::Add, 4, 0))?;
+    code.append_list(groups)?;
+    code.push(compute(4, Arithmetic::Add, 4, 5))?;
+    code.push(load(4, 4, 0))?;
+    code.push(if_equal(4, 6, none, Code::new(alloc)))?;
+    Ok(code)
+}
+
+/// The generic function whose words are at 0 is applied to as many words as 1 says, at the address in 2.
+#[tactic(auto, unfolding(back_lowering::specs::RoutineCodes::generic_code))]
+pub fn generic_code(alloc: Global, at: &Placement) -> Result<Code, NoMemory>
+    ensures { IfOk result (λ code. code ≡ routines.generic_code at.now) }
+{
+    let run = routine(at, CHAIN)?;
+    let few = signals(alloc, at, 4, PROGRAM_ERROR_CLASS)?;
+    let other = signals(alloc, at, 4, PROGRAM_ERROR_CLASS)?;
+    let mut argument = Code::new(alloc);
+    argument.push(compute(7, Arithmetic::Add, 7, 2))?;
+    argument.push(load(7, 7, 0))?;
+    let sought = chain_sought(alloc, at, argument)?;
+    let mut code = Code::new(alloc);
+    code.push(load(3, 0, ARITY))?;
+    where_takes(&mut code, alloc, 3, 1, 4, few, other)?;
+    code.append_list(sought)?;
+    returning(&mut code, 7, run, three(alloc, 4, 1, 2)?)?;
+    Ok(code)
+}
+
+// The elements of the list are words of a block while the steps run.
+fn lent(inside: Code) -> CodeStep
+    ensures { result ≡ parts.lent inside }
+{
+    CodeStep::new(StepKind::Lend {
+        block: 9,
+        words: 2,
+        inside,
+    })
+}
+
+// A function is applied to them.
+fn function_spread(alloc: Global, at: &Placement) -> Result<Code, NoMemory>
+    ensures { IfOk result (λ code. code ≡ parts.function_spread at.now) }
+{
+    let few = wrong_number(alloc, at, 5)?;
+    let other = wrong_number(alloc, at, 5)?;
+    let mut inside = list_copied(alloc)?;
+    inside.push(constant(3, 0))?;
+    inside.push(call_number(10, 11, four(alloc, 0, 3, 2, 9)?))?;
+    let mut code = Code::new(alloc);
+    arity_into(&mut code, at, 3, 11, 0)?;
+    where_takes(&mut code, alloc, 3, 2, 5, few, other)?;
+    code.push(lent(inside))?;
+    code.push(return_word(10))?;
+    Ok(code)
+}
+
+// A chain is.
+fn chain_spread(alloc: Global, at: &Placement) -> Result<Code, NoMemory>
+    ensures { IfOk result (λ code. code ≡ parts.chain_spread at.now) }
+{
+    let run = routine(at, CHAIN)?;
+    let mut inside = list_copied(alloc)?;
+    inside.push(call(10, run, three(alloc, 11, 2, 9)?))?;
+    let mut code = Code::new(alloc);
+    code.push(move_word(11, 4))?;
+    code.push(lent(inside))?;
+    code.push(return_word(10))?;
+    Ok(code)
+}
+
+// A generic function is, whose chain is sought before.
+fn generic_spread(alloc: Global, at: &Placement) -> Result<Code, NoMemory>
+    ensures { IfOk result (λ code. code ≡ parts.generic_spread at.now) }
+{
+    let few = signals(alloc, at, 4, PROGRAM_ERROR_CLASS)?;
+    let other = signals(alloc, at, 4, PROGRAM_ERROR_CLASS)?;
+    let sought = chain_sought(alloc, at, element_into(alloc)?)?;
+    let run = chain_spread(alloc, at)?;
+    let mut code = Code::new(alloc);
+    generic_into(&mut code, at, 11, 4, 0)?;
+    code.push(move_word(0, 11))?;
+    code.push(load(3, 0, ARITY))?;
+    where_takes(&mut code, alloc, 3, 2, 4, few, other)?;
+    code.append_list(sought)?;
+    code.append_list(run)?;
+    Ok(code)
+}
+
+/// The value in 0 is applied to the elements of the list in 1.
+#[tactic(auto, unfolding(back_lowering::specs::RoutineCodes::apply_code))]
+pub fn apply_code(alloc: Global, at: &Placement) -> Result<Code, NoMemory>
+    ensures { IfOk result (λ code. code ≡ routines.apply_code at.now) }
+{
+    let is_function = routine(at, IS_FUNCTION)?;
+    let no_function = signals_domain(alloc, at, 0, 2, FUNCTION_CLASS)?;
+    let counted = list_counted(alloc)?;
+    let no_list = signals_domain(alloc, at, 1, 2, LIST_CLASS)?;
+    let function = function_spread(alloc, at)?;
+    let generic = generic_spread(alloc, at)?;
+    let wrong = signals_domain(alloc, at, 0, 3, FUNCTION_CLASS)?;
+    let mut code = Code::new(alloc);
+    code.push(call(2, is_function, one(alloc, 0)?))?;
+    code.push(constant(3, 0))?;
+    code.push(if_equal(2, 3, no_function, Code::new(alloc)))?;
+    code.append_list(counted)?;
+    code.push(constant(4, NIL))?;
+    code.push(if_different(3, 4, no_list, Code::new(alloc)))?;
+    by_function(&mut code, alloc, 3, function, generic)?;
+    code.append_list(wrong)?;
+    Ok(code)
+}

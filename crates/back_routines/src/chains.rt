@@ -1,0 +1,187 @@
+// The code of chains of methods.
+
+ghost use Rattle.std.specs.Prelude.{◌≡◌, ◌++◌, ◌<◌, ◌^◌, [], ◌∷◌, OnOk, IfOk};
+ghost use Rattle.back_lowering.specs.RoutineCodes as routines;
+ghost use Rattle.back_routines.specs.Parts as parts;
+
+use crate::steps::{add_to, call_number, four, signals};
+use back_leaves::steps::{if_equal, move_word};
+use back_leaves::words::{CHAIN_END, CONTROL_ERROR_CLASS, SITE};
+use back_lowering::Placement;
+use base::NoMemory;
+use mid_arena::steps::{comparing, compute, constant, load, return_word, store};
+use mid_code::{Arithmetic, Code, CodeStep, Comparison, Counted, Register, StepKind};
+use std::alloc::Global;
+
+/// What the methods of a chain are, in the words of the chain.
+const AROUND: u32 = 0;
+
+const BEFORE: u32 = 1;
+
+const AFTER: u32 = 2;
+
+const PRIMARY: u32 = 3;
+
+// The kind of the method whose word is at an address.
+fn kind_into(
+    code: &mut Code,
+    to: Register,
+    word: Register,
+    address: Register,
+) -> Result<(), NoMemory>
+    ensures { OnOk result (code.new ≡ code.old ++ parts.kind_into to word address) }
+{
+    code.push(load(word, address, 0))?;
+    code.push(constant(to, 7))?;
+    code.push(compute(to, Arithmetic::And, word, to))
+}
+
+// The number of its function.
+fn number_into(code: &mut Code, to: Register, word: Register, t: Register) -> Result<(), NoMemory>
+    ensures { OnOk result (code.new ≡ code.old ++ parts.number_into to word t) }
+{
+    code.push(constant(t, 3))?;
+    code.push(compute(to, Arithmetic::ShiftRight, word, t))
+}
+
+// A loop of this routine, as long as the kind at an address compares so with another.
+fn kinds_while(
+    alloc: Global,
+    address: Register,
+    kind: u32,
+    how: Comparison,
+    body: Code,
+) -> Result<CodeStep, NoMemory>
+    ensures { IfOk result (λ step. step ≡ parts.kinds_while address kind how body) }
+{
+    let mut head = Code::new(alloc);
+    kind_into(&mut head, 4, 3, address)?;
+    head.push(constant(5, kind))?;
+    Ok(CodeStep::new(StepKind::Repeat {
+        counted: Counted::Turn,
+        head,
+        test: comparing(how, 4, 5),
+        body,
+    }))
+}
+
+// One method is called.
+fn method_called(alloc: Global) -> Result<Code, NoMemory>
+    ensures { IfOk result (λ code. code ≡ parts.method_called) }
+{
+    let mut code = Code::new(alloc);
+    number_into(&mut code, 3, 3, 5)?;
+    code.push(constant(5, 0))?;
+    code.push(store(9, 5, SITE))?;
+    code.push(call_number(6, 3, four(alloc, 5, 5, 1, 2)?))?;
+    add_to(&mut code, 7, 4, 4)?;
+    Ok(code)
+}
+
+// Methods of a kind are called one after another.
+fn methods_called(alloc: Global, kind: u32) -> Result<Code, NoMemory>
+    ensures { IfOk result (λ code. code ≡ parts.methods_called kind) }
+{
+    let body = method_called(alloc)?;
+    let mut code = Code::new(alloc);
+    code.push(kinds_while(alloc, 7, kind, Comparison::Equal, body)?)?;
+    Ok(code)
+}
+
+// The first around method is called, with the rest of the chain.
+fn around_called(alloc: Global) -> Result<Code, NoMemory>
+    ensures { IfOk result (λ code. code ≡ parts.around_called) }
+{
+    let mut code = Code::new(alloc);
+    number_into(&mut code, 3, 3, 4)?;
+    code.push(constant(4, 4))?;
+    code.push(compute(4, Arithmetic::Add, 0, 4))?;
+    code.push(constant(5, 0))?;
+    code.push(call_number(6, 3, four(alloc, 5, 4, 1, 2)?))?;
+    code.push(return_word(6))?;
+    Ok(code)
+}
+
+// The first primary method is sought.
+fn primary_sought(alloc: Global) -> Result<CodeStep, NoMemory>
+    ensures { IfOk result (λ step. step ≡ parts.primary_sought) }
+{
+    let mut body = Code::new(alloc);
+    add_to(&mut body, 8, 4, 4)?;
+    kinds_while(alloc, 8, PRIMARY, Comparison::LessUnsigned, body)
+}
+
+// It is called with the rest behind it, and then the after methods.
+fn primary_called(alloc: Global) -> Result<Code, NoMemory>
+    ensures { IfOk result (λ code. code ≡ parts.primary_called) }
+{
+    let after = methods_called(alloc, AFTER)?;
+    let mut code = Code::new(alloc);
+    code.push(load(3, 8, 0))?;
+    number_into(&mut code, 3, 3, 4)?;
+    code.push(constant(4, 4))?;
+    code.push(compute(4, Arithmetic::Add, 8, 4))?;
+    code.push(constant(5, 0))?;
+    code.push(store(9, 5, SITE))?;
+    code.push(call_number(8, 3, four(alloc, 5, 4, 1, 2)?))?;
+    code.append_list(after)?;
+    code.push(return_word(8))?;
+    Ok(code)
+}
+
+// A chain runs.
+fn chain_run(alloc: Global) -> Result<Code, NoMemory>
+    ensures { IfOk result (λ code. code ≡ parts.chain_run) }
+{
+    let around = around_called(alloc)?;
+    let sought = primary_sought(alloc)?;
+    let before = methods_called(alloc, BEFORE)?;
+    let primary = primary_called(alloc)?;
+    let mut code = Code::new(alloc);
+    code.push(constant(5, 0))?;
+    code.push(load(9, 5, SITE))?;
+    kind_into(&mut code, 4, 3, 0)?;
+    code.push(constant(5, AROUND))?;
+    code.push(if_equal(4, 5, around, Code::new(alloc)))?;
+    code.push(move_word(8, 0))?;
+    code.push(sought)?;
+    code.push(move_word(7, 0))?;
+    code.append_list(before)?;
+    code.append_list(primary)?;
+    Ok(code)
+}
+
+/// The chain at the address in 0 runs on as many words as 1 says, at the address in 2.
+#[tactic(auto, unfolding(back_lowering::specs::RoutineCodes::chain_code))]
+pub fn chain_code(alloc: Global, at: &Placement) -> Result<Code, NoMemory>
+    ensures { IfOk result (λ code. code ≡ routines.chain_code at.now) }
+{
+    chain_run(alloc)
+}
+
+// At the end of a chain there is no next method.
+fn end_judged(alloc: Global, at: &Placement) -> Result<Code, NoMemory>
+    ensures { IfOk result (λ code. code ≡ parts.end_judged at.now) }
+{
+    let none = signals(alloc, at, 4, CONTROL_ERROR_CLASS)?;
+    let mut code = Code::new(alloc);
+    kind_into(&mut code, 4, 3, 0)?;
+    code.push(constant(5, CHAIN_END))?;
+    code.push(if_equal(4, 5, none, Code::new(alloc)))?;
+    Ok(code)
+}
+
+/// The same where there may be no chain, or one at its end: then there is no next method.
+#[tactic(auto, unfolding(back_lowering::specs::RoutineCodes::next_code))]
+pub fn next_code(alloc: Global, at: &Placement) -> Result<Code, NoMemory>
+    ensures { IfOk result (λ code. code ≡ routines.next_code at.now) }
+{
+    let none = signals(alloc, at, 4, CONTROL_ERROR_CLASS)?;
+    let judged = end_judged(alloc, at)?;
+    let run = chain_run(alloc)?;
+    let mut code = Code::new(alloc);
+    code.push(constant(3, 0))?;
+    code.push(if_equal(0, 3, none, judged))?;
+    code.append_list(run)?;
+    Ok(code)
+}

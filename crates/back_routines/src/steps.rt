@@ -1,0 +1,113 @@
+// Steps that many routines have.
+
+ghost use Rattle.std.specs.Prelude.{◌≡◌, ◌++◌, ◌+◌, ◌<◌, ◌^◌, [], ◌∷◌, OnOk, IfOk};
+ghost use Rattle.mid_code.specs.MidCode.{return_word};
+ghost use Rattle.back_lowering.specs.RoutineCodes as routines;
+ghost use Rattle.back_lowering.specs.Steps as steps;
+
+use back_leaves::leaves::routine;
+use back_leaves::steps::{call, one, two};
+use back_leaves::words::{DOMAIN, FAILING};
+use back_lowering::Placement;
+use base::NoMemory;
+use mid_arena::steps::{comparing, compute, constant, return_word};
+use mid_code::{
+    Arithmetic, Callee, Code, CodeStep, Comparison, Counted, Operation, Register, RegisterList,
+    StepKind,
+};
+use std::alloc::Global;
+
+// A constant is added to a register; t is used.
+pub(crate) fn add_to(code: &mut Code, r: Register, t: Register, word: u32) -> Result<(), NoMemory>
+    ensures { OnOk result (code.new ≡ code.old ++ routines.add_to r t word) }
+{
+    code.push(constant(t, word))?;
+    code.push(compute(r, Arithmetic::Add, r, t))
+}
+
+// A loop of a routine.
+pub(crate) fn turns_while(head: Code, first: Register, second: Register, body: Code) -> CodeStep
+    ensures { result ≡ routines.turns_while head first second body }
+{
+    CodeStep::new(StepKind::Repeat {
+        counted: Counted::Turn,
+        head,
+        test: comparing(Comparison::Different, first, second),
+        body,
+    })
+}
+
+// A call of the procedure whose number is in a register.
+pub(crate) fn call_number(to: Register, number: Register, arguments: RegisterList) -> CodeStep
+    ensures { result ≡ steps.call_number to number arguments }
+{
+    CodeStep::new(StepKind::Do(Operation::Call {
+        to,
+        callee: Callee::Word(number),
+        arguments,
+    }))
+}
+
+// Four registers.
+pub(crate) fn four(
+    alloc: Global,
+    first: Register,
+    second: Register,
+    third: Register,
+    fourth: Register,
+) -> Result<RegisterList, NoMemory>
+    ensures { IfOk result (λ list. list ≡ first ∷ second ∷ third ∷ fourth ∷ []) }
+{
+    let mut list = RegisterList::new(alloc);
+    list.push(first)?;
+    list.push(second)?;
+    list.push(third)?;
+    list.push(fourth)?;
+    Ok(list)
+}
+
+// What a call comes to is returned.
+pub(crate) fn returning(
+    code: &mut Code,
+    t: Register,
+    procedure: usize,
+    arguments: RegisterList,
+) -> Result<(), NoMemory>
+    ensures { OnOk result (code.new ≡ code.old ++ (steps.call t procedure arguments ∷ return_word t ∷ [])) }
+{
+    code.push(call(t, procedure, arguments))?;
+    code.push(return_word(t))
+}
+
+// A condition of a class without slots is signalled; it uses t.
+pub(crate) fn signals(
+    alloc: Global,
+    at: &Placement,
+    t: Register,
+    class: u32,
+) -> Result<Code, NoMemory>
+    ensures { IfOk result (λ code. code ≡ routines.signals at.now t class) }
+{
+    let failing = routine(at, FAILING)?;
+    let mut code = Code::new(alloc);
+    code.push(constant(t, class))?;
+    returning(&mut code, t, failing, one(alloc, t)?)?;
+    Ok(code)
+}
+
+// And a domain error of the word in a register.
+pub(crate) fn signals_domain(
+    alloc: Global,
+    at: &Placement,
+    of: Register,
+    t: Register,
+    class: u32,
+) -> Result<Code, NoMemory>
+    ensures { IfOk result (λ code. code ≡ routines.signals_domain at.now of t class) }
+{
+    let domain = routine(at, DOMAIN)?;
+    let mut code = Code::new(alloc);
+    code.push(constant(t, class))?;
+    returning(&mut code, t, domain, two(alloc, of, t)?)?;
+    Ok(code)
+}
