@@ -75,7 +75,7 @@ module _ (l : Located) (number frame line : ℕ) (s : Spot) where
       three pass_code l.arguments_at s.arguments_at W V (sources l number line vs) (map own_slot vs) a.arguments_at a.way (sources_are a.source vs)
       ∙ slots_passed s.arguments_at V vs
 
-  before_same :
+  pub before_same :
       (x : Line) → AgreesAt l number frame line s x → (callee : Callee) (vs : List ℕ) → before_call_code l number line callee vs ≡ own_before_call s callee vs
   before_same x a (Procedure n) vs = passed_same x a vs
   before_same x a (Word r) vs =
@@ -109,7 +109,7 @@ module _ (l : Located) (number frame line : ℕ) (s : Spot) where
   operation_same (operation.Get to) a = two (λ w q. Addi 17 0 2 ∷ Ecall ∷ move_code w (InRegister 10) q) W V T (own_slot to) a.way a.target
   operation_same (operation.Call to callee vs) a = call_same to callee vs a
 
-  tested_same : (x : Line) → AgreesAt l number frame line s x → (first second : ℕ) → tested_code l number line first second ≡ own_tested s first second
+  pub tested_same : (x : Line) → AgreesAt l number frame line s x → (first second : ℕ) → tested_code l number line first second ≡ own_tested s first second
   tested_same x a first second =
       three (λ w p q. read_code w 5 p ++ read_code w 6 q) W V (S first) (own_slot first) (S second) (own_slot second) a.way (a.source first) (a.source second)
 

@@ -55,12 +55,17 @@ pub fn passed_length(
     number: usize,
     arguments: &RegisterList,
 ) -> Result<usize, NoMemory>
-    requires {
-        FitsSpot spot.now registers × (registers < 2 ^ 30) × (list_all (is_register registers) arguments.now ≡ true)
+    requires { FitsSpot spot.now registers × (registers < 2 ^ 30) × (list_all (is_register registers) arguments.now ≡ true)
         × (spot.now.arguments_at + length arguments.now ≤ 2 ^ 24) }
     ensures { IfOk result (λ count. count ≡ length (own_before_call spot.now (Procedure number) arguments.now)) }
 {
     scratch.cut(0);
-    put_before_call(scratch, spot, registers, Callee::Procedure(number), arguments)?;
+    put_before_call(
+        scratch,
+        spot,
+        registers,
+        Callee::Procedure(number),
+        arguments,
+    )?;
     Ok(scratch.len())
 }
