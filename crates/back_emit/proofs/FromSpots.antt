@@ -1,9 +1,8 @@
 -- The code of a line is the code from its spot, where the spot says what was decided.
-use Rattle.std.proofs.Common.{◌≡◌, ℕ, ◌+◌, ◌*◌, ◌^◌, ◌-◌, Bool, true, false, List, [], ◌∷◌, ◌++◌, length, map, refl, sym, ap, ◌∙◌}
+use Rattle.std.proofs.Common.{◌≡◌, ℕ, ◌+◌, ◌*◌, ◌^◌, ◌-◌, true, false, List, [], ◌∷◌, ◌++◌, length, map, refl, ap, ◌∙◌}
 use Rattle.std.specs.Prelude.{◌&&◌, ◌==◌, nat_lt, if◌then◌else◌}
 use Rattle.rv_encode.specs.declared.instruction.Instr.{Instr}
 use Rattle.rv_encode.specs.declared.instruction.Instr.TheVariants.{Lui, Jalr, Bge, Lw, Sw, Addi, Add, Sub, Slli, Ecall}
-use Rattle.mid_code.specs.declared.operation.Arithmetic.{Arithmetic}
 use Rattle.mid_code.specs.declared.operation.Callee.{Callee}
 use Rattle.mid_code.specs.declared.operation.Callee.TheVariants.{Procedure, Word}
 use Rattle.mid_code.specs.declared.operation.Operation.{Operation}
@@ -13,18 +12,18 @@ use Rattle.mid_code.specs.Arena.{header_words}
 use Rattle.mid_lines.specs.declared.line.Line.{Line}
 use Rattle.mid_lines.specs.declared.line.Line.TheVariants.{Do, Branch, Switch, Jump, Lay, Landed, GiveBack, Lend, GiveBackLent, Return, Cut, Halt, Unhandled}
 use Rattle.back_places.specs.declared.place.Place.{Place}
-use Rattle.back_places.specs.declared.place.Place.TheVariants.{InRegister, InSlot, AsConstant}
+use Rattle.back_places.specs.declared.place.Place.TheVariants.{InRegister, AsConstant}
 use Rattle.back_places.specs.Places.{Located, Way, way_at, depth_in}
 use Rattle.back_places.specs.Operands.{high_part, low_part, address_code, load_into, read_in, read_code, given_in, keep_code, move_code}
 use Rattle.back_places.specs.Selection.{compute_code, branch_code, jump_code, low_12}
 use Rattle.back_places.specs.Passing.{are_others, are_in_order, arguments_code, stored_code, fetched_code, pass_code}
 use Rattle.back_places.specs.Places.{argument_register}
 use Rattle.back_places.specs.Blocks.{raise_code, room_code, full_here_code}
-use Rattle.back_places.specs.LineCode.{request_code, link_code, table_jump_code, sources, before_call_code, call_jump_code, tested_code, lent_code, line_code, behind_code, operation_code}
+use Rattle.back_places.specs.LineCode.{request_code, link_code, table_jump_code, sources, before_call_code, tested_code, lent_code, line_code, behind_code, operation_code}
 use Rattle.back_places.specs.Trivial.{own_slot}
 use Rattle.back_emit.specs.declared.spots.Spot.{Spot}
 use Rattle.back_emit.specs.Ways.{way_of}
-use Rattle.back_emit.specs.OwnCode.{own_before_call, own_call_jump, own_arguments, own_operation, own_tested, own_lent, own_line, own_behind}
+use Rattle.back_emit.specs.OwnCode.{own_before_call, own_arguments, own_operation, own_tested, own_lent, own_line, own_behind}
 use Rattle.back_emit.specs.Agree.{AgreesAt, LawOfSpots}
 
 two : {A B : Type 0} (f : A → B → List Instr) (a a' : A) (b b' : B) → a ≡ a' → b ≡ b' → f a b ≡ f a' b'
@@ -76,7 +75,7 @@ module _ (l : Located) (number frame line : ℕ) (s : Spot) where
       three pass_code l.arguments_at s.arguments_at W V (sources l number line vs) (map own_slot vs) a.arguments_at a.way (sources_are a.source vs)
       ∙ slots_passed s.arguments_at V vs
 
-  before_same :
+  pub before_same :
       (x : Line) → AgreesAt l number frame line s x → (callee : Callee) (vs : List ℕ) → before_call_code l number line callee vs ≡ own_before_call s callee vs
   before_same x a (Procedure n) vs = passed_same x a vs
   before_same x a (Word r) vs =
@@ -110,7 +109,7 @@ module _ (l : Located) (number frame line : ℕ) (s : Spot) where
   operation_same (operation.Get to) a = two (λ w q. Addi 17 0 2 ∷ Ecall ∷ move_code w (InRegister 10) q) W V T (own_slot to) a.way a.target
   operation_same (operation.Call to callee vs) a = call_same to callee vs a
 
-  tested_same : (x : Line) → AgreesAt l number frame line s x → (first second : ℕ) → tested_code l number line first second ≡ own_tested s first second
+  pub tested_same : (x : Line) → AgreesAt l number frame line s x → (first second : ℕ) → tested_code l number line first second ≡ own_tested s first second
   tested_same x a first second =
       three (λ w p q. read_code w 5 p ++ read_code w 6 q) W V (S first) (own_slot first) (S second) (own_slot second) a.way (a.source first) (a.source second)
 

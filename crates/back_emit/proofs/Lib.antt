@@ -5,3 +5,4 @@ pub mod WaysOfTrees
 pub mod Walked
 pub mod Counted
 pub mod OwnRests
+pub mod OwnNear

@@ -1,16 +1,16 @@
 -- What is left from each line on, counted from the spots of lines, is what the layout counts.
-use Rattle.std.proofs.Common.{◌≡◌, ℕ, zero, suc, ◌+◌, ◌-◌, ◌<◌, ◌≤◌, Bool, List, [], ◌∷◌, ◌++◌, length, drop, Option, Some, None, refl, sym, ap, subst, ◌∙◌, arith, drop-cons, length-set, get_or-drop}
-use Rattle.std.specs.Prelude.{slice_get, slice_index, slice_set}
+use Rattle.std.proofs.Common.{◌≡◌, ℕ, suc, ◌+◌, Bool, List, [], ◌∷◌, length, Some, refl, ap, ◌∙◌, arith}
+use Rattle.std.specs.Prelude.{slice_get, slice_index}
 use Rattle.mid_lines.specs.declared.line.Line.{Line}
-use Rattle.mid_lines.specs.declared.line.Line.TheVariants.{Do, Branch, Switch, Jump, Lay, Landed, GiveBack, Lend, GiveBackLent, Return, Cut, Halt, Unhandled}
+use Rattle.mid_lines.specs.declared.line.Line.TheVariants.{Jump}
 use Rattle.back_places.specs.Places.{Located}
-use Rattle.back_places.specs.LineCode.{line_code, behind_code}
+use Rattle.back_places.specs.LineCode.{behind_code}
 use Rattle.back_layout.specs.Sizes.{unplaced, jump_size, goes_over_nothing, own_size, line_size, rests}
 use Rattle.back_emit.specs.declared.spots.Sizing.{Sizing}
 use Rattle.back_emit.specs.declared.ways.FrameWay.{FrameWay}
 use Rattle.back_emit.specs.Agree.{AgreesAt}
 use Rattle.back_emit.specs.OwnCode.{own_line, own_behind}
-use Rattle.back_emit.specs.OwnSizes.{sizing_spot, near_in, own_line_size, own_rests, LawOfOwnRests}
+use Rattle.back_emit.specs.OwnSizes.{sizing_spot, own_line_size, own_rests, LawOfOwnRests}
 use Rattle.back_emit.proofs.FromSpots.{line_same, behind_same}
 
 module _ (l : Located) (number frame : ℕ) (z : Sizing) (ways : List FrameWay) (nears : List Bool) where

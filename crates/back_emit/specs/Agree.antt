@@ -6,11 +6,11 @@ use Rattle.mid_code.specs.declared.operation.Operation.TheVariants as operation
 use Rattle.mid_lines.specs.declared.line.Line.{Line}
 use Rattle.mid_lines.specs.declared.line.Line.TheVariants.{Do, Branch, Jump, Lay}
 use Rattle.back_places.specs.Places.{Located, way_at}
-use Rattle.back_places.specs.LineCode.{line_code, behind_code, entry_code}
-use Rattle.back_places.specs.Trivial.{own_slot, own_slots, TargetIs}
+use Rattle.back_places.specs.LineCode.{line_code, behind_code}
+use Rattle.back_places.specs.Trivial.{own_slot, TargetIs}
 use Rattle.back_emit.specs.declared.spots.Spot.{Spot}
 use Rattle.back_emit.specs.Ways.{way_of}
-use Rattle.back_emit.specs.OwnCode.{own_line, own_behind, own_entry}
+use Rattle.back_emit.specs.OwnCode.{own_line, own_behind}
 
 -- where the line jumps, or its landing
 abbrev pub OperationGoes : (l : Located) (s : Spot) → Operation → Type 0

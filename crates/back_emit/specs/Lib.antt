@@ -5,3 +5,4 @@ pub mod Agree
 pub mod TreeWays
 pub mod OwnSizes
 pub mod OwnLines
+pub mod OwnNear

@@ -1,6 +1,6 @@
 -- The code of lines where each register is in a slot of its own, from what is known at the line: the way to the frame, positions, whether a jump
 -- is near.
-use Rattle.std.specs.Prelude.{ℕ, ◌+◌, ◌-◌, ◌*◌, ◌^◌, Bool, true, false, ◌&&◌, ◌==◌, nat_lt, List, [], ◌∷◌, ◌++◌, length, map, if◌then◌else◌}
+use Rattle.std.specs.Prelude.{ℕ, ◌+◌, ◌-◌, ◌*◌, ◌^◌, Bool, false, ◌&&◌, ◌==◌, nat_lt, List, [], ◌∷◌, ◌++◌, length, map, if◌then◌else◌}
 use Rattle.rv_encode.specs.declared.instruction.Instr.{Instr}
 use Rattle.rv_encode.specs.declared.instruction.Instr.TheVariants.{Lui, Jalr, Bge, Lw, Sw, Addi, Add, Sub, Slli, Ecall}
 use Rattle.mid_code.specs.declared.operation.Callee.{Callee}
@@ -11,9 +11,9 @@ use Rattle.mid_code.specs.Arena.{header_words}
 use Rattle.mid_lines.specs.declared.line.Line.{Line}
 use Rattle.mid_lines.specs.declared.line.Line.TheVariants.{Do, Branch, Switch, Jump, Lay, Landed, GiveBack, Lend, GiveBackLent, Return, Cut, Halt, Unhandled}
 use Rattle.back_places.specs.declared.place.Place.{Place}
-use Rattle.back_places.specs.declared.place.Place.TheVariants.{InRegister, InSlot, AsConstant}
+use Rattle.back_places.specs.declared.place.Place.TheVariants.{InRegister, AsConstant}
 use Rattle.back_places.specs.Places.{depth_in}
-use Rattle.back_places.specs.Operands.{high_part, low_part, address_code, load_into, read_in, read_code, given_in, keep_code, move_code}
+use Rattle.back_places.specs.Operands.{high_part, low_part, address_code, load_into, read_code, keep_code, move_code}
 use Rattle.back_places.specs.Selection.{compute_code, branch_code, jump_code, low_12}
 use Rattle.back_places.specs.Passing.{arguments_code, parameters_code}
 use Rattle.back_places.specs.Blocks.{raise_code, room_code, full_here_code}

@@ -1,6 +1,5 @@
 -- The spots of the lines of a procedure with their positions, which are known from what is left, and the code from these spots.
-use Rattle.std.specs.Prelude.{ℕ, ◌+◌, ◌-◌, Bool, List, [], ◌∷◌, ◌++◌, slice_index}
-use Rattle.rv_encode.specs.declared.instruction.Instr.{Instr}
+use Rattle.std.specs.Prelude.{ℕ, ◌+◌, ◌-◌, Bool, List, slice_index}
 use Rattle.mid_code.specs.declared.operation.Callee.{Callee}
 use Rattle.mid_code.specs.declared.operation.Callee.TheVariants.{Procedure, Word}
 use Rattle.mid_code.specs.declared.operation.Operation.{Operation}
@@ -10,7 +9,6 @@ use Rattle.mid_lines.specs.declared.line.Line.TheVariants.{Do, Branch, Jump, Lay
 use Rattle.back_emit.specs.declared.spots.Spot.{Spot}
 use Rattle.back_emit.specs.declared.spots.Sizing.{Sizing}
 use Rattle.back_emit.specs.declared.ways.FrameWay.{FrameWay}
-use Rattle.back_emit.specs.OwnCode.{own_line, own_behind}
 use Rattle.back_emit.specs.OwnSizes.{sizing_spot}
 
 -- the position of a line, in a body at a position

@@ -1,5 +1,5 @@
 -- How many words are left from each line on, where each register is in a slot of its own: what `back_layout` counts, from the spots of lines.
-use Rattle.std.specs.Prelude.{◌≡◌, ◌<◌, ℕ, ◌+◌, Bool, false, List, [], ◌∷◌, length, slice_get, slice_index, Option, Some, None}
+use Rattle.std.specs.Prelude.{◌≡◌, ℕ, ◌+◌, Bool, false, List, [], ◌∷◌, length, slice_get, slice_index, Option, Some, None}
 use Rattle.mid_lines.specs.declared.line.Line.{Line}
 use Rattle.mid_lines.specs.declared.line.Line.TheVariants.{Jump}
 use Rattle.back_places.specs.Places.{Located}

@@ -3,6 +3,7 @@
 ghost use Rattle.back_emit.specs.Agree.{LawOfSpots};
 ghost use Rattle.back_emit.specs.TreeWays.{LawOfTreeWays};
 ghost use Rattle.back_emit.specs.OwnSizes.{LawOfOwnRests};
+ghost use Rattle.back_emit.specs.OwnNear.{LawOfOwnNear};
 
 /// Where a line's spot says what was decided, and each register is in a slot of its own, the code of the line is the code from its spot.
 pub fn law_spots()
@@ -17,4 +18,9 @@ pub fn law_tree_ways()
 /// What is left from each line on, counted from the spots of lines, is what the layout counts.
 pub fn law_own_rests()
     ensures { LawOfOwnRests }
+{}
+
+/// Where a line's spot says what was decided, its jump is near by the spot where it is near by the layout.
+pub fn law_own_near()
+    ensures { LawOfOwnNear }
 {}

@@ -7,6 +7,7 @@ pub mod errors;
 pub mod finding;
 pub mod laws;
 pub mod lines;
+pub mod nearness;
 pub mod operands;
 pub mod operations;
 pub mod passing;

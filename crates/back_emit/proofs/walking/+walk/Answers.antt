@@ -1,5 +1,4 @@
 use Rattle.std.proofs.Common.{arith}
-use Rattle.mid_code.specs.MidCode.{code_of}
 use Rattle.mid_lines.proofs.Appending.{code_size_above}
 use Rattle.back_emit.proofs.Walked.{one_step_more, one_case_more}
 use Rattle.back_emit.proofs.walking.+walk.Goals as goal
