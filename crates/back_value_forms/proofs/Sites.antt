@@ -58,6 +58,7 @@ module _ (setting : Setting) (n : ℕ) (some : 1 ≤ n) {rs valid : List Standin
     };
     activation = record {
       slot_count = b.activation.slot_count;
+      home_count = b.activation.home_count;
       homes = b.activation.homes;
       slots = b.activation.slots;
       exit_count = b.activation.exit_count;
@@ -94,6 +95,7 @@ module _ (setting : Setting) (n : ℕ) (some : 1 ≤ n) {rs valid : List Standin
       → ActivationStands setting s rs valid w' env around z' regs' y'
   activation_back {regs' = regs'} k t = record {
     slot_count = t.slot_count;
+    home_count = t.home_count;
     homes = t.homes;
     slots = t.slots;
     exit_count = t.exit_count;

@@ -34,6 +34,7 @@ module _ (setting : Setting) where
     methods = t.methods;
     exit_forms = t.exit_forms;
     functions = t.functions;
+    captured = t.captured;
     generics = t.generics;
   }
 
