@@ -138,6 +138,7 @@ module _ (setting : Setting) (n : ℕ) (some : 1 ≤ n) {rs valid : List Standin
     w' = t.w';
     of_value = t.of_value;
     world = t.world;
+    charged = t.charged;
     paid = t.paid;
     pending = t.pending;
     landing_word = t.landing_word;
@@ -198,7 +199,7 @@ module _ (setting : Setting) (n : ℕ) (some : 1 ≤ n) {rs valid : List Standin
       e
 
 stands_sited : (setting : Setting) (s : FormScope) (first n : ℕ) (f : FlatForm) → FormStands setting s first (sited n f) → FormStands setting (at_site n s) first f
-stands_sited setting s first n f h = record { stands = h.stands; fits = h.fits.2; leads = h.leads; placed = h.placed }
+stands_sited setting s first n f h = record { stands = h.stands; fits = h.fits.2; leads = h.leads; placed = h.placed; forms_known = h.forms_known }
 
 sited_does : (setting : Setting) (k turns n : ℕ) (f : FlatForm) → Does setting k turns f → Does setting k turns (sited n f)
 unfolding mean lower

@@ -113,7 +113,7 @@ module _ (setting : Setting) (k turns : ℕ) where
       let one : Steps = (lower setting.names setting.at setting.program s.code d f).value in
       let others : Steps = variable_from s.code d (d + 1) p in
       setting_law setting s d n (length regs) k turns p f placed stands.stands.0 stands.stands.1 (known_place (points_known setting) s d n (length regs) p) (registers_behind one others (length regs) registers)
-      (does_here setting s d n (length regs) k turns f first does (record { stands = stands.stands.2; fits = stands.fits; leads = stands.leads; placed = stands.placed })
+      (does_here setting s d n (length regs) k turns f first does (record { stands = stands.stands.2; fits = stands.fits; leads = stands.leads; placed = stands.placed; forms_known = stands.forms_known })
       (registers_front one others (length regs) registers) words)
       (point rs valid s d n w env around z regs y begins)
 
@@ -136,9 +136,9 @@ module _ (setting : Setting) (k turns : ℕ) where
       bindings_law setting s d n size k turns bs body placed (known.homes s d n size (point rs valid s d n w env around z regs y begins)) there
       (registers_front boxes (body_steps ++ last) size behind_values)
       (arguments_here setting s n size k turns first d (forms_of bs) all (stand_forms setting s.flat first bs stands.stands.0) (fit_forms setting bs stands.fits.0)
-      (lead_forms setting s.exits bs stands.leads.0) (placed_forms setting s bs stands.placed.0)
+      (lead_forms setting s.exits bs stands.leads.0) (placed_forms setting s bs stands.placed.0) stands.forms_known
       (subst (λ ss. enough_for (of_code (code_of ss)) ≤ size) (bindings_steps setting s.code d bs) values_fit) (omega (arith, words, words_forms setting bs)))
-      (does_here setting inside (d + many) n size k turns body first does (record { stands = stands.stands.1; fits = stands.fits.1; leads = stands.leads.1; placed = stands.placed.1 })
+      (does_here setting inside (d + many) n size k turns body first does (record { stands = stands.stands.1; fits = stands.fits.1; leads = stands.leads.1; placed = stands.placed.1; forms_known = stands.forms_known })
       (registers_front body_steps last size behind_boxes) (omega (arith, words)))
       (point rs valid s d n w env around z regs y begins)
 
@@ -173,7 +173,7 @@ module _ (setting : Setting) (k turns : ℕ) where
       let one = step_fits (constant (d + 2) unbound_word) choice size (registers_behind looked tested size (registers_behind value (looked ++ tested) size registers)) in
       let there : d + 2 < size = omega (arith, one) in
       setting_globals_law setting s d n size k turns name f placed stands.placed.0 there (fails s d n size name stands.placed.1 (omega (arith, there)) (omega (arith, words)))
-      (does_here setting s d n size k turns f first does (record { stands = stands.stands; fits = stands.fits; leads = stands.leads; placed = stands.placed.2 })
+      (does_here setting s d n size k turns f first does (record { stands = stands.stands; fits = stands.fits; leads = stands.leads; placed = stands.placed.2; forms_known = stands.forms_known })
       (registers_front value (looked ++ tested) size registers) (omega (arith, words)))
       (point rs valid s d n w env around z regs y begins)
 
@@ -186,7 +186,7 @@ module _ (setting : Setting) (k turns : ℕ) where
       let symbol_steps : Steps = constant d (symbol_word setting.at name) ∷ [] in
       let there : d + 1 < size = stored_fits d (global_address setting.at name) size (registers_front stored symbol_steps size (registers_behind value (stored ++ symbol_steps) size registers)) in
       definitions_law setting s d n size k turns name f placed stands.placed.0 stands.placed.1 there
-      (does_here setting s d n size k turns f first does (record { stands = stands.stands; fits = stands.fits; leads = stands.leads; placed = stands.placed.2 })
+      (does_here setting s d n size k turns f first does (record { stands = stands.stands; fits = stands.fits; leads = stands.leads; placed = stands.placed.2; forms_known = stands.forms_known })
       (registers_front value (stored ++ symbol_steps) size registers) words)
       (point rs valid s d n w env around z regs y begins)
 

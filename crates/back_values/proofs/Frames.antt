@@ -102,6 +102,7 @@ module _ (setting : Setting) where
     w' = t.w';
     of_value = t.of_value;
     world = world_framed fs gs t.world;
+    charged = t.charged;
     paid = t.paid;
     pending = t.pending;
     landing_word = t.landing_word;
