@@ -43,6 +43,7 @@ module _ (setting : Setting) where
         methods = t.methods;
         exit_forms = t.exit_forms;
         functions = λ i p s e f. t.functions i p s e f;
+        captured = t.captured;
         generics = t.generics;
       })
     where
@@ -113,6 +114,7 @@ module _ (setting : Setting) where
           w' = t.w';
           of_value = t.of_value;
           world = record { later = k.later; things = k.things; stack = k.stack; end = k.end; more_exits = k.more_exits; same_size = k.same_size };
+          charged = t.charged;
           paid = omega (arith, enough, t.paid);
           pending = t.pending;
           landing_word = t.landing_word;
@@ -180,6 +182,7 @@ module _ (setting : Setting) where
           w' = t.w';
           of_value = t.of_value;
           world = world_after z r size kept t.world;
+          charged = omega (arith, t.charged, kept);
           paid = omega (arith, t.paid);
           pending = t.pending;
           landing_word = t.landing_word;

@@ -75,12 +75,12 @@ LawOfJudgedArguments =
     (mean_arguments (context_at setting k) fs [] p.env p.around p.z next)
     (run setting s d m size k turns (arguments_steps setting s d fs ++ rest) p.regs p.y)
 
--- Forms that do what they mean wherever they stand do so as arguments, where their code has its registers and its words; and there are
--- registers for all their values.
+-- Forms that do what they mean wherever they stand do so as arguments, where the forms that made the exits around are known, and their code has its
+-- registers and its words; and there are registers for all their values.
 abbrev pub LawOfArgumentLists : Type 0
 LawOfArgumentLists =
     (setting : Setting) (s : FormScope) (d m size k turns first : ℕ) (fs : FlatForms) → AllDo setting k turns fs
     → StandForms setting.program.lambdas s.flat first fs → FitForms setting.program fs → LeadForms setting.leads.functions s.exits fs
-    → PlacedForms setting s.keeps_method fs → d < size → enough_for (of_code (code_of (arguments_steps setting s d fs))) ≤ size
+    → PlacedForms setting s.keeps_method fs → length s.exits.own ≡ s.flat.exits → d < size → enough_for (of_code (code_of (arguments_steps setting s d fs))) ≤ size
     → words_for_forms setting.names setting.program fs ≤ m
     → (d + count_forms fs ≤ size) × ArgumentsHere setting s d m size k turns fs

@@ -178,6 +178,7 @@ module _ (setting : Setting) {w : World} {z : FlatState} {y : MidState} (t : Thi
       methods = λ i x called e. method_stands x called (t.methods i x called e);
       exit_forms = t.exit_forms;
       functions = λ i p s e f. function_stands s p _ (t.functions i p s e f);
+      captured = t.captured;
       generics = t.generics;
     }
       where

@@ -102,14 +102,15 @@ module _ (setting : Setting) (k turns : ℕ) (rs valid : List Standing) (s : For
       dynamics_sim :
           (ds : FlatDynamics) (first e : ℕ) (vs : List Value) (ws : List ℕ) → DynamicsDo setting k turns ds → StandDynamics setting.program.lambdas s.flat first ds
           → FitDynamics setting.program ds → LeadDynamics setting.leads.functions s.exits ds → PlacedDynamics setting s.keeps_method ds
+          → length s.exits.own ≡ s.flat.exits
           → enough_for (of_code (code_of (value_steps e ds))) ≤ size → words_for_dynamics setting.names setting.program ds ≤ n → e ≡ d + length ws
           → length ws + count_dynamics ds ≡ total → d + total < size → (w : World) (z : FlatState) (regs : Registers) (y : MidState)
           → (b : Begins setting rs valid s d n w env around z regs y) → length regs ≡ size → WordsOf w.places vs ws → WordsFrom d ws regs
           → EndsAt setting credit (from_here w z regs y b) (mean_dynamics (context_at setting k) ds vs env around z next) (exec c (code_of (value_steps e ds ++ rest)) regs y)
       unfolding mean lower
-      dynamics_sim no_dynamic first e vs ws does stands fits leads placed names words at many small w z regs y b count of_values held =
+      dynamics_sim no_dynamic first e vs ws does stands fits leads placed known names words at many small w z regs y b count of_values held =
           behind vs ws w z regs y b count of_values held (omega (arith, many))
-      dynamics_sim (dynamic_and m f ds) first e vs ws does stands fits leads placed names words at many small w z regs y b count of_values held =
+      dynamics_sim (dynamic_and m f ds) first e vs ws does stands fits leads placed known names words at many small w z regs y b count of_values held =
           subst (λ ss. EndsAt setting credit a (mean_dynamics (context_at setting k) (dynamic_and m f ds) vs env around z next) (exec c (code_of ss) regs y))
           (sym (append_assoc one_value (value_steps (e + 1) ds) rest))
           (subst (λ q. EndsAt setting credit a (mean_dynamics (context_at setting k) (dynamic_and m f ds) vs env around z next) q)
@@ -119,7 +120,7 @@ module _ (setting : Setting) (k turns : ℕ) (rs valid : List Standing) (s : For
           (λ v after. dynamics_grow ds (vs ++ v ∷ []) after) (λ g v. code_grows (code_of (value_steps (e + 1) ds ++ rest)) g v)
           (λ x.
           let kept = x.reached.kept.registers in
-          dynamics_sim ds first (e + 1) (vs ++ x.result ∷ []) (ws ++ x.word ∷ []) does.1 stands.1 fits.1 leads.1 placed.2
+          dynamics_sim ds first (e + 1) (vs ++ x.result ∷ []) (ws ++ x.word ∷ []) does.1 stands.1 fits.1 leads.1 placed.2 known
           (registers_behind one_value (value_steps (e + 1) ds) size names) (omega (arith, words)) (omega (arith, at, length-append ws (x.word ∷ [])))
           (omega (arith, many, length-append ws (x.word ∷ []))) small x.w' (mean (context_at setting k) f env around z).state _ _
           (start_after setting a e d n (omega (arith, at)) (omega arith) (omega arith) b.first x.reached).begins (kept.count ∙ count)
@@ -143,7 +144,7 @@ module _ (setting : Setting) (k turns : ℕ) (rs valid : List Standing) (s : For
 
           one : EndsFrom setting 0 a e (mean (context_at setting k) f env around z) (exec c (code_of one_value) regs y)
           one =
-              does.0 rs valid s e n first w env around z regs y (record { stands = stands.0; fits = fits.0; leads = leads.0; placed = placed.1 }) begins_at
+              does.0 rs valid s e n first w env around z regs y (record { stands = stands.0; fits = fits.0; leads = leads.0; placed = placed.1; forms_known = known }) begins_at
               (subst (λ m. enough_for (of_code (code_of one_value)) ≤ m) (sym count) (registers_front one_value (value_steps (e + 1) ds) size names)) (omega (arith, words))
 
 -- ---- the form
@@ -162,7 +163,7 @@ unfolding mean lower
 dynamic_lets_law setting k turns ds body placed values_do body_does rs valid s d n first w env around z regs y stands begins registers words =
     ends_charged setting {c1 = 300 * (1 + count_dynamics ds)} (from_here setting k turns rs valid s d n env around w z regs y begins) (1 + count_dynamics ds) (omega arith)
     (dynamics_sim setting k turns rs valid s d n env around next next_grows rest (300 * (1 + count_dynamics ds)) (length regs) (count_dynamics ds) behind ds first d [] [] values_do
-    stands.stands.0 stands.fits.0 stands.leads.0 stands.placed.0 (registers_front values rest (length regs) registers) (omega (arith, words)) (omega arith) (omega arith) (omega (arith, fits)) w
+    stands.stands.0 stands.fits.0 stands.leads.0 stands.placed.0 stands.forms_known (registers_front values rest (length regs) registers) (omega (arith, words)) (omega arith) (omega arith) (omega (arith, fits)) w
     (charged (1 + count_dynamics ds) z) regs y
     (start_charged setting (from_here setting k turns rs valid s d n env around w z regs y begins) (1 + count_dynamics ds)).begins refl tt tt)
   where
@@ -239,7 +240,7 @@ dynamic_lets_law setting k turns ds body placed values_do body_does rs valid s d
         (words_for setting.names setting.program body) (300 * (1 + count_dynamics ds)) (omega (arith, words)) (omega arith)
         (λ regs1 y1 inside count_one.
         body_does rs valid s (e + 2) (words_for setting.names setting.program body) first _ env _ _ regs1 y1
-        (record { stands = stands.stands.1; fits = stands.fits.1; leads = stands.leads.1; placed = stands.placed.1 }) inside
+        (record { stands = stands.stands.1; fits = stands.fits.1; leads = stands.leads.1; placed = stands.placed.1; forms_known = stands.forms_known }) inside
         (subst (λ m. enough_for (of_code (code_of body_steps)) ≤ m) (sym (count_one ∙ size)) names_body) (omega arith))))
       where
         a : Start setting

@@ -212,7 +212,7 @@ handlers_law setting k turns handler body placed claims handler_does body_does r
     (two setting {c1 = 0} {c2 = 600} a d (λ v after. with_handler_value (context_at setting k) v (λ within ready. mean (context_at setting k) body env within ready) around after)
     (λ g v. exec (code_at setting k turns) (code_of code) g v) (omega arith) (omega arith) (form_grows setting k handler env around (charged 2 z)).units
     (handler_does rs valid s d n first w env around (charged 2 z) regs y
-    (record { stands = stands.stands.0; fits = stands.fits.0; leads = stands.leads.0; placed = stands.placed.0 }) a.begins (registers_front value code (length regs) registers)
+    (record { stands = stands.stands.0; fits = stands.fits.0; leads = stands.leads.0; placed = stands.placed.0; forms_known = stands.forms_known }) a.begins (registers_front value code (length regs) registers)
     (omega (arith, words)))
     grows (λ g v. code_grows setting k turns (code_of code) g v)
     (λ x.
@@ -222,7 +222,7 @@ handlers_law setting k turns handler body placed claims handler_does body_does r
     (λ within ready. mean (context_at setting k) body env within ready) (λ within ready. form_grows setting k body env within ready)
     (λ w1 regs1 y1 inside many.
     body_does rs valid s (d + 3) (words_for setting.names setting.program body) first w1 env _ _ regs1 y1
-    (record { stands = stands.stands.1; fits = stands.fits.1; leads = stands.leads.1; placed = stands.placed.1 }) inside
+    (record { stands = stands.stands.1; fits = stands.fits.1; leads = stands.leads.1; placed = stands.placed.1; forms_known = stands.forms_known }) inside
     (subst (λ m. enough_for (of_code (code_of body_steps)) ≤ m) (sym (many ∙ size)) names_body) (omega arith)))))
   where
     a : Start setting

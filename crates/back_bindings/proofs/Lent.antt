@@ -313,6 +313,7 @@ module _ (setting : Setting) (placed : IsPlaced setting) (a : Start setting) whe
             let scope = a.begins.scope in
             record {
               slot_count = t.slot_count;
+              home_count = t.home_count;
               homes = t.homes;
               slots = λ n r f e g. let old = t.slots n r f e g in (old.0, same r (scope.slots_below n r e) ∙ old.1, slot_inside old.0 f old.2);
               exit_count = t.exit_count;

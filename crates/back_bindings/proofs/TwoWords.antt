@@ -147,8 +147,8 @@ unfolding mean lower
 throws_law setting k turns credit tag f pays claims tag_does f_does rs valid s d n first w env around z regs y stands begins registers words =
     two_words setting k turns credit (throw_routine setting.at) pays (λ v x inner q. throw_to (context_at setting k) v x inner q)
     (λ v x inner q. (throws {R = FlatLater} {k = later_kept} (context_at setting k) (tasks_below setting k) v x inner q).grows) claims tag f tag_does f_does rs valid s d n first w env around z regs y
-    (record { stands = stands.stands.0; fits = stands.fits.0; leads = stands.leads.0; placed = stands.placed.0 })
-    (record { stands = stands.stands.1; fits = stands.fits.1; leads = stands.leads.1; placed = stands.placed.1 }) begins registers (omega (arith, words)) (omega (arith, words))
+    (record { stands = stands.stands.0; fits = stands.fits.0; leads = stands.leads.0; placed = stands.placed.0; forms_known = stands.forms_known })
+    (record { stands = stands.stands.1; fits = stands.fits.1; leads = stands.leads.1; placed = stands.placed.1; forms_known = stands.forms_known }) begins registers (omega (arith, words)) (omega (arith, words))
     (omega (arith, words))
 
 pub signals_law : LawOfSignals
@@ -156,8 +156,8 @@ unfolding mean lower
 signals_law setting k turns credit condition mark pays claims condition_does mark_does rs valid s d n first w env around z regs y stands begins registers words =
     two_words setting k turns credit (signal_routine setting.at) pays (λ v x inner q. mean_signal (context_at setting k) v x inner q) (λ v x inner q. signal_later setting k v x inner q) claims
     condition mark condition_does mark_does rs valid s d n first w env around z regs y
-    (record { stands = stands.stands.0; fits = stands.fits.0; leads = stands.leads.0; placed = stands.placed.0 })
-    (record { stands = stands.stands.1; fits = stands.fits.1; leads = stands.leads.1; placed = stands.placed.1 }) begins registers (omega (arith, words)) (omega (arith, words))
+    (record { stands = stands.stands.0; fits = stands.fits.0; leads = stands.leads.0; placed = stands.placed.0; forms_known = stands.forms_known })
+    (record { stands = stands.stands.1; fits = stands.fits.1; leads = stands.leads.1; placed = stands.placed.1; forms_known = stands.forms_known }) begins registers (omega (arith, words)) (omega (arith, words))
     (omega (arith, words))
 
 pub continuing_law : LawOfContinuing
@@ -165,6 +165,6 @@ unfolding mean lower
 continuing_law setting k turns credit condition f pays claims condition_does f_does rs valid s d n first w env around z regs y stands begins registers words =
     two_words setting k turns credit (continue_routine setting.at) pays (λ v x inner q. continue_with (context_at setting k) v x inner q)
     (λ v x inner q. (continues {R = FlatLater} {k = later_kept} (context_at setting k) (tasks_below setting k) v x inner q).grows) claims condition f condition_does f_does rs valid s d n first w env around z
-    regs y (record { stands = stands.stands.0; fits = stands.fits.0; leads = stands.leads.0; placed = stands.placed.0 })
-    (record { stands = stands.stands.1; fits = stands.fits.1; leads = stands.leads.1; placed = stands.placed.1 }) begins registers (omega (arith, words)) (omega (arith, words))
+    regs y (record { stands = stands.stands.0; fits = stands.fits.0; leads = stands.leads.0; placed = stands.placed.0; forms_known = stands.forms_known })
+    (record { stands = stands.stands.1; fits = stands.fits.1; leads = stands.leads.1; placed = stands.placed.1; forms_known = stands.forms_known }) begins registers (omega (arith, words)) (omega (arith, words))
     (omega (arith, words))

@@ -167,6 +167,7 @@ module _ (setting : Setting) (placed : IsPlaced setting) (a : Start setting) whe
         → MethodHeld setting w2 v'.arena a.s.keeps_method g a.s.code.method a.env.method → ActivationStands setting a.s a.rs a.valid w2 a.env a.around z2 g v'
     activation_around v v' t m = record {
       slot_count = t.slot_count;
+      home_count = t.home_count;
       homes = t.homes;
       slots = t.slots;
       exit_count = t.exit_count;
@@ -476,6 +477,11 @@ module _ (setting : Setting) (placed : IsPlaced setting) (a : Start setting) whe
           world =
               world_outward (world_both setting passed gone (λ p low high. high))
               (λ i p e. let high = stack_high (stack_from q.state.arena) i p moved.w'.boxes e in let from = from_cut in omega (arith, high, from));
+          charged =
+              let charged = moved.charged in
+              let inside = stack_inside in
+              let within = h.begins.call.things.represents.arena in
+              omega (arith, charged, inside, h.heap_to, outer_stands.room, outer_stands.aligned, within.room, within.aligned);
           paid = omega (arith, moved.paid, h.paid, enough);
           pending = moved.pending;
           landing_word = moved.landing_word;

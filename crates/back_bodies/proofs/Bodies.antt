@@ -142,6 +142,7 @@ module _ (setting : Setting) (k : ℕ) (extra : Extra) (q : FlatProcedure)
     call = call;
     activation = record {
       slot_count = registers_count 0 (n setting extra q) ∙ sym (new_count (homes q) vs count many);
+      home_count = sym (new_count (homes q) vs count many);
       homes = λ i x e. new_homes (homes q) vs count i x many e;
       slots = λ i r f e g. let at = register_of 0 (n setting extra q) i r e in slot_in w 0 i r (new_slots (homes q) vs count) f regs slots g at.0;
       exit_count = refl;

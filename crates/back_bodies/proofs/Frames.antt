@@ -44,6 +44,7 @@ module _ (setting : Setting) where
     methods = t.methods;
     exit_forms = t.exit_forms;
     functions = t.functions;
+    captured = t.captured;
     generics = t.generics;
   }
 
@@ -116,6 +117,7 @@ module _ (setting : Setting) where
               w' = t.w';
               of_value = t.of_value;
               world = world_framed z.frame z.frame t.world;
+              charged = t.charged;
               paid = omega (arith, t.paid);
               pending = t.pending;
               landing_word = t.landing_word;
@@ -198,6 +200,7 @@ module _ (setting : Setting) (p : Place) where
           w' = t.w';
           of_value = t.of_value;
           world = t.world;
+          charged = t.charged;
           paid = t.paid;
           pending = t.pending;
           landing_word = t.landing_word;

@@ -83,6 +83,7 @@ module _ (setting : Setting) (right : ProgramIsRight setting) where
       fits = all_at (λ (u : FlatProcedure). Fits setting.program u.body) setting.program.procedures entry q right.fits.procedures there;
       leads = all_at (λ (u : FlatProcedure). Leads setting.leads.functions no_exits u.body) setting.program.procedures entry q setting.leads.procedures there;
       placed = all_at (λ (u : FlatProcedure). Placed setting u.keeps_method u.body) setting.program.procedures entry q right.placed.procedures there;
+      forms_known = refl;
     };
     of_kinds = subst (λ us. AreOfKinds [] us) (sym none) tt;
     made_by = subst (λ us. AreMadeBy w us []) (sym none) tt;
@@ -104,6 +105,7 @@ module _ (setting : Setting) (right : ProgramIsRight setting) where
           fits = all_at (λ (u : FlatProcedure). Fits setting.program u.body) setting.program.lambdas p q right.fits.lambdas there;
           leads = lead.leads;
           placed = all_at (λ (u : FlatProcedure). Placed setting u.keeps_method u.body) setting.program.lambdas p q right.placed.lambdas there;
+          forms_known = refl;
         };
         of_kinds = fits.0;
         made_by = fits.1 p lead.forms refl lead.there;

@@ -240,6 +240,7 @@ module _ (setting : Setting) (p : MidProcedure) {w : World} {z : FlatState} {y :
               more_exits = t1.world.more_exits;
               same_size = t1.world.same_size ∙ size;
             };
+            charged = let less = left_inside in let same = size in omega (arith, t1.charged, less, same, some);
             paid = omega (arith, t1.paid);
             pending = t1.pending;
             landing_word = t1.landing_word;

@@ -175,5 +175,6 @@ module _ (setting : Setting) {w : World} {z : FlatState} {y y' : MidState} {boxe
     methods = λ i a called e. method_stands a called (t.methods i a called e);
     exit_forms = t.exit_forms;
     functions = λ i p s e f. function_stands i p s _ f (t.represents.objects i (function p) s e f).words (t.functions i p s e f);
+    captured = t.captured;
     generics = t.generics;
   }

@@ -90,6 +90,7 @@ module _ (setting : Setting) {w w' : World} {y y' : MidState} (l : Later w w') (
       → ActivationStands setting s rs valid w' env around z' regs y'
   activation_out {s} {rs} {valid} {env} {around} {z} {z'} {regs} frame kept t = record {
     slot_count = t.slot_count ∙ ap length (sym frame);
+    home_count = t.home_count ∙ ap length (sym frame);
     homes = λ n home e. subst (λ fs. SlotHas home (slice_get fs n)) (sym frame) (t.homes n home e);
     slots = λ n r f e g.
         let old = t.slots n r f e (ap (λ fs. slice_get fs n) (sym frame) ∙ g) in

@@ -7,7 +7,7 @@ use Rattle.mid_code.specs.State.{Registers, MidState, MidOutcome, ends}
 use Rattle.back_relation.specs.Setting.{Setting}
 use Rattle.back_relation.specs.Worlds.{World, Standing}
 use Rattle.back_relation.specs.Ends.{WorldKept, Around, Transfers}
-use Rattle.back_combining.proofs.Then.{world_then}
+use Rattle.back_combining.proofs.Then.{from_same, world_then}
 
 module _ (setting : Setting) {c1 : ℕ} {w w1 : World} {z z1 : FlatState} {y y1 : MidState} (k1 : WorldKept setting w w1 z z1 y y1) (a1 : Around setting c1 z z1 y y1) where
   -- its fields compute
@@ -32,6 +32,7 @@ module _ (setting : Setting) {c1 : ℕ} {w w1 : World} {z z1 : FlatState} {y y1 
     w' = t.w';
     of_value = t.of_value;
     world = world_then setting k1 a1 t.world;
+    charged = let from = from_same setting k1 a1 in omega (arith, a1.charged, t.charged, from);
     paid = omega (arith, a1.paid, t.paid, enough);
     pending = t.pending;
     landing_word = t.landing_word;
@@ -60,6 +61,7 @@ transfers_as setting regs t = record {
   w' = t.w';
   of_value = t.of_value;
   world = t.world;
+  charged = t.charged;
   paid = t.paid;
   pending = t.pending;
   landing_word = t.landing_word;

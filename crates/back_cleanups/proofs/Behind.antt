@@ -26,11 +26,10 @@ use Rattle.back_relation.specs.StackWords.{HasWordAt}
 use Rattle.back_relation.specs.Activation.{NoSlot, RegistersKept, inside_cleanup}
 use Rattle.back_relation.specs.Ends.{ChargedFrom, Transfers}
 use Rattle.back_relation.specs.Forms.{Begins, code_at}
-use Rattle.back_combining.specs.Starts.{Start, FellFrom, ReachedFrom}
+use Rattle.back_combining.specs.Starts.{Start, FellFrom, ReachedFrom, LeftFrom}
 use Rattle.back_combining.specs.Stores.{stores}
 use Rattle.back_combining.proofs.Parts.{go_on_falls}
 use Rattle.back_combining.proofs.Windows.{stored_lent}
-use Rattle.back_exits.specs.Charging.{LeftCharged}
 use Rattle.back_exits.specs.Inside.{around_at, address_inside, record_inside, LaidAt}
 use Rattle.back_exits.specs.RecordSteps.{ControlSays, left_stores, landed_stores, with_stores}
 use Rattle.back_exits.specs.Touching.{touched}
@@ -240,9 +239,9 @@ module _ (setting : Setting) (placed : IsPlaced setting) (k turns : ℕ) (a : St
 
   -- ---- a transfer landed
 
-  module _ {c1 : ℕ} (r : FlatEvaluated) (q : MidOutcome) (t : LeftCharged setting c1 inside (a.d + 6) r q) where
+  module _ {c1 : ℕ} (r : FlatEvaluated) (q : MidOutcome) (t : LeftFrom setting c1 inside (a.d + 6) r q) where
     abbrev l : Transfers setting c1 (record_inside setting a for_cleanup ∷ a.rs) a.valid w a.around z y r q
-    l = t.left.transfer
+    l = t.transfer
 
     all_here : record_inside setting a for_cleanup ∷ a.rs ≡ l.to ∷ l.outer
     all_here = sym (cleanup_stops l.target.address (record_inside setting a for_cleanup) a.rs refl) ∙ l.stop
@@ -263,21 +262,21 @@ module _ (setting : Setting) (placed : IsPlaced setting) (k turns : ℕ) (a : St
     lands = landed_stores (around_at setting a).current (around_at setting a).link (around_at setting a).handlers_cell (around_at setting a).bindings_cell
 
     abbrev all_stores : List (ℕ × ℕ)
-    all_stores = during_stores (around_at setting a).current (around_at setting a).link (around_at setting a).handlers_cell (around_at setting a).bindings_cell t.left.transfer.target.address
+    all_stores = during_stores (around_at setting a).current (around_at setting a).link (around_at setting a).handlers_cell (around_at setting a).bindings_cell t.transfer.target.address
 
     abbrev h1 : Registers
-    h1 = slice_set q.registers a.d (Some t.left.transfer.word)
+    h1 = slice_set q.registers a.d (Some t.transfer.word)
 
     abbrev h2 : Registers
-    h2 = slice_set (slice_set q.registers a.d (Some t.left.transfer.word)) (a.d + 6) (Some 0)
+    h2 = slice_set (slice_set q.registers a.d (Some t.transfer.word)) (a.d + 6) (Some 0)
 
     abbrev h3 : Registers
-    h3 = slice_set (slice_set (slice_set q.registers a.d (Some t.left.transfer.word)) (a.d + 6) (Some 0)) (a.d + 1) (Some t.left.transfer.target.address)
+    h3 = slice_set (slice_set (slice_set q.registers a.d (Some t.transfer.word)) (a.d + 6) (Some 0)) (a.d + 1) (Some t.transfer.target.address)
 
     abbrev pub g4 : Registers
     g4 =
-        slice_set (slice_set (slice_set (slice_set q.registers a.d (Some t.left.transfer.word)) (a.d + 6) (Some 0)) (a.d + 1) (Some t.left.transfer.target.address)) (a.d + 2)
-        (Some t.left.transfer.landing_word)
+        slice_set (slice_set (slice_set (slice_set q.registers a.d (Some t.transfer.word)) (a.d + 6) (Some 0)) (a.d + 1) (Some t.transfer.target.address)) (a.d + 2)
+        (Some t.transfer.landing_word)
 
     abbrev closed : Block
     closed = record (record_of record_words) { kind = closed_record }
@@ -290,21 +289,21 @@ module _ (setting : Setting) (placed : IsPlaced setting) (k turns : ℕ) (a : St
 
     abbrev pub y4 : MidState
     y4 =
-        touched (during_stores (around_at setting a).current (around_at setting a).link (around_at setting a).handlers_cell (around_at setting a).bindings_cell t.left.transfer.target.address)
+        touched (during_stores (around_at setting a).current (around_at setting a).link (around_at setting a).handlers_cell (around_at setting a).bindings_cell t.transfer.target.address)
         (with_blocks a.y.arena.blocks q.state.arena) (q.state.cost + 38 + 8 + 8 + 8 + 10) q.state
 
     spot_then : SpotStands q.state.arena (control_spot setting)
     spot_then = control_of setting l.world.things
 
     size_then : length h1 ≡ length a.regs
-    size_then = length-set q.registers a.d (Some t.left.transfer.word) ∙ size t.left.registers
+    size_then = length-set q.registers a.d (Some t.transfer.word) ∙ size t.registers
 
     size_two : length h2 ≡ length a.regs
     size_two = length-set h1 (a.d + 6) (Some 0) ∙ size_then
 
     kept_there : (i : ℕ) (o : Option ℕ) → a.d + 1 ≤ i → i < a.d + 6 → register i regs ≡ o → register i h1 ≡ o
     kept_there i o high low e =
-        register_beside q.registers a.d i (Some t.left.transfer.word) (λ same. omega (arith, same, high)) ∙ held t.left.registers i o (omega (arith, high)) low e
+        register_beside q.registers a.d i (Some t.transfer.word) (λ same. omega (arith, same, high)) ∙ held t.registers i o (omega (arith, high)) low e
 
     spot_closed : SpotStands yc.arena (control_spot setting)
     spot_closed = spot_stands q.state.arena yc.arena (control_spot setting) refl refl refl (omega arith) spot_then
@@ -333,47 +332,47 @@ module _ (setting : Setting) (placed : IsPlaced setting) (k turns : ℕ) (a : St
     zero_two = register_here h1 (a.d + 6) 0 (let same = size_then in omega (arith, same, there))
 
     zero_three : register (a.d + 6) h3 ≡ Some 0
-    zero_three = register_beside h2 (a.d + 1) (a.d + 6) (Some t.left.transfer.target.address) (λ e. omega (arith, e)) ∙ zero_two
+    zero_three = register_beside h2 (a.d + 1) (a.d + 6) (Some t.transfer.target.address) (λ e. omega (arith, e)) ∙ zero_two
 
-    pub target_held : register (a.d + 1) g4 ≡ Some t.left.transfer.target.address
+    pub target_held : register (a.d + 1) g4 ≡ Some t.transfer.target.address
     target_held =
-        register_beside h3 (a.d + 2) (a.d + 1) (Some t.left.transfer.landing_word) (λ e. omega (arith, e))
-        ∙ register_here h2 (a.d + 1) t.left.transfer.target.address (let same = size_two in omega (arith, same, there))
+        register_beside h3 (a.d + 2) (a.d + 1) (Some t.transfer.landing_word) (λ e. omega (arith, e))
+        ∙ register_here h2 (a.d + 1) t.transfer.target.address (let same = size_two in omega (arith, same, there))
 
-    pub landing_held : register (a.d + 2) g4 ≡ Some t.left.transfer.landing_word
+    pub landing_held : register (a.d + 2) g4 ≡ Some t.transfer.landing_word
     landing_held =
-        register_here h3 (a.d + 2) t.left.transfer.landing_word
-        (let same = size_two in let third = length-set h2 (a.d + 1) (Some t.left.transfer.target.address) in omega (arith, same, third, there))
+        register_here h3 (a.d + 2) t.transfer.landing_word
+        (let same = size_two in let third = length-set h2 (a.d + 1) (Some t.transfer.target.address) in omega (arith, same, third, there))
 
-    pub value_held : register a.d g4 ≡ Some t.left.transfer.word
+    pub value_held : register a.d g4 ≡ Some t.transfer.word
     value_held =
-        register_beside h3 (a.d + 2) a.d (Some t.left.transfer.landing_word) (λ e. omega (arith, e))
-        ∙ register_beside h2 (a.d + 1) a.d (Some t.left.transfer.target.address) (λ e. omega (arith, e))
+        register_beside h3 (a.d + 2) a.d (Some t.transfer.landing_word) (λ e. omega (arith, e))
+        ∙ register_beside h2 (a.d + 1) a.d (Some t.transfer.target.address) (λ e. omega (arith, e))
         ∙ register_beside h1 (a.d + 6) a.d (Some 0) (λ e. omega (arith, e))
-        ∙ register_here q.registers a.d t.left.transfer.word (let same = size t.left.registers in omega (arith, same, there))
+        ∙ register_here q.registers a.d t.transfer.word (let same = size t.registers in omega (arith, same, there))
 
     loads_run : RunsTo c (code_of (landing_loads a.d)) h2 (with_stores lands 38 yc)
-        (ends falls g4 (with_arena (with_word link_address t.left.transfer.target.address (stores lands yc.arena)) (mid_charged 8 (mid_charged 8 (mid_charged 8 (with_stores lands 38 yc))))))
+        (ends falls g4 (with_arena (with_word link_address t.transfer.target.address (stores lands yc.arena)) (mid_charged 8 (mid_charged 8 (mid_charged 8 (with_stores lands 38 yc))))))
     loads_run =
-        and_then (load_falls zero_two (address_above 0 target_address target_address (omega arith) (omega arith)) (word_closed 12 t.left.transfer.target.address (omega arith) refl refl target_word))
-        (and_then (load_falls zero_three (address_above 0 landing_address landing_address (omega arith) (omega arith)) (word_closed 16 t.left.transfer.landing_word (omega arith) refl refl t.left.transfer.landing_stands))
+        and_then (load_falls zero_two (address_above 0 target_address target_address (omega arith) (omega arith)) (word_closed 12 t.transfer.target.address (omega arith) refl refl target_word))
+        (and_then (load_falls zero_three (address_above 0 landing_address landing_address (omega arith) (omega arith)) (word_closed 16 t.transfer.landing_word (omega arith) refl refl t.transfer.landing_stands))
         (and_then
-        (store_falls target_held (register_beside h3 (a.d + 2) (a.d + 6) (Some t.left.transfer.landing_word) (λ e. omega (arith, e)) ∙ zero_three)
+        (store_falls target_held (register_beside h3 (a.d + 2) (a.d + 6) (Some t.transfer.landing_word) (λ e. omega (arith, e)) ∙ zero_three)
         (address_above 0 link_address link_address (omega arith) (omega arith)) (stored_lent lands yc.arena link_address ∙ control_lent setting spot_closed 4 (omega arith) refl))
         none_left))
 
-    pub catch_code : catch t.left.transfer.word q.registers q.state ≡ ends falls g4 y4
+    pub catch_code : catch t.transfer.word q.registers q.state ≡ ends falls g4 y4
     unfolding mid_go_on
     catch_code =
-        closes (record_of record_words) a.y.arena.blocks (λ rs x. mid_go_on (exec c (code_of (landing_steps a.d)) (slice_set rs a.d (Some t.left.transfer.word)) x) (give_back outside)) q.registers q.state blocks_then refl
+        closes (record_of record_words) a.y.arena.blocks (λ rs x. mid_go_on (exec c (code_of (landing_steps a.d)) (slice_set rs a.d (Some t.transfer.word)) x) (give_back outside)) q.registers q.state blocks_then refl
         ∙ ap (λ p. mid_go_on p (give_back outside)) (parts_then (record_landed (a.d + 1) (a.d + 6)) (landing_loads a.d) (record { same = landed_runs }) loads_run).same
         ∙ gives_back closed a.y.arena.blocks g4
-        (with_arena (with_word link_address t.left.transfer.target.address (stores lands yc.arena)) (mid_charged 8 (mid_charged 8 (mid_charged 8 (with_stores lands 38 yc))))) refl refl
+        (with_arena (with_word link_address t.transfer.target.address (stores lands yc.arena)) (mid_charged 8 (mid_charged 8 (mid_charged 8 (with_stores lands 38 yc))))) refl refl
 
-    pub during_says : ControlSays (stores all_stores b4) (around_at setting a).current t.left.transfer.target.address (around_at setting a).handlers_cell (around_at setting a).bindings_cell
+    pub during_says : ControlSays (stores all_stores b4) (around_at setting a).current t.transfer.target.address (around_at setting a).handlers_cell (around_at setting a).bindings_cell
     during_says =
         let o = around_at setting a in
-        let puts : List Put = of_control 0 o.current ∷ of_control 4 o.link ∷ of_control 20 o.handlers_cell ∷ of_control 24 o.bindings_cell ∷ of_control 4 t.left.transfer.target.address ∷ [] in
+        let puts : List Put = of_control 0 o.current ∷ of_control 4 o.link ∷ of_control 20 o.handlers_cell ∷ of_control 24 o.bindings_cell ∷ of_control 4 t.transfer.target.address ∷ [] in
         record {
           current_word = control_back setting l.world.things (record_of record_words) a.y.arena.blocks blocks_then (address_inside setting a) aligned high 0 puts refl (omega arith) refl;
           link_word = control_back setting l.world.things (record_of record_words) a.y.arena.blocks blocks_then (address_inside setting a) aligned high 4 puts refl (omega arith) refl;
@@ -385,35 +384,35 @@ module _ (setting : Setting) (placed : IsPlaced setting) (k turns : ℕ) (a : St
     total = q.state.cost + 38 + 8 + 8 + 8 + 10
 
     abbrev controls_then : AreControls all_stores
-    controls_then = during_controls (around_at setting a).current (around_at setting a).link (around_at setting a).handlers_cell (around_at setting a).bindings_cell t.left.transfer.target.address
+    controls_then = during_controls (around_at setting a).current (around_at setting a).link (around_at setting a).handlers_cell (around_at setting a).bindings_cell t.transfer.target.address
 
     abbrev pub w4 : World
     w4 =
         world_back setting a laid l.world {own = map (reaching behind_cleanup) a.s.code.exits} {count = a.s.flat.exits} {forms = a.s.exits.own} {numbers = a.env.exits} {exits = a.around.exits} 6
-        t.left.registers t.left.activation placed blocks_then all_stores controls_then total
+        t.registers t.activation placed blocks_then all_stores controls_then total
 
     same_below : (i : ℕ) → i < a.d → slice_get g4 i ≡ slice_get q.registers i
     same_below i few =
-        set_elsewhere h3 (a.d + 2) i (Some t.left.transfer.landing_word) (λ e. omega (arith, e, few)) ∙ set_elsewhere h2 (a.d + 1) i (Some t.left.transfer.target.address) (λ e. omega (arith, e, few))
-        ∙ set_elsewhere h1 (a.d + 6) i (Some 0) (λ e. omega (arith, e, few)) ∙ set_elsewhere q.registers a.d i (Some t.left.transfer.word) (λ e. omega (arith, e, few))
+        set_elsewhere h3 (a.d + 2) i (Some t.transfer.landing_word) (λ e. omega (arith, e, few)) ∙ set_elsewhere h2 (a.d + 1) i (Some t.transfer.target.address) (λ e. omega (arith, e, few))
+        ∙ set_elsewhere h1 (a.d + 6) i (Some 0) (λ e. omega (arith, e, few)) ∙ set_elsewhere q.registers a.d i (Some t.transfer.word) (λ e. omega (arith, e, few))
 
     same_count : length g4 ≡ length q.registers
     same_count =
-        length-set h3 (a.d + 2) (Some t.left.transfer.landing_word) ∙ length-set h2 (a.d + 1) (Some t.left.transfer.target.address) ∙ length-set h1 (a.d + 6) (Some 0)
-        ∙ length-set q.registers a.d (Some t.left.transfer.word)
+        length-set h3 (a.d + 2) (Some t.transfer.landing_word) ∙ length-set h2 (a.d + 1) (Some t.transfer.target.address) ∙ length-set h1 (a.d + 6) (Some 0)
+        ∙ length-set q.registers a.d (Some t.transfer.word)
 
     pub landed_came : Came setting a (c1 + cost + 72) w4 r.state g4 y4
     landed_came = record {
       world =
           outside_kept setting a laid l.world {own = map (reaching behind_cleanup) a.s.code.exits} {count = a.s.flat.exits} {forms = a.s.exits.own} {numbers = a.env.exits} {exits = a.around.exits} 6
-          t.left.registers t.left.activation placed blocks_then all_stores controls_then total;
+          t.registers t.activation placed blocks_then all_stores controls_then total;
       registers =
           registers_back setting a laid l.world {own = map (reaching behind_cleanup) a.s.code.exits} {count = a.s.flat.exits} {forms = a.s.exits.own} {numbers = a.env.exits} {exits = a.around.exits} 6
-          t.left.registers t.left.activation placed blocks_then all_stores controls_then total g4 same_count same_below;
+          t.registers t.activation placed blocks_then all_stores controls_then total g4 same_count same_below;
       blocks = refl;
       charged =
           charged_back setting a laid l.world {own = map (reaching behind_cleanup) a.s.code.exits} {count = a.s.flat.exits} {forms = a.s.exits.own} {numbers = a.env.exits} {exits = a.around.exits} 6
-          t.left.registers t.left.activation placed blocks_then all_stores controls_then total t.charged;
+          t.registers t.activation placed blocks_then all_stores controls_then total t.transfer.charged;
       paid =
           let paid = l.paid in
           let there = laid.paid in
@@ -422,5 +421,5 @@ module _ (setting : Setting) (placed : IsPlaced setting) (k turns : ℕ) (a : St
           omega (arith, paid, there, up, same);
       activation =
           activation_back setting a laid l.world {own = map (reaching behind_cleanup) a.s.code.exits} {count = a.s.flat.exits} {forms = a.s.exits.own} {numbers = a.env.exits} {exits = a.around.exits} 6
-          t.left.registers t.left.activation placed blocks_then all_stores controls_then total g4 same_below;
+          t.registers t.activation placed blocks_then all_stores controls_then total g4 same_below;
     }

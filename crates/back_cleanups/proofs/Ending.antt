@@ -27,10 +27,9 @@ use Rattle.back_relation.specs.Around.{AroundStands}
 use Rattle.back_relation.specs.Ends.{LandingIs, done}
 use Rattle.back_relation.specs.Forms.{code_at}
 use Rattle.back_relation.specs.Procedures.{called}
-use Rattle.back_combining.specs.Starts.{Start, ReachedFrom}
+use Rattle.back_combining.specs.Starts.{Start, ReachedFrom, EndsAt}
 use Rattle.back_combining.proofs.Parts.{single_step}
 use Rattle.back_combining.proofs.Starts.{reached_set}
-use Rattle.back_exits.specs.Charging.{ChargesAt}
 use Rattle.back_exits.specs.Inside.{around_with}
 use Rattle.back_exits.specs.Touching.{touched}
 use Rattle.back_exits.proofs.Charging.{next_start, whole_then}
@@ -67,10 +66,10 @@ module _ (setting : Setting) (c : Context) (a : Start setting) {credit : ℕ} {w
   -- **the word of the value is still there**
   pub value_ends :
       (whole : ℕ) (v : Value) (word : ℕ) → credit + 20 ≤ whole → a.z.state.units ≤ z.state.units → register a.d g ≡ Some word → word_of w.places v ≡ Some word
-      → ChargesAt setting whole a (gives v z) (exec c (code_of (end_steps setting a.d)) g y)
+      → EndsAt setting whole a (gives v z) (exec c (code_of (end_steps setting a.d)) g y)
   value_ends whole v word enough up held is =
       let b : Start setting = next_start setting 20 whole a a.d a.d a.n (omega arith) (omega arith) (omega arith) a.begins.first x enough in
-      subst (λ q. ChargesAt setting whole a (gives v z) q) (sym value_runs.same)
+      subst (λ q. EndsAt setting whole a (gives v z) q) (sym value_runs.same)
       (whole_then setting 20 whole a a.d a.d a.n (omega arith) (omega arith) (omega arith) a.begins.first x enough {r = gives v z} {q = ends falls (slice_set g (a.d + 3) (Some 0)) (mid_charged 20 y)} up
       (done (record {
         result = v;
@@ -146,7 +145,7 @@ module _ (setting : Setting) (placed : IsPlaced setting) (k : ℕ) (a : Start se
       }))))
 
   -- **the transfer goes on**
-  pub transfer_ends : ChargesAt setting whole a (leaves e v landing z) (exec c (code_of (end_steps setting a.d)) g y)
+  pub transfer_ends : EndsAt setting whole a (leaves e v landing z) (exec c (code_of (end_steps setting a.d)) g y)
   transfer_ends =
       transfer_passes setting placed k a goes came around_stands outer enough_words e v landing target word landing_word is valid_target landing_is lands whole (credit + 78) total g6 size6 same6
       (let paid = came.paid in omega (arith, paid)) (omega (arith, enough)) up (exec c (code_of (end_steps setting a.d)) g y) (λ last passes same. (goes_runs last passes same).same)

@@ -18,18 +18,17 @@ use Rattle.back_relation.specs.Worlds.{World, LandsIn, Standing, record_of_exit}
 use Rattle.back_relation.specs.StackWords.{HasWordAt}
 use Rattle.back_relation.specs.Around.{AroundStands, CallBegins}
 use Rattle.back_relation.specs.Activation.{ActivationStands}
-use Rattle.back_relation.specs.Ends.{PaidFrom, LandingIs, ControlBack, WorldKept, Transfers, Because, Returned, Ends, done, left_by, full_there, stopped, few_turns}
+use Rattle.back_relation.specs.Ends.{PaidFrom, LandingIs, ControlBack, WorldKept, Transfers, LeftCall, Because, Returned, Ends, done, left_by, full_there, stopped, few_turns}
 use Rattle.back_relation.specs.Forms.{code_at}
 use Rattle.back_relation.specs.Procedures.{called}
 use Rattle.back_combining.specs.Cuts.{boxes_cut}
-use Rattle.back_combining.specs.Starts.{Start}
+use Rattle.back_combining.specs.Starts.{Start, LeftFrom, EndsAt}
 use Rattle.back_combining.specs.Stores.{stores}
 use Rattle.back_combining.proofs.Activations.{activation_later}
 use Rattle.back_combining.proofs.Cuts.{words_fewer}
 use Rattle.back_combining.proofs.Starts.{room_after}
 use Rattle.back_combining.proofs.Windows.{stored_elsewhere}
 use Rattle.back_combining.proofs.Worlds.{Same, around_again}
-use Rattle.back_exits.specs.Charging.{LeftCharged, ChargesAt}
 use Rattle.back_exits.specs.Going.{world_with}
 use Rattle.back_exits.specs.Inside.{around_with}
 use Rattle.back_exits.specs.Touching.{Touched, touched, ExitsMade}
@@ -38,7 +37,7 @@ use Rattle.back_exits.proofs.Leaving.{AreControls, controls_touch, controls_alig
 use Rattle.back_exits.proofs.Puts.{of_control, control_stands}
 use Rattle.back_exits.proofs.Touching.{world_touched, stored_from, stack_kept}
 use Rattle.back_exits.proofs.Words.{control_lent, control_there, control_of}
-use Rattle.back_cleanups.specs.Cleanups.{CallLeftCharged, TransferGoes}
+use Rattle.back_cleanups.specs.Cleanups.{TransferGoes}
 use Rattle.back_cleanups.proofs.Calls.{Passes}
 use Rattle.back_cleanups.proofs.Outside.{Came, from_came, left_outside}
 
@@ -153,9 +152,9 @@ module _ (setting : Setting) (placed : IsPlaced setting) (k : ℕ) (a : Start se
 
   -- ---- a transfer left
 
-  module _ (t : CallLeftCharged setting 300 a.rs valid w7 (around_with exits a.around) z y7 (leaves e v landing z) q7) where
+  module _ (t : LeftCall setting 300 a.rs valid w7 (around_with exits a.around) z y7 (leaves e v landing z) q7) where
     abbrev l : Transfers setting 300 a.rs valid w7 (around_with exits a.around) z y7 (leaves e v landing z) q7
-    l = t.left.transfer
+    l = t.transfer
 
     abbrev final : MidOutcome
     final = ends (cuts l.to.outside l.word) g6 q7.state
@@ -177,6 +176,7 @@ module _ (setting : Setting) (placed : IsPlaced setting) (k : ℕ) (a : Start se
       w' = l.w';
       of_value = l.of_value;
       world = l.world;
+      charged = l.charged;
       paid = l.paid;
       pending = l.pending;
       landing_word = l.landing_word;
@@ -204,14 +204,14 @@ module _ (setting : Setting) (placed : IsPlaced setting) (k : ℕ) (a : Start se
         (method_shallower setting w7 y7 q7.state a.s.keeps_method g6 a.s.code.method a.env.method from_cut
         (λ x low plain. l.world.stack.words x (let from = from_cut in omega (arith, low, from)) low plain) activation7.method))
 
-    pub went : LeftCharged setting whole a a.d (leaves e v landing z) final
+    pub went : LeftFrom setting whole a a.d (leaves e v landing z) final
     unfolding of_final
     went =
-        left_outside setting a came7 whole {q = final} (omega (arith, enough)) of_final (outer l.exit_number l.target l.valid_target) t.charged (record { count = refl; same = λ i low none. refl })
+        left_outside setting a came7 whole {q = final} (omega (arith, enough)) of_final (outer l.exit_number l.target l.valid_target) t.transfer.charged (record { count = refl; same = λ i low none. refl })
         {own = a.s.code.exits} {count = a.s.flat.exits} {forms = a.s.exits.own} {numbers = a.env.exits} {exits = a.around.exits} activation_cut
 
   -- **the transfer goes on**
-  pub transfer_passes : (p : MidOutcome) → ((last : End) → Passes last → q7.end ≡ last → p ≡ ends last g6 q7.state) → ChargesAt setting whole a (leaves e v landing z) p
+  pub transfer_passes : (p : MidOutcome) → ((last : End) → Passes last → q7.end ≡ last → p ≡ ends last g6 q7.state) → EndsAt setting whole a (leaves e v landing z) p
   transfer_passes p so = by (goes a.rs valid w7 (around_with exits a.around) z y7 e v landing target word landing_word valid_target is landing_stored landing_is lands begins7)
     where
       stop_passes : (o : End) → Because setting (leaves e v landing z) o → Passes o
@@ -220,12 +220,12 @@ module _ (setting : Setting) (placed : IsPlaced setting) (k : ℕ) (a : Start se
       stop_passes exhausted h = tt
       stop_passes o h = absurd h
 
-      by : Ends setting (Returned setting 300 w7 z y7 (leaves e v landing z) q7) (CallLeftCharged setting 300 a.rs valid w7 (around_with exits a.around) z y7 (leaves e v landing z) q7) a.turns z y7 (leaves e v landing z) q7
-          → ChargesAt setting whole a (leaves e v landing z) p
+      by : Ends setting (Returned setting 300 w7 z y7 (leaves e v landing z) q7) (LeftCall setting 300 a.rs valid w7 (around_with exits a.around) z y7 (leaves e v landing z) q7) a.turns z y7 (leaves e v landing z) q7
+          → EndsAt setting whole a (leaves e v landing z) p
       by (done r) = absurd (cc r.outcome)
       by (left_by t) =
-          subst (λ q. ChargesAt setting whole a (leaves e v landing z) q) (sym (so (cuts t.left.transfer.to.outside t.left.transfer.word) tt t.left.transfer.end)) (left_by (went t))
+          subst (λ q. EndsAt setting whole a (leaves e v landing z) q) (sym (so (cuts t.transfer.to.outside t.transfer.word) tt t.transfer.end)) (left_by (went t))
       by (full_there f) = absurd (cc f.outcome)
       by (stopped h) =
-          subst (λ q. ChargesAt setting whole a (leaves e v landing z) q) (sym (so q7.end (stop_passes q7.end h.because) refl)) (stopped (record { because = h.because; printed = h.printed }))
+          subst (λ q. EndsAt setting whole a (leaves e v landing z) q) (sym (so q7.end (stop_passes q7.end h.because) refl)) (stopped (record { because = h.because; printed = h.printed }))
       by (few_turns h) = let size = came7.world.same_size in few_turns (omega (arith, h, size, up))

@@ -13,13 +13,12 @@ use Rattle.back_relation.specs.Room.{words_for_handler}
 use Rattle.back_relation.specs.Worlds.{World, Later, Standing, record_of_exit}
 use Rattle.back_relation.specs.Around.{AroundStands}
 use Rattle.back_relation.specs.Activation.{RegistersKept, ExitReached, ActivationStands, in_cleanup}
-use Rattle.back_relation.specs.Ends.{ChargedFrom, PaidFrom, WorldKept, Transfers}
+use Rattle.back_relation.specs.Ends.{ChargedFrom, TakenCharged, PaidFrom, WorldKept, Transfers}
 use Rattle.back_relation.specs.Forms.{Begins}
-use Rattle.back_combining.specs.Starts.{Start, FellFrom, ReachedFrom}
+use Rattle.back_combining.specs.Starts.{Start, FellFrom, ReachedFrom, LeftFrom}
 use Rattle.back_combining.proofs.Starts.{room_after, scope_later}
 use Rattle.back_combining.proofs.Then.{registers_then, method_there_again, same_world}
 use Rattle.back_combining.proofs.Worlds.{Same, stack_same, around_again}
-use Rattle.back_exits.specs.Charging.{TakenCharged, LeftCharged}
 use Rattle.back_exits.specs.Inside.{scope_with, environment_with, around_with, ExitsStand, around_at}
 use Rattle.back_exits.proofs.Inside.{world_both, exits_of, activation_with}
 use Rattle.back_cleanups.proofs.Scopes.{scope_mapped, searched_exits}
@@ -151,6 +150,7 @@ module _ (setting : Setting) (a : Start setting) where
         w' = t.w';
         of_value = t.of_value;
         world = world_out;
+        charged = let first = came.charged in let from = from_came in omega (arith, first, charged, from);
         paid = let first = came.paid in let then = t.paid in omega (arith, first, then, enough);
         pending = t.pending;
         landing_word = t.landing_word;
@@ -159,17 +159,14 @@ module _ (setting : Setting) (a : Start setting) where
         lands = t.lands;
       }
 
-      pub left_outside : LeftCharged setting c a a.d r q
+      pub left_outside : LeftFrom setting c a a.d r q
       unfolding transfer_out
       left_outside =
           let all : RegistersKept a.s.code a.d a.regs q.registers = registers_then (omega arith) came.registers kept in
           record {
-            left = record {
-              transfer = transfer_out;
-              activation = activation_with setting {y' = q.state} activation (exits_kept world_out.later all) activation.method;
-              registers = all;
-            };
-            charged = let first = came.charged in let from = from_came in omega (arith, first, charged, from);
+            transfer = transfer_out;
+            activation = activation_with setting {y' = q.state} activation (exits_kept world_out.later all) activation.method;
+            registers = all;
           }
 
     -- behind a cleanup that ran because the form fell out

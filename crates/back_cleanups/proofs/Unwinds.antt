@@ -29,8 +29,8 @@ use Rattle.back_relation.specs.Around.{AroundStands}
 use Rattle.back_relation.specs.Activation.{NoSlot, inside_cleanup, in_cleanup}
 use Rattle.back_relation.specs.Ends.{AreFew, Transfers, Ends, done, left_by, full_there, stopped, few_turns}
 use Rattle.back_relation.specs.Forms.{Begins, context_at, code_at}
-use Rattle.back_combining.specs.Points.{Point, start_at, value_steps}
-use Rattle.back_combining.specs.Starts.{FlatGrown, Start, FellFrom, ReachedFrom}
+use Rattle.back_combining.specs.Points.{Point, start_at, value_steps, Here}
+use Rattle.back_combining.specs.Starts.{FlatGrown, Start, FellFrom, ReachedFrom, LeftFrom, EndsAt}
 use Rattle.back_combining.proofs.Fitting.{registers_front, registers_behind}
 use Rattle.back_combining.proofs.FormGrowth.{form_grows}
 use Rattle.back_combining.proofs.Growth.{same_flat, both_prefix, both_flat, then_value}
@@ -38,14 +38,14 @@ use Rattle.back_combining.proofs.Parts.{go_on_falls, go_on_last, step_then}
 use Rattle.back_combining.proofs.Starts.{start_charged, scope_later}
 use Rattle.back_combining.proofs.Then.{same_world, stopped_last}
 use Rattle.back_combining.proofs.Worlds.{around_again, word_later}
-use Rattle.back_exits.specs.Charging.{LeftCharged, ChargesAt, ChargesHere}
 use Rattle.back_exits.specs.Inside.{around_with, around_at, address_inside, record_inside, LaidAt}
 use Rattle.back_exits.proofs.BlockRecords.{no_words, block_laid}
 use Rattle.back_exits.proofs.Charging.{part_then, units_then}
 use Rattle.back_exits.proofs.Exits.{cut_lands, stop_passes}
 use Rattle.back_exits.proofs.Inside.{around_cleanup, begins_inside}
 use Rattle.back_exits.proofs.Steps.{record_runs, record_wanting, Window, window_of}
-use Rattle.back_exits.proofs.Whole.{charges_here, inside_registers, second_register}
+use Rattle.back_combining.proofs.Points.{does_here}
+use Rattle.back_exits.proofs.Whole.{inside_registers, second_register}
 use Rattle.back_cleanups.specs.Cleanups.{TransferGoes, LawOfUnwinds, LawOfWholeUnwinds}
 use Rattle.back_cleanups.proofs.Behind.{behind_form, landing_steps, inside, after, rest, catch, g3, y3, w3, fell_code, fell_reached, word_held, none_held, to_here, g4, y4, w4, catch_code, during_says, target_held, landing_held, value_held, landed_came}
 use Rattle.back_cleanups.proofs.Cleaned.{cleans, within, cleaned_value, cleaned_exit, cleaned_other, cleaned_grows, because_cleaned, lands_later}
@@ -66,8 +66,8 @@ ends_so f g h (stopped x) = stopped x
 ends_so f g h (few_turns x) = few_turns (h x)
 
 module _ (setting : Setting) (placed : IsPlaced setting) (m size k : ℕ) (f cleanup : FlatForm) (a : Start setting) (wide : a.d + 8 ≤ length a.regs) (size_is : length a.regs ≡ size) (enough : 8 + m ≤ a.n)
-    (enough_words : routine_words ≤ a.n) (goes : TransferGoes setting k a.turns) (f_here : ChargesHere setting (inside_cleanup a.s) (a.d + 6) m size k a.turns f)
-    (cleanup_here : ChargesHere setting (in_cleanup a.s) (a.d + 3) a.n size k a.turns cleanup) where
+    (enough_words : routine_words ≤ a.n) (goes : TransferGoes setting k a.turns) (f_here : Here setting (inside_cleanup a.s) (a.d + 6) m size k a.turns f)
+    (cleanup_here : Here setting (in_cleanup a.s) (a.d + 3) a.n size k a.turns cleanup) where
   abbrev c : Context
   c = code_at setting k a.turns
 
@@ -180,7 +180,7 @@ module _ (setting : Setting) (placed : IsPlaced setting) (m size k : ℕ) (f cle
       abbrev qc : MidOutcome
       qc = exec c (code_of cleanup_steps) (g3 setting placed k a.turns a laid m begins wide came ran x) (y3 setting placed k a.turns a laid m begins wide came ran x)
 
-      cleaned_here : ChargesAt setting 0 o3 rc qc
+      cleaned_here : EndsAt setting 0 o3 rc qc
       cleaned_here = cleanup_here (record {
         rs = a.rs;
         valid = a.valid;
@@ -194,10 +194,10 @@ module _ (setting : Setting) (placed : IsPlaced setting) (m size k : ℕ) (f cle
         count = x3.kept.registers.count ∙ size_is;
       })
 
-      left3 : LeftCharged setting 0 o3 (a.d + 3) rc qc → LeftCharged setting 600 a a.d rc qc
+      left3 : LeftFrom setting 0 o3 (a.d + 3) rc qc → LeftFrom setting 600 a a.d rc qc
       left3 t =
-          left_outside setting a came3 600 (omega arith) t.left.transfer t.left.transfer.valid_target t.charged
-          (record { count = t.left.registers.count; same = λ i low none. t.left.registers.same i (omega (arith, low)) none }) t.left.activation
+          left_outside setting a came3 600 (omega arith) t.transfer t.transfer.valid_target t.transfer.charged
+          (record { count = t.registers.count; same = λ i low none. t.registers.same i (omega (arith, low)) none }) t.activation
 
       few3 : AreFew a.turns came.state (y3 setting placed k a.turns a laid m begins wide came ran x) rc.state → AreFew a.turns a.z a.y rc.state
       few3 h = let size = x3.kept.world.same_size in let more = up in omega (arith, h, size, more)
@@ -206,7 +206,7 @@ module _ (setting : Setting) (placed : IsPlaced setting) (m size k : ℕ) (f cle
       kept3 xc r n high low e = ap word_in (xc.reached.kept.registers.same r low (not_slot r high)) ∙ e
 
       abbrev Whole : FlatEvaluated → MidOutcome → Type 0
-      Whole r q = ChargesAt setting 600 a r q
+      Whole r q = EndsAt setting 600 a r q
 
       pub fell_sim : Whole (result came) (mid_go_on (landed (length a.y.arena.blocks) landing (mid_go_on ran behind)) after_step)
       unfolding mid_go_on
@@ -228,9 +228,9 @@ module _ (setting : Setting) (placed : IsPlaced setting) (m size k : ℕ) (f cle
 
     -- ---- a transfer landed
 
-    module _ (t : LeftCharged setting 0 (inside setting placed k a.turns a laid m begins wide) (a.d + 6) came ran) where
+    module _ (t : LeftFrom setting 0 (inside setting placed k a.turns a laid m begins wide) (a.d + 6) came ran) where
       abbrev l : Transfers setting 0 (record_inside setting a for_cleanup ∷ a.rs) a.valid (world_of_cleanup setting placed k a.turns a room win) a.around a.z (state_of_cleanup setting placed k a.turns a room win) came ran
-      l = t.left.transfer
+      l = t.transfer
 
       abbrev went4 : World
       went4 = w4 setting placed k a.turns a laid m begins wide came ran t
@@ -263,7 +263,7 @@ module _ (setting : Setting) (placed : IsPlaced setting) (m size k : ℕ) (f cle
       abbrev qd : MidOutcome
       qd = exec c (code_of cleanup_steps) h4 s4
 
-      cleaned_there : ChargesAt setting 0 o4 rd qd
+      cleaned_there : EndsAt setting 0 o4 rd qd
       cleaned_there = cleanup_here (record {
         rs = a.rs;
         valid = cut4.valid;
@@ -277,10 +277,10 @@ module _ (setting : Setting) (placed : IsPlaced setting) (m size k : ℕ) (f cle
         count = came4.registers.count ∙ size_is;
       })
 
-      left4 : LeftCharged setting 0 o4 (a.d + 3) rd qd → LeftCharged setting 600 a a.d rd qd
+      left4 : LeftFrom setting 0 o4 (a.d + 3) rd qd → LeftFrom setting 600 a a.d rd qd
       left4 u =
-          left_outside setting a came4 600 (omega arith) u.left.transfer (cut4.outer u.left.transfer.exit_number u.left.transfer.target u.left.transfer.valid_target) u.charged
-          (record { count = u.left.registers.count; same = λ i low none. u.left.registers.same i (omega (arith, low)) none }) u.left.activation
+          left_outside setting a came4 600 (omega arith) u.transfer (cut4.outer u.transfer.exit_number u.transfer.target u.transfer.valid_target) u.transfer.charged
+          (record { count = u.registers.count; same = λ i low none. u.registers.same i (omega (arith, low)) none }) u.activation
 
       few4 : AreFew a.turns came.state s4 rd.state → AreFew a.turns a.z a.y rd.state
       few4 h = let size = came4.world.same_size in let more = up in omega (arith, h, size, more)
@@ -289,7 +289,7 @@ module _ (setting : Setting) (placed : IsPlaced setting) (m size k : ℕ) (f cle
       kept4 xc r n high low e = ap word_in (xc.reached.kept.registers.same r low (not_slot r high)) ∙ e
 
       abbrev Whole4 : FlatEvaluated → MidOutcome → Type 0
-      Whole4 r q = ChargesAt setting 600 a r q
+      Whole4 r q = EndsAt setting 600 a r q
 
       around5 : (xc : FellFrom setting 0 o4 (a.d + 3) rd qd) → AroundStands setting xc.w' a.rs cut4.valid (around_with (exits_from l.exit_number a.around.exits) a.around) rd.state qd.state
       around5 xc =
@@ -335,8 +335,8 @@ module _ (setting : Setting) (placed : IsPlaced setting) (m size k : ℕ) (f cle
     rest_grows rs y =
         go_on_grown (exec c (code_of (behind_form a.d)) rs y) (after setting placed k a.turns a laid m begins wide) y (code_grown (behind_form a.d) rs y) (λ rs' y'. after_inside_grown (length a.y.arena.blocks) rs' y')
 
-    by_form : ChargesAt setting 0 (inside setting placed k a.turns a laid m begins wide) came ran
-        → ChargesAt setting 600 a (result came) (mid_go_on (landed (length a.y.arena.blocks) landing (mid_go_on ran behind)) after_step)
+    by_form : EndsAt setting 0 (inside setting placed k a.turns a laid m begins wide) came ran
+        → EndsAt setting 600 a (result came) (mid_go_on (landed (length a.y.arena.blocks) landing (mid_go_on ran behind)) after_step)
     by_form (done x) = fell_sim x
     by_form (left_by t) = left_sim t
     by_form (full_there x) =
@@ -344,11 +344,11 @@ module _ (setting : Setting) (placed : IsPlaced setting) (m size k : ℕ) (f cle
         go_on_grown (landed (length a.y.arena.blocks) landing (mid_go_on ran behind)) after_step ran.state
         (landed_grown (length a.y.arena.blocks) landing (mid_go_on ran behind) ran.state (go_on_grown ran behind ran.state (same_grown ran.state) rest_grows) catch_grows)
         (λ g y. code_grown behind_steps g y) in
-        subst (λ p. ChargesAt setting 600 a p (mid_go_on (landed (length a.y.arena.blocks) landing (mid_go_on ran behind)) after_step)) (sym (cleaned_other setting k cleanup a.env a.around came _ x.outcome tt))
+        subst (λ p. EndsAt setting 600 a p (mid_go_on (landed (length a.y.arena.blocks) landing (mid_go_on ran behind)) after_step)) (sym (cleaned_other setting k cleanup a.env a.around came _ x.outcome tt))
         (full_there (record { asked = x.asked; left_then = x.left_then; outcome = x.outcome; printed = both_prefix x.printed (record { rest = g.printed.0; is = sym g.printed.1 }) }))
     by_form (stopped x) =
         let g = cleaned_grows setting k cleanup a.env a.around came in
-        subst (λ q. ChargesAt setting 600 a (result came) q)
+        subst (λ q. EndsAt setting 600 a (result came) q)
         (sym (ap (λ q. mid_go_on q after_step) (stop_passes (length a.y.arena.blocks) behind landing setting came ran ran.end refl x.because)
         ∙ go_on_last ran.end ran after_step refl (stopped_last setting came ran.end x.because)))
         (stopped (record { because = because_cleaned setting k cleanup a.env a.around came ran.end x.because; printed = both_prefix x.printed g.printed }))
@@ -357,8 +357,8 @@ module _ (setting : Setting) (placed : IsPlaced setting) (m size k : ℕ) (f cle
         let same = laid.world.same_size in
         few_turns (omega (arith, x, g.units, same))
 
-    pub with_words : ChargesAt setting 600 a (result came) (mid_go_on (exec_step c step a.regs a.y) after_step)
-    with_words = subst (λ q. ChargesAt setting 600 a (result came) (mid_go_on q after_step)) (sym step_is) (by_form (f_here point))
+    pub with_words : EndsAt setting 600 a (result came) (mid_go_on (exec_step c step a.regs a.y) after_step)
+    with_words = subst (λ q. EndsAt setting 600 a (result came) (mid_go_on q after_step)) (sym step_is) (by_form (f_here point))
 
   abbrev whole : FlatEvaluated
   whole = result (mean (context_at setting k) f a.env a.around a.z)
@@ -366,18 +366,18 @@ module _ (setting : Setting) (placed : IsPlaced setting) (m size k : ℕ) (f cle
   grown : FlatGrown a.z whole.state
   grown = both_flat (form_grows setting k f a.env a.around a.z) (cleaned_grows setting k cleanup a.env a.around (mean (context_at setting k) f a.env a.around a.z))
 
-  pub unwind_step : ChargesAt setting 600 a whole (mid_go_on (exec_step c step a.regs a.y) after_step)
+  pub unwind_step : EndsAt setting 600 a whole (mid_go_on (exec_step c step a.regs a.y) after_step)
   unwind_step = by (nat_le 8 (left a.y.arena)) refl
     where
-      by : (b : Bool) → nat_le 8 (left a.y.arena) ≡ b → ChargesAt setting 600 a whole (mid_go_on (exec_step c step a.regs a.y) after_step)
+      by : (b : Bool) → nat_le 8 (left a.y.arena) ≡ b → EndsAt setting 600 a whole (mid_go_on (exec_step c step a.regs a.y) after_step)
       by true same = with_words (leb-true 8 (left a.y.arena) same)
       by false same =
           let few = leb-false 8 (left a.y.arena) same in
           let wants = record_wanting c (a.d + 1) record_words a.d (code_of inside_steps) (code_of (landing_steps a.d)) a.regs a.y few in
-          subst (λ q. ChargesAt setting 600 a whole q) (sym (ap (λ q. mid_go_on q after_step) wants ∙ go_on_last _ _ after_step refl tt)) (no_words setting a record_cost whole grown (omega (arith, enough)) few)
+          subst (λ q. EndsAt setting 600 a whole q) (sym (ap (λ q. mid_go_on q after_step) wants ∙ go_on_last _ _ after_step refl tt)) (no_words setting a record_cost whole grown (omega (arith, enough)) few)
 
-  pub unwind_code_sim : ChargesAt setting 600 a whole (exec c (code_of (step ∷ behind_steps)) a.regs a.y)
-  unwind_code_sim = subst (λ q. ChargesAt setting 600 a whole q) (sym (step_then c step behind_steps a.regs a.y)) unwind_step
+  pub unwind_code_sim : EndsAt setting 600 a whole (exec c (code_of (step ∷ behind_steps)) a.regs a.y)
+  unwind_code_sim = subst (λ q. EndsAt setting 600 a whole q) (sym (step_then c step behind_steps a.regs a.y)) unwind_step
 
 pub unwinds_law : LawOfUnwinds
 unfolding mean lower
@@ -389,7 +389,7 @@ unwinds_law setting s d m n size k turns f cleanup placed there enough enough_wo
 
 pub whole_unwinds_law : LawOfWholeUnwinds
 unfolding lower
-whole_unwinds_law setting k turns f cleanup placed goes f_does cleanup_does rs valid s d n first w env around z regs y stands known begins registers words =
+whole_unwinds_law setting k turns f cleanup placed goes f_does cleanup_does rs valid s d n first w env around z regs y stands begins registers words =
     let size : ℕ = length regs in
     let laying : Steps = record_laid (d + 1) (d + 6) cleanup_kind in
     let f_code : Steps = (lower setting.names setting.at setting.program (inside_cleanup s).code (d + 6) f).value in
@@ -405,8 +405,8 @@ whole_unwinds_law setting k turns f cleanup placed goes f_does cleanup_does rs v
     let f_fits : enough_for (of_code (code_of f_code)) ≤ size = registers_front f_code (behind_form d) size (registers_behind laying (f_code ++ behind_form d) size inside_fits) in
     let cleanup_fits : enough_for (of_code (code_of cleanup_code)) ≤ size = registers_front cleanup_code (end_steps setting d) size behind_fits in
     unwinds_law setting s d (words_for setting.names setting.program f) n size k turns f cleanup placed (omega (arith, wide)) (omega (arith, words)) (omega (arith, words)) goes
-    (charges_here setting (inside_cleanup s) (d + 6) (words_for setting.names setting.program f) size k turns first f f_does
-    (record { stands = stands.stands.0; fits = stands.fits.0; leads = stands.leads.0; placed = stands.placed.0 }) known f_fits (omega arith))
-    (charges_here setting (in_cleanup s) (d + 3) n size k turns first cleanup cleanup_does
-    (record { stands = stands.stands.1; fits = stands.fits.1; leads = stands.leads.1; placed = stands.placed.1 }) known cleanup_fits (omega (arith, words)))
+    (does_here setting (inside_cleanup s) (d + 6) (words_for setting.names setting.program f) size k turns f first f_does
+    (record { stands = stands.stands.0; fits = stands.fits.0; leads = stands.leads.0; placed = stands.placed.0; forms_known = stands.forms_known }) f_fits (omega arith))
+    (does_here setting (in_cleanup s) (d + 3) n size k turns cleanup first cleanup_does
+    (record { stands = stands.stands.1; fits = stands.fits.1; leads = stands.leads.1; placed = stands.placed.1; forms_known = stands.forms_known }) cleanup_fits (omega (arith, words)))
     (record { rs = rs; valid = valid; w = w; env = env; around = around; z = z; regs = regs; y = y; begins = begins; count = refl })

@@ -107,6 +107,7 @@ pub activation_later :
     → SameBelow d regs regs' → ScopeStands s.code d → ActivationStands setting s rs valid w env around z regs y → ActivationStands setting s rs valid w' env around z' regs' y'
 activation_later setting {s} {d} {rs} {valid} {w} {w'} {env} {around} {z} {z'} {regs} {regs'} {y} {y'} l h frame kept same scope t = record {
   slot_count = t.slot_count ∙ ap length (sym frame);
+  home_count = t.home_count ∙ ap length (sym frame);
   homes = λ n home e. subst (λ fs. SlotHas home (slice_get fs n)) (sym frame) (t.homes n home e);
   slots = λ n r f e g.
       let old = t.slots n r f e (ap (λ fs. slice_get fs n) (sym frame) ∙ g) in

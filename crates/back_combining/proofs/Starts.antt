@@ -162,6 +162,7 @@ module _ (setting : Setting) where
     w' = t.w';
     of_value = t.of_value;
     world = uncharged u t.world;
+    charged = t.charged;
     paid = omega (arith, h, t.paid);
     pending = t.pending;
     landing_word = t.landing_word;

@@ -58,6 +58,7 @@ module _ (setting : Setting) where
     methods = t.methods;
     exit_forms = t.exit_forms;
     functions = λ i p s e f. t.functions i p s e f;
+    captured = t.captured;
     generics = t.generics;
   }
     where
@@ -85,6 +86,7 @@ module _ (setting : Setting) where
     methods = t.methods;
     exit_forms = t.exit_forms;
     functions = λ i p s e f. t.functions i p s e f;
+    captured = t.captured;
     generics = t.generics;
   }
 

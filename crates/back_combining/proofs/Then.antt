@@ -104,6 +104,7 @@ module _ (setting : Setting) where
       w' = t.w';
       of_value = t.of_value;
       world = world_then t.world;
+      charged = omega (arith, a1.charged, t.charged, from_same);
       paid = omega (arith, a1.paid, t.paid);
       pending = t.pending;
       landing_word = t.landing_word;
@@ -141,6 +142,7 @@ module _ (setting : Setting) where
     w' = t.w';
     of_value = t.of_value;
     world = t.world;
+    charged = t.charged;
     paid = omega (arith, t.paid);
     pending = t.pending;
     landing_word = t.landing_word;

@@ -47,6 +47,9 @@ module _ (setting : Setting) where
   abbrev pub ReachedFrom : ℕ → Start → ℕ → World → FlatState → Registers → MidState → Type 0
   ReachedFrom credit a d w z regs y = Reached setting credit a.s d a.rs a.valid a.w w a.env a.around a.z z a.regs regs a.y y
 
+  abbrev pub LeftFrom : ℕ → Start → ℕ → FlatEvaluated → MidOutcome → Type 0
+  LeftFrom credit a d r q = Left setting credit a.rs a.valid a.s d a.w a.env a.around a.z a.regs a.y r q
+
   -- what ends so that something is done, or a transfer leaves it
   abbrev pub EndsBy : (Done : Type 0) → ℕ → Start → FlatEvaluated → MidOutcome → Type 0
   EndsBy Done credit a r q =

@@ -118,7 +118,7 @@ definitions_law setting k turns n f placed f_does rs valid s d m first w env aro
     (two setting {c1 = 0} {c2 = 600} a d (λ v after. next v after) (λ r v. exec (code_at setting k turns) (code_of code) r v) (omega arith) (omega arith)
     (form_grows setting k f env around (charged 2 z)).units
     (f_does rs valid s d m first w env around (charged 2 z) regs y
-    (record { stands = stands.stands; fits = stands.fits; leads = stands.leads; placed = stands.placed.2 }) a.begins (registers_front value code (length regs) registers) words)
+    (record { stands = stands.stands; fits = stands.fits; leads = stands.leads; placed = stands.placed.2; forms_known = stands.forms_known }) a.begins (registers_front value code (length regs) registers) words)
     (λ v x. record { printed = same_prefix x.state.printed; units = omega arith; exits = omega arith })
     (λ r v. code_grows setting k turns (code_of code) r v)
     (λ x.

@@ -148,6 +148,7 @@ module _ (setting : Setting) (placed : IsPlaced setting) {w : World} {z : FlatSt
     methods = λ j a called e. method_moves setting bound_state t (later_same w) Stays same a called (λ k late f. tt) (t.methods j a called e);
     exit_forms = t.exit_forms;
     functions = λ j p s e f. functions_move setting bound_state t (later_same w) Stays same (λ k. tt) j p s e f;
+    captured = t.captured;
     generics = t.generics;
   }
     where

@@ -135,6 +135,7 @@ module _ (setting : Setting) (placed : IsPlaced setting) {w : World} {z : FlatSt
         method_moves setting outermost_state t (later_same w) Stays same a called (λ k late f. late_stays k late) (t.methods j a called e);
     exit_forms = t.exit_forms;
     functions = λ j p s e f. functions_move setting outermost_state t (later_same w) Stays same (λ k. refl) j p s e f;
+    captured = t.captured;
     generics = t.generics;
   }
     where

@@ -320,7 +320,7 @@ settings_law setting k turns n f placed claims f_does rs valid s d m first w env
     (two setting {c1 = 0} {c2 = 600} a d (λ v after. set_dynamic_to (context_at setting k) (text setting.names n) v around after) (λ r v. exec (code_at setting k turns) (code_of code) r v) (omega arith) (omega arith)
     (form_grows setting k f env around (charged 2 z)).units
     (f_does rs valid s d m first w env around (charged 2 z) regs y
-    (record { stands = stands.stands; fits = stands.fits; leads = stands.leads; placed = stands.placed.2 }) a.begins (registers_front value code (length regs) registers) (omega (arith, words)))
+    (record { stands = stands.stands; fits = stands.fits; leads = stands.leads; placed = stands.placed.2; forms_known = stands.forms_known }) a.begins (registers_front value code (length regs) registers) (omega (arith, words)))
     (λ v x. set_grows setting placed k n stands.placed.0 stands.placed.1 v around x) (λ r v. code_grows setting k turns (code_of code) r v)
     (λ x.
     let size = x.reached.kept.registers.count in

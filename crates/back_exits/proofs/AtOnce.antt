@@ -39,14 +39,13 @@ use Rattle.back_relation.specs.Worlds.{World, LandsIn}
 use Rattle.back_relation.specs.Activation.{FormScope, ExitReached}
 use Rattle.back_relation.specs.Ends.{left_by}
 use Rattle.back_relation.specs.Forms.{below_at, context_at, code_at}
-use Rattle.back_combining.specs.Points.{Point, start_at}
-use Rattle.back_combining.specs.Starts.{FlatGrown, Start, FellFrom, ReachedFrom}
+use Rattle.back_combining.specs.Points.{Point, start_at, Here}
+use Rattle.back_combining.specs.Starts.{FlatGrown, Start, FellFrom, ReachedFrom, EndsAt}
 use Rattle.back_combining.proofs.FormGrowth.{form_grows}
 use Rattle.back_combining.proofs.Growth.{grown_later}
 use Rattle.back_combining.proofs.Points.{code_grows}
 use Rattle.back_combining.proofs.Starts.{start_charged, reached_set}
 use Rattle.back_exits.specs.AtOnce.{LawOfReturnsAtOnce, LawOfGoesAtOnce}
-use Rattle.back_exits.specs.Charging.{ChargesAt, ChargesHere}
 use Rattle.back_exits.proofs.Charging.{next_start, whole_then, units_then, value_then}
 use Rattle.back_exits.proofs.Cutting.{search_finds, runs, left_at_once}
 
@@ -70,7 +69,7 @@ module _ (setting : Setting) (placed : IsPlaced setting) (k : ℕ) (a : Start se
     (at_once : x.reach ≡ AtOnce) (lands : (w : World) (e : ℕ) → slice_get w.exit_forms e ≡ Some (slice_get a.s.exits.own i) → LandsIn (slice_get w.exit_forms e) (at_segment landing))
     (v : Value) (word : ℕ) (in_register : register a.d a.regs ≡ Some word) (of_value : word_of a.w.places v ≡ Some word) where
   -- **the word in the first register goes to the exit**
-  pub cuts_to : {credit : ℕ} → ChargesAt setting credit a (transfer (context_at setting k) (exit_of (Own i) a.env) v (at_segment landing) a.around a.z)
+  pub cuts_to : {credit : ℕ} → EndsAt setting credit a (transfer (context_at setting k) (exit_of (Own i) a.env) v (at_segment landing) a.around a.z)
       (exec (code_at setting k a.turns) (code_of (exit_code setting.names setting.at setting.program a.s.code a.d landing (Own i))) a.regs a.y)
   cuts_to {credit} =
       let own = a.begins.activation.exits i x found in
@@ -79,12 +78,12 @@ module _ (setting : Setting) (placed : IsPlaced setting) (k : ℕ) (a : Start se
       subst (λ r. ExitReached r a.rs a.valid a.around.exits e (register x.record_register a.regs)) at_once own.3 in
       let search = search_finds e v (at_segment landing) (signal (context_at setting k) control_error_class [] a.around) a.around.exits a.valid reached.0 a.z reached.3 in
       let in_form = lands a.w e (a.begins.activation.exit_forms i e own.1) in
-      subst (λ o. ChargesAt setting credit a (transfer (context_at setting k) o v (at_segment landing) a.around a.z)
+      subst (λ o. EndsAt setting credit a (transfer (context_at setting k) o v (at_segment landing) a.around a.z)
       (exec (code_at setting k a.turns) (code_of (exit_code setting.names setting.at setting.program a.s.code a.d landing (Own i))) a.regs a.y)) (sym own.1)
-      (subst (λ r. ChargesAt setting credit a r (exec (code_at setting k a.turns) (code_of (exit_code setting.names setting.at setting.program a.s.code a.d landing (Own i))) a.regs a.y)) (sym search.2)
-      (subst (λ ss. ChargesAt setting credit a (leaves e v (at_segment landing) (charged search.0 a.z)) (exec (code_at setting k a.turns) (code_of ss) a.regs a.y))
+      (subst (λ r. EndsAt setting credit a r (exec (code_at setting k a.turns) (code_of (exit_code setting.names setting.at setting.program a.s.code a.d landing (Own i))) a.regs a.y)) (sym search.2)
+      (subst (λ ss. EndsAt setting credit a (leaves e v (at_segment landing) (charged search.0 a.z)) (exec (code_at setting k a.turns) (code_of ss) a.regs a.y))
       (sym (cut_code setting a.s.code a.d landing i x found at_once))
-      (subst (λ q. ChargesAt setting credit a (leaves e v (at_segment landing) (charged search.0 a.z)) q)
+      (subst (λ q. EndsAt setting credit a (leaves e v (at_segment landing) (charged search.0 a.z)) q)
       (sym (runs setting placed (code_at setting k a.turns) a e v word landing x.record_register reached.0 reached.1 there in_register of_value (a.begins.scope.exits i x found).1.0 reached.2 reached.3 reached.4
       in_form search.0 search.1).same)
       (left_by (left_at_once setting placed (code_at setting k a.turns) a e v word landing x.record_register reached.0 reached.1 there in_register of_value (a.begins.scope.exits i x found).1.0 reached.2 reached.3 reached.4
@@ -133,13 +132,13 @@ module _ (setting : Setting) (placed : IsPlaced setting) (s : FormScope) (d n si
     block_lands : is_block (slice_get s.exits.own i) ≡ true → (w : World) (e : ℕ) → slice_get w.exit_forms e ≡ Some (slice_get s.exits.own i) → LandsIn (slice_get w.exit_forms e) (at_segment 0)
     block_lands block w e f = subst (λ o. LandsIn o (at_segment 0)) (sym f) (lands_in_block (slice_get s.exits.own i) block)
 
-    pub return_sim : (f : FlatForm) → is_block (slice_get s.exits.own i) ≡ true → ChargesHere setting s d n size k turns f → ChargesHere setting s d n size k turns (return_from (Own i) f)
+    pub return_sim : (f : FlatForm) → is_block (slice_get s.exits.own i) ≡ true → Here setting s d n size k turns f → Here setting s d n size k turns (return_from (Own i) f)
     unfolding mean lower
     return_sim f block here p =
         let steps : Steps = (lower setting.names setting.at setting.program s.code d f).value in
         let r : FlatEvaluated = mean (context_at setting k) f p.env p.around (charged 1 p.z) in
         let q : MidOutcome = exec (code_at setting k turns) (code_of steps) p.regs p.y in
-        subst (λ o. ChargesAt setting 0 (a0 p) (mean (context_at setting k) (return_from (Own i) f) p.env p.around p.z) o)
+        subst (λ o. EndsAt setting 0 (a0 p) (mean (context_at setting k) (return_from (Own i) f) p.env p.around p.z) o)
         (sym (in_two_parts (code_at setting k turns) steps (goes 0) p.regs p.y))
         (units_then setting 0 0 (a0 p) 1 (omega arith)
         (value_then setting (λ o t. FellFrom setting 0 (a1 p) d o t) 0 0 (a1 p) d r q
@@ -157,7 +156,7 @@ module _ (setting : Setting) (placed : IsPlaced setting) (s : FormScope) (d n si
     segment_lands : (segment : ℕ) → is_segment segment (slice_get s.exits.own i) ≡ true → (w : World) (e : ℕ) → slice_get w.exit_forms e ≡ Some (slice_get s.exits.own i) → LandsIn (slice_get w.exit_forms e) (at_segment segment)
     segment_lands segment there w e f = subst (λ o. LandsIn o (at_segment segment)) (sym f) (lands_in_segment (slice_get s.exits.own i) segment there)
 
-    pub go_sim : (segment : ℕ) → is_segment segment (slice_get s.exits.own i) ≡ true → ChargesHere setting s d n size k turns (go (Own i) segment)
+    pub go_sim : (segment : ℕ) → is_segment segment (slice_get s.exits.own i) ≡ true → Here setting s d n size k turns (go (Own i) segment)
     unfolding mean lower
     go_sim segment there p =
         let width = wide p in
@@ -165,7 +164,7 @@ module _ (setting : Setting) (placed : IsPlaced setting) (s : FormScope) (d n si
         let r : FlatEvaluated = transfer (context_at setting k) (exit_of (Own i) p.env) nil (at_segment segment) p.around (charged 1 p.z) in
         let one : RunsTo (code_at setting k turns) (code_of (constant d nil_word ∷ [])) p.regs p.y (ends falls (slice_set p.regs d (Some nil_word)) (mid_charged 6 p.y)) = and_then constant_falls none_left in
         let size_then = length-set p.regs d (Some nil_word) in
-        subst (λ q. ChargesAt setting 0 (a0 p) r q)
+        subst (λ q. EndsAt setting 0 (a0 p) r q)
         (sym (parts_then (constant d nil_word ∷ []) (goes segment) one (record { same = refl })).same)
         (units_then setting 300 0 (a0 p) 1 (omega arith)
         (whole_then setting 294 300 (a1 p) d d n (omega arith) (omega arith) (omega arith) p.begins.first set (omega arith) (omega arith)

@@ -25,10 +25,9 @@ use Rattle.back_relation.specs.Around.{RoomFor}
 use Rattle.back_relation.specs.Things.{WithinLimit}
 use Rattle.back_relation.specs.Ends.{RoomEnded, stopped}
 use Rattle.back_relation.specs.Forms.{code_at}
-use Rattle.back_combining.specs.Starts.{FlatGrown, Start}
+use Rattle.back_combining.specs.Starts.{FlatGrown, Start, EndsAt}
 use Rattle.back_combining.specs.Stores.{stores}
 use Rattle.back_combining.proofs.Windows.{set_here}
-use Rattle.back_exits.specs.Charging.{ChargesAt}
 use Rattle.back_exits.specs.Going.{exits_counted}
 use Rattle.back_exits.specs.Inside.{around_at, arena_inside, address_inside, LaidAt, IsInnermost}
 use Rattle.back_exits.specs.RecordSteps.{record_registers, record_stores, with_stores}
@@ -53,7 +52,7 @@ module _ (setting : Setting) (a : Start setting) where
   wants r unlimited enough few h g = tt
   wants r (words m) enough few h g = absurd (omega (arith, enough, few, h, g))
 
-  pub no_words : {credit : ℕ} (cost : ℕ) (r : FlatEvaluated) → FlatGrown a.z r.state → 8 ≤ a.n → left a.y.arena < 8 → ChargesAt setting credit a r (ends (no_room 8 (left a.y.arena)) a.regs (mid_charged cost a.y))
+  pub no_words : {credit : ℕ} (cost : ℕ) (r : FlatEvaluated) → FlatGrown a.z r.state → 8 ≤ a.n → left a.y.arena < 8 → EndsAt setting credit a r (ends (no_room 8 (left a.y.arena)) a.regs (mid_charged cost a.y))
   no_words cost r g enough few =
       stopped (record { because = (wants r setting.limit enough few a.begins.call.room a.begins.call.things.within_limit, few); printed = printed_before r g })
 
@@ -61,7 +60,7 @@ module _ (setting : Setting) (a : Start setting) where
 
   pub no_serial :
       {credit : ℕ} (r : FlatEvaluated) (regs : Registers) (y : MidState) → y.printed ≡ a.y.printed → FlatGrown a.z r.state → a.z.state.exits + 1 ≤ r.state.state.exits
-      → (a.begins.call.things.serials.0 == 2 ^ 32 - 1) ≡ true → ChargesAt setting credit a r (ends exhausted regs y)
+      → (a.begins.call.things.serials.0 == 2 ^ 32 - 1) ≡ true → EndsAt setting credit a r (ends exhausted regs y)
   no_serial r regs y same g more last =
       let s = a.begins.call.things.serials in
       let drawn : s.0 ≡ 2 ^ 32 - 1 = eqb-true s.0 (2 ^ 32 - 1) last in

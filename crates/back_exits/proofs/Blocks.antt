@@ -23,19 +23,19 @@ use Rattle.back_lowering.specs.Codes.{lower}
 use Rattle.back_lowering.specs.ControlWords.{record_words, exit_kind}
 use Rattle.back_lowering.specs.Records.{exit_laid}
 use Rattle.back_lowering.specs.Steps.{Steps}
+use Rattle.back_exits.specs.Known.{FormsKnown}
 use Rattle.back_relation.specs.Setting.{Setting}
 use Rattle.back_relation.specs.Placed.{IsPlaced}
 use Rattle.back_relation.specs.Worlds.{for_exit}
 use Rattle.back_relation.specs.Activation.{FormScope, with_exit}
 use Rattle.back_relation.specs.Forms.{Begins, context_at, code_at}
-use Rattle.back_combining.specs.Points.{Point, start_at, value_steps}
-use Rattle.back_combining.specs.Starts.{FlatGrown, Start, FellFrom}
+use Rattle.back_combining.specs.Points.{Point, start_at, value_steps, Here}
+use Rattle.back_combining.specs.Starts.{FlatGrown, Start, FellFrom, EndsAt}
 use Rattle.back_combining.proofs.FormGrowth.{form_grows}
 use Rattle.back_combining.proofs.Growth.{same_flat}
 use Rattle.back_combining.proofs.Parts.{single_step}
 use Rattle.back_combining.proofs.Windows.{here}
 use Rattle.back_exits.specs.Blocks.{LawOfBlocks}
-use Rattle.back_exits.specs.Charging.{FormsKnown, ChargesAt, ChargesHere}
 use Rattle.back_exits.specs.Inside.{environment_with, around_with, address_inside, record_inside, LaidAt, IsInnermost}
 use Rattle.back_exits.proofs.BlockRecords.{no_words, no_serial, drawn, block_laid, laid_registers, lays, lays_none, ended_registers, ended_state, the_exit, world_of_block, flat_of_block, state_of_block, block_stands, block_first}
 use Rattle.back_exits.proofs.Exits.{exit_ends, landed_grows}
@@ -49,7 +49,7 @@ abbrev pub gives_there : Value → Landing → FlatState → FlatEvaluated
 gives_there v landing z = gives v z
 
 module _ (setting : Setting) (placed : IsPlaced setting) (s : FormScope) (d m n size k turns : ℕ) (body : FlatForm) (known : FormsKnown s) (there : d + 8 ≤ size) (enough : 8 + m ≤ n)
-    (body_here : ChargesHere setting (with_exit Block d (d + 1) s) (d + 6) m size k turns body) (p : Point setting s d n size) where
+    (body_here : Here setting (with_exit Block d (d + 1) s) (d + 6) m size k turns body) (p : Point setting s d n size) where
   abbrev a : Start setting
   a = start_at setting s d n size turns p
 
@@ -170,37 +170,37 @@ module _ (setting : Setting) (placed : IsPlaced setting) (s : FormScope) (d m n 
           ∙ ap (landed (length p.y.arena.blocks) (catch setting placed k turns a laid first m begins wide))
           (go_on_twice ran (λ rs y. exec (code_at setting k turns) (code_of (behind_body d)) rs y) (after setting placed k turns a laid first m begins wide))
 
-      ends_so : ChargesAt setting 0 a result (landed (length p.y.arena.blocks) (catch setting placed k turns a laid first m begins wide) (mid_go_on ran (rest setting placed k turns a laid first m begins wide)))
+      ends_so : EndsAt setting 0 a result (landed (length p.y.arena.blocks) (catch setting placed k turns a laid first m begins wide) (mid_go_on ran (rest setting placed k turns a laid first m begins wide)))
       unfolding mean
       ends_so =
           exit_ends setting a laid first 6 m begins 0 0 (omega arith) (rest setting placed k turns a laid first m begins wide) (catch setting placed k turns a laid first m begins wide)
           (rest_grows setting placed k turns a laid first m begins wide) (catch_grows setting placed k turns a laid first m begins wide) gives_there (λ v l z. same_flat z)
           (λ r q. FellFrom setting 0 a a.d r q) came ran (λ f. falls_out setting placed k turns a laid first m begins wide 0 0 (omega arith) came ran f)
-          (λ t to number. lands_then setting placed k turns a laid first m begins wide 0 0 (omega arith) came ran t to (eq-eqb p.z.state.exits t.left.transfer.exit_number (sym number)))
+          (λ t to number. lands_then setting placed k turns a laid first m begins wide 0 0 (omega arith) came ran t to (eq-eqb p.z.state.exits t.transfer.exit_number (sym number)))
           (body_here point)
 
-    with_words : (b : Bool) → (drawn setting placed k turns a room win == 2 ^ 32 - 1) ≡ b → ChargesAt setting 0 a result (exec_step (code_at setting k turns) step p.regs p.y)
+    with_words : (b : Bool) → (drawn setting placed k turns a room win == 2 ^ 32 - 1) ≡ b → EndsAt setting 0 a result (exec_step (code_at setting k turns) step p.regs p.y)
     with_words true last =
-        subst (λ q. ChargesAt setting 0 a result q) (sym (ended last))
+        subst (λ q. EndsAt setting 0 a result q) (sym (ended last))
         (no_serial setting a result (ended_registers setting placed k turns a room win) (ended_state setting placed k turns a room win) refl grown more last)
       where
         more : p.z.state.exits + 1 ≤ result.state.state.exits
         more = one_more_exit
-    with_words false fewer = subst (λ q. ChargesAt setting 0 a result q) (sym (runs_so fewer)) (ends_so fewer)
+    with_words false fewer = subst (λ q. EndsAt setting 0 a result q) (sym (runs_so fewer)) (ends_so fewer)
 
-  pub block_sim : ChargesAt setting 0 a result (exec_step (code_at setting k turns) step p.regs p.y)
+  pub block_sim : EndsAt setting 0 a result (exec_step (code_at setting k turns) step p.regs p.y)
   block_sim = by (nat_le 8 (left p.y.arena)) refl
     where
-      by : (b : Bool) → nat_le 8 (left p.y.arena) ≡ b → ChargesAt setting 0 a result (exec_step (code_at setting k turns) step p.regs p.y)
+      by : (b : Bool) → nat_le 8 (left p.y.arena) ≡ b → EndsAt setting 0 a result (exec_step (code_at setting k turns) step p.regs p.y)
       by true same = let room = leb-true 8 (left p.y.arena) same in with_words room (drawn setting placed k turns a room (win room) == 2 ^ 32 - 1) refl
       by false same =
           let few = leb-false 8 (left p.y.arena) same in
-          subst (λ q. ChargesAt setting 0 a result q) (sym (record_wanting (code_at setting k turns) (d + 1) record_words d (code_of inside_steps) (code_of (landing_steps d)) p.regs p.y few))
+          subst (λ q. EndsAt setting 0 a result q) (sym (record_wanting (code_at setting k turns) (d + 1) record_words d (code_of inside_steps) (code_of (landing_steps d)) p.regs p.y few))
           (no_words setting a record_cost result grown (omega (arith, enough)) few)
 
 pub blocks_law : LawOfBlocks
 unfolding mean lower
 blocks_law setting s d m n size k turns body placed known there enough here p =
-    subst (λ q. ChargesAt setting 0 (start_at setting s d n size turns p) (mean (context_at setting k) (block body) p.env p.around p.z) q)
+    subst (λ q. EndsAt setting 0 (start_at setting s d n size turns p) (mean (context_at setting k) (block body) p.env p.around p.z) q)
     (sym (single_step (code_at setting k turns) (step setting placed s d m n size k turns body known there enough here p) p.regs p.y))
     (block_sim setting placed s d m n size k turns body known there enough here p)

@@ -27,8 +27,8 @@ use Rattle.back_relation.specs.Room.{words_for}
 use Rattle.back_relation.specs.Worlds.{for_exit}
 use Rattle.back_relation.specs.Activation.{FormScope}
 use Rattle.back_relation.specs.Forms.{Begins, context_at, code_at}
-use Rattle.back_combining.specs.Points.{Point, start_at, value_steps}
-use Rattle.back_combining.specs.Starts.{FlatGrown, Start, FellFrom}
+use Rattle.back_combining.specs.Points.{Point, start_at, value_steps, Here}
+use Rattle.back_combining.specs.Starts.{FlatGrown, Start, FellFrom, EndsAt}
 use Rattle.back_combining.proofs.Fitting.{registers_front, registers_behind}
 use Rattle.back_combining.proofs.FormGrowth.{form_grows}
 use Rattle.back_combining.proofs.Growth.{same_flat, both_flat, same_prefix}
@@ -36,7 +36,6 @@ use Rattle.back_combining.proofs.Parts.{single_step}
 use Rattle.back_combining.proofs.Points.{code_grows}
 use Rattle.back_combining.proofs.Starts.{start_charged, scope_later}
 use Rattle.back_exits.specs.Blocks.{LawOfCatches, LawOfWholeCatches}
-use Rattle.back_exits.specs.Charging.{ChargesAt, ChargesHere}
 use Rattle.back_exits.specs.Inside.{around_with, address_inside, record_inside, LaidAt, IsInnermost}
 use Rattle.back_exits.proofs.BlockRecords.{no_words, no_serial}
 use Rattle.back_exits.proofs.Blocks.{gives_there}
@@ -47,7 +46,8 @@ use Rattle.back_exits.proofs.Inside.{around_exit, begins_inside}
 use Rattle.back_exits.proofs.Landing.{behind_body, landing_steps, after, rest, catch, rest_grows, catch_grows, falls_out, lands_then}
 use Rattle.back_exits.proofs.OwnExits.{same_exits}
 use Rattle.back_exits.proofs.Steps.{record_runs, record_wanting, Window, window_of}
-use Rattle.back_exits.proofs.Whole.{charges_here, inside_registers, second_register}
+use Rattle.back_combining.proofs.Points.{does_here}
+use Rattle.back_exits.proofs.Whole.{inside_registers, second_register}
 
 -- what a body inside a catch of a tag comes to
 abbrev pub caught_by : (setting : Setting) (k : ℕ) (body : FlatForm) → FlatEnvironment → DynamicContext → Value → FlatState → FlatEvaluated
@@ -68,7 +68,7 @@ caught_grows setting k body env around v z = both_flat (made_grows z) (body_grow
 -- ---- from where the tag is there
 
 module _ (setting : Setting) (placed : IsPlaced setting) (m size k : ℕ) (body : FlatForm) (a : Start setting) (wide : a.d + 8 ≤ length a.regs) (size_is : length a.regs ≡ size) (enough : 8 + m ≤ a.n)
-    (body_here : ChargesHere setting a.s (a.d + 6) m size k a.turns body) (v : Value) (word : ℕ) (in_register : register a.d a.regs ≡ Some word) (of_value : word_of a.w.places v ≡ Some word) where
+    (body_here : Here setting a.s (a.d + 6) m size k a.turns body) (v : Value) (word : ℕ) (in_register : register a.d a.regs ≡ Some word) (of_value : word_of a.w.places v ≡ Some word) where
   abbrev body_steps : Steps
   body_steps = value_steps setting a.s (a.d + 6) m size k a.turns body
 
@@ -171,39 +171,39 @@ module _ (setting : Setting) (placed : IsPlaced setting) (m size k : ℕ) (body 
           ∙ ap (landed (length a.y.arena.blocks) (catch setting placed k a.turns a laid first m begins wide))
           (go_on_twice ran (λ rs y. exec (code_at setting k a.turns) (code_of (behind_body a.d)) rs y) (after setting placed k a.turns a laid first m begins wide))
 
-      ends_so : ChargesAt setting 600 a result (landed (length a.y.arena.blocks) (catch setting placed k a.turns a laid first m begins wide) (mid_go_on ran (rest setting placed k a.turns a laid first m begins wide)))
+      ends_so : EndsAt setting 600 a result (landed (length a.y.arena.blocks) (catch setting placed k a.turns a laid first m begins wide) (mid_go_on ran (rest setting placed k a.turns a laid first m begins wide)))
       ends_so =
           exit_ends setting a laid first 6 m begins 0 600 (omega arith) (rest setting placed k a.turns a laid first m begins wide) (catch setting placed k a.turns a laid first m begins wide)
           (rest_grows setting placed k a.turns a laid first m begins wide) (catch_grows setting placed k a.turns a laid first m begins wide) gives_there (λ v l z. same_flat z)
           (λ r q. FellFrom setting 600 a a.d r q) came ran (λ f. falls_out setting placed k a.turns a laid first m begins wide 0 600 (omega arith) came ran f)
-          (λ t to same. lands_then setting placed k a.turns a laid first m begins wide 0 600 (omega arith) came ran t to (eq-eqb a.z.state.exits t.left.transfer.exit_number (sym same)))
+          (λ t to same. lands_then setting placed k a.turns a laid first m begins wide 0 600 (omega arith) came ran t to (eq-eqb a.z.state.exits t.transfer.exit_number (sym same)))
           (body_here point)
 
-    with_words : (b : Bool) → (number == 2 ^ 32 - 1) ≡ b → ChargesAt setting 600 a result (exec_step (code_at setting k a.turns) step a.regs a.y)
+    with_words : (b : Bool) → (number == 2 ^ 32 - 1) ≡ b → EndsAt setting 600 a result (exec_step (code_at setting k a.turns) step a.regs a.y)
     with_words true last =
         let more = body_grows setting k body a.env a.around v a.z in
-        subst (λ q. ChargesAt setting 600 a result q) (sym (ended last))
+        subst (λ q. EndsAt setting 600 a result q) (sym (ended last))
         (no_serial setting a result (ended_registers setting placed k a.turns a room win v word in_register of_value) (ended_state setting placed k a.turns a room win v word in_register of_value) refl grown more.exits last)
-    with_words false fewer = subst (λ q. ChargesAt setting 600 a result q) (sym (runs_so fewer)) (ends_so fewer)
+    with_words false fewer = subst (λ q. EndsAt setting 600 a result q) (sym (runs_so fewer)) (ends_so fewer)
 
-  pub catch_step : ChargesAt setting 600 a result (exec_step (code_at setting k a.turns) step a.regs a.y)
+  pub catch_step : EndsAt setting 600 a result (exec_step (code_at setting k a.turns) step a.regs a.y)
   catch_step = by (nat_le 8 (left a.y.arena)) refl
     where
-      by : (b : Bool) → nat_le 8 (left a.y.arena) ≡ b → ChargesAt setting 600 a result (exec_step (code_at setting k a.turns) step a.regs a.y)
+      by : (b : Bool) → nat_le 8 (left a.y.arena) ≡ b → EndsAt setting 600 a result (exec_step (code_at setting k a.turns) step a.regs a.y)
       by true same = let room = leb-true 8 (left a.y.arena) same in with_words room (number room == 2 ^ 32 - 1) refl
       by false same =
           let few = leb-false 8 (left a.y.arena) same in
-          subst (λ q. ChargesAt setting 600 a result q) (sym (record_wanting (code_at setting k a.turns) (a.d + 1) record_words a.d (code_of inside_steps) (code_of (landing_steps a.d)) a.regs a.y few))
+          subst (λ q. EndsAt setting 600 a result q) (sym (record_wanting (code_at setting k a.turns) (a.d + 1) record_words a.d (code_of inside_steps) (code_of (landing_steps a.d)) a.regs a.y few))
           (no_words setting a record_cost result grown (omega (arith, enough)) few)
 
   -- the code of the catch behind its tag
-  pub catch_sim : ChargesAt setting 600 a result (exec (code_at setting k a.turns) (code_of (catch_code a.d body_steps)) a.regs a.y)
-  catch_sim = subst (λ q. ChargesAt setting 600 a result q) (sym (single_step (code_at setting k a.turns) step a.regs a.y)) catch_step
+  pub catch_sim : EndsAt setting 600 a result (exec (code_at setting k a.turns) (code_of (catch_code a.d body_steps)) a.regs a.y)
+  catch_sim = subst (λ q. EndsAt setting 600 a result q) (sym (single_step (code_at setting k a.turns) step a.regs a.y)) catch_step
 
 -- ---- the form
 
 module _ (setting : Setting) (placed : IsPlaced setting) (s : FormScope) (d m n size k turns : ℕ) (tag body : FlatForm) (there : d + 8 ≤ size) (enough : 8 + m ≤ n)
-    (tag_here : ChargesHere setting s d n size k turns tag) (body_here : ChargesHere setting s (d + 6) m size k turns body) (p : Point setting s d n size) where
+    (tag_here : Here setting s d n size k turns tag) (body_here : Here setting s (d + 6) m size k turns body) (p : Point setting s d n size) where
   abbrev a0 : Start setting
   a0 = start_at setting s d n size turns p
 
@@ -236,9 +236,9 @@ module _ (setting : Setting) (placed : IsPlaced setting) (s : FormScope) (d m n 
   abbrev q : MidOutcome
   q = exec (code_at setting k turns) (code_of tag_steps) p.regs p.y
 
-  pub form_sim : ChargesAt setting 0 a0 (go_on r (λ v z. caught_by setting k body p.env p.around v z)) (exec (code_at setting k turns) (code_of (tag_steps ++ catching)) p.regs p.y)
+  pub form_sim : EndsAt setting 0 a0 (go_on r (λ v z. caught_by setting k body p.env p.around v z)) (exec (code_at setting k turns) (code_of (tag_steps ++ catching)) p.regs p.y)
   form_sim =
-      subst (λ o. ChargesAt setting 0 a0 (go_on r (λ v z. caught_by setting k body p.env p.around v z)) o)
+      subst (λ o. EndsAt setting 0 a0 (go_on r (λ v z. caught_by setting k body p.env p.around v z)) o)
       (sym (in_two_parts (code_at setting k turns) tag_steps catching p.regs p.y))
       (units_then setting 600 0 a0 2 (omega arith)
       (value_then setting (λ o t. FellFrom setting 600 a1 d o t) 0 600 a1 d r q (λ v z. caught_by setting k body p.env p.around v z)
@@ -259,7 +259,7 @@ catches_law setting s d m n size k turns tag body placed there enough tag_here b
 
 pub whole_catches_law : LawOfWholeCatches
 unfolding lower
-whole_catches_law setting k turns tag body placed tag_does body_does rs valid s d n first w env around z regs y stands known begins registers words =
+whole_catches_law setting k turns tag body placed tag_does body_does rs valid s d n first w env around z regs y stands begins registers words =
     let size : ℕ = length regs in
     let laying : Steps = store d (d + 1) record_tag ∷ exit_laid d (d + 1) (d + 6) catch_kind in
     let tag_code : Steps = (lower setting.names setting.at setting.program s.code d tag).value in
@@ -273,7 +273,7 @@ whole_catches_law setting k turns tag body placed tag_does body_does rs valid s 
     let wide : d + 6 + 1 + 1 ≤ size = second_register (d + 6) (d + 6 + 1) (of_code (code_of (drop 2 (exit_laid d (d + 1) (d + 6) catch_kind)))) size front in
     let own : enough_for (of_code (code_of steps)) ≤ size = registers_front steps (behind_body d) size (registers_behind laying (steps ++ behind_body d) size inside) in
     catches_law setting s d (words_for setting.names setting.program body) n size k turns tag body placed (omega (arith, wide)) (omega (arith, words))
-    (charges_here setting s d n size k turns first tag tag_does (record { stands = stands.stands.0; fits = stands.fits.0; leads = stands.leads.0; placed = stands.placed.0 }) known tag_fits (omega (arith, words)))
-    (charges_here setting s (d + 6) (words_for setting.names setting.program body) size k turns first body body_does
-    (record { stands = stands.stands.1; fits = stands.fits.1; leads = stands.leads.1; placed = stands.placed.1 }) known own (omega arith))
+    (does_here setting s d n size k turns tag first tag_does (record { stands = stands.stands.0; fits = stands.fits.0; leads = stands.leads.0; placed = stands.placed.0; forms_known = stands.forms_known }) tag_fits (omega (arith, words)))
+    (does_here setting s (d + 6) (words_for setting.names setting.program body) size k turns body first body_does
+    (record { stands = stands.stands.1; fits = stands.fits.1; leads = stands.leads.1; placed = stands.placed.1; forms_known = stands.forms_known }) own (omega arith))
     (record { rs = rs; valid = valid; w = w; env = env; around = around; z = z; regs = regs; y = y; begins = begins; count = refl })

@@ -1,8 +1,7 @@
--- One thing after another, where words that transfers took are charged.
-use Rattle.std.proofs.Common.{◌≡◌, ℕ, ◌+◌, ◌*◌, ◌<◌, ◌≤◌, length, refl, sym, ap, ◌∙◌, subst, arith}
+-- One thing after another, from a start to what the whole comes to.
+use Rattle.std.proofs.Common.{ℕ, ◌+◌, ◌*◌, ◌<◌, ◌≤◌, length, refl, sym, subst, arith}
 use Rattle.lang_meaning.specs.Values.{Value}
 use Rattle.flat_language.specs.FlatState.{FlatState, FlatEvaluated, go_on, charged}
-use Rattle.mid_code.specs.Arena.{begin_of, stack_from}
 use Rattle.mid_code.specs.Law.{Grown}
 use Rattle.mid_code.specs.State.{Registers, MidState, MidOutcome, Next}
 use Rattle.mid_code.specs.State.{go_on as mid_go_on}
@@ -10,12 +9,11 @@ use Rattle.mid_code.proofs.Growth.{go_on_grown, same_grown}
 use Rattle.back_relation.specs.Setting.{Setting}
 use Rattle.back_relation.specs.Worlds.{World}
 use Rattle.back_relation.specs.Ends.{Transfers, Ends, done, left_by, full_there, stopped, few_turns}
-use Rattle.back_combining.specs.Starts.{FlatGrown, Start, FellFrom, ReachedFrom}
+use Rattle.back_combining.specs.Starts.{FlatGrown, Start, FellFrom, ReachedFrom, LeftFrom, EndsBy, EndsAt}
 use Rattle.back_combining.proofs.Growth.{both_prefix, then_value, then_other, then_grown}
 use Rattle.back_combining.proofs.Parts.{go_on_falls, go_on_last}
 use Rattle.back_combining.proofs.Starts.{start_after, start_charged, reached_repaid}
 use Rattle.back_combining.proofs.Then.{reached_then, left_behind, because_then, stopped_last, registers_less}
-use Rattle.back_exits.specs.Charging.{LeftCharged, ChargesBy, ChargesAt}
 
 module _ (setting : Setting) where
   -- ---- behind what was reached
@@ -26,18 +24,11 @@ module _ (setting : Setting) where
     next_start = start_after setting a d1 e m low later fewer there x
 
     -- a transfer that leaves what comes behind, with registers kept from the first one on
-    pub left_then : {r : FlatEvaluated} {q : MidOutcome} → LeftCharged setting c2 next_start a.d r q → LeftCharged setting c a a.d r q
-    left_then t = record {
-      left = left_behind setting low x enough t.left;
-      charged =
-          let first = x.back.charged in
-          let then = t.charged in
-          let from : stack_from y.arena ≡ stack_from a.y.arena = ap (λ n. begin_of n y.arena.blocks) x.kept.world.same_size ∙ ap (begin_of (length a.y.arena.memory)) x.back.blocks in
-          omega (arith, first, then, from);
-    }
+    pub left_then : {r : FlatEvaluated} {q : MidOutcome} → LeftFrom setting c2 next_start a.d r q → LeftFrom setting c a a.d r q
+    left_then t = left_behind setting low x enough t
 
-    pub ends_then : {D E : Type 0} {r : FlatEvaluated} {q : MidOutcome} → a.z.state.units ≤ z.state.units → (D → E) → Ends setting D (LeftCharged setting c2 next_start a.d r q) a.turns z y r q
-        → ChargesBy setting E c a r q
+    pub ends_then : {D E : Type 0} {r : FlatEvaluated} {q : MidOutcome} → a.z.state.units ≤ z.state.units → (D → E) → Ends setting D (LeftFrom setting c2 next_start a.d r q) a.turns z y r q
+        → EndsBy setting E c a r q
     ends_then up f (done k) = done (f k)
     ends_then up f (left_by t) = left_by (left_then t)
     ends_then up f (full_there k) = full_there k
@@ -58,7 +49,7 @@ module _ (setting : Setting) where
 
     pub whole_then :
         {r : FlatEvaluated} {q : MidOutcome} → a.z.state.units ≤ z.state.units
-        → Ends setting (FellFrom setting c2 next_start a.d r q) (LeftCharged setting c2 next_start a.d r q) a.turns z y r q → ChargesAt setting c a r q
+        → Ends setting (FellFrom setting c2 next_start a.d r q) (LeftFrom setting c2 next_start a.d r q) a.turns z y r q → EndsAt setting c a r q
     whole_then up h = ends_then up fell_then h
 
   -- ---- the units of a form pay for what follows
@@ -82,6 +73,7 @@ module _ (setting : Setting) where
       w' = t.w';
       of_value = t.of_value;
       world = record { later = t.world.later; things = t.world.things; stack = t.world.stack; end = t.world.end; more_exits = t.world.more_exits; same_size = t.world.same_size };
+      charged = t.charged;
       paid = let paid = t.paid in omega (arith, paid, enough);
       pending = t.pending;
       landing_word = t.landing_word;
@@ -90,14 +82,15 @@ module _ (setting : Setting) where
       lands = t.lands;
     }
 
-    left_paid : LeftCharged setting c1 (start_charged setting a u) a.d r q → LeftCharged setting c2 a a.d r q
+    left_paid : LeftFrom setting c1 (start_charged setting a u) a.d r q → LeftFrom setting c2 a a.d r q
     unfolding transfers_paid
     left_paid t = record {
-      left = record { transfer = transfers_paid t.left.transfer; activation = t.left.activation; registers = t.left.registers };
-      charged = t.charged;
+      transfer = transfers_paid t.transfer;
+      activation = t.activation;
+      registers = t.registers;
     }
 
-    pub units_then : ChargesAt setting c1 (start_charged setting a u) r q → ChargesAt setting c2 a r q
+    pub units_then : EndsAt setting c1 (start_charged setting a u) r q → EndsAt setting c2 a r q
     units_then (done f) = done (record {
       result = f.result;
       outcome = f.outcome;
@@ -118,7 +111,7 @@ module _ (setting : Setting) where
   module _ (E : FlatEvaluated → MidOutcome → Type 0) (c1 c : ℕ) (a : Start setting) (d1 : ℕ) (r : FlatEvaluated) (q : MidOutcome) (f : Value → FlatState → FlatEvaluated) (next : Next) (low : a.d ≤ d1) (less : c1 ≤ c)
       (grown : (v : Value) (z : FlatState) → FlatGrown z (f v z).state) (mid_grown : (g : Registers) (y : MidState) → Grown y (next g y).state) where
     abbrev Whole : FlatEvaluated → MidOutcome → Type 0
-    Whole p s = ChargesBy setting (E p s) c a p s
+    Whole p s = EndsBy setting (E p s) c a p s
 
     transfers_lower : Transfers setting c1 a.rs a.valid a.w a.around a.z a.y r q → Transfers setting c a.rs a.valid a.w a.around a.z a.y r q
     transfers_lower t = record {
@@ -137,6 +130,7 @@ module _ (setting : Setting) where
       w' = t.w';
       of_value = t.of_value;
       world = t.world;
+      charged = t.charged;
       paid = let paid = t.paid in omega (arith, paid, less);
       pending = t.pending;
       landing_word = t.landing_word;
@@ -145,19 +139,20 @@ module _ (setting : Setting) where
       lands = t.lands;
     }
 
-    left_lower : LeftCharged setting c1 a d1 r q → LeftCharged setting c a a.d r q
+    left_lower : LeftFrom setting c1 a d1 r q → LeftFrom setting c a a.d r q
     unfolding transfers_lower
     left_lower t = record {
-      left = record { transfer = transfers_lower t.left.transfer; activation = t.left.activation; registers = registers_less low t.left.registers };
-      charged = t.charged;
+      transfer = transfers_lower t.transfer;
+      activation = t.activation;
+      registers = registers_less low t.registers;
     }
 
     pub part_then :
-        {D : Type 0} → Ends setting D (LeftCharged setting c1 a d1 r q) a.turns a.z a.y r q → (D → Whole (go_on r f) (mid_go_on q next)) → Whole (go_on r f) (mid_go_on q next)
+        {D : Type 0} → Ends setting D (LeftFrom setting c1 a d1 r q) a.turns a.z a.y r q → (D → Whole (go_on r f) (mid_go_on q next)) → Whole (go_on r f) (mid_go_on q next)
     part_then (done k) h = h k
     part_then (left_by t) h =
-        subst (λ p. Whole p (mid_go_on q next)) (sym (then_other r f _ t.left.transfer.outcome tt))
-        (subst (λ s. Whole r s) (sym (go_on_last _ q next t.left.transfer.end tt)) (left_by (left_lower t)))
+        subst (λ p. Whole p (mid_go_on q next)) (sym (then_other r f _ t.transfer.outcome tt))
+        (subst (λ s. Whole r s) (sym (go_on_last _ q next t.transfer.end tt)) (left_by (left_lower t)))
     part_then (full_there k) h =
         let g : Grown q.state (mid_go_on q next).state = go_on_grown q next q.state (same_grown q.state) mid_grown in
         subst (λ p. Whole p (mid_go_on q next)) (sym (then_other r f _ k.outcome tt))
@@ -171,7 +166,7 @@ module _ (setting : Setting) where
 
     -- where the part's value comes in a register
     pub value_then :
-        Ends setting (FellFrom setting c1 a d1 r q) (LeftCharged setting c1 a d1 r q) a.turns a.z a.y r q
+        Ends setting (FellFrom setting c1 a d1 r q) (LeftFrom setting c1 a d1 r q) a.turns a.z a.y r q
         → ((x : FellFrom setting c1 a d1 r q) → Whole (f x.result r.state) (next q.registers q.state)) → Whole (go_on r f) (mid_go_on q next)
     value_then e h =
         part_then e

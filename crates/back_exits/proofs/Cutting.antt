@@ -31,14 +31,13 @@ use Rattle.back_relation.specs.Things.{Things}
 use Rattle.back_relation.specs.Activation.{ActivationStands}
 use Rattle.back_relation.specs.Ends.{WorldKept}
 use Rattle.back_combining.specs.Cuts.{boxes_cut}
-use Rattle.back_combining.specs.Starts.{Start}
+use Rattle.back_combining.specs.Starts.{Start, LeftFrom}
 use Rattle.back_combining.specs.Stores.{stores}
 use Rattle.back_combining.proofs.Activations.{activation_later, SameBelow}
 use Rattle.back_combining.proofs.Straight.{world_units, things_units}
 use Rattle.back_combining.proofs.Windows.{stored_elsewhere}
 use Rattle.back_combining.proofs.Worlds.{Same}
 use Rattle.back_combining.proofs.Cuts.{words_fewer}
-use Rattle.back_exits.specs.Charging.{LeftCharged}
 use Rattle.back_exits.specs.Going.{world_with}
 use Rattle.back_exits.specs.Inside.{around_at}
 use Rattle.back_exits.specs.Touching.{Touched, touched, ExitsMade}
@@ -268,39 +267,37 @@ module _ (setting : Setting) (placed : IsPlaced setting) (c : Context) (a : Star
       by [] h = absurd (omega (arith, h))
       by (b ∷ cs) h = omega (arith, h)
 
-  pub left_at_once : {credit : ℕ} → LeftCharged setting credit a a.d (leaves e v (at_segment i) z2) (ends (cuts (outside_of bs) word) g1 y2)
+  pub left_at_once : {credit : ℕ} → LeftFrom setting credit a a.d (leaves e v (at_segment i) z2) (ends (cuts (outside_of bs) word) g1 y2)
   left_at_once = record {
-    left = record {
-      transfer = record {
-        exit_number = e;
-        result = v;
-        landing = at_segment i;
-        outcome = refl;
-        target = target;
-        valid_target = valid;
-        to = target;
-        outer = outer;
-        stop = stop;
-        word = word;
-        end = ap (λ n. cuts n word) outside_is;
-        blocks = block_of;
-        w' = w2;
-        of_value = of_value;
-        world = world;
-        paid = let shorter = stop_shorter target.address a.rs (target ∷ outer) stop in omega (arith, shorter, some);
-        pending = λ f. absurd (cc (sym f ∙ found_role a.rs (around_at setting a).link a.z.state.exits e a.around.exits a.valid target (around_at setting a).links valid));
-        landing_word = i;
-        landing_stands = landing_word;
-        landing_is = refl;
-        lands = lands;
-      };
-      activation = activation;
-      registers = record {
-        count = length-set (slice_set a.regs (a.d + 1) (Some i)) (a.d + 1 + 1) (Some 0) ∙ length-set a.regs (a.d + 1) (Some i);
-        same = λ r low none.
-            set_elsewhere (slice_set a.regs (a.d + 1) (Some i)) (a.d + 1 + 1) r (Some 0) (λ f. omega (arith, f, low))
-            ∙ set_elsewhere a.regs (a.d + 1) r (Some i) (λ f. omega (arith, f, low));
-      };
+    transfer = record {
+      exit_number = e;
+      result = v;
+      landing = at_segment i;
+      outcome = refl;
+      target = target;
+      valid_target = valid;
+      to = target;
+      outer = outer;
+      stop = stop;
+      word = word;
+      end = ap (λ n. cuts n word) outside_is;
+      blocks = block_of;
+      w' = w2;
+      of_value = of_value;
+      world = world;
+      charged = let room = a.begins.call.things.represents.arena.room in omega (arith, room);
+      paid = let shorter = stop_shorter target.address a.rs (target ∷ outer) stop in omega (arith, shorter, some);
+      pending = λ f. absurd (cc (sym f ∙ found_role a.rs (around_at setting a).link a.z.state.exits e a.around.exits a.valid target (around_at setting a).links valid));
+      landing_word = i;
+      landing_stands = landing_word;
+      landing_is = refl;
+      lands = lands;
     };
-    charged = let room = a.begins.call.things.represents.arena.room in omega (arith, room);
+    activation = activation;
+    registers = record {
+      count = length-set (slice_set a.regs (a.d + 1) (Some i)) (a.d + 1 + 1) (Some 0) ∙ length-set a.regs (a.d + 1) (Some i);
+      same = λ r low none.
+          set_elsewhere (slice_set a.regs (a.d + 1) (Some i)) (a.d + 1 + 1) r (Some 0) (λ f. omega (arith, f, low))
+          ∙ set_elsewhere a.regs (a.d + 1) r (Some i) (λ f. omega (arith, f, low));
+    };
   }

@@ -18,11 +18,10 @@ use Rattle.back_relation.specs.Setting.{Setting}
 use Rattle.back_relation.specs.Worlds.{World, for_exit, Standing, IsIn, Links, record_of_exit, first_stop}
 use Rattle.back_relation.specs.Ends.{Transfers, IsFullOrMore, RoomEnded, Because, done, left_by, full_there, stopped, few_turns}
 use Rattle.back_relation.specs.Forms.{Begins}
-use Rattle.back_combining.specs.Starts.{FlatGrown, Start, FellFrom}
+use Rattle.back_combining.specs.Starts.{FlatGrown, Start, FellFrom, LeftFrom, EndsBy, EndsAt}
 use Rattle.back_combining.proofs.Growth.{both_prefix, same_flat}
 use Rattle.back_combining.proofs.Parts.{go_on_last}
 use Rattle.back_combining.proofs.Reaches.{first_stop_in}
-use Rattle.back_exits.specs.Charging.{LeftCharged, ChargesBy, ChargesAt}
 use Rattle.back_exits.specs.Inside.{scope_with, environment_with, around_with, around_at, address_inside, record_inside, LaidAt, IsInnermost}
 use Rattle.back_exits.proofs.Inside.{at_from, at_to, words_left, found_new, found_outside}
 use Rattle.back_exits.proofs.Leaving.{world_outside, registers_outside, activation_outside}
@@ -141,9 +140,9 @@ module _ (setting : Setting) (a : Start setting) {units cost : ℕ} {x : Exit} {
 
   module _ (c1 c2 : ℕ) (enough : c1 + cost + 48 ≤ 300 * units + c2) where
     -- A transfer to an exit outside passes: it goes where it went.
-    module _ {r : FlatEvaluated} {q : MidOutcome} (t : LeftCharged setting c1 start_inside (a.d + n) r q) (other : (x.number == t.left.transfer.exit_number) ≡ false) where
+    module _ {r : FlatEvaluated} {q : MidOutcome} (t : LeftFrom setting c1 start_inside (a.d + n) r q) (other : (x.number == t.transfer.exit_number) ≡ false) where
       abbrev l : Transfers setting c1 (new_record ∷ a.rs) (new_record ∷ a.valid) w (around_with (x ∷ a.around.exits) a.around) z y r q
-      l = t.left.transfer
+      l = t.transfer
 
       valid_outside : record_of_exit l.exit_number a.around.exits a.valid ≡ Some l.target
       valid_outside = sym (ap (λ b. if b then Some new_record else record_of_exit l.exit_number a.around.exits a.valid) other) ∙ l.valid_target
@@ -180,6 +179,14 @@ module _ (setting : Setting) (a : Start setting) {units cost : ℕ} {x : Exit} {
         w' = l.w';
         of_value = l.of_value;
         world = world_outside setting a laid l.world;
+        charged =
+            let charged = l.charged in
+            let heap = laid.heap in
+            let stack = laid.stack in
+            let fewer = words_left setting a laid in
+            let from = at_from setting a laid in
+            let to = at_to setting a laid in
+            omega (arith, charged, heap, stack, fewer, from, to);
         paid =
             let paid = l.paid in
             let there = laid.paid in
@@ -192,22 +199,12 @@ module _ (setting : Setting) (a : Start setting) {units cost : ℕ} {x : Exit} {
         lands = l.lands;
       }
 
-      pub passing : LeftCharged setting c2 a a.d r q
+      pub passing : LeftFrom setting c2 a a.d r q
       unfolding transfer_outside
       passing = record {
-        left = record {
-          transfer = transfer_outside;
-          activation = activation_outside setting a laid l.world {own = own} {count = count} {forms = forms} {numbers = numbers} {exits = x ∷ a.around.exits} n t.left.registers t.left.activation;
-          registers = registers_outside setting a laid l.world {own = own} {count = count} {forms = forms} {numbers = numbers} {exits = x ∷ a.around.exits} n t.left.registers t.left.activation;
-        };
-        charged =
-            let charged = t.charged in
-            let heap = laid.heap in
-            let stack = laid.stack in
-            let fewer = words_left setting a laid in
-            let from = at_from setting a laid in
-            let to = at_to setting a laid in
-            omega (arith, charged, heap, stack, fewer, from, to);
+        transfer = transfer_outside;
+        activation = activation_outside setting a laid l.world {own = own} {count = count} {forms = forms} {numbers = numbers} {exits = x ∷ a.around.exits} n t.registers t.activation;
+        registers = registers_outside setting a laid l.world {own = own} {count = count} {forms = forms} {numbers = numbers} {exits = x ∷ a.around.exits} n t.registers t.activation;
       }
 
       -- such a transfer is not to the block that was laid here
@@ -219,21 +216,21 @@ module _ (setting : Setting) (a : Start setting) {units cost : ℕ} {x : Exit} {
           ne_eqb l.to.outside (length a.y.arena.blocks) (λ e. omega (arith, e, fewer, count))
 
     -- a transfer to this exit goes to this record, whose block is the innermost one then
-    pub stops_here : {r : FlatEvaluated} {q : MidOutcome} (t : LeftCharged setting c1 start_inside (a.d + n) r q) → (x.number == t.left.transfer.exit_number) ≡ true → new_record ∷ a.rs ≡ t.left.transfer.to ∷ t.left.transfer.outer
+    pub stops_here : {r : FlatEvaluated} {q : MidOutcome} (t : LeftFrom setting c1 start_inside (a.d + n) r q) → (x.number == t.transfer.exit_number) ≡ true → new_record ∷ a.rs ≡ t.transfer.to ∷ t.transfer.outer
     stops_here {r} {q} t same =
-        let l : Transfers setting c1 (new_record ∷ a.rs) (new_record ∷ a.valid) w (around_with (x ∷ a.around.exits) a.around) z y r q = t.left.transfer in
+        let l : Transfers setting c1 (new_record ∷ a.rs) (new_record ∷ a.valid) w (around_with (x ∷ a.around.exits) a.around) z y r q = t.transfer in
         let target : new_record ≡ l.target = cc (sym (ap (λ b. if b then Some new_record else record_of_exit l.exit_number a.around.exits a.valid) same) ∙ l.valid_target) in
         let stop : first_stop new_record.address (new_record ∷ a.rs) ≡ new_record ∷ a.rs =
         ap (λ b. if b || false then new_record ∷ a.rs else first_stop new_record.address a.rs) (eq-eqb new_record.address new_record.address refl) in
         sym stop ∙ ap (λ (s : Standing). first_stop s.address (new_record ∷ a.rs)) target ∙ l.stop
 
-    pub lands_here : {r : FlatEvaluated} {q : MidOutcome} (t : LeftCharged setting c1 start_inside (a.d + n) r q) → (x.number == t.left.transfer.exit_number) ≡ true → new_record ≡ t.left.transfer.to
-    lands_here {r} {q} t same = let all : new_record ∷ a.rs ≡ t.left.transfer.to ∷ t.left.transfer.outer = stops_here t same in cc all
+    pub lands_here : {r : FlatEvaluated} {q : MidOutcome} (t : LeftFrom setting c1 start_inside (a.d + n) r q) → (x.number == t.transfer.exit_number) ≡ true → new_record ≡ t.transfer.to
+    lands_here {r} {q} t same = let all : new_record ∷ a.rs ≡ t.transfer.to ∷ t.transfer.outer = stops_here t same in cc all
 
-    pub blocks_here : {r : FlatEvaluated} {q : MidOutcome} (t : LeftCharged setting c1 start_inside (a.d + n) r q) → new_record ≡ t.left.transfer.to → q.state.arena.blocks ≡ record_of record_words ∷ a.y.arena.blocks
+    pub blocks_here : {r : FlatEvaluated} {q : MidOutcome} (t : LeftFrom setting c1 start_inside (a.d + n) r q) → new_record ≡ t.transfer.to → q.state.arena.blocks ≡ record_of record_words ∷ a.y.arena.blocks
     blocks_here {r} {q} t same =
         let found : blocks_from (length y.arena.memory) y.arena.blocks new_record.address ≡ Some q.state.arena.blocks =
-        ap (λ (s : Standing). blocks_from (length y.arena.memory) y.arena.blocks s.address) same ∙ t.left.transfer.blocks in
+        ap (λ (s : Standing). blocks_from (length y.arena.memory) y.arena.blocks s.address) same ∙ t.transfer.blocks in
         cc (sym found ∙ found_new setting a laid)
 
     module _ (rest : Next) (catch : ℕ → Next) (rest_grows : (g : Registers) (y : MidState) → Grown y (rest g y).state) (catch_grows : (v : ℕ) (g : Registers) (y : MidState) → Grown y (catch v g y).state)
@@ -243,13 +240,13 @@ module _ (setting : Setting) (a : Start setting) {units cost : ℕ} {x : Exit} {
         (r : FlatEvaluated) (q : MidOutcome)
         (leaving :
         FellFrom setting c1 start_inside (a.d + n) r q
-        → ChargesBy setting (E r (landed (length a.y.arena.blocks) catch (mid_go_on q rest))) c2 a r (landed (length a.y.arena.blocks) catch (mid_go_on q rest)))
+        → EndsBy setting (E r (landed (length a.y.arena.blocks) catch (mid_go_on q rest))) c2 a r (landed (length a.y.arena.blocks) catch (mid_go_on q rest)))
         (landing :
-        (t : LeftCharged setting c1 start_inside (a.d + n) r q) → new_record ≡ t.left.transfer.to → t.left.transfer.exit_number ≡ x.number
-        → ChargesBy setting (E (land t.left.transfer.result t.left.transfer.landing r.state) (catch t.left.transfer.word q.registers q.state)) c2 a
-        (land t.left.transfer.result t.left.transfer.landing r.state) (catch t.left.transfer.word q.registers q.state)) where
+        (t : LeftFrom setting c1 start_inside (a.d + n) r q) → new_record ≡ t.transfer.to → t.transfer.exit_number ≡ x.number
+        → EndsBy setting (E (land t.transfer.result t.transfer.landing r.state) (catch t.transfer.word q.registers q.state)) c2 a
+        (land t.transfer.result t.transfer.landing r.state) (catch t.transfer.word q.registers q.state)) where
       abbrev Whole : FlatEvaluated → MidOutcome → Type 0
-      Whole r q = ChargesBy setting (E r q) c2 a r q
+      Whole r q = EndsBy setting (E r q) c2 a r q
 
       abbrev code : MidOutcome → MidOutcome
       code q = landed (length a.y.arena.blocks) catch (mid_go_on q rest)
@@ -258,28 +255,28 @@ module _ (setting : Setting) (a : Start setting) {units cost : ℕ} {x : Exit} {
       meant r = flat_landed x.number land r
 
       -- **what the body comes to, and what the whole comes to**
-      pub exit_ends : ChargesAt setting c1 start_inside r q → Whole (meant r) (code q)
+      pub exit_ends : EndsAt setting c1 start_inside r q → Whole (meant r) (code q)
       exit_ends (done f) = subst (λ p. Whole p (code q)) (sym (landed_value setting x.number land land_grows r f.result f.outcome)) (leaving f)
-      exit_ends (left_by t) = by (t.left.transfer.exit_number == x.number) refl
+      exit_ends (left_by t) = by (t.transfer.exit_number == x.number) refl
         where
-          source : meant r ≡ (if t.left.transfer.exit_number == x.number then land t.left.transfer.result t.left.transfer.landing r.state else record { outcome = exit t.left.transfer.exit_number t.left.transfer.result t.left.transfer.landing; state = r.state })
-          source = ap (λ o. flat_landed_from x.number land o r.state) t.left.transfer.outcome
+          source : meant r ≡ (if t.transfer.exit_number == x.number then land t.transfer.result t.transfer.landing r.state else record { outcome = exit t.transfer.exit_number t.transfer.result t.transfer.landing; state = r.state })
+          source = ap (λ o. flat_landed_from x.number land o r.state) t.transfer.outcome
 
-          by : (b : Bool) → (t.left.transfer.exit_number == x.number) ≡ b → Whole (meant r) (code q)
+          by : (b : Bool) → (t.transfer.exit_number == x.number) ≡ b → Whole (meant r) (code q)
           by true same =
-              let number : t.left.transfer.exit_number ≡ x.number = eqb-true t.left.transfer.exit_number x.number same in
-              let to : new_record ≡ t.left.transfer.to = lands_here t (eq-eqb x.number t.left.transfer.exit_number (sym number)) in
+              let number : t.transfer.exit_number ≡ x.number = eqb-true t.transfer.exit_number x.number same in
+              let to : new_record ≡ t.transfer.to = lands_here t (eq-eqb x.number t.transfer.exit_number (sym number)) in
               subst (λ p. Whole p (code q))
-              (sym (source ∙ ap (λ b. if b then land t.left.transfer.result t.left.transfer.landing r.state else record { outcome = exit t.left.transfer.exit_number t.left.transfer.result t.left.transfer.landing; state = r.state }) same))
-              (subst (λ p. Whole (land t.left.transfer.result t.left.transfer.landing r.state) p)
-              (sym (cut_lands (length a.y.arena.blocks) rest catch q t.left.transfer.to.outside t.left.transfer.word t.left.transfer.end (ap (λ (s : Standing). s.outside) (sym to))))
+              (sym (source ∙ ap (λ b. if b then land t.transfer.result t.transfer.landing r.state else record { outcome = exit t.transfer.exit_number t.transfer.result t.transfer.landing; state = r.state }) same))
+              (subst (λ p. Whole (land t.transfer.result t.transfer.landing r.state) p)
+              (sym (cut_lands (length a.y.arena.blocks) rest catch q t.transfer.to.outside t.transfer.word t.transfer.end (ap (λ (s : Standing). s.outside) (sym to))))
               (landing t to number))
           by false same =
-              let other = ne_eqb x.number t.left.transfer.exit_number (λ e. eqb-false t.left.transfer.exit_number x.number same (sym e)) in
+              let other = ne_eqb x.number t.transfer.exit_number (λ e. eqb-false t.transfer.exit_number x.number same (sym e)) in
               subst (λ p. Whole p (code q))
-              (sym (source ∙ ap (λ b. if b then land t.left.transfer.result t.left.transfer.landing r.state else record { outcome = exit t.left.transfer.exit_number t.left.transfer.result t.left.transfer.landing; state = r.state }) same
-              ∙ ap (λ o. record { outcome = o; state = r.state }) (sym t.left.transfer.outcome)))
-              (subst (λ p. Whole r p) (sym (cut_passes (length a.y.arena.blocks) rest catch q t.left.transfer.to.outside t.left.transfer.word t.left.transfer.end (passes_by t other))) (left_by (passing t other)))
+              (sym (source ∙ ap (λ b. if b then land t.transfer.result t.transfer.landing r.state else record { outcome = exit t.transfer.exit_number t.transfer.result t.transfer.landing; state = r.state }) same
+              ∙ ap (λ o. record { outcome = o; state = r.state }) (sym t.transfer.outcome)))
+              (subst (λ p. Whole r p) (sym (cut_passes (length a.y.arena.blocks) rest catch q t.transfer.to.outside t.transfer.word t.transfer.end (passes_by t other))) (left_by (passing t other)))
       exit_ends (full_there f) =
           let g : Grown q.state (code q).state =
           landed_grown (length a.y.arena.blocks) catch (mid_go_on q rest) q.state (go_on_grown q rest q.state (same_grown q.state) rest_grows) catch_grows in

@@ -118,6 +118,7 @@ pub activation_with :
     → ActivationStands setting (scope_with count forms own s) rs' valid' w (environment_with numbers env) (around_with exits around) z regs y'
 activation_with setting t x m = record {
   slot_count = t.slot_count;
+  home_count = t.home_count;
   homes = t.homes;
   slots = t.slots;
   exit_count = x.exit_count;

@@ -31,10 +31,9 @@ use Rattle.back_relation.specs.Things.{Things}
 use Rattle.back_relation.specs.Activation.{NoSlot, RegistersKept}
 use Rattle.back_relation.specs.Ends.{ChargedFrom, WorldKept, done}
 use Rattle.back_relation.specs.Forms.{Begins, code_at}
-use Rattle.back_combining.specs.Starts.{Start, FellFrom, ReachedFrom}
+use Rattle.back_combining.specs.Starts.{Start, FellFrom, ReachedFrom, LeftFrom, EndsAt}
 use Rattle.back_combining.specs.Stores.{stores}
 use Rattle.back_combining.proofs.Parts.{go_on_falls}
-use Rattle.back_exits.specs.Charging.{LeftCharged, ChargesAt}
 use Rattle.back_exits.specs.Inside.{scope_with, environment_with, around_with, around_at, address_inside, record_inside, LaidAt, IsInnermost}
 use Rattle.back_exits.specs.RecordSteps.{ControlSays, left_stores, landed_stores, with_stores}
 use Rattle.back_exits.specs.Touching.{touched}
@@ -220,9 +219,9 @@ module _ (setting : Setting) (placed : IsPlaced setting) (k turns : ℕ) (a : St
           (let paid = f.reached.back.paid in let there = laid.paid in let up = laid.units_there in omega (arith, paid, there, up, enough))
 
       -- **the body fell out**
-      pub falls_out : ChargesAt setting c2 a r (landed outside catch (mid_go_on q rest))
+      pub falls_out : EndsAt setting c2 a r (landed outside catch (mid_go_on q rest))
       falls_out =
-          subst (λ p. ChargesAt setting c2 a r p) (sym code_is)
+          subst (λ p. EndsAt setting c2 a r p) (sym code_is)
           (done (record {
             result = f.result;
             outcome = f.outcome;
@@ -238,10 +237,10 @@ module _ (setting : Setting) (placed : IsPlaced setting) (k turns : ℕ) (a : St
 
     -- ---- the landing
 
-    module _ (r : FlatEvaluated) (q : MidOutcome) (t : LeftCharged setting c1 inside (a.d + 6) r q) (to : record_inside setting a (for_exit x) ≡ t.left.transfer.to)
-        (same_exit : (x.number == t.left.transfer.exit_number) ≡ true) where
+    module _ (r : FlatEvaluated) (q : MidOutcome) (t : LeftFrom setting c1 inside (a.d + 6) r q) (to : record_inside setting a (for_exit x) ≡ t.transfer.to)
+        (same_exit : (x.number == t.transfer.exit_number) ≡ true) where
       abbrev v : ℕ
-      v = t.left.transfer.word
+      v = t.transfer.word
 
       blocks_then : q.state.arena.blocks ≡ record_of record_words ∷ a.y.arena.blocks
       blocks_then = blocks_here setting a laid first 6 m begins c1 c2 enough t to
@@ -250,10 +249,10 @@ module _ (setting : Setting) (placed : IsPlaced setting) (k turns : ℕ) (a : St
       lands = landed_stores (around_at setting a).current (around_at setting a).link (around_at setting a).handlers_cell (around_at setting a).bindings_cell
 
       abbrev g1 : Registers
-      g1 = slice_set q.registers a.d (Some t.left.transfer.word)
+      g1 = slice_set q.registers a.d (Some t.transfer.word)
 
       abbrev g4 : Registers
-      g4 = slice_set (slice_set q.registers a.d (Some t.left.transfer.word)) (a.d + 6) (Some 0)
+      g4 = slice_set (slice_set q.registers a.d (Some t.transfer.word)) (a.d + 6) (Some 0)
 
       abbrev closed : Block
       closed = record (record_of record_words) { kind = closed_record }
@@ -267,18 +266,18 @@ module _ (setting : Setting) (placed : IsPlaced setting) (k turns : ℕ) (a : St
       abbrev y4 : MidState
       y4 = touched lands b4 (q.state.cost + 38 + 10) q.state
 
-      abbrev world_then : WorldKept setting w t.left.transfer.w' z r.state y q.state
-      world_then = t.left.transfer.world
+      abbrev world_then : WorldKept setting w t.transfer.w' z r.state y q.state
+      world_then = t.transfer.world
 
       spot_then : SpotStands q.state.arena (control_spot setting)
       spot_then = control_of setting world_then.things
 
       kept_there : (i : ℕ) (o : Option ℕ) → a.d + 1 ≤ i → i < a.d + 6 → register i regs ≡ o → register i g1 ≡ o
       kept_there i o high low e =
-          register_beside q.registers a.d i (Some t.left.transfer.word) (λ same. omega (arith, same, high)) ∙ held t.left.registers i o (omega (arith, high)) low e
+          register_beside q.registers a.d i (Some t.transfer.word) (λ same. omega (arith, same, high)) ∙ held t.registers i o (omega (arith, high)) low e
 
       size_then : length g1 ≡ length a.regs
-      size_then = length-set q.registers a.d (Some t.left.transfer.word) ∙ size t.left.registers
+      size_then = length-set q.registers a.d (Some t.transfer.word) ∙ size t.registers
 
       landing_runs : exec c (code_of (landing_steps a.d)) g1 yc ≡ ends falls g4 (with_stores lands 38 yc)
       landing_runs =
@@ -288,10 +287,10 @@ module _ (setting : Setting) (placed : IsPlaced setting) (k turns : ℕ) (a : St
           (kept_there (a.d + 1 + 3) _ (omega arith) (omega arith) laid.handlers_held) (kept_there (a.d + 1 + 4) _ (omega arith) (omega arith) laid.bindings_held)
           (control_lent setting (spot_stands q.state.arena yc.arena (control_spot setting) refl refl refl (omega arith) spot_then))
 
-      catch_is : catch t.left.transfer.word q.registers q.state ≡ ends falls g4 y4
+      catch_is : catch t.transfer.word q.registers q.state ≡ ends falls g4 y4
       unfolding mid_go_on
       catch_is =
-          closes (record_of record_words) a.y.arena.blocks (λ rs x. mid_go_on (exec c (code_of (landing_steps a.d)) (slice_set rs a.d (Some t.left.transfer.word)) x) (give_back outside)) q.registers q.state blocks_then refl
+          closes (record_of record_words) a.y.arena.blocks (λ rs x. mid_go_on (exec c (code_of (landing_steps a.d)) (slice_set rs a.d (Some t.transfer.word)) x) (give_back outside)) q.registers q.state blocks_then refl
           ∙ ap (λ p. mid_go_on p (give_back outside)) landing_runs ∙ gives_back closed a.y.arena.blocks g4 (with_stores lands 38 yc) refl refl
 
       says_then : ControlSays (stores lands b4) (around_at setting a).current (around_at setting a).link (around_at setting a).handlers_cell (around_at setting a).bindings_cell
@@ -311,35 +310,35 @@ module _ (setting : Setting) (placed : IsPlaced setting) (k turns : ℕ) (a : St
       controls_then = landed_controls (around_at setting a).current (around_at setting a).link (around_at setting a).handlers_cell (around_at setting a).bindings_cell
 
       abbrev world_landed : World
-      world_landed = world_back setting a laid world_then {own = own} {count = count} {forms = forms} {numbers = numbers} {exits = x ∷ a.around.exits} 6 t.left.registers t.left.activation placed blocks_then lands controls_then (q.state.cost + 38 + 10)
+      world_landed = world_back setting a laid world_then {own = own} {count = count} {forms = forms} {numbers = numbers} {exits = x ∷ a.around.exits} 6 t.registers t.activation placed blocks_then lands controls_then (q.state.cost + 38 + 10)
 
-      same_length : length (t.left.transfer.to ∷ t.left.transfer.outer) ≡ length (record_inside setting a (for_exit x) ∷ a.rs)
+      same_length : length (t.transfer.to ∷ t.transfer.outer) ≡ length (record_inside setting a (for_exit x) ∷ a.rs)
       same_length = ap length (sym (stops_here setting a laid first 6 m begins c1 c2 enough t same_exit))
 
       reached_landed : ReachedFrom setting c2 a a.d world_landed r.state g4 y4
       reached_landed =
-          reached_outside setting a laid world_then {own = own} {count = count} {forms = forms} {numbers = numbers} {exits = x ∷ a.around.exits} 6 t.left.registers t.left.activation placed blocks_then lands controls_then
+          reached_outside setting a laid world_then {own = own} {count = count} {forms = forms} {numbers = numbers} {exits = x ∷ a.around.exits} 6 t.registers t.activation placed blocks_then lands controls_then
           (q.state.cost + 38 + 10) g4
-          (length-set g1 (a.d + 6) (Some 0) ∙ length-set q.registers a.d (Some t.left.transfer.word))
-          (λ i few. set_elsewhere g1 (a.d + 6) i (Some 0) (λ e. omega (arith, e, few)) ∙ set_elsewhere q.registers a.d i (Some t.left.transfer.word) (λ e. omega (arith, e, few)))
+          (length-set g1 (a.d + 6) (Some 0) ∙ length-set q.registers a.d (Some t.transfer.word))
+          (λ i few. set_elsewhere g1 (a.d + 6) i (Some 0) (λ e. omega (arith, e, few)) ∙ set_elsewhere q.registers a.d i (Some t.transfer.word) (λ e. omega (arith, e, few)))
           refl says_then
-          (charged_back setting a laid world_then {own = own} {count = count} {forms = forms} {numbers = numbers} {exits = x ∷ a.around.exits} 6 t.left.registers t.left.activation placed blocks_then lands controls_then (q.state.cost + 38 + 10)
-          t.charged)
-          (let paid = t.left.transfer.paid in let there = laid.paid in let up = laid.units_there in let same = same_length in omega (arith, paid, there, up, same, enough))
+          (charged_back setting a laid world_then {own = own} {count = count} {forms = forms} {numbers = numbers} {exits = x ∷ a.around.exits} 6 t.registers t.activation placed blocks_then lands controls_then (q.state.cost + 38 + 10)
+          t.transfer.charged)
+          (let paid = t.transfer.paid in let there = laid.paid in let up = laid.units_there in let same = same_length in omega (arith, paid, there, up, same, enough))
 
       -- **a transfer landed**
-      pub lands_then : ChargesAt setting c2 a (gives t.left.transfer.result r.state) (catch t.left.transfer.word q.registers q.state)
+      pub lands_then : EndsAt setting c2 a (gives t.transfer.result r.state) (catch t.transfer.word q.registers q.state)
       lands_then =
-          subst (λ p. ChargesAt setting c2 a (gives t.left.transfer.result r.state) p) (sym catch_is)
+          subst (λ p. EndsAt setting c2 a (gives t.transfer.result r.state) p) (sym catch_is)
           (done (record {
-            result = t.left.transfer.result;
+            result = t.transfer.result;
             outcome = refl;
             end = refl;
             w' = world_landed;
             reached = reached_landed;
-            word = t.left.transfer.word;
+            word = t.transfer.word;
             in_register =
                 register_beside g1 (a.d + 6) a.d (Some 0) (λ e. omega (arith, e))
-                ∙ register_here q.registers a.d t.left.transfer.word (let same = size t.left.registers in omega (arith, same, there));
-            of_value = t.left.transfer.of_value;
+                ∙ register_here q.registers a.d t.transfer.word (let same = size t.registers in omega (arith, same, there));
+            of_value = t.transfer.of_value;
           }))

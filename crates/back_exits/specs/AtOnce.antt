@@ -6,19 +6,19 @@ use Rattle.flat_language.specs.FlatExits.{made_by}
 use Rattle.flat_language.specs.FlatForm.{FlatForm, return_from, go}
 use Rattle.back_lowering.specs.declared.scope.OwnExit.{OwnExit}
 use Rattle.back_lowering.specs.declared.scope.Reach.TheVariants.{AtOnce}
+use Rattle.back_combining.specs.Points.{Here}
 use Rattle.back_relation.specs.Setting.{Setting}
 use Rattle.back_relation.specs.Placed.{IsPlaced}
 use Rattle.back_relation.specs.Activation.{FormScope}
-use Rattle.back_exits.specs.Charging.{ChargesHere}
 
 -- a value goes to a block
 abbrev pub LawOfReturnsAtOnce : Type 0
 LawOfReturnsAtOnce =
     (setting : Setting) (s : FormScope) (d n size k turns i : ℕ) (x : OwnExit) (f : FlatForm) → IsPlaced setting → d + 3 ≤ size → slice_get s.code.exits i ≡ Some x
-    → x.reach ≡ AtOnce → is_block (made_by s.exits (Own i)) ≡ true → ChargesHere setting s d n size k turns f → ChargesHere setting s d n size k turns (return_from (Own i) f)
+    → x.reach ≡ AtOnce → is_block (made_by s.exits (Own i)) ≡ true → Here setting s d n size k turns f → Here setting s d n size k turns (return_from (Own i) f)
 
 -- a tagbody goes on at a segment
 abbrev pub LawOfGoesAtOnce : Type 0
 LawOfGoesAtOnce =
     (setting : Setting) (s : FormScope) (d n size k turns i segment : ℕ) (x : OwnExit) → IsPlaced setting → d + 3 ≤ size → slice_get s.code.exits i ≡ Some x
-    → x.reach ≡ AtOnce → is_segment segment (made_by s.exits (Own i)) ≡ true → ChargesHere setting s d n size k turns (go (Own i) segment)
+    → x.reach ≡ AtOnce → is_segment segment (made_by s.exits (Own i)) ≡ true → Here setting s d n size k turns (go (Own i) segment)

@@ -2,6 +2,6 @@ pub mod RecordSteps
 pub mod Going
 pub mod Touching
 pub mod Inside
-pub mod Charging
+pub mod Known
 pub mod Blocks
 pub mod AtOnce

@@ -3,7 +3,8 @@ use Rattle.std.proofs.Common.{◌≡◌, ◌⊎◌, inl, inr, ℕ, suc, ◌+◌,
 use Rattle.std.specs.Prelude.{◌==◌, slice_get, if◌then◌else◌}
 use Rattle.std.proofs.lemmas.Bool.{eq-eqb, ne_eqb}
 use Rattle.std.proofs.lemmas.Option.{slice_get_within}
-use Rattle.base.specs.Names.{slice_get-push}
+use Rattle.base.specs.Names.{slice_get-front, slice_get-behind, slice_get-push}
+use Rattle.std.proofs.lemmas.Bool.Decides.{nat_tests}
 use Rattle.lang_meaning.specs.declared.scope.ExitForm.{ExitForm}
 use Rattle.lang_meaning.specs.Objects.{Object, function, generic_function}
 use Rattle.lang_meaning.specs.State.{State, Limit, words, unlimited, with_words, stored}
@@ -173,6 +174,16 @@ module _ (setting : Setting) (placed : IsPlaced setting) {w : World} {z : FlatSt
       by (inl f) = f
       by (inr f) = absurd (cc f.1)
 
+  captured_all :
+      (i : ℕ) (ds : List Captured) → under i ((length store, cs) ∷ z.captured) ≡ Some ds → (q : ℕ) × (slice_get (store ++ function p ∷ []) i ≡ Some (function q))
+  captured_all i ds e = by (i == length store) refl e
+    where
+      by : (b : Bool) → (i == length store) ≡ b → (if b then Some cs else under i z.captured) ≡ Some ds → (q : ℕ) × (slice_get (store ++ function p ∷ []) i ≡ Some (function q))
+      by true g h =
+          let at : i ≡ length store = grind (arith, nat_tests) in
+          (p, ap (slice_get (store ++ function p ∷ [])) at ∙ slice_get-behind store (function p))
+      by false g h = let old = t.captured i ds h in (old.0, slice_get-front store (function p ∷ []) i (function old.0) old.1)
+
   pub things_made : Things setting function_world (function_meant p cs z) made_state
   things_made = record {
     represents =
@@ -192,6 +203,7 @@ module _ (setting : Setting) (placed : IsPlaced setting) {w : World} {z : FlatSt
     methods = λ i a called e. method_moves setting made_state t later All same a called (λ k late f. tt) (t.methods i a called e);
     exit_forms = t.exit_forms;
     functions = functions_all;
+    captured = captured_all;
     generics = λ i g e. t.generics i g (generics_all i g e);
   }
     where

@@ -110,7 +110,7 @@ applies_law setting k turns credit f list few does_f does_list applies rs valid 
     } in
     let lists =
     argument_lists_law setting s d n (length regs) k turns first fs (does_f, (does_list, tt)) (stands.stands.0, (stands.stands.1, tt)) (stands.fits.0, (stands.fits.1, tt))
-    (stands.leads.0, (stands.leads.1, tt)) (stands.placed.0, (stands.placed.1, tt)) begins.first (registers_front front after_them (length regs) registers2) (omega (arith, words)) in
+    (stands.leads.0, (stands.leads.1, tt)) (stands.placed.0, (stands.placed.1, tt)) stands.forms_known begins.first (registers_front front after_them (length regs) registers2) (omega (arith, words)) in
     ends_charged setting {c1 = 300} (start_at setting s d n (length regs) turns p0) 1 (omega arith)
     (subst
     (λ ss.

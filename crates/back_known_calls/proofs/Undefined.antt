@@ -114,7 +114,7 @@ undefined_calls_law setting k turns name fs none does fails rs valid s d n first
       count = refl;
     } in
     let lists =
-    argument_lists_law setting s d n (length regs) k turns first fs does stands.stands stands.fits stands.leads stands.placed.1 begins.first
+    argument_lists_law setting s d n (length regs) k turns first fs does stands.stands stands.fits stands.leads stands.placed.1 stands.forms_known begins.first
     (registers_front front after_them (length regs) registers) (omega (arith, words)) in
     ends_charged setting {c1 = 300 * units} (start_at setting s d n (length regs) turns p0) units (omega arith)
     (arguments_law setting s d n (length regs) k turns (300 * units) fs pc (next setting k turns name fs none fails s d n (length regs) around) after_them lists.0 lists.1

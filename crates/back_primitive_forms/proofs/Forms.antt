@@ -164,7 +164,7 @@ module _ (setting : Setting) (k turns : ℕ) (which : Primitive) (fs : FlatForms
     list = arguments_steps setting s d fs
 
     lists : enough_for (of_code (code_of list)) ≤ size → (d + count_forms fs ≤ size) × ArgumentsHere setting s d n size k turns fs
-    lists names = argument_lists_law setting s d n size k turns first fs does stands.stands stands.fits.1 stands.leads stands.placed begins.first names (omega (arith, words))
+    lists names = argument_lists_law setting s d n size k turns first fs does stands.stands stands.fits.1 stands.leads stands.placed stands.forms_known begins.first names (omega (arith, words))
 
     value_ends :
         enough_for (of_code (code_of (list ++ applied))) ≤ size

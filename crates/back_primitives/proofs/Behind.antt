@@ -3,7 +3,7 @@ use Rattle.std.proofs.Common.{◌≡◌, ℕ, suc, ◌+◌, ◌<◌, ◌≤◌, 
 use Rattle.std.specs.Prelude.{slice_get, if◌then◌else◌}
 use Rattle.std.proofs.lemmas.Bool.Decides.{nat_tests}
 use Rattle.std.proofs.lemmas.Option.{slice_get_within}
-use Rattle.base.specs.Names.{slice_get-push}
+use Rattle.base.specs.Names.{slice_get-front, slice_get-push}
 use Rattle.lang_meaning.specs.Objects.{Object, function, generic_function}
 use Rattle.lang_meaning.specs.Values.{Value}
 use Rattle.lang_meaning.specs.State.{Limit, words, unlimited, Outcome, full, has_room, room_left}
@@ -81,6 +81,7 @@ value_stands setting {w} {z} {y} t set z2 y2 keeps represents kept size blocks =
   dynamics = keeps.dynamics;
   exits = keeps.exits;
   functions = λ i p s e f. (blank_function (slice_get z.state.store i) p (sym (keeps.objects i) ∙ ap blank e), f);
+  still = λ i p e. blank_function (slice_get z2.store i) p (keeps.objects i ∙ ap blank e);
   generics = λ i g e. blank_generic (slice_get z.state.store i) g (sym (keeps.objects i) ∙ ap blank e);
   size = size;
   blocks = blocks;
@@ -121,6 +122,7 @@ object_stands setting {w} {z} {y} t size o s z3 y2 one other room represents kep
       let old = function_was z.state.store o i p other (ap (λ os. slice_get os i) (sym one.store) ∙ e) in
       let low : i < length z.state.store = slice_get_within z.state.store i (function p) old in
       (old, spot_was w.places s r i (omega (arith, low, t.represents.count)) f);
+  still = λ i p e. ap (λ os. slice_get os i) one.store ∙ slice_get-front z.state.store (o ∷ []) i (function p) e;
   generics = λ i g e. generic_was z.state.store o i g other (ap (λ os. slice_get os i) (sym one.store) ∙ e);
   size = same_size;
   blocks = blocks;

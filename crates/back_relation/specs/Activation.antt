@@ -148,6 +148,7 @@ module _ (setting : Setting) where
   pub record ActivationStands (s : FormScope) (rs valid : List Standing) (w : World) (env : FlatEnvironment) (around : DynamicContext) (z : FlatState) (regs : Registers) (y : MidState) : Type 0 where
     -- slots
     pub slot_count : length s.code.slots ≡ length z.frame
+    pub home_count : length s.flat.homes ≡ length z.frame
     pub homes : (n : ℕ) (h : Home) → slice_get s.flat.homes n ≡ Some h → SlotHas h (slice_get z.frame n)
     pub slots :
         (n r : ℕ) (f : FrameSlot) → slice_get s.code.slots n ≡ Some r → slice_get z.frame n ≡ Some f

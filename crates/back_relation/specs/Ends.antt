@@ -5,7 +5,7 @@ use Rattle.lang_meaning.specs.Prefixes.{IsPrefix}
 use Rattle.lang_meaning.specs.State.{DynamicContext, Landing, at_segment, at_site, Outcome, value, exit, full, more, Limit, words, unlimited}
 use Rattle.lang_meaning.specs.Values.{Value}
 use Rattle.flat_language.specs.FlatState.{FlatEnvironment, FlatState, FlatEvaluated}
-use Rattle.mid_code.specs.Arena.{left, blocks_from}
+use Rattle.mid_code.specs.Arena.{left, stack_from, blocks_from}
 use Rattle.mid_code.specs.State.{Registers, register, End, falls, returns, cuts, no_room, no_level, no_turn, halts, unhandled, exhausted, stuck, MidState, MidOutcome}
 use Rattle.mid_arena.specs.Places.{word_of}
 use Rattle.back_lowering.specs.ControlWords.{current_address, link_address, target_address, landing_address, handlers_address, bindings_address, end_address}
@@ -36,6 +36,10 @@ PaidPassing credit before after z y z' y' =
 -- the words that were taken were charged
 abbrev pub ChargedFrom : FlatState → MidState → FlatState → MidState → Type 0
 ChargedFrom z y z' y' = left y.arena + z.state.heap + z.state.stack ≤ left y'.arena + z'.state.heap + z'.state.stack
+
+-- The same where blocks may have ended: so many would be left at least, if all blocks still stood where the heap ends now.
+abbrev pub TakenCharged : FlatState → MidState → FlatState → MidState → Type 0
+TakenCharged z y z' y' = 4 * (left y.arena + z.state.heap + z.state.stack) + y'.arena.heap_to ≤ stack_from y.arena + 4 * (z'.state.heap + z'.state.stack)
 
 -- so many turns are few for what was done: each unit takes at most 16, and each word of the arena one
 abbrev pub AreFew : (turns : ℕ) → FlatState → MidState → FlatState → Type 0
@@ -101,6 +105,7 @@ module _ (setting : Setting) where
     pub w' : World
     pub of_value : word_of w'.places result ≡ Some word
     pub world : WorldKept w w' z r.state y q.state
+    pub charged : TakenCharged z y r.state q.state
     pub paid : PaidPassing credit rs (to ∷ outer) z y r.state q.state
     pub pending : is_cleanup to.role ≡ true → HasWordAt q.state target_address target.address
     pub landing_word : ℕ

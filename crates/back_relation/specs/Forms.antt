@@ -67,12 +67,14 @@ module _ (setting : Setting) where
   TestEnds credit turns rs valid s d w env around z regs y test r q =
       Ends setting (FellJudged credit rs valid s d w env around z regs y test r q) (Left setting credit rs valid s d w env around z regs y r q) turns z y r q
 
-  -- what a whole program says of a form: places are there, literals and sites too, exits lead to forms that take them, and names have words
+  -- what a whole program says of a form: places are there, literals and sites too, exits lead to forms that take them, names have words, and the
+  -- forms that made the exits around are known
   pub record FormStands (s : FormScope) (first : ℕ) (f : FlatForm) : Type 0 where
     pub stands : Stands setting.program.lambdas s.flat first f
     pub fits : Fits setting.program f
     pub leads : Leads setting.leads.functions s.exits f
     pub placed : Placed setting s.keeps_method f
+    pub forms_known : length s.exits.own ≡ s.flat.exits
 
   abbrev pub value_code : FormScope → ℕ → FlatForm → MidCode
   value_code s d f = code_of (lower setting.names setting.at setting.program s.code d f).value

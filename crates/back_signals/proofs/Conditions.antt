@@ -109,6 +109,7 @@ module _ (setting : Setting) {w : World} {z : FlatState} {y : MidState} (t : Thi
     dynamics = refl;
     exits = refl;
     functions = λ i p s e f. no_function i p s (front_or_end z.state.store made i (function p) e) f;
+    still = λ i p e. get_front z.state.store (made ∷ []) i (slice_get_within z.state.store i (function p) e) ∙ e;
     generics = λ i g e. no_generic i g (front_or_end z.state.store made i (generic_function g) e);
     size = grown.heap.size;
     blocks = begun_blocks (3 + length vs) words_made y.arena;

@@ -28,6 +28,7 @@ use Rattle.mid_arena.proofs.Arguments.{ObjectFound, object_found}
 use Rattle.mid_arena.proofs.FixedChanges.{one_word}
 use Rattle.mid_arena.proofs.Growing.{changes_part, spot_below}
 use Rattle.mid_arena.proofs.Keeping.{words_of_condition}
+use Rattle.mid_arena.proofs.Lists.{set_elsewhere}
 use Rattle.mid_arena.proofs.Making.{changes_stored}
 use Rattle.mid_arena.proofs.Owners.{SetOrNot, at_place, elsewhere, set_or_not}
 use Rattle.mid_arena.proofs.Memory.{stored_in_spot, others_in_spot, in_spot_lent}
@@ -175,6 +176,7 @@ module _ (setting : Setting) {w : World} {z : FlatState} {y : MidState} (t : Thi
     dynamics = refl;
     exits = refl;
     functions = λ i p s e f. (no_function i p (set_or_not z.state.store it.number now i (function p) e), f);
+    still = λ i p e. set_elsewhere z.state.store it.number i now (λ same. absurd (cc (sym e ∙ ap (slice_get z.state.store) (sym same) ∙ it.stored))) ∙ e;
     generics = λ i g e. no_generic i g (set_or_not z.state.store it.number now i (generic_function g) e);
     size = length-set y.arena.memory (place / 4) (Some mark_word);
     blocks = refl;

@@ -54,6 +54,7 @@ pub record StandsBehind (setting : Setting) (w : World) (z : FlatState) (y : Mid
   pub functions :
       (i p : ℕ) (s : Spot) → slice_get z2.store i ≡ Some (function p) → spot_of places (of_object i) ≡ Some s
       → (slice_get z.state.store i ≡ Some (function p)) × (spot_of w.places (of_object i) ≡ Some s)
+  pub still : (i p : ℕ) → slice_get z.state.store i ≡ Some (function p) → slice_get z2.store i ≡ Some (function p)
   pub generics : (i g : ℕ) → slice_get z2.store i ≡ Some (generic_function g) → slice_get z.state.store i ≡ Some (generic_function g)
   pub size : length y2.arena.memory ≡ length y.arena.memory
   pub blocks : y2.arena.blocks ≡ y.arena.blocks
@@ -216,6 +217,7 @@ module _ (setting : Setting) (placed : IsPlaced setting) {w : World} {z : FlatSt
         let old = b.functions i p s e f in
         let size = (t.represents.objects i (function p) s old.0 old.1).words in
         function_behind s p (under i z.captured) (b.kept.functions i p s old.0 old.1) size (t.functions i p s old.0 old.1);
+    captured = λ i cs e. let old = t.captured i cs e in (old.0, b.still i old.0 old.1);
     generics = λ i g e. t.generics i g (b.generics i g e);
   }
 

@@ -219,6 +219,7 @@ module _ (setting : Setting) (placed : IsPlaced setting) where
         w' = x.w';
         of_value = x.of_value;
         world = world_both setting laid_world x.world (λ a low high. let l = laid_lower in omega (arith, low, l));
+        charged = let less = laid_left in let size = grown.size in omega (arith, x.charged, less, size, room);
         paid = omega (arith, x.paid, paid);
         pending = x.pending;
         landing_word = x.landing_word;

@@ -24,7 +24,7 @@ use Rattle.back_relation.specs.Ends.{WorldKept, Around, Transfers, CallEnds, don
 use Rattle.back_relation.specs.Procedures.{called}
 use Rattle.back_combining.proofs.Parts.{IsLast, go_on_last}
 use Rattle.back_combining.proofs.Straight.{world_cost, around_cost}
-use Rattle.back_combining.proofs.Then.{world_then, back_then}
+use Rattle.back_combining.proofs.Then.{from_same, world_then, back_then}
 use Rattle.back_transfers.proofs.Bodies.{Passes, stopped_passes}
 
 -- ---- what goes on from a point
@@ -53,6 +53,7 @@ module _ (setting : Setting) where
       w' = t.w';
       of_value = t.of_value;
       world = world_then setting k a t.world;
+      charged = omega (arith, a.charged, t.charged, from_same setting k a);
       paid = omega (arith, t.paid, paid);
       pending = t.pending;
       landing_word = t.landing_word;
@@ -218,6 +219,7 @@ module _ (c : Context) (to : ℕ) (regs : Registers) (there : to < length regs) 
             w' = x.transfer.w';
             of_value = x.transfer.of_value;
             world = x.transfer.world;
+            charged = x.transfer.charged;
             paid = let p = x.transfer.paid in omega (arith, p, enough);
             pending = x.transfer.pending;
             landing_word = x.transfer.landing_word;

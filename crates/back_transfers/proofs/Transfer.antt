@@ -240,6 +240,7 @@ module _ (setting : Setting) (placed : IsPlaced setting) (k t : ℕ) (rs valid :
         w' = world_cut from w;
         of_value = word_later (later_cut from w) v word of_value;
         world = world_touched setting placed of_transfer things touched from higher (omega arith) (λ a low high. high);
+        charged = let high = arena_stands.room in omega (arith, high);
         paid = omega (arith, walked.within);
         pending = λ h. cut_grows.words target_address (omega (arith, spot_below arena_stands target_stands)) ∙ target_stored;
         landing_word = landing_word;

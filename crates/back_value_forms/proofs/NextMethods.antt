@@ -43,7 +43,8 @@ use Rattle.back_values.specs.Variables.{CapturedByFunctions}
 use Rattle.back_values.proofs.Far.{load_from_runs}
 use Rattle.back_value_forms.specs.Methods.{LawOfNextMethods, LawOfWholeNextMethods}
 use Rattle.back_value_forms.proofs.MethodPlaces.{method_places_law}
-use Rattle.back_value_forms.proofs.Wholes.{point, step_fits}
+use Rattle.back_value_forms.proofs.Wholes.{point, step_fits, points_known}
+use Rattle.back_value_forms.specs.Wholes.{PointsKnown}
 
 -- ---- the first word of a chain
 
@@ -296,5 +297,6 @@ next_methods_law setting s d m size k turns p stands known fits = next_here sett
 
 pub whole_next_methods : LawOfWholeNextMethods
 unfolding lower
-whole_next_methods setting k turns p known rs valid s d n first w env around z regs y stands begins registers words =
+whole_next_methods setting k turns p rs valid s d n first w env around z regs y stands begins registers words =
+    let known : PointsKnown setting = points_known setting in
     next_here setting s d n (length regs) k turns p stands.stands (known.functions s d n (length regs)) registers (point setting k turns rs valid s d n w env around z regs y begins)

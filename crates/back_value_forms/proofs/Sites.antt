@@ -58,6 +58,7 @@ module _ (setting : Setting) (n : ℕ) (some : 1 ≤ n) {rs valid : List Standin
     };
     activation = record {
       slot_count = b.activation.slot_count;
+      home_count = b.activation.home_count;
       homes = b.activation.homes;
       slots = b.activation.slots;
       exit_count = b.activation.exit_count;
@@ -94,6 +95,7 @@ module _ (setting : Setting) (n : ℕ) (some : 1 ≤ n) {rs valid : List Standin
       → ActivationStands setting s rs valid w' env around z' regs' y'
   activation_back {regs' = regs'} k t = record {
     slot_count = t.slot_count;
+    home_count = t.home_count;
     homes = t.homes;
     slots = t.slots;
     exit_count = t.exit_count;
@@ -136,6 +138,7 @@ module _ (setting : Setting) (n : ℕ) (some : 1 ≤ n) {rs valid : List Standin
     w' = t.w';
     of_value = t.of_value;
     world = t.world;
+    charged = t.charged;
     paid = t.paid;
     pending = t.pending;
     landing_word = t.landing_word;
@@ -196,7 +199,7 @@ module _ (setting : Setting) (n : ℕ) (some : 1 ≤ n) {rs valid : List Standin
       e
 
 stands_sited : (setting : Setting) (s : FormScope) (first n : ℕ) (f : FlatForm) → FormStands setting s first (sited n f) → FormStands setting (at_site n s) first f
-stands_sited setting s first n f h = record { stands = h.stands; fits = h.fits.2; leads = h.leads; placed = h.placed }
+stands_sited setting s first n f h = record { stands = h.stands; fits = h.fits.2; leads = h.leads; placed = h.placed; forms_known = h.forms_known }
 
 sited_does : (setting : Setting) (k turns n : ℕ) (f : FlatForm) → Does setting k turns f → Does setting k turns (sited n f)
 unfolding mean lower

@@ -1,5 +1,5 @@
 -- From points in one scope to all of them.
-use Rattle.std.proofs.Common.{◌≡◌, ℕ, ◌+◌, ◌<◌, ◌≤◌, List, [], ◌∷◌, ◌++◌, length, refl, subst, arith}
+use Rattle.std.proofs.Common.{◌≡◌, ℕ, ◌+◌, ◌<◌, ◌≤◌, List, [], ◌∷◌, ◌++◌, length, refl, subst, arith, sym, ◌∙◌}
 use Rattle.std.proofs.Common.{Bool, true, false}
 use Rattle.std.specs.Prelude.{nat_le, if◌then◌else◌}
 use Rattle.lang_meaning.specs.Objects.{unbound_variable_class}
@@ -82,6 +82,13 @@ module _ (setting : Setting) where
   words_forms no_binding = refl
   words_forms (binding_and x f bs) = let inner = words_forms bs in omega (arith, inner)
 
+-- all points are known
+pub points_known : (setting : Setting) → PointsKnown setting
+points_known setting = record {
+  functions = λ s d m size q. q.begins.call.things.captured;
+  homes = λ s d m size q. q.begins.activation.home_count ∙ sym q.begins.activation.slot_count;
+}
+
 module _ (setting : Setting) (k turns : ℕ) where
   -- a point of its own scope
   abbrev pub point :
@@ -97,22 +104,22 @@ module _ (setting : Setting) (k turns : ℕ) where
   known_place known s d m size (CapturedBox i) = known.functions s d m size
 
   pub whole_variables : LawOfWholeVariables setting k turns
-  whole_variables p known rs valid s d n first w env around z regs y stands begins registers words =
-      variables_law setting s d n (length regs) k turns p stands.stands (known_place known s d n (length regs) p) (point rs valid s d n w env around z regs y begins)
+  whole_variables p rs valid s d n first w env around z regs y stands begins registers words =
+      variables_law setting s d n (length regs) k turns p stands.stands (known_place (points_known setting) s d n (length regs) p) (point rs valid s d n w env around z regs y begins)
 
   pub whole_setting : LawOfWholeSetting setting k turns
   unfolding lower
-  whole_setting p f placed known does rs valid s d n first w env around z regs y stands begins registers words =
+  whole_setting p f placed does rs valid s d n first w env around z regs y stands begins registers words =
       let one : Steps = (lower setting.names setting.at setting.program s.code d f).value in
       let others : Steps = variable_from s.code d (d + 1) p in
-      setting_law setting s d n (length regs) k turns p f placed stands.stands.0 stands.stands.1 (known_place known s d n (length regs) p) (registers_behind one others (length regs) registers)
-      (does_here setting s d n (length regs) k turns f first does (record { stands = stands.stands.2; fits = stands.fits; leads = stands.leads; placed = stands.placed })
+      setting_law setting s d n (length regs) k turns p f placed stands.stands.0 stands.stands.1 (known_place (points_known setting) s d n (length regs) p) (registers_behind one others (length regs) registers)
+      (does_here setting s d n (length regs) k turns f first does (record { stands = stands.stands.2; fits = stands.fits; leads = stands.leads; placed = stands.placed; forms_known = stands.forms_known })
       (registers_front one others (length regs) registers) words)
       (point rs valid s d n w env around z regs y begins)
 
   pub whole_bindings : LawOfWholeBindings setting k turns
   unfolding lower
-  whole_bindings bs body placed known all does rs valid s d n first w env around z regs y stands begins registers words =
+  whole_bindings bs body placed all does rs valid s d n first w env around z regs y stands begins registers words =
       let size : ℕ = length regs in
       let many : ℕ = length (binding_homes bs) in
       let values : Steps = lower_bindings setting.names setting.at setting.program s.code d bs in
@@ -125,18 +132,20 @@ module _ (setting : Setting) (k turns : ℕ) where
       let end_fits = step_fits (move d (d + many)) [] size (registers_behind body_steps last size behind_boxes) in
       let there : d + many < size = omega (arith, end_fits) in
       let values_fit = registers_front values (boxes ++ (body_steps ++ last)) size registers in
+      let known : PointsKnown setting = points_known setting in
       bindings_law setting s d n size k turns bs body placed (known.homes s d n size (point rs valid s d n w env around z regs y begins)) there
       (registers_front boxes (body_steps ++ last) size behind_values)
       (arguments_here setting s n size k turns first d (forms_of bs) all (stand_forms setting s.flat first bs stands.stands.0) (fit_forms setting bs stands.fits.0)
-      (lead_forms setting s.exits bs stands.leads.0) (placed_forms setting s bs stands.placed.0)
+      (lead_forms setting s.exits bs stands.leads.0) (placed_forms setting s bs stands.placed.0) stands.forms_known
       (subst (λ ss. enough_for (of_code (code_of ss)) ≤ size) (bindings_steps setting s.code d bs) values_fit) (omega (arith, words, words_forms setting bs)))
-      (does_here setting inside (d + many) n size k turns body first does (record { stands = stands.stands.1; fits = stands.fits.1; leads = stands.leads.1; placed = stands.placed.1 })
+      (does_here setting inside (d + many) n size k turns body first does (record { stands = stands.stands.1; fits = stands.fits.1; leads = stands.leads.1; placed = stands.placed.1; forms_known = stands.forms_known })
       (registers_front body_steps last size behind_boxes) (omega (arith, words)))
       (point rs valid s d n w env around z regs y begins)
 
   pub whole_functions : LawOfWholeFunctions setting k turns
   unfolding lower
-  whole_functions p parts placed known rs valid s d n first w env around z regs y stands begins registers words =
+  whole_functions p parts placed rs valid s d n first w env around z regs y stands begins registers words =
+      let known : PointsKnown setting = points_known setting in
       functions_law setting s d n (length regs) k turns first p parts placed stands.stands stands.leads stands.placed (known.functions s d n (length regs)) registers
       (point rs valid s d n w env around z regs y begins)
 
@@ -164,7 +173,7 @@ module _ (setting : Setting) (k turns : ℕ) where
       let one = step_fits (constant (d + 2) unbound_word) choice size (registers_behind looked tested size (registers_behind value (looked ++ tested) size registers)) in
       let there : d + 2 < size = omega (arith, one) in
       setting_globals_law setting s d n size k turns name f placed stands.placed.0 there (fails s d n size name stands.placed.1 (omega (arith, there)) (omega (arith, words)))
-      (does_here setting s d n size k turns f first does (record { stands = stands.stands; fits = stands.fits; leads = stands.leads; placed = stands.placed.2 })
+      (does_here setting s d n size k turns f first does (record { stands = stands.stands; fits = stands.fits; leads = stands.leads; placed = stands.placed.2; forms_known = stands.forms_known })
       (registers_front value (looked ++ tested) size registers) (omega (arith, words)))
       (point rs valid s d n w env around z regs y begins)
 
@@ -177,7 +186,7 @@ module _ (setting : Setting) (k turns : ℕ) where
       let symbol_steps : Steps = constant d (symbol_word setting.at name) ∷ [] in
       let there : d + 1 < size = stored_fits d (global_address setting.at name) size (registers_front stored symbol_steps size (registers_behind value (stored ++ symbol_steps) size registers)) in
       definitions_law setting s d n size k turns name f placed stands.placed.0 stands.placed.1 there
-      (does_here setting s d n size k turns f first does (record { stands = stands.stands; fits = stands.fits; leads = stands.leads; placed = stands.placed.2 })
+      (does_here setting s d n size k turns f first does (record { stands = stands.stands; fits = stands.fits; leads = stands.leads; placed = stands.placed.2; forms_known = stands.forms_known })
       (registers_front value (stored ++ symbol_steps) size registers) words)
       (point rs valid s d n w env around z regs y begins)
 

@@ -14,7 +14,7 @@ use Rattle.back_relation.specs.Setting.{Setting}
 use Rattle.back_relation.specs.Activation.{FormScope, MethodHeld, MethodThere}
 use Rattle.back_relation.specs.Forms.{code_at}
 use Rattle.back_combining.specs.Points.{Point, Here}
-use Rattle.back_value_forms.specs.Wholes.{PointsKnown, Does}
+use Rattle.back_value_forms.specs.Wholes.{Does}
 use Rattle.back_values.specs.Variables.{CapturedByFunctions}
 
 -- the call of a method is in three registers from d on; those in front are as they were
@@ -44,4 +44,4 @@ LawOfNextMethods =
 
 -- and wherever the form stands
 abbrev pub LawOfWholeNextMethods : Type 0
-LawOfWholeNextMethods = (setting : Setting) (k turns : ℕ) (p : MethodPlace) → PointsKnown setting → Does setting k turns (has_next p)
+LawOfWholeNextMethods = (setting : Setting) (k turns : ℕ) (p : MethodPlace) → Does setting k turns (has_next p)

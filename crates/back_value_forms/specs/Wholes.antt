@@ -41,17 +41,17 @@ module _ (setting : Setting) (k turns : ℕ) where
       (s : FormScope) (d m size name : ℕ) → HasSymbol setting name → d + 1 < size → routine_words ≤ m → FailsHere setting s d m size k turns credit class name
 
   abbrev pub LawOfWholeVariables : Type 0
-  LawOfWholeVariables = (p : VariablePlace) → PointsKnown setting → Does (local p)
+  LawOfWholeVariables = (p : VariablePlace) → Does (local p)
 
   abbrev pub LawOfWholeSetting : Type 0
-  LawOfWholeSetting = (p : VariablePlace) (f : FlatForm) → IsPlaced setting → PointsKnown setting → Does f → Does (set_local p f)
+  LawOfWholeSetting = (p : VariablePlace) (f : FlatForm) → IsPlaced setting → Does f → Does (set_local p f)
 
   abbrev pub LawOfWholeBindings : Type 0
   LawOfWholeBindings =
-      (bs : FlatBindings) (body : FlatForm) → IsPlaced setting → PointsKnown setting → AllDo setting k turns (forms_of bs) → Does body → Does (let_form bs body)
+      (bs : FlatBindings) (body : FlatForm) → IsPlaced setting → AllDo setting k turns (forms_of bs) → Does body → Does (let_form bs body)
 
   abbrev pub LawOfWholeFunctions : Type 0
-  LawOfWholeFunctions = (p : ℕ) (parts : List FlatCapture) → IsPlaced setting → PointsKnown setting → Does (make_function p parts)
+  LawOfWholeFunctions = (p : ℕ) (parts : List FlatCapture) → IsPlaced setting → Does (make_function p parts)
 
   abbrev pub LawOfWholeGlobals : Type 0
   LawOfWholeGlobals = (name : ℕ) → IsPlaced setting → FailsAnywhere 540 unbound_variable_class → Does (global name)

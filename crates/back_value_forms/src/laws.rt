@@ -3,7 +3,7 @@ ghost use Rattle.std.specs.Prelude.{ℕ};
 ghost use Rattle.back_relation.specs.Setting.{Setting};
 ghost use Rattle.back_value_forms.specs.Methods.{LawOfMethodPlaces, LawOfNextMethods, LawOfWholeNextMethods};
 ghost use Rattle.back_value_forms.specs.Sites.{LawOfSites, LawOfWholeLiterals};
-ghost use Rattle.back_value_forms.specs.Wholes.{LawOfWholeVariables, LawOfWholeSetting, LawOfWholeBindings, LawOfWholeFunctions, LawOfWholeGlobals, LawOfWholeSettingGlobals, LawOfWholeDefinitions, LawOfWholeJudging, LawOfJudgedForms};
+ghost use Rattle.back_value_forms.specs.Wholes.{PointsKnown, LawOfWholeVariables, LawOfWholeSetting, LawOfWholeBindings, LawOfWholeFunctions, LawOfWholeGlobals, LawOfWholeSettingGlobals, LawOfWholeDefinitions, LawOfWholeJudging, LawOfJudgedForms};
 
 /// Variables are read.
 pub fn law_whole_variables()
@@ -73,4 +73,9 @@ pub fn law_whole_next_methods()
 /// All forms that are judged by their values.
 pub fn law_judged_forms()
     ensures { (setting : Setting) (k turns : ℕ) → LawOfJudgedForms setting k turns }
+{}
+
+/// All points are known.
+pub fn law_points_known()
+    ensures { (setting : Setting) → PointsKnown setting }
 {}

@@ -97,6 +97,7 @@ module _ (setting : Setting) {w : World} {z : FlatState} {y : MidState} (t : Thi
         methods = λ i a called e. method_moves setting y t l All (λ p s stays f x low high. refl) a called (λ k late f. tt) (t.methods i a called e);
         exit_forms = t.exit_forms;
         functions = λ i p s e f. functions_move setting y t l All (λ p s stays f x low high. refl) (λ i. tt) i p s e f;
+        captured = t.captured;
         generics = t.generics;
       }
 

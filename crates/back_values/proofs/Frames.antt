@@ -34,6 +34,7 @@ module _ (setting : Setting) where
     methods = t.methods;
     exit_forms = t.exit_forms;
     functions = t.functions;
+    captured = t.captured;
     generics = t.generics;
   }
 
@@ -101,6 +102,7 @@ module _ (setting : Setting) where
     w' = t.w';
     of_value = t.of_value;
     world = world_framed fs gs t.world;
+    charged = t.charged;
     paid = t.paid;
     pending = t.pending;
     landing_word = t.landing_word;

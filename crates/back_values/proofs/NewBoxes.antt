@@ -171,6 +171,7 @@ module _ (setting : Setting) (placed : IsPlaced setting) {w : World} {y : MidSta
     methods = λ i a called e. method_moves setting box_state t later All same a called (λ k late f. tt) (t.methods i a called e);
     exit_forms = t.exit_forms;
     functions = λ i p s e f. functions_move setting box_state t later All same (λ i. tt) i p s e f;
+    captured = t.captured;
     generics = t.generics;
   }
     where

@@ -168,6 +168,7 @@ module _ (setting : Setting) (placed : IsPlaced setting) {w : World} {z : FlatSt
         method_moves setting set_state t (later_same w) Stays same a called (λ k late f. method_stays a (length called.arguments) k f) (t.methods j a called e);
     exit_forms = t.exit_forms;
     functions = λ j p s e f. functions_move setting set_state t (later_same w) Stays same (λ k. refl) j p s e f;
+    captured = t.captured;
     generics = t.generics;
   }
     where

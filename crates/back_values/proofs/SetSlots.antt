@@ -71,6 +71,7 @@ module _ (setting : Setting) {s : FormScope} {d : ℕ} {rs valid : List Standing
   pub activation_set : ActivationStands setting s rs valid w env around (framed fs z) after y
   activation_set = record {
     slot_count = t.slot_count ∙ sym (length-set z.frame i (holds v));
+    home_count = t.home_count ∙ sym (length-set z.frame i (holds v));
     homes = home_of;
     slots = slot_of;
     exit_count = t.exit_count;

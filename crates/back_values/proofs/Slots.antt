@@ -113,6 +113,9 @@ module _ (setting : Setting) (d : ℕ) {s : FormScope} {rs valid : List Standing
     slot_count =
         length-append s.code.slots (registers_from d (length hs)) ∙ ap (λ i. length s.code.slots + i) (from_count d (length hs) ∙ sym (slots_count hs vs n same))
         ∙ ap (λ i. i + length (new_slots hs vs n)) t.slot_count ∙ sym (length-append z.frame (new_slots hs vs n));
+    home_count =
+        length-append s.flat.homes hs ∙ ap (λ i. i + length hs) (homes ∙ t.slot_count) ∙ ap (λ i. length z.frame + i) (sym (slots_count hs vs n same))
+        ∙ sym (length-append z.frame (new_slots hs vs n));
     homes = λ i h e. by_home i h (item_of s.flat.homes hs i h e);
     slots = λ i r f e g. by_slot i r f (item_of s.code.slots (registers_from d (length hs)) i r e) (item_of z.frame (new_slots hs vs n) i f g);
     exit_count = t.exit_count;
@@ -163,6 +166,7 @@ module _ (setting : Setting) (d : ℕ) {s : FormScope} {rs valid : List Standing
       let long : k ≤ length z.frame = omega (arith, t.slot_count, length-append s.code.slots new, old.slot_count, count) in
       record {
         slot_count = old.slot_count ∙ sym count ∙ sym (taken_count k z.frame long);
+        home_count = old.home_count ∙ sym count ∙ sym (taken_count k z.frame long);
         homes = λ i h e.
             let few : i < k = omega (arith, count, has_within h z0.frame i (old.homes i h e)) in
             subst (λ o. SlotHas h o) (sym (taken_get k i z.frame few)) (t.homes i h (slice_get-front s.flat.homes hs i h e));
