@@ -1,0 +1,2 @@
+pub mod Conses
+pub mod Lists

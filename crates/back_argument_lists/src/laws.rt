@@ -1,0 +1,12 @@
+// The laws of lists of arguments, each as the contract of a function that does nothing.
+ghost use Rattle.back_argument_lists.specs.Lists.{LawOfLists, LawOfListsAt};
+
+/// A list of words in registers is made, or there are no words for it.
+pub fn law_lists()
+    ensures { LawOfLists }
+{}
+
+/// What goes on with the list, from a point of an activation.
+pub fn law_lists_at()
+    ensures { LawOfListsAt }
+{}
