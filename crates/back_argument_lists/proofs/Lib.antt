@@ -1,2 +1,5 @@
 pub mod Conses
 pub mod Lists
+pub mod Words
+pub mod Framed
+pub mod RestCalls

@@ -1,5 +1,6 @@
 // The laws of lists of arguments, each as the contract of a function that does nothing.
 ghost use Rattle.back_argument_lists.specs.Lists.{LawOfLists, LawOfListsAt};
+ghost use Rattle.back_argument_lists.specs.RestCalls.{LawOfRestCalls};
 
 /// A list of words in registers is made, or there are no words for it.
 pub fn law_lists()
@@ -9,4 +10,9 @@ pub fn law_lists()
 /// What goes on with the list, from a point of an activation.
 pub fn law_lists_at()
     ensures { LawOfListsAt }
+{}
+
+/// A call of a function that takes further arguments, where there is a level.
+pub fn law_rest_calls()
+    ensures { LawOfRestCalls }
 {}

@@ -80,39 +80,39 @@ words_in_both d [] (suc count) regs rs ms e h k = absurd (omega (arith, e))
 words_in_both d (w ∷ ws) zero regs rs ms e h k = absurd (omega (arith, e))
 words_in_both d (w ∷ ws) (suc count) regs rs ms e h k = (h.0, words_in_both (d + 1) ws count regs rs ms (omega (arith, e)) h.1 k)
 
-arguments_kept : (d : ℕ) (ws : List ℕ) (regs regs' : Registers) → ((r : ℕ) → r < d + length ws → register r regs' ≡ register r regs) → arguments.WordsIn d ws regs → arguments.WordsIn d ws regs'
+pub arguments_kept : (d : ℕ) (ws : List ℕ) (regs regs' : Registers) → ((r : ℕ) → r < d + length ws → register r regs' ≡ register r regs) → arguments.WordsIn d ws regs → arguments.WordsIn d ws regs'
 arguments_kept d [] regs regs' same h = tt
 arguments_kept d (w ∷ ws) regs regs' same h = (same d (omega arith) ∙ h.0, arguments_kept (d + 1) ws regs regs' (λ r few. same r (omega (arith, few))) h.1)
 
-registers_count : (d n : ℕ) → length (registers_from d n) ≡ n
+pub registers_count : (d n : ℕ) → length (registers_from d n) ≡ n
 registers_count d zero = refl
 registers_count d (suc n) = ap suc (registers_count (d + 1) n)
 
 -- what is behind the arguments of a method that is called by its name
-abbrev method_words : Bool → List ℕ
+abbrev pub method_words : Bool → List ℕ
 method_words true = 0 ∷ 0 ∷ 0 ∷ []
 method_words false = []
 
-method_words_in : (b : Bool) (t : ℕ) (regs : Registers) → register t regs ≡ Some 0 → WordsIn regs (no_method b t) (method_words b)
+pub method_words_in : (b : Bool) (t : ℕ) (regs : Registers) → register t regs ≡ Some 0 → WordsIn regs (no_method b t) (method_words b)
 method_words_in true t regs h = (h, (h, (h, tt)))
 method_words_in false t regs h = tt
 
-method_count : (b : Bool) (t : ℕ) → length (no_method b t) ≤ 3
+pub method_count : (b : Bool) (t : ℕ) → length (no_method b t) ≤ 3
 method_count true t = omega arith
 method_count false t = omega arith
 
 module _ (setting : Setting) (number : ℕ) (q : FlatProcedure) where
-  abbrev extra : Extra
+  abbrev pub extra : Extra
   extra = extra_of setting.names setting.at setting.program number
 
-  fits_nothing : (w : World) → CapturedFits setting w number extra q []
+  pub fits_nothing : (w : World) → CapturedFits setting w number extra q []
   fits_nothing w = by (is_method setting.program number)
     where
       by : (b : Bool) → CapturedFits setting w number (if b then its_method else nothing) q []
       by true = refl
       by false = refl
 
-  extras_given : (w : World) (z : FlatState) (y : MidState) → ExtraGiven setting w z y extra q [] None (method_words (is_method setting.program number))
+  pub extras_given : (w : World) (z : FlatState) (y : MidState) → ExtraGiven setting w z y extra q [] None (method_words (is_method setting.program number))
   extras_given w z y = by (is_method setting.program number)
     where
       by : (b : Bool) → ExtraGiven setting w z y (if b then its_method else nothing) q [] None (method_words b)
@@ -134,7 +134,7 @@ pub record Ready (setting : Setting) (c : Context) (b : Start setting) (asks : B
   pub stored : asks ≡ true → SiteStored setting b.around y
 
 module _ (setting : Setting) (c : Context) (b : Start setting) (t : ℕ) (low : b.d ≤ t) (first_there : t < length b.regs) where
-  ready : (asks : Bool) → (asks ≡ true → t + 1 < length b.regs) → Ready setting c b asks (site_for asks b.s.code.site t (t + 1) ++ (constant t 0 ∷ [])) t
+  pub ready : (asks : Bool) → (asks ≡ true → t + 1 < length b.regs) → Ready setting c b asks (site_for asks b.s.code.site t (t + 1) ++ (constant t 0 ∷ [])) t
   ready false both_there = record {
     w = b.w;
     same_places = refl;
