@@ -38,10 +38,10 @@ use Rattle.back_arguments.specs.Arguments.{WordsIn}
 use Rattle.back_argument_lists.specs.Lists.{ListMade, ListEnd, made, no_words, no_space, list_credit, LawOfLists, LawOfListsAt}
 use Rattle.back_argument_lists.proofs.Conses.{cons_steps, with_cons, cons_grows, result, cons_world, cons_registers, cons_count, cons_below, cons_register, cons_state, cons_is, cons_kept, cons_around, cons_goes_on}
 
-cons_names : (d t size : ℕ) → enough_for (of_code (code_of (cons_steps d t))) ≤ size → t + 2 < size
+pub cons_names : (d t size : ℕ) → enough_for (of_code (code_of (cons_steps d t))) ≤ size → t + 2 < size
 cons_names d t size h = omega (arith, h)
 
-nil_names : (d t size : ℕ) → enough_for (of_code (code_of (list_of 0 d t))) ≤ size → t < size
+pub nil_names : (d t size : ℕ) → enough_for (of_code (code_of (list_of 0 d t))) ≤ size → t < size
 nil_names d t size h = omega (arith, h)
 
 module _ (setting : Setting) (placed : IsPlaced setting) (k n room t : ℕ) (Whole : FlatEvaluated → MidOutcome → Type 0)

@@ -1,11 +1,32 @@
 -- A function that takes further arguments is called by its number: their list is made in the words of the application, and the body is entered.
-use Rattle.std.proofs.Common.{◌≡◌, inl, ℕ, suc, ◌+◌, ◌*◌, ◌<◌, ◌≤◌, Bool, true, false, List, [], ◌∷◌, ◌++◌, length, Option, Some, None, refl, sym, ap, ◌∙◌, subst, append_assoc, length-append, arith}
+use Rattle.std.proofs.Common.{◌≡◌, inl, ℕ, suc, ◌+◌, ◌*◌, ◌<◌, ◌≤◌, Bool, true, false, List, [], ◌∷◌, ◌++◌, length, Option, Some, None, refl, sym, ap, ◌∙◌, subst, append_assoc, length-append, arith, zero}
 use Rattle.std.specs.Prelude.{◌-◌, take, drop, slice_get, is_some, option_to_list, if◌then◌else◌}
 use Rattle.std.proofs.lemmas.Bool.{le-leb}
+use Rattle.lang_meaning.specs.Prefixes.{IsPrefix}
+use Rattle.mid_arena.proofs.Growing.{spot_grown}
+use Rattle.mid_arena.proofs.Memory.{in_spot_lent}
+use Rattle.mid_arena.proofs.Registers.{register_here, register_beside}
+use Rattle.std.specs.Prelude.{slice_set}
+use Rattle.std.proofs.Math.ListN.{length-set}
+use Rattle.mid_code.specs.Arena.{is_lent}
+use Rattle.mid_code.specs.Meaning.{called as mid_called}
+use Rattle.back_lowering.specs.declared.scope.SitePlace.{SitePlace}
+use Rattle.back_lowering.specs.declared.scope.SitePlace.TheVariants.{Known, Held}
+use Rattle.back_lowering.specs.ControlWords.{site_address}
+use Rattle.back_lowering.specs.Leaves.{site_stored}
+use Rattle.back_lowering.specs.Program.{body_of}
+use Rattle.back_relation.specs.Activation.{SiteHeld}
+use Rattle.back_relation.specs.Ends.{RoomEnded, stopped, full_there, few_turns}
+use Rattle.back_combining.proofs.Growth.{same_prefix}
+use Rattle.back_calling.specs.Storing.{stored_at}
+use Rattle.back_calling.proofs.Formed.{call_comes, called_because, called_state}
+use Rattle.back_calling.proofs.Numbers.{numbers_law}
+use Rattle.back_calling.proofs.Storing.{control_stands}
+use Rattle.back_argument_lists.proofs.NoLevel.{ListRan, list_ran, ends_without_level}
 use Rattle.lang_meaning.specs.Counts.{application_words}
 use Rattle.lang_meaning.specs.Objects.{program_error_class}
 use Rattle.lang_meaning.specs.Signals.{takes}
-use Rattle.lang_meaning.specs.State.{Limit, words, unlimited, has_room, room_left, full}
+use Rattle.lang_meaning.specs.State.{Limit, words, unlimited, has_room, room_left, full, more}
 use Rattle.lang_meaning.specs.Values.{Value}
 use Rattle.flat_language.specs.declared.program.FlatProcedure.{FlatProcedure}
 use Rattle.flat_language.specs.FlatNodes.{homes, nodes}
@@ -18,10 +39,10 @@ use Rattle.flat_laws.proofs.Later.{later_kept}
 use Rattle.mid_code.specs.Arena.{word_in}
 use Rattle.mid_code.specs.Meaning.{Context, exec}
 use Rattle.mid_code.specs.MidCode.{MidStep, code_of}
-use Rattle.mid_code.specs.State.{Registers, MidState, MidOutcome}
+use Rattle.mid_code.specs.State.{Registers, MidState, MidOutcome, falls, ends, no_level, register}
 use Rattle.mid_code.specs.State.{charged as mid_charged}
 use Rattle.mid_arena.specs.Places.{WordsOf}
-use Rattle.mid_arena.proofs.Running.{parts_then}
+use Rattle.mid_arena.proofs.Running.{parts_then, RunsTo, and_then, none_left, costing, constant_falls, store_falls, address_above}
 use Rattle.back_lowering.specs.Calls.{is_method, list_of, call_with_rest, enter_body, site_for, no_method}
 use Rattle.back_lowering.specs.Placement.{body_of_procedure}
 use Rattle.back_lowering.specs.Program.{extra_of}
@@ -80,13 +101,10 @@ one_home None e = absurd (cc e)
 first_named : (r : ℕ) (others : List ℕ) (m : ℕ) → enough_for (r ∷ others) ≤ m → r < m
 first_named r others m h = omega (arith, h)
 
-module _ (setting : Setting) (placed : IsPlaced setting) (j : ℕ) (a : Start setting) (number : ℕ) (q : FlatProcedure) (wrong : FlatSignals) (vs : List Value) (ws : List ℕ)
-    (found : slice_get setting.program.procedures number ≡ Some q) (takes_more : is_some q.rest ≡ true) (enough : length q.required ≤ length vs) (fewer : a.turns ≤ setting.turns_each)
-    (bodies : BodyDoes setting j number (extra_of setting.names setting.at setting.program number) q) (of_values : WordsOf a.w.places vs ws) (inside : arguments.WordsIn a.d ws a.regs)
+module _ (setting : Setting) (placed : IsPlaced setting) (a : Start setting) (number : ℕ) (q : FlatProcedure) (wrong : FlatSignals) (vs : List Value) (ws : List ℕ)
+    (found : slice_get setting.program.procedures number ≡ Some q) (takes_more : is_some q.rest ≡ true) (enough : length q.required ≤ length vs)
+    (of_values : WordsOf a.w.places vs ws) (inside : arguments.WordsIn a.d ws a.regs)
     (names : enough_for (of_code (code_of (call_with_rest setting.at setting.program number q (length ws) a.d a.s.code.site))) ≤ length a.regs) where
-  abbrev c : Context
-  c = code_at setting (suc j) a.turns
-
   abbrev required : ℕ
   required = length q.required
 
@@ -149,191 +167,322 @@ module _ (setting : Setting) (placed : IsPlaced setting) (j : ℕ) (a : Start se
       let h = registers_front (site_for (asks_site q.body) a.s.code.site t (t + 1)) (constant t 0 ∷ the_call ∷ []) (length a.regs) entering_names in
       site_names a.s.code.site t (length a.regs) (subst (λ x. enough_for (of_code (code_of (site_for x a.s.code.site t (t + 1)))) ≤ length a.regs) asks h)
 
-  -- ---- the meaning
+  -- ---- with a level
 
-  abbrev inner : List Value → FlatState → FlatEvaluated
-  inner variables x = mean_inside (context_at setting (suc j)) q [] None variables a.around x
+  module _ (j : ℕ) (fewer : a.turns ≤ setting.turns_each) (bodies : BodyDoes setting j number (extra_of setting.names setting.at setting.program number) q) where
+    abbrev c : Context
+    c = code_at setting (suc j) a.turns
 
-  abbrev listed : FlatState → FlatEvaluated
-  listed x = make_list setting.limit (drop required vs) x (λ tail after. inner (take required vs ++ tail ∷ []) after)
+    -- ---- the meaning
 
-  inner_later : (variables : List Value) (x : FlatState) → FlatLater x (inner variables x).state
-  inner_later variables x =
-      (boxes {R = FlatLater} {k = later_kept} setting.limit a.around.exits (homes q) x
-      (λ got. own_slots_left (homes q) variables got (λ y. tasks_below setting (suc j) (form q.body) (record no_environment { captured = []; method = None }) a.around y))).grows
+    abbrev inner : List Value → FlatState → FlatEvaluated
+    inner variables x = mean_inside (context_at setting (suc j)) q [] None variables a.around x
 
-  listed_later : (x : FlatState) → FlatLater x (listed x).state
-  listed_later x =
-      (lists {R = FlatLater} {k = later_kept} setting.limit a.around.exits (drop required vs) x
-      (λ tail after.
-      boxes {R = FlatLater} {k = later_kept} setting.limit a.around.exits (homes q) after
-      (λ got.
-      own_slots_left (homes q) (take required vs ++ tail ∷ []) got
-      (λ y. tasks_below setting (suc j) (form q.body) (record no_environment { captured = []; method = None }) a.around y)))).grows
+    abbrev listed : FlatState → FlatEvaluated
+    listed x = make_list setting.limit (drop required vs) x (λ tail after. inner (take required vs ++ tail ∷ []) after)
 
-  entered_is : (z : FlatState) → enter (context_at setting (suc j)) wrong q [] None vs a.around z ≡ in_frame setting.limit size (λ entered. listed (charged (length vs) entered)) z
-  entered_is z = ap (λ b. either b (is_some q.rest)) takes_them ∙ ap (λ b. either true b) takes_more
-    where
-      either : Bool → Bool → FlatEvaluated
-      either b rest =
-          if b then
-          in_frame setting.limit size
-          (λ entered. gathered setting.limit required rest vs (charged (length vs) entered) (λ us gone.
-          with_record setting.limit None q.keeps_method gone (λ recorded.
-          with_boxes setting.limit (homes q) recorded (λ got.
-          in_own_frame (λ y.
-          below_at setting (suc j) (form q.body) (record no_environment { captured = []; method = None }) a.around (with_slots (homes q) us y))
-          got))))
-          z
-          else wrong program_error_class [] a.around z
+    inner_later : (variables : List Value) (x : FlatState) → FlatLater x (inner variables x).state
+    inner_later variables x =
+        (boxes {R = FlatLater} {k = later_kept} setting.limit a.around.exits (homes q) x
+        (λ got. own_slots_left (homes q) variables got (λ y. tasks_below setting (suc j) (form q.body) (record no_environment { captured = []; method = None }) a.around y))).grows
 
-      takes_them : takes required (is_some q.rest) (length vs) ≡ true
-      takes_them = ap (λ b. takes required b (length vs)) takes_more ∙ le-leb _ _ enough
+    listed_later : (x : FlatState) → FlatLater x (listed x).state
+    listed_later x =
+        (lists {R = FlatLater} {k = later_kept} setting.limit a.around.exits (drop required vs) x
+        (λ tail after.
+        boxes {R = FlatLater} {k = later_kept} setting.limit a.around.exits (homes q) after
+        (λ got.
+        own_slots_left (homes q) (take required vs ++ tail ∷ []) got
+        (λ y. tasks_below setting (suc j) (form q.body) (record no_environment { captured = []; method = None }) a.around y)))).grows
 
-  -- ---- in the words of the application
+    entered_is : (z : FlatState) → enter (context_at setting (suc j)) wrong q [] None vs a.around z ≡ in_frame setting.limit size (λ entered. listed (charged (length vs) entered)) z
+    entered_is z = ap (λ b. either b (is_some q.rest)) takes_them ∙ ap (λ b. either true b) takes_more
+      where
+        either : Bool → Bool → FlatEvaluated
+        either b rest =
+            if b then
+            in_frame setting.limit size
+            (λ entered. gathered setting.limit required rest vs (charged (length vs) entered) (λ us gone.
+            with_record setting.limit None q.keeps_method gone (λ recorded.
+            with_boxes setting.limit (homes q) recorded (λ got.
+            in_own_frame (λ y.
+            below_at setting (suc j) (form q.body) (record no_environment { captured = []; method = None }) a.around (with_slots (homes q) us y))
+            got))))
+            z
+            else wrong program_error_class [] a.around z
 
-  module _ (fits : has_room setting.limit (a.z.state.heap + a.z.state.stack + 0 + size) ≡ true) where
-    abbrev z1 : FlatState
-    z1 = charged (length vs) (asked size a.z)
+        takes_them : takes required (is_some q.rest) (length vs) ≡ true
+        takes_them = ap (λ b. takes required b (length vs)) takes_more ∙ le-leb _ _ enough
 
-    room_by : (l : Limit) → RoomFor l (a.n + words_for_handler * length a.around.handlers) a.z.state a.y
-        → RoomFor l (body_words q + words_for_handler * length a.around.handlers) z1.state a.y
-    room_by unlimited h = tt
-    room_by (words k) h = omega (arith, h, home_count, enough)
+    -- ---- in the words of the application
 
-    abbrev a1 : Start setting
-    a1 = record {
-      turns = a.turns;
-      rs = a.rs;
-      valid = a.valid;
-      s = a.s;
-      d = a.d;
-      n = body_words q;
-      w = a.w;
-      env = a.env;
-      around = a.around;
-      z = z1;
-      regs = a.regs;
-      y = a.y;
-      begins = record {
-        call = record {
-          things =
-              things_units setting (length vs)
-              (things_charged setting (asked size a.z) a.begins.call.things refl refl refl refl refl (within_asked setting size a.z fits));
-          around_stands = around_charged setting z1 refl a.begins.call.around_stands;
-          room = room_by setting.limit a.begins.call.room;
+    module _ (fits : has_room setting.limit (a.z.state.heap + a.z.state.stack + 0 + size) ≡ true) where
+      abbrev z1 : FlatState
+      z1 = charged (length vs) (asked size a.z)
+
+      room_by : (l : Limit) → RoomFor l (a.n + words_for_handler * length a.around.handlers) a.z.state a.y
+          → RoomFor l (body_words q + words_for_handler * length a.around.handlers) z1.state a.y
+      room_by unlimited h = tt
+      room_by (words k) h = omega (arith, h, home_count, enough)
+
+      abbrev a1 : Start setting
+      a1 = record {
+        turns = a.turns;
+        rs = a.rs;
+        valid = a.valid;
+        s = a.s;
+        d = a.d;
+        n = body_words q;
+        w = a.w;
+        env = a.env;
+        around = a.around;
+        z = z1;
+        regs = a.regs;
+        y = a.y;
+        begins = record {
+          call = record {
+            things =
+                things_units setting (length vs)
+                (things_charged setting (asked size a.z) a.begins.call.things refl refl refl refl refl (within_asked setting size a.z fits));
+            around_stands = around_charged setting z1 refl a.begins.call.around_stands;
+            room = room_by setting.limit a.begins.call.room;
+          };
+          activation =
+              activation_later setting {d = a.d} {y = a.y} {y' = a.y} (later_same a.w) (same_here a.w {y = a.y} {y' = a.y} refl) refl (λ n cs k. k) (λ r few. refl) a.begins.scope
+              a.begins.activation;
+          scope = a.begins.scope;
+          method_there = a.begins.method_there;
+          first = a.begins.first;
         };
-        activation =
-            activation_later setting {d = a.d} {y = a.y} {y' = a.y} (later_same a.w) (same_here a.w {y = a.y} {y' = a.y} refl) refl (λ n cs k. k) (λ r few. refl) a.begins.scope
-            a.begins.activation;
-        scope = a.begins.scope;
-        method_there = a.begins.method_there;
-        first = a.begins.first;
-      };
+      }
+
+      module _ (tail : Value) (w' : World) (z' : FlatState) (regs' : Registers) (y' : MidState) (x : ListThere setting a1 e tail w' z' regs' y') where
+        abbrev b : Start setting
+        b = start_after setting a1 a1.d a1.d a1.n (omega arith) (omega arith) (omega arith) a1.begins.first x.reached
+
+        abbrev variables : List Value
+        variables = take required vs ++ tail ∷ []
+
+        abbrev variable_words : List ℕ
+        variable_words = take required ws ++ x.made.word ∷ []
+
+        abbrev given : List ℕ
+        given = method_words method
+
+        abbrev paid : ℕ
+        paid = call_cost args
+
+        abbrev result : FlatEvaluated
+        result = inner variables z'
+
+        entered : Ready setting c b (asks_site q.body) before_call t → FormEnds setting (126 + 10 * (required + 1) + 40 + 6 * (required + 4)) a.turns a.rs a.valid a.s a.d w' a.env a.around z' regs' y' result (exec c (code_of entering) regs' y')
+        entered r0 =
+            let b2 : Start setting = start_after setting b b.d b.d b.n (omega arith) (omega arith) (omega arith) b.begins.first r0.reached in
+            let b3 : Start setting = start_after setting b2 b2.d b2.d b2.n (omega arith) (omega arith) (omega arith) b2.begins.first
+            (reached_cost setting {credit = paid} b2 b2.d paid (omega arith)) in
+            let size0 = r0.reached.kept.registers.count in
+            let taken : length (take required ws) ≡ required = take_count required ws (omega (arith, enough, word_count)) in
+            let taken_values : length (take required vs) ≡ required = take_count required vs enough in
+            let still : arguments.WordsIn a.d (take required ws) r0.regs =
+            arguments_kept a.d (take required ws) a.regs r0.regs
+            (λ r few. r0.below r (omega (arith, few, taken, enough, word_count)) ∙ ap word_in (x.made.below r (omega (arith, few, taken, enough, word_count))))
+            (words_taken required a.d ws a.regs inside) in
+            let words_there : WordsIn r0.regs args (variable_words ++ given) =
+            words_and_rest a.d (take required ws) required e x.made.word r0.regs (no_method method t) given taken still (r0.below e (omega arith) ∙ x.made.in_register)
+            (method_words_in method t r0.regs r0.none) in
+            let of_variables : WordsOf w'.places variables variable_words =
+            of_values_and_one w' (take required vs) (take required ws) tail x.made.word
+            (of_values_taken required w'.places vs ws (of_values_later x.made.world.later vs ws of_values)) x.made.of_value in
+            let begins : BodyBegins setting a.rs a.valid (extra_of setting.names setting.at setting.program number) q [] None variables variable_words given r0.w a.around z' (mid_charged paid r0.y) =
+            record {
+              call = b3.begins.call;
+              variables = subst (λ places. WordsOf places variables variable_words) (sym r0.same_places) of_variables;
+              variable_count = omega (arith, length-append (take required vs) (tail ∷ []), taken_values, home_count);
+              extras = extras_given setting number q r0.w z' (mid_charged paid r0.y);
+              site = r0.stored;
+            } in
+            let ends : CallEnds setting (body_credit q) a.turns a.rs a.valid r0.w a.around z' (mid_charged paid r0.y) result
+            (called c (body_of_procedure setting.at number) (variable_words ++ given) (mid_charged paid r0.y)) =
+            fewer_turns a.turns fewer
+            (bodies a.rs a.valid a.turns [] None variables variable_words given r0.w a.around z' (mid_charged paid r0.y) (inl (found, refl)) (fits_nothing setting number q r0.w) begins) in
+            let code : entering ≡ before_call ++ (the_call ∷ []) =
+            sym (append_assoc (site_for (asks_site q.body) a.s.code.site t (t + 1)) (constant t 0 ∷ []) (the_call ∷ [])) in
+            let run = parts_then {c = c} before_call (the_call ∷ []) r0.runs (record { same = single_step c the_call r0.regs r0.y }) in
+            subst (λ o. EndsAt setting (126 + 10 * (required + 1) + 40 + 6 * (required + 4)) b result o) (sym (ap (λ ss. exec c (code_of ss) regs' y') code ∙ run.same))
+            (ends_then setting {d = a.d} {d1 = a.d} (omega arith) r0.reached {c2 = body_credit q + paid} {c = 126 + 10 * (required + 1) + 40 + 6 * (required + 4)}
+            (omega (arith, home_count, args_count)) (omega arith)
+            ((form_calls_law setting).by_number c b2 (body_credit q) a.d (body_of_procedure setting.at number) args (variable_words ++ given) result (omega arith) b2.begins.first words_there
+            (inner_later variables z') ends))
+
+        body_entered : FormEnds setting (126 + 10 * (required + 1) + 40 + 6 * (required + 4)) a.turns a.rs a.valid a.s a.d w' a.env a.around z' regs' y' result (exec c (code_of entering) regs' y')
+        body_entered =
+            let same = x.made.count in
+            entered (ready setting c b t (omega arith) (omega (arith, same, constant_there)) (asks_site q.body) (λ asks. let both = both_there asks in omega (arith, same, both)))
+
+      in_words : EndsAt setting (list_credit + (126 + 10 * (required + 1) + 40 + 6 * (required + 4))) a1 (listed z1) (exec c (code_of (listing ++ entering)) a.regs a.y)
+      in_words =
+          subst
+          (λ n.
+          EndsAt setting (list_credit + (126 + 10 * (required + 1) + 40 + 6 * (required + 4))) a1 (listed z1)
+          (exec c (code_of (list_of n (a.d + required) e ++ entering)) a.regs a.y))
+          rest_count
+          (lists_at_law setting (suc j) (126 + 10 * (required + 1) + 40 + 6 * (required + 4)) a1 (drop required vs) (drop required ws) (a.d + required) e entering
+          (λ tail after. inner (take required vs ++ tail ∷ []) after) placed (of_values_dropped required a.w.places vs ws of_values)
+          (words_dropped required a.d (a.d + required) ws a.regs refl inside) (omega arith) (omega (arith, drop_count required ws (omega (arith, enough, word_count))))
+          (subst (λ n. enough_for (of_code (code_of (list_of n (a.d + required) e))) ≤ length a.regs) (sym rest_count) listing_names)
+          (λ tail after. grown_later (inner_later (take required vs ++ tail ∷ []) after))
+          (λ tail w' z' regs' y' x. body_entered tail w' z' regs' y' x))
+
+    pub rest_calls : EndsAt setting (rest_credit (length vs)) a
+        (descend (below_at setting (suc j)) (λ entered. enter (context_at setting (suc j)) wrong q [] None vs a.around entered) a.around a.z)
+        (exec c (code_of (listing ++ entering)) a.regs a.y)
+    rest_calls =
+        subst (λ r. EndsAt setting (rest_credit (length vs)) a r (exec c (code_of (listing ++ entering)) a.regs a.y))
+        (sym (level_there setting j (λ entered. enter (context_at setting (suc j)) wrong q [] None vs a.around entered) a.around a.z ∙ entered_is a.z))
+        (by (has_room setting.limit (a.z.state.heap + a.z.state.stack + 0 + size)) refl)
+      where
+        by : (b : Bool) → has_room setting.limit (a.z.state.heap + a.z.state.stack + 0 + size) ≡ b
+            → EndsAt setting (rest_credit (length vs)) a
+            (if b then with_stack a.z.state.stack (listed (charged (length vs) (asked size a.z)))
+            else record { outcome = full (0 + size) (room_left setting.limit (a.z.state.heap + a.z.state.stack)); state = a.z })
+            (exec c (code_of (listing ++ entering)) a.regs a.y)
+        by true fits =
+            form_framed setting a size (length vs) (listed (z1 fits)) (listed_later (z1 fits)).stack {c2 = rest_credit (length vs)} (omega (arith, enough)) (in_words fits)
+        by false fits =
+            full_there (record {
+              asked = 0 + size;
+              left_then = room_left setting.limit (a.z.state.heap + a.z.state.stack);
+              outcome = refl;
+              printed =
+                  full_printed a.z a.y (exec c (code_of (listing ++ entering)) a.regs a.y) a.begins.call.things.represents.printed
+                  (steps_grow setting (suc j) a.turns (listing ++ entering) a.regs a.y);
+            })
+
+  -- ---- without a level
+
+  abbrev none : Context
+  none = code_at setting zero a.turns
+
+  abbrev unmet : FlatEvaluated
+  unmet = descend (below_at setting zero) (λ entered. enter (context_at setting zero) wrong q [] None vs a.around entered) a.around a.z
+
+  room_more : (l : Limit) → RoomEnded setting l more
+  room_more unlimited = tt
+  room_more (words m) = tt
+
+  nothing_printed : (x : MidState) → x.printed ≡ a.y.printed → IsPrefix x.printed a.z.state.printed
+  nothing_printed x same = subst (λ p. IsPrefix p a.z.state.printed) (sym (same ∙ a.begins.call.things.represents.printed)) (same_prefix a.z.state.printed)
+
+  -- the site is stored behind the list
+  record Stored (code : Steps) (regs : Registers) (y : MidState) : Type 0 where
+    pub regs' : Registers
+    pub y' : MidState
+    pub runs : RunsTo none (code_of code) regs y (ends falls regs' y')
+    pub printed : y'.printed ≡ y.printed
+    pub below : (r : ℕ) → r < t → register r regs' ≡ register r regs
+    pub zero_there : register t regs' ≡ Some 0
+
+  module _ (regs : Registers) (y : MidState) (x : ListRan e a.regs regs a.y y) (first_there : t < length regs) where
+    lent : is_lent y.arena site_address ≡ true
+    lent = in_spot_lent site_address (spot_grown x.grows (control_stands setting a.begins.call.things)) (omega arith) (omega arith) (omega arith)
+
+    site_by : (p : SitePlace) → a.s.code.site ≡ p → SiteHeld setting a.regs p a.around.site → t + 1 < length regs → Stored (site_stored p t (t + 1) ++ (constant t 0 ∷ [])) regs y
+    site_by (Known n) same is there =
+        let regs1 : Registers = slice_set regs t (Some n) in
+        let regs2 : Registers = slice_set regs1 (t + 1) (Some 0) in
+        let size1 : length regs1 ≡ length regs = length-set regs t (Some n) in
+        let size2 : length regs2 ≡ length regs1 = length-set regs1 (t + 1) (Some 0) in
+        let run : RunsTo none (code_of (site_stored (Known n) t (t + 1))) regs y (ends falls regs2 (stored_at site_address n (y.cost + 20) y)) =
+        costing {n = y.cost + 20}
+        (and_then constant_falls
+        (and_then constant_falls
+        (and_then
+        (store_falls (register_beside regs1 (t + 1) t (Some 0) (λ e. omega (arith, e)) ∙ register_here regs t n first_there) (register_here regs1 (t + 1) 0 (omega (arith, size1, there)))
+        (address_above 0 site_address site_address (omega arith) (omega arith)) lent)
+        none_left)))
+        (omega arith) in
+        record {
+          regs' = slice_set regs2 t (Some 0);
+          y' = mid_charged 6 (stored_at site_address n (y.cost + 20) y);
+          runs = parts_then (site_stored (Known n) t (t + 1)) (constant t 0 ∷ []) run (and_then constant_falls none_left);
+          printed = refl;
+          below = λ r few.
+              register_beside regs2 t r (Some 0) (λ e. omega (arith, e, few)) ∙ register_beside regs1 (t + 1) r (Some 0) (λ e. omega (arith, e, few))
+              ∙ register_beside regs t r (Some n) (λ e. omega (arith, e, few));
+          zero_there = register_here regs2 t 0 (omega (arith, size1, size2, first_there));
+        }
+    site_by (Held r) same is there =
+        let own = (a.begins.scope.site r same).0 in
+        let regs1 : Registers = slice_set regs (t + 1) (Some 0) in
+        let size1 : length regs1 ≡ length regs = length-set regs (t + 1) (Some 0) in
+        let run : RunsTo none (code_of (site_stored (Held r) t (t + 1))) regs y (ends falls regs1 (stored_at site_address is.0 (y.cost + 14) y)) =
+        costing {n = y.cost + 14}
+        (and_then constant_falls
+        (and_then
+        (store_falls (register_beside regs (t + 1) r (Some 0) (λ e. omega (arith, e, own)) ∙ ap word_in (x.below r (omega (arith, own))) ∙ is.1) (register_here regs (t + 1) 0 there)
+        (address_above 0 site_address site_address (omega arith) (omega arith)) lent)
+        none_left))
+        (omega arith) in
+        record {
+          regs' = slice_set regs1 t (Some 0);
+          y' = mid_charged 6 (stored_at site_address is.0 (y.cost + 14) y);
+          runs = parts_then (site_stored (Held r) t (t + 1)) (constant t 0 ∷ []) run (and_then constant_falls none_left);
+          printed = refl;
+          below = λ i few. register_beside regs1 t i (Some 0) (λ e. omega (arith, e, few)) ∙ register_beside regs (t + 1) i (Some 0) (λ e. omega (arith, e, few));
+          zero_there = register_here regs1 t 0 (omega (arith, size1, first_there));
+        }
+
+    site_there : (asks : Bool) → (asks ≡ true → t + 1 < length regs) → Stored (site_for asks a.s.code.site t (t + 1) ++ (constant t 0 ∷ [])) regs y
+    site_there true there = site_by a.s.code.site refl a.begins.activation.site (there refl)
+    site_there false there = record {
+      regs' = slice_set regs t (Some 0);
+      y' = mid_charged 6 y;
+      runs = and_then constant_falls none_left;
+      printed = refl;
+      below = λ r few. register_beside regs t r (Some 0) (λ e. omega (arith, e, few));
+      zero_there = register_here regs t 0 first_there;
     }
 
-    module _ (tail : Value) (w' : World) (z' : FlatState) (regs' : Registers) (y' : MidState) (x : ListThere setting a1 e tail w' z' regs' y') where
-      abbrev b : Start setting
-      b = start_after setting a1 a1.d a1.d a1.n (omega arith) (omega arith) (omega arith) a1.begins.first x.reached
+    unmet_call : {credit : ℕ} → Stored before_call regs y → EndsAt setting credit a unmet (exec none (code_of entering) regs y)
+    unmet_call {credit} s =
+        let taken : length (take required ws) ≡ required = take_count required ws (omega (arith, enough, word_count)) in
+        let still : arguments.WordsIn a.d (take required ws) s.regs' =
+        arguments_kept a.d (take required ws) a.regs s.regs'
+        (λ r few. s.below r (omega (arith, few, taken, enough, word_count)) ∙ ap word_in (x.below r (omega (arith, few, taken, enough, word_count))))
+        (words_taken required a.d ws a.regs inside) in
+        let all : List ℕ = (take required ws ++ x.word ∷ []) ++ method_words method in
+        let words_there : WordsIn s.regs' args all =
+        words_and_rest a.d (take required ws) required e x.word s.regs' (no_method method t) (method_words method) taken still (s.below e (omega arith) ∙ x.here)
+        (method_words_in method t s.regs' s.zero_there) in
+        let y3 : MidState = mid_charged (call_cost args) s.y' in
+        let code : entering ≡ before_call ++ (the_call ∷ []) =
+        sym (append_assoc (site_for (asks_site q.body) a.s.code.site t (t + 1)) (constant t 0 ∷ []) (the_call ∷ [])) in
+        let stop : called none (body_of_procedure setting.at number) all y3 ≡ ends no_level [] y3 =
+        ends_without_level setting a.turns (body_of_procedure setting.at number) (body_of setting.names setting.at setting.program (extra_of setting.names setting.at setting.program number) q) all y3
+        ((numbers_law setting).body number q placed found) refl in
+        let run = parts_then {c = none} before_call (the_call ∷ []) s.runs
+        (record { same = single_step none the_call s.regs' s.y' ∙ call_comes none s.regs' s.y' a.d (body_of_procedure setting.at number) args all words_there ∙ ap (λ o. mid_called o a.d s.regs') stop }) in
+        subst (λ o. EndsAt setting credit a unmet o) (sym (ap (λ ss. exec none (code_of ss) regs y) code ∙ run.same))
+        (stopped (record {
+          because = called_because setting unmet (ends no_level [] y3) a.d s.regs' refl;
+          printed =
+              subst (λ (z : MidState). IsPrefix z.printed a.z.state.printed) (sym (called_state (ends no_level [] y3) a.d s.regs')) (nothing_printed y3 (s.printed ∙ x.printed));
+        }))
 
-      abbrev variables : List Value
-      variables = take required vs ++ tail ∷ []
-
-      abbrev variable_words : List ℕ
-      variable_words = take required ws ++ x.made.word ∷ []
-
-      abbrev given : List ℕ
-      given = method_words method
-
-      abbrev paid : ℕ
-      paid = call_cost args
-
-      abbrev result : FlatEvaluated
-      result = inner variables z'
-
-      entered : Ready setting c b (asks_site q.body) before_call t → FormEnds setting (126 + 10 * (required + 1) + 40 + 6 * (required + 4)) a.turns a.rs a.valid a.s a.d w' a.env a.around z' regs' y' result (exec c (code_of entering) regs' y')
-      entered r0 =
-          let b2 : Start setting = start_after setting b b.d b.d b.n (omega arith) (omega arith) (omega arith) b.begins.first r0.reached in
-          let b3 : Start setting = start_after setting b2 b2.d b2.d b2.n (omega arith) (omega arith) (omega arith) b2.begins.first
-          (reached_cost setting {credit = paid} b2 b2.d paid (omega arith)) in
-          let size0 = r0.reached.kept.registers.count in
-          let taken : length (take required ws) ≡ required = take_count required ws (omega (arith, enough, word_count)) in
-          let taken_values : length (take required vs) ≡ required = take_count required vs enough in
-          let still : arguments.WordsIn a.d (take required ws) r0.regs =
-          arguments_kept a.d (take required ws) a.regs r0.regs
-          (λ r few. r0.below r (omega (arith, few, taken, enough, word_count)) ∙ ap word_in (x.made.below r (omega (arith, few, taken, enough, word_count))))
-          (words_taken required a.d ws a.regs inside) in
-          let words_there : WordsIn r0.regs args (variable_words ++ given) =
-          words_and_rest a.d (take required ws) required e x.made.word r0.regs (no_method method t) given taken still (r0.below e (omega arith) ∙ x.made.in_register)
-          (method_words_in method t r0.regs r0.none) in
-          let of_variables : WordsOf w'.places variables variable_words =
-          of_values_and_one w' (take required vs) (take required ws) tail x.made.word
-          (of_values_taken required w'.places vs ws (of_values_later x.made.world.later vs ws of_values)) x.made.of_value in
-          let begins : BodyBegins setting a.rs a.valid (extra_of setting.names setting.at setting.program number) q [] None variables variable_words given r0.w a.around z' (mid_charged paid r0.y) =
-          record {
-            call = b3.begins.call;
-            variables = subst (λ places. WordsOf places variables variable_words) (sym r0.same_places) of_variables;
-            variable_count = omega (arith, length-append (take required vs) (tail ∷ []), taken_values, home_count);
-            extras = extras_given setting number q r0.w z' (mid_charged paid r0.y);
-            site = r0.stored;
-          } in
-          let ends : CallEnds setting (body_credit q) a.turns a.rs a.valid r0.w a.around z' (mid_charged paid r0.y) result
-          (called c (body_of_procedure setting.at number) (variable_words ++ given) (mid_charged paid r0.y)) =
-          fewer_turns a.turns fewer
-          (bodies a.rs a.valid a.turns [] None variables variable_words given r0.w a.around z' (mid_charged paid r0.y) (inl (found, refl)) (fits_nothing setting number q r0.w) begins) in
-          let code : entering ≡ before_call ++ (the_call ∷ []) =
-          sym (append_assoc (site_for (asks_site q.body) a.s.code.site t (t + 1)) (constant t 0 ∷ []) (the_call ∷ [])) in
-          let run = parts_then {c = c} before_call (the_call ∷ []) r0.runs (record { same = single_step c the_call r0.regs r0.y }) in
-          subst (λ o. EndsAt setting (126 + 10 * (required + 1) + 40 + 6 * (required + 4)) b result o) (sym (ap (λ ss. exec c (code_of ss) regs' y') code ∙ run.same))
-          (ends_then setting {d = a.d} {d1 = a.d} (omega arith) r0.reached {c2 = body_credit q + paid} {c = 126 + 10 * (required + 1) + 40 + 6 * (required + 4)}
-          (omega (arith, home_count, args_count)) (omega arith)
-          ((form_calls_law setting).by_number c b2 (body_credit q) a.d (body_of_procedure setting.at number) args (variable_words ++ given) result (omega arith) b2.begins.first words_there
-          (inner_later variables z') ends))
-
-      body_entered : FormEnds setting (126 + 10 * (required + 1) + 40 + 6 * (required + 4)) a.turns a.rs a.valid a.s a.d w' a.env a.around z' regs' y' result (exec c (code_of entering) regs' y')
-      body_entered =
-          let same = x.made.count in
-          entered (ready setting c b t (omega arith) (omega (arith, same, constant_there)) (asks_site q.body) (λ asks. let both = both_there asks in omega (arith, same, both)))
-
-    in_words : EndsAt setting (list_credit + (126 + 10 * (required + 1) + 40 + 6 * (required + 4))) a1 (listed z1) (exec c (code_of (listing ++ entering)) a.regs a.y)
-    in_words =
-        subst
-        (λ n.
-        EndsAt setting (list_credit + (126 + 10 * (required + 1) + 40 + 6 * (required + 4))) a1 (listed z1)
-        (exec c (code_of (list_of n (a.d + required) e ++ entering)) a.regs a.y))
-        rest_count
-        (lists_at_law setting (suc j) (126 + 10 * (required + 1) + 40 + 6 * (required + 4)) a1 (drop required vs) (drop required ws) (a.d + required) e entering
-        (λ tail after. inner (take required vs ++ tail ∷ []) after) placed (of_values_dropped required a.w.places vs ws of_values)
-        (words_dropped required a.d (a.d + required) ws a.regs refl inside) (omega arith) (omega (arith, drop_count required ws (omega (arith, enough, word_count))))
-        (subst (λ n. enough_for (of_code (code_of (list_of n (a.d + required) e))) ≤ length a.regs) (sym rest_count) listing_names)
-        (λ tail after. grown_later (inner_later (take required vs ++ tail ∷ []) after))
-        (λ tail w' z' regs' y' x. body_entered tail w' z' regs' y' x))
-
-  pub rest_calls : EndsAt setting (rest_credit (length vs)) a
-      (descend (below_at setting (suc j)) (λ entered. enter (context_at setting (suc j)) wrong q [] None vs a.around entered) a.around a.z)
-      (exec c (code_of (listing ++ entering)) a.regs a.y)
-  rest_calls =
-      subst (λ r. EndsAt setting (rest_credit (length vs)) a r (exec c (code_of (listing ++ entering)) a.regs a.y))
-      (sym (level_there setting j (λ entered. enter (context_at setting (suc j)) wrong q [] None vs a.around entered) a.around a.z ∙ entered_is a.z))
-      (by (has_room setting.limit (a.z.state.heap + a.z.state.stack + 0 + size)) refl)
-    where
-      by : (b : Bool) → has_room setting.limit (a.z.state.heap + a.z.state.stack + 0 + size) ≡ b
-          → EndsAt setting (rest_credit (length vs)) a
-          (if b then with_stack a.z.state.stack (listed (charged (length vs) (asked size a.z)))
-          else record { outcome = full (0 + size) (room_left setting.limit (a.z.state.heap + a.z.state.stack)); state = a.z })
-          (exec c (code_of (listing ++ entering)) a.regs a.y)
-      by true fits =
-          form_framed setting a size (length vs) (listed (z1 fits)) (listed_later (z1 fits)).stack {c2 = rest_credit (length vs)} (omega (arith, enough)) (in_words fits)
-      by false fits =
-          full_there (record {
-            asked = 0 + size;
-            left_then = room_left setting.limit (a.z.state.heap + a.z.state.stack);
-            outcome = refl;
-            printed =
-                full_printed a.z a.y (exec c (code_of (listing ++ entering)) a.regs a.y) a.begins.call.things.represents.printed
-                (steps_grow setting (suc j) a.turns (listing ++ entering) a.regs a.y);
-          })
+  pub unmet_calls : {credit : ℕ} → EndsAt setting credit a unmet (exec none (code_of (listing ++ entering)) a.regs a.y)
+  unmet_calls {credit} =
+      subst (λ n. EndsAt setting credit a unmet (exec none (code_of (list_of n (a.d + required) e ++ entering)) a.regs a.y)) rest_count
+      (list_ran none e (λ o. EndsAt setting credit a unmet o) (drop required ws) (a.d + required) a.regs a.y entering a.begins.call.things.represents.arena
+      (words_dropped required a.d (a.d + required) ws a.regs refl inside) (omega (arith, drop_count required ws (omega (arith, enough, word_count))))
+      (subst (λ n. enough_for (of_code (code_of (list_of n (a.d + required) e))) ≤ length a.regs) (sym rest_count) listing_names)
+      (λ wanted left_then g x few same. stopped (record { because = (room_more setting.limit, few); printed = nothing_printed x same }))
+      (λ regs y x.
+      let size0 = x.count in
+      unmet_call regs y x (omega (arith, size0, constant_there))
+      (site_there regs y x (omega (arith, size0, constant_there)) (asks_site q.body) (λ asks. let both = both_there asks in omega (arith, size0, both)))))
 
 pub rest_calls_law : LawOfRestCalls
-rest_calls_law setting j a number q wrong vs ws placed found takes_more enough fewer bodies of_values inside names =
-    rest_calls setting placed j a number q wrong vs ws found takes_more enough fewer bodies of_values inside names
+rest_calls_law setting zero a number q wrong vs ws placed found takes_more enough fewer bodies of_values inside names =
+    unmet_calls setting placed a number q wrong vs ws found takes_more enough of_values inside names
+rest_calls_law setting (suc j) a number q wrong vs ws placed found takes_more enough fewer bodies of_values inside names =
+    rest_calls setting placed a number q wrong vs ws found takes_more enough of_values inside names j fewer (bodies j refl)

@@ -1,4 +1,4 @@
--- **The law of functions that take further arguments**, where there is a level: the list is made, and the body is entered.
+-- **The law of functions that take further arguments**: their list is made, and the body is entered, where there is a level.
 use Rattle.std.specs.Prelude.{◌≡◌, ℕ, suc, ◌+◌, ◌*◌, ◌≤◌, true, List, [], Some, None, length, slice_get, is_some}
 use Rattle.lang_meaning.specs.Values.{Value}
 use Rattle.flat_language.specs.declared.program.FlatProcedure.{FlatProcedure}
@@ -24,10 +24,10 @@ rest_credit n = 350 + 20 * n
 -- applies it, if its body does what is claimed of it.
 abbrev pub LawOfRestCalls : Type 0
 LawOfRestCalls =
-    (setting : Setting) (j : ℕ) (a : Start setting) (number : ℕ) (q : FlatProcedure) (wrong : FlatSignals) (vs : List Value) (ws : List ℕ) → IsPlaced setting
+    (setting : Setting) (k : ℕ) (a : Start setting) (number : ℕ) (q : FlatProcedure) (wrong : FlatSignals) (vs : List Value) (ws : List ℕ) → IsPlaced setting
     → slice_get setting.program.procedures number ≡ Some q → is_some q.rest ≡ true → length q.required ≤ length vs → a.turns ≤ setting.turns_each
-    → BodyDoes setting j number (extra_of setting.names setting.at setting.program number) q → WordsOf a.w.places vs ws → WordsIn a.d ws a.regs
+    → ((j : ℕ) → k ≡ suc j → BodyDoes setting j number (extra_of setting.names setting.at setting.program number) q) → WordsOf a.w.places vs ws → WordsIn a.d ws a.regs
     → enough_for (of_code (code_of (call_with_rest setting.at setting.program number q (length ws) a.d a.s.code.site))) ≤ length a.regs
     → EndsAt setting (rest_credit (length vs)) a
-    (descend (below_at setting (suc j)) (λ entered. enter (context_at setting (suc j)) wrong q [] None vs a.around entered) a.around a.z)
-    (exec (code_at setting (suc j) a.turns) (code_of (call_with_rest setting.at setting.program number q (length ws) a.d a.s.code.site)) a.regs a.y)
+    (descend (below_at setting k) (λ entered. enter (context_at setting k) wrong q [] None vs a.around entered) a.around a.z)
+    (exec (code_at setting k a.turns) (code_of (call_with_rest setting.at setting.program number q (length ws) a.d a.s.code.site)) a.regs a.y)
