@@ -4,3 +4,4 @@ pub mod Words
 pub mod Framed
 pub mod NoLevel
 pub mod RestCalls
+pub mod RestForms
