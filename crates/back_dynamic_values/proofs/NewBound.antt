@@ -1,8 +1,9 @@
 -- The value in a dynamic binding is another one.
-use Rattle.std.proofs.Common.{◌≡◌, ℕ, zero, suc, ◌+◌, ◌*◌, ◌/◌, ◌<◌, ◌≤◌, Bool, true, false, List, [], ◌∷◌, length, Some, None, refl, sym, ap, ◌∙◌, subst, arith}
-use Rattle.std.specs.Prelude.{slice_get, slice_set, slice_index_or, ◌==◌, if◌then◌else◌}
+use Rattle.std.proofs.Common.{◌≡◌, ℕ, ◌+◌, ◌*◌, ◌/◌, ◌<◌, ◌≤◌, Bool, true, false, length, Some, None, refl, sym, ap, ◌∙◌, subst, arith}
+use Rattle.std.specs.Prelude.{slice_get, ◌==◌, if◌then◌else◌}
 use Rattle.std.proofs.lemmas.Bool.{ne_eqb}
 use Rattle.std.proofs.lemmas.Bool.Decides.{nat_tests}
+use Rattle.std.proofs.lemmas.List.{get_or-set_same, get_or-set_other}
 use Rattle.std.proofs.lemmas.Option.{slice_get_within}
 use Rattle.std.proofs.Math.ListN.{length-set}
 use Rattle.lang_meaning.specs.Lookup.{set_at, value_at}
@@ -29,18 +30,6 @@ use Rattle.back_combining.proofs.Worlds.{later_same}
 use Rattle.back_values.specs.Boxes.{Clean}
 use Rattle.back_values.proofs.Moved.{KeepsBox, box_moves, method_moves, functions_move, further_moves, word_moves, serials_move, globals_move, dynamics_move}
 use Rattle.back_looking.proofs.Frames.{IsThere, word_there}
-
-index_here : {X : Type 0} (xs : List X) (i : ℕ) (x e : X) → i < length xs → slice_index_or (slice_set xs i x) i e ≡ x
-index_here [] i x e h = absurd (omega arith)
-index_here (y ∷ xs) zero x e h = refl
-index_here (y ∷ xs) (suc i) x e h = index_here xs i x e (omega arith)
-
-index_elsewhere : {X : Type 0} (xs : List X) (i j : ℕ) (x e : X) → (i ≡ j → ⊥) → slice_index_or (slice_set xs i x) j e ≡ slice_index_or xs j e
-index_elsewhere [] i j x e h = refl
-index_elsewhere (y ∷ xs) zero zero x e h = absurd (h refl)
-index_elsewhere (y ∷ xs) zero (suc j) x e h = refl
-index_elsewhere (y ∷ xs) (suc i) zero x e h = refl
-index_elsewhere (y ∷ xs) (suc i) (suc j) x e h = index_elsewhere xs i j x e (λ same. h (ap (λ n. suc n) same))
 
 module _ (setting : Setting) (placed : IsPlaced setting) {w : World} {z : FlatState} {y : MidState} (t : Things setting w z y) (clean : Clean w y) (i x : ℕ)
     (box : slice_get w.boxes i ≡ Some (on_stack x)) (v : Value) (word cost : ℕ) (is : word_of w.places v ≡ Some word) where
@@ -121,13 +110,13 @@ module _ (setting : Setting) (placed : IsPlaced setting) {w : World} {z : FlatSt
           (subst (λ k. BoxStands setting w bound_meant.state bound_state.arena k (on_stack x)) at (
           record {
             word = word;
-            of_value = ap (word_of w.places) (index_here z.state.variables i v nil few) ∙ is;
+            of_value = ap (word_of w.places) (get_or-set_same z.state.variables i v nil few) ∙ is;
             stands = word_here y.arena x word cell_lent (let low = there.below in omega (arith, low));
           }
           ))
       by false g =
           let other : i ≡ j → ⊥ = λ at. absurd (grind (arith, nat_tests)) in
-          box_moves setting bound_state t (later_same w) Stays same j b bound_meant.state (index_elsewhere z.state.variables i j v nil other) (keeps j b other e) (t.boxes j b e)
+          box_moves setting bound_state t (later_same w) Stays same j b bound_meant.state (get_or-set_other z.state.variables i j v nil (λ at. other (sym at))) (keeps j b other e) (t.boxes j b e)
 
   pub things_bound : Things setting w bound_meant bound_state
   things_bound = record {
