@@ -22,8 +22,9 @@ use Rattle.back_relation.specs.Things.{Things}
 use Rattle.back_relation.specs.Ends.{WorldKept, Around}
 use Rattle.back_combining.specs.Cuts.{box_cut, boxes_cut}
 use Rattle.back_combining.proofs.Cuts.{later_cut}
+use Rattle.back_objects.proofs.Moving.{BoxWas}
 use Rattle.back_calling.specs.Storing.{IsControl, stored_at, standing_world, LawOfStoring}
-use Rattle.back_calling.proofs.Moving.{BoxWas, Moves, things_moved}
+use Rattle.back_calling.proofs.Moving.{Moves, things_moved}
 
 -- ---- bindings below an address are forgotten
 
