@@ -36,9 +36,10 @@ use Rattle.back_combining.specs.Starts.{Start}
 use Rattle.back_combining.specs.Stores.{stores, Differs, Aligned}
 use Rattle.back_combining.proofs.Cuts.{later_cut}
 use Rattle.back_combining.proofs.Windows.{stored_here, stored_lent}
+use Rattle.back_objects.proofs.Boxes.{cut_count, stack_above, stack_stays}
 use Rattle.back_exits.specs.Touching.{Touches}
 use Rattle.back_exits.proofs.Steps.{laid_state}
-use Rattle.back_exits.proofs.Touching.{cut_count, stored_from, stack_high, stack_kept}
+use Rattle.back_exits.proofs.Touching.{stored_from}
 use Rattle.back_looking.proofs.Finding.{behind_front, before_more}
 use Rattle.back_bindings.proofs.Within.{outer_around, inner_world, tail}
 use Rattle.back_bindings.proofs.Lent.{lent_arena, lent_address, lent_state, Lent, lent_size, lent_high, lent_low, lent_above, lent_grows, lent_world, control_stays, handlers_inside, bindings_inside, lent_within}
@@ -285,7 +286,7 @@ module _ (setting : Setting) (placed : IsPlaced setting) (a : Start setting) (k 
         let at = stack_same x (address + 0 + 12 * i + binding_value) p.same in (omega (arith, at), p.few)
 
     old_places : (i x : ℕ) → slice_get a.w.boxes i ≡ Some (on_stack x) → stack_from a.y.arena ≤ x → slice_get boxes i ≡ Some (on_stack x)
-    old_places i x f low = before_more cut_boxes new_boxes i (on_stack x) (stack_kept (stack_from a.y.arena) i x a.w.boxes f low)
+    old_places i x f low = before_more cut_boxes new_boxes i (on_stack x) (stack_stays (stack_from a.y.arena) i x a.w.boxes f low)
 
     new_places : (i x : ℕ) → slice_get boxes i ≡ Some (on_stack x) → stack_from a.y.arena ≤ x → slice_get a.w.boxes i ≡ Some (on_stack x)
     new_places i x f low = by (front_or_behind cut_boxes new_boxes i (on_stack x) f)
@@ -325,7 +326,7 @@ module _ (setting : Setting) (placed : IsPlaced setting) (a : Start setting) (k 
           );
       apart = λ i j x f g. let one = new_low i x f in let two = new_low j x g in omega (arith, one, two);
       fresh = λ i j x f g.
-          let low = stack_high (stack_from a.y.arena) i x a.w.boxes f in let at = new_low j x g in let high = address_high in omega (arith, low, at, high);
+          let low = stack_above (stack_from a.y.arena) i x a.w.boxes f in let at = new_low j x g in let high = address_high in omega (arith, low, at, high);
       many = place_count address 0 ds ∙ sym many ∙ sym (as_many a.w vs ws of_values);
     }
 
@@ -339,7 +340,7 @@ module _ (setting : Setting) (placed : IsPlaced setting) (a : Start setting) (k 
     plain_inside j n few small other i f = by (front_or_behind cut_boxes new_boxes i (on_stack (address + 12 * j + n)) f)
       where
         by : FrontOrBehind cut_boxes new_boxes i (on_stack (address + 12 * j + n)) → ⊥
-        by (at_front g) = let low = stack_high (stack_from a.y.arena) i (address + 12 * j + n) a.w.boxes g in let high = address_high in omega (arith, low, high, few)
+        by (at_front g) = let low = stack_above (stack_from a.y.arena) i (address + 12 * j + n) a.w.boxes g in let high = address_high in omega (arith, low, high, few)
         by (at_back m same g) = let at = new_low m (address + 12 * j + n) g in other (omega (arith, at, small))
 
     outer_bindings : BindingsAt setting inside y1 old a.around.bindings

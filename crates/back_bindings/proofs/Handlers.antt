@@ -29,8 +29,9 @@ use Rattle.back_combining.specs.Cuts.{boxes_cut}
 use Rattle.back_combining.specs.Starts.{Start}
 use Rattle.back_combining.proofs.Cuts.{later_cut}
 use Rattle.back_combining.proofs.Windows.{stored_here}
+use Rattle.back_objects.proofs.Boxes.{stack_above, stack_stays}
 use Rattle.back_exits.proofs.Steps.{laid_state}
-use Rattle.back_exits.proofs.Touching.{stored_from, stack_high, stack_kept}
+use Rattle.back_exits.proofs.Touching.{stored_from}
 use Rattle.back_bindings.proofs.Within.{outer_around, inner_world}
 use Rattle.back_bindings.proofs.Lent.{lent_arena, lent_address, lent_state, Lent, lent_size, lent_high, lent_low, lent_above, lent_grows, lent_world, control_stays, handlers_inside, bindings_inside, lent_within}
 use Rattle.back_bindings.proofs.Lending.{Opened}
@@ -182,7 +183,7 @@ module _ (setting : Setting) (placed : IsPlaced setting) (a : Start setting) (k 
   boxes = boxes_cut (stack_from a.y.arena) a.w.boxes
 
   old_places : (i x : ℕ) → slice_get a.w.boxes i ≡ Some (on_stack x) → stack_from a.y.arena ≤ x → slice_get boxes i ≡ Some (on_stack x)
-  old_places i x f low = stack_kept (stack_from a.y.arena) i x a.w.boxes f low
+  old_places i x f low = stack_stays (stack_from a.y.arena) i x a.w.boxes f low
 
   new_places : (i x : ℕ) → slice_get boxes i ≡ Some (on_stack x) → stack_from a.y.arena ≤ x → slice_get a.w.boxes i ≡ Some (on_stack x)
   new_places i x f low = (later_cut (stack_from a.y.arena) a.w).none_new i x f
@@ -197,7 +198,7 @@ module _ (setting : Setting) (placed : IsPlaced setting) (a : Start setting) (k 
   things_inside = (lent_world setting placed a lent cost).things
 
   plain_inside : (n : ℕ) → n < 8 → Plain inside (address + n)
-  plain_inside n few i f = let low = stack_high (stack_from a.y.arena) i (address + n) a.w.boxes f in let high = address_high in omega (arith, low, high, few)
+  plain_inside n few i f = let low = stack_above (stack_from a.y.arena) i (address + n) a.w.boxes f in let high = address_high in omega (arith, low, high, few)
 
   from_inside : stack_from y1.arena ≤ address
   from_inside = let low = lent_low setting placed a handler_words room in omega (arith, low, stored_from ps (lent_arena setting placed a handler_words))

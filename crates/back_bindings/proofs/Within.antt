@@ -41,11 +41,12 @@ use Rattle.back_combining.proofs.Parts.{IsLast, go_on_falls, go_on_last}
 use Rattle.back_combining.proofs.Reaches.{first_stop_in}
 use Rattle.back_combining.proofs.Windows.{stored_elsewhere}
 use Rattle.back_combining.proofs.Worlds.{Same}
+use Rattle.back_objects.proofs.Boxes.{stack_above, stack_stays}
 use Rattle.back_exits.specs.Going.{world_with}
 use Rattle.back_exits.specs.Touching.{IsStored, Touched, touched, ExitsMade}
 use Rattle.back_exits.proofs.Inside.{world_both, method_shallower}
 use Rattle.back_exits.proofs.Steps.{gives_back}
-use Rattle.back_exits.proofs.Touching.{world_touched, stored_from, stack_high, stack_kept}
+use Rattle.back_exits.proofs.Touching.{world_touched, stored_from}
 
 -- ---- blocks that are found
 
@@ -276,7 +277,7 @@ module _ (setting : Setting) (placed : IsPlaced setting) (a : Start setting) whe
           world_outward
           (world_both setting inner gave
           (λ p low high. let since = from_then in omega (arith, low, since)))
-          (λ i p e. let high = stack_high (stack_from arena_back) i p x.w'.boxes e in let back = from_back in omega (arith, high, back))
+          (λ i p e. let high = stack_above (stack_from arena_back) i p x.w'.boxes e in let back = from_back in omega (arith, high, back))
 
       stays : Same x.w' world_back state_back state_back
       stays = record {
@@ -284,7 +285,7 @@ module _ (setting : Setting) (placed : IsPlaced setting) (a : Start setting) whe
         size = refl;
         stack = record {
           words = λ p low high plain. refl;
-          bindings = λ i p e low high. stack_kept (stack_from arena_back) i p x.w'.boxes e (let same = after_store in omega (arith, low, same));
+          bindings = λ i p e low high. stack_stays (stack_from arena_back) i p x.w'.boxes e (let same = after_store in omega (arith, low, same));
         };
       }
 
@@ -454,7 +455,7 @@ module _ (setting : Setting) (placed : IsPlaced setting) (a : Start setting) whe
       cut_stays = record {
         blocks = refl;
         size = refl;
-        stack = record { words = λ p low high plain. refl; bindings = λ i p e low high. stack_kept (stack_from q.state.arena) i p moved.w'.boxes e low };
+        stack = record { words = λ p low high plain. refl; bindings = λ i p e low high. stack_stays (stack_from q.state.arena) i p moved.w'.boxes e low };
       }
 
       left_behind : {credit : ℕ} → cost ≤ credit → Left setting credit a.rs a.valid a.s a.d a.w a.env a.around a.z a.regs a.y r q
@@ -476,7 +477,7 @@ module _ (setting : Setting) (placed : IsPlaced setting) (a : Start setting) whe
           of_value = moved.of_value;
           world =
               world_outward (world_both setting passed gone (λ p low high. high))
-              (λ i p e. let high = stack_high (stack_from q.state.arena) i p moved.w'.boxes e in let from = from_cut in omega (arith, high, from));
+              (λ i p e. let high = stack_above (stack_from q.state.arena) i p moved.w'.boxes e in let from = from_cut in omega (arith, high, from));
           charged =
               let charged = moved.charged in
               let inside = stack_inside in

@@ -33,10 +33,11 @@ use Rattle.back_relation.specs.Forms.{code_at}
 use Rattle.back_relation.specs.Procedures.{called}
 use Rattle.back_combining.specs.Starts.{FlatGrown}
 use Rattle.back_combining.proofs.Worlds.{later_same, Deeper, record_stays, handlers_stay, bindings_stay, chain_lower}
+use Rattle.back_objects.proofs.Moving.{BoxWas}
 use Rattle.back_calling.specs.Storing.{IsControl}
 use Rattle.back_calling.specs.Entering.{Inside, InsideFrame, LawOfPaidTurns, BodyComes, LawOfTurns, LawOfEnteredLevels}
 use Rattle.back_calling.proofs.Framing.{frame_word, frame_back}
-use Rattle.back_calling.proofs.Moving.{BoxWas, Moves, things_moved}
+use Rattle.back_calling.proofs.Moving.{Moves, things_moved}
 use Rattle.back_calling.proofs.Storing.{some_words}
 
 -- ---- how a body is left

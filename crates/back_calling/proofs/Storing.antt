@@ -1,9 +1,8 @@
 -- A control word is stored: what words say goes on being said, and so does what is on the stack.
-use Rattle.std.proofs.Common.{◌≡◌, ℕ, zero, suc, ◌+◌, ◌<◌, ◌≤◌, Bool, true, false, List, [], ◌∷◌, length, Some, refl, sym, ap, ◌∙◌, arith}
-use Rattle.std.specs.Prelude.{slice_get, nat_le, ◌%◌, ◌/◌, if◌then◌else◌}
+use Rattle.std.proofs.Common.{◌≡◌, ℕ, ◌+◌, ◌<◌, ◌≤◌, true, length, Some, refl, sym, ◌∙◌, arith}
+use Rattle.std.specs.Prelude.{slice_get, ◌%◌, ◌/◌}
 use Rattle.std.proofs.Math.ListN.{length-set}
-use Rattle.std.proofs.lemmas.Bool.Decides.{nat_tests}
-use Rattle.std.proofs.lemmas.Bool.{le-leb, ne_eqb}
+use Rattle.std.proofs.lemmas.Bool.{ne_eqb}
 use Rattle.flat_language.specs.FlatNodes.{tables}
 use Rattle.flat_language.specs.FlatState.{FlatState}
 use Rattle.mid_code.specs.Arena.{stack_from, is_lent, word_at}
@@ -20,45 +19,12 @@ use Rattle.back_relation.specs.Worlds.{World, BoxPlace, on_heap, on_stack, gone}
 use Rattle.back_relation.specs.StackWords.{HasWordAt}
 use Rattle.back_relation.specs.Things.{Things}
 use Rattle.back_relation.specs.Ends.{WorldKept, Around}
-use Rattle.back_combining.specs.Cuts.{box_cut, boxes_cut}
+use Rattle.back_combining.specs.Cuts.{boxes_cut}
 use Rattle.back_combining.proofs.Cuts.{later_cut}
+use Rattle.back_objects.proofs.Boxes.{cut_count, heap_was, stack_above, stack_stays}
+use Rattle.back_objects.proofs.Moving.{BoxWas}
 use Rattle.back_calling.specs.Storing.{IsControl, stored_at, standing_world, LawOfStoring}
-use Rattle.back_calling.proofs.Moving.{BoxWas, Moves, things_moved}
-
--- ---- bindings below an address are forgotten
-
-cut_count : (from : ℕ) (cs : List BoxPlace) → length (boxes_cut from cs) ≡ length cs
-cut_count from [] = refl
-cut_count from (c ∷ cs) = ap suc (cut_count from cs)
-
-cut_heap : (from i x : ℕ) (cs : List BoxPlace) → slice_get (boxes_cut from cs) i ≡ Some (on_heap x) → slice_get cs i ≡ Some (on_heap x)
-cut_heap from i x [] e = absurd (cc e)
-cut_heap from zero x (on_heap a ∷ cs) e = e
-cut_heap from zero x (on_stack a ∷ cs) e = by (nat_le from a) e
-  where
-    by : (t : Bool) → Some (if t then on_stack a else gone) ≡ Some (on_heap x) → Some (on_stack a) ≡ Some (on_heap x)
-    by true e = e
-    by false e = absurd (cc e)
-cut_heap from zero x (gone ∷ cs) e = absurd (cc e)
-cut_heap from (suc i) x (c ∷ cs) e = cut_heap from i x cs e
-
-cut_high : (from i x : ℕ) (cs : List BoxPlace) → slice_get (boxes_cut from cs) i ≡ Some (on_stack x) → from ≤ x
-cut_high from i x [] e = absurd (cc e)
-cut_high from zero x (on_heap a ∷ cs) e = absurd (cc e)
-cut_high from zero x (on_stack a ∷ cs) e = by (nat_le from a) refl e
-  where
-    by : (t : Bool) → nat_le from a ≡ t → Some (if t then on_stack a else gone) ≡ Some (on_stack x) → from ≤ x
-    by true h e = let same : a ≡ x = cc e in let low : from ≤ a = grind (arith, nat_tests) in omega (arith, same, low)
-    by false h e = absurd (cc e)
-cut_high from zero x (gone ∷ cs) e = absurd (cc e)
-cut_high from (suc i) x (c ∷ cs) e = cut_high from i x cs e
-
-cut_stack : (from i a : ℕ) (cs : List BoxPlace) → from ≤ a → slice_get cs i ≡ Some (on_stack a) → slice_get (boxes_cut from cs) i ≡ Some (on_stack a)
-cut_stack from i a [] h e = absurd (cc e)
-cut_stack from zero a (c ∷ cs) h e =
-    let same : c ≡ on_stack a = cc e in
-    ap (λ x. Some (box_cut from x)) same ∙ ap (λ t. Some (if t then on_stack a else gone)) (le-leb _ _ h)
-cut_stack from (suc i) a (c ∷ cs) h e = cut_stack from i a cs h e
+use Rattle.back_calling.proofs.Moving.{Moves, things_moved}
 
 -- ---- a control word
 
@@ -70,12 +36,12 @@ module _ (setting : Setting) {w : World} {z : FlatState} {y : MidState} (t : Thi
   pub control_below : variables_address ≤ y.arena.heap_to
   control_below = omega (arith, spot_below t.represents.arena control_stands)
 
-  pub stack_above : variables_address ≤ stack_from y.arena
-  stack_above = omega (arith, control_below, t.represents.arena.room)
+  pub stack_higher : variables_address ≤ stack_from y.arena
+  stack_higher = omega (arith, control_below, t.represents.arena.room)
 
   -- so an arena has some words
   pub some_words : 55 ≤ length y.arena.memory
-  some_words = omega (arith, stack_above)
+  some_words = omega (arith, stack_higher)
 
   pub control_lent : (x : ℕ) → control_address ≤ x → x < variables_address → x % 4 ≡ 0 → is_lent y.arena x ≡ true
   control_lent x low high aligned = in_spot_lent x control_stands aligned low (omega arith)
@@ -101,10 +67,10 @@ module _ (setting : Setting) {w : World} {z : FlatState} {y : MidState} (t : Thi
     }
       where
         were : (i : ℕ) (b : BoxPlace) → slice_get (boxes_cut (stack_from y.arena) w.boxes) i ≡ Some b → BoxWas w y.arena y'.arena i b
-        were i (on_heap x) e = cut_heap (stack_from y.arena) i x w.boxes e
+        were i (on_heap x) e = heap_was (stack_from y.arena) i x w.boxes e
         were i (on_stack x) e = (
           (later_cut (stack_from y.arena) w).none_new i x e,
-          word_beside x (λ same. omega (arith, same, control.high, stack_above, cut_high (stack_from y.arena) i x w.boxes e)),
+          word_beside x (λ same. omega (arith, same, control.high, stack_higher, stack_above (stack_from y.arena) i x w.boxes e)),
         )
         were i gone e = tt
 
@@ -123,8 +89,8 @@ module _ (setting : Setting) {w : World} {z : FlatState} {y : MidState} (t : Thi
       later = later_cut (stack_from y.arena) w;
       things = things_moved setting control t moves represents;
       stack = record {
-        words = λ x low high plain. word_beside x (λ same. omega (arith, same, control.high, stack_above, low));
-        bindings = λ i a e low high. cut_stack (stack_from y.arena) i a w.boxes low e;
+        words = λ x low high plain. word_beside x (λ same. omega (arith, same, control.high, stack_higher, low));
+        bindings = λ i a e low high. stack_stays (stack_from y.arena) i a w.boxes e low;
       };
       end = λ n e. word_beside end_address (λ same. no_end (sym same)) ∙ e;
       more_exits = omega arith;

@@ -29,13 +29,14 @@ use Rattle.back_combining.proofs.Cuts.{words_fewer}
 use Rattle.back_combining.proofs.Starts.{room_after}
 use Rattle.back_combining.proofs.Windows.{stored_elsewhere}
 use Rattle.back_combining.proofs.Worlds.{Same, around_again}
+use Rattle.back_objects.proofs.Boxes.{stack_stays}
 use Rattle.back_exits.specs.Going.{world_with}
 use Rattle.back_exits.specs.Inside.{around_with}
 use Rattle.back_exits.specs.Touching.{Touched, touched, ExitsMade}
 use Rattle.back_exits.proofs.Inside.{world_both, method_shallower, exits_of, activation_with}
 use Rattle.back_exits.proofs.Leaving.{AreControls, controls_touch, controls_aligned, controls_differ}
 use Rattle.back_exits.proofs.Puts.{of_control, control_stands}
-use Rattle.back_exits.proofs.Touching.{world_touched, stored_from, stack_kept}
+use Rattle.back_exits.proofs.Touching.{world_touched, stored_from}
 use Rattle.back_exits.proofs.Words.{control_lent, control_there, control_of}
 use Rattle.back_cleanups.specs.Cleanups.{TransferGoes}
 use Rattle.back_cleanups.proofs.Calls.{Passes}
@@ -115,7 +116,7 @@ module _ (setting : Setting) (placed : IsPlaced setting) (k : ℕ) (a : Start se
   activation7 : ActivationStands setting a.s a.rs a.valid w7 a.env a.around z g6 y7
   activation7 =
       activation_later setting {d = a.d} stored.later
-      (record { blocks = refl; size = refl; stack = record { words = λ x low high plain. refl; bindings = λ i x f low high. stack_kept (stack_from y.arena) i x w.boxes f (let same = from7 in omega (arith, low, same)) } })
+      (record { blocks = refl; size = refl; stack = record { words = λ x low high plain. refl; bindings = λ i x f low high. stack_stays (stack_from y.arena) i x w.boxes f (let same = from7 in omega (arith, low, same)) } })
       refl (λ n cs f. f) (λ r low. ap word_in (same6 r low)) a.begins.scope
       (activation_with setting {y' = y7} came.activation (exits_of came.activation)
       (method_shallower setting w y y7 a.s.keeps_method g a.s.code.method a.env.method (let same = from7 in omega (arith, same))

@@ -35,7 +35,7 @@ use Rattle.back_values.proofs.Far.{Stored, store_to_runs}
 use Rattle.back_bindings.proofs.DynamicForms.{from_here}
 use Rattle.back_bindings.proofs.Points.{code_grows}
 use Rattle.back_dynamic_values.specs.Forms.{LawOfDynamicDefinitions}
-use Rattle.back_dynamic_values.proofs.NewOutermost.{outermost_lent, outermost_low, world_outermost, around_outermost}
+use Rattle.back_dynamic_values.proofs.NewOutermost.{new_outermost}
 
 -- the storing of a word at an address names the register that it uses
 names_far : (from t x : ℕ) → t < enough_for (of_code (code_of (store_to from t x)))
@@ -76,15 +76,15 @@ module _ (setting : Setting) (placed : IsPlaced setting) (k n : ℕ) (has : HasD
 
     stored : Stored c first_steps (a.d + 1) a.regs a.y (dynamic_address setting.at n) word
     stored =
-        let low = outermost_low setting placed a.begins.call.things clean n has v word 0 is in
-        store_to_runs c a.regs a.y a.d (a.d + 1) (dynamic_address setting.at n) word fits (λ e. omega (arith, e)) held (omega (arith, low))
-        (outermost_lent setting placed a.begins.call.things clean n has v word 0 is)
+        let new = new_outermost setting placed a.begins.call.things clean n has v word 0 is in
+        let low = new.low in
+        store_to_runs c a.regs a.y a.d (a.d + 1) (dynamic_address setting.at n) word fits (λ e. omega (arith, e)) held (omega (arith, low)) new.lent
 
     reached : ReachedFrom setting 24 a a.d a.w (given v a.z) stored.after (with_arena (with_word (dynamic_address setting.at n) word a.y.arena) (mid_charged stored.cost a.y))
     reached =
         let within = stored.within in
-        reached_new setting {credit = 24} a (λ (y : State). record y { dynamics = (text setting.names n, v) ∷ y.dynamics }) stored.after (world_outermost setting placed a.begins.call.things clean n has v word stored.cost is)
-        (around_outermost setting placed a.begins.call.things clean n has v word stored.cost is {credit = 24} (omega (arith, within))) stored.count
+        let new = new_outermost setting placed a.begins.call.things clean n has v word stored.cost is in
+        reached_new setting {credit = 24} a (λ (y : State). record y { dynamics = (text setting.names n, v) ∷ y.dynamics }) stored.after new.world (new.around 24 (omega (arith, within))) stored.count
         (λ i few. stored.others i (λ e. omega (arith, e, few)))
 
     abbrev behind_it : Start setting

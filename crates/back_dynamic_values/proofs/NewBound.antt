@@ -1,12 +1,10 @@
 -- The value in a dynamic binding is another one.
-use Rattle.std.proofs.Common.{◌≡◌, ℕ, zero, suc, ◌+◌, ◌*◌, ◌/◌, ◌<◌, ◌≤◌, Bool, true, false, List, [], ◌∷◌, length, Some, None, refl, sym, ap, ◌∙◌, subst, arith}
-use Rattle.std.specs.Prelude.{slice_get, slice_set, slice_index_or, ◌==◌, if◌then◌else◌}
+use Rattle.std.proofs.Common.{◌≡◌, ℕ, ◌+◌, ◌*◌, ◌/◌, ◌<◌, ◌≤◌, Bool, true, false, length, Some, None, refl, sym, ap, ◌∙◌, subst, arith}
+use Rattle.std.specs.Prelude.{slice_get, if◌then◌else◌}
 use Rattle.std.proofs.lemmas.Bool.{ne_eqb}
-use Rattle.std.proofs.lemmas.Bool.Decides.{nat_tests}
-use Rattle.std.proofs.lemmas.Option.{slice_get_within}
 use Rattle.std.proofs.Math.ListN.{length-set}
 use Rattle.lang_meaning.specs.Lookup.{set_at, value_at}
-use Rattle.lang_meaning.specs.Values.{Value, nil}
+use Rattle.lang_meaning.specs.Values.{Value}
 use Rattle.lang_meaning.specs.State.{Limit, words, unlimited}
 use Rattle.flat_language.specs.FlatNodes.{tables}
 use Rattle.flat_language.specs.FlatState.{FlatState, on_state}
@@ -27,20 +25,9 @@ use Rattle.back_relation.specs.Things.{Things, WithinLimit, BoxStands}
 use Rattle.back_relation.specs.Ends.{WorldKept, Around}
 use Rattle.back_combining.proofs.Worlds.{later_same}
 use Rattle.back_values.specs.Boxes.{Clean}
-use Rattle.back_values.proofs.Moved.{KeepsBox, box_moves, method_moves, functions_move, further_moves, word_moves, serials_move, globals_move, dynamics_move}
+use Rattle.back_values.proofs.Moved.{KeepsBox, method_moves, functions_move, further_moves, word_moves, serials_move, globals_move, dynamics_move}
+use Rattle.back_values.proofs.SetBoxes.{boxes_stand}
 use Rattle.back_looking.proofs.Frames.{IsThere, word_there}
-
-index_here : {X : Type 0} (xs : List X) (i : ℕ) (x e : X) → i < length xs → slice_index_or (slice_set xs i x) i e ≡ x
-index_here [] i x e h = absurd (omega arith)
-index_here (y ∷ xs) zero x e h = refl
-index_here (y ∷ xs) (suc i) x e h = index_here xs i x e (omega arith)
-
-index_elsewhere : {X : Type 0} (xs : List X) (i j : ℕ) (x e : X) → (i ≡ j → ⊥) → slice_index_or (slice_set xs i x) j e ≡ slice_index_or xs j e
-index_elsewhere [] i j x e h = refl
-index_elsewhere (y ∷ xs) zero zero x e h = absurd (h refl)
-index_elsewhere (y ∷ xs) zero (suc j) x e h = refl
-index_elsewhere (y ∷ xs) (suc i) zero x e h = refl
-index_elsewhere (y ∷ xs) (suc i) (suc j) x e h = index_elsewhere xs i j x e (λ same. h (ap (λ n. suc n) same))
 
 module _ (setting : Setting) (placed : IsPlaced setting) {w : World} {z : FlatState} {y : MidState} (t : Things setting w z y) (clean : Clean w y) (i x : ℕ)
     (box : slice_get w.boxes i ≡ Some (on_stack x)) (v : Value) (word cost : ℕ) (is : word_of w.places v ≡ Some word) where
@@ -107,27 +94,15 @@ module _ (setting : Setting) (placed : IsPlaced setting) {w : World} {z : FlatSt
       elsewhere x' (λ at. other (t.boxes_apart.stack i j x box (subst (λ a. slice_get w.boxes j ≡ Some (on_stack a)) (sym at) e)))
   keeps j gone other e = tt
 
-  few : i < length z.state.variables
-  few = omega (arith, t.box_count, slice_get_within w.boxes i (on_stack x) box)
-
   box_stands : (j : ℕ) (b : BoxPlace) → slice_get w.boxes j ≡ Some b → BoxStands setting w bound_meant.state bound_state.arena j b
-  box_stands j b e = by (i == j) refl
-    where
-      by : (k : Bool) → (i == j) ≡ k → BoxStands setting w bound_meant.state bound_state.arena j b
-      by true g =
-          let at : i ≡ j = grind (arith, nat_tests) in
-          let here : on_stack x ≡ b = cc (sym box ∙ ap (slice_get w.boxes) at ∙ e) in
-          subst (λ c. BoxStands setting w bound_meant.state bound_state.arena j c) here
-          (subst (λ k. BoxStands setting w bound_meant.state bound_state.arena k (on_stack x)) at (
-          record {
-            word = word;
-            of_value = ap (word_of w.places) (index_here z.state.variables i v nil few) ∙ is;
-            stands = word_here y.arena x word cell_lent (let low = there.below in omega (arith, low));
-          }
-          ))
-      by false g =
-          let other : i ≡ j → ⊥ = λ at. absurd (grind (arith, nat_tests)) in
-          box_moves setting bound_state t (later_same w) Stays same j b bound_meant.state (index_elsewhere z.state.variables i j v nil other) (keeps j b other e) (t.boxes j b e)
+  box_stands =
+      boxes_stand setting bound_state t Stays same i (on_stack x) box v
+      (λ e. record {
+        word = word;
+        of_value = ap (word_of w.places) e ∙ is;
+        stands = word_here y.arena x word cell_lent (let low = there.below in omega (arith, low));
+      })
+      keeps
 
   pub things_bound : Things setting w bound_meant bound_state
   things_bound = record {

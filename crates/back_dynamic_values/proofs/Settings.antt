@@ -56,7 +56,7 @@ use Rattle.back_bindings.proofs.Points.{code_grows, reached_registers, binding_g
 use Rattle.back_dynamic_values.specs.Forms.{LawOfSettingDynamics}
 use Rattle.back_dynamic_values.proofs.Definitions.{reached_new}
 use Rattle.back_dynamic_values.proofs.NewBound.{cell_lent, world_bound, around_bound}
-use Rattle.back_dynamic_values.proofs.NewOutermost.{outermost_lent, world_outermost, around_outermost}
+use Rattle.back_dynamic_values.proofs.NewOutermost.{new_outermost}
 
 -- ---- the word is set
 
@@ -192,14 +192,12 @@ module _ (setting : Setting) (placed : IsPlaced setting) (k : ℕ) where
         (exec c (code_of read) a.regs a.y)
     outermost_stored None at same = none_stored at
     outermost_stored (Some u) at same =
-        let lent : is_lent a.y.arena address ≡ true =
-        subst (λ q. is_lent a.y.arena q ≡ true) (sym same) (outermost_lent setting placed a.begins.call.things clean n has_place v word 36 is)
-        in
+        let new = new_outermost setting placed a.begins.call.things clean n has_place v word 36 is in
+        let lent : is_lent a.y.arena address ≡ true = subst (λ q. is_lent a.y.arena q ≡ true) (sym same) new.lent in
         let run = stored at.word at.stands (no_unbound u at.word at.of_value) lent in
         subst (λ q. EndsAt setting 450 a (gives v (given a.z)) q) (sym run.same)
         (subst (λ q. EndsAt setting 450 a (gives v (given a.z)) (ends falls (loaded at.word) (with_arena (with_word q word a.y.arena) (mid_charged 36 a.y)))) (sym same)
-        (gives_new (λ (y : State). record y { dynamics = (text setting.names n, v) ∷ y.dynamics }) at.word (world_outermost setting placed a.begins.call.things clean n has_place v word 36 is)
-        (around_outermost setting placed a.begins.call.things clean n has_place v word 36 is {credit = 450} (omega arith))))
+        (gives_new (λ (y : State). record y { dynamics = (text setting.names n, v) ∷ y.dynamics }) at.word new.world (new.around 450 (omega arith))))
 
 -- ---- the place is sought
 

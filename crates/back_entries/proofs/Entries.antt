@@ -10,7 +10,7 @@ use Rattle.mid_code.specs.State.{MidState, first_registers, charged, with_arena,
 use Rattle.mid_lines.specs.declared.line.LineProcedure.{LineProcedure}
 use Rattle.mid_lines.specs.declared.line.LineProgram.{LineProgram}
 use Rattle.mid_lines.specs.LinesChecked.{is_checked_line_program}
-use Rattle.mid_lines.specs.LineMeaning.{Activation, Caller, entering, arrive, enter_at, next, state_of}
+use Rattle.mid_lines.specs.LineMeaning.{Activation, Caller, Stage, entering, arrive, enter_at, next, state_of}
 use Rattle.mid_lines.specs.StackLaw.{frame_in, frame_of, CallersStandOn}
 use Rattle.back_places.specs.declared.place.Place.{Place}
 use Rattle.back_places.specs.Places.{Located, argument_register}
@@ -19,11 +19,11 @@ use Rattle.back_places.specs.Blocks.{room_code}
 use Rattle.back_places.specs.LineCode.{save_code}
 use Rattle.back_places.specs.Good.{IsGood}
 use Rattle.back_places.specs.Relation.{IsAt, base_of, IsPrivate, argument_in, AreThere, CallersWait, Machine, Enters, EntersIn, Relates}
-use Rattle.back_places.specs.StepLaw.{Follows, Known, LawOfEntries}
+use Rattle.back_places.specs.StepLaw.{Comes, Follows, Known, LawOfEntries}
 use Rattle.back_places.proofs.LinesInForm.{frame_is_small, frame_words}
 use Rattle.back_stepping.specs.Moments.{state_at, Beside, later, moment, beside}
 use Rattle.back_stepping.specs.Arriving.{Given}
-use Rattle.back_stepping.proofs.Coming.{and_on, has_back}
+use Rattle.back_stepping.proofs.Coming.{stays, and_on, has_back}
 use Rattle.back_stepping.proofs.Private.{private_low, lent_apart, callers_stay, program_kept}
 use Rattle.back_emission.specs.Laying.{Asking, Lowered}
 use Rattle.back_emission.proofs.Ends.{holding}
@@ -120,6 +120,14 @@ module _ (program : LineProgram) (l : Located) (Fact : (number line register : �
           memory_small = omega (arith, r.form.small, r.arena.long);
         };
       }
+
+-- the step from an entry of a procedure that is there, in at least three instructions fewer than it costs
+pub record EntersWell (program : LineProgram) (l : Located) (Fact : (number line register : ℕ) → Place → Type 0) (first : List Block) (s : Stage) (m : Moment) : Type 0 where
+  pub count : ℕ
+  pub moment : Moment
+  pub comes : Comes count m moment
+  pub relates : Relates program l Fact first (next program s) moment
+  pub cheap : count + 3 + (state_of s).cost ≤ (state_of (next program s)).cost
 
 -- a word of a new frame is private
 frame_private : (a : Arena) (p : LineProcedure) (i k : ℕ) → k < p.frame → i ≡ length a.memory - (p.frame + words_of a.blocks) + k
@@ -272,16 +280,22 @@ module _ (program : LineProgram) (l : Located) (Fact : (number line register : �
       (first_registers p.registers arguments) (charged (entry_cost p.parameters) z))) h
 
   -- a procedure that is there
-  there_follows :
+  pub enters_well :
       (number : ℕ) (arguments : List ℕ) (callers : List Caller) (z : MidState) (m : Moment) (p : LineProcedure) → slice_get program.procedures number ≡ Some p
       → CallersStandOn program first callers z.arena.blocks → Enters program l Fact first number arguments callers z m
-      → Follows program l Fact first (entering number arguments callers z) m
+      → EntersWell program l Fact first (entering number arguments callers z) m
   unfolding choose_by
-  there_follows number arguments callers z m p e st r =
+  enters_well number arguments callers z m p e st r =
       by (length arguments == p.parameters) (nat_le p.frame (left z.arena)) refl refl
     where
-      by : (t u : Bool) → (length arguments == p.parameters) ≡ t → nat_le p.frame (left z.arena) ≡ u → Follows program l Fact first (entering number arguments callers z) m
-      by false u h k = nothing program l Fact first good (entering number arguments callers z) m (charged (entry_cost p.parameters) z) (enters number arguments callers z p e false u h k) (omega arith)
+      by : (t u : Bool) → (length arguments == p.parameters) ≡ t → nat_le p.frame (left z.arena) ≡ u → EntersWell program l Fact first (entering number arguments callers z) m
+      by false u h k = record {
+        count = 0;
+        moment = m;
+        comes = stays m;
+        relates = subst (λ y. Relates program l Fact first y m) (sym (enters number arguments callers z p e false u h k)) tt;
+        cheap = subst (λ y. 0 + 3 + z.cost ≤ (state_of y).cost) (sym (enters number arguments callers z p e false u h k)) (omega arith);
+      }
       by true true h k =
           let same : length arguments ≡ p.parameters = eqb-true (length arguments) p.parameters h in
           let room : p.frame ≤ left z.arena = grind (arith, nat_tests, k) in
@@ -299,8 +313,7 @@ module _ (program : LineProgram) (l : Located) (Fact : (number line register : �
             comes = t.2.comes;
             relates = subst (λ y. Relates program l Fact first y t.2.moment') (sym (enters number arguments callers z p e true true h k))
                 ((record { all = ap (λ o. frame_in o ∷ z.arena.blocks) (sym e); counted = tt }, st), t.2.runs);
-            cheap = subst (λ y. t.0 + z.cost ≤ (state_of y).cost) (sym (enters number arguments callers z p e true true h k)) (let n = t.1 in omega (arith, n));
-            heavy = λ u. omega arith;
+            cheap = subst (λ y. t.0 + 3 + z.cost ≤ (state_of y).cost) (sym (enters number arguments callers z p e true true h k)) (let n = t.1 in omega (arith, n));
           }
       by true false h k =
           let none : left z.arena < p.frame = grind (arith, nat_tests, k) in
@@ -318,8 +331,7 @@ module _ (program : LineProgram) (l : Located) (Fact : (number line register : �
             comes = c.comes;
             relates = subst (λ y. Relates program l Fact first y c.moment') (sym (enters number arguments callers z p e true false h k))
                 (c.calls, ap (λ q. slice_index q 10) c.same ∙ gone.4, ap (λ q. slice_index q 11) c.same ∙ gone.5);
-            cheap = subst (λ y. gone.0 + z.cost ≤ (state_of y).cost) (sym (enters number arguments callers z p e true false h k)) (let n = gone.2 in omega (arith, n));
-            heavy = λ u. omega arith;
+            cheap = subst (λ y. gone.0 + 3 + z.cost ≤ (state_of y).cost) (sym (enters number arguments callers z p e true false h k)) (let n = gone.2 in omega (arith, n));
           }
 
   -- whether there is a procedure or none
@@ -331,7 +343,10 @@ module _ (program : LineProgram) (l : Located) (Fact : (number line register : �
       by : (o : Option LineProcedure) → slice_get program.procedures number ≡ o → EntersIn program l Fact first o number arguments callers z m
           → Follows program l Fact first (entering number arguments callers z) m
       by None e h = nothing program l Fact first good (entering number arguments callers z) m z (ap (λ o. enter_at o number arguments callers z) e) (omega arith)
-      by (Some p) e h = there_follows number arguments callers z m p e r.0 h
+      by (Some p) e h =
+          let well = enters_well number arguments callers z m p e r.0 h in
+          let cheap = well.cheap in
+          record { count = well.count; moment = well.moment; comes = well.comes; relates = well.relates; cheap = omega (arith, cheap); heavy = λ u. omega arith }
 
 pub law_of_entries : LawOfEntries
 law_of_entries program l known first checked good number arguments callers z m r = entry_follows program l (Known known) first checked good number arguments callers z m r

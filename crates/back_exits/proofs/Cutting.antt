@@ -38,6 +38,7 @@ use Rattle.back_combining.proofs.Straight.{world_units, things_units}
 use Rattle.back_combining.proofs.Windows.{stored_elsewhere}
 use Rattle.back_combining.proofs.Worlds.{Same}
 use Rattle.back_combining.proofs.Cuts.{words_fewer}
+use Rattle.back_objects.proofs.Boxes.{stack_stays}
 use Rattle.back_exits.specs.Going.{world_with}
 use Rattle.back_exits.specs.Inside.{around_at}
 use Rattle.back_exits.specs.Touching.{Touched, touched, ExitsMade}
@@ -45,7 +46,7 @@ use Rattle.back_exits.proofs.Exits.{found_record}
 use Rattle.back_exits.proofs.Inside.{world_both, method_shallower, exits_of, activation_with}
 use Rattle.back_exits.proofs.Leaving.{AreControls, controls_touch, controls_aligned, controls_differ}
 use Rattle.back_exits.proofs.Puts.{of_control, control_stands}
-use Rattle.back_exits.proofs.Touching.{world_touched, stored_from, stack_kept}
+use Rattle.back_exits.proofs.Touching.{world_touched, stored_from}
 use Rattle.back_exits.proofs.Words.{control_lent, control_there, control_of}
 
 -- ---- lists
@@ -170,7 +171,7 @@ module _ (setting : Setting) (placed : IsPlaced setting) {w : World} {z : FlatSt
     size = refl;
     stack = record {
       words = λ x low high plain. refl;
-      bindings = λ i x e low high. stack_kept (stack_from arena_cut) i x w.boxes e (let same = stored_from ps arena_cut in omega (arith, low, same));
+      bindings = λ i x e low high. stack_stays (stack_from arena_cut) i x w.boxes e (let same = stored_from ps arena_cut in omega (arith, low, same));
     };
   }
 

@@ -24,12 +24,13 @@ use Rattle.back_combining.specs.Stores.{stores, Aligned, Differs}
 use Rattle.back_combining.proofs.Activations.{activation_later}
 use Rattle.back_combining.proofs.Windows.{stored_elsewhere}
 use Rattle.back_combining.proofs.Worlds.{Same}
+use Rattle.back_objects.proofs.Boxes.{stack_stays}
 use Rattle.back_exits.specs.Going.{world_with}
 use Rattle.back_exits.specs.Inside.{scope_with, environment_with, around_with, ExitsStand, around_at, LaidAt}
 use Rattle.back_exits.specs.RecordSteps.{ControlSays}
 use Rattle.back_exits.specs.Touching.{IsStored, Touches, Touched, touched, ExitsMade}
 use Rattle.back_exits.proofs.Inside.{world_both, method_shallower, activation_with, at_from, at_to, words_left, deeper}
-use Rattle.back_exits.proofs.Touching.{world_touched, stored_from, stored_heap, stack_kept}
+use Rattle.back_exits.proofs.Touching.{world_touched, stored_from, stored_heap}
 
 -- control words are stored, but not that of the serials
 abbrev pub AreControls : List (ℕ × ℕ) → Type 0
@@ -166,7 +167,7 @@ module _ (setting : Setting) (a : Start setting) {units cost : ℕ} {role : Reco
         size = refl;
         stack = record {
           words = λ x low high plain. refl;
-          bindings = λ i x e low high. stack_kept (stack_from arena_back) i x w2.boxes e (let same = stored_from ps arena_back in omega (arith, low, same));
+          bindings = λ i x e low high. stack_stays (stack_from arena_back) i x w2.boxes e (let same = stored_from ps arena_back in omega (arith, low, same));
         };
       }
 

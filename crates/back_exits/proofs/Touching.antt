@@ -1,7 +1,6 @@
 -- What stands where control words and words of a new block are stored.
-use Rattle.std.proofs.Common.{◌≡◌, ◌⊎◌, inl, inr, ℕ, zero, suc, ◌<◌, ◌≤◌, Bool, true, false, List, [], ◌∷◌, length, Option, Some, refl, ap, ◌∙◌, arith}
-use Rattle.std.specs.Prelude.{slice_get, nat_le, if◌then◌else◌}
-use Rattle.std.proofs.lemmas.Bool.{le-leb, leb-true}
+use Rattle.std.proofs.Common.{◌≡◌, ◌⊎◌, inl, inr, ℕ, ◌<◌, ◌≤◌, List, [], ◌∷◌, length, Option, Some, refl, ap, ◌∙◌, arith}
+use Rattle.std.specs.Prelude.{slice_get}
 use Rattle.lang_meaning.specs.declared.scope.ExitForm.{ExitForm}
 use Rattle.flat_language.specs.FlatState.{FlatState}
 use Rattle.mid_code.specs.Arena.{Arena, begin_of, stack_from, word_at, with_word}
@@ -18,53 +17,14 @@ use Rattle.back_relation.specs.Placed.{IsPlaced}
 use Rattle.back_relation.specs.Worlds.{World, BoxPlace, on_heap, on_stack, gone}
 use Rattle.back_relation.specs.Things.{Things}
 use Rattle.back_relation.specs.Ends.{WorldKept}
-use Rattle.back_combining.specs.Cuts.{box_cut, boxes_cut}
+use Rattle.back_combining.specs.Cuts.{boxes_cut}
 use Rattle.back_combining.specs.Stores.{stores, Aligned, Differs}
 use Rattle.back_combining.proofs.Cuts.{later_cut}
 use Rattle.back_combining.proofs.Windows.{stored_elsewhere, stored_size}
+use Rattle.back_objects.proofs.Boxes.{cut_count, heap_was, stack_above, stack_stays}
 use Rattle.back_exits.specs.Going.{BoxWas, world_with, exits_counted, GoesOn}
 use Rattle.back_exits.specs.Touching.{IsStored, Touches, Touched, touched, ExitsMade, LawOfTouching}
 use Rattle.back_exits.proofs.Moving.{things_go_on}
-
--- ---- places that are cut
-
-pub cut_count : (cut : ℕ) (bs : List BoxPlace) → length (boxes_cut cut bs) ≡ length bs
-cut_count cut [] = refl
-cut_count cut (b ∷ bs) = ap suc (cut_count cut bs)
-
-heap_was : (cut i a : ℕ) (bs : List BoxPlace) → slice_get (boxes_cut cut bs) i ≡ Some (on_heap a) → slice_get bs i ≡ Some (on_heap a)
-heap_was cut i a [] e = absurd (cc e)
-heap_was cut zero a (on_heap b ∷ bs) e = e
-heap_was cut zero a (on_stack b ∷ bs) e = by (nat_le cut b) e
-  where
-    by : (t : Bool) → Some (if t then on_stack b else gone) ≡ Some (on_heap a) → Some (on_stack b) ≡ Some (on_heap a)
-    by true f = absurd (cc f)
-    by false f = absurd (cc f)
-heap_was cut zero a (gone ∷ bs) e = e
-heap_was cut (suc i) a (b ∷ bs) e = heap_was cut i a bs e
-
--- a binding that stands is behind the address
-pub stack_high : (cut i a : ℕ) (bs : List BoxPlace) → slice_get (boxes_cut cut bs) i ≡ Some (on_stack a) → cut ≤ a
-stack_high cut i a [] e = absurd (cc e)
-stack_high cut zero a (on_heap b ∷ bs) e = absurd (cc e)
-stack_high cut zero a (on_stack b ∷ bs) e = by (nat_le cut b) refl e
-  where
-    by : (t : Bool) → nat_le cut b ≡ t → Some (if t then on_stack b else gone) ≡ Some (on_stack a) → cut ≤ a
-    by true same f =
-        let is : b ≡ a = cc f in
-        let low : cut ≤ b = leb-true cut b same in
-        omega (arith, is, low)
-    by false same f = absurd (cc f)
-stack_high cut zero a (gone ∷ bs) e = absurd (cc e)
-stack_high cut (suc i) a (b ∷ bs) e = stack_high cut i a bs e
-
--- and one that is behind it stands
-pub stack_kept : (cut i a : ℕ) (bs : List BoxPlace) → slice_get bs i ≡ Some (on_stack a) → cut ≤ a → slice_get (boxes_cut cut bs) i ≡ Some (on_stack a)
-stack_kept cut i a [] e h = absurd (cc e)
-stack_kept cut zero a (b ∷ bs) e h =
-    let same : b ≡ on_stack a = cc e in
-    ap (λ c. Some (box_cut cut c)) same ∙ ap (λ t. Some (if t then on_stack a else gone)) (le-leb cut a h)
-stack_kept cut (suc i) a (b ∷ bs) e h = stack_kept cut i a bs e h
 
 -- ---- stores
 
@@ -135,7 +95,7 @@ module _ (setting : Setting) {w : World} {z : FlatState} {y : MidState} {b : Are
   box_was : (i : ℕ) (p : BoxPlace) → slice_get (boxes_cut cut w.boxes) i ≡ Some p → BoxWas w y.arena y'.arena i p
   box_was i (on_heap x) f = heap_was cut i x w.boxes f
   box_was i (on_stack x) f =
-      let high = stack_high cut i x w.boxes f in
+      let high = stack_above cut i x w.boxes f in
       ((later_cut cut w).none_new i x f, changes.stack x (omega (arith, high, h.before)) (omega (arith, high, h.after, after)))
   box_was i gone f = tt
 
@@ -165,7 +125,7 @@ module _ (setting : Setting) {w : World} {z : FlatState} {y : MidState} {b : Are
     things = things_go_on setting made t goes_on;
     stack = record {
       words = λ x low high plain. changes.stack x low high;
-      bindings = λ i x f low high. stack_kept cut i x w.boxes f (h.least x low (omega (arith, high, after)));
+      bindings = λ i x f low high. stack_stays cut i x w.boxes f (h.least x low (omega (arith, high, after)));
     };
     end = λ n f. word_below end_address (omega arith) (omega (arith, below_heap)) ∙ f;
     more_exits = e.more;

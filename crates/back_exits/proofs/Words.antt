@@ -25,13 +25,14 @@ use Rattle.back_combining.specs.Starts.{Start}
 use Rattle.back_combining.specs.Stores.{stores}
 use Rattle.back_combining.proofs.Straight.{things_units}
 use Rattle.back_combining.proofs.Windows.{here, stored_elsewhere}
+use Rattle.back_objects.proofs.Boxes.{stack_above}
 use Rattle.back_exits.specs.Going.{world_with, exits_counted}
 use Rattle.back_exits.specs.Inside.{around_at, arena_inside, address_inside, record_inside, LaidAt}
 use Rattle.back_exits.specs.RecordSteps.{record_registers, ControlSays, ControlLent, RecordLent}
 use Rattle.back_exits.specs.Touching.{Touched, touched, ExitsMade}
 use Rattle.back_exits.proofs.Puts.{Put, pairs, are_puts, or_before, last_control, last_record, puts_touch, control_stands, record_stands}
 use Rattle.back_exits.proofs.Steps.{laid_from, laid_to, laid_low, laid_aligned, record_lent, record_there, same_front}
-use Rattle.back_exits.proofs.Touching.{world_touched, stored_blocks, stored_heap, stack_high, touches_aligned, touches_beside}
+use Rattle.back_exits.proofs.Touching.{world_touched, stored_blocks, stored_heap, touches_aligned, touches_beside}
 
 -- control words are lent, wherever the words of the code's own stand
 module _ (setting : Setting) {b : Arena} (spot : SpotStands b (control_spot setting)) where
@@ -240,7 +241,7 @@ module _ (setting : Setting) (a : Start setting) (placed : IsPlaced setting) (ro
         stack = charge.stack;
         frame = charge.frame;
         captured = charge.captured;
-        bindings = λ i x e. stack_high (stack_from a.y.arena) i x a.w.boxes e;
+        bindings = λ i x e. stack_above (stack_from a.y.arena) i x a.w.boxes e;
         words = λ x low.
             let t = to in
             let up = above in

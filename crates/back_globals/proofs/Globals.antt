@@ -52,7 +52,7 @@ use Rattle.back_values.specs.Boxes.{Clean}
 use Rattle.back_globals.specs.Globals.{FailsHere, LawOfGlobals, LawOfSettingGlobals, LawOfDefinitions}
 use Rattle.back_values.proofs.Cleaning.{is_clean, reached_clean}
 use Rattle.back_values.proofs.Far.{Stored, load_from_runs, store_to_runs, charged_twice}
-use Rattle.back_globals.proofs.NewGlobals.{global_lent, global_low, world_global, around_global}
+use Rattle.back_globals.proofs.NewGlobals.{new_global}
 use Rattle.back_values.proofs.SetVariables.{given_where}
 use Rattle.back_globals.proofs.Signals.{signal_grows}
 
@@ -213,13 +213,13 @@ module _ (setting : Setting) (placed : IsPlaced setting) (s : FormScope) (d m si
       (with_arena (with_word (global_address setting.at name) word q.y.arena) (mid_charged l.cost q.y))
   reached_stored q clean v word t few is ss l =
       let within = l.within in
-      let world = world_global setting placed q.begins.call.things clean name has v word l.cost is in
-      let back = around_global setting placed q.begins.call.things clean name has v word l.cost is {credit = 24} (omega (arith, within)) in
+      let new = new_global setting placed q.begins.call.things clean name has v word l.cost is in
+      let back = new.around 24 (omega (arith, within)) in
       record {
         kept = record {
-          world = world;
+          world = new.world;
           activation =
-              activation_later setting {d = d} {y = q.y} (later_same q.w) (same_world setting world back) refl (λ n cs k. k)
+              activation_later setting {d = d} {y = q.y} (later_same q.w) (same_world setting new.world back) refl (λ n cs k. k)
               (λ i low. ap word_in (l.others i (λ e. omega (arith, e, low, few)))) q.begins.scope q.begins.activation;
           registers = record { count = l.count; same = λ i low free. l.others i (λ e. omega (arith, e, low, few)) };
         };
@@ -233,9 +233,9 @@ module _ (setting : Setting) (placed : IsPlaced setting) (s : FormScope) (d m si
       (q : Point setting s d m size) → Clean q.w q.y → (v : Value) (word t : ℕ) → d < t → t < size → register d q.regs ≡ Some word → word_of q.w.places v ≡ Some word
       → Stored c (store_to d t (global_address setting.at name)) t q.regs q.y (global_address setting.at name) word
   stored q clean v word t few there here is =
-      let low = global_low setting placed q.begins.call.things clean name has v word 0 is in
-      store_to_runs c q.regs q.y d t (global_address setting.at name) word (omega (arith, there, q.count)) (λ e. omega (arith, e, few)) here (omega (arith, low))
-      (global_lent setting placed q.begins.call.things clean name has v word 0 is)
+      let new = new_global setting placed q.begins.call.things clean name has v word 0 is in
+      let low = new.low in
+      store_to_runs c q.regs q.y d t (global_address setting.at name) word (omega (arith, there, q.count)) (λ e. omega (arith, e, few)) here (omega (arith, low)) new.lent
 
   store_there :
       (q : Point setting s d m size) (v : Value) (word : ℕ) → d + 1 < size → register d q.regs ≡ Some word → word_of q.w.places v ≡ Some word

@@ -1,3 +1,4 @@
 pub mod Signals
+pub mod VariableWords
 pub mod NewGlobals
 pub mod Globals

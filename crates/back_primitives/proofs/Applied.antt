@@ -28,8 +28,8 @@ use Rattle.back_combining.proofs.Choices.{jumps}
 use Rattle.back_combining.proofs.Parts.{single_step}
 use Rattle.back_combining.proofs.Starts.{start_after, reached_set, behind}
 use Rattle.back_combining.proofs.Straight.{set_beside, registers_set}
+use Rattle.back_objects.proofs.Standing.{StandsBehind, world_behind, reached_behind}
 use Rattle.back_primitives.proofs.Called.{called_returns, called_wanting}
-use Rattle.back_primitives.proofs.Standing.{StandsBehind, world_behind, reached_behind}
 
 -- all words of the meaning were asked for: whatever code does
 pub full_ends :

@@ -1,5 +1,3 @@
-pub mod Boxes
-pub mod Standing
 pub mod Answers
 pub mod Turns
 pub mod Costs

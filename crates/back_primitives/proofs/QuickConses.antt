@@ -34,13 +34,13 @@ use Rattle.back_relation.specs.Ends.{done, stopped}
 use Rattle.back_relation.specs.Forms.{code_at}
 use Rattle.back_combining.specs.Starts.{Start, EndsAt}
 use Rattle.back_combining.proofs.Growth.{same_prefix}
+use Rattle.back_objects.proofs.Standing.{StandsBehind, world_behind, reached_behind}
 use Rattle.back_primitives.specs.Applying.{Applies}
 use Rattle.back_primitives.proofs.Answered.{left_behind, charged_by, room_ended}
 use Rattle.back_primitives.proofs.Applied.{full_ends}
 use Rattle.back_primitives.proofs.Behind.{object_stands, request_granted, request_refused}
 use Rattle.back_primitives.proofs.Choosing.{Beside, beside_none, beside_set, register_kept}
 use Rattle.back_primitives.proofs.Quick.{meant}
-use Rattle.back_primitives.proofs.Standing.{StandsBehind, world_behind, reached_behind}
 
 module _ (setting : Setting) (k : ℕ) (a : Start setting) (v1 v2 : Value) (w1 w2 : ℕ) (g : Applies setting k a Cons (v1 ∷ v2 ∷ []) (w1 ∷ w2 ∷ []))
     (there : a.d + 2 + 1 < length a.regs) where

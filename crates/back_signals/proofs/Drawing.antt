@@ -32,9 +32,9 @@ use Rattle.lang_meaning.specs.State.{DynamicContext}
 use Rattle.back_relation.specs.Ends.{WorldKept, Around}
 use Rattle.back_combining.specs.Cuts.{boxes_cut}
 use Rattle.back_combining.proofs.Cuts.{later_cut}
+use Rattle.back_objects.proofs.Boxes.{cut_count, heap_was, stack_above, stack_stays}
 use Rattle.back_exits.specs.Going.{BoxWas, GoesOn, world_with}
 use Rattle.back_exits.proofs.Moving.{things_go_on}
-use Rattle.back_signals.proofs.Boxes.{cut_count, heap_was, stack_above, stack_stays}
 
 -- serial numbers have ended
 pub draw_ends :

@@ -1,5 +1,3 @@
-pub mod Boxes
-pub mod Standing
 pub mod Marking
 pub mod Drawing
 pub mod Unhandled

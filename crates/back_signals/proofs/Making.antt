@@ -40,13 +40,13 @@ use Rattle.back_relation.specs.Around.{RoomFor, CallBegins, SiteStored}
 use Rattle.back_relation.specs.Ends.{WorldKept, Around, RoomEnded, CallEnds, full_there, stopped}
 use Rattle.back_relation.specs.Forms.{context_at, code_at}
 use Rattle.back_combining.proofs.Growth.{grown_later}
+use Rattle.back_objects.proofs.Standing.{world_behind, world_kept_behind, control_behind}
 use Rattle.back_transfers.specs.Within.{IsBuiltInCondition}
 use Rattle.back_transfers.proofs.Entries.{UsedAt, routine_used}
 use Rattle.back_transfers.proofs.Leaving.{signal_later, begins_charged}
 use Rattle.back_transfers.proofs.Points.{point_begins}
 use Rattle.back_transfers.proofs.Returning.{HoldAll, call_behind, returning_comes}
 use Rattle.back_signals.specs.Within.{raise_words, RaisesWithin}
-use Rattle.back_signals.proofs.Standing.{world_behind, world_kept_behind, control_behind}
 use Rattle.back_signals.proofs.Conditions.{is_class, state_made, places_made, meaning_made, made_behind, pointer_is, made_charged, word_made_before}
 
 pub raise_used : (setting : Setting) → IsPlaced setting → UsedAt setting.procedures (raise_routine setting.at) (procedure_with Turn 2 (raise_code setting.at))

@@ -41,7 +41,7 @@ use Rattle.mid_arena.specs.Answers.{KeepsWords}
 use Rattle.back_relation.specs.Setting.{Setting, control_spot}
 use Rattle.back_relation.specs.Worlds.{World}
 use Rattle.back_relation.specs.Things.{Things, WithinLimit}
-use Rattle.back_signals.proofs.Standing.{StandsBehind}
+use Rattle.back_objects.proofs.Standing.{StandsBehind}
 
 -- a condition is an instance
 pub record ConditionIs (program : ProgramRows) (z : meaning.State) (c : Value) : Type 0 where

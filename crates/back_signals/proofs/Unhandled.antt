@@ -44,6 +44,7 @@ use Rattle.back_combining.proofs.Growth.{grown_later, same_prefix}
 use Rattle.back_combining.proofs.Parts.{IsLast}
 use Rattle.back_combining.proofs.Windows.{draw_in}
 use Rattle.back_combining.proofs.Worlds.{word_later}
+use Rattle.back_objects.proofs.Standing.{world_behind, world_kept_behind, control_behind}
 use Rattle.back_transfers.specs.Within.{transfer_words}
 use Rattle.back_transfers.proofs.Frames.{memory_holds}
 use Rattle.back_transfers.proofs.Entries.{UsedAt, routine_used, routine_registers, laid_frame, routine_enters}
@@ -52,7 +53,6 @@ use Rattle.back_transfers.proofs.Returning.{HoldAll, call_behind, first_alone}
 use Rattle.back_transfers.proofs.Points.{Moved, point_begins, moved_stored, stored_state, word_stored, store_lent}
 use Rattle.back_transfers.proofs.Leaving.{tasks_below, transfer_used, returning_last, transfer_last}
 use Rattle.back_signals.specs.Law.{LawOfUnhandled}
-use Rattle.back_signals.proofs.Standing.{world_behind, world_kept_behind, control_behind}
 use Rattle.back_signals.proofs.Marking.{ConditionIs, condition_of, z_marked, marked_is, marked_state, marked_behind, mark_runs, count, control_kept}
 use Rattle.back_signals.proofs.Drawing.{draw_ends, drawn_world, drawn_state, drawn_kept, drawn_around, drawn_site}
 

@@ -1,1 +1,5 @@
+pub mod Filling
+pub mod Marking
+pub mod Numbering
 pub mod Passing
+pub mod Tabling

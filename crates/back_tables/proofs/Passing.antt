@@ -1,5 +1,5 @@
 -- Lists in which nothing that was passed asks.
-use Rattle.std.proofs.Common.{◌≡◌, ℕ, zero, suc, ◌+◌, ◌≤◌, Bool, true, false, ◌||◌, List, [], ◌∷◌, Some, length, drop, slice_get, refl, ap, sym, ◌∙◌, add-one}
+use Rattle.std.proofs.Common.{◌≡◌, ℕ, suc, ◌+◌, ◌≤◌, Bool, true, false, ◌||◌, List, [], ◌∷◌, Some, length, drop, slice_get, refl, ap, sym, ◌∙◌, add-one}
 use Rattle.flat_language.specs.declared.flat_core.FlatClause.{FlatClause}
 use Rattle.flat_language.specs.model.View.{clauses_of, maybe_form}
 use Rattle.back_lowering.specs.Sites.{asks_site, body_asks, clauses_ask}
@@ -26,7 +26,7 @@ module _ {X : Type 0} (ask : List X → Bool) (one : X → Bool) (next : (x : X)
 abbrev pub clause_asks : FlatClause → Bool
 clause_asks x = asks_site x.test || body_asks (maybe_form x.body)
 
-either_or_rest : (a b c : Bool) → (a || (b || c)) ≡ ((a || b) || c)
+pub either_or_rest : (a b c : Bool) → (a || (b || c)) ≡ ((a || b) || c)
 either_or_rest true b c = refl
 either_or_rest false b c = refl
 

@@ -2,4 +2,10 @@
 #![tactic(auto)]
 
 mod asking;
+mod bodies;
+mod methods;
+mod rows;
 pub mod sites;
+mod tables;
+
+pub use tables::tables_of;

@@ -1,8 +1,6 @@
 -- What stands where the frame of a routine was laid, a control word of transfers stored, or blocks ended by a cut.
-use Rattle.std.proofs.Common.{◌≡◌, ℕ, zero, suc, ◌+◌, ◌*◌, ◌<◌, ◌≤◌, Bool, true, false, List, [], ◌∷◌, ◌++◌, length, Some, refl, ap, ◌∙◌, arith}
-use Rattle.std.specs.Prelude.{slice_get, ◌==◌, ◌%◌, ◌&&◌, nat_le, if◌then◌else◌}
-use Rattle.std.proofs.lemmas.Bool.Decides.{nat_tests}
-use Rattle.std.proofs.lemmas.Bool.{le-leb}
+use Rattle.std.proofs.Common.{◌≡◌, ℕ, ◌+◌, ◌*◌, ◌<◌, ◌≤◌, Bool, true, false, List, [], ◌∷◌, ◌++◌, length, Some, ap, ◌∙◌, arith}
+use Rattle.std.specs.Prelude.{slice_get, ◌==◌, ◌%◌, ◌&&◌, if◌then◌else◌}
 use Rattle.flat_language.specs.FlatState.{FlatState}
 use Rattle.mid_code.specs.Arena.{Arena, Block, is_open, stack_from, lent_from, blocks_from, word_at}
 use Rattle.mid_code.specs.State.{MidState}
@@ -20,35 +18,11 @@ use Rattle.back_relation.specs.Worlds.{World, BoxPlace, on_heap, on_stack, gone}
 use Rattle.back_relation.specs.StackWords.{StackKept, HasWordAt}
 use Rattle.back_relation.specs.Things.{Things}
 use Rattle.back_relation.specs.Ends.{WorldKept, ControlBack}
-use Rattle.back_combining.specs.Cuts.{box_cut, boxes_cut, world_cut}
+use Rattle.back_combining.specs.Cuts.{boxes_cut, world_cut}
 use Rattle.back_combining.proofs.Cuts.{later_cut}
+use Rattle.back_objects.proofs.Boxes.{cut_count, heap_was, stack_above, stack_stays}
 use Rattle.back_exits.specs.Going.{BoxWas, GoesOn}
 use Rattle.back_exits.proofs.Moving.{things_go_on}
-
--- ---- boxes behind a cut
-
-cut_count : (from : ℕ) (bs : List BoxPlace) → length (boxes_cut from bs) ≡ length bs
-cut_count from [] = refl
-cut_count from (b ∷ bs) = let rest = cut_count from bs in omega (arith, rest)
-
--- what is in a box behind a cut was there before
-record CutFrom (from : ℕ) (b : BoxPlace) (bs : List BoxPlace) (i : ℕ) : Type 0 where
-  pub was : BoxPlace
-  pub there : slice_get bs i ≡ Some was
-  pub same : box_cut from was ≡ b
-
-cut_was : (from i : ℕ) (bs : List BoxPlace) (b : BoxPlace) → slice_get (boxes_cut from bs) i ≡ Some b → CutFrom from b bs i
-cut_was from i [] b e = absurd (cc e)
-cut_was from zero (c ∷ bs) b e = let same : box_cut from c ≡ b = cc e in record { was = c; there = refl; same = same }
-cut_was from (suc i) (c ∷ bs) b e = let r = cut_was from i bs b e in record { was = r.was; there = r.there; same = r.same }
-
--- a binding that stands is behind the cut
-stack_was : (from x a : ℕ) → (if nat_le from a then on_stack a else gone) ≡ on_stack x → (a ≡ x) × (from ≤ x)
-stack_was from x a e = by (nat_le from a) refl e
-  where
-    by : (b : Bool) → nat_le from a ≡ b → (if b then on_stack a else gone) ≡ on_stack x → (a ≡ x) × (from ≤ x)
-    by true h e = let same : a ≡ x = cc e in let low : from ≤ a = grind (arith, nat_tests) in (same, omega (arith, same, low))
-    by false h e = absurd (cc e)
 
 -- ---- words
 
@@ -118,24 +92,11 @@ module _ (setting : Setting) (placed : IsPlaced setting) {skip : ℕ} {w : World
     w' = world_cut from w
 
     box_was : (i : ℕ) (b : BoxPlace) → slice_get (boxes_cut from w.boxes) i ≡ Some b → BoxWas w y.arena y'.arena i b
-    box_was i b e = let c = cut_was from i w.boxes b e in by c.was b c.there c.same
-      where
-        by : (was b : BoxPlace) → slice_get w.boxes i ≡ Some was → box_cut from was ≡ b → BoxWas w y.arena y'.arena i b
-        by (on_heap x) (on_heap x') there same = let e : x ≡ x' = cc same in there ∙ ap (λ x. Some (on_heap x)) e
-        by (on_heap x) (on_stack x') there same = absurd (cc same)
-        by (on_heap x) gone there same = tt
-        by (on_stack x) (on_heap x') there same = absurd (no_heap (nat_le from x) same)
-          where
-            no_heap : (t : Bool) → (if t then on_stack x else gone) ≡ on_heap x' → ⊥
-            no_heap true e = cc e
-            no_heap false e = cc e
-        by (on_stack x) (on_stack x') there same =
-            let s = stack_was from x' x same in
-            (there ∙ ap (λ x. Some (on_stack x)) s.0, g.changes.stack x' (omega (arith, s.1, above)) (omega (arith, s.1, above')))
-        by (on_stack x) gone there same = tt
-        by gone (on_heap x') there same = absurd (cc same)
-        by gone (on_stack x') there same = absurd (cc same)
-        by gone gone there same = tt
+    box_was i (on_heap x) e = heap_was from i x w.boxes e
+    box_was i (on_stack x) e =
+        let low = stack_above from i x w.boxes e in
+        ((later_cut from w).none_new i x e, g.changes.stack x (omega (arith, low, above)) (omega (arith, low, above')))
+    box_was i gone e = tt
 
     goes_on : GoesOn setting w (boxes_cut from w.boxes) w.exit_forms z.state.exits y y'
     goes_on = record {
@@ -158,16 +119,8 @@ module _ (setting : Setting) (placed : IsPlaced setting) {skip : ℕ} {w : World
     stack_kept : StackKept w w' y y'
     stack_kept = record {
       words = λ x low high plain. g.changes.stack x low high;
-      bindings = λ i a e low high. bindings_stand i a e (least a low high);
+      bindings = λ i a e low high. stack_stays from i a w.boxes e (least a low high);
     }
-      where
-        bindings_stand : (i a : ℕ) → slice_get w.boxes i ≡ Some (on_stack a) → from ≤ a → slice_get (boxes_cut from w.boxes) i ≡ Some (on_stack a)
-        bindings_stand i a e high = found i w.boxes e ∙ ap (λ t. Some (if t then on_stack a else gone)) (le-leb _ _ high)
-          where
-            found : (i : ℕ) (bs : List BoxPlace) → slice_get bs i ≡ Some (on_stack a) → slice_get (boxes_cut from bs) i ≡ Some (if nat_le from a then on_stack a else gone)
-            found i [] e = absurd (cc e)
-            found zero (b ∷ bs) e = let same : b ≡ on_stack a = cc e in ap (λ b. Some (box_cut from b)) same
-            found (suc i) (b ∷ bs) e = found i bs e
 
     pub world_touched : WorldKept setting w w' z z y y'
     world_touched = record {

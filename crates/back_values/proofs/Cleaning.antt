@@ -1,8 +1,6 @@
 -- Variables whose place is in no block of the stack that stands are nowhere: no result has to say more of them.
-use Rattle.std.proofs.Common.{◌≡◌, ℕ, zero, suc, ◌≤◌, Bool, true, false, List, [], ◌∷◌, length, Some, refl, ap, ◌∙◌, arith}
-use Rattle.std.specs.Prelude.{slice_get, nat_le, if◌then◌else◌}
-use Rattle.std.proofs.lemmas.Bool.Decides.{nat_tests}
-use Rattle.std.proofs.lemmas.Bool.{le-leb}
+use Rattle.std.proofs.Common.{◌≡◌, ℕ, Some, refl, ◌∙◌, arith}
+use Rattle.std.specs.Prelude.{slice_get}
 use Rattle.flat_language.specs.FlatState.{FlatState}
 use Rattle.mid_code.specs.Arena.{stack_from}
 use Rattle.mid_code.specs.State.{MidState}
@@ -11,39 +9,14 @@ use Rattle.back_relation.specs.Setting.{Setting}
 use Rattle.back_relation.specs.Worlds.{World, BoxPlace, on_heap, on_stack, gone, Later}
 use Rattle.back_relation.specs.StackWords.{StackKept}
 use Rattle.back_relation.specs.Things.{Things, BoxStands}
-use Rattle.back_combining.specs.Cuts.{box_cut, boxes_cut, world_cut}
+use Rattle.back_combining.specs.Cuts.{world_cut}
 use Rattle.back_combining.specs.Starts.{Start, ReachedFrom}
 use Rattle.back_combining.proofs.Activations.{activation_later}
 use Rattle.back_combining.proofs.Cuts.{later_cut}
 use Rattle.back_combining.proofs.Starts.{start_after}
+use Rattle.back_objects.proofs.Boxes.{cut_count, heap_was, stack_above, stack_stays}
 use Rattle.back_values.specs.Boxes.{Clean}
 use Rattle.back_values.proofs.Moved.{literals_move, method_moves, functions_move, box_moves}
-
-cut_count : (from : ℕ) (bs : List BoxPlace) → length (boxes_cut from bs) ≡ length bs
-cut_count from [] = refl
-cut_count from (b ∷ bs) = ap (λ n. suc n) (cut_count from bs)
-
--- what is left of a place behind a cut
-left_places : (from i : ℕ) (bs : List BoxPlace) (c : BoxPlace) → slice_get (boxes_cut from bs) i ≡ Some c → (b : BoxPlace) × (slice_get bs i ≡ Some b) × (c ≡ box_cut from b)
-left_places from i [] c e = absurd (cc e)
-left_places from zero (b ∷ bs) c e = (b, refl, cc e)
-left_places from (suc i) (b ∷ bs) c e = left_places from i bs c e
-
-stack_above : (from i a : ℕ) (bs : List BoxPlace) → slice_get (boxes_cut from bs) i ≡ Some (on_stack a) → from ≤ a
-stack_above from i a [] e = absurd (cc e)
-stack_above from zero a (on_heap b ∷ bs) e = absurd (cc e)
-stack_above from zero a (on_stack b ∷ bs) e = by (nat_le from b) refl e
-  where
-    by : (t : Bool) → nat_le from b ≡ t → Some (if t then on_stack b else gone) ≡ Some (on_stack a) → from ≤ a
-    by true g f = let same : b ≡ a = cc f in grind (arith, nat_tests)
-    by false g f = absurd (cc f)
-stack_above from zero a (gone ∷ bs) e = absurd (cc e)
-stack_above from (suc i) a (b ∷ bs) e = stack_above from i a bs e
-
-found : (from i : ℕ) (bs : List BoxPlace) (b : BoxPlace) → slice_get bs i ≡ Some b → slice_get (boxes_cut from bs) i ≡ Some (box_cut from b)
-found from i [] b e = absurd (cc e)
-found from zero (c ∷ bs) b e = let same : c ≡ b = cc e in ap (λ x. Some (box_cut from x)) same
-found from (suc i) (c ∷ bs) b e = found from i bs b e
 
 module _ (setting : Setting) {w : World} {z : FlatState} {y : MidState} (t : Things setting w z y) where
   abbrev pub cleaned : World
@@ -55,21 +28,9 @@ module _ (setting : Setting) {w : World} {z : FlatState} {y : MidState} (t : Thi
   abbrev All : Owner → Type 0
   All p = Unit {0}
 
-  heap_was : (i a : ℕ) → slice_get cleaned.boxes i ≡ Some (on_heap a) → slice_get w.boxes i ≡ Some (on_heap a)
-  heap_was i a e = let old = left_places (stack_from y.arena) i w.boxes (on_heap a) e in by old.0 old.1 old.2
-    where
-      by : (b : BoxPlace) → slice_get w.boxes i ≡ Some b → on_heap a ≡ box_cut (stack_from y.arena) b → slice_get w.boxes i ≡ Some (on_heap a)
-      by (on_heap x) f g = let same : x ≡ a = cc g in f ∙ ap (λ n. Some (on_heap n)) same
-      by (on_stack x) f g = absurd (choice (nat_le (stack_from y.arena) x) g)
-        where
-          choice : (t : Bool) → on_heap a ≡ (if t then on_stack x else gone) → ⊥
-          choice true h = absurd (cc h)
-          choice false h = absurd (cc h)
-      by gone f g = absurd (cc g)
-
   box_stands : (i : ℕ) (c : BoxPlace) → slice_get cleaned.boxes i ≡ Some c → BoxStands setting cleaned z.state y.arena i c
   box_stands i (on_heap a) e =
-      box_moves setting y t (later_cut (stack_from y.arena) w) All (λ p s stays f x low high. refl) i (on_heap a) z.state refl (λ k. tt) (t.boxes i (on_heap a) (heap_was i a e))
+      box_moves setting y t (later_cut (stack_from y.arena) w) All (λ p s stays f x low high. refl) i (on_heap a) z.state refl (λ k. tt) (t.boxes i (on_heap a) (heap_was (stack_from y.arena) i a w.boxes e))
   box_stands i (on_stack a) e =
       box_moves setting y t (later_cut (stack_from y.arena) w) All (λ p s stays f x low high. refl) i (on_stack a) z.state refl refl
       (t.boxes i (on_stack a) ((later_cut (stack_from y.arena) w).none_new i a e))
@@ -90,7 +51,7 @@ module _ (setting : Setting) {w : World} {z : FlatState} {y : MidState} (t : Thi
         symbols = t.symbols;
         box_count = cut_count (stack_from y.arena) w.boxes ∙ t.box_count;
         boxes_apart = record {
-          heap = λ i j a e f. t.boxes_apart.heap i j a (heap_was i a e) (heap_was j a f);
+          heap = λ i j a e f. t.boxes_apart.heap i j a (heap_was (stack_from y.arena) i a w.boxes e) (heap_was (stack_from y.arena) j a w.boxes f);
           stack = λ i j a e f. t.boxes_apart.stack i j a (l.none_new i a e) (l.none_new j a f);
         };
         boxes = box_stands;
@@ -104,7 +65,7 @@ module _ (setting : Setting) {w : World} {z : FlatState} {y : MidState} (t : Thi
   pub stack_cleaned : StackKept w cleaned y y
   stack_cleaned = record {
     words = λ x low high plain. refl;
-    bindings = λ i a e low high. found (stack_from y.arena) i w.boxes (on_stack a) e ∙ ap (λ t. Some (if t then on_stack a else gone)) (le-leb _ _ high);
+    bindings = λ i a e low high. stack_stays (stack_from y.arena) i a w.boxes e high;
   }
 
 module _ (setting : Setting) where

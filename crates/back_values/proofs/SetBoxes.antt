@@ -1,11 +1,12 @@
 -- The value in a box is another one.
 use Rattle.std.proofs.Common.{◌≡◌, ℕ, zero, suc, ◌+◌, ◌*◌, ◌/◌, ◌<◌, ◌≤◌, Bool, true, false, List, [], ◌∷◌, length, Some, refl, sym, ap, ◌∙◌, subst, arith}
-use Rattle.std.specs.Prelude.{slice_get, slice_set, slice_index_or, ◌==◌}
+use Rattle.std.specs.Prelude.{slice_get, ◌==◌}
 use Rattle.std.proofs.lemmas.Bool.{ne_eqb}
 use Rattle.std.proofs.lemmas.Bool.Decides.{nat_tests}
+use Rattle.std.proofs.lemmas.List.{get_or-set_same, get_or-set_other}
 use Rattle.std.proofs.lemmas.Option.{slice_get_within}
 use Rattle.std.proofs.Math.ListN.{length-set}
-use Rattle.lang_meaning.specs.Lookup.{set_at}
+use Rattle.lang_meaning.specs.Lookup.{set_at, value_at}
 use Rattle.lang_meaning.specs.Values.{Value, nil}
 use Rattle.lang_meaning.specs.State.{Limit, words, unlimited}
 use Rattle.flat_language.specs.FlatNodes.{tables}
@@ -17,7 +18,7 @@ use Rattle.mid_arena.specs.Growing.{Changes}
 use Rattle.mid_arena.specs.Law.{KeepsOthers}
 use Rattle.mid_arena.specs.Places.{Spot, Owner, of_other, same_owner, spot_of, word_of}
 use Rattle.mid_arena.specs.Represents.{Represents}
-use Rattle.mid_arena.specs.Standing.{SpotStands}
+use Rattle.mid_arena.specs.Standing.{SpotStands, SameWords}
 use Rattle.mid_arena.proofs.Growing.{spot_below}
 use Rattle.mid_arena.proofs.Memory.{in_spot_lent, in_spot_there, word_here, word_elsewhere}
 use Rattle.mid_arena.proofs.OwnWords.{changes_in_spot, own_words}
@@ -32,18 +33,6 @@ use Rattle.back_combining.proofs.Worlds.{later_same}
 use Rattle.back_values.specs.Boxes.{Clean}
 use Rattle.back_values.proofs.Moved.{KeepsBox, box_moves, method_moves, functions_move, further_moves, word_moves, serials_move, globals_move, dynamics_move}
 
-index_here : {X : Type 0} (xs : List X) (i : ℕ) (x e : X) → i < length xs → slice_index_or (slice_set xs i x) i e ≡ x
-index_here [] i x e h = absurd (omega arith)
-index_here (y ∷ xs) zero x e h = refl
-index_here (y ∷ xs) (suc i) x e h = index_here xs i x e (omega arith)
-
-index_elsewhere : {X : Type 0} (xs : List X) (i j : ℕ) (x e : X) → (i ≡ j → ⊥) → slice_index_or (slice_set xs i x) j e ≡ slice_index_or xs j e
-index_elsewhere [] i j x e h = refl
-index_elsewhere (y ∷ xs) zero zero x e h = absurd (h refl)
-index_elsewhere (y ∷ xs) zero (suc j) x e h = refl
-index_elsewhere (y ∷ xs) (suc i) zero x e h = refl
-index_elsewhere (y ∷ xs) (suc i) (suc j) x e h = index_elsewhere xs i j x e (λ same. h (ap (λ n. suc n) same))
-
 -- spots that code took are none of the first ones
 pub late_two : (ws : List ℕ) (n : ℕ) → spots_at_start ws ≤ n → 2 ≤ n
 late_two [] n h = h
@@ -56,6 +45,28 @@ late_three (w ∷ ws) i word n e h = h
 one_behind : (n : ℕ) → 2 ≤ n → (m : ℕ) × (n ≡ suc m)
 one_behind zero h = absurd (omega arith)
 one_behind (suc m) h = (m, refl)
+
+-- one variable has another value, and the places of all others are as they were
+module _ (setting : Setting) {w : World} {z : FlatState} {y : MidState} (y' : MidState) (t : Things setting w z y) (Stays : Owner → Type 0)
+    (same : (p : Owner) (s : Spot) → Stays p → spot_of w.places p ≡ Some s → SameWords y.arena y'.arena s) (i : ℕ) (place : BoxPlace) (box : slice_get w.boxes i ≡ Some place) (v : Value) where
+  few : i < length z.state.variables
+  few = omega (arith, t.box_count, slice_get_within w.boxes i place box)
+
+  pub boxes_stand :
+      (value_at (Some i) (set_at (Some i) v z.state) ≡ v → BoxStands setting w (set_at (Some i) v z.state) y'.arena i place)
+      → ((j : ℕ) (b : BoxPlace) → (i ≡ j → ⊥) → slice_get w.boxes j ≡ Some b → KeepsBox setting y' t (later_same w) Stays same b)
+      → (j : ℕ) (b : BoxPlace) → slice_get w.boxes j ≡ Some b → BoxStands setting w (set_at (Some i) v z.state) y'.arena j b
+  boxes_stand new keeps j b e = by (i == j) refl
+    where
+      by : (k : Bool) → (i == j) ≡ k → BoxStands setting w (set_at (Some i) v z.state) y'.arena j b
+      by true g =
+          let at : i ≡ j = grind (arith, nat_tests) in
+          let here : place ≡ b = cc (sym box ∙ ap (slice_get w.boxes) at ∙ e) in
+          subst (λ c. BoxStands setting w (set_at (Some i) v z.state) y'.arena j c) here
+          (subst (λ k. BoxStands setting w (set_at (Some i) v z.state) y'.arena k place) at (new (get_or-set_same z.state.variables i v nil few)))
+      by false g =
+          let other : i ≡ j → ⊥ = λ at. absurd (grind (arith, nat_tests)) in
+          box_moves setting y' t (later_same w) Stays same j b (set_at (Some i) v z.state) (get_or-set_other z.state.variables i j v nil (λ at. other (sym at))) (keeps j b other e) (t.boxes j b e)
 
 module _ (setting : Setting) (placed : IsPlaced setting) {w : World} {z : FlatState} {y : MidState} (t : Things setting w z y) (clean : Clean w y) (i x : ℕ) (box : BoxIs w i x)
     (v : Value) (word cost : ℕ) (is : word_of w.places v ≡ Some word) where
@@ -116,28 +127,18 @@ module _ (setting : Setting) (placed : IsPlaced setting) {w : World} {z : FlatSt
       elsewhere x' (λ at. omega (arith, at, low, below, t.represents.arena.room))
   keeps j gone other e = tt
 
-  few : i < length z.state.variables
-  few = omega (arith, t.box_count, slice_get_within w.boxes i (on_heap x) box)
-
   box_stands : (j : ℕ) (b : BoxPlace) → slice_get w.boxes j ≡ Some b → BoxStands setting w set_meant.state set_state.arena j b
-  box_stands j b e = by (i == j) refl
-    where
-      by : (k : Bool) → (i == j) ≡ k → BoxStands setting w set_meant.state set_state.arena j b
-      by true g =
-          let at : i ≡ j = grind (arith, nat_tests) in
-          let here : on_heap x ≡ b = cc (sym box ∙ ap (slice_get w.boxes) at ∙ e) in
-          subst (λ c. BoxStands setting w set_meant.state set_state.arena j c) here
-          (subst (λ k. BoxStands setting w set_meant.state set_state.arena k (on_heap x)) at (
-            record {
-              word = word;
-              of_value = ap (word_of w.places) (index_here z.state.variables i v nil few) ∙ is;
-              stands = word_here y.arena x word box_lent (in_spot_there x t.represents.arena stands (omega arith));
-            },
-            taken,
-          ))
-      by false g =
-          let other : i ≡ j → ⊥ = λ at. absurd (grind (arith, nat_tests)) in
-          box_moves setting set_state t (later_same w) Stays same j b set_meant.state (index_elsewhere z.state.variables i j v nil other) (keeps j b other e) (t.boxes j b e)
+  box_stands =
+      boxes_stand setting set_state t Stays same i (on_heap x) box v
+      (λ e. (
+        record {
+          word = word;
+          of_value = ap (word_of w.places) e ∙ is;
+          stands = word_here y.arena x word box_lent (in_spot_there x t.represents.arena stands (omega arith));
+        },
+        taken,
+      ))
+      keeps
 
   control_stays : Stays (of_other 1)
   control_stays = let late = late_two setting.further taken.number taken.late in other_number 1 (λ e. omega (arith, e, late))

@@ -1,6 +1,6 @@
 -- What was passed does not ask, and what asks is found.
-use Rattle.std.proofs.Common.{◌≡◌, ℕ, ◌<◌, Bool, true, false, ◌||◌, List, refl, ap, sym, ◌∙◌, arith}
-use Rattle.flat_language.specs.FlatForm.{FlatForm, body_size, clauses_size}
+use Rattle.std.proofs.Common.{Bool, ◌||◌, List, refl, ap, sym, ◌∙◌, arith}
+use Rattle.flat_language.specs.FlatForm.{FlatForm}
 use Rattle.flat_language.specs.declared.flat_core.FlatClause.{FlatClause}
 use Rattle.flat_language.specs.declared.flat_core.FlatBinding.{FlatBinding}
 use Rattle.flat_language.specs.declared.flat_core.FlatDynBinding.{FlatDynBinding}

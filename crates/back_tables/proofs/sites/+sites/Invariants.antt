@@ -1,5 +1,5 @@
 -- The sizes of the forms fall, and nothing that was passed asks.
-use Rattle.std.proofs.Common.{◌≡◌, ◌+◌, ◌*◌, drop}
+use Rattle.std.proofs.Common.{◌≡◌, drop}
 use Rattle.flat_language.specs.FlatForm.{form_size, forms_size, clauses_size, body_size, bindings_size, dynamics_size}
 use Rattle.flat_language.specs.model.View.{forms, clauses_of, bindings_of, dynamics_of, maybe_form}
 use Rattle.back_lowering.specs.Sites.{forms_ask, clauses_ask, bindings_ask, dynamics_ask}

@@ -30,7 +30,7 @@ use Rattle.back_combining.specs.Starts.{Start, ReachedFrom}
 use Rattle.back_combining.proofs.Activations.{SameBelow, made_by_later, activation_later}
 use Rattle.back_combining.proofs.Cuts.{later_cut}
 use Rattle.back_combining.proofs.Worlds.{word_later, Same}
-use Rattle.back_primitives.proofs.Boxes.{cut_count, heap_was, stack_above, stack_stays}
+use Rattle.back_objects.proofs.Boxes.{cut_count, heap_was, stack_above, stack_stays}
 
 -- Where functions stand, in the spots that code took for itself in the run and behind all objects, in the control words and those of variables but
 -- for the site's, and in the control records that stood and still stand, the words are as they were.

@@ -1,0 +1,4 @@
+pub mod Seeking
+pub mod Leaving
+pub mod Whole
+pub mod Called

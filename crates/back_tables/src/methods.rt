@@ -1,0 +1,64 @@
+// Which procedures are methods: the generic functions are gone through once, and each method of theirs is marked.
+
+ghost use Rattle.std.specs.Prelude.{◌≡◌, [], ◌∷◌, false, IfOk, map};
+ghost use Rattle.lang_meaning.specs.declared.program.MethodRow.{MethodRow};
+ghost use Rattle.back_tables.specs.Marked.{AreMarked, AreFlags, methods_of};
+
+use back_calls::given::FlagList;
+use base::NoMemory;
+use lang_meaning::{GenericRows, MethodRows, ProcedureId};
+use std::alloc::Global;
+
+// For each of so many procedures, whether it is a method.
+#[tactic(auto, using(crate::proofs::Marking::no_generic_yet))]
+pub(crate) fn method_flags(
+    alloc: Global,
+    count: usize,
+    generics: &GenericRows,
+) -> Result<FlagList, NoMemory>
+    ensures { IfOk result (λ flags. AreFlags count (methods_of generics.now) flags) }
+{
+    let mut flags = no_flags(alloc, count)?;
+    for at in (0..generics.len()).rev() {
+        let Some(generic) = generics.get(at) else {
+            unreachable!()
+        };
+        mark_methods(&mut flags, &generic.methods);
+    }
+    Ok(flags)
+}
+
+// So many flags, none of them set.
+#[tactic(auto, using(crate::proofs::Filling::none_there, crate::proofs::Filling::one_more, crate::proofs::Marking::none_set))]
+fn no_flags(alloc: Global, count: usize) -> Result<FlagList, NoMemory>
+    ensures { IfOk result (λ flags. AreFlags count [] flags) }
+{
+    let mut flags = FlagList::new(alloc);
+    for _number in 0..count {
+        flags.push(false)?;
+    }
+    Ok(flags)
+}
+
+// The procedures of these methods are marked.
+#[tactic(auto, using(crate::proofs::Marking::no_method_yet))]
+fn mark_methods(flags: &mut FlagList, methods: &MethodRows)
+    ensures { AreMarked flags.old (map (λ (m : MethodRow). m.procedure) methods.now) flags.new }
+{
+    for at in (0..methods.len()).rev() {
+        let Some(method) = methods.get(at) else {
+            unreachable!()
+        };
+        mark(flags, method.procedure);
+    }
+}
+
+// A procedure is marked, where there is one of that number.
+#[tactic(auto, using(crate::proofs::Marking::one_marked, crate::proofs::Marking::none_to_mark))]
+fn mark(flags: &mut FlagList, procedure: ProcedureId)
+    ensures { AreMarked flags.old (procedure ∷ []) flags.new }
+{
+    if procedure < flags.len() {
+        flags.replace(procedure, true);
+    }
+}

@@ -1,0 +1,5 @@
+pub mod Going
+pub mod Cleanups
+pub mod Exits
+pub mod Once
+pub mod Whole
