@@ -39,7 +39,7 @@ use Rattle.back_combining.specs.Starts.{FlatGrown}
 use Rattle.back_combining.proofs.Growth.{same_prefix, same_flat, both_flat}
 use Rattle.back_primitives.proofs.Answered.{left_behind, charged_by, room_ended}
 use Rattle.back_primitives.proofs.Behind.{object_stands, request_granted, request_refused}
-use Rattle.back_primitives.proofs.Standing.{StandsBehind, world_behind, world_kept_behind, control_behind}
+use Rattle.back_objects.proofs.Standing.{StandsBehind, world_behind, world_kept_behind, control_behind}
 use Rattle.back_values.proofs.BoxesMade.{steps_grow, full_printed}
 
 -- the steps of a cons of what is in d and in t, which comes to t
