@@ -1,0 +1,3 @@
+pub mod MainSteps
+pub mod Links
+pub mod Surroundings

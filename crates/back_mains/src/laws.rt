@@ -1,0 +1,29 @@
+// The laws of main forms, each as the contract of a function that does nothing.
+ghost use Rattle.back_mains.specs.MainSteps.{LawOfMainSteps};
+ghost use Rattle.back_mains.specs.Links.{LawOfWantedLinks, LawOfEmptyLinks};
+ghost use Rattle.back_mains.specs.Surroundings.{LawOfMainSurroundings, LawOfMainForms};
+
+/// What the steps around the form of a main form do.
+pub fn law_main_steps()
+    ensures { LawOfMainSteps }
+{}
+
+/// The record of the end has to have the word of its link, or nothing is said of what is around.
+pub fn law_wanted_links()
+    ensures { LawOfWantedLinks }
+{}
+
+/// The steps of a main form leave it without.
+pub fn law_empty_links()
+    ensures { LawOfEmptyLinks }
+{}
+
+/// What is around a main form where the record of the end stands.
+pub fn law_main_surroundings()
+    ensures { LawOfMainSurroundings }
+{}
+
+/// Where the form of a main form begins.
+pub fn law_main_forms()
+    ensures { LawOfMainForms }
+{}
