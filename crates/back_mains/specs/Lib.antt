@@ -1,3 +1,4 @@
 pub mod MainSteps
 pub mod Links
 pub mod Surroundings
+pub mod Beginning

@@ -1,4 +1,5 @@
 // The laws of main forms, each as the contract of a function that does nothing.
+ghost use Rattle.back_mains.specs.Beginning.{LawOfBeginnings};
 ghost use Rattle.back_mains.specs.MainSteps.{LawOfMainSteps};
 ghost use Rattle.back_mains.specs.Links.{LawOfWantedLinks, LawOfEmptyLinks};
 ghost use Rattle.back_mains.specs.Surroundings.{LawOfMainSurroundings, LawOfMainForms};
@@ -26,4 +27,9 @@ pub fn law_main_surroundings()
 /// Where the form of a main form begins.
 pub fn law_main_forms()
     ensures { LawOfMainForms }
+{}
+
+/// With the word of the link, the record of the end stands, and the form begins.
+pub fn law_beginnings()
+    ensures { LawOfBeginnings }
 {}
