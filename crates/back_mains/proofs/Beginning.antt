@@ -197,7 +197,7 @@ module _ (setting : Setting) (placed : IsPlaced setting) {current link : ℕ} {w
 
   -- ---- the record of the end
 
-  found : blocks_from (length y2.arena.memory) y2.arena.blocks at ≡ Some (record_of record_words ∷ y.arena.blocks)
+  pub found : blocks_from (length y2.arena.memory) y2.arena.blocks at ≡ Some (record_of record_words ∷ y.arena.blocks)
   found =
       ap (λ n. blocks_from n y2.arena.blocks at) (stored_size (linked_stores at current link) inner)
       ∙ ap (λ bs. blocks_from (length inner.memory) bs at) (stored_blocks (linked_stores at current link) inner)

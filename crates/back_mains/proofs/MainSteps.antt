@@ -125,7 +125,7 @@ unhandled_ends :
 unfolding exec with_some
 unhandled_ends c tail r0 r1 r2 r3 r4 class site condition y = record { same = refl }
 
-landed_runs :
+pub landed_runs :
     (c : Context) (tail : Registers) (r0 r1 r2 r3 r4 r6 r7 : Option ℕ) (condition class number site : ℕ) (y : MidState)
     → condition + 2 < 2 ^ 32 → class + 2 < 2 ^ 32 → word_at y.arena (condition + 2) ≡ Some class → word_at y.arena (class + 2) ≡ Some number
     → word_at y.arena landing_address ≡ Some site

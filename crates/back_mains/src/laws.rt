@@ -1,5 +1,6 @@
 // The laws of main forms, each as the contract of a function that does nothing.
 ghost use Rattle.back_mains.specs.Beginning.{LawOfBeginnings};
+ghost use Rattle.back_mains.specs.MainEnds.{LawOfMainEnds};
 ghost use Rattle.back_mains.specs.MainSteps.{LawOfMainSteps};
 ghost use Rattle.back_mains.specs.Links.{LawOfWantedLinks, LawOfEmptyLinks};
 ghost use Rattle.back_mains.specs.Surroundings.{LawOfMainSurroundings, LawOfMainForms};
@@ -32,4 +33,9 @@ pub fn law_main_forms()
 /// With the word of the link, the record of the end stands, and the form begins.
 pub fn law_beginnings()
     ensures { LawOfBeginnings }
+{}
+
+/// What the code of a main form comes to, with the link, from what its form comes to.
+pub fn law_main_ends()
+    ensures { LawOfMainEnds }
 {}
