@@ -1,8 +1,10 @@
 // The laws of main forms, each as the contract of a function that does nothing.
+ghost use Rattle.back_relation.specs.Setting.{Setting};
 ghost use Rattle.back_mains.specs.Beginning.{LawOfBeginnings};
 ghost use Rattle.back_mains.specs.MainEnds.{LawOfMainEnds};
 ghost use Rattle.back_mains.specs.MainSteps.{LawOfMainSteps};
 ghost use Rattle.back_mains.specs.Links.{LawOfWantedLinks, LawOfEmptyLinks};
+ghost use Rattle.back_mains.specs.Numbers.{LawOfMainNumbers};
 ghost use Rattle.back_mains.specs.Surroundings.{LawOfMainSurroundings, LawOfMainForms};
 
 /// What the steps around the form of a main form do.
@@ -38,4 +40,9 @@ pub fn law_beginnings()
 /// What the code of a main form comes to, with the link, from what its form comes to.
 pub fn law_main_ends()
     ensures { LawOfMainEnds }
+{}
+
+/// Which procedures are the main forms, and which is the start.
+pub fn law_main_numbers()
+    ensures { (setting : Setting) → LawOfMainNumbers setting }
 {}
