@@ -14,12 +14,12 @@ use Rattle.back_relation.specs.Setting.{Setting}
 use Rattle.back_relation.specs.Placed.{IsPlaced}
 use Rattle.back_calling.specs.Entering.{LawOfNumbers}
 
-behind_front : {X : Type 0} (xs ys : List X) (i j : ℕ) (x : X) → j ≡ length xs + i → slice_get ys i ≡ Some x → slice_get (xs ++ ys) j ≡ Some x
+pub behind_front : {X : Type 0} (xs ys : List X) (i j : ℕ) (x : X) → j ≡ length xs + i → slice_get ys i ≡ Some x → slice_get (xs ++ ys) j ≡ Some x
 behind_front [] ys i j x e h = let same : j ≡ i = omega (arith, e) in ap (slice_get ys) same ∙ h
 behind_front (y ∷ xs) ys i zero x e h = absurd (omega (arith, e))
 behind_front (y ∷ xs) ys i (suc j) x e h = behind_front xs ys i j x (omega (arith, e)) h
 
-mapped : {X Y : Type 0} (f : X → Y) (xs : List X) (i : ℕ) (x : X) → slice_get xs i ≡ Some x → slice_get (map f xs) i ≡ Some (f x)
+pub mapped : {X Y : Type 0} (f : X → Y) (xs : List X) (i : ℕ) (x : X) → slice_get xs i ≡ Some x → slice_get (map f xs) i ≡ Some (f x)
 mapped f [] i x e = absurd (cc e)
 mapped f (y ∷ xs) zero x e = let same : y ≡ x = cc e in ap (λ u. Some (f u)) same
 mapped f (y ∷ xs) (suc i) x e = mapped f xs i x e
@@ -79,48 +79,48 @@ module _ (setting : Setting) where
 
   -- ---- the parts of the program
 
-  abbrev the_entries : List MidProcedure
+  abbrev pub the_entries : List MidProcedure
   the_entries = entries_from setting.names setting.at setting.program 0 setting.program.procedures
 
-  abbrev the_lambda_entries : List MidProcedure
+  abbrev pub the_lambda_entries : List MidProcedure
   the_lambda_entries = lambda_entries_from setting.names setting.at setting.program (length setting.program.procedures) setting.program.lambdas
 
-  abbrev the_bodies : List MidProcedure
+  abbrev pub the_bodies : List MidProcedure
   the_bodies = bodies_from setting.names setting.at setting.program 0 setting.program.procedures
 
-  abbrev the_lambda_bodies : List MidProcedure
+  abbrev pub the_lambda_bodies : List MidProcedure
   the_lambda_bodies = lambda_bodies setting.names setting.at setting.program setting.program.lambdas
 
-  abbrev the_primitives : List MidProcedure
+  abbrev pub the_primitives : List MidProcedure
   the_primitives = primitives setting.names setting.at setting.program
 
-  abbrev the_routines : List MidProcedure
+  abbrev pub the_routines : List MidProcedure
   the_routines = routines setting.names setting.at setting.program
 
-  abbrev the_rest : List MidProcedure
+  abbrev pub the_rest : List MidProcedure
   the_rest = map (main_form setting.names setting.at setting.program) setting.program.main ++ (start setting.names setting.at setting.program ∷ [])
 
-  in_parts :
+  pub in_parts :
       lowered setting.names setting.at setting.program
       ≡ the_entries ++ (the_lambda_entries ++ (the_bodies ++ (the_lambda_bodies ++ (the_primitives ++ (the_routines ++ the_rest)))))
   unfolding lowered
   in_parts = refl
 
-  primitives_count : length the_primitives ≡ primitive_count
+  pub primitives_count : length the_primitives ≡ primitive_count
   primitives_count = length-map (below primitive_count) (λ n. procedure_of (primitive_at n)) ∙ below_count primitive_count
 
   -- the number of the first one of each part
   module _ (placed : IsPlaced setting) where
-    entries_many : length the_entries ≡ setting.at.procedures
+    pub entries_many : length the_entries ≡ setting.at.procedures
     entries_many = entries_count 0 setting.program.procedures ∙ sym placed.procedures
 
-    lambda_entries_many : length the_lambda_entries ≡ setting.at.lambdas
+    pub lambda_entries_many : length the_lambda_entries ≡ setting.at.lambdas
     lambda_entries_many = lambda_entries_count (length setting.program.procedures) setting.program.lambdas ∙ sym placed.lambdas
 
-    bodies_many : length the_bodies ≡ setting.at.procedures
+    pub bodies_many : length the_bodies ≡ setting.at.procedures
     bodies_many = bodies_count 0 setting.program.procedures ∙ sym placed.procedures
 
-    lambda_bodies_many : length the_lambda_bodies ≡ setting.at.lambdas
+    pub lambda_bodies_many : length the_lambda_bodies ≡ setting.at.lambdas
     lambda_bodies_many = length-map setting.program.lambdas _ ∙ sym placed.lambdas
 
     routine_found : (i : ℕ) (p : MidProcedure) → slice_get the_routines i ≡ Some p → slice_get (lowered setting.names setting.at setting.program) (routines_from setting.at + i) ≡ Some p
