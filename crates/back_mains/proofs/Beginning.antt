@@ -30,8 +30,9 @@ use Rattle.back_exits.specs.Touching.{Touched, touched, ExitsMade}
 use Rattle.back_exits.proofs.Moving.{things_go_on}
 use Rattle.back_exits.proofs.Puts.{Put, of_control, of_record, pairs, last_control, last_record, or_before, puts_touch, control_stands, record_stands}
 use Rattle.back_exits.proofs.Steps.{laid_size, laid_from, laid_to, laid_low, laid_aligned, record_lent, record_there}
-use Rattle.back_exits.proofs.Touching.{world_touched, stored_blocks, stored_heap, stored_from, stack_high}
+use Rattle.back_exits.proofs.Touching.{world_touched, stored_blocks, stored_heap, stored_from}
 use Rattle.back_exits.proofs.Words.{control_lent, control_there, control_of}
+use Rattle.back_objects.proofs.Boxes.{stack_above}
 use Rattle.back_mains.specs.Beginning.{block_laid, end_there, end_record, NothingAround, EndBegins, LawOfBeginnings}
 use Rattle.back_mains.specs.Links.{arena_laid, laid_at}
 use Rattle.back_mains.specs.MainSteps.{linked_stores}
@@ -186,7 +187,7 @@ module _ (setting : Setting) (placed : IsPlaced setting) {current link : ℕ} {w
       were : (i : ℕ) (p : BoxPlace) → slice_get w1.boxes i ≡ Some p → BoxWas w1 y1.arena y2.arena i p
       were i (on_heap x) e = e
       were i (on_stack x) e =
-          let high = stack_high (stack_from y.arena) i x w.boxes e in
+          let high = stack_above (stack_from y.arena) i x w.boxes e in
           let t = to in
           let up = above in
           (e, beside x (λ same. omega (arith, same, high, t, up)))
@@ -219,7 +220,7 @@ module _ (setting : Setting) (placed : IsPlaced setting) {current link : ℕ} {w
         let size = laid_size stands b.room in
         let same = stored_size (linked_stores at current link) inner in
         omega (arith, t, size, same);
-    plain = λ k few i e. let low = stack_high (stack_from y.arena) i (at + k) w.boxes e in let t = to in omega (arith, low, t, few);
+    plain = λ k few i e. let low = stack_above (stack_from y.arena) i (at + k) w.boxes e in let t = to in omega (arith, low, t, few);
     kind = in_record 4 end_kind (omega arith) refl refl;
     outer = in_record 8 current (omega arith) refl refl;
     role = (in_record 0 0 (omega arith) refl refl, in_record 12 link (omega arith) refl refl, tt);
