@@ -155,8 +155,8 @@ module _ (setting : Setting) (placed : IsPlaced setting) (k : ℕ) where
         (failing_law setting).with_word k 300 (tested setting asked) a.d unbound_variable_class (symbol_word setting.at n) (symbol (named (text setting.names n))) (omega arith)
         (omega (arith, fits, loaded_count unbound_word)) room
         (λ number paid.
-        claims a.rs a.valid (standing_world (tested setting asked).w (tested setting asked).y) a.around a.z (stored_at site_address number paid (tested setting asked).y) unbound_variable_class
-        (symbol (named (text setting.names n))) (symbol_word setting.at n) (omega arith) (a.begins.call.things.symbols n has)))
+        claims a.rs a.valid (standing_world (tested setting asked).w (tested setting asked).y) a.around a.z (stored_at site_address number paid (tested setting asked).y)
+        (symbol (named (text setting.names n))) (symbol_word setting.at n) (a.begins.call.things.symbols n has)))
         (λ e. absurd (cc e))))
 
     -- what there is of the outermost value

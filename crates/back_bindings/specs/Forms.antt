@@ -1,17 +1,18 @@
 -- What is shown of the forms of dynamic variables, whose parts do what they mean.
 use Rattle.std.specs.Prelude.{⊤, ℕ, ◌+◌, ◌≤◌, List, [], ◌∷◌}
+use Rattle.lang_meaning.specs.Objects.{unbound_variable_class}
 use Rattle.lang_meaning.specs.State.{DynamicContext}
 use Rattle.lang_meaning.specs.Values.{Value}
 use Rattle.flat_language.specs.FlatForm.{FlatForm, dynamic_let, dynamic, with_handler, throw, signal_form, continue_form, FlatDynamics, no_dynamic, dynamic_and}
 use Rattle.flat_language.specs.FlatMeaning.{mean_signal}
-use Rattle.flat_language.specs.FlatSignals.{throw_to, continue_with}
+use Rattle.flat_language.specs.FlatSignals.{signal, throw_to, continue_with}
 use Rattle.flat_language.specs.FlatState.{FlatState, FlatEvaluated}
 use Rattle.mid_code.specs.State.{MidState}
-use Rattle.back_lowering.specs.Routines.{throw_routine, continue_routine, signal_routine}
+use Rattle.back_lowering.specs.Routines.{failing_with_routine, throw_routine, continue_routine, signal_routine}
 use Rattle.back_relation.specs.Setting.{Setting}
 use Rattle.back_relation.specs.Placed.{IsPlaced}
 use Rattle.back_relation.specs.Forms.{DoesForm, context_at, code_at}
-use Rattle.back_relation.specs.RoutineClaims.{WordIs, FailingWithDoes, DomainDoes}
+use Rattle.back_relation.specs.RoutineClaims.{WordIs, DomainDoes, routine_credit}
 use Rattle.back_relation.specs.RoutineClaims.{Does as RoutineDoes}
 use Rattle.back_relation.specs.Worlds.{World, Standing}
 
@@ -30,11 +31,14 @@ LawOfDynamicLets =
     (setting : Setting) (k turns : ℕ) (ds : FlatDynamics) (body : FlatForm) → IsPlaced setting → DynamicsDo setting k turns ds → Does setting k turns body
     → Does setting k turns (dynamic_let ds body)
 
--- conditions of one slot, and domain errors, are signalled as they are claimed to be, wherever code stands
+-- that a variable is unbound is signalled, with its name, by the routine of conditions of one slot, wherever code stands
 abbrev pub FailingWithClaims : Setting → (k turns : ℕ) → Type 0
 FailingWithClaims setting k turns =
-    (rs valid : List Standing) (w : World) (around : DynamicContext) (z : FlatState) (y : MidState) → FailingWithDoes setting k turns rs valid w around z y
+    (rs valid : List Standing) (w : World) (around : DynamicContext) (z : FlatState) (y : MidState) (v : Value) (word : ℕ) → WordIs setting w word v
+    → RoutineDoes setting k turns rs valid w around z y routine_credit (failing_with_routine setting.at) (unbound_variable_class ∷ word ∷ [])
+    (signal (context_at setting k) unbound_variable_class (v ∷ []) around z)
 
+-- domain errors are signalled as they are claimed to be, wherever code stands
 abbrev pub DomainClaims : Setting → (k turns : ℕ) → Type 0
 DomainClaims setting k turns =
     (rs valid : List Standing) (w : World) (around : DynamicContext) (z : FlatState) (y : MidState) → DomainDoes setting k turns rs valid w around z y

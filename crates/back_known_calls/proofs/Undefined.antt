@@ -89,7 +89,7 @@ module _ (setting : Setting) (k turns name : ℕ) (fs : FlatForms) (none : funct
       (behind setting {c1 = 0} {c2 = routine_credit + 84} {c = 300 * (2 + count_forms fs)} b d (omega arith) (reached_same setting b d) (omega arith) (omega arith)
       ((failing_law setting).with_word k routine_credit b d undefined_function_class (symbol_word setting.at name) the_name (omega arith) (omega (arith, there, sized)) room
       (λ number paid.
-      fails rs valid (standing_world w y) around z (stored_at site_address number paid y) undefined_function_class the_name (symbol_word setting.at name) (omega arith)
+      fails rs valid (standing_world w y) around z (stored_at site_address number paid y) the_name (symbol_word setting.at name)
       (begins.call.things.symbols name has)))))
 
 pub undefined_calls_law : LawOfUndefinedCalls

@@ -175,7 +175,7 @@ module _ (setting : Setting) (placed : IsPlaced setting) (k turns name : ℕ) (f
       let size3 = x.reached.kept.registers.count in
       (failing_law setting).class_alone k routine_credit b3 d program_error_class (omega arith) (omega (arith, there, sized, size3)) room
       (λ number paid.
-      fails rs valid (standing_world b3.w b3.y) around b3.z (stored_at site_address number paid b3.y) program_error_class (omega arith))))))
+      fails rs valid (standing_world b3.w b3.y) around b3.z (stored_at site_address number paid b3.y))))))
 
 pub wrong_calls_law : LawOfWrongCalls
 unfolding mean lower
