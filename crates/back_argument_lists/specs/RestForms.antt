@@ -9,7 +9,7 @@ use Rattle.flat_language.specs.FlatForm.{call, FlatForms}
 use Rattle.flat_language.specs.FlatNodes.{count_forms}
 use Rattle.back_relation.specs.Setting.{Setting}
 use Rattle.back_relation.specs.Forms.{DoesForm, context_at, code_at}
-use Rattle.back_relation.specs.Program.{ProgramIsRight}
+use Rattle.back_relation.specs.Right.{ProgramIsRight}
 use Rattle.back_combining.specs.Forms.{AllDo}
 use Rattle.back_known_calls.specs.KnownCalls.{BodiesBelow}
 

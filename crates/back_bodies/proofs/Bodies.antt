@@ -41,7 +41,7 @@ use Rattle.back_relation.specs.Activation.{IsOwn, ScopeStands, SiteHeld}
 use Rattle.back_relation.specs.Ends.{WorldKept, Around, full_there, stopped, CallEnds}
 use Rattle.back_relation.specs.Forms.{Begins, DoesForm, below_at, context_at, code_at}
 use Rattle.back_relation.specs.Procedures.{called, mean_inside, body_words, body_credit, IsFunction, CapturedFits, as_registers, BodyBegins}
-use Rattle.back_relation.specs.Program.{ProgramIsRight}
+use Rattle.back_relation.specs.Right.{ProgramIsRight}
 use Rattle.back_combining.specs.Starts.{FlatGrown}
 use Rattle.back_combining.proofs.Activations.{made_by_later, method_later}
 use Rattle.back_combining.proofs.Fitting.{registers_front, registers_behind}

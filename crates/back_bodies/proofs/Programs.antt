@@ -20,7 +20,8 @@ use Rattle.back_relation.specs.Things.{AreOfKinds, AreMadeBy}
 use Rattle.back_relation.specs.Activation.{FormScope}
 use Rattle.back_relation.specs.Forms.{FormStands}
 use Rattle.back_relation.specs.Procedures.{IsFunction, CapturedFits}
-use Rattle.back_relation.specs.Program.{BodyPaid, ProgramIsRight}
+use Rattle.back_relation.specs.Procedures.{BodyPaid}
+use Rattle.back_relation.specs.Right.{ProgramIsRight}
 use Rattle.back_calling.proofs.Numbers.{numbers_law}
 
 -- where the form of a body stands

@@ -5,7 +5,7 @@ use Rattle.back_lowering.specs.Program.{Extra}
 use Rattle.back_relation.specs.Setting.{Setting}
 use Rattle.back_relation.specs.Forms.{DoesForm, context_at, code_at}
 use Rattle.back_relation.specs.Procedures.{BodyDoes}
-use Rattle.back_relation.specs.Program.{ProgramIsRight}
+use Rattle.back_relation.specs.Right.{ProgramIsRight}
 
 -- a body whose form does what it means
 abbrev pub LawOfBodies : Type 0

@@ -49,7 +49,7 @@ use Rattle.back_relation.specs.Activation.{FormScope}
 use Rattle.back_relation.specs.Ends.{CallEnds}
 use Rattle.back_relation.specs.Forms.{Begins, below_at, context_at, code_at}
 use Rattle.back_relation.specs.Procedures.{called, body_credit, CapturedFits, ExtraGiven}
-use Rattle.back_relation.specs.Program.{ProgramIsRight}
+use Rattle.back_relation.specs.Right.{ProgramIsRight}
 use Rattle.back_combining.specs.Points.{Point, start_at}
 use Rattle.back_combining.specs.Starts.{Start, EndsAt, ReachedFrom}
 use Rattle.back_combining.proofs.Fitting.{registers_front, registers_behind}

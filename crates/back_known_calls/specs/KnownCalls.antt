@@ -22,7 +22,7 @@ use Rattle.back_relation.specs.Worlds.{World, Standing}
 use Rattle.back_relation.specs.RoutineClaims.{WordIs, Does, routine_credit}
 use Rattle.back_relation.specs.Forms.{DoesForm, context_at, code_at}
 use Rattle.back_relation.specs.Procedures.{IsFunction, BodyDoes}
-use Rattle.back_relation.specs.Program.{ProgramIsRight}
+use Rattle.back_relation.specs.Right.{ProgramIsRight}
 use Rattle.back_combining.specs.Forms.{AllDo}
 
 -- a name with so many arguments is that of such a function

@@ -72,10 +72,11 @@ module _ (at : Placement) (program : FlatProgram) where
   abbrev pub wrong_number : (d : ℕ) → SitePlace → Steps
   wrong_number d site = call d (level_routine at) [] ∷ failing at site d program_error_class
 
-  -- the words behind those of the required variables are one list
+  -- the words behind those of the required variables are one list, which is made only where there is a level for the body
   abbrev pub call_with_rest : (p : ℕ) → FlatProcedure → (count d : ℕ) → SitePlace → Steps
   call_with_rest p q count d site =
-      list_of (count - length q.required) (d + length q.required) (d + count)
+      call (d + count) (level_routine at) []
+      ∷ list_of (count - length q.required) (d + length q.required) (d + count)
       ++ enter_body p q (registers_from d (length q.required) ++ (d + count) ∷ []) d (d + count + 1) site
 
   abbrev pub call_procedure : (p : ℕ) → Option FlatProcedure → (count d : ℕ) → SitePlace → Steps

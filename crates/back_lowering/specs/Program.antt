@@ -1,6 +1,6 @@
 -- **The lowered program**: the entries and the bodies of all functions, the procedures of primitives, the routines, the main forms, and the
 -- start, which calls them one after another.
-use Rattle.std.specs.Prelude.{ℕ, zero, suc, ◌+◌, ◌*◌, max, Bool, true, false, List, [], ◌∷◌, ◌++◌, Option, Some, None, length, map, is_some, if◌then◌else◌}
+use Rattle.std.specs.Prelude.{ℕ, zero, suc, ◌+◌, ◌*◌, ◌||◌, max, Bool, true, false, List, [], ◌∷◌, ◌++◌, Option, Some, None, length, map, is_some, if◌then◌else◌}
 use Rattle.lang_meaning.specs.model.ShapeCode.{primitive_at}
 use Rattle.flat_language.specs.declared.program.FlatProcedure.{FlatProcedure}
 use Rattle.flat_language.specs.declared.program.FlatProgram.{FlatProgram}
@@ -13,13 +13,13 @@ use Rattle.mid_code.specs.declared.program.MidProcedure.{MidProcedure}
 use Rattle.mid_code.specs.MidCode.{MidStep, with_block, return_word, halt_with, end_unhandled, code_of}
 use Rattle.mid_arena.specs.Tags.{nil_word}
 use Rattle.mid_arena.specs.Codes.{procedure_of}
-use Rattle.back_lowering.specs.ControlWords.{link_address, landing_address, site_address, end_address, record_serial, record_words, end_kind}
+use Rattle.back_lowering.specs.ControlWords.{link_address, landing_address, site_address, end_address, record_serial, record_link, record_words, end_kind}
 use Rattle.back_lowering.specs.Scope.{registers_from}
 use Rattle.back_lowering.specs.declared.scope.SitePlace.TheVariants.{Known, Held}
 use Rattle.back_lowering.specs.declared.scope.Scope.{Scope}
 use Rattle.back_lowering.specs.Placement.{functions, primitive_count, routines_from}
 use Rattle.back_lowering.specs.declared.placement.Placement.{Placement}
-use Rattle.back_lowering.specs.Routines.{list_routine, method_routine, routine_count}
+use Rattle.back_lowering.specs.Routines.{level_routine, list_routine, method_routine, routine_count}
 use Rattle.back_lowering.specs.Sites.{asks_site}
 use Rattle.back_lowering.specs.Steps.{Steps, move, constant, compute, load, store, call, if_equal, load_from, words_loaded}
 use Rattle.back_lowering.specs.Leaves.{boxes_made}
@@ -38,6 +38,25 @@ procedure_with counted parameters body = record {
   frame = frame_for (of_code (code_of body));
   body = body;
 }
+
+-- the same with the words of the stack that the allocation of its registers needs
+abbrev pub framed : (words : ℕ) → MidProcedure → MidProcedure
+framed words p = record p { frame = words }
+
+-- A routine that hands on what another one returns keeps nothing but where it returns to. One that applies a handler keeps the record and the
+-- site; one that finds a chain keeps the arguments and where the search is; one that runs a chain keeps the arguments, the site and where
+-- the methods are.
+abbrev pub passing_frame : ℕ
+passing_frame = 2
+
+abbrev pub raise_frame : ℕ
+raise_frame = 7
+
+abbrev pub generic_frame : ℕ
+generic_frame = 9
+
+abbrev pub chain_frame : ℕ
+chain_frame = 7
 
 -- what the body of a function takes behind its variables
 pub data Extra : Type 0 where
@@ -60,6 +79,10 @@ entry_frame = 6
 
 module _ (names : List (List ℕ)) (at : Placement) (program : FlatProgram) where
   -- ---- entries
+
+  -- where it makes a list or keeps a call, it asks for words only where there is a level for the body
+  abbrev pub level_judged : FlatProcedure → Steps
+  level_judged q = if is_some q.rest || q.keeps_method then call 4 (level_routine at) [] ∷ [] else []
 
   -- the arguments behind the required ones are a list, in register 4
   abbrev pub rest_made : FlatProcedure → Steps
@@ -89,10 +112,11 @@ module _ (names : List (List ℕ)) (at : Placement) (program : FlatProgram) wher
     registers = 7 + length q.required;
     frame = entry_frame;
     body =
-        rest_made q
+        level_judged q
+        ++ (rest_made q
         ++ (method_kept q
         ++ (words_loaded (length q.required) 7 3 0
-        ++ (call 4 body (registers_from 7 (length q.required) ++ (rest_register q ++ entry_extras extra)) ∷ return_word 4 ∷ [])));
+        ++ (call 4 body (registers_from 7 (length q.required) ++ (rest_register q ++ entry_extras extra)) ∷ return_word 4 ∷ []))));
   }
 
   -- ---- bodies
@@ -157,7 +181,7 @@ module _ (names : List (List ℕ)) (at : Placement) (program : FlatProgram) wher
       procedure_with Turn 0
       (with_block 0 record_words 5
       (code_of (record_laid 0 6 end_kind
-      ++ (constant 7 0 ∷ store 7 0 record_serial ∷ store 0 6 link_address ∷ store 0 6 end_address
+      ++ (constant 7 0 ∷ store 7 0 record_serial ∷ store 2 0 record_link ∷ store 0 6 link_address ∷ store 0 6 end_address
       ∷ ((lower names at program main_scope 8 f).value ++ (return_word 8 ∷ [])))))
       (code_of (load 6 5 2 ∷ load 6 6 2 ∷ constant 7 2 ∷ compute 6 which.ShiftRight 6 7
       ∷ constant 7 0 ∷ load 7 7 landing_address ∷ end_unhandled 6 7 5 ∷ []))
@@ -172,20 +196,20 @@ module _ (names : List (List ℕ)) (at : Placement) (program : FlatProgram) wher
   abbrev pub routines : List MidProcedure
   routines =
       procedure_with Turn 2 (transfer_code at)
-      ∷ procedure_with Turn 3 (leave_code at)
-      ∷ procedure_with Turn 2 (throw_code at)
-      ∷ procedure_with Turn 2 (continue_code at)
-      ∷ procedure_with Turn 2 (raise_code at)
-      ∷ procedure_with Turn 2 (signal_code at)
-      ∷ procedure_with Turn 0 (pending_code at)
-      ∷ procedure_with Turn 1 (failing_code at)
-      ∷ procedure_with Turn 2 (failing_with_code at)
-      ∷ procedure_with Turn 2 (domain_code at)
-      ∷ procedure_with Turn 3 (function_code at)
+      ∷ framed passing_frame (procedure_with Turn 3 (leave_code at))
+      ∷ framed passing_frame (procedure_with Turn 2 (throw_code at))
+      ∷ framed passing_frame (procedure_with Turn 2 (continue_code at))
+      ∷ framed raise_frame (procedure_with Turn 2 (raise_code at))
+      ∷ framed passing_frame (procedure_with Turn 2 (signal_code at))
+      ∷ framed passing_frame (procedure_with Turn 0 (pending_code at))
+      ∷ framed passing_frame (procedure_with Turn 1 (failing_code at))
+      ∷ framed passing_frame (procedure_with Turn 2 (failing_with_code at))
+      ∷ framed passing_frame (procedure_with Turn 2 (domain_code at))
+      ∷ framed passing_frame (procedure_with Turn 3 (function_code at))
       ∷ procedure_with Turn 2 (apply_code at)
-      ∷ procedure_with Turn 3 (generic_code at)
-      ∷ procedure_with Level 3 (chain_code at)
-      ∷ procedure_with Turn 3 (next_code at)
+      ∷ framed generic_frame (procedure_with Turn 3 (generic_code at))
+      ∷ framed chain_frame (procedure_with Level 3 (chain_code at))
+      ∷ framed chain_frame (procedure_with Turn 3 (next_code at))
       ∷ procedure_with Level 0 (level_code at)
       ∷ procedure_with Turn 2 (list_code at)
       ∷ procedure_with Turn 3 (method_code at)

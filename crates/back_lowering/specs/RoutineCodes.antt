@@ -301,7 +301,7 @@ module _ (at : Placement) where
       ∷ car_into 7 10
 
   -- The value in 0 is applied to the elements of the list in 1: the function is judged first, then the list, then how many there are. A
-  -- generic function has its chain before its words are laid.
+  -- generic function has its chain before its words are laid; and no words are laid where there is no level for the application.
   unfoldable pub apply_code : Steps
   apply_code =
       call 2 (is_function_routine at) (0 ∷ []) ∷ constant 3 0 ∷ if_equal 2 3 (signals_domain 0 2 function_class) []
@@ -310,12 +310,13 @@ module _ (at : Placement) where
       ∷ (by_function 3
       (arity_into 3 11 0
       ++ (where_takes 3 2 5 (wrong_number 5)
-      ++ (lend 9 2 (code_of (list_copied ++ (constant 3 0 ∷ call_number 10 11 (0 ∷ 3 ∷ 2 ∷ 9 ∷ []) ∷ []))) ∷ return_word 10 ∷ [])))
+      ++ (call 10 (level_routine at) []
+      ∷ lend 9 2 (code_of (list_copied ++ (constant 3 0 ∷ call_number 10 11 (0 ∷ 3 ∷ 2 ∷ 9 ∷ []) ∷ []))) ∷ return_word 10 ∷ [])))
       (generic_into 11 4 0
       ++ (move 0 11 ∷ load 3 0 generic_arity
       ∷ (where_takes 3 2 4 (signals 4 program_error_class)
       ++ (chain_sought element_into
-      ++ (move 11 4
+      ++ (move 11 4 ∷ call 10 (level_routine at) []
       ∷ lend 9 2 (code_of (list_copied ++ (call 10 (chain_routine at) (11 ∷ 2 ∷ 9 ∷ []) ∷ []))) ∷ return_word 10 ∷ [])))))
       ++ signals_domain 0 3 function_class)))
 

@@ -25,7 +25,8 @@ use Rattle.mid_lines.specs.LineMeaning.{Stage, ended, begin, after}
 use Rattle.mid_lines.specs.Weights.{weights}
 use Rattle.back_relation.specs.Setting.{Setting}
 use Rattle.back_relation.specs.Worlds.{World}
-use Rattle.back_relation.specs.Program.{ProgramIsRight, ProgramBegins, meant_by, the_meaning, run, code_end, EndsAs as MeansEnd, RunsOutFor, IsReached, IsShort, RunDoes, LoweringIsRight}
+use Rattle.back_relation.specs.Right.{ProgramIsRight}
+use Rattle.back_claims.specs.Program.{ProgramBegins, meant_by, the_meaning, run, code_end, EndsAs as MeansEnd, RunsOutFor, IsReached, IsFullEnd, RunDoes, LoweringIsRight}
 use Rattle.back_places.specs.declared.place.Place.{Place as WordPlace}
 use Rattle.back_places.specs.Places.{Located}
 use Rattle.back_places.specs.Good.{IsGood}
@@ -143,7 +144,7 @@ module _ (lowering : LoweringIsRight) (base : Setting) (laid : List ℕ) (l : Lo
 
   full : (n asked left_then : ℕ) → n < 2 ^ 32 → (run_of image (4 * at) arena input n).ending ≡ Full asked left_then
       → (m k turns : ℕ) → ProgramBegins (with_limits base (words m) turns) input w y → HasTurns (with_limits base (words m) turns) input k y → n ≤ k → n ≤ turns
-      → IsShort (with_limits base (words m) turns) input k y (the_meaning (with_limits base (words m) turns) input k y).end
+      → IsFullEnd (with_limits base (words m) turns) input k y (the_meaning (with_limits base (words m) turns) input k y).end
   full n asked left_then few f m k turns starts_so enough le lt = by (does_with n k turns few le lt).ends
     where
       d : RunDoes (with_limits base (words m) turns) input k y
@@ -151,7 +152,7 @@ module _ (lowering : LoweringIsRight) (base : Setting) (laid : List ℕ) (l : Lo
 
       by : ((run_of image (4 * at) arena input n).ending ≡ Budget)
           ⊎ EndsAs (runs program k turns entry [] y).end (runs program k turns entry [] y).state (run_of image (4 * at) arena input n)
-          → IsShort (with_limits base (words m) turns) input k y (the_meaning (with_limits base (words m) turns) input k y).end
+          → IsFullEnd (with_limits base (words m) turns) input k y (the_meaning (with_limits base (words m) turns) input k y).end
       by (inl b) = absurd (cc (b, f))
       by (inr e) =
           let x = no_room_is (runs program k turns entry [] y).end (runs program k turns entry [] y).state (run_of image (4 * at) arena input n) asked left_then e f in

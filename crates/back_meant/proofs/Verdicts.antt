@@ -10,7 +10,7 @@ use Rattle.mid_code.specs.State as mid
 use Rattle.mid_code.specs.State.{MidState}
 use Rattle.back_relation.specs.Setting.{Setting}
 use Rattle.back_relation.specs.Things.{SiteIs}
-use Rattle.back_relation.specs.Program.{the_meaning, run, code_end, RunsOutFor, EndsAs as MeansEnd, IsReached, RunDoes}
+use Rattle.back_claims.specs.Program.{the_meaning, run, code_end, RunsOutFor, EndsAs as MeansEnd, IsReached, RunDoes}
 use Rattle.back_runs.specs.Ends.{EndsAs}
 use Rattle.back_meant.specs.Laws.{HaltsAs, UnhandledAs, EndsWell}
 

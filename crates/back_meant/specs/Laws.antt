@@ -21,7 +21,8 @@ use Rattle.back_lowering.specs.Program.{start_number}
 use Rattle.back_relation.specs.Setting.{Setting}
 use Rattle.back_relation.specs.Worlds.{World}
 use Rattle.back_relation.specs.Things.{Things, SiteIs}
-use Rattle.back_relation.specs.Program.{ProgramIsRight, ProgramBegins, meant_by, the_meaning, IsShort, LoweringIsRight}
+use Rattle.back_relation.specs.Right.{ProgramIsRight}
+use Rattle.back_claims.specs.Program.{ProgramBegins, meant_by, the_meaning, IsFullEnd, LoweringIsRight}
 use Rattle.back_places.specs.declared.place.Place.{Place as WordPlace}
 use Rattle.back_places.specs.Places.{Located}
 use Rattle.back_places.specs.Good.{IsGood}
@@ -97,7 +98,7 @@ pub record MeantRuns (base : Setting) (image : List ℕ) (at arena : ℕ) (input
   pub full :
       (n asked left_then : ℕ) → n < 2 ^ 32 → (run_of image (4 * at) arena input n).ending ≡ Full asked left_then
       → (m k turns : ℕ) → ProgramBegins (with_limits base (words m) turns) input w y → HasTurns (with_limits base (words m) turns) input k y → n ≤ k → n ≤ turns
-      → IsShort (with_limits base (words m) turns) input k y (the_meaning (with_limits base (words m) turns) input k y).end
+      → IsFullEnd (with_limits base (words m) turns) input k y (the_meaning (with_limits base (words m) turns) input k y).end
   -- with so many words, and any number of levels: within the charged count
   pub in_time :
       (m k turns n : ℕ) → ProgramBegins (with_limits base (words m) turns) input w y → HasTurns (with_limits base (words m) turns) input k y

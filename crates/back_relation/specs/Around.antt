@@ -1,5 +1,5 @@
 -- **What is around**: the control records that stand, the exits that are valid, handlers and dynamic bindings; and what words are left.
-use Rattle.std.specs.Prelude.{◌≡◌, ⊤, ℕ, ◌+◌, ◌*◌, ◌≤◌, List, Some, length}
+use Rattle.std.specs.Prelude.{◌≡◌, ⊤, ℕ, ◌+◌, ◌*◌, ◌≤◌, List, Some, None, length, slice_get}
 use Rattle.lang_meaning.specs.State.{State, DynamicContext, Limit, words, unlimited}
 use Rattle.flat_language.specs.FlatState.{FlatState}
 use Rattle.mid_code.specs.Arena.{left, stack_from}
@@ -7,7 +7,7 @@ use Rattle.mid_code.specs.State.{MidState}
 use Rattle.back_lowering.specs.ControlWords.{current_address, link_address, handlers_address, bindings_address, site_address, end_address}
 use Rattle.back_relation.specs.Setting.{Setting}
 use Rattle.back_relation.specs.Room.{words_for_handler}
-use Rattle.back_relation.specs.Worlds.{World, Standing, IsIn, Chain, Links, EndsAtEnd, record_of_exit}
+use Rattle.back_relation.specs.Worlds.{World, Standing, IsIn, Chain, Links, EndsAtEnd, TagsLand, record_of_exit}
 use Rattle.back_relation.specs.StackWords.{HasWordAt, RecordAt, HandlersAt, BindingsAt}
 use Rattle.back_relation.specs.Things.{Things, SiteIs}
 
@@ -36,6 +36,9 @@ module _ (setting : Setting) where
     pub end_record : Standing
     pub end_valid : record_of_exit 0 around.exits valid ≡ Some end_record
     pub end_word : HasWordAt y end_address end_record.address
+    -- no block and no tagbody made it, nor the exits of catches and of signals
+    pub end_form : slice_get w.exit_forms 0 ≡ Some None
+    pub tags_land : TagsLand w rs
 
   -- **where a call begins**, with so many words of the stack that it may lay, and those that each handler put aside
   pub record CallBegins (rs valid : List Standing) (n : ℕ) (w : World) (around : DynamicContext) (z : FlatState) (y : MidState) : Type 0 where

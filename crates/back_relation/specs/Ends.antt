@@ -1,10 +1,11 @@
 -- **The relation of what the meaning comes to and how code ends.** There are five cases, whatever the code is of: it is done, a transfer is under
 -- way, the meaning has no words left, the code stopped before its end, or there were few turns. What is said in the first two depends on the code.
 use Rattle.std.specs.Prelude.{◌≡◌, ⊤, ℕ, ◌+◌, ◌*◌, ◌^◌, ◌<◌, ◌≤◌, true, List, ◌∷◌, Some, length, slice_get}
+use Rattle.lang_meaning.specs.Counts.{unit_cost}
 use Rattle.lang_meaning.specs.Prefixes.{IsPrefix}
 use Rattle.lang_meaning.specs.State.{DynamicContext, Landing, at_segment, at_site, Outcome, value, exit, full, more, Limit, words, unlimited}
 use Rattle.lang_meaning.specs.Values.{Value}
-use Rattle.flat_language.specs.FlatState.{FlatEnvironment, FlatState, FlatEvaluated}
+use Rattle.flat_language.specs.FlatState.{FlatEnvironment, FlatState, FlatEvaluated, charged}
 use Rattle.mid_code.specs.Arena.{left, stack_from, blocks_from}
 use Rattle.mid_code.specs.State.{Registers, register, End, falls, returns, cuts, no_room, no_level, no_turn, halts, unhandled, exhausted, stuck, MidState, MidOutcome}
 use Rattle.mid_arena.specs.Places.{word_of}
@@ -15,10 +16,6 @@ use Rattle.back_relation.specs.StackWords.{StackKept, HasWordAt}
 use Rattle.back_relation.specs.Things.{Things, SiteIs}
 use Rattle.back_relation.specs.Activation.{FormScope, RegistersKept, ActivationStands}
 
--- each unit pays that much
-abbrev pub unit_cost : ℕ
-unit_cost = 300
-
 -- the walk of a transfer costs at most that much for each record that it passes, which was put aside when the record was laid
 abbrev pub walk_cost : ℕ
 walk_cost = 48
@@ -27,11 +24,24 @@ walk_cost = 48
 abbrev pub PaidFrom : (credit : ℕ) → FlatState → MidState → FlatState → MidState → Type 0
 PaidFrom credit z y z' y' = y'.cost + unit_cost * z.state.units ≤ y.cost + unit_cost * z'.state.units + credit
 
--- the same where records ended too, which put their walks aside
-abbrev pub PaidPassing : (credit : ℕ) → (before after : List Standing) → FlatState → MidState → FlatState → MidState → Type 0
-PaidPassing credit before after z y z' y' =
-    y'.cost + walk_cost * length after + unit_cost * z.state.units
+-- The same where records ended too, which put their walks aside; and so much is put aside for what comes where the transfer lands.
+abbrev pub PaidPassing : (credit aside : ℕ) → (before after : List Standing) → FlatState → MidState → FlatState → MidState → Type 0
+PaidPassing credit aside before after z y z' y' =
+    y'.cost + aside + walk_cost * length after + unit_cost * z.state.units
     ≤ y.cost + walk_cost * length before + unit_cost * z'.state.units + credit
+
+-- a transfer to a segment puts aside what its landing costs: where that is a tagbody's, another turn of it begins
+abbrev pub landing_cost : Landing → ℕ
+landing_cost (at_segment i) = 250
+landing_cost (at_site place) = 0
+
+-- A form leaves so much of the first unit that it is charged for what is around it, and its own code and what routines are paid before is
+-- within the rest.
+abbrev pub form_spare : ℕ
+form_spare = 700
+
+abbrev pub form_credit : ℕ
+form_credit = 600
 
 -- the words that were taken were charged
 abbrev pub ChargedFrom : FlatState → MidState → FlatState → MidState → Type 0
@@ -106,7 +116,7 @@ module _ (setting : Setting) where
     pub of_value : word_of w'.places result ≡ Some word
     pub world : WorldKept w w' z r.state y q.state
     pub charged : TakenCharged z y r.state q.state
-    pub paid : PaidPassing credit rs (to ∷ outer) z y r.state q.state
+    pub paid : PaidPassing credit (landing_cost landing) rs (to ∷ outer) z y r.state q.state
     pub pending : is_cleanup to.role ≡ true → HasWordAt q.state target_address target.address
     pub landing_word : ℕ
     pub landing_stands : HasWordAt q.state landing_address landing_word
@@ -122,16 +132,16 @@ module _ (setting : Setting) where
     pub outcome : r.outcome ≡ full asked left_then
     pub printed : IsPrefix r.state.state.printed q.state.printed
 
-  abbrev pub IsFullOrMore : Outcome → Type 0
-  IsFullOrMore (value v) = ⊥
-  IsFullOrMore (exit e v landing) = ⊥
-  IsFullOrMore (full asked left_then) = ⊤
-  IsFullOrMore more = ⊤
+  abbrev pub IsFull : Outcome → Type 0
+  IsFull (value v) = ⊥
+  IsFull (exit e v landing) = ⊥
+  IsFull (full asked left_then) = ⊤
+  IsFull more = ⊥
 
-  -- with a limit there is no room only where the meaning has no room, or no level
+  -- with a limit there is no room only where the meaning has no room: code asks for words only where there is a level for what they are for
   abbrev pub RoomEnded : Limit → Outcome → Type 0
   RoomEnded unlimited o = ⊤
-  RoomEnded (words n) o = IsFullOrMore o
+  RoomEnded (words n) o = IsFull o
 
   -- why code stops before its end: there is no room, or no level, or the meaning has more exits than there are serial numbers
   abbrev pub Because : FlatEvaluated → End → Type 0
@@ -202,3 +212,8 @@ module _ (setting : Setting) where
   abbrev pub CallEnds : (credit turns : ℕ) → (rs valid : List Standing) → World → DynamicContext → FlatState → MidState → FlatEvaluated → MidOutcome → Type 0
   CallEnds credit turns rs valid w around z y r q =
       Ends (Returned credit w z y r q) (LeftCall credit rs valid w around z y r q) turns z y r q
+
+  -- and what the call of a function's body comes to, whose form leaves something of its first unit: so much is paid before, and that unit
+  abbrev pub SparingCall : (credit turns : ℕ) → (rs valid : List Standing) → World → DynamicContext → FlatState → MidState → FlatEvaluated → MidOutcome → Type 0
+  SparingCall credit turns rs valid w around z y r q =
+      Ends (Returned credit w (charged 1 z) y r q) (LeftCall credit rs valid w around (charged 1 z) y r q) turns z y r q

@@ -1,5 +1,5 @@
 -- **What is to be shown of each form**: its code does what it means.
-use Rattle.std.specs.Prelude.{◌≡◌, ℕ, zero, suc, ◌<◌, ◌≤◌, List, Some, length}
+use Rattle.std.specs.Prelude.{◌≡◌, ℕ, zero, suc, ◌+◌, ◌<◌, ◌≤◌, List, Some, length}
 use Rattle.lang_meaning.specs.State.{DynamicContext, value}
 use Rattle.lang_meaning.specs.Values.{Value, is_true}
 use Rattle.flat_language.specs.FlatExits.{Leads}
@@ -9,7 +9,7 @@ use Rattle.flat_language.specs.FlatMeaning.{mean, none_below, flat_meaning_at}
 use Rattle.flat_language.specs.FlatMeaning.{context_of as flat_context}
 use Rattle.flat_language.specs.FlatSignals.{FlatContext, FlatTask, FlatEvaluation}
 use Rattle.flat_language.specs.FlatStanding.{Stands}
-use Rattle.flat_language.specs.FlatState.{FlatEnvironment, FlatState, FlatEvaluated}
+use Rattle.flat_language.specs.FlatState.{FlatEnvironment, FlatState, FlatEvaluated, charged}
 use Rattle.mid_code.specs.declared.operation.Test.{Test}
 use Rattle.mid_code.specs.BlockLaw.{context_in}
 use Rattle.mid_code.specs.Meaning.{Context, exec}
@@ -25,7 +25,7 @@ use Rattle.back_relation.specs.Worlds.{World, Standing}
 use Rattle.back_relation.specs.Placed.{Placed}
 use Rattle.back_relation.specs.Around.{CallBegins}
 use Rattle.back_relation.specs.Activation.{FormScope, ScopeStands, MethodThere, ActivationStands}
-use Rattle.back_relation.specs.Ends.{Reached, Ends, Fell, Left}
+use Rattle.back_relation.specs.Ends.{Reached, Ends, Fell, Left, form_credit}
 
 -- the activation has all registers that code names
 abbrev pub HasRegisters : MidCode → Registers → Type 0
@@ -67,6 +67,18 @@ module _ (setting : Setting) where
   TestEnds credit turns rs valid s d w env around z regs y test r q =
       Ends setting (FellJudged credit rs valid s d w env around z regs y test r q) (Left setting credit rs valid s d w env around z regs y r q) turns z y r q
 
+  -- **what a form comes to**, which leaves something of the first unit that it is charged to what is around it
+  abbrev pub SparingForm : (turns : ℕ) → (rs valid : List Standing) → (s : FormScope) → (d : ℕ) → World → FlatEnvironment → DynamicContext → FlatState → Registers → MidState → FlatEvaluated → MidOutcome → Type 0
+  SparingForm turns rs valid s d w env around z regs y r q =
+      Ends setting (Fell setting form_credit rs valid s d w env around (charged 1 z) regs y r q) (Left setting form_credit rs valid s d w env around (charged 1 z) regs y r q)
+      turns z y r q
+
+  -- and one that is judged
+  abbrev pub SparingTest : (turns : ℕ) → (rs valid : List Standing) → (s : FormScope) → (d : ℕ) → World → FlatEnvironment → DynamicContext → FlatState → Registers → MidState → Test → FlatEvaluated → MidOutcome → Type 0
+  SparingTest turns rs valid s d w env around z regs y test r q =
+      Ends setting (FellJudged (form_credit + judged_credit) rs valid s d w env around (charged 1 z) regs y test r q)
+      (Left setting (form_credit + judged_credit) rs valid s d w env around (charged 1 z) regs y r q) turns z y r q
+
   -- what a whole program says of a form: places are there, literals and sites too, exits lead to forms that take them, names have words, and the
   -- forms that made the exits around are known
   pub record FormStands (s : FormScope) (first : ℕ) (f : FlatForm) : Type 0 where
@@ -88,7 +100,7 @@ module _ (setting : Setting) where
       (rs valid : List Standing) (s : FormScope) (d n first : ℕ) (w : World) (env : FlatEnvironment) (around : DynamicContext) (z : FlatState) (regs : Registers) (y : MidState)
       → FormStands s first f → Begins rs valid s d n w env around z regs y
       → HasRegisters (value_code s d f) regs → words_for setting.names setting.program f ≤ n
-      → FormEnds 0 turns rs valid s d w env around z regs y (mean context f env around z) (exec c (value_code s d f) regs y)
+      → SparingForm turns rs valid s d w env around z regs y (mean context f env around z) (exec c (value_code s d f) regs y)
 
   -- or it is judged
   abbrev pub JudgesForm : (turns : ℕ) → FlatContext → Context → FlatForm → Type 0
@@ -96,7 +108,7 @@ module _ (setting : Setting) where
       (rs valid : List Standing) (s : FormScope) (d n first : ℕ) (w : World) (env : FlatEnvironment) (around : DynamicContext) (z : FlatState) (regs : Registers) (y : MidState)
       → FormStands s first f → Begins rs valid s d n w env around z regs y
       → HasRegisters (code_of (judged s d f).ready) regs → words_for setting.names setting.program f ≤ n
-      → TestEnds judged_credit turns rs valid s d w env around z regs y (judged s d f).test (mean context f env around z) (exec c (code_of (judged s d f).ready) regs y)
+      → SparingTest turns rs valid s d w env around z regs y (judged s d f).test (mean context f env around z) (exec c (code_of (judged s d f).ready) regs y)
 
   -- the meaning at k levels, and the code at k levels with so many turns left at this one
   abbrev pub below_at : ℕ → FlatTask → FlatEvaluation

@@ -10,6 +10,5 @@ pub mod Ends
 pub mod Forms
 pub mod Room
 pub mod Procedures
+pub mod Right
 pub mod RoutineClaims
-pub mod Mains
-pub mod Program

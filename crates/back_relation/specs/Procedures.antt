@@ -16,14 +16,15 @@ use Rattle.mid_code.specs.State.{Registers, with_some, MidState, MidOutcome}
 use Rattle.mid_arena.specs.Places.{WordsOf}
 use Rattle.mid_arena.specs.Standing.{ValuesAt}
 use Rattle.back_lowering.specs.Placement.{entry_of_lambda, body_of_procedure}
-use Rattle.back_lowering.specs.Program.{Extra, nothing, its_method, itself, extra_of}
+use Rattle.back_lowering.specs.Program.{Extra, nothing, its_method, itself, extra_of, body_of}
 use Rattle.back_lowering.specs.Sites.{asks_site}
 use Rattle.back_relation.specs.Setting.{Setting}
 use Rattle.back_relation.specs.Worlds.{World, Plain, Standing}
 use Rattle.back_relation.specs.Things.{AreOfKinds, AreMadeBy}
 use Rattle.back_relation.specs.Around.{CallBegins, SiteStored}
 use Rattle.back_relation.specs.Activation.{SelfHeld, MethodHeld, MethodThere}
-use Rattle.back_relation.specs.Ends.{CallEnds}
+use Rattle.back_relation.specs.Ends.{SparingCall, form_credit}
+use Rattle.back_relation.specs.Room.{routine_words, entry_words, words_for}
 use Rattle.back_relation.specs.Forms.{context_at, code_at, below_at}
 
 -- the procedure of a number is entered with words, with a level or a turn for it
@@ -41,22 +42,23 @@ mean_inside context q captured called vs around z =
     in_own_frame (λ inner.
     context.below (form q.body) (record no_environment { captured = captured; method = called }) around (with_slots (homes q) vs inner)) ready)
 
--- of the words that are charged for an application the entry of its function has these
-abbrev pub entry_words : ℕ
-entry_words = 6
-
--- so many are left for the body, with its variables
+-- Of the words that are charged for an application these are for its body; with the others its arguments may have been lent.
 abbrev pub body_words : FlatProcedure → ℕ
-body_words q = 10 + 16 * nodes q.body + length (homes q)
+body_words q = 12 + 16 * nodes q.body
 
--- what the caller pays of the cost of a body, and of an entry
+-- what is paid of the cost of a body, and of an entry, beside the units, of the first of which something is left
 abbrev pub body_credit : FlatProcedure → ℕ
-body_credit q = 100 + 10 * length (homes q)
+body_credit q = form_credit + 100 + 10 * length (homes q)
 
 abbrev pub entry_credit : (arguments : ℕ) → ℕ
-entry_credit n = 250 + 20 * n
+entry_credit n = form_credit + 400 + 20 * n
 
 module _ (setting : Setting) where
+  -- the words that are charged for an application, and the reserve, are enough for the frame of a body and what its code lays
+  abbrev pub BodyPaid : Extra → FlatProcedure → Type 0
+  BodyPaid extra q =
+      (body_of setting.names setting.at setting.program extra q).frame + words_for setting.names setting.program q.body ≤ body_words q + routine_words
+
   -- a function of the program by the number of its entry, and what its body takes behind its variables
   abbrev pub IsFunction : (entry : ℕ) → Extra → FlatProcedure → Type 0
   IsFunction entry extra q =
@@ -80,10 +82,10 @@ module _ (setting : Setting) where
       (length ws ≡ 3) × MethodHeld setting w y.arena q.keeps_method (as_registers ws) (Some 0) m
       × MethodThere setting w y.arena (as_registers ws) (Some 0) m
 
-  -- where the body of a function begins: the words of its frame were charged, its further arguments are a list, and the call of its method is
-  -- kept where it has to be
+  -- where the body of a function begins: the words of its frame were charged, the reserve is there, its further arguments are a list, and the call
+  -- of its method is kept where it has to be
   pub record BodyBegins (rs valid : List Standing) (extra : Extra) (q : FlatProcedure) (cs : List Captured) (called_as : Option Called) (vs : List Value) (ws more : List ℕ) (w : World) (around : DynamicContext) (z : FlatState) (y : MidState) : Type 0 where
-    pub call : CallBegins setting rs valid (body_words q) w around z y
+    pub call : CallBegins setting rs valid (body_words q + routine_words) w around z y
     pub variables : WordsOf w.places vs ws
     pub variable_count : length vs ≡ length (homes q)
     pub extras : ExtraGiven w z y extra q cs called_as more
@@ -94,7 +96,7 @@ module _ (setting : Setting) where
   BodyDoes k entry extra q =
       (rs valid : List Standing) (turns : ℕ) (cs : List Captured) (called_as : Option Called) (vs : List Value) (ws more : List ℕ) (w : World) (around : DynamicContext) (z : FlatState) (y : MidState)
       → IsFunction entry extra q → CapturedFits w entry extra q cs → BodyBegins rs valid extra q cs called_as vs ws more w around z y
-      → CallEnds setting (body_credit q) setting.turns_each rs valid w around z y
+      → SparingCall setting (body_credit q) setting.turns_each rs valid w around z y
       (mean_inside (context_at setting (suc k)) q cs called_as vs around z)
       (called (code_at setting (suc k) turns) (body_of_procedure setting.at entry) (ws ++ more) y)
 
@@ -107,6 +109,7 @@ module _ (setting : Setting) where
   -- what an entry is given: the function itself, the chain of a method, or 0, how many arguments there are, and where they are
   pub record EntryBegins (rs valid : List Standing) (n : ℕ) (q : FlatProcedure) (cs : List Captured) (called_as : Option Called) (vs : List Value) (self chain address : ℕ) (w : World) (around : DynamicContext) (z : FlatState) (y : MidState) : Type 0 where
     pub call : CallBegins setting rs valid n w around z y
+    pub enough : entry_words ≤ n
     pub site : SiteStored setting around y
     pub arguments : ArgumentsLent w y.arena address vs
     pub takes_so_many : takes (length q.required) (is_some q.rest) (length vs) ≡ true
@@ -120,6 +123,6 @@ module _ (setting : Setting) where
   EntryDoes k turns entry extra q =
       (rs valid : List Standing) (n : ℕ) (wrong : FlatSignals) (cs : List Captured) (called_as : Option Called) (vs : List Value) (self chain address : ℕ) (w : World) (around : DynamicContext) (z : FlatState) (y : MidState)
       → IsFunction entry extra q → CapturedFits w entry extra q cs → EntryBegins rs valid n q cs called_as vs self chain address w around z y
-      → CallEnds setting (entry_credit (length vs)) turns rs valid w around z y
+      → SparingCall setting (entry_credit (length vs)) turns rs valid w around z y
       (descend (below_at setting k) (λ entered. enter (context_at setting k) wrong q cs called_as vs around entered) around z)
       (called (code_at setting k turns) entry (self ∷ chain ∷ length vs ∷ address ∷ []) y)

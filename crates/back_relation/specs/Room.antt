@@ -1,5 +1,5 @@
 -- How many words of the stack the code of a form lays at a time, beside the frames of the bodies that it enters, which are charged.
-use Rattle.std.specs.Prelude.{ℕ, ◌+◌, ◌*◌, Bool, false, max, List, Option, Some, None, length, slice_get, is_some, if◌then◌else◌}
+use Rattle.std.specs.Prelude.{ℕ, ◌+◌, ◌*◌, max, List, Option, Some, None, slice_get, is_some, if◌then◌else◌}
 use Rattle.lang_meaning.specs.declared.program.Callee.{Callee}
 use Rattle.lang_meaning.specs.declared.program.Callee.TheVariants.{Procedure, Generic}
 use Rattle.lang_meaning.specs.declared.program.FunctionRow.{FunctionRow}
@@ -7,8 +7,6 @@ use Rattle.lang_meaning.specs.declared.program.LiteralRow.{LiteralRow}
 use Rattle.lang_meaning.specs.declared.program.LiteralRow.TheVariants as row
 use Rattle.lang_meaning.specs.Literals.{function_row}
 use Rattle.lang_meaning.specs.Lookup.{text}
-use Rattle.lang_meaning.specs.Signals.{takes}
-use Rattle.flat_language.specs.declared.program.FlatProcedure.{FlatProcedure}
 use Rattle.flat_language.specs.declared.program.FlatProgram.{FlatProgram}
 use Rattle.mid_code.specs.Arena.{header_words}
 use Rattle.flat_language.specs.FlatForm.{FlatForm, literal, local, set_local, global, set_global, def_global, clauses, sequence, let_form, make_function, call, call_value, apply, prim, while_form, block, return_from, tagbody, go, catch_form, throw, unwind, dynamic_let, dynamic, set_dynamic, def_dynamic, with_handler, signal_form, continue_form, next_method, has_next, sited}
@@ -18,14 +16,47 @@ use Rattle.flat_language.specs.FlatNodes.{count_forms, count_dynamics}
 use Rattle.back_lowering.specs.ControlWords.{record_words, handler_words, binding_words}
 
 -- Routines and primitives that call one another lay no more than that, as long as no handler is applied. A primitive's frame and the signal of
--- its condition are within it too.
+-- its condition are within it too. It is a reserve: whoever enters the body of a function hands as many words on to it, beside those that are
+-- charged for its application, and has them again when it is left.
 abbrev pub routine_words : ℕ
-routine_words = 48
+routine_words = 52
 
--- What a handler puts aside for the signal that applies it: the frame of the signal and its record, the block of the argument, the frames of
--- the application.
+-- what a new condition, and one that is there, lay of it when they are signalled
+abbrev pub failing_words : ℕ
+failing_words = 50
+
+abbrev pub raise_words : ℕ
+raise_words = 48
+
+-- What a handler puts aside for the signal that applies it: with the words of the signal they are enough for its frame and its record, the
+-- block of the argument, the frames of the application, and the reserve.
 abbrev pub words_for_handler : ℕ
-words_for_handler = 40
+words_for_handler = 39
+
+-- an entry takes that much beside the reserve; a generic function with its chain, and the application of a value that may be one; the chain of
+-- a next method; and the application of a value to a list
+abbrev pub entry_words : ℕ
+entry_words = routine_words + 6
+
+abbrev pub generic_words : ℕ
+generic_words = routine_words + 15
+
+abbrev pub applying_words : ℕ
+applying_words = routine_words + 17
+
+abbrev pub next_words : ℕ
+next_words = routine_words + 13
+
+abbrev pub apply_words : ℕ
+apply_words = routine_words + 19
+
+-- a level is judged with so many
+abbrev pub level_words : ℕ
+level_words = 2
+
+-- routines that only look lay that much
+abbrev pub looking_words : ℕ
+looking_words = 8
 
 -- a block that lends so many words, with its header
 abbrev pub lent_words : ℕ → ℕ
@@ -40,14 +71,9 @@ module _ (names : List (List ℕ)) (program : FlatProgram) where
   words_for_literal (Some (row.Function name)) = if is_some (row_of name.0) then 0 else routine_words
   words_for_literal other = 0
 
-  -- whether a call enters a body at once: the function of a definition, with a number of arguments that it takes
-  abbrev pub enters : Option FlatProcedure → (count : ℕ) → Bool
-  enters None count = false
-  enters (Some q) count = takes (length q.required) (is_some q.rest) count
-
   abbrev pub words_for_callee : Callee → (count : ℕ) → ℕ
-  words_for_callee (Procedure p) count = if enters (slice_get program.procedures p) count then 0 else routine_words
-  words_for_callee (Generic g) count = lent_words count + routine_words
+  words_for_callee (Procedure p) count = routine_words
+  words_for_callee (Generic g) count = lent_words count + generic_words
 
   abbrev pub words_for_call : Option FunctionRow → (count : ℕ) → ℕ
   words_for_call None count = routine_words
@@ -66,8 +92,8 @@ module _ (names : List (List ℕ)) (program : FlatProgram) where
     words_for (let_form bs body) = max (words_for_values bs) (words_for body)
     words_for (make_function p parts) = 0
     words_for (call n fs) = max (words_for_call (row_of n) (count_forms fs)) (words_for_forms fs)
-    words_for (call_value fs) = max (lent_words (count_forms fs) + routine_words) (words_for_forms fs)
-    words_for (apply f list) = max routine_words (max (words_for f) (words_for list))
+    words_for (call_value fs) = max (lent_words (count_forms fs) + applying_words) (words_for_forms fs)
+    words_for (apply f list) = max apply_words (max (words_for f) (words_for list))
     words_for (prim which fs) = max routine_words (words_for_forms fs)
     words_for (while_form test body) = max (words_for test) (words_for body)
     words_for (block body) = lent_words record_words + words_for body
@@ -85,7 +111,7 @@ module _ (names : List (List ℕ)) (program : FlatProgram) where
         max routine_words (max (words_for handler) (lent_words handler_words + words_for_handler + words_for body))
     words_for (signal_form condition mark) = max routine_words (max (words_for condition) (words_for mark))
     words_for (continue_form condition f) = max routine_words (max (words_for condition) (words_for f))
-    words_for (next_method m) = routine_words
+    words_for (next_method m) = next_words
     words_for (has_next m) = 0
     words_for (sited site f) = words_for f
 

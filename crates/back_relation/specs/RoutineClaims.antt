@@ -1,10 +1,11 @@
 -- **What is to be shown of each routine**: a call of it does what the meaning does there.
-use Rattle.std.specs.Prelude.{◌≡◌, ℕ, ◌+◌, ◌*◌, ◌<◌, true, false, List, [], ◌∷◌, ◌++◌, Option, Some, None, length, slice_get, if◌then◌else◌}
+use Rattle.std.specs.Prelude.{◌≡◌, ℕ, ◌+◌, ◌*◌, ◌<◌, ◌≤◌, true, false, List, [], ◌∷◌, ◌++◌, Option, Some, None, length, slice_get, slice_index_or, if◌then◌else◌}
 use Rattle.lang_meaning.specs.declared.program.GenericRow.{GenericRow}
 use Rattle.lang_meaning.specs.Classes.{class_of, fetch, is_condition}
 use Rattle.std.specs.Str.{bytes_eq}
 use Rattle.lang_meaning.specs.Lookup.{text, passed}
-use Rattle.lang_meaning.specs.Objects.{Chain, Called, built_in_classes}
+use Rattle.lang_meaning.specs.BuiltIn.{built_in_slots}
+use Rattle.lang_meaning.specs.Objects.{Chain, Called, built_in_classes, serious_condition_class}
 use Rattle.lang_meaning.specs.Primitives.{is_function}
 use Rattle.lang_meaning.specs.State.{DynamicContext, Landing}
 use Rattle.lang_meaning.specs.Values.{Value, nil}
@@ -20,7 +21,7 @@ use Rattle.back_lowering.specs.ControlWords.{landing_address}
 use Rattle.back_lowering.specs.Placement.{dynamic_address}
 use Rattle.back_lowering.specs.Routines.{transfer_routine, leave_routine, throw_routine, continue_routine, raise_routine, signal_routine, pending_routine, failing_routine, failing_with_routine, domain_routine, function_routine, apply_routine, generic_routine, chain_routine, next_routine, level_routine, list_routine, method_routine, binding_routine, is_function_routine, class_routine}
 use Rattle.back_relation.specs.Setting.{Setting}
-use Rattle.back_relation.specs.Room.{routine_words}
+use Rattle.back_relation.specs.Room.{routine_words, failing_words, raise_words, entry_words, generic_words, applying_words, next_words, apply_words, looking_words, level_words}
 use Rattle.back_relation.specs.Chains.{ChainAt, ChainTakes, GenericAt}
 use Rattle.back_relation.specs.Placed.{HasDynamic}
 use Rattle.back_relation.specs.Worlds.{World, on_stack, LandsIn, Standing, record_of_exit}
@@ -31,12 +32,44 @@ use Rattle.back_relation.specs.Ends.{WorldKept, Around, LandingIs, Ends, CallEnd
 use Rattle.back_relation.specs.Forms.{context_at, code_at, below_at}
 use Rattle.back_relation.specs.Procedures.{called, as_registers, ArgumentsLent}
 
--- what is paid of the cost of a call before: for a routine, and for each of so many arguments
+-- What is paid of the cost of a call before: of a routine that signals a new condition or transfers, of one that signals what may be no
+-- condition, of a level, of what makes words of arguments, of a chain, and of the application of a generic function, of a value and to a list.
 abbrev pub routine_credit : ℕ
-routine_credit = 300
+routine_credit = 450
+
+abbrev pub signal_credit : ℕ
+signal_credit = 600
+
+abbrev pub level_credit : ℕ
+level_credit = 40
 
 abbrev pub argument_credit : ℕ → ℕ
 argument_credit n = 300 + 20 * n
+
+abbrev pub chain_credit : ℕ → ℕ
+chain_credit n = 450 + 20 * n
+
+abbrev pub generic_credit : ℕ → ℕ
+generic_credit n = 1050 + 20 * n
+
+abbrev pub applying_credit : ℕ → ℕ
+applying_credit n = 1150 + 20 * n
+
+abbrev pub apply_credit : ℕ
+apply_credit = 1500
+
+-- what routines that only look cost
+abbrev pub is_function_cost : ℕ
+is_function_cost = 150
+
+abbrev pub class_cost : ℕ
+class_cost = 302
+
+-- a class of conditions that is built in, whose instances have so many slots
+pub record IsBuiltInCondition (class count : ℕ) : Type 0 where
+  pub low : serious_condition_class ≤ class
+  pub high : class < built_in_classes
+  pub slots : slice_index_or built_in_slots class 0 ≡ count
 
 module _ (setting : Setting) where
   -- so many words stand for values
@@ -48,13 +81,15 @@ module _ (setting : Setting) where
     abbrev pub context : FlatContext
     context = context_at setting k
 
-    abbrev pub RoutineBegins : Type 0
-    RoutineBegins = CallBegins setting rs valid routine_words w around z y × SiteStored setting around y
+    -- a routine that is called with words, where there are so many of the stack, does what the meaning comes to
+    abbrev pub DoesAnywhere : (room credit routine : ℕ) → List ℕ → FlatEvaluated → Type 0
+    DoesAnywhere room credit routine ws r =
+        CallBegins setting rs valid room w around z y
+        → CallEnds setting credit turns rs valid w around z y r (called (code_at setting k turns) routine ws y)
 
-    -- a routine that is called with words does what the meaning comes to
-    abbrev pub Does : (credit routine : ℕ) → List ℕ → FlatEvaluated → Type 0
-    Does credit routine ws r =
-        RoutineBegins → CallEnds setting credit turns rs valid w around z y r (called (code_at setting k turns) routine ws y)
+    -- the same where the site is stored
+    abbrev pub Does : (room credit routine : ℕ) → List ℕ → FlatEvaluated → Type 0
+    Does room credit routine ws r = SiteStored setting around y → DoesAnywhere room credit routine ws r
 
     -- ---- transfers
 
@@ -64,23 +99,23 @@ module _ (setting : Setting) where
         (e : ℕ) (v : Value) (landing : Landing) (target : Standing) (word landing_word : ℕ)
         → record_of_exit e around.exits valid ≡ Some target → WordIs w word v → HasWordAt y landing_address landing_word
         → LandingIs setting landing_word landing → LandsIn (slice_get w.exit_forms e) landing
-        → Does routine_credit (transfer_routine setting.at) (target.address ∷ word ∷ []) (leaves e v landing z)
+        → DoesAnywhere routine_words routine_credit (transfer_routine setting.at) (target.address ∷ word ∷ []) (leaves e v landing z)
 
     abbrev pub LeaveDoes : Type 0
     LeaveDoes =
         (e : ℕ) (v : Value) (landing : Landing) (word landing_word : ℕ)
         → WordIs w word v → LandingIs setting landing_word landing → LandsIn (slice_get w.exit_forms e) landing
-        → Does routine_credit (leave_routine setting.at) (e ∷ word ∷ landing_word ∷ []) (transfer context (Some e) v landing around z)
+        → Does routine_words routine_credit (leave_routine setting.at) (e ∷ word ∷ landing_word ∷ []) (transfer context (Some e) v landing around z)
 
     abbrev pub ThrowDoes : Type 0
     ThrowDoes =
         (tag v : Value) (tag_word word : ℕ) → WordIs w tag_word tag → WordIs w word v
-        → Does routine_credit (throw_routine setting.at) (tag_word ∷ word ∷ []) (throw_to context tag v around z)
+        → Does routine_words routine_credit (throw_routine setting.at) (tag_word ∷ word ∷ []) (throw_to context tag v around z)
 
     abbrev pub ContinueDoes : Type 0
     ContinueDoes =
         (c v : Value) (c_word word : ℕ) → WordIs w c_word c → WordIs w word v
-        → Does routine_credit (continue_routine setting.at) (c_word ∷ word ∷ []) (continue_with context c v around z)
+        → Does routine_words routine_credit (continue_routine setting.at) (c_word ∷ word ∷ []) (continue_with context c v around z)
 
     -- ---- signals
 
@@ -88,33 +123,33 @@ module _ (setting : Setting) where
     abbrev pub RaiseDoes : Type 0
     RaiseDoes =
         (c mark : Value) (c_word mark_word : ℕ) → is_condition (tables setting.program) z.state c ≡ true → WordIs w c_word c → WordIs w mark_word mark
-        → Does routine_credit (raise_routine setting.at) (c_word ∷ mark_word ∷ []) (signal_under context around.handlers c mark around z)
+        → Does raise_words routine_credit (raise_routine setting.at) (c_word ∷ mark_word ∷ []) (signal_under context around.handlers c mark around z)
 
     abbrev pub SignalDoes : Type 0
     SignalDoes =
         (c mark : Value) (c_word mark_word : ℕ) → WordIs w c_word c → WordIs w mark_word mark
-        → Does routine_credit (signal_routine setting.at) (c_word ∷ mark_word ∷ []) (mean_signal context c mark around z)
+        → Does routine_words signal_credit (signal_routine setting.at) (c_word ∷ mark_word ∷ []) (mean_signal context c mark around z)
 
     abbrev pub PendingDoes : Type 0
     PendingDoes =
         (c : Value) → is_condition (tables setting.program) z.state c ≡ true → ValueAt w.places y.arena pending_address c
-        → Does routine_credit (pending_routine setting.at) [] (signal_under context around.handlers c nil around z)
+        → Does failing_words routine_credit (pending_routine setting.at) [] (signal_under context around.handlers c nil around z)
 
     -- new conditions
     abbrev pub FailingDoes : Type 0
     FailingDoes =
-        (class : ℕ) → class < built_in_classes
-        → Does routine_credit (failing_routine setting.at) (class ∷ []) (signal context class [] around z)
+        (class : ℕ) → IsBuiltInCondition class 0
+        → Does failing_words routine_credit (failing_routine setting.at) (class ∷ []) (signal context class [] around z)
 
     abbrev pub FailingWithDoes : Type 0
     FailingWithDoes =
-        (class : ℕ) (v : Value) (word : ℕ) → class < built_in_classes → WordIs w word v
-        → Does routine_credit (failing_with_routine setting.at) (class ∷ word ∷ []) (signal context class (v ∷ []) around z)
+        (class : ℕ) (v : Value) (word : ℕ) → IsBuiltInCondition class 1 → WordIs w word v
+        → Does failing_words routine_credit (failing_with_routine setting.at) (class ∷ word ∷ []) (signal context class (v ∷ []) around z)
 
     abbrev pub DomainDoes : Type 0
     DomainDoes =
         (v : Value) (expected word : ℕ) → expected < built_in_classes → WordIs w word v
-        → Does routine_credit (domain_routine setting.at) (word ∷ expected ∷ []) (signal_domain_error context (signal context) v expected around z)
+        → Does failing_words routine_credit (domain_routine setting.at) (word ∷ expected ∷ []) (signal_domain_error context (signal context) v expected around z)
 
     -- ---- applications
 
@@ -122,27 +157,27 @@ module _ (setting : Setting) where
     abbrev pub FunctionDoes : Type 0
     FunctionDoes =
         (f : Value) (vs : List Value) (word address : ℕ) → WordIs w word f → ArgumentsLent setting w y.arena address vs
-        → Does (argument_credit (length vs)) (function_routine setting.at) (word ∷ length vs ∷ address ∷ [])
+        → Does applying_words (applying_credit (length vs)) (function_routine setting.at) (word ∷ length vs ∷ address ∷ [])
         (apply_value context (signal context) f vs around z)
 
     -- a value to the elements of a list
     abbrev pub ApplyDoes : Type 0
     ApplyDoes =
         (f list : Value) (word list_word : ℕ) → WordIs w word f → WordIs w list_word list
-        → Does routine_credit (apply_routine setting.at) (word ∷ list_word ∷ []) (mean_apply context f list around z)
+        → Does apply_words apply_credit (apply_routine setting.at) (word ∷ list_word ∷ []) (mean_apply context f list around z)
 
     abbrev pub GenericDoes : Type 0
     GenericDoes =
         (g : GenericRow) (vs : List Value) (generic address : ℕ) → GenericAt setting generic g → ArgumentsLent setting w y.arena address vs
-        → Does (argument_credit (length vs)) (generic_routine setting.at) (generic ∷ length vs ∷ address ∷ [])
+        → Does generic_words (generic_credit (length vs)) (generic_routine setting.at) (generic ∷ length vs ∷ address ∷ [])
         (apply_generic_row context (signal context) (Some g) vs around z)
 
     -- a chain, a level below: the words of its application are charged there
     abbrev pub ChainDoes : Type 0
     ChainDoes =
-        (g : GenericRow) (c : Chain) (vs : List Value) (chain address : ℕ) → ChainAt setting chain c → ChainTakes setting (length vs) c
+        (g : GenericRow) (c : Chain) (vs : List Value) (chain address : ℕ) → ChainAt setting chain c → ChainTakes setting (length vs) c → (c.primary ≡ [] → ⊥)
         → ArgumentsLent setting w y.arena address vs
-        → Does (argument_credit (length vs)) (chain_routine setting.at) (chain ∷ length vs ∷ address ∷ [])
+        → Does entry_words (chain_credit (length vs)) (chain_routine setting.at) (chain ∷ length vs ∷ address ∷ [])
         (apply_chain context (signal context) g (Some c) vs around z)
 
     -- the rest of the chain of a method's call, which is none where the method was called by its name
@@ -151,10 +186,21 @@ module _ (setting : Setting) where
         (called_as : Option Called) (chain count address : ℕ)
         → MethodHeld setting w y.arena false (as_registers (chain ∷ count ∷ address ∷ [])) (Some 0) called_as
         → MethodThere setting w y.arena (as_registers (chain ∷ count ∷ address ∷ [])) (Some 0) called_as
-        → Does (argument_credit count) (next_routine setting.at) (chain ∷ count ∷ address ∷ []) (mean_next context called_as around z)
+        → Does next_words (chain_credit count) (next_routine setting.at) (chain ∷ count ∷ address ∷ []) (mean_next context called_as around z)
+
+    -- a level is judged: whatever it returns, there is one, and the site is as it was stored
+    pub record LevelThere (q : MidOutcome) : Type 0 where
+      pub word : ℕ
+      pub end : q.end ≡ returns word
+      pub world : WorldKept setting w w z z y q.state
+      pub back : Around setting level_credit z z y q.state
+      pub site : SiteStored setting around y → SiteStored setting around q.state
 
     abbrev pub LevelDoes : Type 0
-    LevelDoes = Does routine_credit (level_routine setting.at) [] (descend (below_at setting k) (λ entered. gives nil entered) around z)
+    LevelDoes =
+        CallBegins setting rs valid level_words w around z y
+        → Ends setting (LevelThere (called (code_at setting k turns) (level_routine setting.at) [] y)) ⊥ turns z y
+        (descend (below_at setting k) (λ entered. gives nil entered) around z) (called (code_at setting k turns) (level_routine setting.at) [] y)
 
     -- ---- lists, calls of methods, bindings, kinds
 
@@ -162,7 +208,7 @@ module _ (setting : Setting) where
     abbrev pub ListDoes : Type 0
     ListDoes =
         (vs : List Value) (address : ℕ) → ArgumentsLent setting w y.arena address vs
-        → Does (argument_credit (length vs)) (list_routine setting.at) (address ∷ length vs ∷ [])
+        → DoesAnywhere routine_words (argument_credit (length vs)) (list_routine setting.at) (address ∷ length vs ∷ [])
         (make_list setting.limit vs z (λ v after. gives v after))
 
     -- the call of a method is kept: the address of its arguments in the heap is returned
@@ -180,7 +226,7 @@ module _ (setting : Setting) where
     abbrev pub MethodDoes : Type 0
     MethodDoes =
         (c : Called) (chain address : ℕ) → ChainAt setting chain c.rest → ChainTakes setting (length c.arguments) c.rest
-        → ArgumentsLent setting w y.arena address c.arguments → RoutineBegins
+        → ArgumentsLent setting w y.arena address c.arguments → CallBegins setting rs valid routine_words w around z y
         → Ends setting
         (MethodKept c (argument_credit (length c.arguments)) (with_record setting.limit (Some c) true z (λ after. gives nil after))
         (called (code_at setting k turns) (method_routine setting.at) (chain ∷ length c.arguments ∷ address ∷ []) y))
@@ -195,18 +241,18 @@ module _ (setting : Setting) where
 
     abbrev pub LooksUp : (most routine : ℕ) → List ℕ → (word : ℕ) → Type 0
     LooksUp most routine ws word =
-        RoutineBegins
+        CallBegins setting rs valid looking_words w around z y
         → Ends setting (Looks most word (called (code_at setting k turns) routine ws y)) ⊥ turns z y (gives nil z)
         (called (code_at setting k turns) routine ws y)
 
     abbrev pub IsFunctionDoes : Type 0
     IsFunctionDoes =
         (v : Value) (word : ℕ) → WordIs w word v
-        → LooksUp 150 (is_function_routine setting.at) (word ∷ []) (if is_function (fetch z.state v) then 1 else 0)
+        → LooksUp is_function_cost (is_function_routine setting.at) (word ∷ []) (if is_function (fetch z.state v) then 1 else 0)
 
     abbrev pub ClassDoes : Type 0
     ClassDoes =
-        (v : Value) (word : ℕ) → WordIs w word v → LooksUp 150 (class_routine setting.at) (word ∷ []) (4 * class_of z.state v)
+        (v : Value) (word : ℕ) → WordIs w word v → LooksUp class_cost (class_routine setting.at) (word ∷ []) (4 * class_of z.state v)
 
     -- where the value of a dynamic variable is: in the innermost binding of its name, or the outermost one; each binding that is passed costs
     -- at most 100

@@ -3,7 +3,7 @@ use Rattle.std.specs.Prelude.{◌≡◌, ◌⊎◌, ⊤, ℕ, ◌+◌, ◌*◌, 
 use Rattle.lang_meaning.specs.declared.scope.ExitForm.{ExitForm}
 use Rattle.lang_meaning.specs.declared.scope.ExitForm.TheVariants.{Tagbody}
 use Rattle.lang_meaning.specs.Objects.{Called}
-use Rattle.lang_meaning.specs.State.{Exit, end_exit, Landing, at_segment}
+use Rattle.lang_meaning.specs.State.{Exit, ExitKind, catch_exit, signal_exit, end_exit, Landing, at_segment, at_site}
 use Rattle.mid_arena.specs.Places.{Spot, Places, Owner, spot_of}
 use Rattle.back_lowering.specs.ControlWords.{record_words}
 
@@ -41,7 +41,14 @@ MethodIs w a called = (i : ℕ) × (slice_get w.methods i ≡ Some (a, called))
 -- a transfer to an exit lands at a segment that its form has
 abbrev pub LandsIn : Option (Option ExitForm) → Landing → Type 0
 LandsIn (Some (Some (Tagbody segments))) (at_segment i) = i < segments
+LandsIn (Some (Some (Tagbody segments))) (at_site place) = ⊥
 LandsIn o landing = ⊤
+
+-- the exits of catches and of signals, to which transfers leave by a tag
+abbrev pub IsTagged : ExitKind → Type 0
+IsTagged (catch_exit tag) = ⊤
+IsTagged (signal_exit c mark) = ⊤
+IsTagged kind = ⊥
 
 -- no value of a binding stands at an address
 abbrev pub Plain : World → ℕ → Type 0
@@ -73,6 +80,10 @@ is_cleanup (for_exit x) = false
 abbrev pub IsIn : Standing → List Standing → Type 0
 IsIn r [] = ⊥
 IsIn r (s ∷ rs) = (r ≡ s) ⊎ IsIn r rs
+
+-- no block and no tagbody made the exits of catches and of signals that stand
+abbrev pub TagsLand : World → List Standing → Type 0
+TagsLand w rs = (x : Exit) (v : Standing) → IsIn v rs → v.role ≡ for_exit x → IsTagged x.kind → slice_get w.exit_forms x.number ≡ Some None
 
 -- how many bytes a record has
 abbrev pub record_bytes : ℕ

@@ -97,6 +97,12 @@ depth f = fold (λ g outer inner. max (greatest outer) (if is_function g then 0 
 abbrev pub application_words : ℕ → ℕ
 application_words n = 16 + 16 * n
 
+-- The instructions that each unit pays. A form that is charged one unit may call a routine that signals a condition, or go to a tag, which
+-- together with its own code takes up to 600; and it leaves 700 to what is around it, so that each method of a generic call is paid, for which
+-- nothing is charged but its arguments.
+abbrev pub unit_cost : ℕ
+unit_cost = 1300
+
 -- the instructions within which a run of so many units halts
 abbrev pub bound : ℕ → ℕ
-bound units = 300 * units + 2000
+bound units = unit_cost * units + 2000

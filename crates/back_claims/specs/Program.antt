@@ -1,58 +1,37 @@
 -- **What is to be shown of lowered programs**: at every number of levels, with any words and any input, the run of the code does what the
 -- program means.
-use Rattle.std.specs.Prelude.{◌≡◌, ◌⊎◌, ⊤, ℕ, ◌+◌, ◌*◌, ◌^◌, ◌<◌, ◌≤◌, List, [], Some, length, slice_get}
-use Rattle.base.specs.AllOf.{AllOf}
+use Rattle.std.specs.Prelude.{◌≡◌, ◌⊎◌, ⊤, ℕ, ◌+◌, ◌*◌, ◌^◌, ◌<◌, ◌≤◌, List, [], Some, length}
 use Rattle.lang_meaning.specs.Counts.{bound}
 use Rattle.lang_meaning.specs.InitialHeap.{objects_at_start}
 use Rattle.lang_meaning.specs.Meaning.{Meant, End, ended_value, ended_unhandled, ended_full, ended_more, class_in}
 use Rattle.lang_meaning.specs.Prefixes.{IsPrefix}
 use Rattle.lang_meaning.specs.State.{first_state, value, Limit, words, unlimited}
 use Rattle.lang_meaning.specs.Values.{Value, nil}
-use Rattle.flat_language.specs.declared.program.FlatProcedure.{FlatProcedure}
-use Rattle.flat_language.specs.FlatFits.{ProgramFits}
 use Rattle.flat_language.specs.FlatMeaning.{mean_mains, flat_meaning}
-use Rattle.flat_language.specs.FlatNodes.{tables, nodes}
-use Rattle.flat_language.specs.FlatStanding.{ProgramStands}
+use Rattle.flat_language.specs.FlatNodes.{tables}
 use Rattle.flat_language.specs.FlatState.{FlatState, FlatEvaluated}
 use Rattle.mid_code.specs.Meaning.{runs}
 use Rattle.mid_code.specs.State as mid
 use Rattle.mid_code.specs.State.{MidState, MidOutcome}
 use Rattle.mid_arena.specs.Places.{word_of}
-use Rattle.back_lowering.specs.Program.{Extra, itself, extra_of, body_of, main_form, start_number}
+use Rattle.back_lowering.specs.Program.{start_number}
 use Rattle.back_relation.specs.Setting.{Setting}
-use Rattle.back_relation.specs.Room.{words_for}
-use Rattle.back_relation.specs.Placed.{ProgramPlaced}
+use Rattle.back_relation.specs.Room.{routine_words}
+use Rattle.back_relation.specs.Right.{ProgramIsRight}
 use Rattle.back_relation.specs.Worlds.{World}
 use Rattle.back_relation.specs.Things.{Things, SiteIs}
 use Rattle.back_relation.specs.Ends.{PaidFrom, Ends}
-use Rattle.back_relation.specs.Mains.{MainBegins, Unhandled}
-use Rattle.back_relation.specs.Procedures.{body_words}
+use Rattle.back_claims.specs.Mains.{MainBegins, Unhandled}
 
 -- what a run costs beside its units
 abbrev pub start_credit : ℕ
 start_credit = 2000
 
--- the frame of the start, which is not charged
+-- the frame of the start, and the reserve, which are not charged
 abbrev pub start_words : ℕ
-start_words = 2
+start_words = 2 + routine_words
 
 module _ (setting : Setting) where
-  -- the words that are charged for an application are enough for the frame of a body and what its code lays; so are those of a main form
-  abbrev pub BodyPaid : Extra → FlatProcedure → Type 0
-  BodyPaid extra q = (body_of setting.names setting.at setting.program extra q).frame + words_for setting.names setting.program q.body ≤ body_words q
-
-  pub record FramesPaid : Type 0 where
-    pub procedures : (p : ℕ) (q : FlatProcedure) → slice_get setting.program.procedures p ≡ Some q → BodyPaid (extra_of setting.names setting.at setting.program p) q
-    pub lambdas : AllOf (BodyPaid itself) setting.program.lambdas
-    pub main : AllOf (λ f. (main_form setting.names setting.at setting.program f).frame + 8 + words_for setting.names setting.program f ≤ 16 + 16 * nodes f) setting.program.main
-
-  -- a whole program, which is laid well
-  pub record ProgramIsRight : Type 0 where
-    pub stands : ProgramStands setting.program
-    pub fits : ProgramFits setting.program
-    pub placed : ProgramPlaced setting
-    pub frames_paid : FramesPaid
-
   -- the state before the first form, and what the program means from there on
   abbrev pub at_start : List ℕ → FlatState
   at_start input = record { state = first_state (objects_at_start setting.names (tables setting.program)) input; frame = []; captured = [] }
@@ -113,16 +92,15 @@ module _ (setting : Setting) where
         (class ≡ class_in the_meaning.store c) × SiteIs setting site place
         × ((w : World) × Things setting w (meant_by input k).state (run k y).state × (word_of w.places c ≡ Some word))
     EndsAs mid.no_level ended_more = ⊤
-    EndsAs (mid.no_room asked left_then) ended_more = ⊤
     EndsAs end (ended_full asked left_then) = ⊤
     EndsAs end other = ⊥
 
-    -- the meaning came to no value and no condition, for want of words or of levels
-    abbrev pub IsShort : End → Type 0
-    IsShort (ended_full asked left_then) = ⊤
-    IsShort ended_more = ⊤
-    IsShort (ended_value v) = ⊥
-    IsShort (ended_unhandled c place) = ⊥
+    -- the meaning had no words left
+    abbrev pub IsFullEnd : End → Type 0
+    IsFullEnd (ended_full asked left_then) = ⊤
+    IsFullEnd ended_more = ⊥
+    IsFullEnd (ended_value v) = ⊥
+    IsFullEnd (ended_unhandled c place) = ⊥
 
     -- it ended because the program did, with a value or a condition that is not handled
     abbrev pub IsReached : mid.End → Type 0
@@ -138,8 +116,8 @@ module _ (setting : Setting) where
       pub printed : ((asked left_then : ℕ) → the_meaning.end ≡ ended_full asked left_then → ⊥) → IsPrefix (run k y).state.printed the_meaning.printed
       pub printed_all : IsReached code_end → IsPrefix the_meaning.printed (run k y).state.printed
       -- there is no room only where the words that are charged pass the limit
-      pub room : (m asked left_then : ℕ) → setting.limit ≡ words m → code_end ≡ mid.no_room asked left_then → IsShort the_meaning.end
-      -- each unit costs at most 300, and the whole 2,000 more
+      pub room : (m asked left_then : ℕ) → setting.limit ≡ words m → code_end ≡ mid.no_room asked left_then → IsFullEnd the_meaning.end
+      -- it costs no more than its units pay
       pub cost : IsReached code_end → (((asked left_then : ℕ) → the_meaning.end ≡ ended_full asked left_then → ⊥)) → (run k y).state.cost ≤ bound the_meaning.units
       -- fewer than 2 ^ 32 serial numbers were drawn; exit 0 has none
       pub serials :

@@ -1,12 +1,12 @@
 -- **What is to be shown of main forms.** The record of the end of the program stands around each; a transfer to it ends the run.
-use Rattle.std.specs.Prelude.{◌≡◌, ℕ, ◌+◌, [], Some, length, slice_get}
+use Rattle.std.specs.Prelude.{◌≡◌, ℕ, ◌+◌, [], Some, None, length, slice_get}
 use Rattle.base.specs.declared.place.Place.{Place}
 use Rattle.lang_meaning.specs.Meaning.{class_in}
 use Rattle.lang_meaning.specs.State.{exit, value, at_site}
 use Rattle.lang_meaning.specs.Values.{Value}
 use Rattle.flat_language.specs.FlatForm.{FlatForm}
 use Rattle.flat_language.specs.FlatMeaning.{mean_main}
-use Rattle.flat_language.specs.FlatState.{FlatState, FlatEvaluated}
+use Rattle.flat_language.specs.FlatState.{FlatState, FlatEvaluated, charged}
 use Rattle.mid_code.specs.State.{returns, unhandled, MidState, MidOutcome}
 use Rattle.mid_arena.specs.Places.{word_of}
 use Rattle.back_lowering.specs.ControlWords.{current_address, link_address, handlers_address, bindings_address, end_address}
@@ -16,13 +16,13 @@ use Rattle.back_relation.specs.Worlds.{World}
 use Rattle.back_relation.specs.StackWords.{HasWordAt}
 use Rattle.back_relation.specs.Things.{Things, SiteIs}
 use Rattle.back_relation.specs.Around.{RoomFor}
-use Rattle.back_relation.specs.Ends.{PaidFrom, Ends}
+use Rattle.back_relation.specs.Ends.{PaidFrom, Ends, form_credit}
 use Rattle.back_relation.specs.Forms.{code_at}
 use Rattle.back_relation.specs.Procedures.{called}
 
--- what a main form costs beside its form
+-- what a main form costs beside the units of its form, the first of which pays for it too
 abbrev pub main_credit : ℕ
-main_credit = 256
+main_credit = form_credit + 300
 
 module _ (setting : Setting) where
   -- where a main form begins: nothing is around, and so many words of the stack are for more than what is charged
@@ -33,6 +33,7 @@ module _ (setting : Setting) where
     pub end : (word : ℕ) × HasWordAt y end_address word
     pub no_handler : HasWordAt y handlers_address 0
     pub no_binding : HasWordAt y bindings_address 0
+    pub end_form : slice_get w.exit_forms 0 ≡ Some None
     pub room : RoomFor setting.limit n z.state y
 
   -- the form gave a value, and the next one may begin
@@ -68,9 +69,9 @@ module _ (setting : Setting) where
   MainDoes k turns number f =
       (n : ℕ) (w : World) (z : FlatState) (y : MidState) → slice_get setting.program.main number ≡ Some f → MainBegins n w z y
       → Ends setting
-      (MainReturned n main_credit z y (mean_main setting.names setting.program setting.limit k f z)
+      (MainReturned n main_credit (charged 1 z) y (mean_main setting.names setting.program setting.limit k f z)
       (called (code_at setting k turns) (mains_from setting.names setting.at setting.program + number) [] y))
-      (Unhandled main_credit z y (mean_main setting.names setting.program setting.limit k f z)
+      (Unhandled main_credit (charged 1 z) y (mean_main setting.names setting.program setting.limit k f z)
       (called (code_at setting k turns) (mains_from setting.names setting.at setting.program + number) [] y))
       turns z y (mean_main setting.names setting.program setting.limit k f z)
       (called (code_at setting k turns) (mains_from setting.names setting.at setting.program + number) [] y)
