@@ -73,5 +73,5 @@ module _ (setting : Setting) where
       (called (code_at setting k turns) (mains_from setting.names setting.at setting.program + number) [] y))
       (Unhandled main_credit (charged 1 z) y (mean_main setting.names setting.program setting.limit k f z)
       (called (code_at setting k turns) (mains_from setting.names setting.at setting.program + number) [] y))
-      turns z y (mean_main setting.names setting.program setting.limit k f z)
+      turns (charged 1 z) y (mean_main setting.names setting.program setting.limit k f z)
       (called (code_at setting k turns) (mains_from setting.names setting.at setting.program + number) [] y)

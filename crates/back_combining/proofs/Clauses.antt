@@ -32,7 +32,7 @@ use Rattle.back_combining.proofs.Growth.{same_flat, both_flat, then_grown}
 use Rattle.back_combining.proofs.Judging.{truth_of_word}
 use Rattle.back_combining.proofs.Parts.{single_step}
 use Rattle.back_combining.proofs.Points.{point_after, code_grows}
-use Rattle.back_combining.proofs.Starts.{start_charged, ends_charged, gives_run, given_already, two, behind, reached_set, reached_same}
+use Rattle.back_combining.proofs.Starts.{start_charged, ends_sparing, ends_spared, tests_spared, gives_run, given_already, two, behind, reached_set, reached_same}
 use Rattle.back_combining.proofs.Then.{ends_judged}
 
 picked_grows :
@@ -121,7 +121,7 @@ module _ (setting : Setting) (s : FormScope) (d m size k n : ℕ) (there : d + 1
         (sym (single_step (code_at setting k n) (choose t (value_code setting s d f) otherwise) p.regs p.y))
         (choice setting {c1 = clauses_credit cs} (code_at setting k n) (start p) t (value_code setting s d f) otherwise a b (is_true v)
         (mean (context_at setting k) f p.env p.around p.z) (clauses_mean cs p) first second so (omega arith) (form_grows setting k f p.env p.around p.z).units (others_up p)
-        (λ e. more_credit (start (tested_point p)) (omega arith) (here (tested_point p)))
+        (λ e. more_credit (start (tested_point p)) (omega arith) (ends_spared setting (start (tested_point p)) (here (tested_point p))))
         (λ e. others (tested_point p)))
 
     -- a clause without one, whose value is there
@@ -163,7 +163,7 @@ module _ (setting : Setting) (s : FormScope) (d m size k n : ℕ) (there : d + 1
       subst (λ q. EndsAt setting (clauses_credit (clause_and test (with_body f) cs)) (start p) (clauses_mean (clause_and test (with_body f) cs) p) q)
       (sym (in_two_parts (code_at setting k n) (judged setting s d test).ready rest p.regs p.y))
       (ends_judged setting {c1 = judged_credit} {c2 = clauses_credit cs + 14} (λ v z. picked v (with_body f) cs p.env p.around z) (λ g y. running rest g y)
-      (omega arith) (omega arith) (form_grows setting k test p.env p.around p.z).units (h.0 p)
+      (omega arith) (omega arith) (form_grows setting k test p.env p.around p.z).units (tests_spared setting (start p) (h.0 p))
       (λ v z. picked_grows setting k v (with_body f) cs p.env p.around z (clauses_grow setting k cs p.env p.around z))
       (λ g y. code_grows setting s d m size k n rest g y)
       (λ x.
@@ -177,7 +177,7 @@ module _ (setting : Setting) (s : FormScope) (d m size k n : ℕ) (there : d + 1
       (choose (test_of Different d (d + 1)) no_step (code_of (clauses_steps cs)) ∷ []))
       ∙ in_two_parts (code_at setting k n) (value_steps setting s d m size k n test) rest p.regs p.y))
       (two setting {c1 = 0} {c2 = clauses_credit cs + 20} (start p) d (λ v z. picked v no_body cs p.env p.around z) (λ g y. running rest g y)
-      (omega arith) (omega arith) (form_grows setting k test p.env p.around p.z).units (h.0 p)
+      (omega arith) (omega arith) (form_grows setting k test p.env p.around p.z).units (ends_spared setting (start p) (h.0 p))
       (λ v z. picked_grows setting k v no_body cs p.env p.around z (clauses_grow setting k cs p.env p.around z))
       (λ g y. code_grows setting s d m size k n rest g y)
       (λ x. no_body_judged cs (clauses_sim cs h.1) (point_after setting s d m size n p x.reached) x.result x.word x.in_register x.of_value))
@@ -186,7 +186,7 @@ module _ (setting : Setting) (s : FormScope) (d m size k n : ℕ) (there : d + 1
   pub clauses_here : (cs : FlatClauses) → ClausesHere setting s d m size k n cs → Here setting s d m size k n (clauses cs)
   unfolding mean lower
   clauses_here cs h p =
-      ends_charged setting {c1 = clauses_credit cs} (start p) (1 + count_clauses cs) (omega arith)
+      ends_sparing setting {c1 = clauses_credit cs} (start p) (1 + count_clauses cs) (omega arith) (omega arith)
       (clauses_sim cs h (record {
         rs = p.rs;
         valid = p.valid;

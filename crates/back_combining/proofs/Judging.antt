@@ -1,13 +1,12 @@
 -- A value that is there is judged: its word is compared with that of nil.
-use Rattle.std.proofs.Common.{◌≡◌, ℕ, ◌+◌, ◌<◌, ◌≤◌, [], ◌∷◌, ◌++◌, Some, refl, sym, ap, ◌∙◌, subst, arith}
+use Rattle.std.proofs.Common.{◌≡◌, ℕ, ◌+◌, ◌<◌, [], ◌∷◌, ◌++◌, Some, refl, sym, ap, ◌∙◌, subst, arith}
 use Rattle.std.specs.Prelude.{slice_set, ◌==◌, not}
 use Rattle.std.proofs.lemmas.Bool.{eq-eqb, ne_eqb}
-use Rattle.lang_meaning.specs.State.{DynamicContext}
 use Rattle.lang_meaning.specs.Values.{Value, integer, character, symbol, nil, object, is_true}
 use Rattle.flat_language.specs.FlatForm.{FlatForm}
 use Rattle.flat_language.specs.FlatMeaning.{mean}
 use Rattle.flat_language.specs.FlatNodes.{tables}
-use Rattle.flat_language.specs.FlatState.{FlatEnvironment, FlatState, FlatEvaluated, gives, go_on}
+use Rattle.flat_language.specs.FlatState.{FlatState, FlatEvaluated, gives, go_on}
 use Rattle.mid_code.specs.declared.operation.Comparison.TheVariants.{Different}
 use Rattle.mid_code.specs.Meaning.{exec}
 use Rattle.mid_code.specs.MidCode.{code_of}
@@ -25,16 +24,15 @@ use Rattle.back_relation.specs.Setting.{Setting}
 use Rattle.back_relation.specs.Worlds.{World}
 use Rattle.back_relation.specs.Things.{Things}
 use Rattle.back_relation.specs.Activation.{FormScope}
-use Rattle.back_relation.specs.Ends.{done}
-use Rattle.back_relation.specs.Forms.{TestEnds, FellJudged, judged_credit, context_at, code_at}
+use Rattle.back_relation.specs.Ends.{done, form_credit}
+use Rattle.back_relation.specs.Forms.{TestEnds, SparingTest, FellJudged, judged_credit, context_at, code_at}
 use Rattle.back_combining.specs.Forms.{LawOfJudging}
 use Rattle.back_combining.specs.Points.{Point, start_at, run, Here, JudgedHere}
-use Rattle.back_combining.specs.Starts.{EndsAt, FellFrom}
+use Rattle.back_combining.specs.Starts.{EndsAt, SparingAt, FellFrom}
 use Rattle.back_combining.proofs.Choices.{go_gives}
-use Rattle.back_combining.proofs.FormGrowth.{form_grows}
 use Rattle.back_combining.proofs.Growth.{same_flat, then_value}
 use Rattle.back_combining.proofs.Parts.{go_on_falls}
-use Rattle.back_combining.proofs.Points.{point_after, code_grows}
+use Rattle.back_combining.proofs.Points.{point_after, charged_point, code_grows}
 use Rattle.back_combining.proofs.Starts.{reached_set}
 use Rattle.back_combining.proofs.Then.{ends_go_on, reached_then}
 
@@ -56,33 +54,33 @@ module _ (setting : Setting) (s : FormScope) (d m size k n : ℕ) (there : d + 1
   abbrev nil_steps : Steps
   nil_steps = constant (d + 1) nil_word ∷ []
 
-  abbrev JudgedBy : Point setting s d m size → FlatEvaluated → MidOutcome → Type 0
-  JudgedBy p r q =
-      TestEnds setting judged_credit n p.rs p.valid s d p.w p.env p.around p.z p.regs p.y (test_of Different d (d + 1)) r q
+  abbrev JudgedBy : (credit : ℕ) → Point setting s d m size → FlatEvaluated → MidOutcome → Type 0
+  JudgedBy credit p r q =
+      TestEnds setting (credit + judged_credit) n p.rs p.valid s d p.w p.env p.around p.z p.regs p.y (test_of Different d (d + 1)) r q
 
   -- the value of some steps is judged behind them
   pub judged_behind :
-      (p : Point setting s d m size) (ss : Steps) (r : FlatEvaluated) → EndsAt setting 0 (start_at setting s d m size n p) r (run setting s d m size k n ss p.regs p.y)
-      → p.z.state.units ≤ r.state.state.units → JudgedBy p r (run setting s d m size k n (ss ++ nil_steps) p.regs p.y)
-  judged_behind p ss r e up =
-      subst (λ q. JudgedBy p r q) (sym (in_two_parts (code_at setting k n) ss nil_steps p.regs p.y))
-      (subst (λ o. JudgedBy p o (mid_go_on (run setting s d m size k n ss p.regs p.y) (λ g y. run setting s d m size k n nil_steps g y))) (go_gives r)
+      {credit : ℕ} (p : Point setting s d m size) (ss : Steps) (r : FlatEvaluated) → EndsAt setting credit (start_at setting s d m size n p) r (run setting s d m size k n ss p.regs p.y)
+      → JudgedBy credit p r (run setting s d m size k n (ss ++ nil_steps) p.regs p.y)
+  judged_behind {credit} p ss r e =
+      subst (λ q. JudgedBy credit p r q) (sym (in_two_parts (code_at setting k n) ss nil_steps p.regs p.y))
+      (subst (λ o. JudgedBy credit p o (mid_go_on (run setting s d m size k n ss p.regs p.y) (λ g y. run setting s d m size k n nil_steps g y))) (go_gives r)
       (ends_go_on setting (λ v z. gives v z) (λ g y. run setting s d m size k n nil_steps g y) (omega arith) (omega arith) e (λ v z. same_flat z)
       (λ g y. code_grows setting s d m size k n nil_steps g y)
       (λ x. done (told x))))
     where
       told :
-          (x : FellFrom setting 0 (start_at setting s d m size n p) d r (run setting s d m size k n ss p.regs p.y))
-          → FellJudged setting judged_credit p.rs p.valid s d p.w p.env p.around p.z p.regs p.y (test_of Different d (d + 1)) (go_on r (λ v z. gives v z))
+          (x : FellFrom setting credit (start_at setting s d m size n p) d r (run setting s d m size k n ss p.regs p.y))
+          → FellJudged setting (credit + judged_credit) p.rs p.valid s d p.w p.env p.around p.z p.regs p.y (test_of Different d (d + 1)) (go_on r (λ v z. gives v z))
           (mid_go_on (run setting s d m size k n ss p.regs p.y) (λ g y. run setting s d m size k n nil_steps g y))
       told x =
           let q : MidOutcome = run setting s d m size k n ss p.regs p.y in
           let b : Point setting s d m size = point_after setting s d m size n p x.reached in
           let runs : RunsTo (code_at setting k n) (code_of nil_steps) q.registers q.state (ends falls (slice_set q.registers (d + 1) (Some nil_word)) (mid_charged 6 q.state)) =
           and_then constant_falls none_left in
-          subst (λ o. FellJudged setting judged_credit p.rs p.valid s d p.w p.env p.around p.z p.regs p.y (test_of Different d (d + 1)) o
+          subst (λ o. FellJudged setting (credit + judged_credit) p.rs p.valid s d p.w p.env p.around p.z p.regs p.y (test_of Different d (d + 1)) o
           (mid_go_on q (λ g y. run setting s d m size k n nil_steps g y))) (sym (then_value r (λ v z. gives v z) x.result x.outcome))
-          (subst (λ o. FellJudged setting judged_credit p.rs p.valid s d p.w p.env p.around p.z p.regs p.y (test_of Different d (d + 1)) (gives x.result r.state) o)
+          (subst (λ o. FellJudged setting (credit + judged_credit) p.rs p.valid s d p.w p.env p.around p.z p.regs p.y (test_of Different d (d + 1)) (gives x.result r.state) o)
           (sym (go_on_falls q (λ g y. run setting s d m size k n nil_steps g y) x.end ∙ runs.same))
           (record {
             result = x.result;
@@ -102,15 +100,13 @@ module _ (setting : Setting) (s : FormScope) (d m size k n : ℕ) (there : d + 1
   -- **a form that is judged by its value**
   pub judged_sim :
       (f : FlatForm) (ss : Steps) → lower setting.names setting.at setting.program s.code d f ≡ by_value d ss
-      → ((env : FlatEnvironment) (around : DynamicContext) (z : FlatState) → z.state.units ≤ (mean (context_at setting k) f env around z).state.state.units)
       → Here setting s d m size k n f → JudgedHere setting s d m size k n f
-  judged_sim f ss same up here p =
-      subst (λ (o : Lowered). TestEnds setting judged_credit n p.rs p.valid s d p.w p.env p.around p.z p.regs p.y o.judged.test
+  judged_sim f ss same here p =
+      subst (λ (o : Lowered). SparingTest setting n p.rs p.valid s d p.w p.env p.around p.z p.regs p.y o.judged.test
       (mean (context_at setting k) f p.env p.around p.z) (exec (code_at setting k n) (code_of o.judged.ready) p.regs p.y)) (sym same)
-      (judged_behind p ss (mean (context_at setting k) f p.env p.around p.z)
-      (subst (λ (o : Lowered). EndsAt setting 0 (start_at setting s d m size n p) (mean (context_at setting k) f p.env p.around p.z) (run setting s d m size k n o.value p.regs p.y)) same (here p))
-      (up p.env p.around p.z))
+      (judged_behind {credit = form_credit} (charged_point setting s d m size n p) ss (mean (context_at setting k) f p.env p.around p.z)
+      (subst (λ (o : Lowered). SparingAt setting (start_at setting s d m size n p) (mean (context_at setting k) f p.env p.around p.z) (run setting s d m size k n o.value p.regs p.y)) same (here p)))
 
 pub judging_law : LawOfJudging
 judging_law setting s d m size k turns f ss there same here =
-    judged_sim setting s d m size k turns there f ss same (λ env around z. (form_grows setting k f env around z).units) here
+    judged_sim setting s d m size k turns there f ss same here

@@ -28,11 +28,12 @@ use Rattle.back_relation.specs.Setting.{Setting}
 use Rattle.back_relation.specs.Worlds.{World}
 use Rattle.back_relation.specs.Things.{Things, LiteralIs, TakenSpot}
 use Rattle.back_relation.specs.Activation.{FormScope}
+use Rattle.back_relation.specs.Ends.{form_credit}
 use Rattle.back_relation.specs.Forms.{context_at}
 use Rattle.back_combining.specs.Forms.{IsKnown, LawOfLiterals, LawOfSlots}
-use Rattle.back_combining.specs.Starts.{Start, EndsAt}
+use Rattle.back_combining.specs.Starts.{Start, EndsAt, SparingAt}
 use Rattle.back_combining.specs.Points.{Point, start_at, run, Here}
-use Rattle.back_combining.proofs.Starts.{start_charged, ends_charged, gives_run}
+use Rattle.back_combining.proofs.Starts.{start_charged, ends_sparing, gives_run}
 
 past : {X : Type 0} (xs : List X) (i : ℕ) → slice_get xs i ≡ None → i < length xs → ⊥
 past [] i e h = omega arith
@@ -83,12 +84,12 @@ module _ (setting : Setting) (s : FormScope) (d m size k n : ℕ) where
       let b : Start setting = start_charged setting (start p) 1 in
       let code_is =
       ap (literal_code setting.names setting.at setting.program s.code.site d i) there ∙ literal_steps i l f in
-      ends_charged setting {c1 = 300} (start p) 1 (omega arith)
-      (subst (λ ss. EndsAt setting 300 b (mean_literal (context_at setting k) i (slice_get setting.program.literals i) p.around (charged 1 p.z)) (run setting s d m size k n ss p.regs p.y))
+      ends_sparing setting {c1 = form_credit} (start p) 1 (omega arith) (omega arith)
+      (subst (λ ss. EndsAt setting form_credit b (mean_literal (context_at setting k) i (slice_get setting.program.literals i) p.around (charged 1 p.z)) (run setting s d m size k n ss p.regs p.y))
       (sym code_is)
-      (subst (λ r. EndsAt setting 300 b r (run setting s d m size k n (constant d (literal_word setting.at i) ∷ []) p.regs p.y))
+      (subst (λ r. EndsAt setting form_credit b r (run setting s d m size k n (constant d (literal_word setting.at i) ∷ []) p.regs p.y))
       (sym (ap (λ o. mean_literal (context_at setting k) i o p.around (charged 1 p.z)) there ∙ literal_gives i l p.around (charged 1 p.z) f))
-      (gives_run setting {credit = 300} b (literal_is i l) (omega arith)
+      (gives_run setting {credit = form_credit} b (literal_is i l) (omega arith)
       (literal_has p.w i (literal_word setting.at i) l f (p.begins.call.things.literals i l there)) (and_then constant_falls none_left))))
 
   -- **a variable in a slot**
@@ -99,14 +100,14 @@ module _ (setting : Setting) (s : FormScope) (d m size k n : ℕ) where
     where
       by :
           (o : Option ℕ) → slice_get s.code.slots i ≡ o → (v : Value) → slice_get p.z.frame i ≡ Some (holds v)
-          → EndsAt setting 0 (start p) (gives (value_of (Slot i) p.env p.z) (charged 1 p.z)) (run setting s d m size k n (slot_into d o) p.regs p.y)
+          → SparingAt setting (start p) (gives (value_of (Slot i) p.env p.z) (charged 1 p.z)) (run setting s d m size k n (slot_into d o) p.regs p.y)
       by None none v has =
           absurd (past s.code.slots i none (subst (λ n. i < n) (sym p.begins.activation.slot_count) (slice_get_within p.z.frame i (holds v) has)))
       by (Some r) some v has =
           let old = p.begins.activation.slots i r (holds v) some has in
-          ends_charged setting {c1 = 300} (start p) 1 (omega arith)
-          (subst (λ u. EndsAt setting 300 (start_charged setting (start p) 1) (gives u (charged 1 p.z)) (run setting s d m size k n (slot_into d (Some r)) p.regs p.y)) (sym (ap value_held has))
-          (gives_run setting {credit = 300} (start_charged setting (start p) 1) v (omega arith) old.2 (and_then (move_falls old.1) none_left)))
+          ends_sparing setting {c1 = form_credit} (start p) 1 (omega arith) (omega arith)
+          (subst (λ u. EndsAt setting form_credit (start_charged setting (start p) 1) (gives u (charged 1 p.z)) (run setting s d m size k n (slot_into d (Some r)) p.regs p.y)) (sym (ap value_held has))
+          (gives_run setting {credit = form_credit} (start_charged setting (start p) 1) v (omega arith) old.2 (and_then (move_falls old.1) none_left)))
 
 pub literals_law : LawOfLiterals
 literals_law setting s d m size k turns i l there known = literal_sim setting s d m size k turns i l there known

@@ -21,7 +21,7 @@ use Rattle.mid_arena.proofs.Running.{RunsTo, and_then, none_left, constant_falls
 use Rattle.back_relation.specs.Setting.{Setting}
 use Rattle.back_relation.specs.Worlds.{World}
 use Rattle.back_relation.specs.Activation.{FormScope}
-use Rattle.back_relation.specs.Ends.{done, left_by, full_there, stopped, few_turns}
+use Rattle.back_relation.specs.Ends.{done, left_by, full_there, stopped, few_turns, form_credit}
 use Rattle.back_relation.specs.Forms.{judged_credit, below_at, context_at, code_at, value_code, judged}
 use Rattle.back_combining.specs.Starts.{FlatGrown, Start, EndsAt, ReachedFrom, LoopEnds}
 use Rattle.back_combining.proofs.Growth.{same_flat, both_flat, then_grown, same_prefix, then_value}
@@ -34,8 +34,8 @@ use Rattle.back_combining.proofs.Parts.{go_on_falls, step_then}
 use Rattle.back_combining.specs.Forms.{LawOfLoops, LawOfWhiles}
 use Rattle.back_combining.specs.Points.{Point, start_at, loop, Here, JudgedHere, LoopHere}
 use Rattle.back_combining.proofs.FormGrowth.{form_grows, below_grows}
-use Rattle.back_combining.proofs.Points.{point_after}
-use Rattle.back_combining.proofs.Starts.{start_charged, ends_charged_by, reached_repaid, reached_cost, reached_set, reached_same}
+use Rattle.back_combining.proofs.Points.{point_after, charged_point}
+use Rattle.back_combining.proofs.Starts.{start_charged, ends_charged_by, ends_spared, tests_spared, reached_repaid, reached_cost, reached_set, reached_same}
 use Rattle.back_combining.proofs.Then.{ends_go_on, ends_behind, reached_then}
 
 module _ (setting : Setting) where
@@ -140,7 +140,7 @@ module _ (setting : Setting) (s : FormScope) (d m size : ℕ) where
         turn_sim p =
             subst (λ q. LoopEnds setting 2 (start_at setting s d m size n p) (go_on (mean (context_at setting k) body p.env p.around p.z) (after_body p.env p.around)) q)
             (sym (turn_is p.regs p.y))
-            (ends_go_on setting (after_body p.env p.around) again_next (omega arith) (omega arith) (body_sim p)
+            (ends_go_on setting (after_body p.env p.around) again_next (omega arith) (omega arith) (ends_spared setting (start_at setting s d m size n p) (body_sim p))
             (λ v z. below_grows setting k (form (while_form t body)) p.env p.around z) again_grows
             (λ x.
             let b : Point setting s d m size = point_after setting s d m size n p x.reached in
@@ -196,35 +196,23 @@ module _ (setting : Setting) (s : FormScope) (d m size : ℕ) where
                 (sym (test_false (judged setting s d t).test turn_next (ends falls) p.regs p.y here there so))
                 (done (record { outcome = refl; end = refl; w' = p.w; reached = reached_cost setting (start_at setting s d m size n p) d test_cost (omega arith); spare = omega arith }))
 
-        -- **a loop of the program**
-        pub loop_sim : (p : Point setting s d m size) → LoopEnds setting 0 (start_at setting s d m size n p) (mean (context_at setting k) (while_form t body) p.env p.around p.z) (exec_step c the_loop p.regs p.y)
+        -- a loop of the program, behind its unit
+        loop_behind_unit :
+            (p : Point setting s d m size)
+            → LoopEnds setting 300 (start_charged setting (start_at setting s d m size n p) 1) (mean (context_at setting k) (while_form t body) p.env p.around p.z) (exec_step c the_loop p.regs p.y)
         unfolding mean exec
-        loop_sim p =
+        loop_behind_unit p =
             let b : Start setting = start_charged setting (start_at setting s d m size n p) 1 in
-            ends_charged_by setting {c1 = 300} {c2 = 0} (start_at setting s d m size n p) 1
-            (λ f. record { outcome = f.outcome; end = f.end; w' = f.w'; reached = reached_repaid setting (start_at setting s d m size n p) 1 (omega arith) f.reached; spare = omega (arith, f.spare) })
-            (omega arith)
-            (ends_go_on setting (value_next p.env p.around) test_next (omega arith) (omega arith) (test_sim b_point) (value_grows p.env p.around) test_grows
+            ends_go_on setting (value_next p.env p.around) test_next (omega arith) (omega arith) (tests_spared setting b (test_sim b_point)) (value_grows p.env p.around) test_grows
             (λ x.
             let y : Point setting s d m size = point_after setting s d m size n b_point x.reached in
             subst (λ r. LoopEnds setting 300 b r (mid_go_on (exec c (code_of (judged setting s d t).ready) p.regs p.y) test_next)) (sym (then_value _ (value_next p.env p.around) x.result x.outcome))
             (subst (λ q. LoopEnds setting 300 b (value_next p.env p.around x.result (mean (context_at setting k) t p.env p.around (charged 1 p.z)).state) q) (sym (go_on_falls _ test_next x.end))
             (loop_behind {c1 = judged_credit} {c2 = 290} b_point x.reached (omega arith) (form_grows setting k t p.env p.around (charged 1 p.z)).units
-            (more_credit y (judged_sim y x.result x.first x.second x.first_word x.second_word x.judged))))))
+            (more_credit y (judged_sim y x.result x.first x.second x.first_word x.second_word x.judged)))))
           where
             b_point : Point setting s d m size
-            b_point = record {
-              rs = p.rs;
-              valid = p.valid;
-              w = p.w;
-              env = p.env;
-              around = p.around;
-              z = charged 1 p.z;
-              regs = p.regs;
-              y = p.y;
-              begins = (start_charged setting (start_at setting s d m size n p) 1).begins;
-              count = p.count;
-            }
+            b_point = charged_point setting s d m size n p
 
             more_credit : (p : Point setting s d m size) {r : FlatEvaluated} {q : MidOutcome} → LoopEnds setting 20 (start_at setting s d m size n p) r q → LoopEnds setting 290 (start_at setting s d m size n p) r q
             more_credit p e =
@@ -238,26 +226,34 @@ module _ (setting : Setting) (s : FormScope) (d m size : ℕ) where
                 })
                 (omega arith) (omega arith) e
 
+        -- **a loop of the program**
+        pub loop_sim : (p : Point setting s d m size) → LoopEnds setting 0 (start_at setting s d m size n p) (mean (context_at setting k) (while_form t body) p.env p.around p.z) (exec_step c the_loop p.regs p.y)
+        loop_sim p =
+            ends_charged_by setting {c1 = 300} {c2 = 0} (start_at setting s d m size n p) 1
+            (λ f. record { outcome = f.outcome; end = f.end; w' = f.w'; reached = reached_repaid setting (start_at setting s d m size n p) 1 (omega arith) f.reached; spare = omega (arith, f.spare) })
+            (omega arith) (loop_behind_unit p)
+
         -- **the form of a loop**: nil's word comes behind it
         pub while_sim : Here setting s d m size k n (while_form t body)
         unfolding lower
-        while_sim p =
+        while_sim p0 =
+            let p : Point setting s d m size = charged_point setting s d m size n p0 in
             let nil_steps : Steps = constant d nil_word ∷ [] in
             let next : Next = λ g y. exec c (code_of nil_steps) g y in
-            let r : FlatEvaluated = mean (context_at setting k) (while_form t body) p.env p.around p.z in
+            let r : FlatEvaluated = mean (context_at setting k) (while_form t body) p0.env p0.around p0.z in
             let q : MidOutcome = exec_step c the_loop p.regs p.y in
-            subst (λ o. EndsAt setting 0 (start_at setting s d m size n p) r o) (sym (step_then c the_loop nil_steps p.regs p.y))
-            (subst (λ o. EndsAt setting 0 (start_at setting s d m size n p) o (mid_go_on q next)) (go_gives r)
-            (ends_go_on setting (λ v z. gives v z) next (omega arith) (omega arith) (loop_sim p) (λ v z. same_flat z) (λ g y. code_grows (code_of nil_steps) g y)
+            subst (λ o. EndsAt setting form_credit (start_at setting s d m size n p) r o) (sym (step_then c the_loop nil_steps p.regs p.y))
+            (subst (λ o. EndsAt setting form_credit (start_at setting s d m size n p) o (mid_go_on q next)) (go_gives r)
+            (ends_go_on setting (λ v z. gives v z) next (omega arith) (omega arith) (loop_behind_unit p0) (λ v z. same_flat z) (λ g y. code_grows (code_of nil_steps) g y)
             (λ x.
             let b : Point setting s d m size = point_after setting s d m size n p x.reached in
             let runs : RunsTo c (code_of nil_steps) q.registers q.state (ends falls (slice_set q.registers d (Some nil_word)) (mid_charged 6 q.state)) =
             and_then constant_falls none_left in
-            let whole : ReachedFrom setting 6 (start_at setting s d m size n p) d x.w' r.state (slice_set q.registers d (Some nil_word)) (mid_charged 6 q.state) =
+            let whole : ReachedFrom setting 306 (start_at setting s d m size n p) d x.w' r.state (slice_set q.registers d (Some nil_word)) (mid_charged 6 q.state) =
             reached_then setting (omega arith) x.reached (omega arith)
             (reached_set setting {credit = 6} (start_at setting s d m size n b) d d nil_word 6 (omega arith) (omega arith) (omega arith)) in
-            subst (λ o. EndsAt setting 0 (start_at setting s d m size n p) o (mid_go_on q next)) (sym (then_value r (λ v z. gives v z) nil x.outcome))
-            (subst (λ o. EndsAt setting 0 (start_at setting s d m size n p) (gives nil r.state) o) (sym (go_on_falls q next x.end ∙ runs.same))
+            subst (λ o. EndsAt setting form_credit (start_at setting s d m size n p) o (mid_go_on q next)) (sym (then_value r (λ v z. gives v z) nil x.outcome))
+            (subst (λ o. EndsAt setting form_credit (start_at setting s d m size n p) (gives nil r.state) o) (sym (go_on_falls q next x.end ∙ runs.same))
             (done (record {
               result = nil;
               outcome = refl;

@@ -1,7 +1,7 @@
 -- From a point where code begins to the one where it goes on; and what is shown of a form at all points of a scope.
 use Rattle.std.proofs.Common.{ℕ, ◌≤◌, sym, ◌∙◌, subst, arith}
 use Rattle.flat_language.specs.FlatForm.{FlatForm}
-use Rattle.flat_language.specs.FlatState.{FlatState}
+use Rattle.flat_language.specs.FlatState.{FlatState, charged}
 use Rattle.mid_code.specs.Law.{Grown}
 use Rattle.mid_code.specs.MidCode.{code_of}
 use Rattle.mid_code.specs.State.{Registers, MidState}
@@ -15,7 +15,7 @@ use Rattle.back_relation.specs.Room.{words_for}
 use Rattle.back_relation.specs.Forms.{FormStands, DoesForm, context_at, code_at, value_code}
 use Rattle.back_combining.specs.Points.{Point, start_at, run, Here}
 use Rattle.back_combining.specs.Starts.{ReachedFrom}
-use Rattle.back_combining.proofs.Starts.{start_after}
+use Rattle.back_combining.proofs.Starts.{start_after, start_charged}
 
 module _ (setting : Setting) (s : FormScope) (d m size : ℕ) where
   abbrev pub point_after :
@@ -32,6 +32,21 @@ module _ (setting : Setting) (s : FormScope) (d m size : ℕ) where
     y = y;
     begins = (start_after setting (start_at setting s d m size turns p) d d m (omega arith) (omega arith) (omega arith) p.begins.first x).begins;
     count = x.kept.registers.count ∙ p.count;
+  }
+
+  -- the same point behind a unit that is charged
+  abbrev pub charged_point : (turns : ℕ) → Point setting s d m size → Point setting s d m size
+  charged_point turns p = record {
+    rs = p.rs;
+    valid = p.valid;
+    w = p.w;
+    env = p.env;
+    around = p.around;
+    z = charged 1 p.z;
+    regs = p.regs;
+    y = p.y;
+    begins = (start_charged setting (start_at setting s d m size turns p) 1).begins;
+    count = p.count;
   }
 
   module _ (k n : ℕ) where

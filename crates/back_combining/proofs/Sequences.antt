@@ -13,14 +13,15 @@ use Rattle.back_lowering.specs.Codes.{lower, lower_behind}
 use Rattle.back_lowering.specs.Steps.{Steps}
 use Rattle.back_relation.specs.Setting.{Setting}
 use Rattle.back_relation.specs.Activation.{FormScope}
+use Rattle.back_relation.specs.Ends.{form_credit}
 use Rattle.back_relation.specs.Forms.{context_at, code_at}
 use Rattle.back_combining.specs.Forms.{LawOfSequences}
 use Rattle.back_combining.specs.Starts.{FlatGrown, Start, EndsAt}
 use Rattle.back_combining.proofs.FormGrowth.{form_grows}
 use Rattle.back_combining.proofs.Growth.{same_flat, both_flat, then_grown}
 use Rattle.back_combining.specs.Points.{Point, start_at, run, value_steps, Here, AllHere}
-use Rattle.back_combining.proofs.Points.{point_after, code_grows}
-use Rattle.back_combining.proofs.Starts.{start_charged, ends_charged, gives_run, given_already, two}
+use Rattle.back_combining.proofs.Points.{point_after, charged_point, code_grows}
+use Rattle.back_combining.proofs.Starts.{start_charged, ends_sparing, ends_spared, gives_run, given_already, two}
 
 pub sequence_grows :
     (setting : Setting) (k : ℕ) (v : Value) (fs : FlatForms) (env : FlatEnvironment) (around : DynamicContext) (z : FlatState)
@@ -49,38 +50,24 @@ module _ (setting : Setting) (s : FormScope) (d m size k n : ℕ) where
       subst (λ q. EndsAt setting credit (start p) (mean_sequence (context_at setting k) v (form_and f fs) p.env p.around p.z) q)
       (sym (in_two_parts (code_at setting k n) (value_steps setting s d m size k n f) (behind_steps fs) p.regs p.y))
       (two setting {c1 = 0} {c2 = credit} (start p) d (λ x y. mean_sequence (context_at setting k) x fs p.env p.around y)
-      (λ g y. run setting s d m size k n (behind_steps fs) g y) (omega arith) (omega arith) (form_grows setting k f p.env p.around p.z).units (h.0 p)
+      (λ g y. run setting s d m size k n (behind_steps fs) g y) (omega arith) (omega arith) (form_grows setting k f p.env p.around p.z).units (ends_spared setting (start p) (h.0 p))
       (λ x y. sequence_grows setting k x fs p.env p.around y) (λ g y. code_grows setting s d m size k n (behind_steps fs) g y)
       (λ x. behind_sim fs h.1 (point_after setting s d m size n p x.reached) x.result x.word x.in_register x.of_value))
-
-  abbrev charged_point : Point setting s d m size → Point setting s d m size
-  charged_point p = record {
-    rs = p.rs;
-    valid = p.valid;
-    w = p.w;
-    env = p.env;
-    around = p.around;
-    z = charged 1 p.z;
-    regs = p.regs;
-    y = p.y;
-    begins = (start_charged setting (start p) 1).begins;
-    count = p.count;
-  }
 
   -- **forms in order**
   pub sequence_sim : (fs : FlatForms) → AllHere setting s d m size k n fs → Here setting s d m size k n (sequence fs)
   unfolding mean lower
   sequence_sim no_form h p =
-      ends_charged setting {c1 = 300} (start p) 1 (omega arith)
-      (gives_run setting {credit = 300} (start_charged setting (start p) 1) nil (omega arith) refl (and_then constant_falls none_left))
+      ends_sparing setting {c1 = form_credit} (start p) 1 (omega arith) (omega arith)
+      (gives_run setting {credit = form_credit} (start_charged setting (start p) 1) nil (omega arith) refl (and_then constant_falls none_left))
   sequence_sim (form_and f fs) h p =
-      ends_charged setting {c1 = 300} (start p) 1 (omega arith)
-      (subst (λ q. EndsAt setting 300 (start_charged setting (start p) 1) (mean_sequence (context_at setting k) nil (form_and f fs) p.env p.around (charged 1 p.z)) q)
+      ends_sparing setting {c1 = form_credit} (start p) 1 (omega arith) (omega arith)
+      (subst (λ q. EndsAt setting form_credit (start_charged setting (start p) 1) (mean_sequence (context_at setting k) nil (form_and f fs) p.env p.around (charged 1 p.z)) q)
       (sym (in_two_parts (code_at setting k n) (value_steps setting s d m size k n f) (behind_steps fs) p.regs p.y))
-      (two setting {c1 = 0} {c2 = 300} (start_charged setting (start p) 1) d (λ x y. mean_sequence (context_at setting k) x fs p.env p.around y)
-      (λ g y. run setting s d m size k n (behind_steps fs) g y) (omega arith) (omega arith) (form_grows setting k f p.env p.around (charged 1 p.z)).units (h.0 (charged_point p))
+      (two setting {c1 = 0} {c2 = form_credit} (start_charged setting (start p) 1) d (λ x y. mean_sequence (context_at setting k) x fs p.env p.around y)
+      (λ g y. run setting s d m size k n (behind_steps fs) g y) (omega arith) (omega arith) (form_grows setting k f p.env p.around (charged 1 p.z)).units (ends_spared setting (start (charged_point setting s d m size n p)) (h.0 (charged_point setting s d m size n p)))
       (λ x y. sequence_grows setting k x fs p.env p.around y) (λ g y. code_grows setting s d m size k n (behind_steps fs) g y)
-      (λ x. behind_sim fs h.1 (point_after setting s d m size n (charged_point p) x.reached) x.result x.word x.in_register x.of_value)))
+      (λ x. behind_sim fs h.1 (point_after setting s d m size n (charged_point setting s d m size n p) x.reached) x.result x.word x.in_register x.of_value)))
 
 pub sequences_law : LawOfSequences
 sequences_law setting s d m size k turns fs here = sequence_sim setting s d m size k turns fs here

@@ -1,11 +1,13 @@
 -- A point where code begins, in one record, and the combinators over such points.
 use Rattle.std.proofs.Common.{◌≡◌, ℕ, ◌+◌, ◌*◌, ◌<◌, ◌≤◌, List, length, Some, refl, sym, subst, arith}
 use Rattle.std.specs.Prelude.{slice_set}
+use Rattle.lang_meaning.specs.Counts.{unit_cost}
 use Rattle.lang_meaning.specs.Values.{Value}
 use Rattle.lang_meaning.specs.State.{DynamicContext, Limit, words, unlimited}
 use Rattle.flat_language.specs.FlatState.{FlatState, FlatEvaluated, go_on, gives, charged}
 use Rattle.mid_code.specs.State.{Registers, register, falls, ends, MidState, MidOutcome, Next}
 use Rattle.mid_code.specs.State.{charged as mid_charged, go_on as mid_go_on}
+use Rattle.mid_code.specs.declared.operation.Test.{Test}
 use Rattle.mid_code.specs.Law.{Grown}
 use Rattle.mid_code.specs.Meaning.{Context, exec}
 use Rattle.mid_code.specs.MidCode.{MidCode}
@@ -17,9 +19,9 @@ use Rattle.back_relation.specs.Setting.{Setting}
 use Rattle.back_relation.specs.Worlds.{World, Standing}
 use Rattle.back_relation.specs.Around.{RoomFor}
 use Rattle.back_relation.specs.Activation.{IsOwn, ScopeStands}
-use Rattle.back_relation.specs.Ends.{ChargedFrom, WorldKept, Around, Transfers, done, left_by, full_there, stopped, few_turns}
-use Rattle.back_relation.specs.Forms.{FormEnds}
-use Rattle.back_combining.specs.Starts.{FlatGrown, Start, EndsFrom, EndsAt, EndsBy, FellFrom, ReachedFrom}
+use Rattle.back_relation.specs.Ends.{ChargedFrom, WorldKept, Around, Transfers, done, left_by, full_there, stopped, few_turns, form_spare, form_credit}
+use Rattle.back_relation.specs.Forms.{FormEnds, TestEnds, SparingTest, judged_credit}
+use Rattle.back_combining.specs.Starts.{FlatGrown, Start, EndsFrom, EndsAt, SparingAt, EndsBy, FellFrom, ReachedFrom}
 use Rattle.back_combining.proofs.Activations.{activation_later}
 use Rattle.back_combining.proofs.Straight.{same_here, set_beside, registers_set, world_units, world_cost, around_units, around_cost}
 use Rattle.back_combining.proofs.Then.{ends_then, begins_then, ends_two}
@@ -140,12 +142,12 @@ module _ (setting : Setting) where
   uncharged : {w w' : World} {z z' : FlatState} {y y' : MidState} (u : ℕ) → WorldKept setting w w' (charged u z) z' y y' → WorldKept setting w w' z z' y y'
   uncharged u k = record { later = k.later; things = k.things; stack = k.stack; end = k.end; more_exits = k.more_exits; same_size = k.same_size }
 
-  repaid : {c1 c2 : ℕ} {z z' : FlatState} {y y' : MidState} (u : ℕ) → c1 ≤ 300 * u + c2 → Around setting c1 (charged u z) z' y y' → Around setting c2 z z' y y'
+  repaid : {c1 c2 : ℕ} {z z' : FlatState} {y y' : MidState} (u : ℕ) → c1 ≤ unit_cost * u + c2 → Around setting c1 (charged u z) z' y y' → Around setting c2 z z' y y'
   repaid u h a = record { control = a.control; blocks = a.blocks; charged = a.charged; paid = omega (arith, h, a.paid) }
 
   transfers_repaid :
       {c1 c2 : ℕ} {rs valid : List Standing} {w : World} {around : DynamicContext} {z : FlatState} {y : MidState} {r : FlatEvaluated} {q : MidOutcome} (u : ℕ)
-      → c1 ≤ 300 * u + c2 → Transfers setting c1 rs valid w around (charged u z) y r q → Transfers setting c2 rs valid w around z y r q
+      → c1 ≤ unit_cost * u + c2 → Transfers setting c1 rs valid w around (charged u z) y r q → Transfers setting c2 rs valid w around z y r q
   transfers_repaid u h t = record {
     exit_number = t.exit_number;
     result = t.result;
@@ -172,7 +174,7 @@ module _ (setting : Setting) where
   }
 
   pub reached_repaid :
-      {c1 c2 : ℕ} (a : Start setting) (u : ℕ) {e : ℕ} {w : World} {z : FlatState} {regs : Registers} {y : MidState} → c1 ≤ 300 * u + c2
+      {c1 c2 : ℕ} (a : Start setting) (u : ℕ) {e : ℕ} {w : World} {z : FlatState} {regs : Registers} {y : MidState} → c1 ≤ unit_cost * u + c2
       → ReachedFrom setting c1 (start_charged a u) e w z regs y → ReachedFrom setting c2 a e w z regs y
   reached_repaid a u h x = record {
     kept = record { world = uncharged u x.kept.world; activation = x.kept.activation; registers = x.kept.registers };
@@ -180,7 +182,7 @@ module _ (setting : Setting) where
   }
 
   pub ends_charged_by :
-      {D E : Type 0} {c1 c2 : ℕ} (a : Start setting) (u : ℕ) {r : FlatEvaluated} {q : MidOutcome} → (D → E) → c1 ≤ 300 * u + c2
+      {D E : Type 0} {c1 c2 : ℕ} (a : Start setting) (u : ℕ) {r : FlatEvaluated} {q : MidOutcome} → (D → E) → c1 ≤ unit_cost * u + c2
       → EndsBy setting D c1 (start_charged a u) r q → EndsBy setting E c2 a r q
   unfolding transfers_repaid
   ends_charged_by a u f h (done x) = done (f x)
@@ -191,7 +193,7 @@ module _ (setting : Setting) where
   ends_charged_by a u f h (few_turns x) = few_turns (omega (arith, x))
 
   pub ends_charged :
-      {c1 c2 : ℕ} (a : Start setting) (u : ℕ) {r : FlatEvaluated} {q : MidOutcome} → c1 ≤ 300 * u + c2 → EndsAt setting c1 (start_charged a u) r q
+      {c1 c2 : ℕ} (a : Start setting) (u : ℕ) {r : FlatEvaluated} {q : MidOutcome} → c1 ≤ unit_cost * u + c2 → EndsAt setting c1 (start_charged a u) r q
       → EndsAt setting c2 a r q
   ends_charged a u h e =
       ends_charged_by a u
@@ -206,6 +208,92 @@ module _ (setting : Setting) where
         of_value = x.of_value;
       })
       h e
+
+  -- ---- what a form leaves of its first unit
+
+  respent : {w w' : World} (z : FlatState) {z' : FlatState} {y y' : MidState} (u : ℕ) → WorldKept setting w w' (charged u z) z' y y' → WorldKept setting w w' (charged 1 z) z' y y'
+  respent z u k = record { later = k.later; things = k.things; stack = k.stack; end = k.end; more_exits = k.more_exits; same_size = k.same_size }
+
+  spares :
+      {c1 c2 : ℕ} (z : FlatState) {z' : FlatState} {y y' : MidState} (u : ℕ) → c1 + unit_cost ≤ unit_cost * u + c2 → Around setting c1 (charged u z) z' y y'
+      → Around setting c2 (charged 1 z) z' y y'
+  spares z u h a = record { control = a.control; blocks = a.blocks; charged = a.charged; paid = omega (arith, h, a.paid) }
+
+  transfers_spare :
+      {c1 c2 : ℕ} {rs valid : List Standing} {w : World} {around : DynamicContext} (z : FlatState) {y : MidState} {r : FlatEvaluated} {q : MidOutcome} (u : ℕ)
+      → c1 + unit_cost ≤ unit_cost * u + c2 → Transfers setting c1 rs valid w around (charged u z) y r q → Transfers setting c2 rs valid w around (charged 1 z) y r q
+  transfers_spare z u h t = record {
+    exit_number = t.exit_number;
+    result = t.result;
+    landing = t.landing;
+    outcome = t.outcome;
+    target = t.target;
+    valid_target = t.valid_target;
+    to = t.to;
+    outer = t.outer;
+    stop = t.stop;
+    word = t.word;
+    end = t.end;
+    blocks = t.blocks;
+    w' = t.w';
+    of_value = t.of_value;
+    world = respent z u t.world;
+    charged = t.charged;
+    paid = omega (arith, h, t.paid);
+    pending = t.pending;
+    landing_word = t.landing_word;
+    landing_stands = t.landing_stands;
+    landing_is = t.landing_is;
+    lands = t.lands;
+  }
+
+  -- **what is charged at least one unit, and costs so much less than all of them, leaves so much of the first one**
+  pub ends_sparing :
+      {c1 : ℕ} (a : Start setting) (u : ℕ) {r : FlatEvaluated} {q : MidOutcome} → 1 ≤ u → c1 + form_spare ≤ unit_cost * u → EndsAt setting c1 (start_charged a u) r q
+      → SparingAt setting a r q
+  unfolding transfers_spare
+  ends_sparing a u some h (done x) =
+      done (record {
+        result = x.result;
+        outcome = x.outcome;
+        end = x.end;
+        w' = x.w';
+        reached = record {
+          kept = record { world = respent a.z u x.reached.kept.world; activation = x.reached.kept.activation; registers = x.reached.kept.registers };
+          back = spares a.z u (omega (arith, h)) x.reached.back;
+        };
+        word = x.word;
+        in_register = x.in_register;
+        of_value = x.of_value;
+      })
+  ends_sparing a u some h (left_by x) =
+      left_by (record { transfer = transfers_spare a.z u (omega (arith, h)) x.transfer; activation = x.activation; registers = x.registers })
+  ends_sparing a u some h (full_there x) = full_there x
+  ends_sparing a u some h (stopped x) = stopped x
+  ends_sparing a u some h (few_turns x) = few_turns (omega (arith, x, some))
+
+  -- and the whole unit pays for it, as a part of other code
+  pub ends_spared : (a : Start setting) {r : FlatEvaluated} {q : MidOutcome} → SparingAt setting a r q → EndsAt setting 0 a r q
+  ends_spared a e = ends_charged {c1 = form_credit} a 1 (omega arith) e
+
+  pub tests_spared :
+      (a : Start setting) {t : Test} {r : FlatEvaluated} {q : MidOutcome} → SparingTest setting a.turns a.rs a.valid a.s a.d a.w a.env a.around a.z a.regs a.y t r q
+      → TestEnds setting judged_credit a.turns a.rs a.valid a.s a.d a.w a.env a.around a.z a.regs a.y t r q
+  tests_spared a e =
+      ends_charged_by {c1 = form_credit + judged_credit} {c2 = judged_credit} a 1
+      (λ x. record {
+        result = x.result;
+        outcome = x.outcome;
+        end = x.end;
+        w' = x.w';
+        reached = reached_repaid {c1 = form_credit + judged_credit} {c2 = judged_credit} a 1 (omega arith) x.reached;
+        first = x.first;
+        second = x.second;
+        first_word = x.first_word;
+        second_word = x.second_word;
+        judged = x.judged;
+      })
+      (omega arith) e
 
   -- what is said with fewer turns is said with up of them
   abbrev pub with_turns : ℕ → Start setting → Start setting

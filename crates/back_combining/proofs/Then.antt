@@ -15,7 +15,7 @@ use Rattle.back_relation.specs.Setting.{Setting}
 use Rattle.back_relation.specs.Worlds.{World, Later, Standing}
 use Rattle.back_relation.specs.Around.{RoomFor, CallBegins}
 use Rattle.back_relation.specs.Activation.{FormScope, ScopeStands, RegistersKept, ArgumentsThere, MethodThere}
-use Rattle.back_relation.specs.Ends.{WorldKept, Around, Reached, Transfers, IsFullOrMore, RoomEnded, Because, Ends, done, left_by, full_there, stopped, few_turns, Fell, Left}
+use Rattle.back_relation.specs.Ends.{WorldKept, Around, Reached, Transfers, IsFull, RoomEnded, Because, Ends, done, left_by, full_there, stopped, few_turns, Fell, Left}
 use Rattle.back_relation.specs.Forms.{Begins, FormEnds, FellJudged, TestEnds}
 use Rattle.back_relation.specs.Room.{words_for_handler}
 use Rattle.back_combining.specs.Starts.{FlatGrown}
@@ -231,11 +231,11 @@ module _ (setting : Setting) where
   stopped_last r falls h = absurd h
   stopped_last r e h = tt
 
-  full_or_more : (o : Outcome) → IsFullOrMore setting o → IsNoValue o
-  full_or_more (value v) h = absurd h
-  full_or_more (exit e v landing) h = absurd h
-  full_or_more (full asked left_then) h = tt
-  full_or_more more h = tt
+  full_there_is : (o : Outcome) → IsFull setting o → IsNoValue o
+  full_there_is (value v) h = absurd h
+  full_there_is (exit e v landing) h = absurd h
+  full_there_is (full asked left_then) h = tt
+  full_there_is more h = tt
 
   -- the reason stays where the meaning goes on
   pub because_then :
@@ -244,7 +244,7 @@ module _ (setting : Setting) where
     where
       by : (l : Limit) → RoomEnded setting l r.outcome → RoomEnded setting l (go_on r f).outcome
       by unlimited k = tt
-      by (words m) k = subst (λ (p : FlatEvaluated). IsFullOrMore setting p.outcome) (sym (then_other r f r.outcome refl (full_or_more r.outcome k))) k
+      by (words m) k = subst (λ (p : FlatEvaluated). IsFull setting p.outcome) (sym (then_other r f r.outcome refl (full_there_is r.outcome k))) k
   because_then r f no_level g h = ap (λ (p : FlatEvaluated). p.outcome) (then_other r f more h tt) ∙ h
   because_then r f exhausted g h = omega (arith, h, g.exits)
   because_then r f falls g h = h

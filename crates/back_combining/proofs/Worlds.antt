@@ -1,5 +1,5 @@
 -- Later worlds, and what stands on the stack: it goes on standing where code fell out, and where more was laid inside.
-use Rattle.std.proofs.Common.{◌≡◌, ℕ, ◌+◌, ◌*◌, ◌<◌, ◌≤◌, List, [], ◌∷◌, length, Some, sym, ap, ◌∙◌, subst, arith}
+use Rattle.std.proofs.Common.{◌≡◌, ℕ, ◌+◌, ◌*◌, ◌<◌, ◌≤◌, List, [], ◌∷◌, length, Some, None, sym, ap, ◌∙◌, subst, arith}
 use Rattle.lang_meaning.specs.Values.{Value, integer, character, symbol, nil, object}
 use Rattle.lang_meaning.specs.State.{Exit, ExitKind, block_exit, tagbody_exit, catch_exit, signal_exit, end_exit, DynamicContext}
 use Rattle.flat_language.specs.FlatState.{FlatState}
@@ -173,4 +173,6 @@ around_again setting {w} {w'} {rs} {valid} {around} {z} {z'} {y} {y'} l h back e
   end_record = t.end_record;
   end_valid = t.end_valid;
   end_word = end t.end_record.address t.end_word;
+  end_form = l.exit_forms 0 None t.end_form;
+  tags_land = λ x v i role tagged. l.exit_forms x.number None (t.tags_land x v i role tagged);
 }

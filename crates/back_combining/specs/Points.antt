@@ -13,8 +13,8 @@ use Rattle.back_lowering.specs.Steps.{Steps}
 use Rattle.back_relation.specs.Setting.{Setting}
 use Rattle.back_relation.specs.Worlds.{World, Standing}
 use Rattle.back_relation.specs.Activation.{FormScope}
-use Rattle.back_relation.specs.Forms.{Begins, TestEnds, judged_credit, context_at, code_at, value_code, judged}
-use Rattle.back_combining.specs.Starts.{Start, EndsAt, LoopEnds}
+use Rattle.back_relation.specs.Forms.{Begins, SparingTest, context_at, code_at, value_code, judged}
+use Rattle.back_combining.specs.Starts.{Start, SparingAt, LoopEnds}
 
 module _ (setting : Setting) (s : FormScope) (d m size : ℕ) where
   -- a point where code begins in a scope, with a first register, so many words, and so many registers
@@ -57,7 +57,7 @@ module _ (setting : Setting) (s : FormScope) (d m size : ℕ) where
     -- a form's code does what it means at all points
     abbrev pub Here : FlatForm → Type 0
     Here f =
-        (p : Point) → EndsAt setting 0 (start_at n p) (mean (context_at setting k) f p.env p.around p.z) (run (value_steps f) p.regs p.y)
+        (p : Point) → SparingAt setting (start_at n p) (mean (context_at setting k) f p.env p.around p.z) (run (value_steps f) p.regs p.y)
 
     -- so do all of these
     abbrev pub AllHere : FlatForms → Type 0
@@ -68,7 +68,7 @@ module _ (setting : Setting) (s : FormScope) (d m size : ℕ) where
     abbrev pub JudgedHere : FlatForm → Type 0
     JudgedHere f =
         (p : Point)
-        → TestEnds setting judged_credit n p.rs p.valid s d p.w p.env p.around p.z p.regs p.y (judged setting s d f).test
+        → SparingTest setting n p.rs p.valid s d p.w p.env p.around p.z p.regs p.y (judged setting s d f).test
         (mean (context_at setting k) f p.env p.around p.z) (exec (code_at setting k n) (code_of (judged setting s d f).ready) p.regs p.y)
 
     -- the code of a loop, whose turns are levels

@@ -1,5 +1,6 @@
 -- A point where code begins, in one record; and what of the growth of the meaning the relation asks.
 use Rattle.std.specs.Prelude.{◌≡◌, ℕ, ◌+◌, ◌*◌, ◌≤◌, List}
+use Rattle.lang_meaning.specs.Counts.{unit_cost}
 use Rattle.lang_meaning.specs.Prefixes.{IsPrefix}
 use Rattle.lang_meaning.specs.State.{DynamicContext, value}
 use Rattle.lang_meaning.specs.Values.{nil}
@@ -9,7 +10,7 @@ use Rattle.back_relation.specs.Setting.{Setting}
 use Rattle.back_relation.specs.Worlds.{World, Standing}
 use Rattle.back_relation.specs.Activation.{FormScope}
 use Rattle.back_relation.specs.Ends.{Reached, Fell, Left, Ends}
-use Rattle.back_relation.specs.Forms.{Begins, FormEnds}
+use Rattle.back_relation.specs.Forms.{Begins, FormEnds, SparingForm}
 
 -- what was printed stays, and units and exits do not fall
 pub record FlatGrown (z z' : FlatState) : Type 0 where
@@ -50,6 +51,10 @@ module _ (setting : Setting) where
   abbrev pub LeftFrom : ℕ → Start → ℕ → FlatEvaluated → MidOutcome → Type 0
   LeftFrom credit a d r q = Left setting credit a.rs a.valid a.s d a.w a.env a.around a.z a.regs a.y r q
 
+  -- what a form comes to from there
+  abbrev pub SparingAt : Start → FlatEvaluated → MidOutcome → Type 0
+  SparingAt a r q = SparingForm setting a.turns a.rs a.valid a.s a.d a.w a.env a.around a.z a.regs a.y r q
+
   -- what ends so that something is done, or a transfer leaves it
   abbrev pub EndsBy : (Done : Type 0) → ℕ → Start → FlatEvaluated → MidOutcome → Type 0
   EndsBy Done credit a r q =
@@ -61,7 +66,7 @@ module _ (setting : Setting) where
     pub end : q.end ≡ falls
     pub w' : World
     pub reached : ReachedFrom credit a a.d w' r.state q.registers q.state
-    pub spare : q.state.cost + 300 * a.z.state.units + 6 ≤ a.y.cost + 300 * r.state.state.units + credit
+    pub spare : q.state.cost + unit_cost * a.z.state.units + 6 ≤ a.y.cost + unit_cost * r.state.state.units + credit
 
   abbrev pub LoopEnds : ℕ → Start → FlatEvaluated → MidOutcome → Type 0
   LoopEnds credit a r q = EndsBy (FellNil credit a r q) credit a r q

@@ -215,5 +215,4 @@ module _ (setting : Setting) where
 
   -- and what the call of a function's body comes to, whose form leaves something of its first unit: so much is paid before, and that unit
   abbrev pub SparingCall : (credit turns : ℕ) → (rs valid : List Standing) → World → DynamicContext → FlatState → MidState → FlatEvaluated → MidOutcome → Type 0
-  SparingCall credit turns rs valid w around z y r q =
-      Ends (Returned credit w (charged 1 z) y r q) (LeftCall credit rs valid w around (charged 1 z) y r q) turns z y r q
+  SparingCall credit turns rs valid w around z y r q = CallEnds credit turns rs valid w around (charged 1 z) y r q

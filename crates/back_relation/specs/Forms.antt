@@ -69,15 +69,12 @@ module _ (setting : Setting) where
 
   -- **what a form comes to**, which leaves something of the first unit that it is charged to what is around it
   abbrev pub SparingForm : (turns : ℕ) → (rs valid : List Standing) → (s : FormScope) → (d : ℕ) → World → FlatEnvironment → DynamicContext → FlatState → Registers → MidState → FlatEvaluated → MidOutcome → Type 0
-  SparingForm turns rs valid s d w env around z regs y r q =
-      Ends setting (Fell setting form_credit rs valid s d w env around (charged 1 z) regs y r q) (Left setting form_credit rs valid s d w env around (charged 1 z) regs y r q)
-      turns z y r q
+  SparingForm turns rs valid s d w env around z regs y r q = FormEnds form_credit turns rs valid s d w env around (charged 1 z) regs y r q
 
   -- and one that is judged
   abbrev pub SparingTest : (turns : ℕ) → (rs valid : List Standing) → (s : FormScope) → (d : ℕ) → World → FlatEnvironment → DynamicContext → FlatState → Registers → MidState → Test → FlatEvaluated → MidOutcome → Type 0
   SparingTest turns rs valid s d w env around z regs y test r q =
-      Ends setting (FellJudged (form_credit + judged_credit) rs valid s d w env around (charged 1 z) regs y test r q)
-      (Left setting (form_credit + judged_credit) rs valid s d w env around (charged 1 z) regs y r q) turns z y r q
+      TestEnds (form_credit + judged_credit) turns rs valid s d w env around (charged 1 z) regs y test r q
 
   -- what a whole program says of a form: places are there, literals and sites too, exits lead to forms that take them, names have words, and the
   -- forms that made the exits around are known
