@@ -1,0 +1,4 @@
+pub mod Combined
+pub mod Applied
+pub mod Forms
+pub mod Runs
