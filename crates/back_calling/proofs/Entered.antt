@@ -458,13 +458,19 @@ module _ (setting : Setting) where
       let u = used_at _ setting.procedures number p setting.frames found in
       record { frame = u.frame; within = u.within; runs = called_by (suc j) turns number p ws y Level counted u }
 
-  -- where there is no level, nothing is said of the frame
+  -- where there is no level, nothing is said of the frame, nor of what units were charged
+  pub no_level_at :
+      {Done Left : Type 0} (turns number m : ℕ) (p : MidProcedure) (ws : List ℕ) (w : World) (z : FlatState) (before y : MidState) (counted_from : FlatState) (r : FlatEvaluated)
+      → slice_get (lowered setting.names setting.at setting.program) number ≡ Some p → p.counted ≡ Level → r.outcome ≡ more → FlatGrown z r.state → Things setting w z y
+      → Ends setting Done Left m counted_from before r (called (code_at setting zero turns) number ws y)
+  unfolding levels
+  no_level_at {Done} {Left} turns number m p ws w z before y counted_from r found counted none grown t =
+      let u = used_at _ setting.procedures number p setting.frames found in
+      subst (λ o. Ends setting Done Left m counted_from before r o) (sym (called_by zero turns number p ws y Level counted u))
+      (stopped (record { because = none; printed = subst (λ ps. IsPrefix ps r.state.state.printed) (sym t.represents.printed) grown.printed }))
+
   pub no_level_ends :
       {Done Left : Type 0} (turns number m : ℕ) (p : MidProcedure) (ws : List ℕ) (w : World) (z : FlatState) (before y : MidState) (r : FlatEvaluated)
       → slice_get (lowered setting.names setting.at setting.program) number ≡ Some p → p.counted ≡ Level → r.outcome ≡ more → FlatGrown z r.state → Things setting w z y
       → Ends setting Done Left m z before r (called (code_at setting zero turns) number ws y)
-  unfolding levels
-  no_level_ends {Done} {Left} turns number m p ws w z before y r found counted none grown t =
-      let u = used_at _ setting.procedures number p setting.frames found in
-      subst (λ o. Ends setting Done Left m z before r o) (sym (called_by zero turns number p ws y Level counted u))
-      (stopped (record { because = none; printed = subst (λ ps. IsPrefix ps r.state.state.printed) (sym t.represents.printed) grown.printed }))
+  no_level_ends turns number m p ws w z before y r found counted none grown t = no_level_at turns number m p ws w z before y z r found counted none grown t
