@@ -142,6 +142,8 @@ module _ (setting : Setting) (p : MidProcedure) {w : World} {z : FlatState} {y :
     end_record = h.end_record;
     end_valid = h.end_valid;
     end_word = words_inside end_address ∙ h.end_word;
+    end_form = h.end_form;
+    tags_land = h.tags_land;
   }
 
   -- **where the body begins**
