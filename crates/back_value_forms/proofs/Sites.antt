@@ -53,6 +53,8 @@ module _ (setting : Setting) (n : ℕ) (some : 1 ≤ n) {rs valid : List Standin
         end_record = b.call.around_stands.end_record;
         end_valid = b.call.around_stands.end_valid;
         end_word = b.call.around_stands.end_word;
+        end_form = b.call.around_stands.end_form;
+        tags_land = b.call.around_stands.tags_land;
       };
       room = b.call.room;
     };
