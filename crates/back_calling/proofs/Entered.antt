@@ -28,7 +28,7 @@ use Rattle.back_relation.specs.Room.{words_for_handler}
 use Rattle.back_relation.specs.Worlds.{World, BoxPlace, on_heap, on_stack, gone, Standing}
 use Rattle.back_relation.specs.Things.{Things, WithinLimit}
 use Rattle.back_relation.specs.Around.{RoomFor, AroundStands, CallBegins}
-use Rattle.back_relation.specs.Ends.{Ends, RoomEnded, Because, done, left_by, full_there, stopped, few_turns, Returned, LeftCall, CallEnds}
+use Rattle.back_relation.specs.Ends.{WorldKept, Around, Ends, RoomEnded, Because, done, left_by, full_there, stopped, few_turns, Returned, LeftCall, CallEnds}
 use Rattle.back_relation.specs.Forms.{code_at}
 use Rattle.back_relation.specs.Procedures.{called}
 use Rattle.back_combining.specs.Starts.{FlatGrown}
@@ -142,6 +142,8 @@ module _ (setting : Setting) (p : MidProcedure) {w : World} {z : FlatState} {y :
     end_record = h.end_record;
     end_valid = h.end_valid;
     end_word = words_inside end_address ∙ h.end_word;
+    end_form = h.end_form;
+    tags_land = h.tags_land;
   }
 
   -- **where the body begins**
@@ -270,26 +272,63 @@ module _ (setting : Setting) (p : MidProcedure) {w : World} {z : FlatState} {y :
         })
     frame_ends (few_turns x) = few_turns (omega (arith, x, size))
 
+  -- ---- a body that leaves all words as they were
+
+  -- behind the procedure, whose body cost so much
+  abbrev pub given_back : ℕ → MidState
+  given_back cost = with_arena (with_blocks y.arena.blocks inner.arena) (mid_charged cost inner)
+
+  pub untouched_words : (cost a : ℕ) → word_at (given_back cost).arena a ≡ word_at y.arena a
+  untouched_words cost a = frame_back inner.arena p.frame y.arena.blocks a refl ∙ words_inside a
+
+  pub untouched_world : (cost : ℕ) → WorldKept setting w w z z y (given_back cost)
+  untouched_world cost = record {
+    later = later_same w;
+    things =
+        things_same_words setting things_inside (λ a. frame_back inner.arena p.frame y.arena.blocks a refl)
+        (grows_given_back (frame_of p) y.arena.blocks things_inside.represents.arena refl) refl refl;
+    stack = record { words = λ a low high plain. untouched_words cost a; bindings = λ i a e low high. e };
+    end = λ n e. untouched_words cost end_address ∙ e;
+    more_exits = omega arith;
+    same_size = size;
+  }
+
+  pub untouched_around : (cost : ℕ) → Around setting (cost + entry_cost p.parameters) z z y (given_back cost)
+  untouched_around cost = record {
+    control = record {
+      current = λ n e. untouched_words cost current_address ∙ e;
+      link = λ n e. untouched_words cost link_address ∙ e;
+      handlers = λ n e. untouched_words cost handlers_address ∙ e;
+      bindings = λ n e. untouched_words cost bindings_address ∙ e;
+    };
+    blocks = refl;
+    charged =
+        let stands = things_inside.represents.arena in
+        let more : left inner.arena + p.frame ≤ left (given_back cost).arena = omega (arith, stands.room, stands.blocks, stands.aligned) in
+        omega (arith, left_inside, more);
+    paid = omega arith;
+  }
+
 -- ---- a procedure runs
 
-with_room : (c : Context) (p : MidProcedure) (ws : List ℕ) (y : MidState) → length ws ≡ p.parameters → p.frame ≤ left y.arena
+pub with_room : (c : Context) (p : MidProcedure) (ws : List ℕ) (y : MidState) → length ws ≡ p.parameters → p.frame ≤ left y.arena
     → run_procedure c p ws y ≡ leaves y.arena.blocks (exec c (code_of p.body) (first_registers p.registers ws) (entered p y))
 with_room c p ws y e h = first_chosen _ _ _ _ (eq-eqb _ _ e) ∙ first_chosen _ _ _ _ (le-leb _ _ h)
 
-without_room : (c : Context) (p : MidProcedure) (ws : List ℕ) (y : MidState) → length ws ≡ p.parameters → left y.arena < p.frame
+pub without_room : (c : Context) (p : MidProcedure) (ws : List ℕ) (y : MidState) → length ws ≡ p.parameters → left y.arena < p.frame
     → run_procedure c p ws y ≡ ends (no_room p.frame (left y.arena)) (first_registers p.registers ws) (mid_charged (entry_cost p.parameters) y)
 without_room c p ws y e h = first_chosen _ _ _ _ (eq-eqb _ _ e) ∙ second_chosen _ _ _ _ (lt-leb _ _ h)
 
 -- a procedure with a frame of its own
-abbrev framed : MidProcedure → ℕ → MidProcedure
+abbrev pub framed : MidProcedure → ℕ → MidProcedure
 framed p f = record p { frame = f }
 
 module _ (setting : Setting) (room inside credit m : ℕ) (p : MidProcedure) (ws : List ℕ) (rs valid : List Standing) (w : World) (around : DynamicContext) (z : FlatState) (y : MidState)
-    (r : FlatEvaluated) (f : ℕ) (within : f ≤ p.frame) (many : length ws ≡ p.parameters) (enough : p.frame + inside ≤ room) (grown : FlatGrown z r.state)
+    (r : FlatEvaluated) (f : ℕ) (within : f ≤ p.frame) (many : length ws ≡ p.parameters) (enough : p.frame + inside ≤ room) (grown : IsPrefix z.state.printed r.state.state.printed)
     (b : CallBegins setting rs valid room w around z y) where
   -- what was printed is a beginning of what the meaning prints
   printed_before : IsPrefix y.printed r.state.state.printed
-  printed_before = subst (λ ps. IsPrefix ps r.state.state.printed) (sym b.things.represents.printed) grown.printed
+  printed_before = subst (λ ps. IsPrefix ps r.state.state.printed) (sym b.things.represents.printed) grown
 
   procedure_ends : (c : Context) → BodyComes setting c p credit m inside ws rs valid w around z y r
       → CallEnds setting (credit + entry_cost p.parameters) m rs valid w around z y r (run_procedure c (framed p f) ws y)
@@ -310,11 +349,11 @@ module _ (setting : Setting) (room inside credit m : ℕ) (p : MidProcedure) (ws
 
   -- with a turn
   turn_ends :
-      (k n : ℕ) → m ≤ n + 50 → ((j : ℕ) → n ≡ suc j → BodyComes setting (code_at setting k j) p credit m inside ws rs valid w around z y r)
+      (k n : ℕ) → z.state.units ≤ r.state.state.units → m ≤ n + 50 → ((j : ℕ) → n ≡ suc j → BodyComes setting (code_at setting k j) p credit m inside ws rs valid w around z y r)
       → CallEnds setting (credit + entry_cost p.parameters) m rs valid w around z y r ((code_at setting k n).further (enter (framed p f) ws) y)
   unfolding turns
-  turn_ends k zero few body = few_turns (omega (arith, few, grown.units, some_words setting b.things))
-  turn_ends k (suc j) few body = procedure_ends (code_at setting k j) (body j refl)
+  turn_ends k zero up few body = few_turns (omega (arith, few, up, some_words setting b.things))
+  turn_ends k (suc j) up few body = procedure_ends (code_at setting k j) (body j refl)
 
   -- with a level
   level_ends :
@@ -391,13 +430,24 @@ module _ (setting : Setting) where
   turns_law k n number m room inside credit p ws rs valid w around z y r found counted many enough few grown b body =
       let u = used_at _ setting.procedures number p setting.frames found in
       subst (λ o. CallEnds setting (credit + entry_cost p.parameters) m rs valid w around z y r o) (sym (called_by k n number p ws y Turn counted u))
-      (turn_ends setting room inside credit m p ws rs valid w around z y r u.frame u.within many enough grown b k n few body)
+      (turn_ends setting room inside credit m p ws rs valid w around z y r u.frame u.within many enough grown.printed b k n grown.units few body)
 
-  pub entered_levels_law : LawOfEnteredLevels setting
-  entered_levels_law k n number m room inside credit p ws rs valid w around z y r found counted many enough grown b none body =
+  -- of the growth of the meaning only what is printed counts with a level
+  pub levels_entered :
+      (k turns number m room inside credit : ℕ) (p : MidProcedure) (ws : List ℕ) (rs valid : List Standing) (w : World) (around : DynamicContext) (z : FlatState) (y : MidState)
+      (r : FlatEvaluated)
+      → slice_get (lowered setting.names setting.at setting.program) number ≡ Some p → p.counted ≡ Level → length ws ≡ p.parameters → p.frame + inside ≤ room
+      → IsPrefix z.state.printed r.state.state.printed → CallBegins setting rs valid room w around z y → (k ≡ zero → r.outcome ≡ more)
+      → ((j : ℕ) → k ≡ suc j → BodyComes setting (code_at setting j setting.turns_each) p credit m inside ws rs valid w around z y r)
+      → CallEnds setting (credit + entry_cost p.parameters) m rs valid w around z y r (called (code_at setting k turns) number ws y)
+  levels_entered k n number m room inside credit p ws rs valid w around z y r found counted many enough grown b none body =
       let u = used_at _ setting.procedures number p setting.frames found in
       subst (λ o. CallEnds setting (credit + entry_cost p.parameters) m rs valid w around z y r o) (sym (called_by k n number p ws y Level counted u))
       (level_ends setting room inside credit m p ws rs valid w around z y r u.frame u.within many enough grown b k n none body)
+
+  pub entered_levels_law : LawOfEnteredLevels setting
+  entered_levels_law k n number m room inside credit p ws rs valid w around z y r found counted many enough grown b none body =
+      levels_entered k n number m room inside credit p ws rs valid w around z y r found counted many enough grown.printed b none body
 
   pub paid_turns_law : LawOfPaidTurns setting
   paid_turns_law k n number m credit p ws rs valid w around z y r found counted many few grown things stands wanting body =
@@ -405,13 +455,33 @@ module _ (setting : Setting) where
       subst (λ o. CallEnds setting (credit + entry_cost p.parameters) m rs valid w around z y r o) (sym (called_by k n number p ws y Turn counted u))
       (paid_ends setting credit m p ws rs valid w around z y r u.frame u.within many grown things stands wanting k n few body)
 
-  -- where there is no level, nothing is said of the frame
+  -- a procedure at a level runs with a frame that is within its own
+  pub record RunsAt (j turns number : ℕ) (p : MidProcedure) (ws : List ℕ) (y : MidState) : Type 0 where
+    pub frame : ℕ
+    pub within : frame ≤ p.frame
+    pub runs : called (code_at setting (suc j) turns) number ws y ≡ run_procedure (code_at setting j setting.turns_each) (framed p frame) ws y
+
+  pub level_runs :
+      (j turns number : ℕ) (p : MidProcedure) (ws : List ℕ) (y : MidState) → slice_get (lowered setting.names setting.at setting.program) number ≡ Some p → p.counted ≡ Level
+      → RunsAt j turns number p ws y
+  unfolding levels turns
+  level_runs j turns number p ws y found counted =
+      let u = used_at _ setting.procedures number p setting.frames found in
+      record { frame = u.frame; within = u.within; runs = called_by (suc j) turns number p ws y Level counted u }
+
+  -- where there is no level, nothing is said of the frame, nor of what units were charged
+  pub no_level_at :
+      {Done Left : Type 0} (turns number m : ℕ) (p : MidProcedure) (ws : List ℕ) (w : World) (z : FlatState) (before y : MidState) (counted_from : FlatState) (r : FlatEvaluated)
+      → slice_get (lowered setting.names setting.at setting.program) number ≡ Some p → p.counted ≡ Level → r.outcome ≡ more → FlatGrown z r.state → Things setting w z y
+      → Ends setting Done Left m counted_from before r (called (code_at setting zero turns) number ws y)
+  unfolding levels
+  no_level_at {Done} {Left} turns number m p ws w z before y counted_from r found counted none grown t =
+      let u = used_at _ setting.procedures number p setting.frames found in
+      subst (λ o. Ends setting Done Left m counted_from before r o) (sym (called_by zero turns number p ws y Level counted u))
+      (stopped (record { because = none; printed = subst (λ ps. IsPrefix ps r.state.state.printed) (sym t.represents.printed) grown.printed }))
+
   pub no_level_ends :
       {Done Left : Type 0} (turns number m : ℕ) (p : MidProcedure) (ws : List ℕ) (w : World) (z : FlatState) (before y : MidState) (r : FlatEvaluated)
       → slice_get (lowered setting.names setting.at setting.program) number ≡ Some p → p.counted ≡ Level → r.outcome ≡ more → FlatGrown z r.state → Things setting w z y
       → Ends setting Done Left m z before r (called (code_at setting zero turns) number ws y)
-  unfolding levels
-  no_level_ends {Done} {Left} turns number m p ws w z before y r found counted none grown t =
-      let u = used_at _ setting.procedures number p setting.frames found in
-      subst (λ o. Ends setting Done Left m z before r o) (sym (called_by zero turns number p ws y Level counted u))
-      (stopped (record { because = none; printed = subst (λ ps. IsPrefix ps r.state.state.printed) (sym t.represents.printed) grown.printed }))
+  no_level_ends turns number m p ws w z before y r found counted none grown t = no_level_at turns number m p ws w z before y z r found counted none grown t

@@ -4,6 +4,8 @@ pub mod Framing
 pub mod Outward
 pub mod Growing
 pub mod Transferring
+pub mod Units
+pub mod Spared
 pub mod Formed
 pub mod Sited
 pub mod Entered

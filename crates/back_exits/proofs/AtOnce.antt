@@ -40,13 +40,13 @@ use Rattle.back_relation.specs.Activation.{FormScope, ExitReached}
 use Rattle.back_relation.specs.Ends.{left_by}
 use Rattle.back_relation.specs.Forms.{below_at, context_at, code_at}
 use Rattle.back_combining.specs.Points.{Point, start_at, Here}
-use Rattle.back_combining.specs.Starts.{FlatGrown, Start, FellFrom, ReachedFrom, EndsAt}
+use Rattle.back_combining.specs.Starts.{FlatGrown, Start, FellFrom, ReachedFrom, EndsAt, SparingAt}
 use Rattle.back_combining.proofs.FormGrowth.{form_grows}
 use Rattle.back_combining.proofs.Growth.{grown_later}
 use Rattle.back_combining.proofs.Points.{code_grows}
-use Rattle.back_combining.proofs.Starts.{start_charged, reached_set}
+use Rattle.back_combining.proofs.Starts.{start_charged, ends_sparing, ends_spared, reached_set}
 use Rattle.back_exits.specs.AtOnce.{LawOfReturnsAtOnce, LawOfGoesAtOnce}
-use Rattle.back_exits.proofs.Charging.{next_start, whole_then, units_then, value_then}
+use Rattle.back_exits.proofs.Charging.{next_start, whole_then, value_then}
 use Rattle.back_exits.proofs.Cutting.{search_finds, runs, left_at_once}
 
 -- the code of an own exit that is left at once
@@ -138,14 +138,14 @@ module _ (setting : Setting) (placed : IsPlaced setting) (s : FormScope) (d n si
         let steps : Steps = (lower setting.names setting.at setting.program s.code d f).value in
         let r : FlatEvaluated = mean (context_at setting k) f p.env p.around (charged 1 p.z) in
         let q : MidOutcome = exec (code_at setting k turns) (code_of steps) p.regs p.y in
-        subst (λ o. EndsAt setting 0 (a0 p) (mean (context_at setting k) (return_from (Own i) f) p.env p.around p.z) o)
+        subst (λ o. SparingAt setting (a0 p) (mean (context_at setting k) (return_from (Own i) f) p.env p.around p.z) o)
         (sym (in_two_parts (code_at setting k turns) steps (goes 0) p.regs p.y))
-        (units_then setting 0 0 (a0 p) 1 (omega arith)
+        (ends_sparing setting {c1 = 0} (a0 p) 1 (omega arith) (omega arith)
         (value_then setting (λ o t. FellFrom setting 0 (a1 p) d o t) 0 0 (a1 p) d r q
         (λ v after. transfer (context_at setting k) (exit_of (Own i) p.env) v (at_segment 0) p.around after)
         (λ regs y. exec (code_at setting k turns) (code_of (goes 0)) regs y) (omega arith) (omega arith)
         (λ v z. transfer_grows setting k (exit_of (Own i) p.env) v (at_segment 0) p.around z) (λ regs y. code_grows setting s d n size k turns (goes 0) regs y)
-        (here (charged_point p))
+        (ends_spared setting (a1 p) (here (charged_point p)))
         (λ g.
         let count = g.reached.kept.registers.count in
         let width = wide p in
@@ -164,9 +164,9 @@ module _ (setting : Setting) (placed : IsPlaced setting) (s : FormScope) (d n si
         let r : FlatEvaluated = transfer (context_at setting k) (exit_of (Own i) p.env) nil (at_segment segment) p.around (charged 1 p.z) in
         let one : RunsTo (code_at setting k turns) (code_of (constant d nil_word ∷ [])) p.regs p.y (ends falls (slice_set p.regs d (Some nil_word)) (mid_charged 6 p.y)) = and_then constant_falls none_left in
         let size_then = length-set p.regs d (Some nil_word) in
-        subst (λ q. EndsAt setting 0 (a0 p) r q)
+        subst (λ q. SparingAt setting (a0 p) r q)
         (sym (parts_then (constant d nil_word ∷ []) (goes segment) one (record { same = refl })).same)
-        (units_then setting 300 0 (a0 p) 1 (omega arith)
+        (ends_sparing setting {c1 = 300} (a0 p) 1 (omega arith) (omega arith)
         (whole_then setting 294 300 (a1 p) d d n (omega arith) (omega arith) (omega arith) p.begins.first set (omega arith) (omega arith)
         (cuts_to setting placed k (next_start setting 294 300 (a1 p) d d n (omega arith) (omega arith) (omega arith) p.begins.first set (omega arith)) i segment x (omega (arith, width, size_then)) found at_once
         (segment_lands segment there) nil nil_word (register_here p.regs d nil_word (omega (arith, width))) refl)))

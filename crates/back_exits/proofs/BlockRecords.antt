@@ -5,7 +5,7 @@ use Rattle.std.proofs.lemmas.Bool.{eqb-true}
 use Rattle.lang_meaning.specs.declared.scope.ExitForm.TheVariants.{Block}
 use Rattle.lang_meaning.specs.Prefixes.{IsPrefix}
 use Rattle.lang_meaning.specs.State.{Exit, block_exit, Limit, words, unlimited}
-use Rattle.flat_language.specs.FlatState.{FlatState, FlatEvaluated, charged}
+use Rattle.flat_language.specs.FlatState.{FlatState, FlatEvaluated}
 use Rattle.mid_code.specs.declared.operation.Operation.TheVariants.{Draw}
 use Rattle.mid_code.specs.Arena.{left, word_at}
 use Rattle.mid_code.specs.Costs.{record_cost}
@@ -35,7 +35,7 @@ use Rattle.back_exits.specs.Touching.{touched, ExitsMade}
 use Rattle.back_exits.proofs.Laying.{record_steps_law}
 use Rattle.back_exits.proofs.Puts.{Put, of_control, of_record, pairs}
 use Rattle.back_exits.proofs.Steps.{draw_ends, Window}
-use Rattle.back_exits.proofs.Words.{charges, lent_control, lent_record, says_inside, word_inside, control_after, one_more, record_has, world_laid, laid_stands}
+use Rattle.back_exits.proofs.Words.{charges_none, lent_control, lent_record, says_inside, word_inside, control_after, one_more, record_has, world_laid, laid_stands}
 
 -- what is stored where the record of an exit is laid
 abbrev pub exit_puts : (kind address current link drawn : ℕ) → List Put
@@ -139,14 +139,14 @@ module _ (setting : Setting) (placed : IsPlaced setting) (k turns : ℕ) (a : St
     abbrev pub the_exit : Exit
     the_exit = record { number = a.z.state.exits; kind = block_exit }
 
-    pub made : ExitsMade a.w (charged 2 a.z) (a.w.exit_forms ++ Some Block ∷ []) (a.z.state.exits + 1) (stores (pairs at puts) (arena_inside setting a))
-    made = one_more setting a placed room (charged 2 a.z) puts (Some Block) refl refl fewer refl
+    pub made : ExitsMade a.w a.z (a.w.exit_forms ++ Some Block ∷ []) (a.z.state.exits + 1) (stores (pairs at puts) (arena_inside setting a))
+    made = one_more setting a placed room a.z puts (Some Block) refl refl fewer refl
 
     abbrev pub world_of_block : World
-    world_of_block = world_laid setting a placed room c (charged 2 a.z) (charges setting a 2) 154 (a.y.cost + 36 + 118) (omega arith) puts refl (a.w.exit_forms ++ Some Block ∷ []) (a.z.state.exits + 1) (a.z.state.exits ∷ a.z.state.made) made
+    world_of_block = world_laid setting a placed room c a.z (charges_none setting a) 154 (a.y.cost + 36 + 118) (omega arith) puts refl (a.w.exit_forms ++ Some Block ∷ []) (a.z.state.exits + 1) (a.z.state.exits ∷ a.z.state.made) made
 
     abbrev pub flat_of_block : FlatState
-    flat_of_block = exits_counted (a.z.state.exits + 1) (a.z.state.exits ∷ a.z.state.made) (charged 2 a.z)
+    flat_of_block = exits_counted (a.z.state.exits + 1) (a.z.state.exits ∷ a.z.state.made) a.z
 
     abbrev pub state_of_block : MidState
     state_of_block = touched (pairs at puts) (arena_inside setting a) (a.y.cost + 36 + 118) a.y
@@ -154,22 +154,23 @@ module _ (setting : Setting) (placed : IsPlaced setting) (k turns : ℕ) (a : St
     number : Some (drawn + 1) ≡ Some a.z.state.exits
     number = ap Some a.begins.call.things.serials.2
 
-    pub block_stands : LaidAt setting a 2 154 (for_exit the_exit) at world_of_block flat_of_block laid_registers state_of_block
+    pub block_stands : LaidAt setting a 0 154 (for_exit the_exit) at world_of_block flat_of_block laid_registers state_of_block
     block_stands =
-        laid_stands setting a placed room c (charged 2 a.z) (charges setting a 2) 154 (a.y.cost + 36 + 118) (omega arith) puts refl (a.w.exit_forms ++ Some Block ∷ []) (a.z.state.exits + 1) (a.z.state.exits ∷ a.z.state.made) made
+        laid_stands setting a placed room c a.z (charges_none setting a) 154 (a.y.cost + 36 + 118) (omega arith) puts refl (a.w.exit_forms ++ Some Block ∷ []) (a.z.state.exits + 1) (a.z.state.exits ∷ a.z.state.made) made
         (for_exit the_exit) at refl refl refl refl refl refl (
-          record_has setting a placed room c (charged 2 a.z) (charges setting a 2) 154 (a.y.cost + 36 + 118) (omega arith) puts refl (a.w.exit_forms ++ Some Block ∷ []) (a.z.state.exits + 1) (a.z.state.exits ∷ a.z.state.made) made 0 a.z.state.exits
+          record_has setting a placed room c a.z (charges_none setting a) 154 (a.y.cost + 36 + 118) (omega arith) puts refl (a.w.exit_forms ++ Some Block ∷ []) (a.z.state.exits + 1) (a.z.state.exits ∷ a.z.state.made) made 0 a.z.state.exits
               (omega arith) refl number,
-          record_has setting a placed room c (charged 2 a.z) (charges setting a 2) 154 (a.y.cost + 36 + 118) (omega arith) puts refl (a.w.exit_forms ++ Some Block ∷ []) (a.z.state.exits + 1) (a.z.state.exits ∷ a.z.state.made) made 12 (around_at setting a).link
+          record_has setting a placed room c a.z (charges_none setting a) 154 (a.y.cost + 36 + 118) (omega arith) puts refl (a.w.exit_forms ++ Some Block ∷ []) (a.z.state.exits + 1) (a.z.state.exits ∷ a.z.state.made) made 12 (around_at setting a).link
               (omega arith) refl refl,
           tt,
         )
         win.front win.tail win.many win.r0 win.r1 win.r2 win.r3 win.r4 win.r5 win.r6 win.r7 win.parts (Some (drawn + 1)) (Some 0) (Some exit_kind)
 
-    pub block_first : IsInnermost setting a the_exit flat_of_block
+    pub block_first : IsInnermost setting a the_exit world_of_block flat_of_block
     block_first = record {
       some = let count = a.begins.call.things.serials.2 in omega (arith, count);
       made = omega arith;
       no_end = λ e. absurd (cc e);
       links = (around_at setting a).links;
+      unnamed = λ f. absurd f;
     }

@@ -4,10 +4,10 @@ use Rattle.std.specs.Prelude.{◌^◌, ◌-◌, ◌==◌, nat_le, slice_get, sli
 use Rattle.std.proofs.lemmas.Bool.{leb-true, leb-false, eq-eqb}
 use Rattle.base.specs.Names.{slice_get-behind}
 use Rattle.lang_meaning.specs.declared.scope.ExitForm.TheVariants.{Block}
-use Rattle.lang_meaning.specs.State.{DynamicContext, block_exit, Landing}
+use Rattle.lang_meaning.specs.State.{block_exit, Landing}
 use Rattle.lang_meaning.specs.Values.{Value}
 use Rattle.flat_language.specs.FlatForm.{FlatForm, block}
-use Rattle.flat_language.specs.FlatMeaning.{mean, charged_for}
+use Rattle.flat_language.specs.FlatMeaning.{mean}
 use Rattle.flat_language.specs.FlatMeaning.{with_exit as flat_with_exit}
 use Rattle.flat_language.specs.FlatSignals.{inside}
 use Rattle.flat_language.specs.FlatState.{FlatState, FlatEvaluated, gives, exit_made}
@@ -30,10 +30,11 @@ use Rattle.back_relation.specs.Worlds.{for_exit}
 use Rattle.back_relation.specs.Activation.{FormScope, with_exit}
 use Rattle.back_relation.specs.Forms.{Begins, context_at, code_at}
 use Rattle.back_combining.specs.Points.{Point, start_at, value_steps, Here}
-use Rattle.back_combining.specs.Starts.{FlatGrown, Start, FellFrom, EndsAt}
+use Rattle.back_combining.specs.Starts.{FlatGrown, Start, FellFrom, EndsAt, SparingAt}
 use Rattle.back_combining.proofs.FormGrowth.{form_grows}
-use Rattle.back_combining.proofs.Growth.{same_flat}
+use Rattle.back_combining.proofs.Growth.{same_flat, both_flat, same_prefix}
 use Rattle.back_combining.proofs.Parts.{single_step}
+use Rattle.back_combining.proofs.Starts.{start_charged, ends_sparing, ends_spared}
 use Rattle.back_combining.proofs.Windows.{here}
 use Rattle.back_exits.specs.Blocks.{LawOfBlocks}
 use Rattle.back_exits.specs.Inside.{environment_with, around_with, address_inside, record_inside, LaidAt, IsInnermost}
@@ -50,8 +51,11 @@ gives_there v landing z = gives v z
 
 module _ (setting : Setting) (placed : IsPlaced setting) (s : FormScope) (d m n size k turns : ℕ) (body : FlatForm) (known : FormsKnown s) (there : d + 8 ≤ size) (enough : 8 + m ≤ n)
     (body_here : Here setting (with_exit Block d (d + 1) s) (d + 6) m size k turns body) (p : Point setting s d n size) where
+  abbrev a0 : Start setting
+  a0 = start_at setting s d n size turns p
+
   abbrev a : Start setting
-  a = start_at setting s d n size turns p
+  a = start_charged setting a0 2
 
   wide : d + 8 ≤ length p.regs
   wide = let same = p.count in omega (arith, there, same)
@@ -68,21 +72,23 @@ module _ (setting : Setting) (placed : IsPlaced setting) (s : FormScope) (d m n 
   abbrev step : MidStep
   step = with_block (d + 1) record_words d (code_of inside_steps) (code_of (landing_steps d))
 
-  abbrev result : FlatEvaluated
-  result = mean (context_at setting k) (block body) p.env p.around p.z
+  -- what the body comes to, behind the units of the block
+  abbrev within : FlatEvaluated
+  within = mean (context_at setting k) body (flat_with_exit p.z p.env) (inside block_exit p.around p.z) (exit_made a.z)
 
-  grown : FlatGrown p.z result.state
-  grown = form_grows setting k (block body) p.env p.around p.z
+  abbrev result : FlatEvaluated
+  result = flat_landed p.z.state.exits gives_there within
+
+  grown_behind : FlatGrown (exit_made a.z) result.state
+  grown_behind =
+      both_flat (form_grows setting k body (flat_with_exit p.z p.env) (inside block_exit p.around p.z) (exit_made a.z))
+      (landed_grows setting p.z.state.exits gives_there (λ v l z. same_flat z) within)
+
+  grown : FlatGrown a.z result.state
+  grown = both_flat (record { printed = same_prefix a.z.state.printed; units = omega arith; exits = omega arith }) grown_behind
 
   one_more_exit : p.z.state.exits + 1 ≤ result.state.state.exits
-  unfolding mean
-  one_more_exit =
-      let around : DynamicContext = inside block_exit p.around p.z in
-      let before : FlatState = exit_made (charged_for (block body) p.z) in
-      let within : FlatEvaluated = mean (context_at setting k) body (flat_with_exit p.z p.env) around before in
-      let g : FlatGrown before within.state = form_grows setting k body (flat_with_exit p.z p.env) around before in
-      let h : FlatGrown within.state (flat_landed p.z.state.exits gives_there within).state = landed_grows setting p.z.state.exits gives_there (λ v l z. same_flat z) within in
-      omega (arith, g.exits, h.exits)
+  one_more_exit = let g = grown_behind in omega (arith, g.exits)
 
   module _ (room : 8 ≤ left p.y.arena) where
     abbrev win : Window p.regs d
@@ -118,18 +124,18 @@ module _ (setting : Setting) (placed : IsPlaced setting) (s : FormScope) (d m n 
     -- ---- the record was laid
 
     module _ (fewer : (drawn setting placed k turns a room win == 2 ^ 32 - 1) ≡ false) where
-      abbrev laid : LaidAt setting a 2 154 (for_exit (the_exit setting placed k turns a room win fewer)) at (world_of_block setting placed k turns a room win fewer) (flat_of_block setting placed k turns a room win fewer)
+      abbrev laid : LaidAt setting a 0 154 (for_exit (the_exit setting placed k turns a room win fewer)) at (world_of_block setting placed k turns a room win fewer) (flat_of_block setting placed k turns a room win fewer)
           (laid_registers setting placed k turns a room win) (state_of_block setting placed k turns a room win fewer)
       laid = block_stands setting placed k turns a room win fewer
 
-      abbrev first : IsInnermost setting a (the_exit setting placed k turns a room win fewer) (flat_of_block setting placed k turns a room win fewer)
+      abbrev first : IsInnermost setting a (the_exit setting placed k turns a room win fewer) (world_of_block setting placed k turns a room win fewer) (flat_of_block setting placed k turns a room win fewer)
       first = block_first setting placed k turns a room win fewer
 
       serial : register d (laid_registers setting placed k turns a room win) ≡ Some p.z.state.exits
-      serial = here (code_at setting k turns) win.front d win.many _ d 0 (omega arith) ∙ ap Some p.begins.call.things.serials.2
+      serial = here (code_at setting k turns) win.front d win.many _ d 0 (omega arith) ∙ ap Some a.begins.call.things.serials.2
 
       made_form : slice_get (world_of_block setting placed k turns a room win fewer).exit_forms p.z.state.exits ≡ Some (Some Block)
-      made_form = ap (slice_get (p.w.exit_forms ++ Some Block ∷ [])) (sym p.begins.call.things.exit_forms) ∙ slice_get-behind p.w.exit_forms (Some Block)
+      made_form = ap (slice_get (p.w.exit_forms ++ Some Block ∷ [])) (sym a.begins.call.things.exit_forms) ∙ slice_get-behind p.w.exit_forms (Some Block)
 
       abbrev begins : Begins setting (record_inside setting a (for_exit (the_exit setting placed k turns a room win fewer)) ∷ p.rs) (record_inside setting a (for_exit (the_exit setting placed k turns a room win fewer)) ∷ p.valid)
           (with_exit Block d (d + 1) s) (d + 6) m (world_of_block setting placed k turns a room win fewer) (environment_with (p.env.exits ++ p.z.state.exits ∷ []) p.env)
@@ -170,37 +176,36 @@ module _ (setting : Setting) (placed : IsPlaced setting) (s : FormScope) (d m n 
           ∙ ap (landed (length p.y.arena.blocks) (catch setting placed k turns a laid first m begins wide))
           (go_on_twice ran (λ rs y. exec (code_at setting k turns) (code_of (behind_body d)) rs y) (after setting placed k turns a laid first m begins wide))
 
-      ends_so : EndsAt setting 0 a result (landed (length p.y.arena.blocks) (catch setting placed k turns a laid first m begins wide) (mid_go_on ran (rest setting placed k turns a laid first m begins wide)))
-      unfolding mean
+      ends_so : EndsAt setting 600 a result (landed (length p.y.arena.blocks) (catch setting placed k turns a laid first m begins wide) (mid_go_on ran (rest setting placed k turns a laid first m begins wide)))
       ends_so =
-          exit_ends setting a laid first 6 m begins 0 0 (omega arith) (rest setting placed k turns a laid first m begins wide) (catch setting placed k turns a laid first m begins wide)
+          exit_ends setting a laid first 6 m begins 0 600 (omega arith) (rest setting placed k turns a laid first m begins wide) (catch setting placed k turns a laid first m begins wide)
           (rest_grows setting placed k turns a laid first m begins wide) (catch_grows setting placed k turns a laid first m begins wide) gives_there (λ v l z. same_flat z)
-          (λ r q. FellFrom setting 0 a a.d r q) came ran (λ f. falls_out setting placed k turns a laid first m begins wide 0 0 (omega arith) came ran f)
-          (λ t to number. lands_then setting placed k turns a laid first m begins wide 0 0 (omega arith) came ran t to (eq-eqb p.z.state.exits t.transfer.exit_number (sym number)))
-          (body_here point)
+          (λ r q. FellFrom setting 600 a a.d r q) came ran (λ f. falls_out setting placed k turns a laid first m begins wide 0 600 (omega arith) came ran f)
+          (λ t to number. lands_then setting placed k turns a laid first m begins wide 0 600 (omega arith) came ran t to (eq-eqb p.z.state.exits t.transfer.exit_number (sym number)))
+          (ends_spared setting (start_at setting (with_exit Block d (d + 1) s) (d + 6) m size turns point) (body_here point))
 
-    with_words : (b : Bool) → (drawn setting placed k turns a room win == 2 ^ 32 - 1) ≡ b → EndsAt setting 0 a result (exec_step (code_at setting k turns) step p.regs p.y)
+    with_words : (b : Bool) → (drawn setting placed k turns a room win == 2 ^ 32 - 1) ≡ b → EndsAt setting 600 a result (exec_step (code_at setting k turns) step p.regs p.y)
     with_words true last =
-        subst (λ q. EndsAt setting 0 a result q) (sym (ended last))
+        subst (λ q. EndsAt setting 600 a result q) (sym (ended last))
         (no_serial setting a result (ended_registers setting placed k turns a room win) (ended_state setting placed k turns a room win) refl grown more last)
       where
         more : p.z.state.exits + 1 ≤ result.state.state.exits
         more = one_more_exit
-    with_words false fewer = subst (λ q. EndsAt setting 0 a result q) (sym (runs_so fewer)) (ends_so fewer)
+    with_words false fewer = subst (λ q. EndsAt setting 600 a result q) (sym (runs_so fewer)) (ends_so fewer)
 
-  pub block_sim : EndsAt setting 0 a result (exec_step (code_at setting k turns) step p.regs p.y)
+  pub block_sim : EndsAt setting 600 a result (exec_step (code_at setting k turns) step p.regs p.y)
   block_sim = by (nat_le 8 (left p.y.arena)) refl
     where
-      by : (b : Bool) → nat_le 8 (left p.y.arena) ≡ b → EndsAt setting 0 a result (exec_step (code_at setting k turns) step p.regs p.y)
+      by : (b : Bool) → nat_le 8 (left p.y.arena) ≡ b → EndsAt setting 600 a result (exec_step (code_at setting k turns) step p.regs p.y)
       by true same = let room = leb-true 8 (left p.y.arena) same in with_words room (drawn setting placed k turns a room (win room) == 2 ^ 32 - 1) refl
       by false same =
           let few = leb-false 8 (left p.y.arena) same in
-          subst (λ q. EndsAt setting 0 a result q) (sym (record_wanting (code_at setting k turns) (d + 1) record_words d (code_of inside_steps) (code_of (landing_steps d)) p.regs p.y few))
+          subst (λ q. EndsAt setting 600 a result q) (sym (record_wanting (code_at setting k turns) (d + 1) record_words d (code_of inside_steps) (code_of (landing_steps d)) p.regs p.y few))
           (no_words setting a record_cost result grown (omega (arith, enough)) few)
 
 pub blocks_law : LawOfBlocks
 unfolding mean lower
 blocks_law setting s d m n size k turns body placed known there enough here p =
-    subst (λ q. EndsAt setting 0 (start_at setting s d n size turns p) (mean (context_at setting k) (block body) p.env p.around p.z) q)
+    subst (λ q. SparingAt setting (start_at setting s d n size turns p) (mean (context_at setting k) (block body) p.env p.around p.z) q)
     (sym (single_step (code_at setting k turns) (step setting placed s d m n size k turns body known there enough here p) p.regs p.y))
-    (block_sim setting placed s d m n size k turns body known there enough here p)
+    (ends_sparing setting {c1 = 600} (start_at setting s d n size turns p) 2 (omega arith) (omega arith) (block_sim setting placed s d m n size k turns body known there enough here p))

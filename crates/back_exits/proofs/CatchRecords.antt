@@ -1,6 +1,7 @@
 -- The record of a catch: its tag is stored, and it is laid as that of an exit.
 use Rattle.std.proofs.Common.{◌≡◌, ℕ, ◌+◌, ◌<◌, ◌≤◌, true, false, List, [], ◌∷◌, ◌++◌, Option, Some, None, refl, sym, ap, ◌∙◌, arith}
-use Rattle.std.specs.Prelude.{◌%◌, ◌^◌, ◌-◌, ◌==◌, pos, slice_set}
+use Rattle.std.specs.Prelude.{◌%◌, ◌^◌, ◌-◌, ◌==◌, pos, slice_get, slice_set}
+use Rattle.base.specs.Names.{slice_get-behind}
 use Rattle.lang_meaning.specs.declared.scope.ExitForm.{ExitForm}
 use Rattle.lang_meaning.specs.State.{Exit, catch_exit}
 use Rattle.lang_meaning.specs.Values.{Value}
@@ -183,10 +184,11 @@ module _ (setting : Setting) (placed : IsPlaced setting) (k turns : ℕ) (a : St
         )
         win.front win.tail win.many win.r0 win.r1 win.r2 win.r3 win.r4 win.r5 win.r6 win.r7 win.parts (Some (drawn + 1)) (Some 0) (Some catch_kind)
 
-    pub catch_first : IsInnermost setting a the_exit flat_of_catch
+    pub catch_first : IsInnermost setting a the_exit world_of_catch flat_of_catch
     catch_first = record {
       some = let count = a.begins.call.things.serials.2 in omega (arith, count);
       made = omega arith;
       no_end = λ e. absurd (cc e);
       links = (around_at setting a).links;
+      unnamed = λ f. ap (slice_get (a.w.exit_forms ++ None ∷ [])) (sym a.begins.call.things.exit_forms) ∙ slice_get-behind a.w.exit_forms None;
     }

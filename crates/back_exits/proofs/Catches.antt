@@ -28,19 +28,19 @@ use Rattle.back_relation.specs.Worlds.{for_exit}
 use Rattle.back_relation.specs.Activation.{FormScope}
 use Rattle.back_relation.specs.Forms.{Begins, context_at, code_at}
 use Rattle.back_combining.specs.Points.{Point, start_at, value_steps, Here}
-use Rattle.back_combining.specs.Starts.{FlatGrown, Start, FellFrom, EndsAt}
+use Rattle.back_combining.specs.Starts.{FlatGrown, Start, FellFrom, EndsAt, SparingAt}
 use Rattle.back_combining.proofs.Fitting.{registers_front, registers_behind}
 use Rattle.back_combining.proofs.FormGrowth.{form_grows}
 use Rattle.back_combining.proofs.Growth.{same_flat, both_flat, same_prefix}
 use Rattle.back_combining.proofs.Parts.{single_step}
 use Rattle.back_combining.proofs.Points.{code_grows}
-use Rattle.back_combining.proofs.Starts.{start_charged, scope_later}
+use Rattle.back_combining.proofs.Starts.{start_charged, ends_sparing, ends_spared, scope_later}
 use Rattle.back_exits.specs.Blocks.{LawOfCatches, LawOfWholeCatches}
 use Rattle.back_exits.specs.Inside.{around_with, address_inside, record_inside, LaidAt, IsInnermost}
 use Rattle.back_exits.proofs.BlockRecords.{no_words, no_serial}
 use Rattle.back_exits.proofs.Blocks.{gives_there}
 use Rattle.back_exits.proofs.CatchRecords.{drawn, block_laid, laid_registers, lays, lays_none, ended_registers, ended_state, the_exit, world_of_catch, flat_of_catch, state_of_catch, catch_stands, catch_first}
-use Rattle.back_exits.proofs.Charging.{next_start, whole_then, units_then, value_then}
+use Rattle.back_exits.proofs.Charging.{next_start, whole_then, value_then}
 use Rattle.back_exits.proofs.Exits.{exit_ends, landed_grows}
 use Rattle.back_exits.proofs.Inside.{around_exit, begins_inside}
 use Rattle.back_exits.proofs.Landing.{behind_body, landing_steps, after, rest, catch, rest_grows, catch_grows, falls_out, lands_then}
@@ -128,7 +128,7 @@ module _ (setting : Setting) (placed : IsPlaced setting) (m size k : ℕ) (body 
           (state_of_catch setting placed k a.turns a room win v word in_register of_value fewer)
       laid = catch_stands setting placed k a.turns a room win v word in_register of_value fewer
 
-      abbrev first : IsInnermost setting a (the_exit setting placed k a.turns a room win v word in_register of_value fewer) (flat_of_catch setting placed k a.turns a room win v word in_register of_value fewer)
+      abbrev first : IsInnermost setting a (the_exit setting placed k a.turns a room win v word in_register of_value fewer) (world_of_catch setting placed k a.turns a room win v word in_register of_value fewer) (flat_of_catch setting placed k a.turns a room win v word in_register of_value fewer)
       first = catch_first setting placed k a.turns a room win v word in_register of_value fewer
 
       abbrev begins : Begins setting (record_inside setting a (for_exit (the_exit setting placed k a.turns a room win v word in_register of_value fewer)) ∷ a.rs)
@@ -177,7 +177,7 @@ module _ (setting : Setting) (placed : IsPlaced setting) (m size k : ℕ) (body 
           (rest_grows setting placed k a.turns a laid first m begins wide) (catch_grows setting placed k a.turns a laid first m begins wide) gives_there (λ v l z. same_flat z)
           (λ r q. FellFrom setting 600 a a.d r q) came ran (λ f. falls_out setting placed k a.turns a laid first m begins wide 0 600 (omega arith) came ran f)
           (λ t to same. lands_then setting placed k a.turns a laid first m begins wide 0 600 (omega arith) came ran t to (eq-eqb a.z.state.exits t.transfer.exit_number (sym same)))
-          (body_here point)
+          (ends_spared setting (start_at setting a.s (a.d + 6) m size a.turns point) (body_here point))
 
     with_words : (b : Bool) → (number == 2 ^ 32 - 1) ≡ b → EndsAt setting 600 a result (exec_step (code_at setting k a.turns) step a.regs a.y)
     with_words true last =
@@ -236,15 +236,15 @@ module _ (setting : Setting) (placed : IsPlaced setting) (s : FormScope) (d m n 
   abbrev q : MidOutcome
   q = exec (code_at setting k turns) (code_of tag_steps) p.regs p.y
 
-  pub form_sim : EndsAt setting 0 a0 (go_on r (λ v z. caught_by setting k body p.env p.around v z)) (exec (code_at setting k turns) (code_of (tag_steps ++ catching)) p.regs p.y)
+  pub form_sim : SparingAt setting a0 (go_on r (λ v z. caught_by setting k body p.env p.around v z)) (exec (code_at setting k turns) (code_of (tag_steps ++ catching)) p.regs p.y)
   form_sim =
-      subst (λ o. EndsAt setting 0 a0 (go_on r (λ v z. caught_by setting k body p.env p.around v z)) o)
+      subst (λ o. SparingAt setting a0 (go_on r (λ v z. caught_by setting k body p.env p.around v z)) o)
       (sym (in_two_parts (code_at setting k turns) tag_steps catching p.regs p.y))
-      (units_then setting 600 0 a0 2 (omega arith)
+      (ends_sparing setting {c1 = 600} a0 2 (omega arith) (omega arith)
       (value_then setting (λ o t. FellFrom setting 600 a1 d o t) 0 600 a1 d r q (λ v z. caught_by setting k body p.env p.around v z)
       (λ regs y. exec (code_at setting k turns) (code_of catching) regs y) (omega arith) (omega arith)
       (λ v z. caught_grows setting k body p.env p.around v z) (λ regs y. code_grows setting s d n size k turns catching regs y)
-      (tag_here charged_point)
+      (ends_spared setting a1 (tag_here charged_point))
       (λ g.
       let count = g.reached.kept.registers.count in
       let same = p.count in

@@ -1,5 +1,6 @@
 -- One thing after another, from a start to what the whole comes to.
 use Rattle.std.proofs.Common.{ℕ, ◌+◌, ◌*◌, ◌<◌, ◌≤◌, length, refl, sym, subst, arith}
+use Rattle.lang_meaning.specs.Counts.{unit_cost}
 use Rattle.lang_meaning.specs.Values.{Value}
 use Rattle.flat_language.specs.FlatState.{FlatState, FlatEvaluated, go_on, charged}
 use Rattle.mid_code.specs.Law.{Grown}
@@ -54,7 +55,7 @@ module _ (setting : Setting) where
 
   -- ---- the units of a form pay for what follows
 
-  module _ (c1 c2 : ℕ) (a : Start setting) (u : ℕ) (enough : c1 ≤ 300 * u + c2) {r : FlatEvaluated} {q : MidOutcome} where
+  module _ (c1 c2 : ℕ) (a : Start setting) (u : ℕ) (enough : c1 ≤ unit_cost * u + c2) {r : FlatEvaluated} {q : MidOutcome} where
     transfers_paid :
         Transfers setting c1 a.rs a.valid a.w a.around (charged u a.z) a.y r q → Transfers setting c2 a.rs a.valid a.w a.around a.z a.y r q
     transfers_paid t = record {

@@ -1,7 +1,8 @@
 -- The exit of a record: what the code inside comes to, and what the whole comes to, where a transfer to the exit lands.
 use Rattle.std.proofs.Common.{◌≡◌, ℕ, suc, ◌+◌, ◌*◌, ◌≤◌, Bool, true, false, List, [], ◌∷◌, length, Some, refl, sym, ap, ◌∙◌, subst, arith}
-use Rattle.std.specs.Prelude.{◌==◌, ◌||◌, ◌&&◌, if◌then◌else◌}
+use Rattle.std.specs.Prelude.{⊤, ◌==◌, ◌||◌, ◌&&◌, if◌then◌else◌}
 use Rattle.std.proofs.lemmas.Bool.{eq-eqb, ne_eqb, eqb-true, eqb-false}
+use Rattle.lang_meaning.specs.Counts.{unit_cost}
 use Rattle.lang_meaning.specs.declared.scope.ExitForm.{ExitForm}
 use Rattle.lang_meaning.specs.State.{Exit, Landing, Outcome, value, exit, full, more, Limit, words, unlimited}
 use Rattle.lang_meaning.specs.Values.{Value}
@@ -16,7 +17,7 @@ use Rattle.back_lowering.specs.ControlWords.{record_words}
 use Rattle.back_lowering.specs.declared.scope.OwnExit.{OwnExit}
 use Rattle.back_relation.specs.Setting.{Setting}
 use Rattle.back_relation.specs.Worlds.{World, for_exit, Standing, IsIn, Links, record_of_exit, first_stop}
-use Rattle.back_relation.specs.Ends.{Transfers, IsFullOrMore, RoomEnded, Because, done, left_by, full_there, stopped, few_turns}
+use Rattle.back_relation.specs.Ends.{Transfers, IsFull, RoomEnded, Because, done, left_by, full_there, stopped, few_turns}
 use Rattle.back_relation.specs.Forms.{Begins}
 use Rattle.back_combining.specs.Starts.{FlatGrown, Start, FellFrom, LeftFrom, EndsBy, EndsAt}
 use Rattle.back_combining.proofs.Growth.{both_prefix, same_flat}
@@ -49,8 +50,21 @@ blocks_fewer n p (b ∷ bs) cs f = by (is_open b.kind && (lent_from n (b ∷ bs)
 
 -- ---- a transfer that lands in the meaning
 
+-- the meaning has no words left, or no level
+abbrev pub EndsEarly : Outcome → Type 0
+EndsEarly (value v) = ⊥
+EndsEarly (exit e v landing) = ⊥
+EndsEarly (full asked left_then) = ⊤
+EndsEarly more = ⊤
+
+pub full_early : (setting : Setting) (o : Outcome) → IsFull setting o → EndsEarly o
+full_early setting (value v) h = h
+full_early setting (exit e v landing) h = h
+full_early setting (full asked left_then) h = h
+full_early setting more h = absurd h
+
 module _ (setting : Setting) (e : ℕ) (land : Value → Landing → FlatState → FlatEvaluated) (land_grows : (v : Value) (l : Landing) (z : FlatState) → FlatGrown z (land v l z).state) where
-  pub landed_other : (r : FlatEvaluated) (o : Outcome) → r.outcome ≡ o → IsFullOrMore setting o → flat_landed e land r ≡ r
+  pub landed_other : (r : FlatEvaluated) (o : Outcome) → r.outcome ≡ o → EndsEarly o → flat_landed e land r ≡ r
   landed_other r (value v) same h = absurd h
   landed_other r (exit x v l) same h = absurd h
   landed_other r (full asked left_then) same h = ap (λ o. flat_landed_from e land o r.state) same ∙ ap (λ o. record { outcome = o; state = r.state }) (sym same)
@@ -77,7 +91,7 @@ module _ (setting : Setting) (e : ℕ) (land : Value → Landing → FlatState �
     where
       by : (l : Limit) → RoomEnded setting l r.outcome → RoomEnded setting l (flat_landed e land r).outcome
       by unlimited k = tt
-      by (words m) k = subst (λ (p : FlatEvaluated). IsFullOrMore setting p.outcome) (sym (landed_other r r.outcome refl k)) k
+      by (words m) k = subst (λ (p : FlatEvaluated). IsFull setting p.outcome) (sym (landed_other r r.outcome refl (full_early setting r.outcome k))) k
   because_landed r no_level h = ap (λ (p : FlatEvaluated). p.outcome) (landed_other r more h tt) ∙ h
   because_landed r exhausted h = let g = landed_grows r in omega (arith, h, g.exits)
   because_landed r falls h = h
@@ -114,7 +128,7 @@ module _ (outside : ℕ) (rest : Next) (catch : ℕ → Next) where
 -- ---- **a record with an exit**
 
 module _ (setting : Setting) (a : Start setting) {units cost : ℕ} {x : Exit} {w : World} {z : FlatState} {regs : Registers} {y : MidState}
-    (laid : LaidAt setting a units cost (for_exit x) (address_inside setting a) w z regs y) (first : IsInnermost setting a x z)
+    (laid : LaidAt setting a units cost (for_exit x) (address_inside setting a) w z regs y) (first : IsInnermost setting a x w z)
     {own : List OwnExit} {count : ℕ} {forms : List ExitForm} {numbers : List ℕ} (n m : ℕ)
     (begins : Begins setting (record_inside setting a (for_exit x) ∷ a.rs) (record_inside setting a (for_exit x) ∷ a.valid) (scope_with count forms own a.s) (a.d + n) m w
     (environment_with numbers a.env) (around_with (x ∷ a.around.exits) a.around) z regs y) where
@@ -138,7 +152,7 @@ module _ (setting : Setting) (a : Start setting) {units cost : ℕ} {x : Exit} {
     begins = begins;
   }
 
-  module _ (c1 c2 : ℕ) (enough : c1 + cost + 48 ≤ 300 * units + c2) where
+  module _ (c1 c2 : ℕ) (enough : c1 + cost + 48 ≤ unit_cost * units + c2) where
     -- A transfer to an exit outside passes: it goes where it went.
     module _ {r : FlatEvaluated} {q : MidOutcome} (t : LeftFrom setting c1 start_inside (a.d + n) r q) (other : (x.number == t.transfer.exit_number) ≡ false) where
       abbrev l : Transfers setting c1 (new_record ∷ a.rs) (new_record ∷ a.valid) w (around_with (x ∷ a.around.exits) a.around) z y r q

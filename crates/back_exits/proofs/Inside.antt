@@ -1,6 +1,6 @@
 -- What is around inside a control record that was laid, and where the code inside it begins.
 use Rattle.std.proofs.Common.{◌≡◌, inl, inr, ℕ, ◌+◌, ◌*◌, ◌<◌, ◌≤◌, Bool, List, [], ◌∷◌, length, Option, Some, None, refl, sym, ap, ◌∙◌, subst, arith}
-use Rattle.std.specs.Prelude.{if◌then◌else◌}
+use Rattle.std.specs.Prelude.{if◌then◌else◌, slice_get}
 use Rattle.std.proofs.lemmas.Bool.{eq-eqb, ne_eqb}
 use Rattle.lang_meaning.specs.declared.scope.ExitForm.{ExitForm}
 use Rattle.lang_meaning.specs.Objects.{Called}
@@ -14,7 +14,7 @@ use Rattle.back_lowering.specs.ControlWords.{record_words}
 use Rattle.back_lowering.specs.declared.scope.OwnExit.{OwnExit}
 use Rattle.back_relation.specs.Setting.{Setting}
 use Rattle.back_relation.specs.Room.{words_for_handler}
-use Rattle.back_relation.specs.Worlds.{World, Plain, RecordRole, for_cleanup, for_exit, Standing, IsIn, Chain, Links, EndsAtEnd, record_of_exit, record_bytes}
+use Rattle.back_relation.specs.Worlds.{World, Plain, RecordRole, for_cleanup, for_exit, Standing, IsIn, Chain, Links, EndsAtEnd, TagsLand, IsTagged, record_of_exit, record_bytes}
 use Rattle.back_relation.specs.StackWords.{RecordAt}
 use Rattle.back_relation.specs.Around.{RoomFor, AroundStands}
 use Rattle.back_relation.specs.Activation.{FormScope, ScopeStands, ArgumentsHeld, in_heap, ArgumentsThere, MethodHeld, MethodThere, ActivationStands}
@@ -278,9 +278,15 @@ module _ (setting : Setting) (a : Start setting) {units cost : ℕ} {role : Reco
             let stack = laid.stack in
             omega (arith, h, fewer, heap, stack, enough)
 
+exit_of_role : (x e : Exit) → for_exit x ≡ for_exit e → x ≡ e
+exit_of_role x e same = cc same
+
+no_exit : (e : Exit) → for_cleanup ≡ for_exit e → ⊥
+no_exit e same = cc same
+
 module _ (setting : Setting) (a : Start setting) {units cost : ℕ} {w : World} {z : FlatState} {regs : Registers} {y : MidState} where
   pub around_exit :
-      {x : Exit} → LaidAt setting a units cost (for_exit x) (address_inside setting a) w z regs y → IsInnermost setting a x z
+      {x : Exit} → LaidAt setting a units cost (for_exit x) (address_inside setting a) w z regs y → IsInnermost setting a x w z
       → AroundStands setting w (record_inside setting a (for_exit x) ∷ a.rs) (record_inside setting a (for_exit x) ∷ a.valid) (around_with (x ∷ a.around.exits) a.around) z y
   around_exit {x} laid first =
       let t = around_at setting a in
@@ -304,7 +310,15 @@ module _ (setting : Setting) (a : Start setting) {units cost : ℕ} {w : World} 
             ap (λ b. if b then Some (record_inside setting a (for_exit x)) else record_of_exit 0 a.around.exits a.valid) (ne_eqb x.number 0 (λ e. let some = first.some in omega (arith, e, some)))
             ∙ t.end_valid;
         end_word = laid.world.end t.end_record.address t.end_word;
+        end_form = laid.world.later.exit_forms 0 None t.end_form;
+        tags_land = by t;
       }
+    where
+      by : AroundStands setting a.w a.rs a.valid a.around a.z a.y → TagsLand w (record_inside setting a (for_exit x) ∷ a.rs)
+      by t e v (inl same) role tagged =
+          let is : x ≡ e = exit_of_role x e (ap (λ (r : Standing). r.role) (sym same) ∙ role) in
+          subst (λ (o : Exit). slice_get w.exit_forms o.number ≡ Some None) is (first.unnamed (subst (λ (o : Exit). IsTagged o.kind) (sym is) tagged))
+      by t e v (inr i) role tagged = laid.world.later.exit_forms e.number None (t.tags_land e v i role tagged)
 
   pub around_cleanup :
       LaidAt setting a units cost for_cleanup (around_at setting a).link w z regs y → AroundStands setting w (record_inside setting a for_cleanup ∷ a.rs) a.valid a.around z y
@@ -330,7 +344,13 @@ module _ (setting : Setting) (a : Start setting) {units cost : ℕ} {w : World} 
         end_record = t.end_record;
         end_valid = t.end_valid;
         end_word = laid.world.end t.end_record.address t.end_word;
+        end_form = laid.world.later.exit_forms 0 None t.end_form;
+        tags_land = by t;
       }
+    where
+      by : AroundStands setting a.w a.rs a.valid a.around a.z a.y → TagsLand w (record_inside setting a for_cleanup ∷ a.rs)
+      by t e v (inl same) role tagged = absurd (no_exit e (ap (λ (r : Standing). r.role) (sym same) ∙ role))
+      by t e v (inr i) role tagged = laid.world.later.exit_forms e.number None (t.tags_land e v i role tagged)
 
 pub surroundings_law : (setting : Setting) (a : Start setting) → LawOfSurroundings setting a
 surroundings_law setting a = record {

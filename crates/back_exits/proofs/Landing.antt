@@ -2,6 +2,7 @@
 use Rattle.std.proofs.Common.{◌≡◌, ℕ, ◌+◌, ◌*◌, ◌<◌, ◌≤◌, true, List, [], ◌∷◌, ◌++◌, length, Option, Some, refl, sym, ap, ◌∙◌, subst, arith}
 use Rattle.std.specs.Prelude.{◌%◌, ◌==◌, slice_set}
 use Rattle.std.proofs.Math.ListN.{length-set}
+use Rattle.lang_meaning.specs.Counts.{unit_cost}
 use Rattle.lang_meaning.specs.declared.scope.ExitForm.{ExitForm}
 use Rattle.lang_meaning.specs.State.{Exit}
 use Rattle.flat_language.specs.FlatState.{FlatState, FlatEvaluated, gives}
@@ -89,7 +90,7 @@ module _ (setting : Setting) {w : World} {z : FlatState} {y : MidState} (t : Thi
   control_stays i n few e = let low = spot_below t.represents.arena (control_of setting t) in grows.words (control_address + i) (omega (arith, low, few)) ∙ e
 
 module _ (setting : Setting) (placed : IsPlaced setting) (k turns : ℕ) (a : Start setting) {units cost : ℕ} {x : Exit} {w : World} {z : FlatState} {regs : Registers} {y : MidState}
-    (laid : LaidAt setting a units cost (for_exit x) (address_inside setting a) w z regs y) (first : IsInnermost setting a x z)
+    (laid : LaidAt setting a units cost (for_exit x) (address_inside setting a) w z regs y) (first : IsInnermost setting a x w z)
     {own : List OwnExit} {count : ℕ} {forms : List ExitForm} {numbers : List ℕ} (m : ℕ)
     (begins : Begins setting (record_inside setting a (for_exit x) ∷ a.rs) (record_inside setting a (for_exit x) ∷ a.valid) (scope_with count forms own a.s) (a.d + 6) m w
     (environment_with numbers a.env) (around_with (x ∷ a.around.exits) a.around) z regs y) (there : a.d + 8 ≤ length a.regs) where
@@ -134,7 +135,7 @@ module _ (setting : Setting) (placed : IsPlaced setting) (k turns : ℕ) (a : St
 
   -- ---- behind the body
 
-  module _ (c1 c2 : ℕ) (enough : c1 + cost + 48 ≤ 300 * units + c2) where
+  module _ (c1 c2 : ℕ) (enough : c1 + cost + 48 ≤ unit_cost * units + c2) where
     module _ (r : FlatEvaluated) (q : MidOutcome) (f : FellFrom setting c1 inside (a.d + 6) r q) where
       blocks : q.state.arena.blocks ≡ record_of record_words ∷ a.y.arena.blocks
       blocks = f.reached.back.blocks ∙ laid.blocks

@@ -1,5 +1,5 @@
 -- **Inside a control record**: what is said where it was laid, and the code inside it is next.
-use Rattle.std.specs.Prelude.{◌≡◌, ℕ, ◌+◌, ◌<◌, ◌≤◌, List, ◌∷◌, length, Some, slice_get}
+use Rattle.std.specs.Prelude.{◌≡◌, ℕ, ◌+◌, ◌<◌, ◌≤◌, List, ◌∷◌, length, Some, None, slice_get}
 use Rattle.lang_meaning.specs.declared.scope.ExitForm.{ExitForm}
 use Rattle.lang_meaning.specs.State.{DynamicContext, Exit, end_exit}
 use Rattle.flat_language.specs.FlatState.{FlatEnvironment, FlatState}
@@ -8,7 +8,7 @@ use Rattle.mid_code.specs.State.{Registers, register, MidState}
 use Rattle.back_lowering.specs.ControlWords.{record_words, record_kind, record_outer}
 use Rattle.back_lowering.specs.declared.scope.OwnExit.{OwnExit}
 use Rattle.back_relation.specs.Setting.{Setting}
-use Rattle.back_relation.specs.Worlds.{World, on_stack, RecordRole, for_cleanup, for_exit, Standing, Links}
+use Rattle.back_relation.specs.Worlds.{World, on_stack, RecordRole, for_cleanup, for_exit, Standing, Links, IsTagged}
 use Rattle.back_relation.specs.StackWords.{HasWordAt, kind_number, UseAt}
 use Rattle.back_relation.specs.Around.{AroundStands}
 use Rattle.back_relation.specs.Activation.{FormScope, ScopeStands, ExitReached}
@@ -80,17 +80,18 @@ module _ (setting : Setting) (a : Start setting) where
     pub handlers_held : register (a.d + 1 + 3) regs ≡ Some around_at.handlers_cell
     pub bindings_held : register (a.d + 1 + 4) regs ≡ Some around_at.bindings_cell
 
-  -- an exit is the innermost one: its number is behind those of all that are valid
-  pub record IsInnermost (x : Exit) (z : FlatState) : Type 0 where
+  -- an exit is the innermost one: its number is behind those of all that are valid, and no form that transfers name made that of a catch or a signal
+  pub record IsInnermost (x : Exit) (w : World) (z : FlatState) : Type 0 where
     pub some : 1 ≤ x.number
     pub made : x.number < z.state.exits
     pub no_end : x.kind ≡ end_exit → ⊥
     pub links : Links a.rs around_at.link x.number a.around.exits a.valid
+    pub unnamed : IsTagged x.kind → slice_get w.exit_forms x.number ≡ Some None
 
   -- **what is around**: one record more, and where it is an exit's, one valid exit more
   pub record LawOfSurroundings : Type 0 where
     pub of_exit :
-        (units cost : ℕ) (x : Exit) (w : World) (z : FlatState) (regs : Registers) (y : MidState) → LaidAt units cost (for_exit x) address_inside w z regs y → IsInnermost x z
+        (units cost : ℕ) (x : Exit) (w : World) (z : FlatState) (regs : Registers) (y : MidState) → LaidAt units cost (for_exit x) address_inside w z regs y → IsInnermost x w z
         → AroundStands setting w (record_inside (for_exit x) ∷ a.rs) (record_inside (for_exit x) ∷ a.valid) (around_with (x ∷ a.around.exits) a.around) z y
     pub of_cleanup :
         (units cost : ℕ) (w : World) (z : FlatState) (regs : Registers) (y : MidState) → LaidAt units cost for_cleanup around_at.link w z regs y
@@ -100,7 +101,7 @@ module _ (setting : Setting) (a : Start setting) where
   pub record LawOfBodies : Type 0 where
     pub of_exit :
         (units cost n m : ℕ) (x : Exit) (forms : List ExitForm) (own : List OwnExit) (count : ℕ) (numbers : List ℕ) (w : World) (z : FlatState) (regs : Registers) (y : MidState)
-        → LaidAt units cost (for_exit x) address_inside w z regs y → IsInnermost x z → ScopeStands (scope_with count forms own a.s).code (a.d + n) → 8 + m ≤ a.n
+        → LaidAt units cost (for_exit x) address_inside w z regs y → IsInnermost x w z → ScopeStands (scope_with count forms own a.s).code (a.d + n) → 8 + m ≤ a.n
         → a.d + n < length a.regs
         → ExitsStand own count forms numbers (record_inside (for_exit x) ∷ a.rs) (record_inside (for_exit x) ∷ a.valid) (x ∷ a.around.exits) w regs
         → Begins setting (record_inside (for_exit x) ∷ a.rs) (record_inside (for_exit x) ∷ a.valid) (scope_with count forms own a.s) (a.d + n) m w (environment_with numbers a.env)
