@@ -1,6 +1,7 @@
 -- One routine calls another and returns what that comes to.
 use Rattle.std.proofs.Common.{◌≡◌, ℕ, ◌+◌, ◌*◌, ◌<◌, ◌≤◌, true, false, List, [], ◌∷◌, length, Some, refl, sym, ap, ◌∙◌, subst, arith}
 use Rattle.std.specs.Prelude.{slice_get, slice_set}
+use Rattle.lang_meaning.specs.Counts.{unit_cost}
 use Rattle.lang_meaning.specs.State.{DynamicContext}
 use Rattle.lang_meaning.specs.Prefixes.{IsPrefix}
 use Rattle.flat_language.specs.FlatState.{FlatState, FlatEvaluated}
@@ -31,7 +32,7 @@ use Rattle.back_transfers.proofs.Bodies.{Passes, stopped_passes}
 
 module _ (setting : Setting) where
   module _ {c1 : ℕ} {w w1 : World} {z z1 : FlatState} {y y1 : MidState} (k : WorldKept setting w w1 z z1 y y1) (a : Around setting c1 z z1 y y1) {c2 c : ℕ}
-      (paid : y1.cost + 300 * z.state.units + c2 ≤ y.cost + 300 * z1.state.units + c) where
+      (paid : y1.cost + unit_cost * z.state.units + c2 ≤ y.cost + unit_cost * z1.state.units + c) where
     transfer_behind :
         {rs valid : List Standing} {around : DynamicContext} {r : FlatEvaluated} {q : MidOutcome} → Transfers setting c2 rs valid w1 around z1 y1 r q
         → Transfers setting c rs valid w around z y r q
