@@ -53,7 +53,7 @@ use Rattle.back_transfers.proofs.Entries.{UsedAt, routine_used, routine_register
 use Rattle.back_transfers.proofs.Transfer.{transfer_does}
 use Rattle.back_transfers.proofs.Within.{call_less, begins_less, landing_most}
 use Rattle.back_transfers.proofs.Bodies.{world_of, body_begins, body_leaves, laid_site, of_landing}
-use Rattle.back_transfers.proofs.Returning.{HoldAll, call_cost, call_behind, first_alone, second_alone, returning_is, returning_comes, tail_known}
+use Rattle.back_transfers.proofs.Returning.{HoldAll, call_cost, call_behind, first_alone, second_alone, returning_is, returning_comes, returning_leaves, tail_known}
 use Rattle.back_transfers.proofs.Points.{Moved, point_begins, moved_stored, stored_state, word_stored, store_lent, moved_cost}
 
 -- ---- what is meant only grows
@@ -110,9 +110,10 @@ module _ (setting : Setting) (placed : IsPlaced setting) (k t : ℕ) {rs valid :
       → CallBegins setting rs valid transfer_words w around z y → HoldAll (a ∷ b ∷ []) regs (target.address ∷ word ∷ []) → to < length regs
       → record_of_exit e around.exits valid ≡ Some target → WordIs setting w word v → HasWordAt y landing_address landing_word
       → LandingIs setting landing_word landing → LandsIn (slice_get w.exit_forms e) landing
-      → CallEnds setting (190 + landing_cost landing) (t + 48) rs valid w around z y (flat_leaves e v landing z) (exec (code_at setting k t) (code_of (returning setting.at to (transfer_routine setting.at) (a ∷ b ∷ []))) regs y)
+      → CallEnds setting (176 + landing_cost landing) (t + 48) rs valid w around z y (flat_leaves e v landing z) (exec (code_at setting k t) (code_of (returning setting.at to (transfer_routine setting.at) (a ∷ b ∷ []))) regs y)
   transfer_last to a b word regs e v landing target landing_word begins held low valid_target of_value landing_there landing_is lands =
-      returning_comes setting setting.at (code_at setting k t) to (transfer_routine setting.at) (a ∷ b ∷ []) (target.address ∷ word ∷ []) regs y (transfer_used setting placed).there held low (omega arith) begins.things
+      returning_leaves setting setting.at (code_at setting k t) to (transfer_routine setting.at) (a ∷ b ∷ []) (target.address ∷ word ∷ []) regs y (transfer_used setting placed).there held low (omega arith) begins.things
+      (λ u same. cc same)
       (transfer_does setting placed k t rs valid w around z (at_call (a ∷ b ∷ []) y) e v landing target word landing_word valid_target of_value landing_there landing_is lands
       (begins_charged setting 52 begins))
 
@@ -204,7 +205,7 @@ module _ (setting : Setting) (placed : IsPlaced setting) (k t : ℕ) (rs valid :
         (subst (λ (q : MidOutcome). IsLast q.end) (sym store_runs) last) in
         subst (λ q. CallEnds setting 262 (suc t + 0) rs valid w around z y r q) (sym (runs (here ∙ store_runs)))
         (subst (λ p. CallEnds setting 262 (suc t + 0) rs valid w around z y p (exec c (code_of (returning setting.at 6 (transfer_routine setting.at) (4 ∷ 1 ∷ []))) registers_then y3)) (sym meant)
-        (call_behind setting moved.world moved.around {c2 = 190 + landing_cost landing} (let total = walked.cost_is in let most = landing_most landing in omega (arith, total, most)) refl (omega arith)
+        (call_behind setting moved.world moved.around {c2 = 176 + landing_cost landing} (let total = walked.cost_is in let most = landing_most landing in omega (arith, total, most)) refl (omega arith)
         (transfer_last setting placed k t 6 4 1 word registers_then e v landing target landing_word (begins_less setting transfer_words (omega arith) (point_begins setting moved.world moved.around begins)) held (omega arith) there
         (word_later moved.world.later v word of_value) (word_stored setting placed things landing_address of_landing landing_word (walked.passed + 1) (walked.total + 12 + 8)) landing_is
         lands)))

@@ -210,7 +210,7 @@ module _ (setting : Setting) (placed : IsPlaced setting) (k t : ℕ) (rs valid :
         → Comes (flat_leaves x.number v (at_segment 0) (flat_charged (passed + 1) z)) (exec c (code_of (transfers_to_found setting.at)) (tag_registers tag word at r4 r5 r6) (record y { cost = cost }))
     found_comes few there lands =
         subst (λ q. Comes (flat_leaves x.number v (at_segment 0) (flat_charged (passed + 1) z)) q) (sym store_runs)
-        (call_behind setting moved.world moved.around {c2 = 440} (omega (arith, few)) refl (omega arith)
+        (call_behind setting moved.world moved.around {c2 = 426} (omega (arith, few)) refl (omega arith)
         (transfer_last setting placed k t 6 3 1 word (tag_registers tag word at r4 r5 r6) x.number v (at_segment 0) target 0
         (begins_less setting transfer_words (omega arith) (point_begins setting moved.world moved.around begins)) held (omega arith) there
         (word_later moved.world.later v word of_value) (word_stored setting placed things landing_address of_landing 0 (passed + 1) (cost + 8)) refl lands))
