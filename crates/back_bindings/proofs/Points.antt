@@ -5,12 +5,13 @@ use Rattle.std.proofs.Math.ListN.{length-set}
 use Rattle.std.specs.Str.{bytes_eq}
 use Rattle.lang_meaning.specs.Lookup.{text, passed}
 use Rattle.lang_meaning.specs.Values.{Value}
-use Rattle.flat_language.specs.FlatState.{FlatEvaluated, gives}
+use Rattle.lang_meaning.specs.State.{DynamicContext}
+use Rattle.flat_language.specs.FlatState.{FlatEvaluated, gives, FlatEnvironment, FlatState}
 use Rattle.mid_code.specs.Arena.{word_in}
 use Rattle.mid_code.specs.Law.{Grown}
 use Rattle.mid_code.specs.Meaning.{Context, exec}
 use Rattle.mid_code.specs.MidCode.{MidCode, code_of}
-use Rattle.mid_code.specs.State.{Registers, register, falls, ends, MidState}
+use Rattle.mid_code.specs.State.{Registers, register, falls, ends, MidState, MidOutcome}
 use Rattle.mid_code.specs.State.{charged as mid_charged}
 use Rattle.mid_code.proofs.Growth.{exec_grown, levels_grow, turns_grow}
 use Rattle.mid_arena.specs.Places.{word_of}
@@ -22,11 +23,14 @@ use Rattle.back_lowering.specs.Steps.{Steps, constant, call}
 use Rattle.back_relation.specs.Setting.{Setting}
 use Rattle.back_relation.specs.Placed.{IsPlaced, HasDynamic}
 use Rattle.back_relation.specs.Ends.{done}
-use Rattle.back_relation.specs.Forms.{FormEnds, code_at}
+use Rattle.back_relation.specs.Forms.{FormEnds, code_at, Begins, SparingForm}
+use Rattle.back_relation.specs.Room.{looking_words}
+use Rattle.back_relation.specs.Worlds.{World, Standing}
+use Rattle.back_relation.specs.Activation.{FormScope}
 use Rattle.back_combining.specs.Starts.{FlatGrown, Start, EndsAt, ReachedFrom}
 use Rattle.back_combining.proofs.Activations.{activation_later}
 use Rattle.back_combining.proofs.Parts.{step_then}
-use Rattle.back_combining.proofs.Starts.{start_after, reached_cost, reached_set, behind}
+use Rattle.back_combining.proofs.Starts.{start_after, reached_cost, reached_set, behind, ends_spared}
 use Rattle.back_combining.proofs.Straight.{same_here, world_cost, around_cost}
 use Rattle.back_combining.proofs.Then.{reached_then}
 use Rattle.back_combining.proofs.Worlds.{later_same}
@@ -38,6 +42,32 @@ module _ (setting : Setting) where
   pub code_grows : (k turns : ℕ) (code : MidCode) (g : Registers) (v : MidState) → Grown v (exec (code_at setting k turns) code g v).state
   code_grows k turns code g v =
       exec_grown (code_at setting k turns) (levels_grow setting.procedures setting.turns_each k) (turns_grow setting.procedures _ (levels_grow setting.procedures setting.turns_each k) turns) code g v
+
+  -- the start of code that begins so, and what a form there comes to, whose whole first unit pays
+  abbrev pub begun_at :
+      (turns : ℕ) {rs valid : List Standing} {s : FormScope} {d n : ℕ} {w : World} {env : FlatEnvironment} {around : DynamicContext} {z : FlatState} {regs : Registers} {y : MidState}
+      → Begins setting rs valid s d n w env around z regs y → Start setting
+  begun_at turns {rs} {valid} {s} {d} {n} {w} {env} {around} {z} {regs} {y} b = record {
+    turns = turns;
+    rs = rs;
+    valid = valid;
+    s = s;
+    d = d;
+    n = n;
+    w = w;
+    env = env;
+    around = around;
+    z = z;
+    regs = regs;
+    y = y;
+    begins = b;
+  }
+
+  pub form_spared :
+      (turns : ℕ) {rs valid : List Standing} {s : FormScope} {d n : ℕ} {w : World} {env : FlatEnvironment} {around : DynamicContext} {z : FlatState} {regs : Registers} {y : MidState}
+      → Begins setting rs valid s d n w env around z regs y → {r : FlatEvaluated} {q : MidOutcome} → SparingForm setting turns rs valid s d w env around z regs y r q
+      → FormEnds setting 0 turns rs valid s d w env around z regs y r q
+  form_spared turns b e = ends_spared setting (begun_at turns b) e
 
   -- registers at or behind the first one were set, and this was paid
   pub reached_registers :
@@ -76,7 +106,7 @@ module _ (setting : Setting) where
 
     -- **the place of a dynamic variable's value comes to t**, and the code goes on
     pub binding_goes :
-        (a : Start setting) (n t credit c2 : ℕ) (rest : Steps) {r : FlatEvaluated} → HasDynamic setting n → a.d ≤ t → t < length a.regs → 8 ≤ a.n → FlatGrown a.z r.state
+        (a : Start setting) (n t credit c2 : ℕ) (rest : Steps) {r : FlatEvaluated} → HasDynamic setting n → a.d ≤ t → t < length a.regs → looking_words ≤ a.n → FlatGrown a.z r.state
         → 150 + 70 * sought a n + c2 ≤ credit
         → ((address : ℕ) (y2 : MidState) → address + 4 ≤ 2 ^ 32 → PlaceOf setting a.w n address (binding_under (text setting.names n) a.around.bindings)
         → ReachedFrom setting (150 + 70 * sought a n) a t a.w a.z (slice_set (slice_set a.regs t (Some (dynamic_address setting.at n))) t (Some address)) y2
