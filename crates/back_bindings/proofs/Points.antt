@@ -6,13 +6,13 @@ use Rattle.std.specs.Str.{bytes_eq}
 use Rattle.lang_meaning.specs.Lookup.{text, passed}
 use Rattle.lang_meaning.specs.Values.{Value}
 use Rattle.lang_meaning.specs.State.{DynamicContext}
-use Rattle.flat_language.specs.FlatState.{FlatEvaluated, gives, FlatEnvironment, FlatState}
+use Rattle.flat_language.specs.FlatState.{FlatEvaluated, gives, FlatEnvironment, FlatState, go_on}
 use Rattle.mid_code.specs.Arena.{word_in}
 use Rattle.mid_code.specs.Law.{Grown}
 use Rattle.mid_code.specs.Meaning.{Context, exec}
 use Rattle.mid_code.specs.MidCode.{MidCode, code_of}
-use Rattle.mid_code.specs.State.{Registers, register, falls, ends, MidState, MidOutcome}
-use Rattle.mid_code.specs.State.{charged as mid_charged}
+use Rattle.mid_code.specs.State.{Registers, register, falls, ends, MidState, MidOutcome, Next}
+use Rattle.mid_code.specs.State.{charged as mid_charged, go_on as mid_go_on}
 use Rattle.mid_code.proofs.Growth.{exec_grown, levels_grow, turns_grow}
 use Rattle.mid_arena.specs.Places.{word_of}
 use Rattle.mid_arena.proofs.Registers.{register_here}
@@ -22,18 +22,19 @@ use Rattle.back_lowering.specs.Routines.{binding_routine}
 use Rattle.back_lowering.specs.Steps.{Steps, constant, call}
 use Rattle.back_relation.specs.Setting.{Setting}
 use Rattle.back_relation.specs.Placed.{IsPlaced, HasDynamic}
-use Rattle.back_relation.specs.Ends.{done}
+use Rattle.back_relation.specs.Ends.{done, form_spare, form_credit}
 use Rattle.back_relation.specs.Forms.{FormEnds, code_at, Begins, SparingForm}
 use Rattle.back_relation.specs.Room.{looking_words}
 use Rattle.back_relation.specs.Worlds.{World, Standing}
 use Rattle.back_relation.specs.Activation.{FormScope}
-use Rattle.back_combining.specs.Starts.{FlatGrown, Start, EndsAt, ReachedFrom}
+use Rattle.back_combining.specs.Starts.{FlatGrown, Start, EndsAt, ReachedFrom, EndsFrom, FellFrom}
 use Rattle.back_combining.proofs.Activations.{activation_later}
-use Rattle.back_combining.proofs.Parts.{step_then}
-use Rattle.back_combining.proofs.Starts.{start_after, reached_cost, reached_set, behind, ends_spared}
+use Rattle.back_combining.proofs.Parts.{step_then, go_on_falls}
+use Rattle.back_combining.proofs.Starts.{start_after, reached_cost, reached_set, behind, ends_spared, start_charged, ends_charged}
 use Rattle.back_combining.proofs.Straight.{same_here, world_cost, around_cost}
-use Rattle.back_combining.proofs.Then.{reached_then}
+use Rattle.back_combining.proofs.Then.{reached_then, ends_go_on, ends_then}
 use Rattle.back_combining.proofs.Worlds.{later_same}
+use Rattle.back_combining.proofs.Growth.{then_value}
 use Rattle.back_calling.proofs.Inner.{form_looking_law}
 use Rattle.back_looking.specs.Looking.{LooksAnywhere, PlaceOf, binding_under, binding_most}
 use Rattle.back_looking.proofs.BindingWalk.{bindings_law}
@@ -68,6 +69,22 @@ module _ (setting : Setting) where
       → Begins setting rs valid s d n w env around z regs y → {r : FlatEvaluated} {q : MidOutcome} → SparingForm setting turns rs valid s d w env around z regs y r q
       → FormEnds setting 0 turns rs valid s d w env around z regs y r q
   form_spared turns b e = ends_spared setting (begun_at turns b) e
+
+  -- **a form and what comes behind it**, which what the form leaves of its first unit pays too
+  pub two_paying :
+      {c2 c : ℕ} (a : Start setting) (d1 : ℕ) {r : FlatEvaluated} {q : MidOutcome} (f : Value → FlatState → FlatEvaluated) (next : Next) → a.d ≤ d1 → c2 ≤ c + form_spare
+      → a.y.cost ≤ q.state.cost → EndsFrom setting form_credit (start_charged setting a 1) d1 r q → ((v : Value) (z : FlatState) → FlatGrown z (f v z).state)
+      → ((g : Registers) (y : MidState) → Grown y (next g y).state)
+      → ((x : FellFrom setting form_credit (start_charged setting a 1) d1 r q)
+      → FormEnds setting c2 a.turns a.rs a.valid a.s a.d x.w' a.env a.around r.state q.registers q.state (f x.result r.state) (next q.registers q.state))
+      → EndsAt setting c a (go_on r f) (mid_go_on q next)
+  two_paying {c2} {c} a d1 {r} {q} f next l enough costs e grown mid_grown h =
+      ends_charged setting {c1 = form_credit + c2} {c2 = c} a 1 (omega (arith, enough))
+      (ends_go_on setting {D = FellFrom setting form_credit (start_charged setting a 1) d1 r q} {c1 = form_credit} {d1 = d1} f next l (omega arith) e grown mid_grown
+      (λ x.
+      subst (λ p. EndsAt setting (form_credit + c2) (start_charged setting a 1) p (mid_go_on q next)) (sym (then_value r f x.result x.outcome))
+      (subst (λ p. EndsAt setting (form_credit + c2) (start_charged setting a 1) (f x.result r.state) p) (sym (go_on_falls q next x.end))
+      (ends_then setting l x.reached {c2 = c2} {c = form_credit + c2} (omega arith) (omega (arith, x.reached.back.paid, costs)) (h x)))))
 
   -- registers at or behind the first one were set, and this was paid
   pub reached_registers :
