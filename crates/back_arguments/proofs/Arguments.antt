@@ -25,7 +25,7 @@ use Rattle.back_combining.proofs.FormGrowth.{form_grows}
 use Rattle.back_combining.proofs.Growth.{both_flat, then_grown, then_value}
 use Rattle.back_combining.proofs.Parts.{go_on_falls}
 use Rattle.back_combining.proofs.Points.{code_grows}
-use Rattle.back_combining.proofs.Starts.{start_after, reached_same}
+use Rattle.back_combining.proofs.Starts.{start_after, ends_spared, reached_same}
 use Rattle.back_combining.proofs.Then.{reached_then, ends_behind, ends_then, ends_go_on}
 use Rattle.back_arguments.specs.Arguments.{WordsIn, arguments_steps, ArgumentsHere, ArgumentsThere, LawOfArguments, LawOfJudgedArguments}
 use Rattle.back_arguments.proofs.Lowering.{reached_earlier, ends_earlier}
@@ -132,7 +132,7 @@ module _ (setting : Setting) (s : FormScope) (d m size k n credit : ℕ) (p : Po
       (sym (ap (λ ss. run setting s d m size k n ss regs y) (append_assoc (value_steps setting s e m size k n f) (arguments_steps setting s (e + 1) fs) rest)
       ∙ in_two_parts (code_at setting k n) (value_steps setting s e m size k n f) more regs y))
       (ends_go_on setting {D = FellFrom setting 0 (start_at setting s e m size n q) e r o} {c1 = 0} {d1 = d} {r = r} {q = o} f1 g1 (omega arith) (omega arith)
-      (ends_behind setting (omega arith) c.reached {c2 = 0} {c = 0} (λ x. x) (omega arith) c.up (ends_earlier setting (omega (arith, c.word_count)) (h.0 q)))
+      (ends_behind setting (omega arith) c.reached {c2 = 0} {c = 0} (λ x. x) (omega arith) c.up (ends_earlier setting (omega (arith, c.word_count)) (ends_spared setting (start_at setting s e m size n q) (h.0 q))))
       (λ v x. arguments_grow setting k fs (vs ++ v ∷ []) p.env p.around x next grown) (λ g x. code_grows setting s d m size k n more g x)
       (λ x.
       subst (λ t. EndsSo setting s d m size Done credit n p t (mid_go_on o g1)) (sym (then_value r f1 x.result x.outcome))

@@ -136,8 +136,9 @@ module _ (setting : Setting) where
       let plain : Steps = enter_body setting.at setting.program p q (registers_from d count) d (d + count) site in
       either d (takes n (is_some q.rest) count) (if is_some q.rest then rest else plain) (wrong_number setting.at setting.program d site)
       (either d (is_some q.rest) rest plain
+      (later d (steps.call (d + count) (level_routine setting.at) []) _
       (behind d (list_of (count - n) (d + n) (d + count)) (enter_body setting.at setting.program p q (registers_from d n ++ (d + count) ∷ []) d (d + count + 1) site)
-      (body_names p q (registers_from d n ++ (d + count) ∷ []) d (d + count + 1) site))
+      (body_names p q (registers_from d n ++ (d + count) ∷ []) d (d + count + 1) site)))
       (body_names p q (registers_from d count) d (d + count) site))
       (call_first d (level_routine setting.at) [] (failing setting.at site d program_error_class))
 

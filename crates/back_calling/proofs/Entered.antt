@@ -28,7 +28,7 @@ use Rattle.back_relation.specs.Room.{words_for_handler}
 use Rattle.back_relation.specs.Worlds.{World, BoxPlace, on_heap, on_stack, gone, Standing}
 use Rattle.back_relation.specs.Things.{Things, WithinLimit}
 use Rattle.back_relation.specs.Around.{RoomFor, AroundStands, CallBegins}
-use Rattle.back_relation.specs.Ends.{Ends, RoomEnded, Because, done, left_by, full_there, stopped, few_turns, Returned, LeftCall, CallEnds}
+use Rattle.back_relation.specs.Ends.{WorldKept, Around, Ends, RoomEnded, Because, done, left_by, full_there, stopped, few_turns, Returned, LeftCall, CallEnds}
 use Rattle.back_relation.specs.Forms.{code_at}
 use Rattle.back_relation.specs.Procedures.{called}
 use Rattle.back_combining.specs.Starts.{FlatGrown}
@@ -142,6 +142,8 @@ module _ (setting : Setting) (p : MidProcedure) {w : World} {z : FlatState} {y :
     end_record = h.end_record;
     end_valid = h.end_valid;
     end_word = words_inside end_address ∙ h.end_word;
+    end_form = h.end_form;
+    tags_land = h.tags_land;
   }
 
   -- **where the body begins**
@@ -270,18 +272,55 @@ module _ (setting : Setting) (p : MidProcedure) {w : World} {z : FlatState} {y :
         })
     frame_ends (few_turns x) = few_turns (omega (arith, x, size))
 
+  -- ---- a body that leaves all words as they were
+
+  -- behind the procedure, whose body cost so much
+  abbrev pub given_back : ℕ → MidState
+  given_back cost = with_arena (with_blocks y.arena.blocks inner.arena) (mid_charged cost inner)
+
+  pub untouched_words : (cost a : ℕ) → word_at (given_back cost).arena a ≡ word_at y.arena a
+  untouched_words cost a = frame_back inner.arena p.frame y.arena.blocks a refl ∙ words_inside a
+
+  pub untouched_world : (cost : ℕ) → WorldKept setting w w z z y (given_back cost)
+  untouched_world cost = record {
+    later = later_same w;
+    things =
+        things_same_words setting things_inside (λ a. frame_back inner.arena p.frame y.arena.blocks a refl)
+        (grows_given_back (frame_of p) y.arena.blocks things_inside.represents.arena refl) refl refl;
+    stack = record { words = λ a low high plain. untouched_words cost a; bindings = λ i a e low high. e };
+    end = λ n e. untouched_words cost end_address ∙ e;
+    more_exits = omega arith;
+    same_size = size;
+  }
+
+  pub untouched_around : (cost : ℕ) → Around setting (cost + entry_cost p.parameters) z z y (given_back cost)
+  untouched_around cost = record {
+    control = record {
+      current = λ n e. untouched_words cost current_address ∙ e;
+      link = λ n e. untouched_words cost link_address ∙ e;
+      handlers = λ n e. untouched_words cost handlers_address ∙ e;
+      bindings = λ n e. untouched_words cost bindings_address ∙ e;
+    };
+    blocks = refl;
+    charged =
+        let stands = things_inside.represents.arena in
+        let more : left inner.arena + p.frame ≤ left (given_back cost).arena = omega (arith, stands.room, stands.blocks, stands.aligned) in
+        omega (arith, left_inside, more);
+    paid = omega arith;
+  }
+
 -- ---- a procedure runs
 
-with_room : (c : Context) (p : MidProcedure) (ws : List ℕ) (y : MidState) → length ws ≡ p.parameters → p.frame ≤ left y.arena
+pub with_room : (c : Context) (p : MidProcedure) (ws : List ℕ) (y : MidState) → length ws ≡ p.parameters → p.frame ≤ left y.arena
     → run_procedure c p ws y ≡ leaves y.arena.blocks (exec c (code_of p.body) (first_registers p.registers ws) (entered p y))
 with_room c p ws y e h = first_chosen _ _ _ _ (eq-eqb _ _ e) ∙ first_chosen _ _ _ _ (le-leb _ _ h)
 
-without_room : (c : Context) (p : MidProcedure) (ws : List ℕ) (y : MidState) → length ws ≡ p.parameters → left y.arena < p.frame
+pub without_room : (c : Context) (p : MidProcedure) (ws : List ℕ) (y : MidState) → length ws ≡ p.parameters → left y.arena < p.frame
     → run_procedure c p ws y ≡ ends (no_room p.frame (left y.arena)) (first_registers p.registers ws) (mid_charged (entry_cost p.parameters) y)
 without_room c p ws y e h = first_chosen _ _ _ _ (eq-eqb _ _ e) ∙ second_chosen _ _ _ _ (lt-leb _ _ h)
 
 -- a procedure with a frame of its own
-abbrev framed : MidProcedure → ℕ → MidProcedure
+abbrev pub framed : MidProcedure → ℕ → MidProcedure
 framed p f = record p { frame = f }
 
 module _ (setting : Setting) (room inside credit m : ℕ) (p : MidProcedure) (ws : List ℕ) (rs valid : List Standing) (w : World) (around : DynamicContext) (z : FlatState) (y : MidState)
@@ -404,6 +443,20 @@ module _ (setting : Setting) where
       let u = used_at _ setting.procedures number p setting.frames found in
       subst (λ o. CallEnds setting (credit + entry_cost p.parameters) m rs valid w around z y r o) (sym (called_by k n number p ws y Turn counted u))
       (paid_ends setting credit m p ws rs valid w around z y r u.frame u.within many grown things stands wanting k n few body)
+
+  -- a procedure at a level runs with a frame that is within its own
+  pub record RunsAt (j turns number : ℕ) (p : MidProcedure) (ws : List ℕ) (y : MidState) : Type 0 where
+    pub frame : ℕ
+    pub within : frame ≤ p.frame
+    pub runs : called (code_at setting (suc j) turns) number ws y ≡ run_procedure (code_at setting j setting.turns_each) (framed p frame) ws y
+
+  pub level_runs :
+      (j turns number : ℕ) (p : MidProcedure) (ws : List ℕ) (y : MidState) → slice_get (lowered setting.names setting.at setting.program) number ≡ Some p → p.counted ≡ Level
+      → RunsAt j turns number p ws y
+  unfolding levels turns
+  level_runs j turns number p ws y found counted =
+      let u = used_at _ setting.procedures number p setting.frames found in
+      record { frame = u.frame; within = u.within; runs = called_by (suc j) turns number p ws y Level counted u }
 
   -- where there is no level, nothing is said of the frame
   pub no_level_ends :

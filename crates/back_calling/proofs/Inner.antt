@@ -191,7 +191,59 @@ module _ (setting : Setting) where
       returns_law (code_at setting k n) return_cost m t x.word ss rs valid x.w' around r.state (called (code_at setting k n) number ws (mid_charged (call_cost arguments) y)).state (slice_set regs t (Some x.word)) x.result
       x.world.things (register_here regs t x.word low) x.of_value (omega arith))))
 
-  -- **a routine that only looks**
+  -- **a routine that only looks**: it returns a word, or what comes to r1 stops there, which is nothing else but what r comes to
+  pub looked :
+      (Done Left : MidOutcome → Type 0) (There : Type 0) (word_of : There → ℕ) (c : Context) (turns m t number : ℕ) (arguments ws : List ℕ) (z : FlatState) (y : MidState) (regs : Registers)
+      (r1 r : FlatEvaluated) (next : Next)
+      → WordsIn regs arguments ws → m ≤ turns → FlatGrown r1.state r.state → ((g : Registers) (x : MidState) → Grown x (next g x).state)
+      → ((end : End) → Because setting r1 end → Because setting r end) → ((asked left_then : ℕ) → r1.outcome ≡ meaning.full asked left_then → ⊥)
+      → ((x : There) → (after c number arguments ws y).end ≡ returns (word_of x))
+      → Ends setting There ⊥ turns z (mid_charged (call_cost arguments) y) r1 (after c number arguments ws y)
+      → ((x : There) → EndsBy Done Left m z y r (next (slice_set regs t (Some (word_of x))) (after c number arguments ws y).state))
+      → EndsBy Done Left m z y r (mid_go_on (exec_step c (call t number arguments) regs y) next)
+  looked Done Left There word_of c turns m t number arguments ws z y regs r1 r next there fewer flat_grown grown because_of never_full returned e h = by e
+    where
+      stepped : mid_go_on (exec_step c (call t number arguments) regs y) next ≡ mid_go_on (mid_called (after c number arguments ws y) t regs) next
+      stepped = ap (λ p. mid_go_on p next) (call_comes c regs y t number arguments ws there)
+
+      cases : Ends setting There ⊥ turns z (mid_charged (call_cost arguments) y) r1 (after c number arguments ws y) → EndsBy Done Left m z y r (mid_go_on (mid_called (after c number arguments ws y) t regs) next)
+      cases (done x) =
+          subst (λ p. EndsBy Done Left m z y r p)
+          (sym (ap (λ p. mid_go_on p next) (called_returned (after c number arguments ws y) t regs (returned x)) ∙ go_on_falls (ends falls (slice_set regs t (Some (word_of x))) (after c number arguments ws y).state) next refl))
+          (h x)
+      cases (left_by x) = absurd x
+      cases (full_there x) = absurd (never_full x.asked x.left_then x.outcome)
+      cases (stopped x) =
+          let because : Because setting r (mid_called (after c number arguments ws y) t regs).end = called_because setting r (after c number arguments ws y) t regs (because_of (after c number arguments ws y).end x.because) in
+          subst (λ p. EndsBy Done Left m z y r p)
+          (sym (go_on_last (mid_called (after c number arguments ws y) t regs).end (mid_called (after c number arguments ws y) t regs) next refl (stopped_last setting r (mid_called (after c number arguments ws y) t regs).end because)))
+          (stopped (record {
+            because = because;
+            printed = both_prefix (subst (λ (s : MidState). IsPrefix s.printed r1.state.state.printed) (sym (called_state (after c number arguments ws y) t regs)) x.printed) flat_grown.printed;
+          }))
+      cases (few_turns x) = few_turns (omega (arith, x, fewer, flat_grown.units))
+
+      by : Ends setting There ⊥ turns z (mid_charged (call_cost arguments) y) r1 (after c number arguments ws y) → EndsBy Done Left m z y r (mid_go_on (exec_step c (call t number arguments) regs y) next)
+      by x = subst (λ p. EndsBy Done Left m z y r p) (sym stepped) (cases x)
+
+  -- where the meaning does nothing, code stops for nothing but room that nobody counts
+  pub nothing_because :
+      {w : World} {z : FlatState} {y : MidState} (r : FlatEvaluated) → Things setting w z y → FlatGrown z r.state → (end : End) → Because setting (gives nil z) end → Because setting r end
+  nothing_because r things flat_grown (no_room asked left_then) b = (room setting.limit b.0, b.1)
+    where
+      room : (l : Limit) → RoomEnded setting l (meaning.value nil) → RoomEnded setting l r.outcome
+      room unlimited b = tt
+      room (words n) b = absurd b
+  nothing_because r things flat_grown no_level b = absurd (cc b)
+  nothing_because {z = z} r things flat_grown exhausted b = let s = things.serials in let exits = flat_grown.exits in absurd (omega (arith, b, s.2, s.3))
+  nothing_because r things flat_grown falls b = absurd b
+  nothing_because r things flat_grown (returns x) b = absurd b
+  nothing_because r things flat_grown (cuts n x) b = absurd b
+  nothing_because r things flat_grown no_turn b = absurd b
+  nothing_because r things flat_grown (halts x) b = absurd b
+  nothing_because r things flat_grown (unhandled class site condition) b = absurd b
+  nothing_because r things flat_grown stuck b = absurd b
+
   pub looking :
       (Done Left : MidOutcome → Type 0) (c : Context) (k turns m t number most word : ℕ) (arguments ws : List ℕ) (rs valid : List Standing) (w : World) (around : DynamicContext) (z : FlatState)
       (y : MidState) (regs : Registers) (r : FlatEvaluated) (next : Next)
@@ -201,50 +253,12 @@ module _ (setting : Setting) where
       → (WorldKept setting w w z z y (after c number arguments ws y).state → Around setting (most + call_cost arguments) z z y (after c number arguments ws y).state
       → EndsBy Done Left m z y r (next (slice_set regs t (Some word)) (after c number arguments ws y).state))
       → EndsBy Done Left m z y r (mid_go_on (exec_step c (call t number arguments) regs y) next)
-  looking Done Left c k turns m t number most word arguments ws rs valid w around z y regs r next there things fewer flat_grown grown e h = by e
-    where
-      stepped : mid_go_on (exec_step c (call t number arguments) regs y) next ≡ mid_go_on (mid_called (after c number arguments ws y) t regs) next
-      stepped = ap (λ p. mid_go_on p next) (call_comes c regs y t number arguments ws there)
-
-      because_of : (end : End) → Because setting (gives nil z) end → Because setting r end
-      because_of (no_room asked left_then) b = (room setting.limit b.0, b.1)
-        where
-          room : (l : Limit) → RoomEnded setting l (meaning.value nil) → RoomEnded setting l r.outcome
-          room unlimited b = tt
-          room (words n) b = absurd b
-      because_of no_level b = absurd (cc b)
-      because_of exhausted b = let s = things.serials in let exits = flat_grown.exits in absurd (omega (arith, b, s.2, s.3))
-      because_of falls b = absurd b
-      because_of (returns x) b = absurd b
-      because_of (cuts n x) b = absurd b
-      because_of no_turn b = absurd b
-      because_of (halts x) b = absurd b
-      because_of (unhandled class site condition) b = absurd b
-      because_of stuck b = absurd b
-
-      cases :
-          Ends setting (Looks setting k turns rs valid w around z (mid_charged (call_cost arguments) y) most word (after c number arguments ws y)) ⊥ turns z (mid_charged (call_cost arguments) y) (gives nil z) (after c number arguments ws y) → EndsBy Done Left m z y r (mid_go_on (mid_called (after c number arguments ws y) t regs) next)
-      cases (done x) =
-          subst (λ p. EndsBy Done Left m z y r p)
-          (sym (ap (λ p. mid_go_on p next) (called_returned (after c number arguments ws y) t regs x.end) ∙ go_on_falls (ends falls (slice_set regs t (Some word)) (after c number arguments ws y).state) next refl))
-          (h (world_then setting (world_cost setting (call_cost arguments) things) (around_cost setting {credit = call_cost arguments} z y (call_cost arguments) (omega arith)) x.world)
-          (back_then setting (world_cost setting (call_cost arguments) things) (around_cost setting {credit = call_cost arguments} z y (call_cost arguments) (omega arith)) (omega arith) x.back))
-      cases (left_by x) = absurd x
-      cases (full_there x) = absurd (cc (x.outcome))
-      cases (stopped x) =
-          let because : Because setting r (mid_called (after c number arguments ws y) t regs).end = called_because setting r (after c number arguments ws y) t regs (because_of (after c number arguments ws y).end x.because) in
-          subst (λ p. EndsBy Done Left m z y r p)
-          (sym (go_on_last (mid_called (after c number arguments ws y) t regs).end (mid_called (after c number arguments ws y) t regs) next refl (stopped_last setting r (mid_called (after c number arguments ws y) t regs).end because)))
-          (stopped (record {
-            because = because;
-            printed = both_prefix (subst (λ (s : MidState). IsPrefix s.printed z.state.printed) (sym (called_state (after c number arguments ws y) t regs)) x.printed) flat_grown.printed;
-          }))
-      cases (few_turns x) = few_turns (omega (arith, x, fewer, flat_grown.units))
-
-      by :
-          Ends setting (Looks setting k turns rs valid w around z (mid_charged (call_cost arguments) y) most word (after c number arguments ws y)) ⊥ turns z (mid_charged (call_cost arguments) y) (gives nil z) (after c number arguments ws y)
-          → EndsBy Done Left m z y r (mid_go_on (exec_step c (call t number arguments) regs y) next)
-      by x = subst (λ p. EndsBy Done Left m z y r p) (sym stepped) (cases x)
+  looking Done Left c k turns m t number most word arguments ws rs valid w around z y regs r next there things fewer flat_grown grown e h =
+      looked Done Left (Looks setting k turns rs valid w around z (mid_charged (call_cost arguments) y) most word (after c number arguments ws y)) (λ x. word) c turns m t number arguments ws z
+      y regs (gives nil z) r next there fewer flat_grown grown (nothing_because r things flat_grown) (λ asked left_then e. absurd (cc e)) (λ x. x.end) e
+      (λ x.
+      h (world_then setting (world_cost setting (call_cost arguments) things) (around_cost setting {credit = call_cost arguments} z y (call_cost arguments) (omega arith)) x.world)
+      (back_then setting (world_cost setting (call_cost arguments) things) (around_cost setting {credit = call_cost arguments} z y (call_cost arguments) (omega arith)) (omega arith) x.back))
 
   -- in a routine
   pub looking_law : LawOfLooking setting

@@ -4,6 +4,7 @@ pub mod Framing
 pub mod Outward
 pub mod Growing
 pub mod Transferring
+pub mod Units
 pub mod Formed
 pub mod Sited
 pub mod Entered

@@ -17,7 +17,7 @@ use Rattle.back_lowering.specs.ControlWords.{site_address}
 use Rattle.back_lowering.specs.Leaves.{site_stored}
 use Rattle.back_lowering.specs.Steps.{Steps, constant, call}
 use Rattle.back_relation.specs.Setting.{Setting}
-use Rattle.back_relation.specs.Room.{routine_words}
+use Rattle.back_relation.specs.Room.{failing_words}
 use Rattle.back_relation.specs.Around.{SiteStored}
 use Rattle.back_relation.specs.Things.{SiteIs}
 use Rattle.back_relation.specs.Activation.{SiteHeld}
@@ -124,7 +124,7 @@ reached_sited setting a d number paid credit regs low few below count =
           (λ same. omega (arith, same)) (λ same. omega (arith, same));
     }
 
-module _ (setting : Setting) (k : ℕ) (a : Start setting) (total credit cost d u t routine : ℕ) (steps : Steps) (arguments ws : List ℕ) (r : FlatEvaluated) where
+module _ (setting : Setting) (k : ℕ) (a : Start setting) (total room credit cost d u t routine : ℕ) (steps : Steps) (arguments ws : List ℕ) (r : FlatEvaluated) where
   abbrev c : Context
   c = code_at setting k a.turns
 
@@ -132,9 +132,9 @@ module _ (setting : Setting) (k : ℕ) (a : Start setting) (total credit cost d 
   code = site_stored a.s.code.site u t ++ (steps ++ (call d routine arguments ∷ []))
 
   sited :
-      (enough : credit + 20 + cost + call_cost arguments ≤ total) (low : a.d ≤ d) (high : d ≤ u) (before : u < t) (there : t < length a.regs) → routine_words ≤ a.n → FlatLater a.z r.state
+      (enough : credit + 20 + cost + call_cost arguments ≤ total) (low : a.d ≤ d) (high : d ≤ u) (before : u < t) (there : t < length a.regs) → room ≤ a.n → FlatLater a.z r.state
       → (s : SiteRuns setting c a u t a.s.code.site) → Between c steps s.regs (stored_at site_address s.number s.paid a.y) d cost arguments ws
-      → ((number paid : ℕ) → Does setting k a.turns a.rs a.valid (standing_world a.w a.y) a.around a.z (stored_at site_address number paid a.y) credit routine ws r)
+      → ((number paid : ℕ) → Does setting k a.turns a.rs a.valid (standing_world a.w a.y) a.around a.z (stored_at site_address number paid a.y) room credit routine ws r)
       → EndsFrom setting total a d r (exec c (code_of code) a.regs a.y)
   sited enough low high before there words grows s b does =
       let size : length b.regs' ≡ length a.regs = b.count ∙ s.others.count in
@@ -143,7 +143,7 @@ module _ (setting : Setting) (k : ℕ) (a : Start setting) (total credit cost d 
       let reached = reached_sited setting a d s.number (s.paid + cost) (20 + cost) b.regs' low (let few = s.few in omega (arith, few)) below size in
       let at_call = reached_sited setting a d s.number (s.paid + cost + call_cost arguments) (20 + cost + call_cost arguments) b.regs' low (let few = s.few in omega (arith, few)) below size in
       let b2 : Start setting = start_after setting a d a.d a.n low (omega arith) (omega arith) a.begins.first reached in
-      let b3 : Start setting = start_after setting a d a.d routine_words low (omega arith) words a.begins.first at_call in
+      let b3 : Start setting = start_after setting a d a.d room low (omega arith) words a.begins.first at_call in
       let site : SiteStored setting a.around b3.y =
       (s.number, word_stored setting a.begins.call.things site_address s.number (s.paid + cost + call_cost arguments) site_control refl, s.is) in
       let run : RunsTo c (code_of code) a.regs a.y (exec_step c (call d routine arguments) b.regs' b2.y) =
@@ -152,12 +152,12 @@ module _ (setting : Setting) (k : ℕ) (a : Start setting) (total credit cost d 
       subst (λ q. EndsFrom setting total a d r q) (sym run.same)
       (ends_then setting {d = d} {d1 = d} (omega arith) reached {c2 = credit + call_cost arguments} {c = total} (omega arith) (omega arith)
       ((form_calls_law setting).by_number c b2 credit d routine arguments ws r low (omega (arith, size, there, high, before)) b.arguments_there grows
-      (does s.number (s.paid + cost + call_cost arguments) (b3.begins.call, site))))
+      (does s.number (s.paid + cost + call_cost arguments) site b3.begins.call)))
 
 pub sited_calls_law : (setting : Setting) → LawOfSitedCalls setting
-sited_calls_law setting k a total credit cost d u t routine steps arguments ws r enough low high before there words grows between does =
+sited_calls_law setting k a total room credit cost d u t routine steps arguments ws r enough low high before there words grows between does =
     let s = site_runs setting (code_at setting k a.turns) a u t (omega (arith, low, high)) before there in
-    sited setting k a total credit cost d u t routine steps arguments ws r enough low high before there words grows s (between s.regs s.number s.paid s.others) does
+    sited setting k a total room credit cost d u t routine steps arguments ws r enough low high before there words grows s (between s.regs s.number s.paid s.others) does
 
 -- ---- steps between
 
@@ -196,7 +196,7 @@ module _ (c : Context) (regs : Registers) (y : MidState) where
 pub failing_law : (setting : Setting) → LawOfFailing setting
 failing_law setting = record {
   class_alone = λ k credit a d class low there words does.
-      sited_calls_law setting k a (credit + 72) credit 6 d d (d + 1) _ (constant d class ∷ []) (d ∷ []) (class ∷ []) _ (omega arith) low (omega arith) (omega arith) there words
+      sited_calls_law setting k a (credit + 72) failing_words credit 6 d d (d + 1) _ (constant d class ∷ []) (d ∷ []) (class ∷ []) _ (omega arith) low (omega arith) (omega arith) there words
       (signal_later setting k class [] a.around a.z)
       (λ regs number paid others.
       let size = others.count in
@@ -204,7 +204,7 @@ failing_law setting = record {
       (register_here regs d class (omega (arith, size, there)), tt))
       does;
   with_word = λ k credit a d class word v low there words does.
-      sited_calls_law setting k a (credit + 84) credit 12 d d (d + 1) _ (constant d class ∷ constant (d + 1) word ∷ []) (d ∷ (d + 1) ∷ []) (class ∷ word ∷ []) _ (omega arith) low (omega arith) (omega arith) there
+      sited_calls_law setting k a (credit + 84) failing_words credit 12 d d (d + 1) _ (constant d class ∷ constant (d + 1) word ∷ []) (d ∷ (d + 1) ∷ []) (class ∷ word ∷ []) _ (omega arith) low (omega arith) (omega arith) there
       words (signal_later setting k class (v ∷ []) a.around a.z)
       (λ regs number paid others.
       let size = others.count in
@@ -216,7 +216,7 @@ failing_law setting = record {
       ))
       does;
   domain = λ k credit a d of class word v low before there words held does.
-      sited_calls_law setting k a (credit + 78) credit 6 d d (d + 1) _ (constant d class ∷ []) (of ∷ d ∷ []) (word ∷ class ∷ []) _ (omega arith) low (omega arith) (omega arith) there words
+      sited_calls_law setting k a (credit + 78) failing_words credit 6 d d (d + 1) _ (constant d class ∷ []) (of ∷ d ∷ []) (word ∷ class ∷ []) _ (omega arith) low (omega arith) (omega arith) there words
       (domain_error_later setting k v class a.around a.z)
       (λ regs number paid others.
       let size = others.count in
@@ -225,8 +225,8 @@ failing_law setting = record {
         (register_here regs d class (omega (arith, size, there)), tt),
       ))
       does;
-  two = λ k credit a d routine first second r low there words held_first held_second grows does.
-      sited_calls_law setting k a (credit + 72) credit 0 d (d + 2) (d + 3) routine [] (d ∷ (d + 1) ∷ []) (first ∷ second ∷ []) r (omega arith) low (omega arith) (omega arith) there words grows
+  two = λ k room credit a d routine first second r low there words held_first held_second grows does.
+      sited_calls_law setting k a (credit + 72) room credit 0 d (d + 2) (d + 3) routine [] (d ∷ (d + 1) ∷ []) (first ∷ second ∷ []) r (omega arith) low (omega arith) (omega arith) there words grows
       (λ regs number paid others.
       nothing_between (code_at setting k a.turns) regs (stored_at site_address number paid a.y) d (d ∷ (d + 1) ∷ []) (first ∷ second ∷ []) (
         ap word_in (others.same d (λ e. omega arith) (λ e. omega arith)) ∙ held_first,

@@ -14,7 +14,7 @@ use Rattle.back_lowering.specs.Leaves.{site_stored, failing, failing_with, domai
 use Rattle.back_lowering.specs.Routines.{failing_routine, failing_with_routine, domain_routine}
 use Rattle.back_lowering.specs.Steps.{Steps, call, call_number}
 use Rattle.back_relation.specs.Setting.{Setting}
-use Rattle.back_relation.specs.Room.{routine_words}
+use Rattle.back_relation.specs.Room.{failing_words}
 use Rattle.back_relation.specs.Ends.{CallEnds}
 use Rattle.back_relation.specs.Forms.{context_at, code_at}
 use Rattle.back_relation.specs.Procedures.{called}
@@ -64,44 +64,44 @@ module _ (setting : Setting) where
   -- **the site is stored in u and t, further steps set registers, and a routine is called**, with the result in d
   abbrev pub LawOfSitedCalls : Type 0
   LawOfSitedCalls =
-      (k : ℕ) (a : Start setting) (total credit cost d u t routine : ℕ) (steps : Steps) (arguments ws : List ℕ) (r : FlatEvaluated)
-      → credit + 20 + cost + call_cost arguments ≤ total → a.d ≤ d → d ≤ u → u < t → t < length a.regs → routine_words ≤ a.n → FlatLater a.z r.state
+      (k : ℕ) (a : Start setting) (total room credit cost d u t routine : ℕ) (steps : Steps) (arguments ws : List ℕ) (r : FlatEvaluated)
+      → credit + 20 + cost + call_cost arguments ≤ total → a.d ≤ d → d ≤ u → u < t → t < length a.regs → room ≤ a.n → FlatLater a.z r.state
       → ((regs : Registers) (number paid : ℕ) → AllButTwo u t a.regs regs
       → Between (code_at setting k a.turns) steps regs (stored_at site_address number paid a.y) d cost arguments ws)
       → ((number paid : ℕ)
-      → Does setting k a.turns a.rs a.valid (standing_world a.w a.y) a.around a.z (stored_at site_address number paid a.y) credit routine ws r)
+      → Does setting k a.turns a.rs a.valid (standing_world a.w a.y) a.around a.z (stored_at site_address number paid a.y) room credit routine ws r)
       → EndsFrom setting total a d r
       (exec (code_at setting k a.turns) (code_of (site_stored a.s.code.site u t ++ (steps ++ (call d routine arguments ∷ [])))) a.regs a.y)
 
   -- a new condition is signalled: of a class, with one slot, of a domain error
   pub record LawOfFailing : Type 0 where
     pub class_alone :
-        (k credit : ℕ) (a : Start setting) (d class : ℕ) → a.d ≤ d → d + 1 < length a.regs → routine_words ≤ a.n
+        (k credit : ℕ) (a : Start setting) (d class : ℕ) → a.d ≤ d → d + 1 < length a.regs → failing_words ≤ a.n
         → ((number paid : ℕ)
-        → Does setting k a.turns a.rs a.valid (standing_world a.w a.y) a.around a.z (stored_at site_address number paid a.y) credit
+        → Does setting k a.turns a.rs a.valid (standing_world a.w a.y) a.around a.z (stored_at site_address number paid a.y) failing_words credit
         (failing_routine setting.at) (class ∷ []) (signal (context_at setting k) class [] a.around a.z))
         → EndsFrom setting (credit + 72) a d (signal (context_at setting k) class [] a.around a.z)
         (exec (code_at setting k a.turns) (code_of (failing setting.at a.s.code.site d class)) a.regs a.y)
     pub with_word :
-        (k credit : ℕ) (a : Start setting) (d class word : ℕ) (v : Value) → a.d ≤ d → d + 1 < length a.regs → routine_words ≤ a.n
+        (k credit : ℕ) (a : Start setting) (d class word : ℕ) (v : Value) → a.d ≤ d → d + 1 < length a.regs → failing_words ≤ a.n
         → ((number paid : ℕ)
-        → Does setting k a.turns a.rs a.valid (standing_world a.w a.y) a.around a.z (stored_at site_address number paid a.y) credit
+        → Does setting k a.turns a.rs a.valid (standing_world a.w a.y) a.around a.z (stored_at site_address number paid a.y) failing_words credit
         (failing_with_routine setting.at) (class ∷ word ∷ []) (signal (context_at setting k) class (v ∷ []) a.around a.z))
         → EndsFrom setting (credit + 84) a d (signal (context_at setting k) class (v ∷ []) a.around a.z)
         (exec (code_at setting k a.turns) (code_of (failing_with setting.at a.s.code.site d class word)) a.regs a.y)
     pub domain :
-        (k credit : ℕ) (a : Start setting) (d of class word : ℕ) (v : Value) → a.d ≤ d → of < d → d + 1 < length a.regs → routine_words ≤ a.n
+        (k credit : ℕ) (a : Start setting) (d of class word : ℕ) (v : Value) → a.d ≤ d → of < d → d + 1 < length a.regs → failing_words ≤ a.n
         → register of a.regs ≡ Some word
         → ((number paid : ℕ)
-        → Does setting k a.turns a.rs a.valid (standing_world a.w a.y) a.around a.z (stored_at site_address number paid a.y) credit
+        → Does setting k a.turns a.rs a.valid (standing_world a.w a.y) a.around a.z (stored_at site_address number paid a.y) failing_words credit
         (domain_routine setting.at) (word ∷ class ∷ []) (signal_domain_error (context_at setting k) (signal (context_at setting k)) v class a.around a.z))
         → EndsFrom setting (credit + 78) a d (signal_domain_error (context_at setting k) (signal (context_at setting k)) v class a.around a.z)
         (exec (code_at setting k a.turns) (code_of (domain_error setting.at a.s.code.site d of class)) a.regs a.y)
     -- a routine is called with the words in d and the next register
     pub two :
-        (k credit : ℕ) (a : Start setting) (d routine first second : ℕ) (r : FlatEvaluated) → a.d ≤ d → d + 3 < length a.regs → routine_words ≤ a.n
+        (k room credit : ℕ) (a : Start setting) (d routine first second : ℕ) (r : FlatEvaluated) → a.d ≤ d → d + 3 < length a.regs → room ≤ a.n
         → register d a.regs ≡ Some first → register (d + 1) a.regs ≡ Some second → FlatLater a.z r.state
         → ((number paid : ℕ)
-        → Does setting k a.turns a.rs a.valid (standing_world a.w a.y) a.around a.z (stored_at site_address number paid a.y) credit routine
+        → Does setting k a.turns a.rs a.valid (standing_world a.w a.y) a.around a.z (stored_at site_address number paid a.y) room credit routine
         (first ∷ second ∷ []) r)
         → EndsFrom setting (credit + 72) a d r (exec (code_at setting k a.turns) (code_of (with_two setting.names setting.at setting.program a.s.code.site d routine)) a.regs a.y)

@@ -12,6 +12,7 @@ use Rattle.lang_meaning.specs.Objects.{function}
 use Rattle.lang_meaning.specs.Prefixes.{IsPrefix}
 use Rattle.lang_meaning.specs.State.{Limit, words, unlimited, has_room, full, room_left}
 use Rattle.lang_meaning.specs.Values.{object}
+use Rattle.lang_meaning.specs.Counts.{unit_cost}
 use Rattle.flat_language.specs.declared.place.CapturedKind.{CapturedKind}
 use Rattle.flat_language.specs.declared.place.CapturedKind.TheVariants as kind
 use Rattle.flat_language.specs.declared.place.ExitPlace.TheVariants as exit_place
@@ -50,7 +51,7 @@ use Rattle.back_relation.specs.Around.{RoomFor}
 use Rattle.back_relation.specs.Activation.{FormScope}
 use Rattle.back_relation.specs.Placed.{IsPlaced, PartPlaced}
 use Rattle.back_relation.specs.Room.{words_for_handler}
-use Rattle.back_relation.specs.Ends.{RoomEnded, full_there, stopped}
+use Rattle.back_relation.specs.Ends.{RoomEnded, full_there, stopped, form_credit}
 use Rattle.back_relation.specs.Forms.{code_at}
 use Rattle.back_combining.specs.Points.{Point, start_at, run, Here}
 use Rattle.back_combining.specs.Starts.{Start, EndsAt, ReachedFrom}
@@ -58,7 +59,7 @@ use Rattle.back_combining.proofs.Activations.{activation_later}
 use Rattle.back_combining.proofs.Growth.{same_prefix}
 use Rattle.back_combining.proofs.Fitting.{enough_front, enough_behind, registers_front}
 use Rattle.back_combining.proofs.Points.{point_after}
-use Rattle.back_combining.proofs.Starts.{start_charged, ends_charged, behind}
+use Rattle.back_combining.proofs.Starts.{start_charged, behind, ends_sparing}
 use Rattle.back_combining.proofs.Then.{same_world}
 use Rattle.back_values.specs.Boxes.{Clean}
 use Rattle.back_functions.specs.Functions.{LawOfFunctions}
@@ -321,14 +322,14 @@ module _ (setting : Setting) (placed : IsPlaced setting) (s : FormScope) (d m si
     function_there :
         Clean q.w q.y → (row : FlatProcedure) → slice_get setting.program.lambdas p ≡ Some row → kinds ≡ row.captured
         → slice_get setting.leads.functions p ≡ Some (exits_of_parts s.exits parts) → WithinLimit setting.limit (words_asked cs q.z).state
-        → EndsAt setting 300 (start q) (gives (object (length q.z.state.store)) (function_meant p cs q.z)) (run setting s d m size k n all_steps q.regs q.y)
+        → EndsAt setting form_credit (start q) (gives (object (length q.z.state.store)) (function_meant p cs q.z)) (run setting s d m size k n all_steps q.regs q.y)
     function_there clean row at same lead within =
         let few = done_parts.within in
         let t = q.begins.call.things in
         let kinds_are = subst (λ ks. AreOfKinds ks cs) same (kinds_of setting s d m size q parts kinds stands) in
         let made_by = made_of_parts setting s d m size q parts kinds stands in
         let room : 2 + length ws ≤ left q.y.arena = omega (arith, some, count_words, count_parts) in
-        let cheap : cost ≤ 300 * (2 + length cs) = omega (arith, few, count_parts) in
+        let cheap : cost ≤ unit_cost * (2 + length cs) = omega (arith, few, count_parts) in
         let forms : List (Option ExitForm) = exits_of_parts s.exits parts in
         let world = world_made setting placed t clean p ws cs cost row at kinds_are forms lead made_by done_parts.are room within cheap in
         let back = around_made setting placed t clean p ws cs cost row at kinds_are forms lead made_by done_parts.are room within cheap in
@@ -348,7 +349,7 @@ module _ (setting : Setting) (placed : IsPlaced setting) (s : FormScope) (d m si
           };
           back = back;
         } in
-        subst (λ o. EndsAt setting 300 (start q) (gives (object (length q.z.state.store)) (function_meant p cs q.z)) o) (sym ran)
+        subst (λ o. EndsAt setting form_credit (start q) (gives (object (length q.z.state.store)) (function_meant p cs q.z)) o) (sym ran)
         (given_where setting placed s d m size k n (start q) reached (object (length q.z.state.store)) (b + 2) (omega arith)
         (register_here (slice_set done_parts.after (d + 1) (Some 2)) d (b + 2) (omega (arith, there, count5, length-set done_parts.after (d + 1) (Some 2))))
         (function_is setting placed t clean p ws cs cost row at kinds_are forms lead made_by done_parts.are room within cheap))
@@ -395,14 +396,14 @@ module _ (setting : Setting) (placed : IsPlaced setting) (s : FormScope) (d m si
 
     with_words_left :
         has_room setting.limit (q.z.state.heap + q.z.state.stack + (2 + length captured_parts) + 0) ≡ true → Room many q.y.arena
-        → EndsAt setting 300 (start q) (gives (object (length q.z.state.store)) (function_meant p captured_parts q.z)) (run setting s d m size k n all_steps q.regs q.y)
+        → EndsAt setting form_credit (start q) (gives (object (length q.z.state.store)) (function_meant p captured_parts q.z)) (run setting s d m size k n all_steps q.regs q.y)
     with_words_left e (is_left some) =
         function_there q known there fits_parts row.captured stands parts_placed some clean row at refl lead (words_within setting.limit q.z captured_parts e)
     with_words_left e (is_wanting few) =
         let run_to : RunsTo c (code_of all_steps) q.regs q.y (ends (no_room many (left q.y.arena)) (slice_set q.regs d (Some many)) (mid_charged 20 (mid_charged 6 q.y))) =
         and_then constant_falls (and_ends tt (request_wanting (register_here q.regs d many (omega (arith, there, q.count))) few)) in
         let few' : left q.y.arena < 2 + length captured_parts = omega (arith, few, as_many) in
-        subst (λ o. EndsAt setting 300 (start q) (gives (object (length q.z.state.store)) (function_meant p captured_parts q.z)) o) (sym run_to.same)
+        subst (λ o. EndsAt setting form_credit (start q) (gives (object (length q.z.state.store)) (function_meant p captured_parts q.z)) o) (sym run_to.same)
         (stopped (record {
           because = (
             words_wanting setting setting.limit (m + words_for_handler * length q.around.handlers) (2 + length captured_parts) q.z q.y
@@ -413,12 +414,12 @@ module _ (setting : Setting) (placed : IsPlaced setting) (s : FormScope) (d m si
         }))
 
     made_or_not :
-        EndsAt setting 300 (start q) (make_closure setting.limit p captured_parts q.z (λ v after. gives v after)) (run setting s d m size k n all_steps q.regs q.y)
+        EndsAt setting form_credit (start q) (make_closure setting.limit p captured_parts q.z (λ v after. gives v after)) (run setting s d m size k n all_steps q.regs q.y)
     made_or_not = by (has_room setting.limit (q.z.state.heap + q.z.state.stack + (2 + length captured_parts) + 0)) refl
       where
         by :
             (t : Bool) → has_room setting.limit (q.z.state.heap + q.z.state.stack + (2 + length captured_parts) + 0) ≡ t
-            → EndsAt setting 300 (start q)
+            → EndsAt setting form_credit (start q)
             (if t then gives (object (length q.z.state.store)) (function_meant p captured_parts q.z)
             else record { outcome = full (2 + length captured_parts + 0) (room_left setting.limit (q.z.state.heap + q.z.state.stack)); state = q.z })
             (run setting s d m size k n all_steps q.regs q.y)
@@ -455,9 +456,9 @@ module _ (setting : Setting) (placed : IsPlaced setting) (s : FormScope) (d m si
       } in
       let r = reached_clean setting (start b) in
       let e : Point setting s d m size = point_after setting s d m size n b r in
-      ends_charged setting {c1 = 300} (start q) units (omega arith)
-      (behind setting {c1 = 0} {c2 = 300} (start b) d (omega arith) r (omega arith) (omega arith)
-      (subst (λ (xs : List Captured). EndsAt setting 300 (start e) (make_closure setting.limit p xs (charged units q.z) (λ v after. gives v after)) (run setting s d m size k n all_steps q.regs q.y))
+      ends_sparing setting {c1 = form_credit} (start q) units (omega arith) (omega arith)
+      (behind setting {c1 = 0} {c2 = form_credit} (start b) d (omega arith) r (omega arith) (omega arith)
+      (subst (λ (xs : List Captured). EndsAt setting form_credit (start e) (make_closure setting.limit p xs (charged units q.z) (λ v after. gives v after)) (run setting s d m size k n all_steps q.regs q.y))
       (parts_same q.env q.z units parts)
       (made_or_not e (known e) (is_clean setting b.begins.call.things) fits stands.procedure stands.there stands.parts_stand lead parts_placed)))
 

@@ -10,6 +10,7 @@ use Rattle.lang_meaning.specs.Objects.{Object, function, generic_function}
 use Rattle.lang_meaning.specs.State.{State, Limit, words, unlimited, with_words, stored}
 use Rattle.lang_meaning.specs.State as base
 use Rattle.lang_meaning.specs.Values.{object}
+use Rattle.lang_meaning.specs.Counts.{unit_cost}
 use Rattle.flat_language.specs.declared.program.FlatProcedure.{FlatProcedure}
 use Rattle.flat_language.specs.FlatNodes.{tables}
 use Rattle.flat_language.specs.FlatState.{Captured, FlatState, on_state, under}
@@ -62,7 +63,7 @@ function_meant p cs z = record (words_asked cs z) {
 module _ (setting : Setting) (placed : IsPlaced setting) {w : World} {z : FlatState} {y : MidState} (t : Things setting w z y) (clean : Clean w y) (p : ℕ) (ws : List ℕ) (cs : List Captured)
     (cost : ℕ) (row : FlatProcedure) (there : slice_get setting.program.lambdas p ≡ Some row) (kinds : AreOfKinds row.captured cs) (forms : List (Option ExitForm))
     (lead : slice_get setting.leads.functions p ≡ Some forms) (made_by : AreMadeBy w cs forms) (are : CapturedAre w ws cs) (room : 2 + length ws ≤ left y.arena)
-    (within : WithinLimit setting.limit (words_asked cs z).state) (cheap : cost ≤ 300 * (2 + length cs)) where
+    (within : WithinLimit setting.limit (words_asked cs z).state) (cheap : cost ≤ unit_cost * (2 + length cs)) where
   abbrev pub entry : ℕ
   entry = entry_of_lambda setting.at p
 

@@ -36,6 +36,7 @@ use Rattle.back_relation.specs.Worlds.{World}
 use Rattle.back_relation.specs.Activation.{FormScope}
 use Rattle.back_relation.specs.Placed.{HasGlobal, HasSymbol, IsPlaced}
 use Rattle.back_relation.specs.Forms.{context_at, code_at}
+use Rattle.back_relation.specs.Ends.{form_credit}
 use Rattle.back_combining.specs.Points.{Point, start_at, run, value_steps, Here}
 use Rattle.back_combining.specs.Starts.{FlatGrown, Start, EndsAt, ReachedFrom}
 use Rattle.back_combining.proofs.Activations.{activation_later}
@@ -44,12 +45,12 @@ use Rattle.back_combining.proofs.FormGrowth.{form_grows}
 use Rattle.back_combining.proofs.Growth.{same_prefix}
 use Rattle.back_combining.proofs.Parts.{single_step}
 use Rattle.back_combining.proofs.Points.{point_after, code_grows}
-use Rattle.back_combining.proofs.Starts.{start_charged, ends_charged, behind, two, given_already, gives_run}
+use Rattle.back_combining.proofs.Starts.{start_charged, behind, two, given_already, gives_run, ends_sparing, ends_spared}
 use Rattle.back_combining.proofs.Straight.{same_here, world_cost, around_cost}
 use Rattle.back_combining.proofs.Then.{same_world}
 use Rattle.back_combining.proofs.Worlds.{later_same}
 use Rattle.back_values.specs.Boxes.{Clean}
-use Rattle.back_globals.specs.Globals.{FailsHere, LawOfGlobals, LawOfSettingGlobals, LawOfDefinitions}
+use Rattle.back_globals.specs.Globals.{FailsHere, LawOfGlobals, LawOfSettingGlobals, LawOfDefinitions, named_credit}
 use Rattle.back_values.proofs.Cleaning.{is_clean, reached_clean}
 use Rattle.back_values.proofs.Far.{Stored, load_from_runs, store_to_runs, charged_twice}
 use Rattle.back_globals.proofs.NewGlobals.{new_global}
@@ -112,21 +113,21 @@ module _ (setting : Setting) (placed : IsPlaced setting) (s : FormScope) (d m si
 
   -- the word of the variable is compared with the one that says that there is no value
   bound_tested :
-      (q : Point setting s d m size) (r1 r2 word credit : ℕ) (o : Option Value) (otherwise : Steps) (next : Value → FlatAct) → register r1 q.regs ≡ Some word
-      → register r2 q.regs ≡ Some unbound_word → WordFor q.w o word → FailsHere setting s d m size k n credit unbound_variable_class name
+      (q : Point setting s d m size) (r1 r2 word : ℕ) (o : Option Value) (otherwise : Steps) (next : Value → FlatAct) → register r1 q.regs ≡ Some word
+      → register r2 q.regs ≡ Some unbound_word → WordFor q.w o word → FailsHere setting s d m size k n unbound_variable_class name
       → ((v : Value) → q.z.state.units ≤ (next v q.around q.z).state.state.units)
       → ((v : Value) → word_of q.w.places v ≡ Some word
-      → EndsAt setting credit (start (tested_point q)) (next v q.around q.z) (run setting s d m size k n otherwise q.regs (mid_charged 12 q.y)))
-      → EndsAt setting (credit + 14) (start q) (flat_with_some o wrong next q.around q.z) (run setting s d m size k n (if_equal r1 r2 failing otherwise ∷ []) q.regs q.y)
-  bound_tested q r1 r2 word credit None otherwise next e1 e2 is fails up goes =
-      subst (λ t. EndsAt setting (credit + 14) (start q) (wrong q.around q.z) t) (sym (single_step c (if_equal r1 r2 failing otherwise) q.regs q.y))
-      (choice setting {c1 = credit} c (start q) (test_of Equal r1 r2) (code_of failing) (code_of otherwise) word unbound_word true (wrong q.around q.z) (wrong q.around q.z) e1 e2
+      → EndsAt setting named_credit (start (tested_point q)) (next v q.around q.z) (run setting s d m size k n otherwise q.regs (mid_charged 12 q.y)))
+      → EndsAt setting (named_credit + 14) (start q) (flat_with_some o wrong next q.around q.z) (run setting s d m size k n (if_equal r1 r2 failing otherwise ∷ []) q.regs q.y)
+  bound_tested q r1 r2 word None otherwise next e1 e2 is fails up goes =
+      subst (λ t. EndsAt setting (named_credit + 14) (start q) (wrong q.around q.z) t) (sym (single_step c (if_equal r1 r2 failing otherwise) q.regs q.y))
+      (choice setting {c1 = named_credit} c (start q) (test_of Equal r1 r2) (code_of failing) (code_of otherwise) word unbound_word true (wrong q.around q.z) (wrong q.around q.z) e1 e2
       (eq-eqb word unbound_word is) (omega arith) (signal_grows setting k unbound_variable_class (symbol (named name_text) ∷ []) q.around q.z).units
       (signal_grows setting k unbound_variable_class (symbol (named name_text) ∷ []) q.around q.z).units (λ e. fails (tested_point q)) (λ e. absurd (cc e)))
-  bound_tested q r1 r2 word credit (Some v) otherwise next e1 e2 is fails up goes =
+  bound_tested q r1 r2 word (Some v) otherwise next e1 e2 is fails up goes =
       let tells = tells_value setting.names (tables setting.program) q.w.places q.z.state q.y q.begins.call.things.represents v word is in
-      subst (λ t. EndsAt setting (credit + 14) (start q) (next v q.around q.z) t) (sym (single_step c (if_equal r1 r2 failing otherwise) q.regs q.y))
-      (choice setting {c1 = credit} c (start q) (test_of Equal r1 r2) (code_of failing) (code_of otherwise) word unbound_word false (next v q.around q.z) (next v q.around q.z) e1 e2
+      subst (λ t. EndsAt setting (named_credit + 14) (start q) (next v q.around q.z) t) (sym (single_step c (if_equal r1 r2 failing otherwise) q.regs q.y))
+      (choice setting {c1 = named_credit} c (start q) (test_of Equal r1 r2) (code_of failing) (code_of otherwise) word unbound_word false (next v q.around q.z) (next v q.around q.z) e1 e2
       (ne_eqb word unbound_word tells.no_unbound) (omega arith) (up v) (up v) (λ e. absurd (cc e)) (λ e. goes v is))
 
   -- the word of the variable comes in r, and the other one behind it
@@ -191,15 +192,15 @@ module _ (setting : Setting) (placed : IsPlaced setting) (s : FormScope) (d m si
   -- ---- read
 
   read :
-      (q : Point setting s d m size) → d + 1 < size → FailsHere setting s d m size k n 540 unbound_variable_class name
-      → EndsAt setting 600 (start q) (mean_global (context_at setting k) name_text q.around q.z) (run setting s d m size k n (global_code setting.names setting.at setting.program s.code.site d name) q.regs q.y)
+      (q : Point setting s d m size) → d + 1 < size → FailsHere setting s d m size k n unbound_variable_class name
+      → EndsAt setting form_credit (start q) (mean_global (context_at setting k) name_text q.around q.z) (run setting s d m size k n (global_code setting.names setting.at setting.program s.code.site d name) q.regs q.y)
   unfolding exec
   read q there fails =
       let l = looked q d there in
       let q2 = looked_point q d (omega arith) l in
-      subst (λ t. EndsAt setting 600 (start q) (mean_global (context_at setting k) name_text q.around q.z) t) (sym (l.run (if_equal d (d + 1) failing [] ∷ [])))
-      (behind setting {c1 = 30} {c2 = 554} (start q) d (omega arith) (reached_looked q d (omega arith) l) (omega arith) (omega arith)
-      (bound_tested q2 d (d + 1) l.word 540 (under_text name_text q.z.state.globals) [] (λ v a x. gives v x) (first_there q d l.word there) (second_there q d l.word there) l.is fails
+      subst (λ t. EndsAt setting form_credit (start q) (mean_global (context_at setting k) name_text q.around q.z) t) (sym (l.run (if_equal d (d + 1) failing [] ∷ [])))
+      (behind setting {c1 = 30} {c2 = named_credit + 14} (start q) d (omega arith) (reached_looked q d (omega arith) l) (omega arith) (omega arith)
+      (bound_tested q2 d (d + 1) l.word (under_text name_text q.z.state.globals) [] (λ v a x. gives v x) (first_there q d l.word there) (second_there q d l.word there) l.is fails
       (λ v. omega arith)
       (λ v is. given_already setting (start (tested_point q2)) v l.word (first_there q d l.word there) is)))
 
@@ -239,22 +240,22 @@ module _ (setting : Setting) (placed : IsPlaced setting) (s : FormScope) (d m si
 
   store_there :
       (q : Point setting s d m size) (v : Value) (word : ℕ) → d + 1 < size → register d q.regs ≡ Some word → word_of q.w.places v ≡ Some word
-      → EndsAt setting 540 (start q) (gives v (on_state (λ (x : State). record x { globals = (name_text, v) ∷ x.globals }) q.z))
+      → EndsAt setting named_credit (start q) (gives v (on_state (λ (x : State). record x { globals = (name_text, v) ∷ x.globals }) q.z))
       (run setting s d m size k n (store_to d (d + 1) (global_address setting.at name)) q.regs q.y)
   store_there q v word there here is =
       let r = reached_clean setting (start q) in
       let clean = is_clean setting q.begins.call.things in
       let p = cleaned_point q in
       let l = stored p clean v word (d + 1) (omega arith) there here is in
-      behind setting {c1 = 0} {c2 = 540} (start q) d (omega arith) r (omega arith) (omega arith)
-      (subst (λ t. EndsAt setting 540 (start p) (gives v (on_state (λ (x : State). record x { globals = (name_text, v) ∷ x.globals }) q.z)) t) (sym l.run.same)
+      behind setting {c1 = 0} {c2 = named_credit} (start q) d (omega arith) r (omega arith) (omega arith)
+      (subst (λ t. EndsAt setting named_credit (start p) (gives v (on_state (λ (x : State). record x { globals = (name_text, v) ∷ x.globals }) q.z)) t) (sym l.run.same)
       (given_where setting placed s d m size k n (start p) (reached_stored p clean v word (d + 1) (omega arith) is (store_to d (d + 1) (global_address setting.at name)) l) v word (omega arith)
       (ap word_in (l.others d (λ e. omega (arith, e))) ∙ here) is))
 
   set :
-      (q : Point setting s d m size) (v : Value) (word : ℕ) → d + 2 < size → FailsHere setting s d m size k n 540 unbound_variable_class name → register d q.regs ≡ Some word
+      (q : Point setting s d m size) (v : Value) (word : ℕ) → d + 2 < size → FailsHere setting s d m size k n unbound_variable_class name → register d q.regs ≡ Some word
       → word_of q.w.places v ≡ Some word
-      → EndsAt setting 600 (start q) (set_global_to (context_at setting k) name_text v q.around q.z)
+      → EndsAt setting form_credit (start q) (set_global_to (context_at setting k) name_text v q.around q.z)
       (run setting s d m size k n (set_global_code setting.names setting.at setting.program s.code.site d name) q.regs q.y)
   set q v word there fails here is =
       let there1 : d + 1 + 1 < size = omega (arith, there) in
@@ -264,11 +265,11 @@ module _ (setting : Setting) (placed : IsPlaced setting) (s : FormScope) (d m si
       let store_steps : Steps = store_to d (d + 1) (global_address setting.at name) in
       let value : register d q2.regs ≡ Some word =
       register_beside (slice_set q.regs (d + 1) (Some l.word)) (d + 1 + 1) d (Some unbound_word) (λ e. omega (arith, e)) ∙ register_beside q.regs (d + 1) d (Some l.word) (λ e. omega (arith, e)) ∙ here in
-      subst (λ i. EndsAt setting 600 (start q) (set_global_to (context_at setting k) name_text v q.around q.z)
+      subst (λ i. EndsAt setting form_credit (start q) (set_global_to (context_at setting k) name_text v q.around q.z)
       (run setting s d m size k n (load_from (d + 1) (d + 1) (global_address setting.at name) ++ (constant i unbound_word ∷ if_equal (d + 1) i failing store_steps ∷ [])) q.regs q.y)) two
-      (subst (λ t. EndsAt setting 600 (start q) (set_global_to (context_at setting k) name_text v q.around q.z) t) (sym (l.run (if_equal (d + 1) (d + 1 + 1) failing store_steps ∷ [])))
-      (behind setting {c1 = 30} {c2 = 554} (start q) d (omega arith) (reached_looked q (d + 1) (omega arith) l) (omega arith) (omega arith)
-      (bound_tested q2 (d + 1) (d + 1 + 1) l.word 540 (under_text name_text q.z.state.globals) store_steps
+      (subst (λ t. EndsAt setting form_credit (start q) (set_global_to (context_at setting k) name_text v q.around q.z) t) (sym (l.run (if_equal (d + 1) (d + 1 + 1) failing store_steps ∷ [])))
+      (behind setting {c1 = 30} {c2 = named_credit + 14} (start q) d (omega arith) (reached_looked q (d + 1) (omega arith) l) (omega arith) (omega arith)
+      (bound_tested q2 (d + 1) (d + 1 + 1) l.word (under_text name_text q.z.state.globals) store_steps
       (λ old a x. gives v (on_state (λ (y : State). record y { globals = (name_text, v) ∷ y.globals }) x)) (first_there q (d + 1) l.word there1)
       (second_there q (d + 1) l.word there1) l.is fails (λ old. omega arith)
       (λ old is_old. store_there (tested_point q2) v word (omega (arith, there)) value is))))
@@ -277,7 +278,7 @@ module _ (setting : Setting) (placed : IsPlaced setting) (s : FormScope) (d m si
 
   defined :
       (q : Point setting s d m size) (v : Value) (word : ℕ) → d + 1 < size → HasSymbol setting name → register d q.regs ≡ Some word → word_of q.w.places v ≡ Some word
-      → EndsAt setting 600 (start q) (gives (symbol (named name_text)) (on_state (λ (x : State). record x { globals = (name_text, v) ∷ x.globals }) q.z))
+      → EndsAt setting form_credit (start q) (gives (symbol (named name_text)) (on_state (λ (x : State). record x { globals = (name_text, v) ∷ x.globals }) q.z))
       (run setting s d m size k n (def_global_code setting.names setting.at setting.program d name) q.regs q.y)
   defined q v word there symbol_there here is =
       let r = reached_clean setting (start q) in
@@ -289,10 +290,10 @@ module _ (setting : Setting) (placed : IsPlaced setting) (s : FormScope) (d m si
       let q2 = point_after setting s d m size n p reached in
       let symbol_steps : Steps = constant d (symbol_word setting.at name) ∷ [] in
       let runs : RunsTo c (code_of (steps ++ symbol_steps)) p.regs p.y (exec c (code_of symbol_steps) q2.regs q2.y) = parts_then steps symbol_steps l.run (record { same = refl }) in
-      behind setting {c1 = 0} {c2 = 600} (start q) d (omega arith) r (omega arith) (omega arith)
-      (subst (λ t. EndsAt setting 600 (start p) (gives (symbol (named name_text)) (on_state (λ (x : State). record x { globals = (name_text, v) ∷ x.globals }) q.z)) t) (sym runs.same)
-      (behind setting {c1 = 24} {c2 = 300} (start p) d (omega arith) reached (omega arith) (omega arith)
-      (gives_run setting {credit = 300} (start q2) (symbol (named name_text)) (omega arith) (q2.begins.call.things.symbols name symbol_there) (and_then constant_falls none_left))))
+      behind setting {c1 = 0} {c2 = form_credit} (start q) d (omega arith) r (omega arith) (omega arith)
+      (subst (λ t. EndsAt setting form_credit (start p) (gives (symbol (named name_text)) (on_state (λ (x : State). record x { globals = (name_text, v) ∷ x.globals }) q.z)) t) (sym runs.same)
+      (behind setting {c1 = 24} {c2 = 6} (start p) d (omega arith) reached (omega arith) (omega arith)
+      (gives_run setting {credit = 6} (start q2) (symbol (named name_text)) (omega arith) (q2.begins.call.things.symbols name symbol_there) (and_then constant_falls none_left))))
 
   set_global_grows : (v : Value) (around : DynamicContext) (z : FlatState) → FlatGrown z (set_global_to (context_at setting k) name_text v around z).state
   set_global_grows v around z = by (under_text name_text z.state.globals)
@@ -317,22 +318,22 @@ module _ (setting : Setting) (placed : IsPlaced setting) (s : FormScope) (d m si
     count = q.count;
   }
 
-  pub global_here : d + 1 < size → FailsHere setting s d m size k n 540 unbound_variable_class name → Here setting s d m size k n (global name)
+  pub global_here : d + 1 < size → FailsHere setting s d m size k n unbound_variable_class name → Here setting s d m size k n (global name)
   unfolding mean lower
-  global_here there fails q = ends_charged setting {c1 = 600} (start q) 2 (omega arith) (read (charged_point q) there fails)
+  global_here there fails q = ends_sparing setting {c1 = form_credit} (start q) 2 (omega arith) (omega arith) (read (charged_point q) there fails)
 
   pub set_global_here :
-      (f : FlatForm) → d + 2 < size → FailsHere setting s d m size k n 540 unbound_variable_class name → Here setting s d m size k n f
+      (f : FlatForm) → d + 2 < size → FailsHere setting s d m size k n unbound_variable_class name → Here setting s d m size k n f
       → Here setting s d m size k n (set_global name f)
   unfolding mean lower
   set_global_here f there fails here q =
       let b = charged_point q in
       let steps : Steps = set_global_code setting.names setting.at setting.program s.code.site d name in
-      ends_charged setting {c1 = 600} (start q) 2 (omega arith)
-      (subst (λ o. EndsAt setting 600 (start b) (mean (context_at setting k) (set_global name f) q.env q.around q.z) o)
+      ends_sparing setting {c1 = form_credit} (start q) 2 (omega arith) (omega arith)
+      (subst (λ o. EndsAt setting form_credit (start b) (mean (context_at setting k) (set_global name f) q.env q.around q.z) o)
       (sym (in_two_parts c (value_steps setting s d m size k n f) steps q.regs q.y))
-      (two setting {c1 = 0} {c2 = 600} (start b) d (λ v z. set_global_to (context_at setting k) name_text v q.around z) (λ g y. run setting s d m size k n steps g y) (omega arith) (omega arith)
-      (form_grows setting k f q.env q.around (charged 2 q.z)).units (here b) (λ v z. set_global_grows v q.around z) (λ g y. code_grows setting s d m size k n steps g y)
+      (two setting {c1 = 0} {c2 = form_credit} (start b) d (λ v z. set_global_to (context_at setting k) name_text v q.around z) (λ g y. run setting s d m size k n steps g y) (omega arith) (omega arith)
+      (form_grows setting k f q.env q.around (charged 2 q.z)).units (ends_spared setting (start b) (here b)) (λ v z. set_global_grows v q.around z) (λ g y. code_grows setting s d m size k n steps g y)
       (λ x. set (point_after setting s d m size n b x.reached) x.result x.word there fails x.in_register x.of_value)))
 
   pub def_global_here :
@@ -341,12 +342,12 @@ module _ (setting : Setting) (placed : IsPlaced setting) (s : FormScope) (d m si
   def_global_here f there symbol_there here q =
       let b = charged_point q in
       let steps : Steps = def_global_code setting.names setting.at setting.program d name in
-      ends_charged setting {c1 = 600} (start q) 2 (omega arith)
-      (subst (λ o. EndsAt setting 600 (start b) (mean (context_at setting k) (def_global name f) q.env q.around q.z) o)
+      ends_sparing setting {c1 = form_credit} (start q) 2 (omega arith) (omega arith)
+      (subst (λ o. EndsAt setting form_credit (start b) (mean (context_at setting k) (def_global name f) q.env q.around q.z) o)
       (sym (in_two_parts c (value_steps setting s d m size k n f) steps q.regs q.y))
-      (two setting {c1 = 0} {c2 = 600} (start b) d
+      (two setting {c1 = 0} {c2 = form_credit} (start b) d
       (λ v z. gives (symbol (named name_text)) (on_state (λ (x : State). record x { globals = (name_text, v) ∷ x.globals }) z)) (λ g y. run setting s d m size k n steps g y) (omega arith) (omega arith)
-      (form_grows setting k f q.env q.around (charged 2 q.z)).units (here b) (λ v z. record { printed = same_prefix z.state.printed; units = omega arith; exits = omega arith })
+      (form_grows setting k f q.env q.around (charged 2 q.z)).units (ends_spared setting (start b) (here b)) (λ v z. record { printed = same_prefix z.state.printed; units = omega arith; exits = omega arith })
       (λ g y. code_grows setting s d m size k n steps g y)
       (λ x. defined (point_after setting s d m size n b x.reached) x.result x.word there symbol_there x.in_register x.of_value)))
 

@@ -32,6 +32,7 @@ use Rattle.back_relation.specs.Worlds.{World, on_stack}
 use Rattle.back_relation.specs.StackWords.{BindingsAt}
 use Rattle.back_relation.specs.Things.{Things}
 use Rattle.back_relation.specs.RoutineClaims.{PlaceOfDynamic, Looks}
+use Rattle.back_relation.specs.Room.{looking_words}
 use Rattle.back_looking.specs.Looking.{LooksAnywhere, binding_under, PlaceOf, binding_most, LawOfBindings, LawOfBindingClaims}
 use Rattle.back_looking.proofs.Counting.{IsNone, Differ, Below, few_below}
 use Rattle.back_looking.proofs.Entering.{with_frame_of, BodyLooks, looks_up}
@@ -354,8 +355,8 @@ bindings_law setting k turns rs valid w around z y room placed t around_stands n
 -- the same as it is claimed
 pub binding_claims_law : LawOfBindingClaims
 binding_claims_law setting k turns rs valid w around z y placed t around_stands n has =
-    let found = bindings_law setting k turns rs valid w around z y 48 placed t around_stands n has in
-    (found.0, place found.0 (binding_under (text setting.names n) around.bindings) found.2, λ begins. more found.0 (found.3 (omega arith) begins.0))
+    let found = bindings_law setting k turns rs valid w around z y looking_words placed t around_stands n has in
+    (found.0, place found.0 (binding_under (text setting.names n) around.bindings) found.2, λ begins. more found.0 (found.3 (omega arith) begins))
   where
     place : (address : ℕ) (o : Option ℕ) → PlaceOf setting w n address o → PlaceOfDynamic setting k turns rs valid w around z y n address o
     place address None h = h

@@ -36,7 +36,9 @@ use Rattle.back_lowering.specs.Steps.{load}
 use Rattle.back_relation.specs.Setting.{Setting}
 use Rattle.back_relation.specs.Things.{Things}
 use Rattle.back_relation.specs.Worlds.{World}
-use Rattle.back_looking.specs.Looking.{class_most, LawOfClassNumbers}
+use Rattle.back_relation.specs.RoutineClaims.{class_cost}
+use Rattle.back_relation.specs.Room.{looking_words}
+use Rattle.back_looking.specs.Looking.{LawOfClassNumbers, LawOfClassClaims}
 use Rattle.back_looking.proofs.Entering.{with_frame_of, BodyLooks, looks_up}
 use Rattle.back_looking.proofs.Finding.{routine_used}
 
@@ -72,7 +74,7 @@ given_small setting = omega arith
 -- the body, where its frame is laid
 body_finds :
     (setting : Setting) (k n frame : ℕ) (w : World) (z : FlatState) (y : MidState) (v : Value) (word : ℕ) → Things setting w z y → word_of w.places v ≡ Some word
-    → frame ≤ left y.arena → BodyLooks setting k n (with_frame_of frame (given setting)) (word ∷ []) (4 * class_of z.state v) class_most y
+    → frame ≤ left y.arena → BodyLooks setting k n (with_frame_of frame (given setting)) (word ∷ []) (4 * class_of z.state v) class_cost y
 unfolding class_code class_word object_code class_by_header
 body_finds setting k n frame w z y v word t e some =
     let names = setting.names in
@@ -114,6 +116,10 @@ body_finds setting k n frame w z y v word t e some =
 -- **the number of a value's class**
 pub class_numbers_law : LawOfClassNumbers
 class_numbers_law setting k turns rs valid w around z y room placed v word e =
-    looks_up setting k turns rs valid w around z y room class_most (class_routine setting.at) (word ∷ []) (4 * class_of z.state v) (given setting)
+    looks_up setting k turns rs valid w around z y room class_cost (class_routine setting.at) (word ∷ []) (4 * class_of z.state v) (given setting)
     (routine_used setting 20 (given setting) placed refl) refl refl (given_small setting)
     (λ n frame few begins some. inl (body_finds setting k n frame w z y v word begins.things e some))
+
+pub class_claims_law : LawOfClassClaims
+class_claims_law setting k turns rs valid w around z y placed v word e begins =
+    class_numbers_law setting k turns rs valid w around z y looking_words placed v word e (omega arith) begins

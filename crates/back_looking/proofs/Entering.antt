@@ -20,7 +20,7 @@ use Rattle.mid_arena.proofs.Leaving.{leaves_returned}
 use Rattle.mid_arena.proofs.Running.{RunsTo, turning, frame_of, entered, enters, enters_wanting}
 use Rattle.back_lowering.specs.ControlWords.{current_address, link_address, serials_address, handlers_address, bindings_address, end_address}
 use Rattle.back_relation.specs.Setting.{Setting, control_spot}
-use Rattle.back_relation.specs.Room.{words_for_handler}
+use Rattle.back_relation.specs.Room.{words_for_handler, looking_words}
 use Rattle.back_relation.specs.Worlds.{World, BoxPlace, on_heap, on_stack, gone, Standing}
 use Rattle.back_relation.specs.Things.{Things, WithinLimit}
 use Rattle.back_relation.specs.Around.{RoomFor, CallBegins}
@@ -32,7 +32,7 @@ use Rattle.back_combining.proofs.Growth.{same_prefix}
 use Rattle.back_combining.proofs.Worlds.{later_same}
 use Rattle.back_exits.specs.Going.{BoxWas, GoesOn}
 use Rattle.back_exits.proofs.Moving.{things_go_on}
-use Rattle.back_looking.specs.Looking.{looking_words, LooksAnywhere}
+use Rattle.back_looking.specs.Looking.{LooksAnywhere}
 use Rattle.back_looking.proofs.Finding.{Used}
 use Rattle.back_looking.proofs.Frames.{framed, framed_grows, framed_stack, framed_word}
 

@@ -28,6 +28,8 @@ use Rattle.back_lowering.specs.Routines.{is_function_routine}
 use Rattle.back_relation.specs.Setting.{Setting}
 use Rattle.back_relation.specs.Things.{Things}
 use Rattle.back_relation.specs.Worlds.{World}
+use Rattle.back_relation.specs.RoutineClaims.{is_function_cost}
+use Rattle.back_relation.specs.Room.{looking_words}
 use Rattle.back_looking.specs.Looking.{LawOfFunctionTests, LawOfFunctionClaims}
 use Rattle.back_looking.proofs.Entering.{with_frame_of, BodyLooks, looks_up}
 use Rattle.back_looking.proofs.Finding.{routine_used}
@@ -153,7 +155,7 @@ given_small setting = omega arith
 -- the body, where its frame is laid
 body_says :
     (setting : Setting) (k n frame : ℕ) (w : World) (z : FlatState) (y : MidState) (v : Value) (word : ℕ) → Things setting w z y → word_of w.places v ≡ Some word
-    → frame ≤ left y.arena → BodyLooks setting k n (with_frame_of frame (given setting)) (word ∷ []) (told_word (is_function (fetch z.state v))) 150 y
+    → frame ≤ left y.arena → BodyLooks setting k n (with_frame_of frame (given setting)) (word ∷ []) (told_word (is_function (fetch z.state v))) is_function_cost y
 unfolding is_function_code
 body_says setting k n frame w z y v word t e some =
     let p = with_frame_of frame (given setting) in
@@ -168,10 +170,10 @@ body_says setting k n frame w z y v word t e some =
 -- **whether a value is a function**
 pub function_tests_law : LawOfFunctionTests
 function_tests_law setting k turns rs valid w around z y room placed v word e =
-    looks_up setting k turns rs valid w around z y room 150 (is_function_routine setting.at) (word ∷ []) (told_word (is_function (fetch z.state v))) (given setting)
+    looks_up setting k turns rs valid w around z y room is_function_cost (is_function_routine setting.at) (word ∷ []) (told_word (is_function (fetch z.state v))) (given setting)
     (routine_used setting 19 (given setting) placed refl) refl refl (given_small setting)
     (λ n frame few begins some. inl (body_says setting k n frame w z y v word begins.things e some))
 
 pub function_claims_law : LawOfFunctionClaims
 function_claims_law setting k turns rs valid w around z y placed v word e begins =
-    function_tests_law setting k turns rs valid w around z y 48 placed v word e (omega arith) begins.0
+    function_tests_law setting k turns rs valid w around z y looking_words placed v word e (omega arith) begins

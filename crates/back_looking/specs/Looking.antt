@@ -11,6 +11,7 @@ use Rattle.mid_code.specs.State.{MidState}
 use Rattle.back_lowering.specs.Placement.{dynamic_address}
 use Rattle.back_lowering.specs.Routines.{binding_routine, is_function_routine, class_routine}
 use Rattle.back_relation.specs.Setting.{Setting}
+use Rattle.back_relation.specs.Room.{looking_words}
 use Rattle.back_relation.specs.Around.{CallBegins, AroundStands}
 use Rattle.back_relation.specs.Ends.{Ends}
 use Rattle.back_relation.specs.Forms.{code_at}
@@ -18,11 +19,7 @@ use Rattle.back_relation.specs.Placed.{IsPlaced, HasDynamic}
 use Rattle.back_relation.specs.Procedures.{called}
 use Rattle.back_relation.specs.Things.{Things}
 use Rattle.back_relation.specs.Worlds.{World, on_stack, Standing}
-use Rattle.back_relation.specs.RoutineClaims.{WordIs, Looks, IsFunctionDoes, BindingDoes}
-
--- a routine that only looks asks for no more than so many words of the stack
-abbrev pub looking_words : ℕ
-looking_words = 8
+use Rattle.back_relation.specs.RoutineClaims.{WordIs, Looks, IsFunctionDoes, BindingDoes, ClassDoes, is_function_cost, class_cost}
 
 -- Such a routine returns a word, for at most so much, wherever so many words are left: no site has to be stored for it.
 abbrev pub LooksAnywhere :
@@ -37,7 +34,7 @@ abbrev pub LawOfFunctionTests : Type 0
 LawOfFunctionTests =
     (setting : Setting) (k turns : ℕ) (rs valid : List Standing) (w : World) (around : DynamicContext) (z : FlatState) (y : MidState) (room : ℕ) → IsPlaced setting
     → (v : Value) (word : ℕ) → WordIs setting w word v
-    → LooksAnywhere setting k turns rs valid w around z y room 150 (is_function_routine setting.at) (word ∷ []) (if is_function (fetch z.state v) then 1 else 0)
+    → LooksAnywhere setting k turns rs valid w around z y room is_function_cost (is_function_routine setting.at) (word ∷ []) (if is_function (fetch z.state v) then 1 else 0)
 
 abbrev pub LawOfFunctionClaims : Type 0
 LawOfFunctionClaims =
@@ -46,14 +43,16 @@ LawOfFunctionClaims =
 
 -- The number of a value's class, four times. It is sought by the tag of the word, by the header of the object, and in the class: that costs
 -- more than to see whether it is a function.
-abbrev pub class_most : ℕ
-class_most = 302
-
 abbrev pub LawOfClassNumbers : Type 0
 LawOfClassNumbers =
     (setting : Setting) (k turns : ℕ) (rs valid : List Standing) (w : World) (around : DynamicContext) (z : FlatState) (y : MidState) (room : ℕ) → IsPlaced setting
     → (v : Value) (word : ℕ) → WordIs setting w word v
-    → LooksAnywhere setting k turns rs valid w around z y room class_most (class_routine setting.at) (word ∷ []) (4 * class_of z.state v)
+    → LooksAnywhere setting k turns rs valid w around z y room class_cost (class_routine setting.at) (word ∷ []) (4 * class_of z.state v)
+
+abbrev pub LawOfClassClaims : Type 0
+LawOfClassClaims =
+    (setting : Setting) (k turns : ℕ) (rs valid : List Standing) (w : World) (around : DynamicContext) (z : FlatState) (y : MidState) → IsPlaced setting
+    → ClassDoes setting k turns rs valid w around z y
 
 -- the variable that is bound innermost to a name
 abbrev pub binding_under : List ℕ → List (List ℕ × ℕ) → Option ℕ

@@ -26,15 +26,15 @@ use Rattle.back_relation.specs.Setting.{Setting}
 use Rattle.back_relation.specs.Worlds.{World, Standing}
 use Rattle.back_relation.specs.Room.{words_for}
 use Rattle.back_relation.specs.Activation.{FormScope}
-use Rattle.back_relation.specs.Ends.{FullThere, full_there}
+use Rattle.back_relation.specs.Ends.{FullThere, full_there, form_credit}
 use Rattle.back_relation.specs.Forms.{Begins, FormStands, FormEnds, TestEnds, FellJudged, judged_credit, context_at}
 use Rattle.back_combining.specs.Forms.{AllDo}
 use Rattle.back_combining.specs.Points.{Point, start_at, run}
-use Rattle.back_combining.specs.Starts.{FlatGrown, Start, EndsAt}
+use Rattle.back_combining.specs.Starts.{FlatGrown, Start, EndsAt, SparingAt}
 use Rattle.back_combining.proofs.Fitting.{registers_front, registers_behind}
 use Rattle.back_combining.proofs.Growth.{grown_later, same_flat}
 use Rattle.back_combining.proofs.Points.{point_after, code_grows}
-use Rattle.back_combining.proofs.Starts.{start_charged, ends_charged, ends_charged_by, reached_repaid}
+use Rattle.back_combining.proofs.Starts.{start_charged, ends_charged_by, reached_repaid, ends_sparing}
 use Rattle.back_calling.proofs.Growing.{tasks_below}
 use Rattle.back_arguments.specs.Arguments.{arguments_steps, ArgumentsHere, ArgumentsThere}
 use Rattle.back_arguments.specs.Arguments as arguments
@@ -168,10 +168,10 @@ module _ (setting : Setting) (k turns : ℕ) (which : Primitive) (fs : FlatForms
 
     value_ends :
         enough_for (of_code (code_of (list ++ applied))) ≤ size
-        → EndsAt setting 0 start (mean_arguments (context_at setting k) fs [] env around (charged units z) next) (run setting s d n size k turns (list ++ applied) regs y)
+        → SparingAt setting start (mean_arguments (context_at setting k) fs [] env around (charged units z) next) (run setting s d n size k turns (list ++ applied) regs y)
     value_ends names =
         let both = lists (registers_front list applied size names) in
-        ends_charged setting {c1 = primitive_credit which} start units (let count = stands.fits.0 in omega (arith, count))
+        ends_sparing setting {c1 = primitive_credit which} start units (omega arith) (let count = stands.fits.0 in omega (arith, count))
         (subst (λ o. EndsAt setting (primitive_credit which) (start_charged setting start units) o (run setting s d n size k turns (list ++ applied) regs y)) same_meaning
         (arguments_law setting s d n size k turns (primitive_credit which) fs p guarded applied both.0 both.1 guarded_grows
         (λ vs after regs' y' x. by vs after regs' y' x (agrees setting fs vs) refl)))
@@ -190,20 +190,22 @@ module _ (setting : Setting) (k turns : ℕ) (which : Primitive) (fs : FlatForms
 
     test_ends :
         enough_for (of_code (code_of (list ++ judged.ready))) ≤ size
-        → TestAt setting judged_credit start judged.test (mean_arguments (context_at setting k) fs [] env around (charged units z) next)
+        → TestAt setting (form_credit + judged_credit) (start_charged setting start 1) judged.test (mean_arguments (context_at setting k) fs [] env around (charged units z) next)
         (run setting s d n size k turns (list ++ judged.ready) regs y)
     test_ends names =
         let both = lists (registers_front list judged.ready size names) in
         let c1 : ℕ = primitive_credit which + judged_credit in
         let r : FlatEvaluated = mean_arguments (context_at setting k) fs [] env around (charged units z) next in
         let q : MidOutcome = run setting s d n size k turns (list ++ judged.ready) regs y in
-        ends_charged_by setting {c1 = primitive_credit which + judged_credit} start units
-        (λ (f : FellJudged setting (primitive_credit which + judged_credit) rs valid s d w env around (charged units z) regs y judged.test r q). record {
+        ends_charged_by setting {c1 = primitive_credit which + judged_credit} {c2 = form_credit + judged_credit} behind_first (count_forms fs)
+        (λ (f : FellJudged setting (primitive_credit which + judged_credit) rs valid s d w env around (charged (count_forms fs) (charged 1 z)) regs y judged.test r q). record {
           result = f.result;
           outcome = f.outcome;
           end = f.end;
           w' = f.w';
-          reached = reached_repaid setting start units (let count = stands.fits.0 in omega (arith, count)) f.reached;
+          reached =
+              reached_repaid setting {c1 = primitive_credit which + judged_credit} {c2 = form_credit + judged_credit} behind_first (count_forms fs)
+              (let count = stands.fits.0 in omega (arith, count)) f.reached;
           first = f.first;
           second = f.second;
           first_word = f.first_word;
@@ -211,10 +213,20 @@ module _ (setting : Setting) (k turns : ℕ) (which : Primitive) (fs : FlatForms
           judged = f.judged;
         })
         (let count = stands.fits.0 in omega (arith, count))
+        (subst (λ (x : FlatState). TestEnds setting (primitive_credit which + judged_credit) turns rs valid s d w env around x regs y judged.test r q) same_units
         (subst (λ o. TestAt setting (primitive_credit which + judged_credit) (start_charged setting start units) judged.test o q) same_meaning
         (judged_arguments_law setting s d n size k turns (primitive_credit which + judged_credit) fs p judged.test guarded judged.ready both.0 both.1 guarded_grows
-        (λ vs after regs' y' x. by vs after regs' y' x (agrees setting fs vs) refl)))
+        (λ vs after regs' y' x. by vs after regs' y' x (agrees setting fs vs) refl))))
       where
+        -- the first unit, and then one for each argument
+        behind_first : Start setting
+        behind_first = start_charged setting start 1
+
+        same_units : charged units z ≡ charged (count_forms fs) (charged 1 z)
+        same_units =
+            let same : z.state.units + (1 + count_forms fs) ≡ z.state.units + 1 + count_forms fs = omega arith in
+            ap (λ m. record z { state = record z.state { units = m } }) same
+
         by :
             (vs : List Value) (after : FlatState) (regs' : Registers) (y' : MidState) (x : ArgumentsThere setting s d n size p (count_forms fs) vs after regs' y') (b : Bool)
             → agrees setting fs vs ≡ b

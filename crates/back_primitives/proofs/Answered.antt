@@ -16,6 +16,7 @@ use Rattle.lang_meaning.specs.Primitives.{Answer, result, makes, makes_symbol, f
 use Rattle.lang_meaning.specs.State.{Limit, words, unlimited, Outcome, value, has_room, room_left}
 use Rattle.lang_meaning.specs.State as meaning
 use Rattle.lang_meaning.specs.Values.{Value, nil, object}
+use Rattle.lang_meaning.specs.Counts.{unit_cost}
 use Rattle.flat_language.specs.FlatNodes.{tables}
 use Rattle.flat_language.specs.FlatSignals.{answered, signal, signal_under}
 use Rattle.flat_language.specs.FlatState.{FlatState, FlatEvaluated, on_state, gives}
@@ -78,12 +79,12 @@ pub charged_by : (l l' h h' s s' n : ℕ) → l' + n ≡ l → h' ≡ h + n → 
 charged_by l l' h h' s s' n e f g = omega (arith, e, f, g)
 
 paid_value :
-    (q y len n u u' : ℕ) → q + 250 * u ≤ y + (40 + 6 * len) + 150 + 250 * (n + u') → len ≡ n → u ≤ u' → q + 300 * u ≤ y + 300 * u' + (190 + 256 * n)
+    (q y len n u u' : ℕ) → q + 250 * u ≤ y + (40 + 6 * len) + 150 + 250 * (n + u') → len ≡ n → u ≤ u' → q + unit_cost * u ≤ y + unit_cost * u' + (190 + 256 * n)
 paid_value q y len n u u' h e up = omega (arith, h, e, up)
 
 paid_signal :
-    (q y len n cost rep loops u w z credit : ℕ) → q ≤ y + (40 + 6 * len) + cost + rep → rep + 900 ≤ 3 * loops + 300 * (u + w) → len ≡ n
-    → 380 ≤ credit → cost + 3 * loops + 6 * n ≤ credit + 480 → q + 300 * z ≤ y + 300 * (z + u + (w + 0)) + (credit - 380)
+    (q y len n cost rep loops u w z credit : ℕ) → q ≤ y + (40 + 6 * len) + cost + rep → rep + 3 * unit_cost ≤ 3 * loops + unit_cost * (u + w) → len ≡ n
+    → 530 ≤ credit → cost + 3 * loops + 6 * n ≤ credit + 3330 → q + unit_cost * z ≤ y + unit_cost * (z + u + (w + 0)) + (credit - 530)
 paid_signal q y len n cost rep loops u w z credit h r e some enough = omega (arith, h, r, e, some, enough)
 
 no_wonder : (l m n s f h k : ℕ) → m + n ≤ l + h + k → h + k + s + 0 ≤ m → f ≤ n → l < f + s → ⊥
@@ -121,7 +122,7 @@ IsSignal answer = ⊥
 
 -- what is paid before is enough where a condition is signalled
 abbrev pub SignalPaid : Primitive → ℕ → Type 0
-SignalPaid which credit = (380 ≤ credit) × (cost_of which + 3 * loop_costs which + 6 * arity which ≤ credit + 480)
+SignalPaid which credit = (530 ≤ credit) × (cost_of which + 3 * loop_costs which + 6 * arity which ≤ credit + 3330)
 
 counted_none : (z z2 : meaning.State) → z2 ≡ z → IsCounted z z2
 counted_none z z2 e = record { units = 0; is = e ∙ (let same : z.units ≡ z.units + 0 = omega arith in ap (λ n. record z { units = n }) same) }
@@ -391,7 +392,7 @@ module _ (setting : Setting) (placed : IsPlaced setting) (k : ℕ) (a : Start se
               (subst (λ ps. IsPrefix ps meant.state.state.printed) (sym x.represents.printed) meant_later.later.printed)
           by (inl x) =
               let handed : HandedBack setting placed k a two number arguments signalling q is signal_word
-              (with_object (record { address = y1.arena.heap_to; words = size; tag = object_tag }) a.w.places) behind (credit - 380) =
+              (with_object (record { address = y1.arena.heap_to; words = size; tag = object_tag }) a.w.places) behind (credit - 530) =
               record {
                 end = x.end;
                 stands =
@@ -407,7 +408,7 @@ module _ (setting : Setting) (placed : IsPlaced setting) (k : ℕ) (a : Start se
                     a.z.state.units credit came.1 (repeated_paid (charged + size) (loop_costs which) (loops_small which) (omega (arith, some_words))) count enough.0 enough.1;
                 up = omega arith;
               } in
-              signal_ends setting placed k a two number arguments signalling q is {c1 = credit - 380} handed {c2 = signalling_credit setting k} meant refl
+              signal_ends setting placed k a two number arguments signalling q is {c1 = credit - 530} handed {c2 = signalling_credit setting k} meant refl
               (omega (arith, enough.0)) meant_later.later.units
               (pending_ends setting k (behind_test setting placed k a two number arguments signalling q is handed) (object (length a.z.state.store)) pending
               (omega (arith, two, length-set (called_registers setting placed k a two number arguments signalling q is handed) (a.d + 1) (Some signal_word), length-set a.regs a.d (Some signal_word)))

@@ -1,12 +1,9 @@
 -- **A primitive is applied**, in line where that is quick: one case a primitive.
-use Rattle.std.proofs.Common.{◌≡◌, true, ℕ, zero, suc, ◌+◌, ◌*◌, ◌≤◌, List, [], ◌∷◌, length, refl, sym, ◌∙◌, subst, arith}
+use Rattle.std.proofs.Common.{◌≡◌, true, ℕ, ◌+◌, ◌*◌, ◌≤◌, List, [], ◌∷◌, length, refl, sym, ◌∙◌, subst, arith}
 use Rattle.std.specs.Prelude.{not, int_lt, int_le}
 use Rattle.lang_meaning.specs.Arity.{arity}
 use Rattle.lang_meaning.specs.declared.primitive.Primitive.{Primitive}
 use Rattle.lang_meaning.specs.declared.primitive.Primitive.TheVariants.{Add, Subtract, NumberEqual, NumberNotEqual, NumberLess, NumberAtMost, NumberGreater, NumberAtLeast, Same, IsNull, IsCons, IsInteger, Cons, Car, Cdr, VectorRef}
-use Rattle.lang_meaning.specs.declared.primitive.Primitive.TheVariants.{Gensym}
-use Rattle.lang_meaning.specs.declared.primitive.Primitive.TheVariants.{StandardInput, StandardOutput, IsFreshLine, GetByte, PeekByte}
-use Rattle.lang_meaning.specs.declared.program.ProgramRows.{ProgramRows}
 use Rattle.lang_meaning.specs.Primitives.{primitive}
 use Rattle.lang_meaning.specs.State as meaning
 use Rattle.lang_meaning.specs.Values.{Value, int_equal}
@@ -20,9 +17,9 @@ use Rattle.back_lowering.specs.Primitives.{by_procedure, apply_primitive}
 use Rattle.back_lowering.specs.Registers.{of_code}
 use Rattle.back_relation.specs.Setting.{Setting}
 use Rattle.back_combining.specs.Starts.{Start}
-use Rattle.back_primitives.specs.Applying.{Applies, StepsAnswer, NamesThere, LawOfProcedures, LawOfApplying}
+use Rattle.back_primitives.specs.Applying.{Applies, StepsAnswer, NamesThere, LawOfProcedures, LawOfApplying, primitive_credit}
 use Rattle.back_primitives.specs.Calling.{KnownWords}
-use Rattle.back_primitives.proofs.Answered.{IsSignal, SignalPaid, by_procedure_ends}
+use Rattle.back_primitives.proofs.Answered.{SignalPaid, by_procedure_ends}
 use Rattle.back_primitives.proofs.EachCost.{is_quick, each_paid, quick_paid}
 use Rattle.back_primitives.proofs.Quick.{named, slow_names}
 use Rattle.back_primitives.proofs.QuickConses.{cons_ends}
@@ -33,29 +30,14 @@ use Rattle.back_primitives.proofs.QuickSums.{sums_do, differences_do}
 
 -- ---- by the procedure
 
--- a primitive without arguments signals nothing
-quiet : (names : List (List ℕ)) (program : ProgramRows) (which : Primitive) (vs : List Value) (z : meaning.State) → arity which ≡ 0 → length vs ≡ 0 → IsSignal (primitive names program which vs z) → ⊥
-quiet names program which (v ∷ vs) z e f h = omega (arith, f)
-quiet names program Gensym [] z e f h = h
-quiet names program StandardInput [] z e f h = h
-quiet names program StandardOutput [] z e f h = h
-quiet names program IsFreshLine [] z e f h = h
-quiet names program GetByte [] z e f h = h
-quiet names program PeekByte [] z e f h = h
-quiet names program which [] z e f h = absurd (omega (arith, e))
-
 -- the units of the form pay for a condition
-signal_paid : (which : Primitive) (n : ℕ) → arity which ≡ n → 1 ≤ n → SignalPaid which (300 + 300 * arity which)
-signal_paid which n e some = let paid = each_paid which in (omega (arith, e, some), omega (arith, paid))
+signal_paid : (which : Primitive) → SignalPaid which (primitive_credit which)
+signal_paid which = let paid = each_paid which in (omega arith, omega (arith, paid))
 
 pub procedures_law : LawOfProcedures
 procedures_law setting k a which vs ws g enough =
-    by_procedure_ends setting g.placed k (300 + 300 * arity which) a which vs ws g.there g.pending (slow_names setting.at which (length ws) a.d (length a.regs) a.s.code.site enough) g.room
-    g.of_values g.in_registers g.many (omega arith) (λ signals. by (arity which) refl signals)
-  where
-    by : (n : ℕ) → arity which ≡ n → IsSignal (primitive setting.names (tables setting.program) which vs a.z.state) → SignalPaid which (300 + 300 * arity which)
-    by zero e signals = absurd (quiet setting.names (tables setting.program) which vs a.z.state e (g.many ∙ e) signals)
-    by (suc n) e signals = signal_paid which (suc n) e (omega arith)
+    by_procedure_ends setting g.placed k (primitive_credit which) a which vs ws g.there g.pending (slow_names setting.at which (length ws) a.d (length a.regs) a.s.code.site enough) g.room
+    g.of_values g.in_registers g.many (omega arith) (λ signals. signal_paid which)
 
 -- ---- lists of one and of two
 

@@ -7,6 +7,7 @@ use Rattle.lang_meaning.specs.declared.primitive.Primitive.{Primitive}
 use Rattle.lang_meaning.specs.declared.primitive.Primitive.TheVariants.{Add, Subtract, NumberEqual, NumberNotEqual, NumberLess, NumberAtMost, NumberGreater}
 use Rattle.lang_meaning.specs.declared.primitive.Primitive.TheVariants.{NumberAtLeast, Car}
 use Rattle.lang_meaning.specs.declared.primitive.Primitive.TheVariants.{Cdr, VectorRef}
+use Rattle.lang_meaning.specs.Counts.{unit_cost}
 use Rattle.mid_code.specs.MidCode.{code_of}
 use Rattle.mid_arena.specs.CodeCosts.{procedure_cost, cost_of}
 use Rattle.mid_arena.specs.Codes.{procedure_of, code_of_primitive}
@@ -87,7 +88,7 @@ quick_paid which quick =
     (quick_at_most (is_quick which) (procedure_cost (procedure_of which) + 3 * loop_costs which + 6 * arity which) (arity which) quick (quick_told which))
 
 -- turns of loops are paid by units, but for the first three
-pub repeated_paid : (n cost : ℕ) → cost ≤ 300 → 3 ≤ n → repeated n cost + 900 ≤ 3 * cost + 300 * n
+pub repeated_paid : (n cost : ℕ) → cost ≤ 300 → 3 ≤ n → repeated n cost + 3 * unit_cost ≤ 3 * cost + unit_cost * n
 repeated_paid zero cost small h = absurd (omega arith)
 repeated_paid (suc zero) cost small h = absurd (omega arith)
 repeated_paid (suc (suc zero)) cost small h = absurd (omega arith)

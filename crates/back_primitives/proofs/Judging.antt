@@ -158,12 +158,12 @@ module _ (setting : Setting) (k : ℕ) (a : Start setting) where
         → compares how (one so.0 so.1) (other so.0 so.1) ≡ true → compares how (one or_else.0 or_else.1) (other or_else.0 or_else.1) ≡ false
         → ((i j : ℤ) → primitive setting.names (tables setting.program) which (integer i ∷ integer j ∷ []) a.z.state ≡ result (truth (holds i j)) a.z.state)
         → enough_for (of_code (code_of (comparison_judged (test_of how p q) so or_else (asked_integers setting.at setting.program.literals a.d (form_and f1 (form_and f2 no_form))) a.d (a.d + 2) slowly).ready)) ≤ length a.regs
-        → TestAt setting 910 a (test_of how p q) the_meaning
+        → TestAt setting (primitive_credit which + judged_credit) a (test_of how p q) the_meaning
         (exec c (code_of (comparison_judged (test_of how p q) so or_else (asked_integers setting.at setting.program.literals a.d (form_and f1 (form_and f2 no_form))) a.d (a.d + 2) slowly).ready) a.regs a.y)
     comparison_ends how p q one other holds so or_else reads tells is_so is_else says enough =
-        integers_by setting k a which v1 v2 w1 w2 f1 f2 g known (Judges test) {c1 = 754} {credit = 910}
+        integers_by setting k a which v1 v2 w1 w2 f1 f2 g known (Judges test) {c1 = 754} {credit = primitive_credit which + judged_credit}
         (λ most code first second b h few e. chosen_test setting {c1 = 754} a c h (omega arith) test the_meaning few e)
-        (λ o e. less o e) [] rest at_once slower (omega arith) enough
+        (λ o e. less o e) [] rest at_once slower (omega (arith, two)) enough
       where
         test : Test
         test = test_of how p q
@@ -183,8 +183,8 @@ module _ (setting : Setting) (k : ℕ) (a : Start setting) where
           judged = h;
         }
 
-        less : (o : MidOutcome) → Judges test 754 a.regs a.y o → Judges test 910 a.regs a.y o
-        less o e = test_behind setting {c1 = 0} {c2 = 754} a test (reached_same setting {credit = 0} a a.d) (omega arith) (omega arith) e
+        less : (o : MidOutcome) → Judges test 754 a.regs a.y o → Judges test (primitive_credit which + judged_credit) a.regs a.y o
+        less o e = test_behind setting {c1 = 0} {c2 = 754} a test (reached_same setting {credit = 0} a a.d) (omega (arith, two)) (omega arith) e
 
         at_once : IntegersBy setting k a which v1 v2 w1 w2 f1 f2 g known (Judges test) 754 []
         at_once i j e f r s x x' regs y begins beside names =

@@ -36,7 +36,7 @@ use Rattle.back_relation.specs.Setting.{Setting}
 use Rattle.back_relation.specs.Forms.{context_at, code_at}
 use Rattle.back_combining.specs.Starts.{Start, EndsAt}
 use Rattle.back_combining.proofs.Fitting.{registers_behind}
-use Rattle.back_primitives.specs.Applying.{Applies}
+use Rattle.back_primitives.specs.Applying.{Applies, primitive_credit}
 use Rattle.back_primitives.specs.Calling.{KnownWords}
 use Rattle.back_primitives.proofs.Answered.{SignalPaid}
 use Rattle.back_primitives.proofs.Choosing.{Beside, beside_none, beside_set, beside_less, beside_then, low_bits, start_beside, quick_ends, Chosen, chosen_ends, compared, in_sum}
@@ -314,7 +314,7 @@ module _ (setting : Setting) (k : ℕ) (a : Start setting) (v1 v2 : Value) (w1 w
   -- **an element of a vector**
   pub element_ends :
       enough_for (of_code (code_of (element_where (asked_integers setting.at setting.program.literals (d + 1) (form_and f2 no_form)) d t slowly))) ≤ length a.regs
-      → EndsAt setting 900 a the_meaning
+      → EndsAt setting (primitive_credit VectorRef) a the_meaning
       (exec c (code_of (element_where (asked_integers setting.at setting.program.literals (d + 1) (form_and f2 no_form)) d t slowly)) a.regs a.y)
   element_ends enough = by (known_integer setting.at setting.program.literals f2) refl enough
     where
@@ -325,7 +325,7 @@ module _ (setting : Setting) (k : ℕ) (a : Start setting) (v1 v2 : Value) (w1 w
       paid = let cost = quick_paid VectorRef refl in (omega arith, omega (arith, cost))
 
       by : (o : Option ℕ) → known_integer setting.at setting.program.literals f2 ≡ o → enough_for (of_code (code_of (front (asked_by (d + 1) o []) ++ last))) ≤ length a.regs
-          → EndsAt setting 900 a the_meaning (exec c (code_of (front (asked_by (d + 1) o []) ++ last)) a.regs a.y)
+          → EndsAt setting (primitive_credit VectorRef) a the_meaning (exec c (code_of (front (asked_by (d + 1) o []) ++ last)) a.regs a.y)
       by o e enough = found (found_out o e there)
         where
           there : t + 2 < length a.regs
@@ -338,7 +338,7 @@ module _ (setting : Setting) (k : ℕ) (a : Start setting) (v1 v2 : Value) (w1 w
               (branches_named ((t + 1) ∷ t ∷ (t + 1) ∷ []) (of_code (code_of slowly)) [] (length a.regs)
               (registers_behind (front (asked_by (d + 1) o [])) last (length a.regs) enough)).0
 
-          found : Found 152 a.regs a.y (front (asked_by (d + 1) o [])) → EndsAt setting 900 a the_meaning (exec c (code_of (front (asked_by (d + 1) o []) ++ last)) a.regs a.y)
+          found : Found 152 a.regs a.y (front (asked_by (d + 1) o [])) → EndsAt setting (primitive_credit VectorRef) a the_meaning (exec c (code_of (front (asked_by (d + 1) o []) ++ last)) a.regs a.y)
           found (taken word u of_value means h) =
               let regs : Registers = slice_set h.regs' (t + 1) (Some 0) in
               let few = h.within in

@@ -33,7 +33,7 @@ use Rattle.back_relation.specs.Setting.{Setting}
 use Rattle.back_relation.specs.Forms.{context_at, code_at}
 use Rattle.back_combining.specs.Starts.{Start, EndsAt}
 use Rattle.back_combining.proofs.Starts.{behind}
-use Rattle.back_primitives.specs.Applying.{Applies}
+use Rattle.back_primitives.specs.Applying.{Applies, primitive_credit}
 use Rattle.back_primitives.proofs.Answered.{SignalPaid}
 use Rattle.back_primitives.proofs.Choosing.{Beside, beside_none, beside_set, beside_less, register_kept, reached_beside, start_beside, quick_ends, Chosen, chosen_ends, tag_chosen}
 use Rattle.back_primitives.proofs.EachCost.{is_quick, quick_paid}
@@ -145,7 +145,7 @@ module _ (setting : Setting) (k : ℕ) (a : Start setting) (v : Value) (w : ℕ)
       → ((b : Start setting) (car cdr : Value) → register b.d b.regs ≡ Some w → ObjectFound setting.names (tables setting.program) b.w.places b.z.state b.y b.begins.call.things.represents v w (cons car cdr)
       → b.d ≡ a.d → EndsAt setting 8 b (gives (part (car, cdr)) b.z) (exec c (code_of taken) b.regs b.y))
       → enough_for (of_code (code_of (where_tag a.d t cons_tag taken (slow setting k a which (v ∷ []) (w ∷ []) g)))) ≤ length a.regs
-      → EndsAt setting 600 a (meant setting k a which (v ∷ []) (w ∷ []) g)
+      → EndsAt setting (primitive_credit which) a (meant setting k a which (v ∷ []) (w ∷ []) g)
       (exec c (code_of (where_tag a.d t cons_tag taken (slow setting k a which (v ∷ []) (w ∷ []) g))) a.regs a.y)
   part_ends which g part taken quick one means takes enough =
       by (cons_told setting.names (tables setting.program) a.w.places a.z.state a.y represented v w g.of_values.0)
@@ -166,7 +166,7 @@ module _ (setting : Setting) (k : ℕ) (a : Start setting) (v : Value) (w : ℕ)
       chosen b so = tag_chosen setting c a.regs a.y t there a.d w cons_tag taken slowly b g.in_registers.0 (omega arith) so
 
       by : ConsTold (fetch a.z.state v) w
-          → EndsAt setting 600 a (meant setting k a which (v ∷ []) (w ∷ []) g) (exec c (code_of (where_tag a.d t cons_tag taken slowly)) a.regs a.y)
+          → EndsAt setting (primitive_credit which) a (meant setting k a which (v ∷ []) (w ∷ []) g) (exec c (code_of (where_tag a.d t cons_tag taken slowly)) a.regs a.y)
       by (cons_found car cdr e f so) =
           let h = chosen true so in
           let b : Start setting = start_beside setting a h.regs' h.cost (beside_less (omega arith) h.beside) in
@@ -186,7 +186,7 @@ module _ (setting : Setting) (k : ℕ) (a : Start setting) (v : Value) (w : ℕ)
   pub car_ends :
       (g : Applies setting k a Car (v ∷ []) (w ∷ []))
       → enough_for (of_code (code_of (where_tag a.d t cons_tag (car_into a.d a.d) (slow setting k a Car (v ∷ []) (w ∷ []) g)))) ≤ length a.regs
-      → EndsAt setting 600 a (meant setting k a Car (v ∷ []) (w ∷ []) g)
+      → EndsAt setting (primitive_credit Car) a (meant setting k a Car (v ∷ []) (w ∷ []) g)
       (exec c (code_of (where_tag a.d t cons_tag (car_into a.d a.d) (slow setting k a Car (v ∷ []) (w ∷ []) g))) a.regs a.y)
   car_ends g enough =
       part_ends Car g (λ p. p.0) (car_into a.d a.d) refl refl (λ o e. ap (λ x. needs x (domain_error v cons_class a.z.state) (λ p. result p.0 a.z.state)) e) takes enough
@@ -206,7 +206,7 @@ module _ (setting : Setting) (k : ℕ) (a : Start setting) (v : Value) (w : ℕ)
   pub cdr_ends :
       (g : Applies setting k a Cdr (v ∷ []) (w ∷ []))
       → enough_for (of_code (code_of (where_tag a.d t cons_tag (cdr_into a.d a.d) (slow setting k a Cdr (v ∷ []) (w ∷ []) g)))) ≤ length a.regs
-      → EndsAt setting 600 a (meant setting k a Cdr (v ∷ []) (w ∷ []) g)
+      → EndsAt setting (primitive_credit Cdr) a (meant setting k a Cdr (v ∷ []) (w ∷ []) g)
       (exec c (code_of (where_tag a.d t cons_tag (cdr_into a.d a.d) (slow setting k a Cdr (v ∷ []) (w ∷ []) g))) a.regs a.y)
   cdr_ends g enough =
       part_ends Cdr g (λ p. p.1) (cdr_into a.d a.d) refl refl (λ o e. ap (λ x. needs x (domain_error v cons_class a.z.state) (λ p. result p.1 a.z.state)) e) takes enough

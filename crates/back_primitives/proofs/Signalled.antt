@@ -22,7 +22,7 @@ use Rattle.back_lowering.specs.Leaves.{site_stored}
 use Rattle.back_lowering.specs.Routines.{pending_routine}
 use Rattle.back_lowering.specs.Steps.{call}
 use Rattle.back_relation.specs.Setting.{Setting}
-use Rattle.back_relation.specs.Room.{routine_words}
+use Rattle.back_relation.specs.Room.{routine_words, failing_words}
 use Rattle.back_relation.specs.Forms.{context_at, code_at}
 use Rattle.back_relation.specs.RoutineClaims.{routine_credit}
 use Rattle.back_combining.specs.Starts.{Start, EndsAt}
@@ -57,8 +57,8 @@ module _ (setting : Setting) (k : ℕ) where
       → EndsAt setting signalling_credit b (signal_under (context_at setting k) b.around.handlers c nil b.around b.z)
       (exec (code_at setting k b.turns) (code_of (site_stored b.s.code.site b.d (b.d + 1) ++ (call b.d (pending_routine setting.at) [] ∷ []))) b.regs b.y)
   pending_ends b c does there room condition at =
-      sited_calls_law setting k b signalling_credit routine_credit 0 b.d b.d (b.d + 1) (pending_routine setting.at) [] [] []
-      (signal_under (context_at setting k) b.around.handlers c nil b.around b.z) (omega arith) (omega arith) (omega arith) (omega arith) there room
+      sited_calls_law setting k b signalling_credit failing_words routine_credit 0 b.d b.d (b.d + 1) (pending_routine setting.at) [] [] []
+      (signal_under (context_at setting k) b.around.handlers c nil b.around b.z) (omega arith) (omega arith) (omega arith) (omega arith) there (omega (arith, room))
       (under_later b.around.handlers c b.around b.z) (λ regs number paid others. nothing_between (code_at setting k b.turns) regs (stored_at site_address number paid b.y) b.d)
       (λ number paid.
       does (standing_world b.w b.y) b.z (stored_at site_address number paid b.y) c condition

@@ -4,6 +4,7 @@ use Rattle.lang_meaning.specs.Arity.{arity}
 use Rattle.lang_meaning.specs.declared.primitive.Primitive.{Primitive}
 use Rattle.lang_meaning.specs.Primitives.{primitive}
 use Rattle.lang_meaning.specs.Values.{Value}
+use Rattle.lang_meaning.specs.Counts.{unit_cost}
 use Rattle.flat_language.specs.FlatForm.{FlatForms}
 use Rattle.flat_language.specs.FlatNodes.{tables, count_forms}
 use Rattle.flat_language.specs.FlatSignals.{answered}
@@ -20,6 +21,7 @@ use Rattle.back_relation.specs.Setting.{Setting}
 use Rattle.back_relation.specs.Placed.{IsPlaced}
 use Rattle.back_relation.specs.Room.{routine_words}
 use Rattle.back_relation.specs.Forms.{TestEnds, judged_credit, context_at, code_at}
+use Rattle.back_relation.specs.Ends.{form_credit}
 use Rattle.back_combining.specs.Starts.{Start, EndsAt}
 use Rattle.back_primitives.specs.Calling.{WordsIn, PrimitiveThere, PendingDoesAnywhere, KnownWords}
 
@@ -33,9 +35,9 @@ pub record Applies (setting : Setting) (k : ℕ) (a : Start setting) (which : Pr
   pub in_registers : WordsIn a.d ws a.regs
   pub many : length vs ≡ arity which
 
--- what is paid of the cost before: the units of the form
+-- what is paid of the cost before: the units of the form, but for what it leaves of the first one
 abbrev pub primitive_credit : Primitive → ℕ
-primitive_credit which = 300 + 300 * arity which
+primitive_credit which = form_credit + unit_cost * arity which
 
 module _ (setting : Setting) (k : ℕ) (a : Start setting) (which : Primitive) (vs : List Value) where
   abbrev pub answer_meant : FlatEvaluated

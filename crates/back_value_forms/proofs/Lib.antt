@@ -1,3 +1,4 @@
+pub mod Failing
 pub mod Wholes
 pub mod Sites
 pub mod Literals

@@ -33,12 +33,13 @@ use Rattle.back_combining.specs.Points.{Point, start_at, run, Here}
 use Rattle.back_combining.specs.Starts.{Start, EndsAt}
 use Rattle.back_combining.proofs.Fitting.{registers_behind}
 use Rattle.back_combining.proofs.Leaves.{literals_law}
-use Rattle.back_combining.proofs.Starts.{start_charged, ends_charged}
-use Rattle.back_globals.specs.Globals.{FailsHere}
+use Rattle.back_combining.proofs.Starts.{start_charged, ends_sparing}
+use Rattle.back_globals.specs.Globals.{FailsHere, named_credit}
 use Rattle.back_values.proofs.Variables.{there_is}
 use Rattle.back_value_forms.specs.Sites.{LawOfWholeLiterals}
 use Rattle.back_value_forms.proofs.Wholes.{point, step_fits, rest_fits}
-use Rattle.back_value_forms.specs.Wholes.{FailsAnywhere}
+use Rattle.back_value_forms.specs.Wholes.{FailingWithClaims}
+use Rattle.back_value_forms.proofs.Failing.{undefined_built_in, fails_here}
 
 module _ (setting : Setting) (s : FormScope) (d m size k turns i : ℕ) where
   -- a name without a function
@@ -47,7 +48,7 @@ module _ (setting : Setting) (s : FormScope) (d m size k turns i : ℕ) where
       ≡ signal (context_at setting k) undefined_function_class (symbol (named (text setting.names name)) ∷ []) q.around q.z)
       → literal_code setting.names setting.at setting.program s.code.site d i (slice_get setting.program.literals i)
       ≡ failing_with setting.at s.code.site d undefined_function_class (symbol_word setting.at name)
-      → FailsHere setting s d m size k turns 300 undefined_function_class name → Here setting s d m size k turns (literal i)
+      → FailsHere setting s d m size k turns undefined_function_class name → Here setting s d m size k turns (literal i)
   unfolding mean lower
   undefined_here name means code fails q =
       let a : Start setting = start_charged setting (start_at setting s d m size turns q) 1 in
@@ -63,10 +64,10 @@ module _ (setting : Setting) (s : FormScope) (d m size k turns i : ℕ) where
         begins = a.begins;
         count = q.count;
       } in
-      ends_charged setting {c1 = 300} (start_at setting s d m size turns q) 1 (omega arith)
-      (subst (λ r. EndsAt setting 300 a r (run setting s d m size k turns (literal_code setting.names setting.at setting.program s.code.site d i (slice_get setting.program.literals i)) q.regs q.y))
+      ends_sparing setting {c1 = named_credit} (start_at setting s d m size turns q) 1 (omega arith) (omega arith)
+      (subst (λ r. EndsAt setting named_credit a r (run setting s d m size k turns (literal_code setting.names setting.at setting.program s.code.site d i (slice_get setting.program.literals i)) q.regs q.y))
       (sym (means b))
-      (subst (λ ss. EndsAt setting 300 a (signal (context_at setting k) undefined_function_class (symbol (named (text setting.names name)) ∷ []) q.around (charged 1 q.z)) (run setting s d m size k turns ss q.regs q.y))
+      (subst (λ ss. EndsAt setting named_credit a (signal (context_at setting k) undefined_function_class (symbol (named (text setting.names name)) ∷ []) q.around (charged 1 q.z)) (run setting s d m size k turns ss q.regs q.y))
       (sym code) (fails b)))
 
 -- a name without a function has a symbol, and its code has the words of routines
@@ -87,7 +88,7 @@ failing_fits setting s d class word size h =
     let one = step_fits (constant (d + 1) word) last size (rest_fits (constant d class) (constant (d + 1) word ∷ last) size behind_site) in
     omega (arith, one)
 
-module _ (setting : Setting) (k turns : ℕ) (fails : FailsAnywhere setting k turns 300 undefined_function_class) (s : FormScope) (d m size i : ℕ) where
+module _ (setting : Setting) (k turns : ℕ) (fails : FailingWithClaims setting k turns) (s : FormScope) (d m size i : ℕ) where
   any_here :
       (l : LiteralRow) → slice_get setting.program.literals i ≡ Some l → LiteralPlaced setting (slice_get setting.program.literals i)
       → enough_for (of_code (code_of (literal_code setting.names setting.at setting.program s.code.site d i (slice_get setting.program.literals i)))) ≤ size
@@ -109,7 +110,7 @@ module _ (setting : Setting) (k turns : ℕ) (fails : FailsAnywhere setting k tu
           ∙ ap (λ o. flat_with_some o (undefined_function (signal (context_at setting k)) (text setting.names name.0))
           (λ g a y. gives (function_value setting.names (tables setting.program) (text setting.names name.0)) y) q.around q.z) e)
           code
-          (fails s d m size name.0 (placed_symbol setting name e (subst (λ o. LiteralPlaced setting o) at placed)) there
+          (fails_here setting k turns undefined_function_class fails undefined_built_in s d m size name.0 (placed_symbol setting name e (subst (λ o. LiteralPlaced setting o) at placed)) there
           (undefined_words setting name m e (subst (λ o. words_for_literal setting.names setting.program o ≤ m) at words)))
 
 pub whole_literals : (setting : Setting) (k turns : ℕ) → LawOfWholeLiterals setting k turns

@@ -30,14 +30,14 @@ use Rattle.back_lowering.specs.Registers.{of_code, enough_for}
 use Rattle.back_lowering.specs.Steps.{Steps, constant, load, if_equal, load_from}
 use Rattle.back_relation.specs.Setting.{Setting, ConstantAt, ConstantsAt}
 use Rattle.back_relation.specs.Worlds.{World}
-use Rattle.back_relation.specs.Ends.{done}
+use Rattle.back_relation.specs.Ends.{done, form_credit}
 use Rattle.back_relation.specs.Chains.{chain_words}
 use Rattle.back_relation.specs.Activation.{FormScope, MethodHeld}
 use Rattle.back_relation.specs.Forms.{code_at}
 use Rattle.back_combining.specs.Points.{Point, start_at, Here}
 use Rattle.back_combining.specs.Starts.{Start, EndsAt, ReachedFrom}
 use Rattle.back_combining.proofs.Fitting.{registers_front, registers_behind}
-use Rattle.back_combining.proofs.Starts.{start_charged, ends_charged}
+use Rattle.back_combining.proofs.Starts.{start_charged, ends_sparing}
 use Rattle.back_globals.proofs.Globals.{reached_registers}
 use Rattle.back_values.specs.Variables.{CapturedByFunctions}
 use Rattle.back_values.proofs.Far.{load_from_runs}
@@ -238,7 +238,7 @@ module _ (setting : Setting) (s : FormScope) (d m size k turns : ℕ) (q : Point
 -- code fell out where a value is there
 fell_there :
     (setting : Setting) (a : Start setting) {w : World} {z : FlatState} {regs : Registers} {y : MidState} → ReachedFrom setting 200 a a.d w z regs y → (v : Value) (word : ℕ)
-    → register a.d regs ≡ Some word → word_of w.places v ≡ Some word → EndsAt setting 300 a (gives v z) (ends falls regs y)
+    → register a.d regs ≡ Some word → word_of w.places v ≡ Some word → EndsAt setting form_credit a (gives v z) (ends falls regs y)
 fell_there setting a {w} {z} {regs} {y} r v word e is = done (record {
   result = v;
   outcome = refl;
@@ -288,8 +288,8 @@ module _ (setting : Setting) (s : FormScope) (d m size k turns : ℕ) (p : Metho
       let all : RunsTo (code_at setting k turns) (code_of (loaded ++ tail)) q.regs q.y (ends falls x.after (mid_charged (l.cost + x.cost) q.y)) =
       parts_then loaded tail (record { same = l.run }) (record { same = x.run }) in
       let r = reached_registers setting {credit = 200} (start b) x.after (l.cost + x.cost) (x.many ∙ sym q.count) (λ i low. x.below i low ∙ l.below i low) (omega (arith, few, few')) in
-      ends_charged setting {c1 = 300} (start q) 1 (omega arith)
-      (subst (λ o. EndsAt setting 300 (start b) (gives (truth (is_next (method_of p q.env))) (charged 1 q.z)) o) (sym all.same)
+      ends_sparing setting {c1 = form_credit} (start q) 1 (omega arith) (omega arith)
+      (subst (λ o. EndsAt setting form_credit (start b) (gives (truth (is_next (method_of p q.env))) (charged 1 q.z)) o) (sym all.same)
       (fell_there setting (start b) r (truth (is_next (method_of p q.env))) x.word x.here x.is))
 
 pub next_methods_law : LawOfNextMethods

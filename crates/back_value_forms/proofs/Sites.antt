@@ -5,7 +5,7 @@ use Rattle.lang_meaning.specs.Meaning.{place_of_site}
 use Rattle.lang_meaning.specs.State.{DynamicContext}
 use Rattle.flat_language.specs.FlatForm.{FlatForm, sited}
 use Rattle.flat_language.specs.FlatMeaning.{mean}
-use Rattle.flat_language.specs.FlatState.{FlatEnvironment, FlatState, FlatEvaluated}
+use Rattle.flat_language.specs.FlatState.{FlatEnvironment, FlatState, FlatEvaluated, charged}
 use Rattle.mid_code.specs.declared.operation.Test.{Test}
 use Rattle.mid_code.specs.Arena.{word_in}
 use Rattle.mid_code.specs.State.{Registers, MidState, MidOutcome}
@@ -19,6 +19,7 @@ use Rattle.back_relation.specs.Ends.{Reached, Transfers, Ends, done, left_by, fu
 use Rattle.back_relation.specs.Forms.{Begins, FormEnds, TestEnds, FormStands}
 use Rattle.back_value_forms.specs.Sites.{LawOfSites}
 use Rattle.back_value_forms.specs.Wholes.{Does, Judges}
+use Rattle.back_combining.proofs.Starts.{start_charged}
 
 module _ (setting : Setting) (n : ℕ) (some : 1 ≤ n) {rs valid : List Standing} {s : FormScope} {d m : ℕ} {w : World} {env : FlatEnvironment} {around : DynamicContext} {z : FlatState} {regs : Registers} {y : MidState}
     (b : Begins setting rs valid s d m w env around z regs y) where
@@ -53,6 +54,8 @@ module _ (setting : Setting) (n : ℕ) (some : 1 ≤ n) {rs valid : List Standin
         end_record = b.call.around_stands.end_record;
         end_valid = b.call.around_stands.end_valid;
         end_word = b.call.around_stands.end_word;
+        end_form = b.call.around_stands.end_form;
+        tags_land = b.call.around_stands.tags_land;
       };
       room = b.call.room;
     };
@@ -198,20 +201,41 @@ module _ (setting : Setting) (n : ℕ) (some : 1 ≤ n) {rs valid : List Standin
       })
       e
 
+-- where the form begins behind its first unit
+abbrev charged_begins :
+    (setting : Setting) (turns : ℕ) {rs valid : List Standing} {s : FormScope} {d m : ℕ} {w : World} {env : FlatEnvironment} {around : DynamicContext} {z : FlatState} {regs : Registers}
+    {y : MidState} → Begins setting rs valid s d m w env around z regs y → Begins setting rs valid s d m w env around (charged 1 z) regs y
+charged_begins setting turns {rs} {valid} {s} {d} {m} {w} {env} {around} {z} {regs} {y} b =
+    (start_charged setting (record {
+      turns = turns;
+      rs = rs;
+      valid = valid;
+      s = s;
+      d = d;
+      n = m;
+      w = w;
+      env = env;
+      around = around;
+      z = z;
+      regs = regs;
+      y = y;
+      begins = b;
+    }) 1).begins
+
 stands_sited : (setting : Setting) (s : FormScope) (first n : ℕ) (f : FlatForm) → FormStands setting s first (sited n f) → FormStands setting (at_site n s) first f
 stands_sited setting s first n f h = record { stands = h.stands; fits = h.fits.2; leads = h.leads; placed = h.placed; forms_known = h.forms_known }
 
 sited_does : (setting : Setting) (k turns n : ℕ) (f : FlatForm) → Does setting k turns f → Does setting k turns (sited n f)
 unfolding mean lower
 sited_does setting k turns n f does rs valid s d m first w env around z regs y stands begins registers words =
-    form_back setting n stands.fits.0 begins
+    form_back setting n stands.fits.0 (charged_begins setting turns begins)
     (does rs valid (at_site n s) d m first w env (record around { site = place_of_site setting.program.sites n }) z regs y (stands_sited setting s first n f stands)
     (begins_sited setting n stands.fits.0 begins) registers words)
 
 sited_judges : (setting : Setting) (k turns n : ℕ) (f : FlatForm) → Judges setting k turns f → Judges setting k turns (sited n f)
 unfolding mean lower
 sited_judges setting k turns n f judges rs valid s d m first w env around z regs y stands begins registers words =
-    test_back setting n stands.fits.0 begins
+    test_back setting n stands.fits.0 (charged_begins setting turns begins)
     (judges rs valid (at_site n s) d m first w env (record around { site = place_of_site setting.program.sites n }) z regs y (stands_sited setting s first n f stands)
     (begins_sited setting n stands.fits.0 begins) registers words)
 

@@ -41,6 +41,7 @@ use Rattle.back_values.proofs.Bindings.{bindings_steps, bindings_law}
 use Rattle.back_values.proofs.SetVariables.{setting_law}
 use Rattle.back_values.proofs.Variables.{variables_law}
 use Rattle.back_value_forms.specs.Wholes.{PointsKnown, LawOfWholeVariables, LawOfWholeSetting, LawOfWholeBindings, LawOfWholeFunctions, LawOfWholeGlobals, LawOfWholeSettingGlobals, LawOfWholeDefinitions, LawOfWholeJudging, LawOfJudgedForms, IsByValue}
+use Rattle.back_value_forms.proofs.Failing.{unbound_built_in, fails_here}
 
 pub step_fits : (s : MidStep) (ss : Steps) (size : ℕ) → enough_for (of_code (code_of (s ∷ ss))) ≤ size → enough_for (of_step s) ≤ size
 step_fits s ss size h = let l = enough_front (of_step s) (of_code (code_of ss)) in omega (arith, h, l)
@@ -158,7 +159,7 @@ module _ (setting : Setting) (k turns : ℕ) where
       let tested : Steps = constant (d + 1) unbound_word ∷ if_equal d (d + 1) failing [] ∷ [] in
       let one = step_fits (constant (d + 1) unbound_word) (if_equal d (d + 1) failing [] ∷ []) size (registers_behind looked tested size registers) in
       let there : d + 1 < size = omega (arith, one) in
-      globals_law setting s d n size k turns name placed stands.placed.0 there (fails s d n size name stands.placed.1 there words)
+      globals_law setting s d n size k turns name placed stands.placed.0 there (fails_here setting k turns unbound_variable_class fails unbound_built_in s d n size name stands.placed.1 there words)
       (point rs valid s d n w env around z regs y begins)
 
   pub whole_setting_globals : LawOfWholeSettingGlobals setting k turns
@@ -172,7 +173,7 @@ module _ (setting : Setting) (k turns : ℕ) where
       let tested : Steps = constant (d + 2) unbound_word ∷ choice in
       let one = step_fits (constant (d + 2) unbound_word) choice size (registers_behind looked tested size (registers_behind value (looked ++ tested) size registers)) in
       let there : d + 2 < size = omega (arith, one) in
-      setting_globals_law setting s d n size k turns name f placed stands.placed.0 there (fails s d n size name stands.placed.1 (omega (arith, there)) (omega (arith, words)))
+      setting_globals_law setting s d n size k turns name f placed stands.placed.0 there (fails_here setting k turns unbound_variable_class fails unbound_built_in s d n size name stands.placed.1 (omega (arith, there)) (omega (arith, words)))
       (does_here setting s d n size k turns f first does (record { stands = stands.stands; fits = stands.fits; leads = stands.leads; placed = stands.placed.2; forms_known = stands.forms_known })
       (registers_front value (looked ++ tested) size registers) (omega (arith, words)))
       (point rs valid s d n w env around z regs y begins)

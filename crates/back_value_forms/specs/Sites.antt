@@ -1,9 +1,8 @@
 -- The laws of sites, and of all literals.
 use Rattle.std.specs.Prelude.{ℕ}
-use Rattle.lang_meaning.specs.Objects.{undefined_function_class}
 use Rattle.flat_language.specs.FlatForm.{FlatForm, literal, sited}
 use Rattle.back_relation.specs.Setting.{Setting}
-use Rattle.back_value_forms.specs.Wholes.{Does, Judges, FailsAnywhere}
+use Rattle.back_value_forms.specs.Wholes.{Does, Judges, FailingWithClaims}
 
 module _ (setting : Setting) (k turns : ℕ) where
   -- a form with a site does what the form does there
@@ -13,4 +12,4 @@ module _ (setting : Setting) (k turns : ℕ) where
 
   -- a literal is there, or its name has no function
   abbrev pub LawOfWholeLiterals : Type 0
-  LawOfWholeLiterals = (i : ℕ) → FailsAnywhere setting k turns 300 undefined_function_class → Does setting k turns (literal i)
+  LawOfWholeLiterals = (i : ℕ) → FailingWithClaims setting k turns → Does setting k turns (literal i)

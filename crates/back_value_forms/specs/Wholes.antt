@@ -1,19 +1,21 @@
 -- The laws of variables, bindings, global variables and functions, wherever the forms stand.
 use Rattle.std.specs.Prelude.{◌≡◌, ⊤, ℕ, ◌+◌, ◌<◌, ◌≤◌, List}
-use Rattle.lang_meaning.specs.Objects.{unbound_variable_class}
+use Rattle.lang_meaning.specs.State.{DynamicContext}
 use Rattle.flat_language.specs.declared.place.FlatCapture.{FlatCapture}
 use Rattle.flat_language.specs.declared.place.VariablePlace.{VariablePlace}
 use Rattle.flat_language.specs.FlatForm.{FlatForm, local, set_local, global, set_global, def_global, let_form, make_function, FlatBindings, prim, sited}
+use Rattle.flat_language.specs.FlatState.{FlatState}
+use Rattle.mid_code.specs.State.{MidState}
 use Rattle.back_lowering.specs.Codes.{lower, by_value}
 use Rattle.back_lowering.specs.declared.scope.Scope.{Scope}
 use Rattle.back_relation.specs.Setting.{Setting}
+use Rattle.back_relation.specs.Worlds.{World, Standing}
 use Rattle.back_relation.specs.Activation.{FormScope}
 use Rattle.back_relation.specs.Forms.{DoesForm, JudgesForm, context_at, code_at}
-use Rattle.back_relation.specs.Placed.{HasSymbol, IsPlaced}
-use Rattle.back_relation.specs.Room.{routine_words}
+use Rattle.back_relation.specs.Placed.{IsPlaced}
+use Rattle.back_relation.specs.RoutineClaims.{FailingWithDoes}
 use Rattle.back_combining.specs.Forms.{AllDo}
 use Rattle.back_combining.specs.Points.{Point}
-use Rattle.back_globals.specs.Globals.{FailsHere}
 use Rattle.back_values.specs.Bindings.{forms_of, HomesAsSlots}
 use Rattle.back_values.specs.Variables.{CapturedByFunctions}
 
@@ -35,10 +37,10 @@ module _ (setting : Setting) (k turns : ℕ) where
   abbrev pub Judges : FlatForm → Type 0
   Judges f = JudgesForm setting turns (context_at setting k) (code_at setting k turns) f
 
-  -- code that signals a condition of a class with the symbol of a name does so, where it has its words
-  abbrev pub FailsAnywhere : (credit class : ℕ) → Type 0
-  FailsAnywhere credit class =
-      (s : FormScope) (d m size name : ℕ) → HasSymbol setting name → d + 1 < size → routine_words ≤ m → FailsHere setting s d m size k turns credit class name
+  -- conditions with one slot are signalled as they are claimed to be, wherever code stands
+  abbrev pub FailingWithClaims : Type 0
+  FailingWithClaims =
+      (rs valid : List Standing) (w : World) (around : DynamicContext) (z : FlatState) (y : MidState) → FailingWithDoes setting k turns rs valid w around z y
 
   abbrev pub LawOfWholeVariables : Type 0
   LawOfWholeVariables = (p : VariablePlace) → Does (local p)
@@ -54,10 +56,10 @@ module _ (setting : Setting) (k turns : ℕ) where
   LawOfWholeFunctions = (p : ℕ) (parts : List FlatCapture) → IsPlaced setting → Does (make_function p parts)
 
   abbrev pub LawOfWholeGlobals : Type 0
-  LawOfWholeGlobals = (name : ℕ) → IsPlaced setting → FailsAnywhere 540 unbound_variable_class → Does (global name)
+  LawOfWholeGlobals = (name : ℕ) → IsPlaced setting → FailingWithClaims → Does (global name)
 
   abbrev pub LawOfWholeSettingGlobals : Type 0
-  LawOfWholeSettingGlobals = (name : ℕ) (f : FlatForm) → IsPlaced setting → FailsAnywhere 540 unbound_variable_class → Does f → Does (set_global name f)
+  LawOfWholeSettingGlobals = (name : ℕ) (f : FlatForm) → IsPlaced setting → FailingWithClaims → Does f → Does (set_global name f)
 
   abbrev pub LawOfWholeDefinitions : Type 0
   LawOfWholeDefinitions = (name : ℕ) (f : FlatForm) → IsPlaced setting → Does f → Does (def_global name f)

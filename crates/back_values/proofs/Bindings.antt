@@ -26,7 +26,7 @@ use Rattle.back_relation.specs.Worlds.{World, Standing}
 use Rattle.back_relation.specs.Activation.{FormScope, with_slots, ActivationStands}
 use Rattle.back_relation.specs.Placed.{IsPlaced}
 use Rattle.back_relation.specs.Room.{words_for_handler}
-use Rattle.back_relation.specs.Ends.{Reached, Ends, done, left_by, full_there, stopped, few_turns, Because, Left}
+use Rattle.back_relation.specs.Ends.{Reached, Ends, done, left_by, full_there, stopped, few_turns, Because, Left, form_credit}
 use Rattle.back_relation.specs.Forms.{context_at, code_at}
 use Rattle.back_combining.specs.Points.{Point, start_at, run, value_steps, Here}
 use Rattle.back_combining.specs.Starts.{FlatGrown, Start, EndsAt, FellFrom, ReachedFrom}
@@ -36,7 +36,7 @@ use Rattle.back_combining.proofs.FormGrowth.{form_grows}
 use Rattle.back_combining.proofs.Growth.{same_flat, then_value}
 use Rattle.back_combining.proofs.Parts.{go_on_falls}
 use Rattle.back_combining.proofs.Points.{point_after, code_grows}
-use Rattle.back_combining.proofs.Starts.{start_charged, ends_charged, gives_run, behind}
+use Rattle.back_combining.proofs.Starts.{start_charged, ends_sparing, ends_spared, gives_run, behind}
 use Rattle.back_combining.proofs.Then.{ends_go_on, same_world}
 use Rattle.mid_arena.specs.Places.{WordsOf}
 use Rattle.back_arguments.proofs.WordLists.{of_values_later}
@@ -214,7 +214,7 @@ module _ (setting : Setting) (placed : IsPlaced setting) (s : FormScope) (d m si
         (subst (λ r. EndsAt setting 6 (start p) r (mid_go_on body_runs next)) (go_gives left_out)
         (ends_go_on setting {D = FellFrom setting 0 (start_at setting inside (d + many) m size turns inner_point) (d + many) body_means body_runs} {c1 = 0} {d1 = d} {r = left_out} {q = body_runs}
         (λ v z. gives v z) next (omega arith) (omega arith)
-        (ends_dropped setting s d many m hs fs p.begins.activation (here inner_point))
+        (ends_dropped setting s d many m hs fs p.begins.activation (ends_spared setting (start_at setting inside (d + many) m size turns inner_point) (here inner_point)))
         (λ v z. same_flat z) (λ g y. code_grows setting s d m size k turns last_steps g y)
         (λ x.
         subst (λ r. EndsAt setting 6 (start p) r (mid_go_on body_runs next)) (sym (then_value left_out (λ v z. gives v z) x.result x.outcome))
@@ -250,7 +250,7 @@ module _ (setting : Setting) (placed : IsPlaced setting) (s : FormScope) (d m si
     behind_boxes :
         (p : Point setting s d m size) (vs : List Value) (w' : World) (z' : FlatState) (regs' : Registers) (y' : MidState) → length vs ≡ length hs
         → BoxesMade setting hs vs d p.z.state.variables p.w w' p.z z' p.regs regs' p.y y'
-        → EndsAt setting 300 (start p) (in_new_slots hs vs (λ inner. mean (context_at setting k) body p.env p.around inner) z') (running (body_steps ++ last_steps) regs' y')
+        → EndsAt setting form_credit (start p) (in_new_slots hs vs (λ inner. mean (context_at setting k) body p.env p.around inner) z') (running (body_steps ++ last_steps) regs' y')
     behind_boxes p vs w' z' regs' y' count b =
         let later = b.world.later in
         let r : ReachedFrom setting 0 (start p) d w' (extended b.variables z') regs' y' = record {
@@ -272,11 +272,11 @@ module _ (setting : Setting) (placed : IsPlaced setting) (s : FormScope) (d m si
 
     behind_values :
         (p : Point setting s d m size) (vs : List Value) (ws : List ℕ) → length vs ≡ length hs → WordsOf p.w.places vs ws → WordsIn d ws p.regs
-        → EndsAt setting 300 (start p) (next_of p.env p.around vs p.z) (running (boxes_made hs d (d + many) ++ (body_steps ++ last_steps)) p.regs p.y)
+        → EndsAt setting form_credit (start p) (next_of p.env p.around vs p.z) (running (boxes_made hs d (d + many) ++ (body_steps ++ last_steps)) p.regs p.y)
     behind_values p vs ws count is inside_registers =
         let r = reached_clean setting (start p) in
         let q : Point setting s d m size = point_after setting s d m size turns p r in
-        behind setting {c1 = 0} {c2 = 300} (start p) d (omega arith) r (omega arith) (omega arith)
+        behind setting {c1 = 0} {c2 = form_credit} (start p) d (omega arith) r (omega arith) (omega arith)
         (by q
         (boxes_law setting k turns (m + words_for_handler * length p.around.handlers) hs vs ws d (d + many) q.w q.z q.regs q.y (body_steps ++ last_steps)
         (λ ready. in_new_slots hs vs (λ inner. mean (context_at setting k) body p.env p.around inner) ready) placed q.begins.call.things
@@ -287,10 +287,10 @@ module _ (setting : Setting) (placed : IsPlaced setting) (s : FormScope) (d m si
             (q : Point setting s d m size) {r : FlatEvaluated} {o : MidOutcome}
             → BoxesEnd setting hs vs d q.w q.z q.regs q.y (λ ready. in_new_slots hs vs (λ inner. mean (context_at setting k) body q.env q.around inner) ready)
             (λ g x. running (body_steps ++ last_steps) g x) r o
-            → EndsAt setting 300 (start q) r o
+            → EndsAt setting form_credit (start q) r o
         by q {r} {o} (made w' z' regs' y' b same run) =
-            subst (λ x. EndsAt setting 300 (start q) x o) (sym same)
-            (subst (λ x. EndsAt setting 300 (start q) (in_new_slots hs vs (λ inner. mean (context_at setting k) body q.env q.around inner) z') x) (sym run)
+            subst (λ x. EndsAt setting form_credit (start q) x o) (sym same)
+            (subst (λ x. EndsAt setting form_credit (start q) (in_new_slots hs vs (λ inner. mean (context_at setting k) body q.env q.around inner) z') x) (sym run)
             (behind_boxes q vs w' z' regs' y' count b))
         by q (no_words f) = full_there f
         by q (no_space f) = stopped f
@@ -314,12 +314,12 @@ module _ (setting : Setting) (placed : IsPlaced setting) (s : FormScope) (d m si
           count = p.count;
         } in
         let rest : Steps = boxes_made hs d (d + many) ++ (body_steps ++ last_steps) in
-        ends_charged setting {c1 = 300} (start p) units (omega arith)
-        (subst (λ r. EndsAt setting 300 a r (running (lower_bindings setting.names setting.at setting.program s.code d bs ++ rest) p.regs p.y))
+        ends_sparing setting {c1 = form_credit} (start p) units (omega arith) (omega arith)
+        (subst (λ r. EndsAt setting form_credit a r (running (lower_bindings setting.names setting.at setting.program s.code d bs ++ rest) p.regs p.y))
         (sym (bindings_mean (context_at setting k) bs [] p.env p.around (charged units p.z) (next_of p.env p.around)))
-        (subst (λ ss. EndsAt setting 300 a (mean_arguments (context_at setting k) (forms_of bs) [] p.env p.around (charged units p.z) (next_of p.env p.around)) (running (ss ++ rest) p.regs p.y))
+        (subst (λ ss. EndsAt setting form_credit a (mean_arguments (context_at setting k) (forms_of bs) [] p.env p.around (charged units p.z) (next_of p.env p.around)) (running (ss ++ rest) p.regs p.y))
         (sym (bindings_steps setting s.code d bs))
-        (arguments_law setting s d m size k turns 300 (forms_of bs) c (next_of p.env p.around) rest (omega (arith, there, forms_count bs)) values
+        (arguments_law setting s d m size k turns form_credit (forms_of bs) c (next_of p.env p.around) rest (omega (arith, there, forms_count bs)) values
         (next_grows p.env p.around)
         (λ vs z regs y x.
         behind_values (point_after setting s d m size turns c x.reached) vs x.words (x.value_count ∙ forms_count bs) x.of_values x.in_registers))))

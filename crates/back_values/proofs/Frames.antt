@@ -61,6 +61,8 @@ module _ (setting : Setting) where
       end_record = b.around_stands.end_record;
       end_valid = b.around_stands.end_valid;
       end_word = b.around_stands.end_word;
+      end_form = b.around_stands.end_form;
+      tags_land = b.around_stands.tags_land;
     };
     room = b.room;
   }

@@ -3,6 +3,7 @@ use Rattle.std.proofs.Common.{◌≡◌, ◌⊎◌, inl, inr, ℕ, zero, suc, �
 use Rattle.std.specs.Prelude.{slice_get, slice_index_or}
 use Rattle.std.proofs.lemmas.Option.{slice_get_within}
 use Rattle.base.specs.Names.{slice_get-front, slice_get-behind, slice_get-push}
+use Rattle.lang_meaning.specs.Counts.{unit_cost}
 use Rattle.lang_meaning.specs.Lookup.{value_at}
 use Rattle.lang_meaning.specs.State.{Limit, words, unlimited, with_words}
 use Rattle.lang_meaning.specs.Values.{Value, nil}
@@ -53,7 +54,7 @@ others_late setting {w} t = by setting.further (λ i word e. (t.further i word e
 
 module _ (setting : Setting) (placed : IsPlaced setting) {w : World} {y : MidState} (vs : List Value) (z : FlatState) (t : Things setting w (extended vs z) y) (clean : Clean w y)
     (v : Value) (word cost : ℕ) (is : word_of w.places v ≡ Some word) (room : 1 ≤ left y.arena) (within : WithinLimit setting.limit (box_asked z).state)
-    (cheap : cost ≤ 300) where
+    (cheap : cost ≤ unit_cost) where
   abbrev pub box_spot : Spot
   box_spot = record { address = y.arena.heap_to; words = 1; tag = 0 }
 

@@ -27,7 +27,7 @@ use Rattle.back_relation.specs.Setting.{Setting}
 use Rattle.back_relation.specs.Worlds.{World, BoxIs}
 use Rattle.back_relation.specs.Activation.{FormScope}
 use Rattle.back_relation.specs.Placed.{IsPlaced}
-use Rattle.back_relation.specs.Ends.{done}
+use Rattle.back_relation.specs.Ends.{done, form_credit}
 use Rattle.back_relation.specs.Forms.{context_at, code_at}
 use Rattle.back_combining.specs.Points.{Point, start_at, run, value_steps, Here}
 use Rattle.back_combining.specs.Starts.{Start, EndsAt, ReachedFrom}
@@ -35,7 +35,7 @@ use Rattle.back_combining.proofs.Activations.{activation_later}
 use Rattle.back_combining.proofs.FormGrowth.{form_grows}
 use Rattle.back_combining.proofs.Growth.{same_prefix}
 use Rattle.back_combining.proofs.Points.{point_after, code_grows}
-use Rattle.back_combining.proofs.Starts.{start_charged, ends_charged, behind, two}
+use Rattle.back_combining.proofs.Starts.{start_charged, ends_sparing, ends_spared, behind, two}
 use Rattle.back_combining.proofs.Straight.{set_beside, registers_set, world_cost, around_cost}
 use Rattle.back_combining.proofs.Then.{same_world}
 use Rattle.back_combining.proofs.Worlds.{later_same}
@@ -94,7 +94,7 @@ module _ (setting : Setting) (placed : IsPlaced setting) (s : FormScope) (d m si
   module _ (q : Point setting s d m size) (v : Value) (word : ℕ) (here : register d q.regs ≡ Some word) (is : word_of q.w.places v ≡ Some word) where
     set_slot :
         (i : ℕ) → slice_get s.flat.homes i ≡ Some home.Slot
-        → EndsAt setting 300 (start q) (gives v (set_to (Slot i) v q.env q.z)) (run setting s d m size k n (variable_from s.code d (d + 1) (Slot i)) q.regs q.y)
+        → EndsAt setting form_credit (start q) (gives v (set_to (Slot i) v q.env q.z)) (run setting s d m size k n (variable_from s.code d (d + 1) (Slot i)) q.regs q.y)
     set_slot i stands =
         let has = q.begins.activation.homes i home.Slot stands in
         let at = slot_there setting s d m size k n q i (holds has.0) has.1 in
@@ -113,13 +113,13 @@ module _ (setting : Setting) (placed : IsPlaced setting) (s : FormScope) (d m si
           back = around_framed setting q.z.frame (slice_set q.z.frame i (holds v)) (around_cost setting q.z q.y 6 (omega arith));
         } in
         let run_move : RunsTo c (code_of (move r d ∷ [])) q.regs q.y (ends falls (slice_set q.regs r (Some word)) (mid_charged 6 q.y)) = and_then (move_falls here) none_left in
-        subst (λ o. EndsAt setting 300 (start q) (gives v (set_to (Slot i) v q.env q.z)) (run setting s d m size k n (slot_from d o) q.regs q.y)) (sym at.1)
-        (subst (λ o. EndsAt setting 300 (start q) (gives v (set_to (Slot i) v q.env q.z)) o) (sym run_move.same)
+        subst (λ o. EndsAt setting form_credit (start q) (gives v (set_to (Slot i) v q.env q.z)) (run setting s d m size k n (slot_from d o) q.regs q.y)) (sym at.1)
+        (subst (λ o. EndsAt setting form_credit (start q) (gives v (set_to (Slot i) v q.env q.z)) o) (sym run_move.same)
         (given_where (start q) reached v word (omega arith) (register_beside q.regs r d (Some word) (λ e. omega (arith, e, below)) ∙ here) is))
 
     set_box :
         (b x : ℕ) → BoxIs q.w b x → Clean q.w q.y → x < 2 ^ 26 → d + 1 < size → (ss : Steps) → Loaded c ss (d + 1) q.regs q.y x
-        → EndsAt setting 300 (start q) (gives v (on_state (λ y. set_at (Some b) v y) q.z)) (run setting s d m size k n (ss ++ (store d (d + 1) 0 ∷ [])) q.regs q.y)
+        → EndsAt setting form_credit (start q) (gives v (on_state (λ y. set_at (Some b) v y) q.z)) (run setting s d m size k n (ss ++ (store d (d + 1) 0 ∷ [])) q.regs q.y)
     set_box b x box clean low there ss l =
         let within = l.within in
         let cost : ℕ = l.cost + 8 in
@@ -145,7 +145,7 @@ module _ (setting : Setting) (placed : IsPlaced setting) (s : FormScope) (d m si
           };
           back = back;
         } in
-        subst (λ o. EndsAt setting 300 (start q) (gives v (on_state (λ y. set_at (Some b) v y) q.z)) o) (sym same)
+        subst (λ o. EndsAt setting form_credit (start q) (gives v (on_state (λ y. set_at (Some b) v y) q.z)) o) (sym same)
         (given_where (start q) reached v word (omega arith) (register_beside q.regs (d + 1) d (Some x) (λ e. omega (arith, e)) ∙ here) is)
 
   -- a clean point first
@@ -155,7 +155,7 @@ module _ (setting : Setting) (placed : IsPlaced setting) (s : FormScope) (d m si
   abbrev Sets : VariablePlace → Type 0
   Sets p =
       (q : Point setting s d m size) (v : Value) (word : ℕ) → register d q.regs ≡ Some word → word_of q.w.places v ≡ Some word
-      → EndsAt setting 300 (start q) (gives v (set_to p v q.env q.z)) (run setting s d m size k n (variable_from s.code d (d + 1) p) q.regs q.y)
+      → EndsAt setting form_credit (start q) (gives v (set_to p v q.env q.z)) (run setting s d m size k n (variable_from s.code d (d + 1) p) q.regs q.y)
 
   slot_box :
       (i : ℕ) → slice_get s.flat.homes i ≡ Some home.Boxed → enough_for (of_code (code_of (variable_from s.code d (d + 1) (SlotBox i)))) ≤ size → Sets (SlotBox i)
@@ -165,9 +165,9 @@ module _ (setting : Setting) (placed : IsPlaced setting) (s : FormScope) (d m si
       let box = box_there setting q.begins.call.things has.0 at.2.0 at.2.2 in
       let r = reached_clean setting (start q) in
       let there : d + 1 < size = named at.0 at.1 in
-      behind setting {c1 = 0} {c2 = 300} (start q) d (omega arith) r (omega arith) (omega arith)
-      (subst (λ o. EndsAt setting 300 (start (cleaned_point q)) (gives v (set_to (SlotBox i) v q.env q.z)) (run setting s d m size k n (slot_into (d + 1) o ++ (store d (d + 1) 0 ∷ [])) q.regs q.y)) (sym at.1)
-      (subst (λ o. EndsAt setting 300 (start (cleaned_point q)) (gives v (on_state (λ y. set_at (box_held o) v y) q.z)) (run setting s d m size k n (slot_into (d + 1) (Some at.0) ++ (store d (d + 1) 0 ∷ [])) q.regs q.y))
+      behind setting {c1 = 0} {c2 = form_credit} (start q) d (omega arith) r (omega arith) (omega arith)
+      (subst (λ o. EndsAt setting form_credit (start (cleaned_point q)) (gives v (set_to (SlotBox i) v q.env q.z)) (run setting s d m size k n (slot_into (d + 1) o ++ (store d (d + 1) 0 ∷ [])) q.regs q.y)) (sym at.1)
+      (subst (λ o. EndsAt setting form_credit (start (cleaned_point q)) (gives v (on_state (λ y. set_at (box_held o) v y) q.z)) (run setting s d m size k n (slot_into (d + 1) (Some at.0) ++ (store d (d + 1) 0 ∷ [])) q.regs q.y))
       (sym has.1)
       (set_box (cleaned_point q) v word here is has.0 at.2.0 (r.kept.world.later.boxes has.0 at.2.0 at.2.2) (is_clean setting q.begins.call.things) box.low there (move (d + 1) at.0 ∷ [])
       (record { cost = 6; within = omega arith; run = and_then (move_falls at.2.1) none_left }))))
@@ -193,7 +193,7 @@ module _ (setting : Setting) (placed : IsPlaced setting) (s : FormScope) (d m si
 
       by :
           (o : Option ℕ) → slice_get q.env.captured i ≡ Some (of_box o)
-          → EndsAt setting 300 (start q) (gives v (set_to (CapturedBox i) v q.env q.z)) (run setting s d m size k n (variable_from s.code d (d + 1) (CapturedBox i)) q.regs q.y)
+          → EndsAt setting form_credit (start q) (gives v (set_to (CapturedBox i) v q.env q.z)) (run setting s d m size k n (variable_from s.code d (d + 1) (CapturedBox i)) q.regs q.y)
       by None at =
           absurd (part_there setting q.begins.call.things (known q) (register s.code.function q.regs) q.env.captured q.begins.activation.self i (of_box None) at).at.is
       by (Some b) at =
@@ -201,8 +201,8 @@ module _ (setting : Setting) (placed : IsPlaced setting) (s : FormScope) (d m si
           let box = box_there setting q.begins.call.things b part.at.word part.at.is in
           let r = reached_clean setting (start q) in
           let own = q.begins.scope.self.0 in
-          behind setting {c1 = 0} {c2 = 300} (start q) d (omega arith) r (omega arith) (omega arith)
-          (subst (λ o. EndsAt setting 300 (start (cleaned_point q)) (gives v (on_state (λ y. set_at (box_in o) v y) q.z))
+          behind setting {c1 = 0} {c2 = form_credit} (start q) d (omega arith) r (omega arith) (omega arith)
+          (subst (λ o. EndsAt setting form_credit (start (cleaned_point q)) (gives v (on_state (λ y. set_at (box_in o) v y) q.z))
           (run setting s d m size k n (captured_into s.code (d + 1) i ++ (store d (d + 1) 0 ∷ [])) q.regs q.y))
           (sym at)
           (set_box (cleaned_point q) v word here is b part.at.word (r.kept.world.later.boxes b part.at.word part.at.is) (is_clean setting q.begins.call.things) box.low there
@@ -238,11 +238,11 @@ module _ (setting : Setting) (placed : IsPlaced setting) (s : FormScope) (d m si
         count = q.count;
       } in
       let behind_steps : Steps = variable_from s.code d (d + 1) p in
-      ends_charged setting {c1 = 300} (start q) 1 (omega arith)
-      (subst (λ o. EndsAt setting 300 a (mean (context_at setting k) (set_local p f) q.env q.around q.z) o)
+      ends_sparing setting {c1 = form_credit} (start q) 1 (omega arith) (omega arith)
+      (subst (λ o. EndsAt setting form_credit a (mean (context_at setting k) (set_local p f) q.env q.around q.z) o)
       (sym (in_two_parts c (value_steps setting s d m size k n f) behind_steps q.regs q.y))
-      (two setting {c1 = 0} {c2 = 300} a d (λ v z. gives v (set_to p v q.env z)) (λ g y. run setting s d m size k n behind_steps g y) (omega arith) (omega arith)
-      (form_grows setting k f q.env q.around (charged 1 q.z)).units (here b) (λ v z. set_grows p v q.env z) (λ g y. code_grows setting s d m size k n behind_steps g y)
+      (two setting {c1 = 0} {c2 = form_credit} a d (λ v z. gives v (set_to p v q.env z)) (λ g y. run setting s d m size k n behind_steps g y) (omega arith) (omega arith)
+      (form_grows setting k f q.env q.around (charged 1 q.z)).units (ends_spared setting (start b) (here b)) (λ v z. set_grows p v q.env z) (λ g y. code_grows setting s d m size k n behind_steps g y)
       (λ x. sets p stands settable known fits (point_after setting s d m size n b x.reached) x.result x.word x.in_register x.of_value)))
 
 pub setting_law : LawOfSetting

@@ -28,11 +28,12 @@ use Rattle.back_relation.specs.Setting.{Setting}
 use Rattle.back_relation.specs.Worlds.{World, on_heap, BoxIs}
 use Rattle.back_relation.specs.Things.{Things}
 use Rattle.back_relation.specs.Activation.{FormScope, SlotIs}
+use Rattle.back_relation.specs.Ends.{form_credit}
 use Rattle.back_relation.specs.Forms.{code_at}
 use Rattle.back_combining.specs.Points.{Point, start_at, run, Here}
 use Rattle.back_combining.specs.Starts.{Start, EndsAt}
 use Rattle.back_combining.proofs.Leaves.{box_low}
-use Rattle.back_combining.proofs.Starts.{start_charged, ends_charged, gives_run}
+use Rattle.back_combining.proofs.Starts.{start_charged, ends_sparing, gives_run}
 use Rattle.back_values.specs.Variables.{CapturedByFunctions, KnownPlace, LawOfVariables}
 use Rattle.back_values.proofs.Far.{Loaded, load_far_runs, charged_twice}
 use Rattle.back_values.proofs.CapturedWords.{PartThere, of_kind, is_value, is_box, part_there}
@@ -88,10 +89,10 @@ module _ (setting : Setting) (s : FormScope) (d m size k n : ℕ) where
 
   abbrev Reads : VariablePlace → Type 0
   Reads p = (q : Point setting s d m size) → CapturedByFunctions q.z
-      → EndsAt setting 300 (start_charged setting (start q) 1) (gives (value_of p q.env q.z) (charged 1 q.z)) (run setting s d m size k n (variable_into s.code d p) q.regs q.y)
+      → EndsAt setting form_credit (start_charged setting (start q) 1) (gives (value_of p q.env q.z) (charged 1 q.z)) (run setting s d m size k n (variable_into s.code d p) q.regs q.y)
 
   abbrev ReadsPlain : VariablePlace → Type 0
-  ReadsPlain p = (q : Point setting s d m size) → EndsAt setting 300 (start_charged setting (start q) 1) (gives (value_of p q.env q.z) (charged 1 q.z)) (run setting s d m size k n (variable_into s.code d p) q.regs q.y)
+  ReadsPlain p = (q : Point setting s d m size) → EndsAt setting form_credit (start_charged setting (start q) 1) (gives (value_of p q.env q.z) (charged 1 q.z)) (run setting s d m size k n (variable_into s.code d p) q.regs q.y)
 
   -- the register of a slot
   pub slot_there :
@@ -109,11 +110,11 @@ module _ (setting : Setting) (s : FormScope) (d m size k n : ℕ) where
   reads_slot i stands q =
       let has = q.begins.activation.homes i home.Slot stands in
       let there = slot_there q i (holds has.0) has.1 in
-      subst (λ o. EndsAt setting 300 (start_charged setting (start q) 1) (gives (value_of (Slot i) q.env q.z) (charged 1 q.z)) (run setting s d m size k n (slot_into d o) q.regs q.y))
+      subst (λ o. EndsAt setting form_credit (start_charged setting (start q) 1) (gives (value_of (Slot i) q.env q.z) (charged 1 q.z)) (run setting s d m size k n (slot_into d o) q.regs q.y))
       (sym there.1)
-      (subst (λ v. EndsAt setting 300 (start_charged setting (start q) 1) (gives v (charged 1 q.z)) (run setting s d m size k n (slot_into d (Some there.0)) q.regs q.y))
+      (subst (λ v. EndsAt setting form_credit (start_charged setting (start q) 1) (gives v (charged 1 q.z)) (run setting s d m size k n (slot_into d (Some there.0)) q.regs q.y))
       (sym (ap value_held has.1))
-      (gives_loaded {credit = 300} (start_charged setting (start q) 1) (code_at setting k n) (move d there.0 ∷ []) has.0 there.2.0 (omega arith)
+      (gives_loaded {credit = form_credit} (start_charged setting (start q) 1) (code_at setting k n) (move d there.0 ∷ []) has.0 there.2.0 (omega arith)
       (slot_loaded (code_at setting k n) there.0 there.2.0 q.regs q.y there.2.1) there.2.2))
 
   reads_slot_box : (i : ℕ) → slice_get s.flat.homes i ≡ Some home.Boxed → ReadsPlain (SlotBox i)
@@ -121,13 +122,13 @@ module _ (setting : Setting) (s : FormScope) (d m size k n : ℕ) where
       let has = q.begins.activation.homes i home.Boxed stands in
       let there = slot_there q i (holds_box has.0) has.1 in
       let box = box_there setting q.begins.call.things has.0 there.2.0 there.2.2 in
-      subst (λ o. EndsAt setting 300 (start_charged setting (start q) 1) (gives (value_of (SlotBox i) q.env q.z) (charged 1 q.z))
+      subst (λ o. EndsAt setting form_credit (start_charged setting (start q) 1) (gives (value_of (SlotBox i) q.env q.z) (charged 1 q.z))
       (run setting s d m size k n (slot_into d o ++ (load d d 0 ∷ [])) q.regs q.y))
       (sym there.1)
-      (subst (λ v. EndsAt setting 300 (start_charged setting (start q) 1) (gives v (charged 1 q.z))
+      (subst (λ v. EndsAt setting form_credit (start_charged setting (start q) 1) (gives v (charged 1 q.z))
       (run setting s d m size k n (slot_into d (Some there.0) ++ (load d d 0 ∷ [])) q.regs q.y))
       (sym (ap (λ o. value_at (box_held o) q.z.state) has.1))
-      (gives_at {credit = 300} (start_charged setting (start q) 1) (code_at setting k n) (move d there.0 ∷ []) there.2.0 (value_at (Some has.0) q.z.state) (omega arith) box.low
+      (gives_at {credit = form_credit} (start_charged setting (start q) 1) (code_at setting k n) (move d there.0 ∷ []) there.2.0 (value_at (Some has.0) q.z.state) (omega arith) box.low
       (slot_loaded (code_at setting k n) there.0 there.2.0 q.regs q.y there.2.1) box.value))
 
   -- a captured part is loaded
@@ -145,9 +146,9 @@ module _ (setting : Setting) (s : FormScope) (d m size k n : ℕ) where
       let v = is_value c.0 c.2 in
       let found : slice_get q.env.captured i ≡ Some (of_value v.0) = c.1 ∙ ap (λ x. Some x) v.1 in
       let there = part_there setting q.begins.call.things functions (register s.code.function q.regs) q.env.captured q.begins.activation.self i (of_value v.0) found in
-      subst (λ u. EndsAt setting 300 (start_charged setting (start q) 1) (gives u (charged 1 q.z)) (run setting s d m size k n (captured_into s.code d i) q.regs q.y))
+      subst (λ u. EndsAt setting form_credit (start_charged setting (start q) 1) (gives u (charged 1 q.z)) (run setting s d m size k n (captured_into s.code d i) q.regs q.y))
       (sym (ap value_in found))
-      (gives_loaded {credit = 300} (start_charged setting (start q) 1) (code_at setting k n) (captured_into s.code d i) v.0 there.at.word (omega arith) (part_loaded q (of_value v.0) i there)
+      (gives_loaded {credit = form_credit} (start_charged setting (start q) 1) (code_at setting k n) (captured_into s.code d i) v.0 there.at.word (omega arith) (part_loaded q (of_value v.0) i there)
       there.at.is)
 
   reads_captured_box : (i : ℕ) → slice_get s.flat.captured i ≡ Some kind.Boxed → Reads (CapturedBox i)
@@ -157,21 +158,21 @@ module _ (setting : Setting) (s : FormScope) (d m size k n : ℕ) where
     where
       by :
           (o : Option ℕ) → slice_get q.env.captured i ≡ Some (of_box o)
-          → EndsAt setting 300 (start_charged setting (start q) 1) (gives (value_of (CapturedBox i) q.env q.z) (charged 1 q.z))
+          → EndsAt setting form_credit (start_charged setting (start q) 1) (gives (value_of (CapturedBox i) q.env q.z) (charged 1 q.z))
           (run setting s d m size k n (captured_into s.code d i ++ (load d d 0 ∷ [])) q.regs q.y)
       by None found =
           absurd (part_there setting q.begins.call.things functions (register s.code.function q.regs) q.env.captured q.begins.activation.self i (of_box None) found).at.is
       by (Some b) found =
           let there = part_there setting q.begins.call.things functions (register s.code.function q.regs) q.env.captured q.begins.activation.self i (of_box (Some b)) found in
           let box = box_there setting q.begins.call.things b there.at.word there.at.is in
-          subst (λ u. EndsAt setting 300 (start_charged setting (start q) 1) (gives u (charged 1 q.z))
+          subst (λ u. EndsAt setting form_credit (start_charged setting (start q) 1) (gives u (charged 1 q.z))
           (run setting s d m size k n (captured_into s.code d i ++ (load d d 0 ∷ [])) q.regs q.y))
           (sym (ap (λ o. value_at (box_in o) q.z.state) found))
-          (gives_at {credit = 300} (start_charged setting (start q) 1) (code_at setting k n) (captured_into s.code d i) there.at.word (value_at (Some b) q.z.state) (omega arith) box.low
+          (gives_at {credit = form_credit} (start_charged setting (start q) 1) (code_at setting k n) (captured_into s.code d i) there.at.word (value_at (Some b) q.z.state) (omega arith) box.low
           (part_loaded q (of_box (Some b)) i there) box.value)
 
   reads : (p : VariablePlace) → VariableStands s.flat p → KnownPlace setting s d m size p → (q : Point setting s d m size)
-      → EndsAt setting 300 (start_charged setting (start q) 1) (gives (value_of p q.env q.z) (charged 1 q.z)) (run setting s d m size k n (variable_into s.code d p) q.regs q.y)
+      → EndsAt setting form_credit (start_charged setting (start q) 1) (gives (value_of p q.env q.z) (charged 1 q.z)) (run setting s d m size k n (variable_into s.code d p) q.regs q.y)
   reads (Slot i) stands known q = reads_slot i stands q
   reads (SlotBox i) stands known q = reads_slot_box i stands q
   reads (CapturedValue i) stands known q = reads_captured i stands q (known q)
@@ -180,7 +181,7 @@ module _ (setting : Setting) (s : FormScope) (d m size k n : ℕ) where
   -- **variables**
   pub variable_here : (p : VariablePlace) → VariableStands s.flat p → KnownPlace setting s d m size p → Here setting s d m size k n (local p)
   unfolding mean lower
-  variable_here p stands known q = ends_charged setting {c1 = 300} (start q) 1 (omega arith) (reads p stands known q)
+  variable_here p stands known q = ends_sparing setting {c1 = form_credit} (start q) 1 (omega arith) (omega arith) (reads p stands known q)
 
 pub variables_law : LawOfVariables
 variables_law setting s d m size k turns p stands known = variable_here setting s d m size k turns p stands known
