@@ -1,69 +1,49 @@
 -- A function is entered at its body, where there is a level and the words of its application.
-use Rattle.std.proofs.Common.{◌≡◌, ℕ, zero, suc, ◌+◌, ◌*◌, Bool, true, List, [], ◌∷◌, ◌++◌, length, Some, None, refl, sym, ap, ◌∙◌, subst, arith}
-use Rattle.std.specs.Prelude.{pos, slice_get, is_some, option_to_list, if◌then◌else◌}
+use Rattle.std.proofs.Common.{◌≡◌, ℕ, zero, suc, ◌+◌, ◌*◌, ◌≤◌, Bool, true, List, [], ◌++◌, length, None, refl, sym, ap, ◌∙◌, subst, arith}
+use Rattle.std.specs.Prelude.{slice_get, is_some, option_to_list, if◌then◌else◌}
 use Rattle.std.proofs.lemmas.Bool.{eq-eqb}
 use Rattle.std.proofs.lemmas.List.{append-nil}
 use Rattle.lang_meaning.specs.Counts.{application_words}
 use Rattle.lang_meaning.specs.Objects.{program_error_class}
 use Rattle.lang_meaning.specs.Signals.{takes}
 use Rattle.lang_meaning.specs.State.{DynamicContext, Limit, words, unlimited, has_room}
-use Rattle.lang_meaning.specs.Values.{Value, integer, nil}
+use Rattle.lang_meaning.specs.Values.{Value}
 use Rattle.flat_language.specs.declared.program.FlatProcedure.{FlatProcedure}
-use Rattle.flat_language.specs.FlatMeaning.{flat_meaning_at}
 use Rattle.flat_language.specs.FlatNodes.{homes, nodes}
-use Rattle.flat_language.specs.FlatSignals.{FlatSignals, nothing as no_task, form, descend, enter, gathered, with_record, with_boxes}
-use Rattle.flat_language.specs.FlatState.{Captured, FlatEnvironment, no_environment, FlatState, FlatEvaluated, charged, gives, go_on, in_frame, in_own_frame, with_slots}
+use Rattle.flat_language.specs.FlatSignals.{FlatSignals, form, enter, gathered, with_record, with_boxes}
+use Rattle.flat_language.specs.FlatState.{Captured, no_environment, FlatState, FlatEvaluated, charged, in_frame, in_own_frame, with_slots}
 use Rattle.flat_laws.specs.FlatLater.{FlatLater}
 use Rattle.flat_laws.proofs.Applied.{boxes}
 use Rattle.flat_laws.proofs.Combined.{own_slots_left}
 use Rattle.flat_laws.proofs.Later.{later_kept}
-use Rattle.mid_code.specs.declared.operation.Counted.TheVariants.{Level}
-use Rattle.mid_code.specs.Costs.{return_cost, entry_cost}
 use Rattle.mid_code.specs.Law.{Grown}
-use Rattle.mid_code.specs.Meaning.{enter as mid_enter, count, exec}
-use Rattle.mid_code.specs.MidCode.{return_word, code_of}
-use Rattle.mid_code.specs.State.{first_registers, MidState}
+use Rattle.mid_code.specs.Meaning.{enter as mid_enter, count}
+use Rattle.mid_code.specs.State.{MidState}
 use Rattle.mid_code.specs.State.{charged as mid_charged}
 use Rattle.mid_code.proofs.Growth.{both_grown, charged_grown, with_some_grown, count_grown, levels_grow, turns_grow}
 use Rattle.mid_arena.specs.Places.{WordsOf}
-use Rattle.mid_arena.proofs.WordFacts.{low_word_of_word}
-use Rattle.mid_arena.proofs.Running.{and_then, constant_falls}
 use Rattle.back_lowering.specs.Placement.{body_of_procedure}
-use Rattle.back_lowering.specs.Program.{Extra, nothing, its_method, itself, procedure_with, body_of}
-use Rattle.back_lowering.specs.RoutineCodes.{level_code}
-use Rattle.back_lowering.specs.Routines.{level_routine}
+use Rattle.back_lowering.specs.Program.{Extra, nothing, its_method, itself, body_of}
 use Rattle.back_lowering.specs.Sites.{asks_site}
-use Rattle.back_lowering.specs.Steps.{constant}
 use Rattle.back_relation.specs.Setting.{Setting}
 use Rattle.back_relation.specs.Room.{routine_words, words_for_handler}
 use Rattle.back_relation.specs.Things.{Things}
 use Rattle.back_relation.specs.Worlds.{World, Standing}
 use Rattle.back_relation.specs.Around.{RoomFor, CallBegins, SiteStored}
-use Rattle.back_relation.specs.Ends.{CallEnds}
+use Rattle.back_relation.specs.Ends.{SparingCall}
 use Rattle.back_relation.specs.Forms.{below_at, context_at, code_at}
 use Rattle.back_relation.specs.Procedures.{called, mean_inside, body_words, body_credit, ExtraGiven, BodyBegins}
 use Rattle.back_combining.proofs.Growth.{same_flat}
 use Rattle.back_combining.proofs.Straight.{things_units, world_cost, around_cost}
-use Rattle.back_calling.specs.Entering.{Inside}
-use Rattle.back_calling.proofs.Entered.{entered_levels_law, no_level_ends}
+use Rattle.back_calling.proofs.Entered.{no_level_at}
 use Rattle.back_calling.proofs.Growing.{tasks_below}
-use Rattle.back_calling.proofs.Inner.{going_on_law, returns_law}
-use Rattle.back_calling.proofs.Numbers.{numbers_law}
-use Rattle.back_applications.specs.Applying.{LawOfApplyingBodies, LawOfLevelsThere}
-use Rattle.back_applications.proofs.Charging.{asked, things_charged, around_charged, calls_charged, framed_ends, within_asked}
+use Rattle.back_calling.proofs.Inner.{going_on_law}
+use Rattle.back_calling.proofs.Units.{calls_recounted}
+use Rattle.back_applications.specs.Applying.{LawOfApplyingBodies}
+use Rattle.back_applications.proofs.Charging.{asked, things_charged, around_charged, framed_ends, within_asked}
+use Rattle.back_applications.proofs.Levels.{level_there}
 
 module _ (setting : Setting) where
-  -- ---- levels
-
-  level_gives : (j : ℕ) (env : FlatEnvironment) (around : DynamicContext) (z : FlatState) → below_at setting (suc j) no_task env around z ≡ gives nil z
-  unfolding flat_meaning_at
-  level_gives zero env around z = refl
-  level_gives (suc j) env around z = refl
-
-  -- where there is a level, what comes behind it
-  pub level_there : (j : ℕ) (next : FlatState → FlatEvaluated) (around : DynamicContext) (z : FlatState) → descend (below_at setting (suc j)) next around z ≡ next z
-  level_there j next around z = ap (λ s. go_on s (λ v after. next after)) (level_gives j no_environment around z)
-
   pub called_grows : (k turns number : ℕ) (ws : List ℕ) (y : MidState) → Grown y (called (code_at setting k turns) number ws y).state
   called_grows k turns number ws y =
       with_some_grown (slice_get setting.procedures number) (λ p rs x. count (code_at setting k turns) p.counted (mid_enter p ws) x) [] y
@@ -79,6 +59,10 @@ module _ (setting : Setting) where
 
     abbrev inner : FlatState → FlatEvaluated
     inner entered = mean_inside (context_at setting (suc j)) q cs None vs around (charged (length vs) entered)
+
+    -- where the body begins
+    abbrev at_body : FlatState → FlatState
+    at_body z = charged (length vs) (asked size z)
 
     inside_later : (x : FlatState) → FlatLater x (mean_inside (context_at setting (suc j)) q cs None vs around x).state
     inside_later x =
@@ -117,11 +101,11 @@ module _ (setting : Setting) where
     extra_charged w z z' y given itself e g = rw e g
 
     begun :
-        {rs valid : List Standing} {w : World} {z : FlatState} {y : MidState} {ws given : List ℕ} → has_room setting.limit (z.state.heap + z.state.stack + 0 + size) ≡ true → q.rest ≡ None
+        {rs valid : List Standing} {w : World} {z : FlatState} {y : MidState} {ws given : List ℕ} → has_room setting.limit (z.state.heap + z.state.stack + 0 + size) ≡ true → q.rest ≡ None → routine_words ≤ n
         → length vs ≡ length q.required → CallBegins setting rs valid n w around z y → WordsOf w.places vs ws → ExtraGiven setting w z y extra q cs None given
         → (asks_site q.body ≡ true → SiteStored setting around y)
         → BodyBegins setting rs valid extra q cs None vs ws given w around (charged (length vs) (asked size z)) y
-    begun {w = w} {z = z} {y = y} {given = given} room none same b variables extras site = record {
+    begun {w = w} {z = z} {y = y} {given = given} room none reserve same b variables extras site = record {
       call = record {
         things = things_units setting (length vs) (things_charged setting (asked size z) b.things refl refl refl refl refl (within_asked setting size z room));
         around_stands = around_charged setting (charged (length vs) (asked size z)) refl b.around_stands;
@@ -134,58 +118,30 @@ module _ (setting : Setting) where
     }
       where
         room_by : (l : Limit) → RoomFor l (n + words_for_handler * length around.handlers) z.state y
-            → RoomFor l (body_words q + words_for_handler * length around.handlers) (charged (length vs) (asked size z)).state y
+            → RoomFor l (body_words q + routine_words + words_for_handler * length around.handlers) (charged (length vs) (asked size z)).state y
         room_by unlimited h = tt
-        room_by (words k) h = omega (arith, h, same, homes_count none)
+        room_by (words k) h = omega (arith, h, same, homes_count none, reserve)
 
   pub applying_bodies_law : LawOfApplyingBodies setting
-  applying_bodies_law zero turns m n entry paid credit extra q wrong cs vs ws given rs valid w around z y found function fits none same fewer enough does b things variables extras site =
-      no_level_ends setting turns (body_of_procedure setting.at entry) m (body_of setting.names setting.at setting.program extra q) (ws ++ given) w z y (mid_charged paid y) _ found refl refl
+  applying_bodies_law zero turns m n entry paid credit extra q wrong cs vs ws given rs valid w around z y found function fits none same fewer enough does reserve b things variables extras site =
+      no_level_at setting turns (body_of_procedure setting.at entry) m (body_of setting.names setting.at setting.program extra q) (ws ++ given) w z y (mid_charged paid y) (charged 1 z) _ found refl refl
       (same_flat z) b.things
-  applying_bodies_law (suc j) turns m n entry paid credit extra q wrong cs vs ws given rs valid w around z y found function fits none same fewer enough does b things variables extras site =
+  applying_bodies_law (suc j) turns m n entry paid credit extra q wrong cs vs ws given rs valid w around z y found function fits none same fewer enough does reserve b things variables extras site =
       subst
-      (λ r. CallEnds setting credit m rs valid w around z y r (called (code_at setting (suc j) turns) (body_of_procedure setting.at entry) (ws ++ given) (mid_charged paid y)))
-      (sym (level_there j (λ entered. enter (context_at setting (suc j)) wrong q cs None vs around entered) around z ∙ entered_is j m n entry extra q cs vs around wrong z none same))
-      (framed_ends setting (size j m n entry extra q cs vs around) (inner j m n entry extra q cs vs around) things.represents.printed
+      (λ r. SparingCall setting credit m rs valid w around z y r (called (code_at setting (suc j) turns) (body_of_procedure setting.at entry) (ws ++ given) (mid_charged paid y)))
+      (sym (level_there setting j (λ entered. enter (context_at setting (suc j)) wrong q cs None vs around entered) around z ∙ entered_is j m n entry extra q cs vs around wrong z none same))
+      (framed_ends setting 1 (size j m n entry extra q cs vs around) (inner j m n entry extra q cs vs around) things.represents.printed
       (both_grown (charged_grown paid y) (called_grows (suc j) turns (body_of_procedure setting.at entry) (ws ++ given) (mid_charged paid y)))
       (λ room. (
-        (inside_later j m n entry extra q cs vs around (charged (length vs) (asked (size j m n entry extra q cs vs around) z))).stack,
-        calls_charged setting (length vs) enough
-            (going_on_law setting paid (body_credit q) (body_credit q + paid) setting.turns_each m rs valid w w around (charged (length vs) (asked (size j m n entry extra q cs vs around) z))
-            (charged (length vs) (asked (size j m n entry extra q cs vs around) z)) y (mid_charged paid y) _ _ (world_cost setting paid (things_there room))
-            (around_cost setting (charged (length vs) (asked (size j m n entry extra q cs vs around) z)) y paid (omega arith)) (omega arith) (omega (arith, fewer)) refl
-            (does j refl rs valid turns cs None vs ws given w around (charged (length vs) (asked (size j m n entry extra q cs vs around) z)) (mid_charged paid y) function fits
-            (begun j m n entry extra q cs vs around room none same b variables extras site))),
+        (inside_later j m n entry extra q cs vs around (at_body j m n entry extra q cs vs around z)).stack,
+        calls_recounted setting {c1 = body_credit q + paid} {m1 = setting.turns_each} (asked (size j m n entry extra q cs vs around) z) ((at_body j m n entry extra q cs vs around z).state.units + 1) (z.state.units + 1) (omega (arith, enough)) (omega (arith, fewer))
+            (going_on_law setting paid (body_credit q) (body_credit q + paid) setting.turns_each setting.turns_each rs valid w w around (charged 1 (at_body j m n entry extra q cs vs around z)) (charged 1 (at_body j m n entry extra q cs vs around z)) y (mid_charged paid y) _ _
+            (world_cost setting paid (things_units setting 1 (things_there room))) (around_cost setting (charged 1 (at_body j m n entry extra q cs vs around z)) y paid (omega arith)) (omega arith) (omega arith) refl
+            (does j refl rs valid turns cs None vs ws given w around (at_body j m n entry extra q cs vs around z) (mid_charged paid y) function fits
+            (begun j m n entry extra q cs vs around room none reserve same b variables extras site))),
       )))
     where
-      things_there : has_room setting.limit (z.state.heap + z.state.stack + 0 + size j m n entry extra q cs vs around) ≡ true
-          → Things setting w (charged (length vs) (asked (size j m n entry extra q cs vs around) z)) y
+      things_there : (room : has_room setting.limit (z.state.heap + z.state.stack + 0 + size j m n entry extra q cs vs around) ≡ true) → Things setting w (at_body j m n entry extra q cs vs around z) y
       things_there room =
           things_units setting (length vs)
           (things_charged setting (asked (size j m n entry extra q cs vs around) z) things refl refl refl refl refl (within_asked setting (size j m n entry extra q cs vs around) z room))
-
-  -- ---- the routine that does nothing
-
-  pub levels_there_law : LawOfLevelsThere setting
-  unfolding level_code
-  levels_there_law zero turns m rs valid w around z y placed b =
-      no_level_ends setting turns (level_routine setting.at) m (procedure_with Level 0 (level_code setting.at)) [] w z y y _ ((numbers_law setting).routine 15 _ placed refl) refl refl (same_flat z)
-      b.things
-  levels_there_law (suc j) turns m rs valid w around z y placed b =
-      subst (λ r. CallEnds setting 40 m rs valid w around z y r (called (code_at setting (suc j) turns) (level_routine setting.at) [] y))
-      (sym (level_there j (λ entered. gives (integer (pos 0)) entered) around z))
-      (entered_levels_law setting (suc j) turns (level_routine setting.at) m routine_words 0 20 (procedure_with Level 0 (level_code setting.at)) [] rs valid w around z y
-      (gives (integer (pos 0)) z) ((numbers_law setting).routine 15 _ placed refl) refl refl (omega arith) (same_flat z) b (λ e. absurd (cc e))
-      (λ i e y' here. level_returns i y' here))
-    where
-      level_returns :
-          (i : ℕ) (y' : MidState) → Inside setting rs valid 0 (entry_cost 0) w around z y y'
-          → CallEnds setting 20 m rs valid w around z y' (gives (integer (pos 0)) z)
-          (exec (code_at setting i setting.turns_each) (code_of (level_code setting.at)) (first_registers (procedure_with Level 0 (level_code setting.at)).registers []) y')
-      level_returns i y' here =
-          let c = code_at setting i setting.turns_each in
-          let run = and_then {c = c} {s = constant 0 0} {code = code_of (return_word 0 ∷ [])} {rs = None ∷ []} {z = y'} constant_falls (record { same = refl }) in
-          subst (λ q. CallEnds setting 20 m rs valid w around z y' (gives (integer (pos 0)) z) q) (sym run.same)
-          (going_on_law setting 6 return_cost 20 m m rs valid w w around z z y' (mid_charged 6 y') (gives (integer (pos 0)) z)
-          (exec c (code_of (return_word 0 ∷ [])) (Some 0 ∷ []) (mid_charged 6 y')) (world_cost setting 6 here.call.things) (around_cost setting z y' 6 (omega arith)) (omega arith) (omega arith) refl
-          (returns_law setting c return_cost m 0 0 [] rs valid w around z (mid_charged 6 y') (Some 0 ∷ []) (integer (pos 0)) (world_cost setting 6 here.call.things).things refl (ap (λ x. Some x) (low_word_of_word 0 (omega arith))) (omega arith)))

@@ -1,5 +1,5 @@
--- Units that are charged, and the words of an application: what a call comes to there is what it comes to before.
-use Rattle.std.proofs.Common.{◌≡◌, ℕ, ◌+◌, ◌*◌, ◌≤◌, Bool, true, false, List, refl, sym, subst, arith}
+-- The words of an application: what a call comes to there is what it comes to before.
+use Rattle.std.proofs.Common.{◌≡◌, ℕ, ◌+◌, ◌≤◌, Bool, true, false, List, refl, sym, subst, arith}
 use Rattle.std.specs.Prelude.{if◌then◌else◌}
 use Rattle.std.proofs.lemmas.Bool.Decides.{nat_tests}
 use Rattle.lang_meaning.specs.Prefixes.{IsPrefix}
@@ -72,61 +72,9 @@ module _ (setting : Setting) where
     end_record = t.end_record;
     end_valid = t.end_valid;
     end_word = t.end_word;
+    end_form = t.end_form;
+    tags_land = t.tags_land;
   }
-
-  -- ---- units
-
-  -- **units that were charged pay for what follows**
-  pub calls_charged :
-      {c1 c2 m : ℕ} {rs valid : List Standing} {w : World} {around : DynamicContext} {z : FlatState} {y : MidState} {r : FlatEvaluated} {q : MidOutcome} (u : ℕ) → c1 ≤ 300 * u + c2
-      → CallEnds setting c1 m rs valid w around (charged u z) y r q → CallEnds setting c2 m rs valid w around z y r q
-  calls_charged u enough (done x) =
-      let k = x.world in
-      let a = x.back in
-      done (record {
-        result = x.result;
-        outcome = x.outcome;
-        word = x.word;
-        end = x.end;
-        w' = x.w';
-        world = record { later = k.later; things = k.things; stack = k.stack; end = k.end; more_exits = k.more_exits; same_size = k.same_size };
-        back = record { control = a.control; blocks = a.blocks; charged = a.charged; paid = omega (arith, enough, a.paid) };
-        of_value = x.of_value;
-        frame = x.frame;
-      })
-  calls_charged u enough (left_by x) =
-      let t = x.transfer in
-      let k = t.world in
-      left_by (record {
-        transfer = record {
-          exit_number = t.exit_number;
-          result = t.result;
-          landing = t.landing;
-          outcome = t.outcome;
-          target = t.target;
-          valid_target = t.valid_target;
-          to = t.to;
-          outer = t.outer;
-          stop = t.stop;
-          word = t.word;
-          end = t.end;
-          blocks = t.blocks;
-          w' = t.w';
-          of_value = t.of_value;
-          world = record { later = k.later; things = k.things; stack = k.stack; end = k.end; more_exits = k.more_exits; same_size = k.same_size };
-          charged = t.charged;
-          paid = omega (arith, enough, t.paid);
-          pending = t.pending;
-          landing_word = t.landing_word;
-          landing_stands = t.landing_stands;
-          landing_is = t.landing_is;
-          lands = t.lands;
-        };
-        frame = x.frame;
-      })
-  calls_charged u enough (full_there x) = full_there x
-  calls_charged u enough (stopped x) = stopped x
-  calls_charged u enough (few_turns x) = few_turns (omega (arith, x))
 
   -- ---- words
 
@@ -196,20 +144,20 @@ module _ (setting : Setting) where
   stack_back z r size kept (stopped x) = stopped (record { because = x.because; printed = x.printed })
   stack_back z r size kept (few_turns x) = few_turns (omega (arith, x))
 
-  -- **an application in words of its own**
+  -- **an application in words of its own**, behind so many units
   pub framed_ends :
-      {credit m : ℕ} {rs valid : List Standing} {w : World} {around : DynamicContext} {z : FlatState} {y : MidState} {q : MidOutcome} (size : ℕ) (body : FlatState → FlatEvaluated)
+      {credit m : ℕ} {rs valid : List Standing} {w : World} {around : DynamicContext} {z : FlatState} {y : MidState} {q : MidOutcome} (u size : ℕ) (body : FlatState → FlatEvaluated)
       → y.printed ≡ z.state.printed → Grown y q.state
       → (has_room setting.limit (z.state.heap + z.state.stack + 0 + size) ≡ true
-      → ((body (asked size z)).state.state.stack ≡ z.state.stack + size) × CallEnds setting credit m rs valid w around (asked size z) y (body (asked size z)) q)
-      → CallEnds setting credit m rs valid w around z y (in_frame setting.limit size body z) q
-  framed_ends {credit} {m} {rs} {valid} {w} {around} {z} {y} {q} size body same grown h = by (has_room setting.limit (z.state.heap + z.state.stack + 0 + size)) refl
+      → ((body (asked size z)).state.state.stack ≡ z.state.stack + size) × CallEnds setting credit m rs valid w around (charged u (asked size z)) y (body (asked size z)) q)
+      → CallEnds setting credit m rs valid w around (charged u z) y (in_frame setting.limit size body z) q
+  framed_ends {credit} {m} {rs} {valid} {w} {around} {z} {y} {q} u size body same grown h = by (has_room setting.limit (z.state.heap + z.state.stack + 0 + size)) refl
     where
       by : (b : Bool) → has_room setting.limit (z.state.heap + z.state.stack + 0 + size) ≡ b
-          → CallEnds setting credit m rs valid w around z y
+          → CallEnds setting credit m rs valid w around (charged u z) y
           (if b then with_stack z.state.stack (body (asked size z))
           else record { outcome = full (0 + size) (room_left setting.limit (z.state.heap + z.state.stack)); state = z }) q
-      by true e = let inner = h e in stack_back z (body (asked size z)) size inner.0 inner.1
+      by true e = let inner = h e in stack_back (charged u z) (body (asked size z)) size inner.0 inner.1
       by false e =
           full_there (record {
             asked = 0 + size;

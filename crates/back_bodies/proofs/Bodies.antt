@@ -10,7 +10,7 @@ use Rattle.flat_language.specs.declared.program.FlatProcedure.{FlatProcedure}
 use Rattle.flat_language.specs.FlatMeaning.{mean}
 use Rattle.flat_language.specs.FlatNodes.{homes}
 use Rattle.flat_language.specs.FlatSignals.{form}
-use Rattle.flat_language.specs.FlatState.{FrameSlot, Captured, FlatEnvironment, no_environment, FlatState, FlatEvaluated, new_slots, new_boxes, with_values, with_slots, with_frame, in_own_frame, under}
+use Rattle.flat_language.specs.FlatState.{FrameSlot, Captured, FlatEnvironment, no_environment, FlatState, FlatEvaluated, charged, new_slots, new_boxes, with_values, with_slots, with_frame, in_own_frame, under}
 use Rattle.mid_code.specs.declared.program.MidProcedure.{MidProcedure}
 use Rattle.mid_code.specs.Arena.{word_in, word_at, stack_from}
 use Rattle.mid_code.specs.Costs.{entry_cost, return_cost}
@@ -34,11 +34,11 @@ use Rattle.back_lowering.specs.Scope.{registers_from}
 use Rattle.back_lowering.specs.Sites.{asks_site}
 use Rattle.back_lowering.specs.Steps.{Steps, load_from}
 use Rattle.back_relation.specs.Setting.{Setting}
-use Rattle.back_relation.specs.Room.{words_for, words_for_handler}
+use Rattle.back_relation.specs.Room.{routine_words, words_for, words_for_handler}
 use Rattle.back_relation.specs.Worlds.{World, Later, Standing}
 use Rattle.back_relation.specs.Around.{CallBegins}
 use Rattle.back_relation.specs.Activation.{IsOwn, ScopeStands, SiteHeld}
-use Rattle.back_relation.specs.Ends.{WorldKept, Around, full_there, stopped, CallEnds}
+use Rattle.back_relation.specs.Ends.{WorldKept, Around, full_there, stopped, CallEnds, form_credit}
 use Rattle.back_relation.specs.Forms.{Begins, DoesForm, below_at, context_at, code_at}
 use Rattle.back_relation.specs.Procedures.{called, mean_inside, body_words, body_credit, IsFunction, CapturedFits, as_registers, BodyBegins}
 use Rattle.back_relation.specs.Right.{ProgramIsRight}
@@ -58,9 +58,10 @@ use Rattle.back_values.specs.Boxes.{SlotsIn, extended, BoxesMade}
 use Rattle.back_values.proofs.BoxesMade.{boxes_grow, steps_grow}
 use Rattle.back_values.proofs.Cleaning.{cleaned, is_clean, things_cleaned, stack_cleaned}
 use Rattle.back_calling.specs.Entering.{Inside, BodyComes}
-use Rattle.back_calling.proofs.Entered.{entered_levels_law}
+use Rattle.back_calling.proofs.Entered.{levels_entered}
 use Rattle.back_calling.proofs.Inner.{going_on_law}
 use Rattle.back_calling.proofs.Outward.{self_out}
+use Rattle.back_calling.proofs.Units.{begins_recounted, world_both, around_both}
 use Rattle.back_bodies.specs.Bodies.{LawOfBodies}
 use Rattle.back_bodies.proofs.Frames.{framed, world_framed, around_framed, form_returned, at_place, call_at_place, ends_at_place}
 use Rattle.back_bodies.proofs.Siteless.{means_at_all_sites}
@@ -166,20 +167,20 @@ module _ (setting : Setting) (k : ℕ) (extra : Extra) (q : FlatProcedure)
       → CallBegins setting rs valid inside w outside (framed (new_slots (homes q) vs count) z) y → SlotsIn w 0 (new_slots (homes q) vs count) regs
       → ExtraHeld setting extra q cs called_as w z regs y → SiteHeld setting regs (scope_of setting.names setting.at setting.program extra q).site place → d setting extra q < length regs
       → enough_for (of_code (code_of value)) ≤ length regs → ((x : FlatState) → mean (context_at setting k) q.body env outside x ≡ mean (context_at setting k) q.body env around x)
-      → CallEnds setting (0 + return_cost) setting.turns_each rs valid w outside z y
+      → CallEnds setting (form_credit + return_cost) setting.turns_each rs valid w outside (charged 1 z) y
       (with_frame z.frame (below_at setting (suc k) (form q.body) env outside (framed (new_slots (homes q) vs count) z)))
       (exec c (code_of (value ++ (return_word (d setting extra q) ∷ []))) regs y)
   form_ends {w = w} {z = z} {regs = regs} {y = y} vs count stands many call slots held site there enough same =
       ends_at_place setting place
       (subst
-      (λ r. CallEnds setting (0 + return_cost) setting.turns_each rs valid w around z y (with_frame z.frame r) (exec c (code_of (value ++ (return_word (d setting extra q) ∷ []))) regs y))
+      (λ r. CallEnds setting (form_credit + return_cost) setting.turns_each rs valid w around (charged 1 z) y (with_frame z.frame r) (exec c (code_of (value ++ (return_word (d setting extra q) ∷ []))) regs y))
       (sym (meaning_below setting k q.body env outside (framed (new_slots (homes q) vs count) z) ∙ same (framed (new_slots (homes q) vs count) z)))
       (subst
       (λ p.
-      CallEnds setting (0 + return_cost) setting.turns_each rs valid w around z y
+      CallEnds setting (form_credit + return_cost) setting.turns_each rs valid w around (charged 1 z) y
       (with_frame z.frame (mean (context_at setting k) q.body env around (framed (new_slots (homes q) vs count) z))) p)
       (sym (in_two_parts c value (return_word (d setting extra q) ∷ []) regs y))
-      (form_returned setting c (new_slots (homes q) vs count) (λ g x. steps_grow setting k setting.turns_each (return_word (d setting extra q) ∷ []) g x)
+      (form_returned setting {z = charged 1 z} c (new_slots (homes q) vs count) (λ g x. steps_grow setting k setting.turns_each (return_word (d setting extra q) ∷ []) g x)
       (does rs valid (body_scope setting extra q stands.kinds stands.forms stands.in_procedure) (d setting extra q) inside stands.first w env around
       (framed (new_slots (homes q) vs count) z) regs y stands.stands (form_begins vs count stands many (call_at_place setting place call) slots held site there) enough (omega arith)))))
 
@@ -434,16 +435,16 @@ module _ (setting : Setting) (right : ProgramIsRight setting) (k entry : ℕ) (e
       size2 = m.count ∙ site.count
 
       -- **the form, and its word returned**
-      made_ends : CallEnds setting body_paid setting.turns_each rs valid w around z y' (next z') (exec (code_at setting k setting.turns_each) (code_of last) regs' y2)
+      made_ends : CallEnds setting body_paid setting.turns_each rs valid w around (charged 1 z) y' (next z') (exec (code_at setting k setting.turns_each) (code_of last) regs' y2)
       made_ends =
-          going_on_law setting 14 (0 + return_cost) body_paid setting.turns_each setting.turns_each rs valid w w' around z zc y' y2 (next z')
-          (exec (code_at setting k setting.turns_each) (code_of last) regs' y2) whole_world whole_around (omega (arith, few_extras)) (let up = m.up in omega (arith, up)) m.frame
+          going_on_law setting 14 (form_credit + return_cost) body_paid setting.turns_each setting.turns_each rs valid w w' around (charged 1 z) (charged 1 zc) y' y2 (next z')
+          (exec (code_at setting k setting.turns_each) (code_of last) regs' y2) (world_both setting 1 whole_world) (around_both setting 1 whole_around) (omega (arith, few_extras)) (let up = m.up in omega (arith, up)) m.frame
           (form_ends setting k extra q does cs called_as rs valid around site.place vs (length z'.state.variables)
           (stands_later whole_world.later (body_stands setting right entry extra q cs w function fits)) b.variable_count call_there slots_there held_there
           (site.held regs' (ap word_in (others s (omega arith) (omega arith)))) (omega (arith, size2, enough_return)) (omega (arith, size2, enough_value)) site.same)
 
     -- all that comes behind the site
-    behind_ends : CallEnds setting body_paid setting.turns_each rs valid w around z y' (mean_inside (context_at setting (suc k)) q cs called_as vs around z)
+    behind_ends : CallEnds setting body_paid setting.turns_each rs valid w around (charged 1 z) y' (mean_inside (context_at setting (suc k)) q cs called_as vs around z)
         (exec (code_at setting k setting.turns_each) (code_of (boxes ++ last)) site.regs y1)
     behind_ends =
         by
@@ -455,49 +456,55 @@ module _ (setting : Setting) (right : ProgramIsRight setting) (k entry : ℕ) (e
         by :
             BoxesCome setting (homes q) vs 0 (d setting extra q) w1 z site.regs y1 next (λ g x. exec (code_at setting k setting.turns_each) (code_of last) g x)
             (mean_inside (context_at setting (suc k)) q cs called_as vs around z) (exec (code_at setting k setting.turns_each) (code_of (boxes ++ last)) site.regs y1)
-            → CallEnds setting body_paid setting.turns_each rs valid w around z y' (mean_inside (context_at setting (suc k)) q cs called_as vs around z)
+            → CallEnds setting body_paid setting.turns_each rs valid w around (charged 1 z) y' (mean_inside (context_at setting (suc k)) q cs called_as vs around z)
             (exec (code_at setting k setting.turns_each) (code_of (boxes ++ last)) site.regs y1)
         by (were_made w' z' regs' y2 m others e f) =
             subst
             (λ r.
-            CallEnds setting body_paid setting.turns_each rs valid w around z y' r
+            CallEnds setting body_paid setting.turns_each rs valid w around (charged 1 z) y' r
             (exec (code_at setting k setting.turns_each) (code_of (boxes ++ last)) site.regs y1))
             (sym e)
-            (subst (λ o. CallEnds setting body_paid setting.turns_each rs valid w around z y' (next z') o) (sym f) (made_ends w' z' regs' y2 m others))
+            (subst (λ o. CallEnds setting body_paid setting.turns_each rs valid w around (charged 1 z) y' (next z') o) (sym f) (made_ends w' z' regs' y2 m others))
         by (are_full x) = full_there x
         by (are_stopped x) = stopped x
 
+  -- where the body begins, before the unit that its form leaves something of
+  before_unit :
+      (y' : MidState) → Inside setting rs valid (words_for setting.names setting.program q.body) (entry_cost p.parameters) w around (charged 1 z) y y'
+      → Inside setting rs valid (words_for setting.names setting.program q.body) (entry_cost p.parameters) w around z y y'
+  before_unit y' i = record { call = begins_recounted setting z.state.units i.call; words = i.words; grows = i.grows; heap = i.heap; from = i.from; cost = i.cost }
+
   -- **the body**
   body_comes :
-      (y' : MidState) → Inside setting rs valid (words_for setting.names setting.program q.body) (entry_cost p.parameters) w around z y y'
-      → CallEnds setting body_paid setting.turns_each rs valid w around z y' (mean_inside (context_at setting (suc k)) q cs called_as vs around z)
+      (y' : MidState) → Inside setting rs valid (words_for setting.names setting.program q.body) (entry_cost p.parameters) w around (charged 1 z) y y'
+      → CallEnds setting body_paid setting.turns_each rs valid w around (charged 1 z) y' (mean_inside (context_at setting (suc k)) q cs called_as vs around z)
       (exec (code_at setting k setting.turns_each) (code_of p.body) regs0 y')
   body_comes y' i =
       let site = taken_by y' i.words (asks_site q.body) refl in
       let run = parts_then taken (boxes ++ last) site.runs (record { same = refl }) in
       subst
-      (λ o. CallEnds setting body_paid setting.turns_each rs valid w around z y' (mean_inside (context_at setting (suc k)) q cs called_as vs around z) o)
-      (sym run.same) (behind_ends y' i site)
+      (λ o. CallEnds setting body_paid setting.turns_each rs valid w around (charged 1 z) y' (mean_inside (context_at setting (suc k)) q cs called_as vs around z) o)
+      (sym run.same) (behind_ends y' (before_unit y' i) site)
 
   -- **the call of a body**
   called_ends :
-      (turns : ℕ) → CallEnds setting (body_credit q) setting.turns_each rs valid w around z y (mean_inside (context_at setting (suc k)) q cs called_as vs around z)
+      (turns : ℕ) → CallEnds setting (body_credit q) setting.turns_each rs valid w around (charged 1 z) y (mean_inside (context_at setting (suc k)) q cs called_as vs around z)
       (called (code_at setting (suc k) turns) (body_of_procedure setting.at entry) (ws ++ more) y)
   called_ends turns =
       let stands = body_stands setting right entry extra q cs w function fits in
       let sum : body_paid + entry_cost p.parameters ≡ body_credit q = omega (arith, few_extras) in
       subst
       (λ m.
-      CallEnds setting m setting.turns_each rs valid w around z y (mean_inside (context_at setting (suc k)) q cs called_as vs around z)
+      CallEnds setting m setting.turns_each rs valid w around (charged 1 z) y (mean_inside (context_at setting (suc k)) q cs called_as vs around z)
       (called (code_at setting (suc k) turns) (body_of_procedure setting.at entry) (ws ++ more) y))
       sum
-      (entered_levels_law setting (suc k) turns (body_of_procedure setting.at entry) setting.turns_each (body_words q) (words_for setting.names setting.program q.body) body_paid p (ws ++ more) rs
-      valid w around z y (mean_inside (context_at setting (suc k)) q cs called_as vs around z) stands.there refl all_count stands.paid grown b.call (λ e. absurd (cc e))
+      (levels_entered setting (suc k) turns (body_of_procedure setting.at entry) setting.turns_each (body_words q + routine_words) (words_for setting.names setting.program q.body) body_paid p (ws ++ more) rs
+      valid w around (charged 1 z) y (mean_inside (context_at setting (suc k)) q cs called_as vs around z) stands.there refl all_count stands.paid grown.printed (begins_recounted setting (z.state.units + 1) b.call) (λ e. absurd (cc e))
       (λ j e.
       let same : k ≡ j = omega (arith, e) in
       subst
       (λ l.
-      BodyComes setting (code_at setting l setting.turns_each) p body_paid setting.turns_each (words_for setting.names setting.program q.body) (ws ++ more) rs valid w around z y
+      BodyComes setting (code_at setting l setting.turns_each) p body_paid setting.turns_each (words_for setting.names setting.program q.body) (ws ++ more) rs valid w around (charged 1 z) y
       (mean_inside (context_at setting (suc k)) q cs called_as vs around z))
       same body_comes))
 

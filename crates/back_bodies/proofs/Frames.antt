@@ -172,6 +172,8 @@ module _ (setting : Setting) (p : Place) where
           end_record = t.end_record;
           end_valid = t.end_valid;
           end_word = t.end_word;
+          end_form = t.end_form;
+          tags_land = t.tags_land;
         };
         room = b.room;
       }

@@ -324,11 +324,11 @@ abbrev pub framed : MidProcedure → ℕ → MidProcedure
 framed p f = record p { frame = f }
 
 module _ (setting : Setting) (room inside credit m : ℕ) (p : MidProcedure) (ws : List ℕ) (rs valid : List Standing) (w : World) (around : DynamicContext) (z : FlatState) (y : MidState)
-    (r : FlatEvaluated) (f : ℕ) (within : f ≤ p.frame) (many : length ws ≡ p.parameters) (enough : p.frame + inside ≤ room) (grown : FlatGrown z r.state)
+    (r : FlatEvaluated) (f : ℕ) (within : f ≤ p.frame) (many : length ws ≡ p.parameters) (enough : p.frame + inside ≤ room) (grown : IsPrefix z.state.printed r.state.state.printed)
     (b : CallBegins setting rs valid room w around z y) where
   -- what was printed is a beginning of what the meaning prints
   printed_before : IsPrefix y.printed r.state.state.printed
-  printed_before = subst (λ ps. IsPrefix ps r.state.state.printed) (sym b.things.represents.printed) grown.printed
+  printed_before = subst (λ ps. IsPrefix ps r.state.state.printed) (sym b.things.represents.printed) grown
 
   procedure_ends : (c : Context) → BodyComes setting c p credit m inside ws rs valid w around z y r
       → CallEnds setting (credit + entry_cost p.parameters) m rs valid w around z y r (run_procedure c (framed p f) ws y)
@@ -349,11 +349,11 @@ module _ (setting : Setting) (room inside credit m : ℕ) (p : MidProcedure) (ws
 
   -- with a turn
   turn_ends :
-      (k n : ℕ) → m ≤ n + 50 → ((j : ℕ) → n ≡ suc j → BodyComes setting (code_at setting k j) p credit m inside ws rs valid w around z y r)
+      (k n : ℕ) → z.state.units ≤ r.state.state.units → m ≤ n + 50 → ((j : ℕ) → n ≡ suc j → BodyComes setting (code_at setting k j) p credit m inside ws rs valid w around z y r)
       → CallEnds setting (credit + entry_cost p.parameters) m rs valid w around z y r ((code_at setting k n).further (enter (framed p f) ws) y)
   unfolding turns
-  turn_ends k zero few body = few_turns (omega (arith, few, grown.units, some_words setting b.things))
-  turn_ends k (suc j) few body = procedure_ends (code_at setting k j) (body j refl)
+  turn_ends k zero up few body = few_turns (omega (arith, few, up, some_words setting b.things))
+  turn_ends k (suc j) up few body = procedure_ends (code_at setting k j) (body j refl)
 
   -- with a level
   level_ends :
@@ -430,13 +430,24 @@ module _ (setting : Setting) where
   turns_law k n number m room inside credit p ws rs valid w around z y r found counted many enough few grown b body =
       let u = used_at _ setting.procedures number p setting.frames found in
       subst (λ o. CallEnds setting (credit + entry_cost p.parameters) m rs valid w around z y r o) (sym (called_by k n number p ws y Turn counted u))
-      (turn_ends setting room inside credit m p ws rs valid w around z y r u.frame u.within many enough grown b k n few body)
+      (turn_ends setting room inside credit m p ws rs valid w around z y r u.frame u.within many enough grown.printed b k n grown.units few body)
 
-  pub entered_levels_law : LawOfEnteredLevels setting
-  entered_levels_law k n number m room inside credit p ws rs valid w around z y r found counted many enough grown b none body =
+  -- of the growth of the meaning only what is printed counts with a level
+  pub levels_entered :
+      (k turns number m room inside credit : ℕ) (p : MidProcedure) (ws : List ℕ) (rs valid : List Standing) (w : World) (around : DynamicContext) (z : FlatState) (y : MidState)
+      (r : FlatEvaluated)
+      → slice_get (lowered setting.names setting.at setting.program) number ≡ Some p → p.counted ≡ Level → length ws ≡ p.parameters → p.frame + inside ≤ room
+      → IsPrefix z.state.printed r.state.state.printed → CallBegins setting rs valid room w around z y → (k ≡ zero → r.outcome ≡ more)
+      → ((j : ℕ) → k ≡ suc j → BodyComes setting (code_at setting j setting.turns_each) p credit m inside ws rs valid w around z y r)
+      → CallEnds setting (credit + entry_cost p.parameters) m rs valid w around z y r (called (code_at setting k turns) number ws y)
+  levels_entered k n number m room inside credit p ws rs valid w around z y r found counted many enough grown b none body =
       let u = used_at _ setting.procedures number p setting.frames found in
       subst (λ o. CallEnds setting (credit + entry_cost p.parameters) m rs valid w around z y r o) (sym (called_by k n number p ws y Level counted u))
       (level_ends setting room inside credit m p ws rs valid w around z y r u.frame u.within many enough grown b k n none body)
+
+  pub entered_levels_law : LawOfEnteredLevels setting
+  entered_levels_law k n number m room inside credit p ws rs valid w around z y r found counted many enough grown b none body =
+      levels_entered k n number m room inside credit p ws rs valid w around z y r found counted many enough grown.printed b none body
 
   pub paid_turns_law : LawOfPaidTurns setting
   paid_turns_law k n number m credit p ws rs valid w around z y r found counted many few grown things stands wanting body =
@@ -458,13 +469,19 @@ module _ (setting : Setting) where
       let u = used_at _ setting.procedures number p setting.frames found in
       record { frame = u.frame; within = u.within; runs = called_by (suc j) turns number p ws y Level counted u }
 
-  -- where there is no level, nothing is said of the frame
+  -- where there is no level, nothing is said of the frame, nor of what units were charged
+  pub no_level_at :
+      {Done Left : Type 0} (turns number m : ℕ) (p : MidProcedure) (ws : List ℕ) (w : World) (z : FlatState) (before y : MidState) (counted_from : FlatState) (r : FlatEvaluated)
+      → slice_get (lowered setting.names setting.at setting.program) number ≡ Some p → p.counted ≡ Level → r.outcome ≡ more → FlatGrown z r.state → Things setting w z y
+      → Ends setting Done Left m counted_from before r (called (code_at setting zero turns) number ws y)
+  unfolding levels
+  no_level_at {Done} {Left} turns number m p ws w z before y counted_from r found counted none grown t =
+      let u = used_at _ setting.procedures number p setting.frames found in
+      subst (λ o. Ends setting Done Left m counted_from before r o) (sym (called_by zero turns number p ws y Level counted u))
+      (stopped (record { because = none; printed = subst (λ ps. IsPrefix ps r.state.state.printed) (sym t.represents.printed) grown.printed }))
+
   pub no_level_ends :
       {Done Left : Type 0} (turns number m : ℕ) (p : MidProcedure) (ws : List ℕ) (w : World) (z : FlatState) (before y : MidState) (r : FlatEvaluated)
       → slice_get (lowered setting.names setting.at setting.program) number ≡ Some p → p.counted ≡ Level → r.outcome ≡ more → FlatGrown z r.state → Things setting w z y
       → Ends setting Done Left m z before r (called (code_at setting zero turns) number ws y)
-  unfolding levels
-  no_level_ends {Done} {Left} turns number m p ws w z before y r found counted none grown t =
-      let u = used_at _ setting.procedures number p setting.frames found in
-      subst (λ o. Ends setting Done Left m z before r o) (sym (called_by zero turns number p ws y Level counted u))
-      (stopped (record { because = none; printed = subst (λ ps. IsPrefix ps r.state.state.printed) (sym t.represents.printed) grown.printed }))
+  no_level_ends turns number m p ws w z before y r found counted none grown t = no_level_at turns number m p ws w z before y z r found counted none grown t

@@ -5,6 +5,7 @@ pub mod Outward
 pub mod Growing
 pub mod Transferring
 pub mod Units
+pub mod Spared
 pub mod Formed
 pub mod Sited
 pub mod Entered

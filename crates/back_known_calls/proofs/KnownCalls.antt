@@ -4,6 +4,8 @@ use Rattle.std.specs.Prelude.{slice_get, slice_set, is_some, option_to_list, if�
 use Rattle.std.proofs.Math.ListN.{length-set}
 use Rattle.std.proofs.lemmas.Bool.{eq-eqb}
 use Rattle.std.proofs.lemmas.List.{append-nil}
+use Rattle.lang_meaning.specs.declared.program.Callee.TheVariants.{Procedure}
+use Rattle.lang_meaning.specs.declared.program.FunctionRow.{FunctionRow}
 use Rattle.lang_meaning.specs.Literals.{function_row}
 use Rattle.lang_meaning.specs.Lookup.{text}
 use Rattle.lang_meaning.specs.Signals.{takes}
@@ -43,6 +45,7 @@ use Rattle.back_lowering.specs.Sites.{asks_site}
 use Rattle.back_lowering.specs.Steps.{Steps, constant}
 use Rattle.back_lowering.specs.Steps as steps
 use Rattle.back_relation.specs.Setting.{Setting}
+use Rattle.back_relation.specs.Room.{routine_words, row_of, words_for_call, words_for_callee}
 use Rattle.back_relation.specs.Worlds.{World, Standing}
 use Rattle.back_relation.specs.Around.{SiteStored}
 use Rattle.back_relation.specs.Activation.{FormScope}
@@ -55,7 +58,7 @@ use Rattle.back_combining.specs.Starts.{Start, EndsAt, ReachedFrom}
 use Rattle.back_combining.proofs.Fitting.{registers_front, registers_behind}
 use Rattle.back_combining.proofs.Growth.{grown_later}
 use Rattle.back_combining.proofs.Parts.{single_step}
-use Rattle.back_combining.proofs.Starts.{start_after, start_charged, ends_charged, reached_set, reached_cost}
+use Rattle.back_combining.proofs.Starts.{start_after, start_charged, ends_sparing, reached_set, reached_cost}
 use Rattle.back_combining.proofs.Then.{ends_then}
 use Rattle.back_arguments.specs.Arguments.{ArgumentsThere}
 use Rattle.back_arguments.specs.Arguments as arguments
@@ -68,6 +71,7 @@ use Rattle.back_calling.proofs.Growing.{tasks_below}
 use Rattle.back_calling.proofs.Numbers.{numbers_law}
 use Rattle.back_calling.proofs.Sited.{SiteRuns, site_runs, reached_sited, site_control}
 use Rattle.back_calling.proofs.Storing.{word_stored}
+use Rattle.back_calling.proofs.Units.{calls_spared}
 use Rattle.back_applications.proofs.Applied.{applying_bodies_law}
 use Rattle.back_known_calls.specs.KnownCalls.{IsKnownCall, BodiesBelow, LawOfKnownCalls}
 
@@ -118,6 +122,10 @@ module _ (setting : Setting) (number : ℕ) (q : FlatProcedure) where
       by : (b : Bool) → ExtraGiven setting w z y (if b then its_method else nothing) q [] None (method_words b)
       by true = (refl, (0, 0, refl, refl, refl), tt)
       by false = (refl, refl)
+
+-- what is paid of a call behind its arguments, beside the unit of the body
+abbrev pub entering_credit : ℕ → ℕ
+entering_credit count = 26 + 16 * count
 
 -- ---- where the body is entered
 
@@ -207,9 +215,9 @@ module _ (setting : Setting) (right : ProgramIsRight setting) (k : ℕ) (b : Sta
       omega (arith, few, length-append (registers_from b.d count) (no_method method t), registers_count b.d count)
 
   enter_ends :
-      (total : ℕ) → 300 + 20 * count ≤ total → FlatLater b.z result.state → t < length b.regs → Ready setting c b (asks_site q.body) (site_for (asks_site q.body) b.s.code.site t (t + 1) ++ (constant t 0 ∷ [])) t
+      (total : ℕ) → entering_credit count ≤ total → routine_words ≤ b.n → FlatLater b.z result.state → t < length b.regs → Ready setting c b (asks_site q.body) (site_for (asks_site q.body) b.s.code.site t (t + 1) ++ (constant t 0 ∷ [])) t
       → EndsAt setting total b result (exec c (code_of whole) b.regs b.y)
-  enter_ends total enough grows there r0 =
+  enter_ends total enough reserve grows there r0 =
       let b2 : Start setting = start_after setting b b.d b.d b.n (omega arith) (omega arith) (omega arith) b.begins.first r0.reached in
       let paid : ℕ = call_cost args in
       let b3 : Start setting = start_after setting b2 b2.d b2.d b2.n (omega arith) (omega arith) (omega arith) b2.begins.first
@@ -225,22 +233,32 @@ module _ (setting : Setting) (right : ProgramIsRight setting) (k : ℕ) (b : Sta
       (mid_called (called c (body_of_procedure setting.at number) (ws ++ given) (mid_charged paid r0.y)) b.d r0.regs) =
       parts_then (site_for (asks_site q.body) b.s.code.site t (t + 1) ++ (constant t 0 ∷ [])) (the_call ∷ []) r0.runs
       (record { same = single_step c the_call r0.regs r0.y ∙ call_comes c r0.regs r0.y b.d (body_of_procedure setting.at number) args (ws ++ given) words_there }) in
-      let ends2 : CallEnds setting (body_credit q + paid) b.turns b.rs b.valid r0.w b.around b.z r0.y result (called c (body_of_procedure setting.at number) (ws ++ given) (mid_charged paid r0.y)) =
-      applying_bodies_law setting k b.turns b.turns b.n number paid (body_credit q + paid) (extra setting number q) q wrong [] vs ws given b.rs b.valid r0.w b.around b.z r0.y
+      let ends2 : CallEnds setting (16 * count) b.turns b.rs b.valid r0.w b.around b.z r0.y result (called c (body_of_procedure setting.at number) (ws ++ given) (mid_charged paid r0.y)) =
+      calls_spared setting {credit = body_credit q + paid} (omega (arith, homes_count, args_count))
+      (applying_bodies_law setting k b.turns b.turns b.n number paid (body_credit q + paid) (extra setting number q) q wrong [] vs ws given b.rs b.valid r0.w b.around b.z r0.y
       ((numbers_law setting).body number q right.placed.placed found) (inl (found, refl)) (fits_nothing setting number q r0.w) no_rest (value_count ∙ many) fewer (omega arith)
-      (λ j e. bodies j e number (extra setting number q) q (inl (found, refl))) b3.begins.call b2.begins.call.things (subst (λ places. WordsOf places vs ws) (sym r0.same_places) of_values)
-      (extras_given setting number q r0.w b.z (mid_charged paid r0.y)) r0.stored in
+      (λ j e. bodies j e number (extra setting number q) q (inl (found, refl))) reserve b3.begins.call b2.begins.call.things (subst (λ places. WordsOf places vs ws) (sym r0.same_places) of_values)
+      (extras_given setting number q r0.w b.z (mid_charged paid r0.y)) r0.stored) in
       let zero_cost : r0.y.cost ≡ r0.y.cost + 0 = omega arith in
       subst (λ o. EndsAt setting total b result o) (sym (ap (λ ss. exec c (code_of ss) b.regs b.y) code ∙ run.same))
-      (ends_then setting {d = b.d} {d1 = b.d} (omega arith) r0.reached {c2 = body_credit q + paid + 0} {c = total} (omega (arith, enough, homes_count, args_count)) (omega arith)
-      (form_ends setting b2 0 (body_credit q + paid) b.d (omega arith) (omega (arith, size, b.begins.first)) grows
+      (ends_then setting {d = b.d} {d1 = b.d} (omega arith) r0.reached {c2 = 16 * count + 0} {c = total} (omega (arith, enough)) (omega arith)
+      (form_ends setting b2 0 (16 * count) b.d (omega arith) (omega (arith, size, b.begins.first)) grows
       (subst
       (λ n.
-      CallEnds setting (body_credit q + paid) b.turns b.rs b.valid r0.w b.around b.z (record r0.y { cost = n }) result
+      CallEnds setting (16 * count) b.turns b.rs b.valid r0.w b.around b.z (record r0.y { cost = n }) result
       (called c (body_of_procedure setting.at number) (ws ++ given) (mid_charged paid r0.y)))
       zero_cost ends2)))
 
 -- ---- the form
+
+-- the call of a function of a definition has the words of routines
+pub call_reserve :
+    (setting : Setting) (name count n : ℕ) (row : FunctionRow) (number : ℕ) → function_row setting.names setting.program.functions (text setting.names name) ≡ Some row → row.callee ≡ Procedure number
+    → words_for_call setting.names setting.program (row_of setting.names setting.program name) count ≤ n → routine_words ≤ n
+call_reserve setting name count n row number there callee words =
+    let callee_words : words_for_callee setting.names setting.program row.callee count ≤ n =
+    subst (λ o. words_for_call setting.names setting.program o count ≤ n) there words in
+    subst (λ x. words_for_callee setting.names setting.program x count ≤ n) callee callee_words
 
 module _ (setting : Setting) (right : ProgramIsRight setting) (k turns name : ℕ) (fs : FlatForms) (fewer : turns ≤ setting.turns_each) (known : IsKnownCall setting name (count_forms fs))
     (bodies : BodiesBelow setting k) (s : FormScope) (d n size : ℕ) where
@@ -289,7 +307,7 @@ module _ (setting : Setting) (right : ProgramIsRight setting) (k turns name : �
 
   -- behind the arguments
   module _ (rs valid : List Standing) (w : World) (env : FlatEnvironment) (around : DynamicContext) (z : FlatState) (regs : Registers) (y : MidState)
-      (begins : Begins setting rs valid s d n w env around z regs y) (sized : length regs ≡ size) (names : enough_for (of_code (code_of rest)) ≤ size) (vs : List Value) (ws : List ℕ)
+      (begins : Begins setting rs valid s d n w env around z regs y) (sized : length regs ≡ size) (names : enough_for (of_code (code_of rest)) ≤ size) (reserve : routine_words ≤ n) (vs : List Value) (ws : List ℕ)
       (value_count : length vs ≡ count_forms fs) (word_count : length ws ≡ count_forms fs) (of_values : WordsOf w.places vs ws) (in_registers : arguments.WordsIn d ws regs) where
     abbrev b : Start setting
     b = record { turns = turns; rs = rs; valid = valid; s = s; d = d; n = n; w = w; env = env; around = around; z = z; regs = regs; y = y; begins = begins }
@@ -325,12 +343,12 @@ module _ (setting : Setting) (right : ProgramIsRight setting) (k turns name : �
         (site_names s.code.site (d + count_forms fs) size
         (subst (λ x. enough_for (of_code (code_of (site_for x s.code.site (d + count_forms fs) (d + count_forms fs + 1)))) ≤ size) asks h))
 
-    behind_arguments : EndsAt setting (300 * (2 + count_forms fs)) b (next around vs z) (exec (code_at setting k turns) (code_of rest) regs y)
+    behind_arguments : EndsAt setting (entering_credit (count_forms fs)) b (next around vs z) (exec (code_at setting k turns) (code_of rest) regs y)
     behind_arguments =
-        subst (λ ss. EndsAt setting (300 * (2 + count_forms fs)) b (next around vs z) (exec (code_at setting k turns) (code_of ss) regs y)) (sym rest_is)
-        (subst (λ r. EndsAt setting (300 * (2 + count_forms fs)) b r (exec (code_at setting k turns) (code_of entering) regs y)) (sym (next_is around vs z))
+        subst (λ ss. EndsAt setting (entering_credit (count_forms fs)) b (next around vs z) (exec (code_at setting k turns) (code_of ss) regs y)) (sym rest_is)
+        (subst (λ r. EndsAt setting (entering_credit (count_forms fs)) b r (exec (code_at setting k turns) (code_of entering) regs y)) (sym (next_is around vs z))
         (enter_ends setting right k b known.number known.function known.found known.no_rest fewer bodies (signal (context_at setting k)) vs ws (count_forms fs) value_count word_count known.many
-        of_values in_registers (300 * (2 + count_forms fs)) (omega arith) (subst (λ (r : FlatEvaluated). FlatLater z r.state) (next_is around vs z) (next_later around vs z)) constant_there
+        of_values in_registers (entering_credit (count_forms fs)) (omega arith) reserve (subst (λ (r : FlatEvaluated). FlatLater z r.state) (next_is around vs z) (next_later around vs z)) constant_there
         (ready setting (code_at setting k turns) b (d + count_forms fs) (omega arith) constant_there (asks_site known.function.body) both_there)))
 
 pub known_calls_law : LawOfKnownCalls
@@ -355,10 +373,10 @@ known_calls_law setting k turns name fs right fewer known does bodies rs valid s
     let lists =
     argument_lists_law setting s d n (length regs) k turns first fs does stands.stands stands.fits stands.leads stands.placed.1 stands.forms_known begins.first
     (registers_front front behind (length regs) registers) (omega (arith, words)) in
-    ends_charged setting {c1 = 300 * units} (start_at setting s d n (length regs) turns p0) units (omega arith)
-    (arguments_law setting s d n (length regs) k turns (300 * units) fs pc (next setting right k turns name fs fewer known bodies s d n (length regs) around) behind lists.0 lists.1
+    ends_sparing setting {c1 = entering_credit (count_forms fs)} (start_at setting s d n (length regs) turns p0) units (omega arith) (omega arith)
+    (arguments_law setting s d n (length regs) k turns (entering_credit (count_forms fs)) fs pc (next setting right k turns name fs fewer known bodies s d n (length regs) around) behind lists.0 lists.1
     (λ vs x. grown_later (next_later setting right k turns name fs fewer known bodies s d n (length regs) around vs x))
     (λ vs z' regs' y' x.
     let b : Start setting = start_after setting (start_at setting s d n (length regs) turns pc) d d n (omega arith) (omega arith) (omega arith) begins.first x.reached in
     behind_arguments setting right k turns name fs fewer known bodies s d n (length regs) rs valid x.w' env around z' regs' y' b.begins x.reached.kept.registers.count
-    (registers_behind front behind (length regs) registers) vs x.words x.value_count x.word_count x.of_values x.in_registers))
+    (registers_behind front behind (length regs) registers) (call_reserve setting name (count_forms fs) n known.row known.number known.there known.callee (omega (arith, words))) vs x.words x.value_count x.word_count x.of_values x.in_registers))

@@ -1,5 +1,5 @@
 -- A call of a name without a function: its arguments run, and a condition is signalled.
-use Rattle.std.proofs.Common.{◌≡◌, ℕ, ◌+◌, ◌*◌, ◌<◌, ◌≤◌, List, [], ◌∷◌, length, None, refl, sym, ap, subst, arith}
+use Rattle.std.proofs.Common.{◌≡◌, ℕ, ◌+◌, ◌<◌, ◌≤◌, List, [], ◌∷◌, length, None, refl, sym, ap, subst, arith}
 use Rattle.std.specs.Prelude.{max}
 use Rattle.lang_meaning.specs.Literals.{function_row}
 use Rattle.lang_meaning.specs.Lookup.{text}
@@ -29,12 +29,12 @@ use Rattle.back_relation.specs.Placed.{HasSymbol, CallPlaced}
 use Rattle.back_relation.specs.Worlds.{World, Standing}
 use Rattle.back_relation.specs.Activation.{FormScope}
 use Rattle.back_relation.specs.Forms.{Begins, context_at, code_at}
-use Rattle.back_relation.specs.RoutineClaims.{routine_credit}
+use Rattle.back_relation.specs.RoutineClaims.{routine_credit, IsBuiltInCondition}
 use Rattle.back_combining.specs.Points.{Point, start_at}
 use Rattle.back_combining.specs.Starts.{FlatGrown, Start, EndsAt}
 use Rattle.back_combining.proofs.Fitting.{registers_front, registers_behind}
 use Rattle.back_combining.proofs.Growth.{grown_later}
-use Rattle.back_combining.proofs.Starts.{start_after, start_charged, ends_charged, reached_same, behind}
+use Rattle.back_combining.proofs.Starts.{start_after, start_charged, ends_sparing, reached_same, behind}
 use Rattle.back_arguments.proofs.Arguments.{arguments_law}
 use Rattle.back_arguments.proofs.Lists.{argument_lists_law}
 use Rattle.back_calling.specs.Storing.{stored_at, standing_world}
@@ -42,6 +42,9 @@ use Rattle.back_calling.proofs.Growing.{signal_later}
 use Rattle.back_calling.proofs.Sited.{failing_law}
 use Rattle.back_known_calls.specs.KnownCalls.{FailsWith, LawOfUndefinedCalls}
 use Rattle.back_known_calls.proofs.KnownCalls.{site_names}
+
+undefined_is : IsBuiltInCondition undefined_function_class 1
+undefined_is = record { low = omega arith; high = omega arith; slots = refl }
 
 module _ (setting : Setting) (k turns name : ℕ) (fs : FlatForms) (none : function_row setting.names setting.program.functions (text setting.names name) ≡ None)
     (fails : FailsWith setting k turns) (s : FormScope) (d n size : ℕ) where
@@ -78,18 +81,18 @@ module _ (setting : Setting) (k turns name : ℕ) (fs : FlatForms) (none : funct
   behind_arguments :
       (rs valid : List Standing) (w : World) (env : FlatEnvironment) (around : DynamicContext) (z : FlatState) (regs : Registers) (y : MidState)
       (begins : Begins setting rs valid s d n w env around z regs y) → length regs ≡ size → enough_for (of_code (code_of rest)) ≤ size → routine_words ≤ n → HasSymbol setting name → (vs : List Value)
-      → EndsAt setting (300 * (2 + count_forms fs))
+      → EndsAt setting (routine_credit + 84)
       (record { turns = turns; rs = rs; valid = valid; s = s; d = d; n = n; w = w; env = env; around = around; z = z; regs = regs; y = y; begins = begins })
       (next around vs z) (exec (code_at setting k turns) (code_of rest) regs y)
   behind_arguments rs valid w env around z regs y begins sized names room has vs =
       let b : Start setting = record { turns = turns; rs = rs; valid = valid; s = s; d = d; n = n; w = w; env = env; around = around; z = z; regs = regs; y = y; begins = begins } in
       let there = names_both names in
-      subst (λ ss. EndsAt setting (300 * (2 + count_forms fs)) b (next around vs z) (exec (code_at setting k turns) (code_of ss) regs y)) (sym rest_is)
-      (subst (λ r. EndsAt setting (300 * (2 + count_forms fs)) b r (exec (code_at setting k turns) (code_of failing) regs y)) (sym (next_is around vs z))
-      (behind setting {c1 = 0} {c2 = routine_credit + 84} {c = 300 * (2 + count_forms fs)} b d (omega arith) (reached_same setting b d) (omega arith) (omega arith)
-      ((failing_law setting).with_word k routine_credit b d undefined_function_class (symbol_word setting.at name) the_name (omega arith) (omega (arith, there, sized)) room
+      subst (λ ss. EndsAt setting (routine_credit + 84) b (next around vs z) (exec (code_at setting k turns) (code_of ss) regs y)) (sym rest_is)
+      (subst (λ r. EndsAt setting (routine_credit + 84) b r (exec (code_at setting k turns) (code_of failing) regs y)) (sym (next_is around vs z))
+      (behind setting {c1 = 0} {c2 = routine_credit + 84} {c = routine_credit + 84} b d (omega arith) (reached_same setting b d) (omega arith) (omega arith)
+      ((failing_law setting).with_word k routine_credit b d undefined_function_class (symbol_word setting.at name) the_name (omega arith) (omega (arith, there, sized)) (omega (arith, room))
       (λ number paid.
-      fails rs valid (standing_world w y) around z (stored_at site_address number paid y) the_name (symbol_word setting.at name)
+      fails rs valid (standing_world w y) around z (stored_at site_address number paid y) undefined_function_class the_name (symbol_word setting.at name) undefined_is
       (begins.call.things.symbols name has)))))
 
 pub undefined_calls_law : LawOfUndefinedCalls
@@ -116,8 +119,8 @@ undefined_calls_law setting k turns name fs none does fails rs valid s d n first
     let lists =
     argument_lists_law setting s d n (length regs) k turns first fs does stands.stands stands.fits stands.leads stands.placed.1 stands.forms_known begins.first
     (registers_front front after_them (length regs) registers) (omega (arith, words)) in
-    ends_charged setting {c1 = 300 * units} (start_at setting s d n (length regs) turns p0) units (omega arith)
-    (arguments_law setting s d n (length regs) k turns (300 * units) fs pc (next setting k turns name fs none fails s d n (length regs) around) after_them lists.0 lists.1
+    ends_sparing setting {c1 = routine_credit + 84} (start_at setting s d n (length regs) turns p0) units (omega arith) (omega arith)
+    (arguments_law setting s d n (length regs) k turns (routine_credit + 84) fs pc (next setting k turns name fs none fails s d n (length regs) around) after_them lists.0 lists.1
     (λ vs x.
     subst (λ (r : FlatEvaluated). FlatGrown x r.state) (sym (next_is setting k turns name fs none fails s d n (length regs) around vs x))
     (grown_later (signal_later setting k undefined_function_class (symbol (named (text setting.names name)) ∷ []) around x)))

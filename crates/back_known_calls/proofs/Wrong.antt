@@ -1,27 +1,25 @@
 -- A call with a wrong number of arguments: its arguments run, a level is needed, and a condition is signalled.
-use Rattle.std.proofs.Common.{◌≡◌, ℕ, zero, suc, ◌+◌, ◌*◌, ◌<◌, ◌≤◌, Bool, false, List, [], ◌∷◌, length, None, refl, sym, ap, ◌∙◌, subst, arith}
-use Rattle.std.specs.Prelude.{max, slice_get, is_some, if◌then◌else◌}
+use Rattle.std.proofs.Common.{◌≡◌, ℕ, zero, suc, ◌+◌, ◌<◌, ◌≤◌, Bool, false, List, [], ◌∷◌, length, None, refl, sym, ap, ◌∙◌, subst, arith}
+use Rattle.std.specs.Prelude.{is_some, if◌then◌else◌}
 use Rattle.lang_meaning.specs.Literals.{function_row}
 use Rattle.lang_meaning.specs.Lookup.{text}
 use Rattle.lang_meaning.specs.Objects.{program_error_class}
 use Rattle.lang_meaning.specs.Signals.{takes}
-use Rattle.lang_meaning.specs.State.{DynamicContext, Outcome, value, exit, full, more}
-use Rattle.lang_meaning.specs.Values.{Value, integer, nil}
+use Rattle.lang_meaning.specs.State.{DynamicContext}
+use Rattle.lang_meaning.specs.Values.{Value, nil}
 use Rattle.flat_language.specs.FlatForm.{FlatForms}
 use Rattle.flat_language.specs.FlatMeaning.{mean}
 use Rattle.flat_language.specs.FlatNodes.{count_forms}
 use Rattle.flat_language.specs.FlatSignals.{signal, apply_row, apply_callee, descend, enter}
 use Rattle.flat_language.specs.FlatSignals as flat
-use Rattle.flat_language.specs.FlatState.{FlatEnvironment, FlatState, FlatEvaluated, gives, go_on, go_on_from, charged}
+use Rattle.flat_language.specs.FlatState.{FlatEnvironment, FlatState, FlatEvaluated, gives, charged}
 use Rattle.flat_laws.specs.FlatLater.{FlatLater}
 use Rattle.flat_laws.proofs.Applied.{row_applies}
 use Rattle.flat_laws.proofs.Applied.{signals as all_signals}
 use Rattle.flat_laws.proofs.Later.{later_kept}
-use Rattle.mid_code.specs.Meaning.{exec, exec_step}
+use Rattle.mid_code.specs.Meaning.{exec}
 use Rattle.mid_code.specs.MidCode.{code_of}
 use Rattle.mid_code.specs.State.{Registers, MidState}
-use Rattle.mid_code.specs.State.{charged as mid_charged}
-use Rattle.std.specs.Prelude.{pos}
 use Rattle.back_lowering.specs.Calls.{call_name, call_callee, call_procedure, call_with_rest, enter_body, wrong_number}
 use Rattle.back_lowering.specs.Codes.{lower, lower_arguments}
 use Rattle.back_lowering.specs.ControlWords.{site_address}
@@ -32,41 +30,35 @@ use Rattle.back_lowering.specs.Scope.{registers_from}
 use Rattle.back_lowering.specs.Steps.{Steps, constant}
 use Rattle.back_lowering.specs.Steps as steps
 use Rattle.back_relation.specs.Setting.{Setting}
-use Rattle.back_relation.specs.Room.{routine_words, row_of, enters, words_for_call, words_for_callee, words_for_forms}
+use Rattle.back_relation.specs.Room.{routine_words}
 use Rattle.back_relation.specs.Placed.{IsPlaced}
 use Rattle.back_relation.specs.Worlds.{World, Standing}
 use Rattle.back_relation.specs.Activation.{FormScope}
 use Rattle.back_relation.specs.Forms.{Begins, below_at, context_at, code_at}
-use Rattle.back_relation.specs.RoutineClaims.{routine_credit}
+use Rattle.back_relation.specs.RoutineClaims.{routine_credit, IsBuiltInCondition}
 use Rattle.back_combining.specs.Points.{Point, start_at}
 use Rattle.back_combining.specs.Starts.{Start, EndsAt}
 use Rattle.back_combining.proofs.Fitting.{registers_front, registers_behind}
 use Rattle.back_combining.proofs.Growth.{grown_later}
 use Rattle.back_combining.proofs.Parts.{step_then}
 use Rattle.back_combining.proofs.Points.{code_grows}
-use Rattle.back_combining.proofs.Starts.{start_after, start_charged, ends_charged, reached_cost, two}
+use Rattle.back_combining.proofs.Starts.{start_after, start_charged, ends_sparing, behind}
 use Rattle.back_arguments.proofs.Arguments.{arguments_law}
 use Rattle.back_arguments.proofs.Lists.{argument_lists_law}
 use Rattle.back_calling.specs.Storing.{stored_at, standing_world}
-use Rattle.back_calling.proofs.Formed.{form_calls_law}
 use Rattle.back_calling.proofs.Growing.{signal_later, tasks_below}
 use Rattle.back_calling.proofs.Sited.{failing_law}
-use Rattle.back_applications.proofs.Applied.{level_there, levels_there_law}
+use Rattle.back_applications.specs.Applying.{judging_cost}
+use Rattle.back_applications.proofs.Levels.{level_there, form_levels_law}
 use Rattle.back_known_calls.specs.KnownCalls.{IsWrongCall, Fails, LawOfWrongCalls}
-use Rattle.back_known_calls.proofs.KnownCalls.{site_names}
+use Rattle.back_known_calls.proofs.KnownCalls.{site_names, call_reserve}
 
 -- the other of two
 otherwise : {X : Type 0} (b : Bool) (x y : X) → b ≡ false → (if b then x else y) ≡ y
 otherwise b x y e = ap (λ t. if t then x else y) e
 
-same_behind : (r : FlatEvaluated) {f g : FlatState → FlatEvaluated} → ((x : FlatState) → f x ≡ g x) → go_on r (λ v x. f x) ≡ go_on r (λ v x. g x)
-same_behind r {f} {g} h = by r.outcome r.state
-  where
-    by : (o : Outcome) (z : FlatState) → go_on_from o z (λ v x. f x) ≡ go_on_from o z (λ v x. g x)
-    by (value v) z = h z
-    by (exit x v landing) z = refl
-    by (full asked left) z = refl
-    by more z = refl
+program_error_is : IsBuiltInCondition program_error_class 0
+program_error_is = record { low = omega arith; high = omega arith; slots = refl }
 
 module _ (setting : Setting) (placed : IsPlaced setting) (k turns name : ℕ) (fs : FlatForms) (wrong : IsWrongCall setting name (count_forms fs)) (fails : Fails setting k turns) (s : FormScope)
     (d n size : ℕ) where
@@ -79,9 +71,6 @@ module _ (setting : Setting) (placed : IsPlaced setting) (k turns name : ℕ) (f
 
   abbrev signals : DynamicContext → FlatState → FlatEvaluated
   signals around z = signal (context_at setting k) program_error_class [] around z
-
-  abbrev level : DynamicContext → FlatState → FlatEvaluated
-  level around z = descend (below_at setting k) (λ entered. gives (integer (pos 0)) entered) around z
 
   abbrev behind_level : Steps
   behind_level = failing setting.at s.code.site d program_error_class
@@ -102,31 +91,14 @@ module _ (setting : Setting) (placed : IsPlaced setting) (k turns name : ℕ) (f
       else wrong_number setting.at setting.program d s.code.site)
       wrong.takes_others
 
-  -- the meaning needs a level first
-  split : (next : FlatState → FlatEvaluated) (around : DynamicContext) (z : FlatState) → descend (below_at setting k) next around z ≡ go_on (level around z) (λ v after. next after)
-  split after around z = by k
-    where
-      by : (j : ℕ) → descend (below_at setting j) after around z ≡ go_on (descend (below_at setting j) (λ entered. gives (integer (pos 0)) entered) around z) (λ v x. after x)
-      by zero = refl
-      by (suc j) =
-          level_there setting j after around z
-          ∙ sym (ap (λ r. go_on r (λ v x. after x)) (level_there setting j (λ entered. gives (integer (pos 0)) entered) around z))
-
-  level_later : (around : DynamicContext) (z : FlatState) → FlatLater z (level around z).state
-  level_later around z = by k
-    where
-      by : (j : ℕ) → FlatLater z (descend (below_at setting j) (λ entered. gives (integer (pos 0)) entered) around z).state
-      by zero = later_kept.none z
-      by (suc j) =
-          subst (λ (r : FlatEvaluated). FlatLater z r.state) (sym (level_there setting j (λ entered. gives (integer (pos 0)) entered) around z)) (later_kept.none z)
-
   next_later : (around : DynamicContext) (vs : List Value) (z : FlatState) → FlatLater z (next around vs z).state
   next_later around vs z =
       (row_applies {R = FlatLater} {k = later_kept} (context_at setting k) (tasks_below setting k) (signal (context_at setting k))
       (all_signals {R = FlatLater} {k = later_kept} (context_at setting k) (tasks_below setting k)) (text setting.names name)
       (function_row setting.names setting.program.functions (text setting.names name)) vs around z).grows
 
-  next_is : (around : DynamicContext) (vs : List Value) (z : FlatState) → length vs ≡ count_forms fs → next around vs z ≡ go_on (level around z) (λ v after. signals around after)
+  -- a level is needed first
+  next_is : (around : DynamicContext) (vs : List Value) (z : FlatState) → length vs ≡ count_forms fs → next around vs z ≡ descend (below_at setting k) (signals around) around z
   next_is around vs z many =
       ap (λ o. apply_row (context_at setting k) (signal (context_at setting k)) (text setting.names name) o vs around z) wrong.there
       ∙ ap (λ x. apply_callee (context_at setting k) (signal (context_at setting k)) x vs around z) wrong.callee
@@ -135,11 +107,17 @@ module _ (setting : Setting) (placed : IsPlaced setting) (k turns name : ℕ) (f
       descend (below_at setting k)
       (λ entered. flat.with_some o (λ a y. gives nil y) (λ p. enter (context_at setting k) (signal (context_at setting k)) p [] None vs) around entered) around z)
       wrong.found
-      ∙ split (λ entered. enter (context_at setting k) (signal (context_at setting k)) wrong.function [] None vs around entered) around z
-      ∙ same_behind (level around z)
-      (λ x.
-      otherwise (takes (length wrong.function.required) (is_some wrong.function.rest) (length vs)) _ _
-      (ap (λ m. takes (length wrong.function.required) (is_some wrong.function.rest) m) many ∙ wrong.takes_others))
+      ∙ by k
+    where
+      takes_no : takes (length wrong.function.required) (is_some wrong.function.rest) (length vs) ≡ false
+      takes_no = ap (λ m. takes (length wrong.function.required) (is_some wrong.function.rest) m) many ∙ wrong.takes_others
+
+      by : (j : ℕ) → descend (below_at setting j) (λ entered. enter (context_at setting k) (signal (context_at setting k)) wrong.function [] None vs around entered) around z
+          ≡ descend (below_at setting j) (signals around) around z
+      by zero = refl
+      by (suc j) =
+          level_there setting j (λ entered. enter (context_at setting k) (signal (context_at setting k)) wrong.function [] None vs around entered) around z
+          ∙ otherwise (takes (length wrong.function.required) (is_some wrong.function.rest) (length vs)) _ _ takes_no ∙ sym (level_there setting j (signals around) around z)
 
   names_both : enough_for (of_code (code_of rest)) ≤ size → d + 1 < size
   names_both h =
@@ -149,33 +127,31 @@ module _ (setting : Setting) (placed : IsPlaced setting) (k turns name : ℕ) (f
       (constant d program_error_class ∷ steps.call d (failing_routine setting.at) (d ∷ []) ∷ []) size
       (registers_behind (steps.call d (level_routine setting.at) [] ∷ []) behind_level size judged_names))
 
+  abbrev wrong_credit : ℕ
+  wrong_credit = routine_credit + 72 + judging_cost
+
   behind_arguments :
       (rs valid : List Standing) (w : World) (env : FlatEnvironment) (around : DynamicContext) (z : FlatState) (regs : Registers) (y : MidState)
       (begins : Begins setting rs valid s d n w env around z regs y) → length regs ≡ size → enough_for (of_code (code_of rest)) ≤ size → routine_words ≤ n → (vs : List Value)
       → length vs ≡ count_forms fs
-      → EndsAt setting (300 * (2 + count_forms fs))
+      → EndsAt setting wrong_credit
       (record { turns = turns; rs = rs; valid = valid; s = s; d = d; n = n; w = w; env = env; around = around; z = z; regs = regs; y = y; begins = begins })
       (next around vs z) (exec (code_at setting k turns) (code_of rest) regs y)
   behind_arguments rs valid w env around z regs y begins sized names room vs many =
       let b : Start setting = record { turns = turns; rs = rs; valid = valid; s = s; d = d; n = n; w = w; env = env; around = around; z = z; regs = regs; y = y; begins = begins } in
       let there = names_both names in
-      let b2 : Start setting = start_after setting b d d routine_words (omega arith) (omega arith) room begins.first (reached_cost setting {credit = 40} b d 40 (omega arith)) in
-      let first : EndsAt setting (40 + 40) b (level around z) (exec_step (code_at setting k turns) (steps.call d (level_routine setting.at) []) regs y) =
-      (form_calls_law setting).by_number (code_at setting k turns) b 40 d (level_routine setting.at) [] [] (level around z) (omega arith) begins.first tt (level_later around z)
-      (levels_there_law setting k turns turns rs valid w around z (mid_charged 40 y) placed b2.begins.call) in
-      subst (λ ss. EndsAt setting (300 * (2 + count_forms fs)) b (next around vs z) (exec (code_at setting k turns) (code_of ss) regs y)) (sym rest_is)
-      (subst (λ r. EndsAt setting (300 * (2 + count_forms fs)) b r (exec (code_at setting k turns) (code_of judged) regs y)) (sym (next_is around vs z many))
-      (subst (λ q. EndsAt setting (300 * (2 + count_forms fs)) b (go_on (level around z) (λ v after. signals around after)) q)
+      subst (λ ss. EndsAt setting wrong_credit b (next around vs z) (exec (code_at setting k turns) (code_of ss) regs y)) (sym rest_is)
+      (subst (λ r. EndsAt setting wrong_credit b r (exec (code_at setting k turns) (code_of judged) regs y)) (sym (next_is around vs z many))
+      (subst (λ q. EndsAt setting wrong_credit b (descend (below_at setting k) (signals around) around z) q)
       (sym (step_then (code_at setting k turns) (steps.call d (level_routine setting.at) []) behind_level regs y))
-      (two setting {c1 = 80} {c2 = routine_credit + 72} {c = 300 * (2 + count_forms fs)} b d (λ v after. signals around after)
-      (λ g x. exec (code_at setting k turns) (code_of behind_level) g x) (omega arith) (omega arith) (grown_later (level_later around z)).units first
-      (λ v x. grown_later (signal_later setting k program_error_class [] around x)) (λ g x. code_grows setting s d n size k turns behind_level g x)
-      (λ x.
-      let b3 : Start setting = start_after setting b d d n (omega arith) (omega arith) (omega arith) begins.first x.reached in
-      let size3 = x.reached.kept.registers.count in
-      (failing_law setting).class_alone k routine_credit b3 d program_error_class (omega arith) (omega (arith, there, sized, size3)) room
-      (λ number paid.
-      fails rs valid (standing_world b3.w b3.y) around b3.z (stored_at site_address number paid b3.y))))))
+      (form_levels_law setting k wrong_credit b d d (signals around) (λ g x. exec (code_at setting k turns) (code_of behind_level) g x) placed (omega (arith, room)) (omega arith) begins.first
+      (grown_later (signal_later setting k program_error_class [] around z)) (λ g x. code_grows setting s d n size k turns behind_level g x)
+      (λ word y' x site.
+      let b2 : Start setting = start_after setting b d d n (omega arith) (omega arith) (omega arith) begins.first x in
+      let size2 = x.kept.registers.count in
+      behind setting {c1 = judging_cost} {c2 = routine_credit + 72} {c = wrong_credit} b d (omega arith) x (omega arith) (omega arith)
+      ((failing_law setting).class_alone k routine_credit b2 d program_error_class (omega arith) (omega (arith, there, sized, size2)) (omega (arith, room))
+      (λ number paid. fails rs valid (standing_world w y') around z (stored_at site_address number paid y') program_error_class program_error_is))))))
 
 pub wrong_calls_law : LawOfWrongCalls
 unfolding mean lower
@@ -183,7 +159,7 @@ wrong_calls_law setting k turns name fs placed wrong does fails rs valid s d n f
     let front = lower_arguments setting.names setting.at setting.program s.code d fs in
     let after_them = rest setting placed k turns name fs wrong fails s d n (length regs) in
     let units : ℕ = 2 + count_forms fs in
-    let room : routine_words ≤ n = by words in
+    let room : routine_words ≤ n = call_reserve setting name (count_forms fs) n wrong.row wrong.number wrong.there wrong.callee (omega (arith, words)) in
     let p0 : Point setting s d n (length regs) = record { rs = rs; valid = valid; w = w; env = env; around = around; z = z; regs = regs; y = y; begins = begins; count = refl } in
     let pc : Point setting s d n (length regs) = record {
       rs = rs;
@@ -200,21 +176,10 @@ wrong_calls_law setting k turns name fs placed wrong does fails rs valid s d n f
     let lists =
     argument_lists_law setting s d n (length regs) k turns first fs does stands.stands stands.fits stands.leads stands.placed.1 stands.forms_known begins.first
     (registers_front front after_them (length regs) registers) (omega (arith, words)) in
-    ends_charged setting {c1 = 300 * units} (start_at setting s d n (length regs) turns p0) units (omega arith)
-    (arguments_law setting s d n (length regs) k turns (300 * units) fs pc (next setting placed k turns name fs wrong fails s d n (length regs) around) after_them lists.0 lists.1
+    ends_sparing setting {c1 = routine_credit + 72 + judging_cost} (start_at setting s d n (length regs) turns p0) units (omega arith) (omega arith)
+    (arguments_law setting s d n (length regs) k turns (routine_credit + 72 + judging_cost) fs pc (next setting placed k turns name fs wrong fails s d n (length regs) around) after_them lists.0 lists.1
     (λ vs x. grown_later (next_later setting placed k turns name fs wrong fails s d n (length regs) around vs x))
     (λ vs z' regs' y' x.
     let b : Start setting = start_after setting (start_at setting s d n (length regs) turns pc) d d n (omega arith) (omega arith) (omega arith) begins.first x.reached in
     behind_arguments setting placed k turns name fs wrong fails s d n (length regs) rs valid x.w' env around z' regs' y' b.begins x.reached.kept.registers.count
     (registers_behind front after_them (length regs) registers) room vs x.value_count))
-  where
-    by : max (words_for_call setting.names setting.program (row_of setting.names setting.program name) (count_forms fs)) (words_for_forms setting.names setting.program fs) ≤ n
-        → routine_words ≤ n
-    by h =
-        let call_words : words_for_call setting.names setting.program (row_of setting.names setting.program name) (count_forms fs) ≤ n = omega (arith, h) in
-        let callee_words : words_for_callee setting.names setting.program wrong.row.callee (count_forms fs) ≤ n =
-        subst (λ o. words_for_call setting.names setting.program o (count_forms fs) ≤ n) wrong.there call_words in
-        let procedure_words : (if enters setting.names setting.program (slice_get setting.program.procedures wrong.number) (count_forms fs) then 0 else routine_words) ≤ n =
-        subst (λ x. words_for_callee setting.names setting.program x (count_forms fs) ≤ n) wrong.callee callee_words in
-        subst (λ t. (if t then 0 else routine_words) ≤ n)
-        (ap (λ o. enters setting.names setting.program o (count_forms fs)) wrong.found ∙ wrong.takes_others) procedure_words

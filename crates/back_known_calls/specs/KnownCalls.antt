@@ -1,25 +1,21 @@
 -- **A call of a function of a definition**, by its name, with as many arguments as it requires, where it takes no further ones.
-use Rattle.std.specs.Prelude.{◌≡◌, ℕ, suc, ◌≤◌, false, List, [], ◌∷◌, Some, None, length, slice_get, is_some}
+use Rattle.std.specs.Prelude.{◌≡◌, ℕ, suc, ◌≤◌, false, List, Some, None, length, slice_get, is_some}
 use Rattle.lang_meaning.specs.declared.program.Callee.TheVariants.{Procedure}
 use Rattle.lang_meaning.specs.declared.program.FunctionRow.{FunctionRow}
 use Rattle.lang_meaning.specs.Literals.{function_row}
 use Rattle.lang_meaning.specs.Lookup.{text}
-use Rattle.lang_meaning.specs.Objects.{undefined_function_class, program_error_class}
 use Rattle.lang_meaning.specs.Signals.{takes}
 use Rattle.lang_meaning.specs.State.{DynamicContext}
-use Rattle.lang_meaning.specs.Values.{Value}
 use Rattle.flat_language.specs.declared.program.FlatProcedure.{FlatProcedure}
 use Rattle.flat_language.specs.FlatForm.{call, FlatForms}
 use Rattle.flat_language.specs.FlatNodes.{count_forms}
 use Rattle.back_lowering.specs.Program.{Extra}
-use Rattle.back_lowering.specs.Routines.{failing_routine, failing_with_routine}
-use Rattle.flat_language.specs.FlatSignals.{signal}
 use Rattle.flat_language.specs.FlatState.{FlatState}
 use Rattle.mid_code.specs.State.{MidState}
 use Rattle.back_relation.specs.Setting.{Setting}
 use Rattle.back_relation.specs.Placed.{IsPlaced}
 use Rattle.back_relation.specs.Worlds.{World, Standing}
-use Rattle.back_relation.specs.RoutineClaims.{WordIs, Does, routine_credit}
+use Rattle.back_relation.specs.RoutineClaims.{FailingDoes, FailingWithDoes}
 use Rattle.back_relation.specs.Forms.{DoesForm, context_at, code_at}
 use Rattle.back_relation.specs.Procedures.{IsFunction, BodyDoes}
 use Rattle.back_relation.specs.Right.{ProgramIsRight}
@@ -47,12 +43,10 @@ LawOfKnownCalls =
     (setting : Setting) (k turns name : ℕ) (fs : FlatForms) → ProgramIsRight setting → turns ≤ setting.turns_each → IsKnownCall setting name (count_forms fs)
     → AllDo setting k turns fs → BodiesBelow setting k → DoesForm setting turns (context_at setting k) (code_at setting k turns) (call name fs)
 
--- that a function is undefined is signalled, with its name, by the routine of conditions of one slot, wherever that is called
+-- the routine of conditions of one slot does what is claimed of it, wherever it is called
 abbrev pub FailsWith : Setting → (k turns : ℕ) → Type 0
 FailsWith setting k turns =
-    (rs valid : List Standing) (w : World) (around : DynamicContext) (z : FlatState) (y : MidState) (v : Value) (word : ℕ) → WordIs setting w word v
-    → Does setting k turns rs valid w around z y routine_credit (failing_with_routine setting.at) (undefined_function_class ∷ word ∷ [])
-    (signal (context_at setting k) undefined_function_class (v ∷ []) around z)
+    (rs valid : List Standing) (w : World) (around : DynamicContext) (z : FlatState) (y : MidState) → FailingWithDoes setting k turns rs valid w around z y
 
 -- a call of a name without a function does what it means
 abbrev pub LawOfUndefinedCalls : Type 0
@@ -70,11 +64,10 @@ pub record IsWrongCall (setting : Setting) (name count : ℕ) : Type 0 where
   pub found : slice_get setting.program.procedures number ≡ Some function
   pub takes_others : takes (length function.required) (is_some function.rest) count ≡ false
 
--- a program error is signalled by the routine of conditions without slots, wherever that is called
+-- and the one of conditions without slots
 abbrev pub Fails : Setting → (k turns : ℕ) → Type 0
 Fails setting k turns =
-    (rs valid : List Standing) (w : World) (around : DynamicContext) (z : FlatState) (y : MidState)
-    → Does setting k turns rs valid w around z y routine_credit (failing_routine setting.at) (program_error_class ∷ []) (signal (context_at setting k) program_error_class [] around z)
+    (rs valid : List Standing) (w : World) (around : DynamicContext) (z : FlatState) (y : MidState) → FailingDoes setting k turns rs valid w around z y
 
 -- a call with a wrong number of arguments does what it means
 abbrev pub LawOfWrongCalls : Type 0

@@ -1,4 +1,4 @@
-use Rattle.back_applications.proofs.Applied.{levels_there_law}
+use Rattle.back_applications.proofs.Levels.{levels_there_law}
 use Rattle.back_applications.proofs.laws.law_levels_there.Goals as goal
 
 pub returns : goal.returns
