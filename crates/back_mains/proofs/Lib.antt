@@ -1,5 +1,4 @@
 pub mod MainSteps
-pub mod Links
 pub mod Surroundings
 pub mod Beginning
 pub mod MainEnds

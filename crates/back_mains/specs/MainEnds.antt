@@ -1,4 +1,4 @@
--- **What the code of a main form comes to**, with the link stored, from what its form comes to: the word is returned, or the run ends with what the
+-- **What the code of a main form comes to**, from what its form comes to: the word is returned, or the run ends with what the
 -- words of the condition say, or the code stopped.
 use Rattle.std.specs.Prelude.{◌≡◌, ℕ, ◌+◌, ◌^◌, ◌<◌, ◌≤◌, [], ◌∷◌, ◌++◌, length, Option, Some}
 use Rattle.lang_meaning.specs.State.{main_context, Landing, value, exit}
@@ -6,6 +6,7 @@ use Rattle.lang_meaning.specs.Values.{Value}
 use Rattle.flat_language.specs.FlatForm.{FlatForm}
 use Rattle.flat_language.specs.FlatMeaning.{mean}
 use Rattle.flat_language.specs.FlatState.{no_environment, FlatState, FlatEvaluated}
+use Rattle.flat_language.specs.FlatState.{charged as flat_charged}
 use Rattle.mid_code.specs.declared.operation.Arithmetic.TheVariants as which
 use Rattle.mid_code.specs.Arena.{record_of}
 use Rattle.mid_code.specs.Meaning.{exec_step}
@@ -24,18 +25,18 @@ use Rattle.back_relation.specs.Worlds.{World}
 use Rattle.back_relation.specs.StackWords.{HasWordAt}
 use Rattle.back_relation.specs.Things.{Things}
 use Rattle.back_relation.specs.Around.{RoomFor}
-use Rattle.back_relation.specs.Ends.{PaidFrom, ChargedFrom, ControlBack, LandingIs, Ends}
+use Rattle.back_relation.specs.Ends.{PaidFrom, ChargedFrom, ControlBack, LandingIs, Ends, form_credit}
 use Rattle.back_relation.specs.Forms.{HasRegisters, FormStands, value_code, DoesForm, context_at, code_at}
 use Rattle.back_mains.specs.Beginning.{NothingAround, end_there}
-use Rattle.back_mains.specs.MainSteps.{end_linked, end_landed}
+use Rattle.back_mains.specs.MainSteps.{end_laid, end_landed}
 use Rattle.back_mains.specs.Surroundings.{main_form_scope}
 
 -- the record of the end with the form inside
 abbrev pub main_step : Steps → MidStep
-main_step form = with_block 0 record_words 5 (code_of (end_linked ++ (form ++ (return_word 8 ∷ [])))) (code_of end_landed)
+main_step form = with_block 0 record_words 5 (code_of (end_laid ++ (form ++ (return_word 8 ∷ [])))) (code_of end_landed)
 
 module _ (setting : Setting) where
-  -- the form gave a value, whose word is returned; the block of the record is the innermost one still
+  -- The form gave a value, whose word is returned; the block of the record is the innermost one still. The first unit of the form pays for it.
   pub record MainValue (current link : ℕ) (z : FlatState) (y : MidState) (r : FlatEvaluated) (q : MidOutcome) : Type 0 where
     pub result : Value
     pub outcome : r.outcome ≡ value result
@@ -50,7 +51,7 @@ module _ (setting : Setting) where
     pub blocks : q.state.arena.blocks ≡ record_of record_words ∷ y.arena.blocks
     pub same_size : length q.state.arena.memory ≡ length y.arena.memory
     pub frame : length r.state.frame ≡ 0
-    pub paid : PaidFrom 156 z y r.state q.state
+    pub paid : PaidFrom (form_credit + 156) (flat_charged 1 z) y r.state q.state
 
   -- The form transferred to the end, from a state in which all things stand. Where the words of the condition are there, the run ends with them.
   pub record MainLeft (z : FlatState) (y : MidState) (r : FlatEvaluated) (q : MidOutcome) : Type 0 where
@@ -64,7 +65,7 @@ module _ (setting : Setting) where
     pub of_value : word_of w'.places result ≡ Some word
     pub landing_word : ℕ
     pub landing_is : LandingIs setting landing_word landing
-    pub paid : PaidFrom 142 z y r.state there
+    pub paid : PaidFrom (form_credit + 142) (flat_charged 1 z) y r.state there
     pub ends :
         (class number : ℕ) → word + 2 < 2 ^ 32 → class + 2 < 2 ^ 32 → HasWordAt there (word + 2) class → HasWordAt there (class + 2) number
         → q.end ≡ unhandled (computed which.ShiftRight number 2) landing_word word
@@ -83,6 +84,6 @@ LawOfMainEnds =
     (MainLeft setting z y (mean (context_at setting k) f no_environment main_context z)
     (exec_step (code_at setting k turns) (main_step (lower setting.names setting.at setting.program (main_scope setting.names setting.at setting.program) 8 f).value)
     (r0 ∷ r1 ∷ r2 ∷ r3 ∷ r4 ∷ r5 ∷ r6 ∷ r7 ∷ r8 ∷ tail) y))
-    turns z y (mean (context_at setting k) f no_environment main_context z)
+    turns (flat_charged 1 z) y (mean (context_at setting k) f no_environment main_context z)
     (exec_step (code_at setting k turns) (main_step (lower setting.names setting.at setting.program (main_scope setting.names setting.at setting.program) 8 f).value)
     (r0 ∷ r1 ∷ r2 ∷ r3 ∷ r4 ∷ r5 ∷ r6 ∷ r7 ∷ r8 ∷ tail) y)
