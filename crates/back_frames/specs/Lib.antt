@@ -1,0 +1,4 @@
+pub mod Totals
+pub mod Heights
+pub mod Boxes
+pub mod Laws
