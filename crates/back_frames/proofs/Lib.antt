@@ -6,3 +6,5 @@ pub mod Surroundings
 pub mod LeafNames
 pub mod RecordNames
 pub mod CallNames
+pub mod PrimitiveNames
+pub mod FormParts
