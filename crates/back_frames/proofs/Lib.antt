@@ -8,3 +8,4 @@ pub mod RecordNames
 pub mod CallNames
 pub mod PrimitiveNames
 pub mod FormParts
+pub mod FormNames

@@ -7,6 +7,7 @@ use Rattle.back_frames.proofs.RecordNames.{block_names}
 use Rattle.back_frames.proofs.CallNames.{call_names}
 use Rattle.back_frames.proofs.PrimitiveNames.{judged_names}
 use Rattle.back_frames.proofs.FormParts.{two_names}
+use Rattle.back_frames.proofs.FormNames.{form_names}
 use Rattle.back_frames.proofs.laws.law_frames_paid.Goals as goal
 
 pub returns : goal.returns
