@@ -9,3 +9,8 @@ pub mod CallNames
 pub mod PrimitiveNames
 pub mod FormParts
 pub mod FormNames
+pub mod Once
+pub mod PlaceRegisters
+pub mod Paid
+pub mod Bodies
+pub mod Whole

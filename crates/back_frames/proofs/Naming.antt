@@ -93,6 +93,9 @@ returns a = record { all = (a, tt) }
 pub cuts : {P : ℕ → Type 0} {b r : ℕ} → P b → P r → StepNames P (cut_to b r)
 cuts a b = record { all = (a, (b, tt)) }
 
+pub ends : {P : ℕ → Type 0} {class site condition : ℕ} → P class → P site → P condition → StepNames P (end_unhandled class site condition)
+ends a b c = record { all = (a, (b, (c, tt))) }
+
 pub chooses : {P : ℕ → Type 0} {how : Comparison} {a b : ℕ} {first second : Steps} → P a → P b → Names P first → Names P second
     → StepNames P (where_so how a b first second)
 chooses {P} {how} {a} {b} {first} {second} x y one other = record { all = (x, (y, all_both P (of_code (code_of first)) (of_code (code_of second)) one.all other.all)) }

@@ -3,4 +3,4 @@
 
 pub mod laws;
 
-pub use laws::law_frames_paid;
+pub use laws::{law_bodies_paid, law_frames_paid, law_mains_paid};
