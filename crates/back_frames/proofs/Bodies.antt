@@ -1,12 +1,12 @@
 -- **The frame of a body, and of a main form, with what its code lays at a time.**
-use Rattle.std.proofs.Common.{◌≡◌, ℕ, zero, suc, ◌+◌, ◌*◌, ◌<◌, ◌≤◌, Bool, true, false, List, [], ◌∷◌, ◌++◌, ◌⊎◌, inl, inr, Option, Some, None, length, refl, ap, ◌∙◌, arith, length-append}
+use Rattle.std.proofs.Common.{◌≡◌, ℕ, ◌+◌, ◌*◌, ◌≤◌, Bool, true, false, List, [], ◌∷◌, ◌++◌, inl, inr, length, refl, arith, length-append}
 use Rattle.std.specs.Prelude.{max, if◌then◌else◌}
 use Rattle.base.specs.AllOf.{AllOf}
 use Rattle.flat_language.specs.declared.place.Home.{Home}
 use Rattle.flat_language.specs.declared.place.Home.TheVariants as home
 use Rattle.flat_language.specs.declared.program.FlatProcedure.{FlatProcedure}
 use Rattle.flat_language.specs.FlatForm.{FlatForm}
-use Rattle.flat_language.specs.FlatNodes.{homes, own_nodes, nodes}
+use Rattle.flat_language.specs.FlatNodes.{homes, nodes}
 use Rattle.flat_language.specs.FlatFits.{Fits}
 use Rattle.mid_code.specs.declared.operation.Arithmetic.TheVariants as which
 use Rattle.mid_code.specs.MidCode.{with_block, return_word, end_unhandled, code_of}
@@ -21,19 +21,18 @@ use Rattle.back_lowering.specs.Leaves.{boxes_made}
 use Rattle.back_lowering.specs.Records.{record_laid}
 use Rattle.back_lowering.specs.Codes.{lower}
 use Rattle.back_lowering.specs.Calls.{variable_count}
-use Rattle.back_lowering.specs.Program.{Extra, nothing, its_method, itself, method_at, site_register, scope_of, site_taken, body_of, main_scope, main_form}
+use Rattle.back_lowering.specs.Program.{Extra, nothing, its_method, itself, method_at, site_register, scope_of, site_taken, main_scope, main_form}
 use Rattle.back_relation.specs.Setting.{Setting}
 use Rattle.back_relation.specs.Room.{routine_words, words_for}
-use Rattle.back_relation.specs.Procedures.{body_words, BodyPaid}
-use Rattle.back_frames.specs.Totals.{total}
+use Rattle.back_relation.specs.Procedures.{BodyPaid}
 use Rattle.back_frames.specs.Heights.{height}
-use Rattle.back_frames.specs.Boxes.{boxes, captures_itself, captured_variables, BoxesAreCaptured}
+use Rattle.back_frames.specs.Boxes.{boxes, captures_itself, BoxesAreCaptured}
 use Rattle.back_frames.specs.Laws.{LawOfBodiesPaid, LawOfMainsPaid}
 use Rattle.back_frames.proofs.Nodes.{nodes_are}
-use Rattle.back_frames.proofs.FormsIn.{forms_in, tally, total_is}
-use Rattle.back_frames.proofs.Bounds.{own_names, FormBounded, bounded}
+use Rattle.back_frames.proofs.FormsIn.{forms_in, total_is}
+use Rattle.back_frames.proofs.Bounds.{own_names, bounded}
 use Rattle.back_frames.proofs.Paid.{all_paid, fit_paid}
-use Rattle.back_frames.proofs.Naming.{StepNames, Names, Range, narrowed, none, ◌▸◌, ◌⊹◌, either, constants, computes, loads, stores, returns, ends, blocks}
+use Rattle.back_frames.proofs.Naming.{Names, Range, narrowed, none, ◌▸◌, ◌⊹◌, either, constants, computes, loads, stores, returns, ends, blocks}
 use Rattle.back_frames.proofs.Surroundings.{SiteAllowed, MethodAllowed, Around, AllPlaces}
 use Rattle.back_frames.proofs.LeafNames.{load_from_names, boxed_registers, boxes_names}
 use Rattle.back_frames.proofs.RecordNames.{laid_names}
@@ -190,8 +189,8 @@ module _ (setting : Setting) (f : FlatForm) where
       let r7 : Q 7 = low_there 7 (omega arith) (omega arith) in
       let r8 : Q 8 = main_range 8 (omega arith) (omega arith) in
       let form =
-          form_names setting.names setting.at setting.program Q (main_scope setting.names setting.at setting.program) 8 f main_around main_places
-          (narrowed 8 height_there 8 (height f) main_range (omega arith) (omega arith))
+      form_names setting.names setting.at setting.program Q (main_scope setting.names setting.at setting.program) 8 f main_around main_places
+      (narrowed 8 height_there 8 (height f) main_range (omega arith) (omega arith))
       in
       blocks {inside = inside} {landing = landing} r0 r5
       (laid_names 0 6 end_kind (narrowed 0 8 0 5 low_there (omega arith) (omega arith)) r6 r7

@@ -1,6 +1,6 @@
 -- Heights and words of forms are bounded by their nodes.
-use Rattle.std.proofs.Common.{◌≡◌, ℕ, suc, ◌+◌, ◌*◌, ◌<◌, ◌≤◌, Bool, true, false, List, [], ◌∷◌, ◌++◌, Option, Some, None, refl, arith, length}
-use Rattle.std.specs.Prelude.{slice_get, is_some, max, if◌then◌else◌}
+use Rattle.std.proofs.Common.{ℕ, ◌+◌, ◌*◌, ◌<◌, ◌≤◌, Bool, true, false, List, ◌++◌, Option, Some, None, arith, length}
+use Rattle.std.specs.Prelude.{slice_get, is_some, if◌then◌else◌}
 use Rattle.base.specs.AllOf.{AllOf}
 use Rattle.lang_meaning.specs.declared.program.Callee.{Callee}
 use Rattle.lang_meaning.specs.declared.program.Callee.TheVariants.{Procedure, Generic}
@@ -11,7 +11,7 @@ use Rattle.flat_language.specs.declared.program.FlatProgram.{FlatProgram}
 use Rattle.flat_language.specs.FlatForm.{FlatForm, literal, local, set_local, global, set_global, def_global, clauses, sequence, let_form, make_function, call, call_value, apply, prim, while_form, block, return_from, tagbody, go, catch_form, throw, unwind, dynamic_let, dynamic, set_dynamic, def_dynamic, with_handler, signal_form, continue_form, next_method, has_next, sited}
 use Rattle.flat_language.specs.FlatForm.{FlatForms, no_form, form_and, FlatClauses, no_clause, clause_and, FlatBody, no_body, with_body}
 use Rattle.flat_language.specs.FlatForm.{FlatBindings, no_binding, binding_and, FlatDynamics, no_dynamic, dynamic_and}
-use Rattle.flat_language.specs.FlatNodes.{own_nodes, count_forms, count_bindings, count_dynamics}
+use Rattle.flat_language.specs.FlatNodes.{own_nodes, count_forms}
 use Rattle.back_relation.specs.Room.{row_of, words_for_literal, words_for_callee, words_for_call, words_for, words_for_forms, words_for_clauses, words_for_body, words_for_values, words_for_dynamics}
 use Rattle.back_frames.specs.Totals.{total, total_of_forms, total_of_clauses, total_of_body, total_of_values, total_of_dynamics}
 use Rattle.back_frames.specs.Heights.{height, height_of_forms, height_of_arguments, height_of_clauses, height_of_body, height_of_values, height_of_dynamics}

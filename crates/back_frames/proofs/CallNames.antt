@@ -1,5 +1,5 @@
 -- The registers that the code of calls names.
-use Rattle.std.proofs.Common.{◌≡◌, ℕ, zero, suc, ◌+◌, ◌-◌, ◌<◌, ◌≤◌, Bool, true, false, List, [], ◌∷◌, ◌++◌, Option, Some, None, length, refl, arith}
+use Rattle.std.proofs.Common.{◌≡◌, ℕ, zero, suc, ◌+◌, ◌-◌, ◌≤◌, Bool, true, false, List, [], ◌∷◌, ◌++◌, Option, Some, None, length, refl, arith}
 use Rattle.std.specs.Prelude.{slice_get, is_some, if◌then◌else◌}
 use Rattle.std.proofs.lemmas.Bool.Decides.{nat_tests}
 use Rattle.base.specs.AllOf.{AllOf, all_both}
@@ -18,7 +18,7 @@ use Rattle.back_lowering.specs.declared.placement.Placement.{Placement}
 use Rattle.back_lowering.specs.Sites.{asks_site}
 use Rattle.back_lowering.specs.Steps.{Steps}
 use Rattle.back_lowering.specs.Calls.{is_method, site_for, no_method, list_of, with_words, enter_body, wrong_number, call_with_rest, call_procedure, call_generic, call_callee, call_name, call_value_code}
-use Rattle.back_frames.proofs.Naming.{Names, Range, narrowed, those, none, ◌▸◌, ◌⊹◌, either, moves, constants, computes, loads, stores, requests, calls, blocks}
+use Rattle.back_frames.proofs.Naming.{Names, Range, narrowed, those, none, ◌▸◌, ◌⊹◌, either, constants, computes, loads, stores, requests, calls, blocks}
 use Rattle.back_frames.proofs.Surroundings.{SiteAllowed}
 use Rattle.back_frames.proofs.LeafNames.{site_names, failing_names, failing_with_names, words_stored_names}
 

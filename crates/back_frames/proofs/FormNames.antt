@@ -1,12 +1,11 @@
 -- **The registers that the code of a form names**: those of its surroundings that its forms name by places, and those from its first one up to its
 -- height.
-use Rattle.std.proofs.Common.{◌≡◌, ℕ, zero, suc, ◌+◌, ◌<◌, ◌≤◌, Bool, true, false, List, [], ◌∷◌, ◌++◌, Option, Some, None, length, refl, subst, sym, arith}
-use Rattle.std.specs.Prelude.{slice_get, max}
+use Rattle.std.proofs.Common.{◌≡◌, ℕ, ◌+◌, ◌≤◌, List, [], ◌++◌, length, refl, arith}
+use Rattle.std.specs.Prelude.{slice_get}
 use Rattle.base.specs.AllOf.{AllOf, all_both}
-use Rattle.flat_language.specs.declared.place.Home.{Home}
 use Rattle.flat_language.specs.declared.program.FlatProgram.{FlatProgram}
 use Rattle.flat_language.specs.FlatForm.{FlatForm, literal, local, set_local, global, set_global, def_global, clauses, sequence, let_form, make_function, call, call_value, apply, prim, while_form, block, return_from, tagbody, go, catch_form, throw, unwind, dynamic_let, dynamic, set_dynamic, def_dynamic, with_handler, signal_form, continue_form, next_method, has_next, sited}
-use Rattle.flat_language.specs.FlatForm.{FlatForms, no_form, form_and, FlatClauses, no_clause, clause_and, FlatBody, no_body, with_body}
+use Rattle.flat_language.specs.FlatForm.{FlatForms, no_form, form_and, FlatClauses, no_clause, clause_and, no_body, with_body}
 use Rattle.flat_language.specs.FlatForm.{FlatBindings, no_binding, binding_and, FlatDynamics, no_dynamic, dynamic_and}
 use Rattle.flat_language.specs.FlatMeaning.{binding_homes}
 use Rattle.flat_language.specs.FlatNodes.{count_forms, count_bindings, count_dynamics}
@@ -20,9 +19,9 @@ use Rattle.back_lowering.specs.declared.scope.Scope.{Scope}
 use Rattle.back_lowering.specs.declared.placement.Placement.{Placement}
 use Rattle.back_lowering.specs.Routines.{throw_routine, continue_routine, signal_routine, apply_routine}
 use Rattle.back_lowering.specs.Steps.{Steps}
-use Rattle.back_lowering.specs.Codes.{Lowered, by_value, lower, lower_sequence, lower_behind, lower_arguments, lower_call_value, lower_segments, lower_clauses, lower_clause, lower_bindings, lower_dynamics}
-use Rattle.back_frames.specs.Heights.{height, height_of_forms, height_of_arguments, height_of_clauses, height_of_body, height_of_values, height_of_dynamics}
-use Rattle.back_frames.proofs.FormsIn.{forms_in, in_forms, in_clauses, in_body, in_values, in_dynamics, in_front, behind}
+use Rattle.back_lowering.specs.Codes.{Lowered, by_value, lower, lower_sequence, lower_behind, lower_arguments, lower_segments, lower_clauses, lower_bindings, lower_dynamics}
+use Rattle.back_frames.specs.Heights.{height, height_of_forms, height_of_arguments, height_of_clauses, height_of_values, height_of_dynamics}
+use Rattle.back_frames.proofs.FormsIn.{forms_in, in_forms, in_clauses, in_values, in_dynamics, in_front, behind}
 use Rattle.back_frames.proofs.Naming.{StepNames, Names, CodesName, Range, narrowed, those, none, ◌▸◌, ◌⊹◌, moves, constants, repeats}
 use Rattle.back_frames.proofs.Surroundings.{Around, PlacesAllowed, AllPlaces, Keeps, all_kept, slots_keep, exit_keeps, inside_keeps, cleanup_keeps}
 use Rattle.back_frames.proofs.LeafNames.{variable_names, variable_from_names, boxes_names, boxed_in_range}
@@ -129,9 +128,9 @@ module _ (names : List (List ℕ)) (at : Placement) (program : FlatProgram) (P :
         let inside : Scope = with_slots (registers_from d (length (binding_homes bs))) s in
         let keeps : Keeps P s inside = slots_keep P s (registers_from d (length (binding_homes bs))) (those d (length (binding_homes bs)) there) in
         let inner =
-            form_names inside (d + length (binding_homes bs)) body (around_slots P s around (registers_from d (length (binding_homes bs))))
-            (all_kept P s inside keeps (forms_in body) (behind (PlacesAllowed P s) (in_values bs) (forms_in body) h.1))
-            (narrowed d (height (let_form bs body)) (d + length (binding_homes bs)) (height body) all (omega arith) (omega arith))
+        form_names inside (d + length (binding_homes bs)) body (around_slots P s around (registers_from d (length (binding_homes bs))))
+        (all_kept P s inside keeps (forms_in body) (behind (PlacesAllowed P s) (in_values bs) (forms_in body) h.1))
+        (narrowed d (height (let_form bs body)) (d + length (binding_homes bs)) (height body) all (omega arith) (omega arith))
         in
         by_value_names d _ d0 d1
         (values_names s d bs around (in_front (PlacesAllowed P s) (in_values bs) (forms_in body) h.1)
@@ -194,7 +193,7 @@ module _ (names : List (List ℕ)) (at : Placement) (program : FlatProgram) (P :
     form_names s d (prim which fs) around h all =
         let there : Range P d (count_forms fs + 3) = narrowed d (height (prim which fs)) d (count_forms fs + 3) all (omega arith) (omega arith) in
         let arguments =
-            arguments_names s d fs around h.1 (narrowed d (height (prim which fs)) d (height_of_arguments fs) all (omega arith) (omega arith))
+        arguments_names s d fs around h.1 (narrowed d (height (prim which fs)) d (height_of_arguments fs) all (omega arith) (omega arith))
         in
         let judged = judged_names at program.literals P fs d s.site around.site there which in
         record {
@@ -299,12 +298,12 @@ module _ (names : List (List ℕ)) (at : Placement) (program : FlatProgram) (P :
     sequence_names s d no_form around h d0 all = constants d0 ▸ none
     sequence_names s d (form_and f fs) around h d0 all =
         let first =
-            form_names s d f around (in_front (PlacesAllowed P s) (forms_in f) (in_forms fs) h)
-            (narrowed d (height_of_forms (form_and f fs)) d (height f) all (omega arith) (omega arith))
+        form_names s d f around (in_front (PlacesAllowed P s) (forms_in f) (in_forms fs) h)
+        (narrowed d (height_of_forms (form_and f fs)) d (height f) all (omega arith) (omega arith))
         in
         let more =
-            behind_names s d fs around (behind (PlacesAllowed P s) (forms_in f) (in_forms fs) h)
-            (narrowed d (height_of_forms (form_and f fs)) d (height_of_forms fs) all (omega arith) (omega arith))
+        behind_names s d fs around (behind (PlacesAllowed P s) (forms_in f) (in_forms fs) h)
+        (narrowed d (height_of_forms (form_and f fs)) d (height_of_forms fs) all (omega arith) (omega arith))
         in
         first.value ⊹ more
 
@@ -313,8 +312,8 @@ module _ (names : List (List ℕ)) (at : Placement) (program : FlatProgram) (P :
     behind_names s d (form_and f fs) around h all =
         let first = form_names s d f around (in_front (PlacesAllowed P s) (forms_in f) (in_forms fs) h) (narrowed d (height_of_forms (form_and f fs)) d (height f) all (omega arith) (omega arith)) in
         let more =
-            behind_names s (d) fs around (behind (PlacesAllowed P s) (forms_in f) (in_forms fs) h)
-            (narrowed d (height_of_forms (form_and f fs)) (d) (height_of_forms fs) all (omega arith) (omega arith))
+        behind_names s (d) fs around (behind (PlacesAllowed P s) (forms_in f) (in_forms fs) h)
+        (narrowed d (height_of_forms (form_and f fs)) (d) (height_of_forms fs) all (omega arith) (omega arith))
         in
         first.value ⊹ more
 
@@ -323,8 +322,8 @@ module _ (names : List (List ℕ)) (at : Placement) (program : FlatProgram) (P :
     arguments_names s d (form_and f fs) around h all =
         let first = form_names s d f around (in_front (PlacesAllowed P s) (forms_in f) (in_forms fs) h) (narrowed d (height_of_arguments (form_and f fs)) d (height f) all (omega arith) (omega arith)) in
         let more =
-            arguments_names s (d + 1) fs around (behind (PlacesAllowed P s) (forms_in f) (in_forms fs) h)
-            (narrowed d (height_of_arguments (form_and f fs)) (d + 1) (height_of_arguments fs) all (omega arith) (omega arith))
+        arguments_names s (d + 1) fs around (behind (PlacesAllowed P s) (forms_in f) (in_forms fs) h)
+        (narrowed d (height_of_arguments (form_and f fs)) (d + 1) (height_of_arguments fs) all (omega arith) (omega arith))
         in
         first.value ⊹ more
 
@@ -333,8 +332,8 @@ module _ (names : List (List ℕ)) (at : Placement) (program : FlatProgram) (P :
     values_names s d (binding_and v f bs) around h all =
         let first = form_names s d f around (in_front (PlacesAllowed P s) (forms_in f) (in_values bs) h) (narrowed d (height_of_values (binding_and v f bs)) d (height f) all (omega arith) (omega arith)) in
         let more =
-            values_names s (d + 1) bs around (behind (PlacesAllowed P s) (forms_in f) (in_values bs) h)
-            (narrowed d (height_of_values (binding_and v f bs)) (d + 1) (height_of_values bs) all (omega arith) (omega arith))
+        values_names s (d + 1) bs around (behind (PlacesAllowed P s) (forms_in f) (in_values bs) h)
+        (narrowed d (height_of_values (binding_and v f bs)) (d + 1) (height_of_values bs) all (omega arith) (omega arith))
         in
         first.value ⊹ more
 
@@ -343,8 +342,8 @@ module _ (names : List (List ℕ)) (at : Placement) (program : FlatProgram) (P :
     dynamics_names s d (dynamic_and n f ds) around h all =
         let first = form_names s d f around (in_front (PlacesAllowed P s) (forms_in f) (in_dynamics ds) h) (narrowed d (height_of_dynamics (dynamic_and n f ds)) d (height f) all (omega arith) (omega arith)) in
         let more =
-            dynamics_names s (d + 1) ds around (behind (PlacesAllowed P s) (forms_in f) (in_dynamics ds) h)
-            (narrowed d (height_of_dynamics (dynamic_and n f ds)) (d + 1) (height_of_dynamics ds) all (omega arith) (omega arith))
+        dynamics_names s (d + 1) ds around (behind (PlacesAllowed P s) (forms_in f) (in_dynamics ds) h)
+        (narrowed d (height_of_dynamics (dynamic_and n f ds)) (d + 1) (height_of_dynamics ds) all (omega arith) (omega arith))
         in
         first.value ⊹ more
 
@@ -353,8 +352,8 @@ module _ (names : List (List ℕ)) (at : Placement) (program : FlatProgram) (P :
     segments_names s d (form_and f fs) around h all =
         let first = form_names s d f around (in_front (PlacesAllowed P s) (forms_in f) (in_forms fs) h) (narrowed d (height_of_forms (form_and f fs)) d (height f) all (omega arith) (omega arith)) in
         let more =
-            segments_names s (d) fs around (behind (PlacesAllowed P s) (forms_in f) (in_forms fs) h)
-            (narrowed d (height_of_forms (form_and f fs)) (d) (height_of_forms fs) all (omega arith) (omega arith))
+        segments_names s (d) fs around (behind (PlacesAllowed P s) (forms_in f) (in_forms fs) h)
+        (narrowed d (height_of_forms (form_and f fs)) (d) (height_of_forms fs) all (omega arith) (omega arith))
         in
         record {
           all =
@@ -369,26 +368,26 @@ module _ (names : List (List ℕ)) (at : Placement) (program : FlatProgram) (P :
         let d0 : P d = all d (omega arith) (omega arith) in
         let d1 : P (d + 1) = all (d + 1) (omega arith) (omega arith) in
         let first =
-            form_names s d test around (in_front (PlacesAllowed P s) (forms_in test) (in_clauses cs) h)
-            (narrowed d (height_of_clauses (clause_and test no_body cs)) d (height test) all (omega arith) (omega arith))
+        form_names s d test around (in_front (PlacesAllowed P s) (forms_in test) (in_clauses cs) h)
+        (narrowed d (height_of_clauses (clause_and test no_body cs)) d (height test) all (omega arith) (omega arith))
         in
         let more =
-            clauses_names s d cs around (behind (PlacesAllowed P s) (forms_in test) (in_clauses cs) h)
-            (narrowed d (height_of_clauses (clause_and test no_body cs)) d (height_of_clauses cs) all (omega arith) (omega arith))
+        clauses_names s d cs around (behind (PlacesAllowed P s) (forms_in test) (in_clauses cs) h)
+        (narrowed d (height_of_clauses (clause_and test no_body cs)) d (height_of_clauses cs) all (omega arith) (omega arith))
         in
         (first.value ⊹ constants d1 ▸ none) ⊹ chooses_test {first = []} d0 d1 none more ▸ none
     clauses_names s d (clause_and test (with_body f) cs) around h all =
         let others : AllOf (PlacesAllowed P s) (forms_in f ++ in_clauses cs) = behind (PlacesAllowed P s) (forms_in test) (forms_in f ++ in_clauses cs) h in
         let first =
-            form_names s d test around (in_front (PlacesAllowed P s) (forms_in test) (forms_in f ++ in_clauses cs) h)
-            (narrowed d (height_of_clauses (clause_and test (with_body f) cs)) d (height test) all (omega arith) (omega arith))
+        form_names s d test around (in_front (PlacesAllowed P s) (forms_in test) (forms_in f ++ in_clauses cs) h)
+        (narrowed d (height_of_clauses (clause_and test (with_body f) cs)) d (height test) all (omega arith) (omega arith))
         in
         let second =
-            form_names s d f around (in_front (PlacesAllowed P s) (forms_in f) (in_clauses cs) others)
-            (narrowed d (height_of_clauses (clause_and test (with_body f) cs)) d (height f) all (omega arith) (omega arith))
+        form_names s d f around (in_front (PlacesAllowed P s) (forms_in f) (in_clauses cs) others)
+        (narrowed d (height_of_clauses (clause_and test (with_body f) cs)) d (height f) all (omega arith) (omega arith))
         in
         let more =
-            clauses_names s d cs around (behind (PlacesAllowed P s) (forms_in f) (in_clauses cs) others)
-            (narrowed d (height_of_clauses (clause_and test (with_body f) cs)) d (height_of_clauses cs) all (omega arith) (omega arith))
+        clauses_names s d cs around (behind (PlacesAllowed P s) (forms_in f) (in_clauses cs) others)
+        (narrowed d (height_of_clauses (clause_and test (with_body f) cs)) d (height_of_clauses cs) all (omega arith) (omega arith))
         in
         first.judged.ready ⊹ chooses_test first.judged.first first.judged.second second.value more ▸ none

@@ -1,5 +1,5 @@
 -- The registers that the code of single forms names, beside the code of the forms in them.
-use Rattle.std.proofs.Common.{◌≡◌, ℕ, zero, suc, ◌+◌, ◌*◌, ◌<◌, ◌≤◌, Bool, true, false, List, [], ◌∷◌, ◌++◌, Option, Some, None, length, refl, arith}
+use Rattle.std.proofs.Common.{◌≡◌, ℕ, ◌+◌, ◌*◌, List, [], ◌∷◌, Option, Some, None, refl, arith}
 use Rattle.std.specs.Prelude.{slice_get}
 use Rattle.base.specs.AllOf.{AllOf}
 use Rattle.lang_meaning.specs.declared.program.LiteralRow.{LiteralRow}
@@ -17,7 +17,6 @@ use Rattle.flat_language.specs.declared.place.FlatCapture.TheVariants as part
 use Rattle.flat_language.specs.declared.program.FlatProgram.{FlatProgram}
 use Rattle.flat_language.specs.FlatForm.{FlatDynamics, no_dynamic, dynamic_and}
 use Rattle.flat_language.specs.FlatNodes.{count_dynamics}
-use Rattle.mid_arena.specs.Tags.{nil_word}
 use Rattle.mid_arena.specs.FixedWords.{true_address}
 use Rattle.back_lowering.specs.ControlWords.{binding_variable, binding_value, binding_outer, binding_words}
 use Rattle.back_lowering.specs.declared.scope.SitePlace.{SitePlace}
@@ -28,7 +27,7 @@ use Rattle.back_lowering.specs.declared.placement.Placement.{Placement}
 use Rattle.back_lowering.specs.Steps.{Steps}
 use Rattle.back_lowering.specs.Codes.{innermost, literal_code, if_bound, global_code, set_global_code, def_global_code, binding_into, dynamic_code, set_dynamic_code, def_dynamic_code, part_into, parts_stored, function_code, method_into, next_code, has_next_code, exit_code, bindings_laid, dynamic_let_code, with_handler_code, with_two}
 use Rattle.back_frames.proofs.Naming.{Names, Range, narrowed, none, ◌▸◌, ◌⊹◌, moves, constants, computes, loads, stores, requests, calls, chooses, blocks}
-use Rattle.back_frames.proofs.Surroundings.{Allowed, ExitAllowed, MethodAllowed, SiteAllowed, Around, VariableAllowed, PlaceAllowed, PartAllowed}
+use Rattle.back_frames.proofs.Surroundings.{ExitAllowed, MethodAllowed, SiteAllowed, Around, PlaceAllowed, PartAllowed}
 use Rattle.back_frames.proofs.LeafNames.{load_from_names, store_to_names, store_far_names, site_names, failing_with_names, domain_names, captured_names, captured_variable_names, exit_into_names}
 use Rattle.back_frames.proofs.RecordNames.{serial_code_names, own_names}
 

@@ -1,7 +1,7 @@
 -- The registers that the code of what many forms do names.
-use Rattle.std.proofs.Common.{◌≡◌, ℕ, zero, suc, ◌+◌, ◌*◌, ◌<◌, ◌≤◌, Bool, true, false, List, [], ◌∷◌, ◌++◌, Option, Some, None, length, refl, arith}
-use Rattle.std.specs.Prelude.{nat_le, slice_get, pos}
-use Rattle.base.specs.AllOf.{AllOf, all_both}
+use Rattle.std.proofs.Common.{ℕ, zero, suc, ◌+◌, List, [], ◌∷◌, Option, Some, None, length, arith}
+use Rattle.std.specs.Prelude.{nat_le, slice_get}
+use Rattle.base.specs.AllOf.{AllOf}
 use Rattle.flat_language.specs.declared.place.Home.{Home}
 use Rattle.flat_language.specs.declared.place.Home.TheVariants as home
 use Rattle.flat_language.specs.declared.place.VariablePlace.{VariablePlace}
@@ -9,18 +9,16 @@ use Rattle.flat_language.specs.declared.place.VariablePlace.TheVariants.{Slot, S
 use Rattle.flat_language.specs.declared.place.ExitPlace.{ExitPlace}
 use Rattle.flat_language.specs.declared.place.ExitPlace.TheVariants as exit_place
 use Rattle.mid_code.specs.declared.operation.Arithmetic.TheVariants as which
-use Rattle.mid_code.specs.MidCode.{code_of}
-use Rattle.mid_arena.specs.Tags.{nil_word}
 use Rattle.back_lowering.specs.ControlWords.{site_address}
 use Rattle.back_lowering.specs.declared.scope.SitePlace.{SitePlace}
 use Rattle.back_lowering.specs.declared.scope.SitePlace.TheVariants.{Known, Held}
 use Rattle.back_lowering.specs.declared.scope.OwnExit.{OwnExit}
 use Rattle.back_lowering.specs.declared.scope.Scope.{Scope}
 use Rattle.back_lowering.specs.declared.placement.Placement.{Placement}
-use Rattle.back_lowering.specs.Steps.{Steps, move, constant, compute, load, store, most_offset, load_from, store_to, load_far, store_far, words_stored}
+use Rattle.back_lowering.specs.Steps.{constant, compute, load, store, most_offset, load_from, store_to, load_far, store_far, words_stored}
 use Rattle.back_lowering.specs.Leaves.{site_stored, failing, failing_with, domain_error, captured_offset, captured_into, slot_into, variable_into, slot_from, variable_from, captured_variable, serial_into, exit_into, boxes_made}
-use Rattle.back_frames.proofs.Naming.{StepNames, Names, Range, narrowed, none, ◌▸◌, ◌⊹◌, either, moves, constants, computes, loads, stores, requests, calls}
-use Rattle.back_frames.proofs.Surroundings.{Allowed, ExitAllowed, SiteAllowed, Around, VariableAllowed, PlaceAllowed}
+use Rattle.back_frames.proofs.Naming.{Names, Range, narrowed, none, ◌▸◌, ◌⊹◌, either, moves, constants, computes, loads, stores, requests, calls}
+use Rattle.back_frames.proofs.Surroundings.{Allowed, ExitAllowed, SiteAllowed, VariableAllowed, PlaceAllowed}
 
 -- words at known addresses, and at any offset
 

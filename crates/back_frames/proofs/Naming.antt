@@ -1,18 +1,17 @@
 -- Code whose registers are all allowed: how steps are put together.
-use Rattle.std.proofs.Common.{◌≡◌, ℕ, zero, suc, ◌+◌, ◌<◌, ◌≤◌, Bool, true, false, List, [], ◌∷◌, ◌++◌, refl, sym, subst, arith}
-use Rattle.std.specs.Prelude.{pos, nat_le, if◌then◌else◌}
+use Rattle.std.proofs.Common.{ℕ, zero, suc, ◌+◌, ◌<◌, ◌≤◌, Bool, true, false, List, [], ◌∷◌, ◌++◌, arith}
+use Rattle.std.specs.Prelude.{pos, if◌then◌else◌}
 use Rattle.base.specs.AllOf.{AllOf, all_both}
 use Rattle.mid_code.specs.declared.operation.Arithmetic.{Arithmetic}
-use Rattle.mid_code.specs.declared.operation.Callee.TheVariants.{Procedure}
 use Rattle.mid_code.specs.declared.operation.Comparison.{Comparison}
 use Rattle.mid_code.specs.declared.operation.Counted.{Counted}
 use Rattle.mid_code.specs.declared.operation.Operation.TheVariants.{Draw}
 use Rattle.mid_code.specs.declared.operation.Test.{Test}
-use Rattle.mid_code.specs.MidCode.{MidStep, perform, choose, switch, repeat, with_block, return_word, cut_to, end_unhandled, MidCode, MidCodes, no_step, code_of}
+use Rattle.mid_code.specs.MidCode.{MidStep, perform, switch, repeat, with_block, return_word, cut_to, end_unhandled, MidCodes, code_of}
 use Rattle.back_frames.proofs.FormsIn.{in_front, behind}
 use Rattle.back_lowering.specs.Registers.{of_step, of_code, of_codes}
 use Rattle.back_lowering.specs.Scope.{registers_from}
-use Rattle.back_lowering.specs.Steps.{Steps, move, constant, compute, load, store, load_header, request, call, test_of, where_so, if_equal, if_different, if_true, most_offset, load_from, store_to, load_far, store_far, words_stored}
+use Rattle.back_lowering.specs.Steps.{Steps, move, constant, compute, load, store, load_header, request, call, where_so}
 
 -- all registers that are named are allowed
 pub record StepNames (P : ℕ → Type 0) (s : MidStep) : Type 0 where
@@ -38,7 +37,6 @@ those d (suc n) all = (all d (omega arith) (omega arith), those (d + 1) n (narro
 -- steps one after another
 
 infixr 50 ◌▸◌ ◌⊹◌
-
 pub none : {P : ℕ → Type 0} → Names P []
 none {P} = record { all = tt }
 

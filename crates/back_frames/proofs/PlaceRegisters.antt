@@ -1,5 +1,5 @@
 -- The registers that forms name by places, and how many they are.
-use Rattle.std.proofs.Common.{◌≡◌, ℕ, suc, ◌+◌, ◌*◌, ◌≤◌, List, [], ◌∷◌, ◌++◌, ◌⊎◌, inl, inr, Option, Some, None, length, refl, arith, length-append}
+use Rattle.std.proofs.Common.{ℕ, ◌+◌, ◌*◌, ◌≤◌, List, [], ◌∷◌, ◌++◌, inl, inr, Option, Some, None, length, refl, arith, length-append}
 use Rattle.std.specs.Prelude.{slice_get}
 use Rattle.base.specs.AllOf.{AllOf}
 use Rattle.flat_language.specs.declared.place.VariablePlace.{VariablePlace}
@@ -8,7 +8,7 @@ use Rattle.flat_language.specs.declared.place.ExitPlace.{ExitPlace}
 use Rattle.flat_language.specs.declared.place.ExitPlace.TheVariants as exit_place
 use Rattle.flat_language.specs.declared.place.FlatCapture.{FlatCapture}
 use Rattle.flat_language.specs.declared.place.FlatCapture.TheVariants as part
-use Rattle.flat_language.specs.FlatForm.{FlatForm, literal, local, set_local, global, set_global, def_global, clauses, sequence, let_form, make_function, call, call_value, apply, prim, while_form, block, return_from, tagbody, go, catch_form, throw, unwind, dynamic_let, dynamic, set_dynamic, def_dynamic, with_handler, signal_form, continue_form, next_method, has_next, sited}
+use Rattle.flat_language.specs.FlatForm.{FlatForm, local, set_local, make_function, return_from, go}
 use Rattle.back_lowering.specs.declared.scope.OwnExit.{OwnExit}
 use Rattle.back_lowering.specs.declared.scope.Scope.{Scope}
 use Rattle.back_frames.specs.Boxes.{variables_among, captures_itself}

@@ -1,18 +1,17 @@
 -- The registers that the code of primitives names, where they are called and where they are judged.
-use Rattle.std.proofs.Common.{◌≡◌, ℕ, suc, ◌+◌, ◌<◌, ◌≤◌, Bool, true, false, List, [], ◌∷◌, ◌++◌, Option, Some, None, refl, arith}
+use Rattle.std.proofs.Common.{◌≡◌, ℕ, ◌+◌, Bool, true, false, List, [], ◌∷◌, ◌++◌, Option, Some, None, refl, arith}
 use Rattle.std.specs.Prelude.{nat_lt, if◌then◌else◌}
 use Rattle.base.specs.AllOf.{AllOf}
 use Rattle.lang_meaning.specs.declared.primitive.Primitive.{Primitive}
 use Rattle.lang_meaning.specs.declared.primitive.Primitive.TheVariants as primitive
 use Rattle.lang_meaning.specs.declared.program.LiteralRow.{LiteralRow}
-use Rattle.flat_language.specs.FlatForm.{FlatForm, FlatForms, no_form, form_and}
+use Rattle.flat_language.specs.FlatForm.{FlatForms, no_form, form_and}
 use Rattle.flat_language.specs.FlatNodes.{count_forms}
 use Rattle.mid_code.specs.declared.operation.Comparison.{Comparison}
 use Rattle.mid_code.specs.declared.operation.Comparison.TheVariants.{Less}
 use Rattle.mid_code.specs.declared.operation.Test.{Test}
 use Rattle.mid_code.specs.MidCode.{MidStep}
 use Rattle.mid_arena.specs.FixedWords.{true_address}
-use Rattle.back_lowering.specs.Scope.{registers_from}
 use Rattle.back_lowering.specs.declared.scope.SitePlace.{SitePlace}
 use Rattle.back_lowering.specs.declared.placement.Placement.{Placement}
 use Rattle.back_lowering.specs.Steps.{Steps, move, where_so}

@@ -1,13 +1,12 @@
 -- The registers that the code of control records names.
-use Rattle.std.proofs.Common.{◌≡◌, ℕ, suc, ◌+◌, ◌<◌, ◌≤◌, List, [], ◌∷◌, ◌++◌, refl, arith}
-use Rattle.base.specs.AllOf.{AllOf}
+use Rattle.std.proofs.Common.{ℕ, ◌+◌, arith}
 use Rattle.mid_code.specs.MidCode.{MidCodes}
 use Rattle.back_lowering.specs.declared.scope.SitePlace.{SitePlace}
 use Rattle.back_lowering.specs.declared.scope.Reach.TheVariants.{AtOnce, ByTransfer, BySearch}
 use Rattle.back_lowering.specs.declared.scope.OwnExit.{OwnExit}
 use Rattle.back_lowering.specs.declared.placement.Placement.{Placement}
 use Rattle.back_lowering.specs.Steps.{Steps}
-use Rattle.back_lowering.specs.Records.{record_laid, exit_laid, record_left, record_landed, block_code, catch_code, segments_code, tagbody_code, unwind_code, by_serial, landing_kept, to_own}
+use Rattle.back_lowering.specs.Records.{record_laid, exit_laid, record_left, record_landed, block_code, catch_code, tagbody_code, unwind_code, by_serial, landing_kept, to_own}
 use Rattle.back_frames.proofs.Naming.{Names, CodesName, Range, narrowed, none, ◌▸◌, ◌⊹◌, moves, constants, computes, loads, stores, draws, calls, cuts, chooses, blocks, repeats, switches}
 use Rattle.back_frames.proofs.Surroundings.{SiteAllowed}
 use Rattle.back_frames.proofs.LeafNames.{site_names}
@@ -111,7 +110,7 @@ pub own_names : {P : ℕ → Type 0} (at : Placement) (site : SitePlace) (x : Ow
     → P d → P t → P (t + 1) → P (t + 2) → Names P (to_own at site x d t landing)
 own_names {P} at site x d t landing s serial register a b c e =
     elim x.reach as (λ r. Names P (to_own at site (record x { reach = r }) d t landing)) [
-      AtOnce ↦ landing_names t landing b c ⊹ cuts register a ▸ none
+      | AtOnce ↦ landing_names t landing b c ⊹ cuts register a ▸ none
       | ByTransfer ↦ landing_names t landing b c ⊹ calls a (register, (a, tt)) ▸ none
       | BySearch ↦ serial_code_names at site _ d t landing s (moves b serial ▸ none) a b c e
     ]

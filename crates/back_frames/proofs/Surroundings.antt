@@ -1,5 +1,5 @@
 -- What is allowed of a form's surroundings, and what a scope keeps where it gets more slots or exits.
-use Rattle.std.proofs.Common.{◌≡◌, ℕ, zero, suc, ◌+◌, List, [], ◌∷◌, ◌++◌, Option, Some, None, refl, arith, map}
+use Rattle.std.proofs.Common.{ℕ, zero, suc, ◌+◌, List, [], ◌∷◌, ◌++◌, Option, Some, None, map}
 use Rattle.std.specs.Prelude.{slice_get}
 use Rattle.base.specs.AllOf.{AllOf, all_map}
 use Rattle.flat_language.specs.declared.place.VariablePlace.{VariablePlace}

@@ -1,8 +1,5 @@
 -- **All frames of a program are paid.**
-use Rattle.std.proofs.Common.{◌≡◌, ℕ, Some, refl}
-use Rattle.std.specs.Prelude.{slice_get}
-use Rattle.base.specs.AllOf.{AllOf, all_at, all_map}
-use Rattle.flat_language.specs.declared.program.FlatProcedure.{FlatProcedure}
+use Rattle.base.specs.AllOf.{all_at, all_map}
 use Rattle.flat_language.specs.FlatFits.{Fits}
 use Rattle.back_lowering.specs.Program.{itself, extra_of}
 use Rattle.back_relation.specs.Procedures.{BodyPaid}
