@@ -26,7 +26,7 @@ use Rattle.back_relation.specs.Setting.{Setting}
 use Rattle.back_relation.specs.Room.{routine_words, words_for}
 use Rattle.back_relation.specs.Procedures.{BodyPaid}
 use Rattle.back_frames.specs.Heights.{height}
-use Rattle.back_frames.specs.Boxes.{boxes, captures_itself, BoxesAreCaptured}
+use Rattle.flat_boxes.specs.Boxes.{boxes, captures_itself, BoxesAreCaptured}
 use Rattle.back_frames.specs.Laws.{LawOfBodiesPaid, LawOfMainsPaid}
 use Rattle.back_frames.proofs.Nodes.{nodes_are}
 use Rattle.back_frames.proofs.FormsIn.{forms_in, total_is}

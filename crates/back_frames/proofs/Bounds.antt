@@ -13,7 +13,7 @@ use Rattle.flat_language.specs.FlatForm.{FlatForms, no_form, form_and, FlatClaus
 use Rattle.flat_language.specs.FlatForm.{FlatBindings, no_binding, binding_and, FlatDynamics, no_dynamic, dynamic_and}
 use Rattle.flat_language.specs.FlatNodes.{own_nodes, count_forms}
 use Rattle.back_relation.specs.Room.{row_of, words_for_literal, words_for_callee, words_for_call, words_for, words_for_forms, words_for_clauses, words_for_body, words_for_values, words_for_dynamics}
-use Rattle.back_frames.specs.Totals.{total, total_of_forms, total_of_clauses, total_of_body, total_of_values, total_of_dynamics}
+use Rattle.flat_boxes.specs.Totals.{total, total_of_forms, total_of_clauses, total_of_body, total_of_values, total_of_dynamics}
 use Rattle.back_frames.specs.Heights.{height, height_of_forms, height_of_arguments, height_of_clauses, height_of_body, height_of_values, height_of_dynamics}
 use Rattle.back_frames.proofs.FormsIn.{forms_in, in_forms, in_clauses, in_body, in_values, in_dynamics, in_front, behind}
 

@@ -6,7 +6,7 @@ use Rattle.flat_language.specs.FlatForm.{FlatForm, literal, local, set_local, gl
 use Rattle.flat_language.specs.FlatForm.{FlatForms, no_form, form_and, FlatClauses, no_clause, clause_and, no_body, with_body}
 use Rattle.flat_language.specs.FlatForm.{FlatBindings, no_binding, binding_and, FlatDynamics, no_dynamic, dynamic_and}
 use Rattle.flat_language.specs.FlatNodes.{own_nodes, nodes, nodes_of_forms, nodes_of_clauses, nodes_of_values, nodes_of_dynamics}
-use Rattle.back_frames.specs.Totals.{total, total_of_forms, total_of_clauses, total_of_values, total_of_dynamics}
+use Rattle.flat_boxes.specs.Totals.{total, total_of_forms, total_of_clauses, total_of_values, total_of_dynamics}
 
 summed : (n : ℕ) (ns : List ℕ) → sum (n ∷ ns) ≡ n + sum ns
 summed n ns = sum_by-cons (λ x. x) n ns

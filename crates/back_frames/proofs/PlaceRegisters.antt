@@ -11,7 +11,7 @@ use Rattle.flat_language.specs.declared.place.FlatCapture.TheVariants as part
 use Rattle.flat_language.specs.FlatForm.{FlatForm, local, set_local, make_function, return_from, go}
 use Rattle.back_lowering.specs.declared.scope.OwnExit.{OwnExit}
 use Rattle.back_lowering.specs.declared.scope.Scope.{Scope}
-use Rattle.back_frames.specs.Boxes.{variables_among, captures_itself}
+use Rattle.flat_boxes.specs.Boxes.{variables_among, captures_itself}
 use Rattle.back_frames.proofs.FormsIn.{tally}
 use Rattle.back_frames.proofs.Bounds.{own_names}
 use Rattle.back_frames.proofs.Once.{In, in_left, in_right}

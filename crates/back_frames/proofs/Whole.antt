@@ -3,7 +3,7 @@ use Rattle.base.specs.AllOf.{all_at, all_map}
 use Rattle.flat_language.specs.FlatFits.{Fits}
 use Rattle.back_lowering.specs.Program.{itself, extra_of}
 use Rattle.back_relation.specs.Procedures.{BodyPaid}
-use Rattle.back_frames.specs.Boxes.{BoxesAreCaptured}
+use Rattle.flat_boxes.specs.Boxes.{BoxesAreCaptured}
 use Rattle.back_frames.specs.Laws.{MainPaid, LawOfFramesPaid}
 use Rattle.back_frames.proofs.Bodies.{bodies_paid, mains_paid}
 

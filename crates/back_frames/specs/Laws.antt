@@ -10,7 +10,7 @@ use Rattle.back_lowering.specs.Program.{Extra, itself, extra_of, main_form}
 use Rattle.back_relation.specs.Setting.{Setting}
 use Rattle.back_relation.specs.Room.{words_for, routine_words}
 use Rattle.back_relation.specs.Procedures.{BodyPaid}
-use Rattle.back_frames.specs.Boxes.{BoxesAreCaptured, ProgramBoxes}
+use Rattle.flat_boxes.specs.Boxes.{BoxesAreCaptured, ProgramBoxes}
 
 -- the reserve of a main form has three words more than that of a body
 abbrev pub main_reserve : ℕ

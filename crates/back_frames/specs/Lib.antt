@@ -1,4 +1,2 @@
-pub mod Totals
 pub mod Heights
-pub mod Boxes
 pub mod Laws

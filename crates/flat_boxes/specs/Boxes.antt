@@ -9,7 +9,7 @@ use Rattle.flat_language.specs.declared.program.FlatProcedure.{FlatProcedure}
 use Rattle.flat_language.specs.declared.program.FlatProgram.{FlatProgram}
 use Rattle.flat_language.specs.FlatForm.{FlatForm, make_function}
 use Rattle.flat_language.specs.FlatNodes.{homes}
-use Rattle.back_frames.specs.Totals.{total}
+use Rattle.flat_boxes.specs.Totals.{total}
 
 -- how many of these variables have a box
 abbrev pub boxes : List Home → ℕ
