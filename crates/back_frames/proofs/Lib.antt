@@ -1,0 +1,16 @@
+pub mod Nodes
+pub mod FormsIn
+pub mod Bounds
+pub mod Naming
+pub mod Surroundings
+pub mod LeafNames
+pub mod RecordNames
+pub mod CallNames
+pub mod PrimitiveNames
+pub mod FormParts
+pub mod FormNames
+pub mod Once
+pub mod PlaceRegisters
+pub mod Paid
+pub mod Bodies
+pub mod Whole

@@ -1,0 +1,4 @@
+pub mod Totals
+pub mod Boxes
+pub mod Parameters
+pub mod Laws
