@@ -16,7 +16,7 @@ use Rattle.mid_code.specs.State.{MidState, MidOutcome}
 use Rattle.mid_arena.specs.Places.{word_of}
 use Rattle.back_lowering.specs.Program.{start_number}
 use Rattle.back_relation.specs.Setting.{Setting}
-use Rattle.back_relation.specs.Room.{routine_words}
+use Rattle.back_relation.specs.Room.{main_reserve}
 use Rattle.back_relation.specs.Right.{ProgramIsRight}
 use Rattle.back_relation.specs.Worlds.{World}
 use Rattle.back_relation.specs.Things.{Things, SiteIs}
@@ -29,7 +29,7 @@ start_credit = 2000
 
 -- the frame of the start, and the reserve, which are not charged
 abbrev pub start_words : ℕ
-start_words = 2 + routine_words
+start_words = 2 + main_reserve
 
 module _ (setting : Setting) where
   -- the state before the first form, and what the program means from there on

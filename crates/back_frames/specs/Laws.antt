@@ -1,20 +1,16 @@
 -- The words that are charged for an application, and the reserve, are enough for the frame of each body and for what its code lays at a time; so
 -- are those of a main form.
-use Rattle.std.specs.Prelude.{◌≡◌, ℕ, ◌+◌, ◌*◌, ◌≤◌, Some, slice_get}
-use Rattle.base.specs.AllOf.{AllOf}
+use Rattle.std.specs.Prelude.{◌+◌, ◌*◌, ◌≤◌}
 use Rattle.flat_language.specs.declared.program.FlatProcedure.{FlatProcedure}
 use Rattle.flat_language.specs.FlatFits.{Fits, ProgramFits}
 use Rattle.flat_language.specs.FlatForm.{FlatForm}
 use Rattle.flat_language.specs.FlatNodes.{nodes}
-use Rattle.back_lowering.specs.Program.{Extra, itself, extra_of, main_form}
+use Rattle.back_lowering.specs.Program.{Extra, main_form}
 use Rattle.back_relation.specs.Setting.{Setting}
-use Rattle.back_relation.specs.Room.{words_for, routine_words}
+use Rattle.back_relation.specs.Room.{words_for, main_reserve}
+use Rattle.back_relation.specs.Right.{FramesPaid}
 use Rattle.back_relation.specs.Procedures.{BodyPaid}
 use Rattle.flat_boxes.specs.Boxes.{BoxesAreCaptured, ProgramBoxes}
-
--- the reserve of a main form has three words more than that of a body
-abbrev pub main_reserve : ℕ
-main_reserve = routine_words + 3
 
 abbrev pub MainPaid : Setting → FlatForm → Type 0
 MainPaid setting f =
@@ -28,12 +24,6 @@ LawOfBodiesPaid = (setting : Setting) (extra : Extra) (q : FlatProcedure) → Bo
 abbrev pub LawOfMainsPaid : Type 0
 LawOfMainsPaid = (setting : Setting) (f : FlatForm) → Fits setting.program f → MainPaid setting f
 
--- a whole program
-pub record AllPaid (setting : Setting) : Type 0 where
-  pub procedures : (p : ℕ) (q : FlatProcedure) → slice_get setting.program.procedures p ≡ Some q → BodyPaid setting (extra_of setting.names setting.at setting.program p) q
-  pub lambdas : AllOf (BodyPaid setting itself) setting.program.lambdas
-  pub main : AllOf (MainPaid setting) setting.program.main
-
 -- **each program that fits**
 abbrev pub LawOfFramesPaid : Type 0
-LawOfFramesPaid = (setting : Setting) → ProgramFits setting.program → ProgramBoxes setting.program → AllPaid setting
+LawOfFramesPaid = (setting : Setting) → ProgramFits setting.program → ProgramBoxes setting.program → FramesPaid setting

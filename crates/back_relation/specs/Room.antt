@@ -21,6 +21,10 @@ use Rattle.back_lowering.specs.ControlWords.{record_words, handler_words, bindin
 abbrev pub routine_words : ℕ
 routine_words = 52
 
+-- a main form, whose frame has the words of its record too, has some more
+abbrev pub main_reserve : ℕ
+main_reserve = routine_words + 3
+
 -- what a new condition, and one that is there, lay of it when they are signalled
 abbrev pub failing_words : ℕ
 failing_words = 50
