@@ -155,7 +155,7 @@ module _ (setting : Setting) where
       (f : FlatState → FlatEvaluated) (next : Next)
       → IsPlaced setting → CallBegins setting rs valid level_words w around z y → m ≤ turns → FlatGrown z (f z).state
       → ((g : Registers) (x : MidState) → Grown x (next g x).state)
-      → ((word : ℕ) (y' : MidState) → WorldKept setting w w z z y y' → Around setting judging_cost z z y y' → (SiteStored setting around y → SiteStored setting around y')
+      → ((j : ℕ) → k ≡ suc j → (word : ℕ) (y' : MidState) → WorldKept setting w w z z y y' → Around setting judging_cost z z y y' → (SiteStored setting around y → SiteStored setting around y')
       → Ends setting (Done (f z) (next (slice_set regs t (Some word)) y')) (Left (f z) (next (slice_set regs t (Some word)) y')) m z y (f z) (next (slice_set regs t (Some word)) y'))
       → Ends setting (Done (descend (below_at setting k) f around z) (behind_level k turns t regs y next)) (Left (descend (below_at setting k) f around z) (behind_level k turns t regs y next)) m z y
       (descend (below_at setting k) f around z) (behind_level k turns t regs y next)
@@ -174,22 +174,22 @@ module _ (setting : Setting) where
       regs (gives nil z) (f z) next tt fewer flat_grown grown (nothing_because setting (f z) b.things flat_grown) (λ asked left_then e. absurd (cc e)) (λ x. x.end)
       (judged j turns rs valid w around z y placed b)
       (λ x.
-      h x.word (level_called (suc j) turns y).state (world_then setting (world_cost setting 40 b.things) (around_cost setting {credit = 40} z y 40 (omega arith)) x.world)
+      h j refl x.word (level_called (suc j) turns y).state (world_then setting (world_cost setting 40 b.things) (around_cost setting {credit = 40} z y 40 (omega arith)) x.world)
       (back_then setting (world_cost setting 40 b.things) (around_cost setting {credit = 40} z y 40 (omega arith)) (omega arith) x.back) (λ stored. x.site stored)))
 
   -- in a procedure
   pub judged_levels_law : LawOfJudgedLevels setting
   judged_levels_law k turns m t c2 credit rs valid w around z y regs f next placed b fewer enough flat_grown grown h =
       judged_by (λ r q. Returned setting credit w z y r q) (λ r q. LeftCall setting credit rs valid w around z y r q) k turns m t rs valid w around z y regs f next placed b fewer flat_grown grown
-      (λ word y' world back site.
-      going_on_law setting judging_cost c2 credit m m rs valid w w around z z y y' (f z) (next (slice_set regs t (Some word)) y') world back enough (omega arith) refl (h word y' world back site))
+      (λ j same word y' world back site.
+      going_on_law setting judging_cost c2 credit m m rs valid w w around z z y y' (f z) (next (slice_set regs t (Some word)) y') world back enough (omega arith) refl (h j same word y' world back site))
 
   -- in a form
   pub form_levels_law : LawOfFormLevels setting
   form_levels_law k credit a d t f next placed room low there flat_grown grown h =
       judged_by (λ r q. Fell setting credit a.rs a.valid a.s d a.w a.env a.around a.z a.regs a.y r q) (λ r q. Left setting credit a.rs a.valid a.s d a.w a.env a.around a.z a.regs a.y r q) k a.turns a.turns t
       a.rs a.valid a.w a.around a.z a.y a.regs f next placed (record { things = a.begins.call.things; around_stands = a.begins.call.around_stands; room = fewer setting.limit a.begins.call.room }) (omega arith) flat_grown grown
-      (λ word y' world back site. h word y' (reached word y' world back) site)
+      (λ j same word y' world back site. h j same word y' (reached word y' world back) site)
     where
       fewer : (l : Limit) → RoomFor l (a.n + words_for_handler * length a.around.handlers) a.z.state a.y → RoomFor l (level_words + words_for_handler * length a.around.handlers) a.z.state a.y
       fewer unlimited h = tt
