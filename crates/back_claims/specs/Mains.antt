@@ -11,8 +11,9 @@ use Rattle.mid_code.specs.State.{returns, unhandled, MidState, MidOutcome}
 use Rattle.mid_arena.specs.Places.{word_of}
 use Rattle.back_lowering.specs.ControlWords.{current_address, link_address, handlers_address, bindings_address, end_address}
 use Rattle.back_lowering.specs.Program.{mains_from}
+use Rattle.flat_ends.specs.Laws.{Safe}
 use Rattle.back_relation.specs.Setting.{Setting}
-use Rattle.back_relation.specs.Room.{routine_words}
+use Rattle.back_relation.specs.Room.{main_reserve}
 use Rattle.back_relation.specs.Worlds.{World}
 use Rattle.back_relation.specs.StackWords.{HasWordAt}
 use Rattle.back_relation.specs.Things.{Things, SiteIs}
@@ -35,6 +36,8 @@ module _ (setting : Setting) where
     pub no_handler : HasWordAt y handlers_address 0
     pub no_binding : HasWordAt y bindings_address 0
     pub end_form : slice_get w.exit_forms 0 ≡ Some None
+    -- no function captured the exit of the end
+    pub safe : Safe z
     pub room : RoomFor setting.limit n z.state y
 
   -- the form gave a value, and the next one may begin
@@ -68,7 +71,7 @@ module _ (setting : Setting) where
   -- **a main form**, by its number, with k levels and so many turns; the reserve is among the words that are for more than what is charged
   abbrev pub MainDoes : (k turns number : ℕ) → FlatForm → Type 0
   MainDoes k turns number f =
-      (n : ℕ) (w : World) (z : FlatState) (y : MidState) → slice_get setting.program.main number ≡ Some f → routine_words ≤ n → MainBegins n w z y
+      (n : ℕ) (w : World) (z : FlatState) (y : MidState) → slice_get setting.program.main number ≡ Some f → main_reserve ≤ n → MainBegins n w z y
       → Ends setting
       (MainReturned n main_credit (charged 1 z) y (mean_main setting.names setting.program setting.limit k f z)
       (called (code_at setting k turns) (mains_from setting.names setting.at setting.program + number) [] y))

@@ -1,21 +1,22 @@
 -- **A main form** is entered, its code runs inside the record of the end, and it is left.
 use Rattle.std.proofs.Common.{◌≡◌, ◌⊎◌, inl, inr, ℕ, zero, suc, ◌+◌, ◌*◌, ◌-◌, ◌<◌, ◌≤◌, Bool, true, false, List, [], ◌∷◌, ◌++◌, length, replicate, Option, Some, None, refl, sym, ap, ◌∙◌, subst, arith}
-use Rattle.std.specs.Prelude.{slice_get, max, if◌then◌else◌}
+use Rattle.std.specs.Prelude.{slice_get, nat_le, max, if◌then◌else◌}
 use Rattle.std.proofs.lemmas.Bool.{cases_lt}
 use Rattle.std.proofs.lemmas.Bool.Decides.{nat_tests}
 use Rattle.base.specs.AllOf.{all_at}
+use Rattle.base.specs.declared.place.Place.{Place}
 use Rattle.lang_meaning.specs.Classes.{fetch}
 use Rattle.lang_meaning.specs.Counts.{application_words}
 use Rattle.lang_meaning.specs.Meaning.{class_in}
-use Rattle.lang_meaning.specs.Objects.{instance}
+use Rattle.lang_meaning.specs.Objects.{instance, serious_condition_class}
 use Rattle.lang_meaning.specs.Prefixes.{IsPrefix}
-use Rattle.lang_meaning.specs.State.{State, main_context, exit, full, Limit, words, unlimited, has_room, room_left}
+use Rattle.lang_meaning.specs.State.{State, main_context, Landing, at_site, exit, full, Limit, words, unlimited, has_room, room_left}
 use Rattle.lang_meaning.specs.Values.{Value}
 use Rattle.flat_language.specs.FlatExits.{Leads, no_exits}
 use Rattle.flat_language.specs.FlatFits.{Fits}
 use Rattle.flat_language.specs.FlatForm.{FlatForm}
 use Rattle.flat_language.specs.FlatMeaning.{mean, mean_main, flat_meaning_at}
-use Rattle.flat_language.specs.FlatNodes.{nodes}
+use Rattle.flat_language.specs.FlatNodes.{nodes, tables}
 use Rattle.flat_language.specs.FlatSignals.{form}
 use Rattle.flat_language.specs.FlatStanding.{MainStands}
 use Rattle.flat_language.specs.FlatState.{FlatState, FlatEvaluated, no_environment, charged, gives, go_on, on_state, with_frame}
@@ -33,10 +34,13 @@ use Rattle.mid_code.specs.Words.{computed}
 use Rattle.mid_code.proofs.Growth.{levels_grow, turns_grow}
 use Rattle.mid_arena.specs.Growing.{Grows}
 use Rattle.mid_arena.specs.Standing.{ArenaStands}
+use Rattle.mid_arena.proofs.BuiltInFacts.{condition_from}
 use Rattle.mid_arena.proofs.Growing.{spot_below}
 use Rattle.mid_arena.proofs.Leaving.{leaves_returned}
 use Rattle.mid_arena.proofs.Memory.{grows_with_new_block, left_with_new_block, grows_with_blocks, grows_closed}
 use Rattle.mid_arena.proofs.Running.{frame_of, entered}
+use Rattle.flat_ends.specs.Laws.{EndsAtSite, Safe, Came}
+use Rattle.flat_ends.proofs.Runs.{law_of_main_ends}
 use Rattle.back_lowering.specs.Codes.{lower}
 use Rattle.back_lowering.specs.ControlWords.{record_words, current_address, link_address, handlers_address, bindings_address, end_address}
 use Rattle.back_lowering.specs.Program.{main_scope, main_form, mains_from}
@@ -44,7 +48,7 @@ use Rattle.back_lowering.specs.Registers.{of_code, enough_for}
 use Rattle.back_lowering.specs.Steps.{Steps}
 use Rattle.back_relation.specs.Setting.{Setting}
 use Rattle.back_relation.specs.Right.{ProgramIsRight}
-use Rattle.back_relation.specs.Room.{routine_words, words_for}
+use Rattle.back_relation.specs.Room.{main_reserve, words_for}
 use Rattle.back_relation.specs.Placed.{IsPlaced, Placed}
 use Rattle.back_relation.specs.Worlds.{World}
 use Rattle.back_relation.specs.StackWords.{HasWordAt}
@@ -68,7 +72,7 @@ use Rattle.back_calling.proofs.Entered.{framed, UsedAt, used_at, called_by, leav
 use Rattle.back_calling.proofs.Storing.{some_words}
 use Rattle.back_mains.specs.Beginning.{NothingAround, EndBegins}
 use Rattle.back_mains.specs.MainEnds.{end_closed, main_step, MainValue, MainLeft}
-use Rattle.back_mains.specs.Mains.{IsUnhandled, EndsUnhandled, LawOfMains}
+use Rattle.back_mains.specs.Mains.{LawOfMains}
 use Rattle.back_mains.specs.MainSteps.{end_laid, end_landed}
 use Rattle.back_mains.specs.Surroundings.{main_form_scope}
 use Rattle.back_mains.proofs.Beginning.{beginnings_law, words_left}
@@ -109,6 +113,19 @@ leaves_unhandled : (bs : List Block) (q : MidOutcome) (class site condition : �
 unfolding leaves
 leaves_unhandled bs q class site condition e = ap (λ l. left_from l bs q) e
 
+-- a transfer to the end lands at a site, and its value is an instance
+record IsUnhandled (z : FlatState) (v : Value) (landing : Landing) : Type 0 where
+  place : Place
+  at : landing ≡ at_site place
+  class : ℕ
+  slots : List (Option Value)
+  mark : Value
+  stored : fetch z.state v ≡ Some (instance class slots mark)
+
+-- the classes before that of conditions
+not_from : (c : ℕ) → c < serious_condition_class → nat_le serious_condition_class c ≡ false
+not_from c low = grind (arith, nat_tests)
+
 -- a form with so many levels
 at_level :
     (setting : Setting) (k : ℕ) (f : FlatForm) (z : FlatState)
@@ -117,8 +134,8 @@ unfolding flat_meaning_at
 at_level setting zero f z = refl
 at_level setting (suc k) f z = refl
 
-module _ (setting : Setting) (right : ProgramIsRight setting) (k number n : ℕ) (f : FlatForm) (there : slice_get setting.program.main number ≡ Some f) (reserve : routine_words ≤ n) (w : World) (z : FlatState) (y : MidState)
-    (b : MainBegins setting n w z y) (does : (t : ℕ) → DoesForm setting t (context_at setting k) (code_at setting k t) f) (goes : EndsUnhandled setting k f) where
+module _ (setting : Setting) (right : ProgramIsRight setting) (k number n : ℕ) (f : FlatForm) (there : slice_get setting.program.main number ≡ Some f) (reserve : main_reserve ≤ n) (w : World) (z : FlatState) (y : MidState)
+    (b : MainBegins setting n w z y) (does : (t : ℕ) → DoesForm setting t (context_at setting k) (code_at setting k t) f) where
   placed : IsPlaced setting
   placed = right.placed.placed
 
@@ -139,6 +156,23 @@ module _ (setting : Setting) (right : ProgramIsRight setting) (k number n : ℕ)
 
   abbrev r : FlatEvaluated
   r = mean_main setting.names setting.program setting.limit k f z
+
+  -- only a condition that is not handled goes to the end
+  comes : Came r
+  comes =
+      law_of_main_ends setting.names setting.program setting.limit k f z
+      (λ c low. condition_from (tables setting.program) b.things.represents.built_in c (omega (arith, low)) ∙ not_from c low) b.safe
+
+  goes : (v : Value) (landing : Landing) → r.outcome ≡ exit 0 v landing → IsUnhandled r.state v landing
+  goes v landing e =
+      let at = subst (λ o. EndsAtSite o r.state) e comes.ends in record {
+        place = at.0;
+        at = at.1;
+        class = at.2.class;
+        slots = at.2.slots;
+        mark = at.2.mark;
+        stored = ap (fetch r.state.state) at.2.is ∙ at.2.stands;
+      }
 
   abbrev rf : FlatEvaluated
   rf = mean (context_at setting k) f no_environment main_context zi
@@ -201,10 +235,10 @@ module _ (setting : Setting) (right : ProgramIsRight setting) (k number n : ℕ)
   printed_before e = subst (λ ps. IsPrefix ps r.state.state.printed) (sym b.things.represents.printed) (grown e).printed
 
   -- the words that are charged and the reserve are enough for the frame, the record and the form
-  paid_for : p.frame + 8 + words_for setting.names setting.program f ≤ 16 + 16 * nodes f + routine_words
+  paid_for : p.frame + 8 + words_for setting.names setting.program f ≤ 16 + 16 * nodes f + main_reserve
   paid_for =
       all_at
-      (λ (g : FlatForm). (main_form setting.names setting.at setting.program g).frame + 8 + words_for setting.names setting.program g ≤ 16 + 16 * nodes g + routine_words)
+      (λ (g : FlatForm). (main_form setting.names setting.at setting.program g).frame + 8 + words_for setting.names setting.program g ≤ 16 + 16 * nodes g + main_reserve)
       setting.program.main number f right.frames_paid.main there
 
   no_room_so : (l : Limit) (some : ℕ) → some ≤ p.frame + 8 → RoomFor l n z.state y → has_room l (z.state.heap + z.state.stack + 0 + many) ≡ true → left y.arena < some → RoomEnded setting l r.outcome
@@ -394,6 +428,7 @@ module _ (setting : Setting) (right : ProgramIsRight setting) (k number n : ℕ)
             no_handler = word_behind handlers_address 0 (omega arith) (x.control.handlers 0 begin.stands.no_handler);
             no_binding = word_behind bindings_address 0 (omega arith) (x.control.bindings 0 begin.stands.no_binding);
             end_form = x.later.exit_forms 0 None b.end_form;
+            safe = subst (λ (o : FlatEvaluated). Safe o.state) (meant e ∙ then_value r0 restored x.result x.outcome) comes.safe;
             room = room_behind setting.limit b.room;
           };
           blocks = refl;
@@ -412,8 +447,8 @@ module _ (setting : Setting) (right : ProgramIsRight setting) (k number n : ℕ)
         left_meant : r ≡ r0
         left_meant = meant e ∙ then_other r0 restored _ x.outcome tt
 
-        it : IsUnhandled r x.result x.landing
-        it = goes n w z y x.result x.landing b (ap (λ (o : FlatEvaluated). o.outcome) left_meant ∙ x.outcome)
+        it : IsUnhandled r.state x.result x.landing
+        it = goes x.result x.landing (ap (λ (o : FlatEvaluated). o.outcome) left_meant ∙ x.outcome)
 
         stored : fetch rf.state.state x.result ≡ Some (instance it.class it.slots it.mark)
         stored = subst (λ (o : FlatEvaluated). fetch o.state.state x.result ≡ Some (instance it.class it.slots it.mark)) left_meant it.stored
@@ -556,4 +591,4 @@ module _ (setting : Setting) (right : ProgramIsRight setting) (k number n : ℕ)
 
 -- **main forms do what they mean**
 pub mains_law : LawOfMains
-mains_law setting k m number f right does goes n w z y there reserve b = main_does setting right k number n f there reserve w z y b does goes m
+mains_law setting k m number f right does n w z y there reserve b = main_does setting right k number n f there reserve w z y b does m
