@@ -1,1 +1,3 @@
 pub mod Segments
+pub mod Ending
+pub mod TurnRecords
