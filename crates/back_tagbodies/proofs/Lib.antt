@@ -1,3 +1,4 @@
 pub mod Segments
 pub mod Ending
 pub mod TurnRecords
+pub mod Turning
