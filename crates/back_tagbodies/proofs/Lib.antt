@@ -2,3 +2,4 @@ pub mod Segments
 pub mod Ending
 pub mod TurnRecords
 pub mod Turning
+pub mod Turns
