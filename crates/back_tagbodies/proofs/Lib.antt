@@ -3,3 +3,5 @@ pub mod Ending
 pub mod TurnRecords
 pub mod Turning
 pub mod Turns
+pub mod Serials
+pub mod Tagbodies
