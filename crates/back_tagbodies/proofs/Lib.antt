@@ -5,3 +5,5 @@ pub mod Turning
 pub mod Turns
 pub mod Serials
 pub mod Tagbodies
+pub mod Whole
+pub mod Down

@@ -1,5 +1,5 @@
 -- **The segments of a tagbody**, one after another: each pays for its step of the loop with what it leaves of its first unit.
-use Rattle.std.proofs.Common.{◌≡◌, ℕ, zero, suc, ◌+◌, ◌*◌, ◌<◌, ◌≤◌, Bool, true, false, List, [], ◌∷◌, length, Some, refl, sym, ap, ◌∙◌, subst, arith}
+use Rattle.std.proofs.Common.{◌≡◌, ℕ, zero, suc, ◌+◌, ◌*◌, ◌<◌, ◌≤◌, Bool, true, false, [], ◌∷◌, length, Some, refl, sym, ap, ◌∙◌, subst, arith}
 use Rattle.std.specs.Prelude.{◌^◌, ◌==◌, not, slice_get, slice_set}
 use Rattle.std.proofs.lemmas.Bool.{eqb-true, eqb-false}
 use Rattle.std.proofs.Math.ListN.{length-set}
@@ -16,9 +16,9 @@ use Rattle.mid_code.specs.declared.operation.Counted.TheVariants.{Turn}
 use Rattle.mid_code.specs.Arena.{word_in}
 use Rattle.mid_code.specs.Costs.{test_cost, jump_cost}
 use Rattle.mid_code.specs.Law.{Grown}
-use Rattle.mid_code.specs.Meaning.{Task, again, Context, count, test, exec, exec_step, exec_number, turns, levels}
+use Rattle.mid_code.specs.Meaning.{Task, again, Context, count, test, exec, exec_step, exec_number, turns}
 use Rattle.mid_code.specs.MidCode.{MidStep, MidCodes, switch, code_of}
-use Rattle.mid_code.specs.State.{Registers, register, falls, no_turn, ends, MidState, MidOutcome, Next, jumped, with_some}
+use Rattle.mid_code.specs.State.{Registers, register, falls, no_turn, ends, MidState, MidOutcome, Next, jumped}
 use Rattle.mid_code.specs.State.{charged as mid_charged, go_on as mid_go_on}
 use Rattle.mid_code.proofs.Growth.{both_grown, charged_grown, levels_grow, turns_grow, exec_grown, go_on_grown, test_grown, jumped_grown, same_grown}
 use Rattle.mid_arena.proofs.Lists.{set_elsewhere}
@@ -29,12 +29,11 @@ use Rattle.back_lowering.specs.Steps.{Steps, constant, compute, test_of}
 use Rattle.back_relation.specs.Setting.{Setting}
 use Rattle.back_relation.specs.Worlds.{World}
 use Rattle.back_relation.specs.Activation.{FormScope, NoSlot}
-use Rattle.back_relation.specs.Ends.{Reached, Ends, Fell, Left, AreFew, done, left_by, full_there, stopped, few_turns, form_credit}
+use Rattle.back_relation.specs.Ends.{Reached, Ends, Fell, Left, done, left_by, full_there, stopped, few_turns, form_credit}
 use Rattle.back_relation.specs.Forms.{context_at, code_at, value_code}
 use Rattle.back_combining.specs.Points.{Point, start_at, Here, AllHere}
 use Rattle.back_combining.specs.Starts.{FlatGrown, Start, EndsBy, LeftFrom, ReachedFrom}
 use Rattle.back_combining.proofs.Activations.{activation_later}
-use Rattle.back_combining.proofs.FormGrowth.{form_grows}
 use Rattle.back_combining.proofs.Growth.{same_flat, both_flat, then_grown, then_value}
 use Rattle.back_combining.proofs.Parts.{go_on_falls}
 use Rattle.back_combining.proofs.Points.{point_after, charged_point}

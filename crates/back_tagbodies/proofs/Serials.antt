@@ -1,6 +1,6 @@
 -- In front of the turns of a tagbody: a serial number is drawn for its exit, and the first segment is next; or there is no number.
-use Rattle.std.proofs.Common.{◌≡◌, inl, ℕ, ◌+◌, ◌/◌, ◌<◌, ◌≤◌, true, false, List, [], ◌∷◌, ◌++◌, length, Option, Some, refl, sym, ap, ◌∙◌, arith, length-append}
-use Rattle.std.specs.Prelude.{◌%◌, ◌^◌, ◌-◌, ◌==◌, pos, slice_get, slice_set}
+use Rattle.std.proofs.Common.{◌≡◌, inl, ℕ, ◌+◌, ◌<◌, ◌≤◌, true, false, List, [], ◌∷◌, ◌++◌, length, Option, Some, refl, sym, ap, ◌∙◌, arith, length-append}
+use Rattle.std.specs.Prelude.{◌^◌, ◌-◌, ◌==◌, pos, slice_get, slice_set}
 use Rattle.std.proofs.lemmas.Bool.{eqb-false}
 use Rattle.std.proofs.lemmas.Option.{slice_get_within}
 use Rattle.std.proofs.Math.ListN.{length-set}
@@ -10,7 +10,7 @@ use Rattle.lang_meaning.specs.declared.scope.ExitForm.TheVariants.{Tagbody}
 use Rattle.lang_meaning.specs.State.{Exit}
 use Rattle.flat_language.specs.FlatState.{FlatState, exit_made}
 use Rattle.mid_code.specs.declared.operation.Operation.TheVariants.{Draw}
-use Rattle.mid_code.specs.Arena.{word_in, is_lent, word_at, stack_from}
+use Rattle.mid_code.specs.Arena.{word_in, is_lent, stack_from}
 use Rattle.mid_code.specs.Meaning.{Context}
 use Rattle.mid_code.specs.MidCode.{perform, code_of}
 use Rattle.mid_code.specs.State.{Registers, register, falls, exhausted, ends, MidState}

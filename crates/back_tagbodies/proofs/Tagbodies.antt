@@ -1,15 +1,14 @@
 -- **A tagbody**: its exit is made, its turns run, and nil's word comes behind them.
-use Rattle.std.proofs.Common.{◌≡◌, ℕ, suc, ◌+◌, ◌<◌, ◌≤◌, Bool, true, false, List, [], ◌∷◌, ◌++◌, length, Some, refl, sym, ap, ◌∙◌, subst, arith}
+use Rattle.std.proofs.Common.{◌≡◌, ℕ, suc, ◌+◌, ◌<◌, ◌≤◌, Bool, true, false, [], ◌∷◌, ◌++◌, length, Some, refl, sym, ap, ◌∙◌, subst, arith}
 use Rattle.std.specs.Prelude.{◌^◌, ◌-◌, ◌==◌, slice_set}
 use Rattle.lang_meaning.specs.Meaning.{segment_of, with_turns}
 use Rattle.lang_meaning.specs.State.{DynamicContext}
 use Rattle.lang_meaning.specs.Values.{nil}
-use Rattle.flat_language.specs.FlatForm.{FlatForms, tagbody}
+use Rattle.flat_language.specs.FlatForm.{FlatForms}
 use Rattle.flat_language.specs.FlatMeaning.{mean, mean_sequence, from_segment}
 use Rattle.flat_language.specs.FlatNodes.{count_forms}
 use Rattle.flat_language.specs.FlatSignals.{turn}
 use Rattle.flat_language.specs.FlatState.{FlatEnvironment, FlatState, FlatEvaluated, charged, exit_made, gives, go_on}
-use Rattle.mid_code.specs.Law.{Grown}
 use Rattle.mid_code.specs.Meaning.{Context, exec, exec_step}
 use Rattle.mid_code.specs.MidCode.{MidStep, code_of}
 use Rattle.mid_code.specs.State.{Registers, falls, exhausted, ends, MidState, MidOutcome, Next}
@@ -24,7 +23,7 @@ use Rattle.back_relation.specs.Placed.{IsPlaced}
 use Rattle.back_relation.specs.Activation.{FormScope}
 use Rattle.back_relation.specs.Ends.{done}
 use Rattle.back_relation.specs.Forms.{context_at, below_at, code_at}
-use Rattle.back_combining.specs.Points.{Point, start_at, Here}
+use Rattle.back_combining.specs.Points.{Point, start_at}
 use Rattle.back_combining.specs.Starts.{FlatGrown, Start, EndsAt, SparingAt, LoopEnds, ReachedFrom}
 use Rattle.back_combining.proofs.Choices.{go_gives}
 use Rattle.back_combining.proofs.FormGrowth.{below_grows}
@@ -38,7 +37,7 @@ use Rattle.back_exits.specs.Known.{FormsKnown}
 use Rattle.back_exits.proofs.BlockRecords.{no_serial}
 use Rattle.back_exits.proofs.Exits.{landed_grows}
 use Rattle.back_tagbodies.specs.Tagbodies.{SegmentsHere, LawOfTagbodies}
-use Rattle.back_tagbodies.specs.Turns.{turns_loop, with_own, turn_credit, segment_codes, turn_meant, TurnsHere}
+use Rattle.back_tagbodies.specs.Turns.{turns_loop, with_own, segment_codes, turn_meant, TurnsHere}
 use Rattle.back_tagbodies.proofs.Serials.{drawing, drawn, counted_registers, counted_state, draws, draws_none, drawn_registers, drawn_state, world_drawn, reached_drawn, first_turn}
 use Rattle.back_tagbodies.proofs.Turns.{turn_sim}
 

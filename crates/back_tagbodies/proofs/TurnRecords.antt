@@ -1,7 +1,6 @@
 -- The record of a turn: it is laid with the serial number of the tagbody, where there are words for it.
 use Rattle.std.proofs.Common.{◌≡◌, ℕ, zero, suc, ◌+◌, ◌<◌, ◌≤◌, true, List, [], ◌∷◌, ◌++◌, length, Option, Some, refl, sym, ap, ◌∙◌, subst, arith, length-append}
 use Rattle.std.specs.Prelude.{◌%◌, ◌^◌, slice_set}
-use Rattle.lang_meaning.specs.declared.scope.ExitForm.TheVariants.{Tagbody}
 use Rattle.lang_meaning.specs.State.{Exit, tagbody_exit}
 use Rattle.mid_code.specs.Arena.{left, word_at, is_lent}
 use Rattle.mid_code.specs.Costs.{record_cost}

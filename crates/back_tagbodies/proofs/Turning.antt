@@ -1,6 +1,6 @@
 -- Behind the segments of a turn, and at its landing: the record is gone, and the number of the segment that comes next is in its register.
-use Rattle.std.proofs.Common.{◌≡◌, ℕ, ◌+◌, ◌*◌, ◌<◌, ◌≤◌, Bool, true, false, List, [], ◌∷◌, ◌++◌, length, Option, Some, None, refl, sym, ap, ◌∙◌, subst, arith}
-use Rattle.std.specs.Prelude.{◌%◌, ◌/◌, ◌==◌, not, if◌then◌else◌, slice_get, slice_set}
+use Rattle.std.proofs.Common.{◌≡◌, ℕ, ◌+◌, ◌*◌, ◌<◌, ◌≤◌, Bool, true, List, [], ◌∷◌, length, Option, Some, None, refl, sym, ap, ◌∙◌, subst, arith}
+use Rattle.std.specs.Prelude.{◌/◌, ◌==◌, not, if◌then◌else◌, slice_get, slice_set}
 use Rattle.std.proofs.lemmas.Bool.{eq-eqb, ne_eqb}
 use Rattle.std.proofs.Math.ListN.{length-set}
 use Rattle.lang_meaning.specs.Counts.{unit_cost}
@@ -22,15 +22,14 @@ use Rattle.mid_arena.specs.Standing.{SpotStands}
 use Rattle.mid_arena.proofs.Growing.{spot_stands}
 use Rattle.mid_arena.proofs.Lists.{set_elsewhere}
 use Rattle.mid_arena.proofs.Registers.{register_here, register_beside}
-use Rattle.mid_arena.proofs.Running.{RunsTo, and_then, none_left, parts_then, constant_falls, load_falls, address_above, test_true, test_false}
-use Rattle.back_lowering.specs.ControlWords.{control_address, record_words, landing_address}
+use Rattle.mid_arena.proofs.Running.{and_then, none_left, parts_then, constant_falls, load_falls, address_above, test_true, test_false}
+use Rattle.back_lowering.specs.ControlWords.{record_words, landing_address}
 use Rattle.back_lowering.specs.declared.scope.OwnExit.{OwnExit}
 use Rattle.back_lowering.specs.Records.{record_left, record_landed}
 use Rattle.back_lowering.specs.Steps.{Steps, constant, load, test_of}
 use Rattle.back_relation.specs.Setting.{Setting, control_spot}
 use Rattle.back_relation.specs.Placed.{IsPlaced}
 use Rattle.back_relation.specs.Worlds.{World, for_exit, LandsIn}
-use Rattle.back_relation.specs.StackWords.{HasWordAt}
 use Rattle.back_relation.specs.Activation.{NoSlot, RegistersKept}
 use Rattle.back_relation.specs.Ends.{ChargedFrom, WorldKept, Reached, LandingIs, landing_cost}
 use Rattle.back_relation.specs.Forms.{Begins, code_at}

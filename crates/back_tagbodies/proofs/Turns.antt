@@ -1,5 +1,5 @@
 -- **The turns of a tagbody**: each is a level on both sides.
-use Rattle.std.proofs.Common.{◌≡◌, ℕ, zero, suc, ◌+◌, ◌<◌, ◌≤◌, Bool, true, false, List, [], ◌∷◌, ◌++◌, length, Some, refl, sym, ap, ◌∙◌, subst, arith}
+use Rattle.std.proofs.Common.{◌≡◌, ℕ, zero, suc, ◌+◌, ◌<◌, ◌≤◌, Bool, true, false, [], ◌∷◌, ◌++◌, length, Some, refl, sym, ap, ◌∙◌, subst, arith}
 use Rattle.std.specs.Prelude.{◌^◌, nat_le, slice_get, slice_set}
 use Rattle.std.proofs.lemmas.Bool.{leb-true, leb-false, eq-eqb}
 use Rattle.lang_meaning.specs.declared.scope.ExitForm.TheVariants.{Tagbody}
@@ -18,9 +18,9 @@ use Rattle.mid_code.specs.declared.operation.Counted.TheVariants.{Level}
 use Rattle.mid_code.specs.Arena.{left}
 use Rattle.mid_code.specs.Costs.{record_cost}
 use Rattle.mid_code.specs.Law.{Grown}
-use Rattle.mid_code.specs.Meaning.{again, Context, count, run_landing, give_back, test, exec, exec_step, levels}
+use Rattle.mid_code.specs.Meaning.{again, Context, count, give_back, test, exec, exec_step, levels}
 use Rattle.mid_code.specs.MidCode.{MidStep, MidCodes, code_of}
-use Rattle.mid_code.specs.State.{Registers, register, no_room, falls, ends, MidState, MidOutcome, Next, jumped, landed}
+use Rattle.mid_code.specs.State.{Registers, no_room, falls, ends, MidState, MidOutcome, Next, jumped, landed}
 use Rattle.mid_code.specs.State.{charged as mid_charged, go_on as mid_go_on}
 use Rattle.mid_code.proofs.Growth.{levels_grow}
 use Rattle.mid_arena.proofs.Running.{go_on_twice, in_two_parts}

@@ -43,3 +43,10 @@ LawOfWholeTagbodies =
     (setting : Setting) (k turns : ℕ) (all : FlatForms) → IsPlaced setting → count_forms all < 2 ^ 32 → turns ≤ setting.turns_each
     → ((t : ℕ) → t ≤ turns → AllDo setting k t all) → ((j : ℕ) → k ≡ suc j → TurnsDo setting j setting.turns_each all)
     → DoesForm setting turns (context_at setting k) (code_at setting k turns) (tagbody all)
+
+-- and from what is shown of their segments at all levels down to the last one
+abbrev pub LawOfTagbodiesAtLevels : Type 0
+LawOfTagbodiesAtLevels =
+    (setting : Setting) (k turns : ℕ) (all : FlatForms) → IsPlaced setting → count_forms all < 2 ^ 32 → turns ≤ setting.turns_each
+    → ((j t : ℕ) → j ≤ k → t ≤ setting.turns_each → AllDo setting j t all)
+    → DoesForm setting turns (context_at setting k) (code_at setting k turns) (tagbody all)

@@ -1,5 +1,5 @@
 -- The turns of a tagbody: its segments run one after another inside a record, and a transfer to its exit begins another turn, one level below.
-use Rattle.std.specs.Prelude.{◌≡◌, ⊤, ℕ, ◌+◌, ◌<◌, ◌≤◌, List, [], ◌∷◌, ◌++◌, length, Some, slice_get}
+use Rattle.std.specs.Prelude.{◌≡◌, ⊤, ℕ, ◌+◌, ◌<◌, ◌≤◌, List, [], ◌∷◌, ◌++◌, Some, slice_get}
 use Rattle.lang_meaning.specs.declared.scope.ExitForm.TheVariants.{Tagbody}
 use Rattle.lang_meaning.specs.Meaning.{with_turns}
 use Rattle.lang_meaning.specs.State.{DynamicContext, Exit}
