@@ -35,13 +35,14 @@ use Rattle.back_combining.proofs.Fitting.{enough_front, registers_front, registe
 use Rattle.back_combining.proofs.FormGrowth.{form_grows}
 use Rattle.back_combining.proofs.Growth.{both_flat, then_grown}
 use Rattle.back_combining.proofs.Parts.{single_step}
-use Rattle.back_combining.proofs.Starts.{scope_later, start_after, start_charged, ends_charged, two}
+use Rattle.back_combining.proofs.Starts.{scope_later, start_after, start_charged, two, ends_sparing}
 use Rattle.back_combining.proofs.Worlds.{word_later}
 use Rattle.back_bindings.specs.Forms.{DynamicsDo, LawOfDynamicLets}
 use Rattle.back_bindings.proofs.Within.{tail}
 use Rattle.back_bindings.proofs.Lending.{lends}
 use Rattle.back_bindings.proofs.Cells.{WordsFrom}
 use Rattle.back_bindings.proofs.DynamicLet.{head, code_is, opened}
+use Rattle.back_bindings.proofs.Points.{form_spared}
 
 -- ---- words of values
 
@@ -144,8 +145,9 @@ module _ (setting : Setting) (k turns : ℕ) (rs valid : List Standing) (s : For
 
           one : EndsFrom setting 0 a e (mean (context_at setting k) f env around z) (exec c (code_of one_value) regs y)
           one =
-              does.0 rs valid s e n first w env around z regs y (record { stands = stands.0; fits = fits.0; leads = leads.0; placed = placed.1; forms_known = known }) begins_at
-              (subst (λ m. enough_for (of_code (code_of one_value)) ≤ m) (sym count) (registers_front one_value (value_steps (e + 1) ds) size names)) (omega (arith, words))
+              form_spared setting turns begins_at
+              (does.0 rs valid s e n first w env around z regs y (record { stands = stands.0; fits = fits.0; leads = leads.0; placed = placed.1; forms_known = known }) begins_at
+              (subst (λ m. enough_for (of_code (code_of one_value)) ≤ m) (sym count) (registers_front one_value (value_steps (e + 1) ds) size names)) (omega (arith, words)))
 
 -- ---- the form
 
@@ -161,8 +163,8 @@ names_inside block size word limit inside landing h =
 pub dynamic_lets_law : LawOfDynamicLets
 unfolding mean lower
 dynamic_lets_law setting k turns ds body placed values_do body_does rs valid s d n first w env around z regs y stands begins registers words =
-    ends_charged setting {c1 = 300 * (1 + count_dynamics ds)} (from_here setting k turns rs valid s d n env around w z regs y begins) (1 + count_dynamics ds) (omega arith)
-    (dynamics_sim setting k turns rs valid s d n env around next next_grows rest (300 * (1 + count_dynamics ds)) (length regs) (count_dynamics ds) behind ds first d [] [] values_do
+    ends_sparing setting {c1 = 100 * (1 + count_dynamics ds)} (from_here setting k turns rs valid s d n env around w z regs y begins) (1 + count_dynamics ds) (omega arith) (omega arith)
+    (dynamics_sim setting k turns rs valid s d n env around next next_grows rest (100 * (1 + count_dynamics ds)) (length regs) (count_dynamics ds) behind ds first d [] [] values_do
     stands.stands.0 stands.fits.0 stands.leads.0 stands.placed.0 stands.forms_known (registers_front values rest (length regs) registers) (omega (arith, words)) (omega arith) (omega arith) (omega (arith, fits)) w
     (charged (1 + count_dynamics ds) z) regs y
     (start_charged setting (from_here setting k turns rs valid s d n env around w z regs y begins) (1 + count_dynamics ds)).begins refl tt tt)
@@ -224,24 +226,25 @@ dynamic_lets_law setting k turns ds body placed values_do body_does rs valid s d
     behind :
         (vs : List Value) (ws : List ℕ) (w' : World) (z' : FlatState) (g : Registers) (v : MidState) → (b : Begins setting rs valid s d n w' env around z' g v) → length g ≡ length regs
         → WordsOf w'.places vs ws → WordsFrom d ws g → length ws ≡ count_dynamics ds
-        → EndsAt setting (300 * (1 + count_dynamics ds)) (from_here setting k turns rs valid s d n env around w' z' g v b) (next vs z') (exec (code_at setting k turns) (code_of rest) g v)
+        → EndsAt setting (100 * (1 + count_dynamics ds)) (from_here setting k turns rs valid s d n env around w' z' g v b) (next vs z') (exec (code_at setting k turns) (code_of rest) g v)
     behind vs ws w' z' g v b size of_values held many =
-        subst (λ q. EndsAt setting (300 * (1 + count_dynamics ds)) a (next vs z') q)
+        subst (λ q. EndsAt setting (100 * (1 + count_dynamics ds)) a (next vs z') q)
         (sym
         (ap (λ ss. exec (code_at setting k turns) (code_of ss) g v) (code_is setting placed a k s.keeps_method ds vs ws many of_values held stands.placed.0 body_steps)
         ∙ single_step (code_at setting k turns)
         (with_block e (binding_words * count_dynamics ds) d
         (code_of (head setting placed a k s.keeps_method ds vs ws many of_values held stands.placed.0 body_steps ++ (body_steps ++ tail setting placed a bindings_address (e + 1) (e + 2)))) (code_of [])) g v))
-        (lends setting placed a k e (binding_words * count_dynamics ds) bindings_address (e + 1) (e + 2) (words_for setting.names setting.program body) (300 * (1 + count_dynamics ds))
+        (lends setting placed a k e (binding_words * count_dynamics ds) bindings_address (e + 1) (e + 2) (words_for setting.names setting.program body) (100 * (1 + count_dynamics ds))
         (head setting placed a k s.keeps_method ds vs ws many of_values held stands.placed.0 body_steps) body_steps (omega (arith, words)) (next_grows vs z')
         (λ some.
         opened setting placed a k s.keeps_method ds vs ws many of_values held stands.placed.0 body_steps some (omega (arith, fits, size))
         (subst (λ m. enough_for (of_code (code_of laid)) ≤ m) (sym size) (registers_front laid (ended ++ (body_steps ++ last)) (length regs) names_behind))
-        (words_for setting.names setting.program body) (300 * (1 + count_dynamics ds)) (omega (arith, words)) (omega arith)
+        (words_for setting.names setting.program body) (100 * (1 + count_dynamics ds)) (omega (arith, words)) (omega arith)
         (λ regs1 y1 inside count_one.
-        body_does rs valid s (e + 2) (words_for setting.names setting.program body) first _ env _ _ regs1 y1
+        form_spared setting turns inside
+        (body_does rs valid s (e + 2) (words_for setting.names setting.program body) first _ env _ _ regs1 y1
         (record { stands = stands.stands.1; fits = stands.fits.1; leads = stands.leads.1; placed = stands.placed.1; forms_known = stands.forms_known }) inside
-        (subst (λ m. enough_for (of_code (code_of body_steps)) ≤ m) (sym (count_one ∙ size)) names_body) (omega arith))))
+        (subst (λ m. enough_for (of_code (code_of body_steps)) ≤ m) (sym (count_one ∙ size)) names_body) (omega arith)))))
       where
         a : Start setting
         a = from_here setting k turns rs valid s d n env around w' z' g v b

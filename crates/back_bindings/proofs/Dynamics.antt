@@ -34,11 +34,13 @@ use Rattle.back_relation.specs.Setting.{Setting}
 use Rattle.back_relation.specs.Placed.{IsPlaced, HasSymbol}
 use Rattle.back_relation.specs.Worlds.{on_stack}
 use Rattle.back_relation.specs.Forms.{FormEnds, context_at, code_at}
+use Rattle.back_relation.specs.Room.{routine_words}
+use Rattle.back_relation.specs.RoutineClaims.{routine_credit}
 use Rattle.back_combining.specs.Starts.{FlatGrown, Start, EndsAt, ReachedFrom}
 use Rattle.back_combining.proofs.Choices.{choice, tested}
 use Rattle.back_combining.proofs.Growth.{grown_later, same_flat}
 use Rattle.back_combining.proofs.Parts.{single_step}
-use Rattle.back_combining.proofs.Starts.{start_after, start_charged, ends_charged, behind}
+use Rattle.back_combining.proofs.Starts.{start_after, start_charged, ends_charged, behind, ends_sparing}
 use Rattle.back_calling.specs.Storing.{stored_at, standing_world}
 use Rattle.back_calling.proofs.Growing.{signal_later}
 use Rattle.back_calling.proofs.Sited.{failing_law}
@@ -80,9 +82,13 @@ search_settles name found otherwise (b ∷ bs) z = by (bytes_eq name b.0) (searc
 
 -- ---- the word is read
 
+-- what it costs to read a word and to test it, and the signal where it says that there is no value
+abbrev pub unbound_credit : ℕ
+unbound_credit = routine_credit + 114
+
 module _ (setting : Setting) (placed : IsPlaced setting) (k : ℕ) where
   -- where the register of the result has the address of the value
-  module _ (a : Start setting) (n address : ℕ) (low : address + 4 ≤ 2 ^ 32) (held : register a.d a.regs ≡ Some address) (fits : a.d + 1 < length a.regs) (room : 48 ≤ a.n)
+  module _ (a : Start setting) (n address : ℕ) (low : address + 4 ≤ 2 ^ 32) (held : register a.d a.regs ≡ Some address) (fits : a.d + 1 < length a.regs) (room : routine_words ≤ a.n)
       (has : HasSymbol setting n) (claims : FailingWithClaims setting k a.turns) where
     abbrev c : Context
     c = code_at setting k a.turns
@@ -112,7 +118,7 @@ module _ (setting : Setting) (placed : IsPlaced setting) (k : ℕ) where
     loaded_unbound word = register_here (slice_set a.regs a.d (Some word)) (a.d + 1) unbound_word (omega (arith, fits, length-set a.regs a.d (Some word)))
 
     -- a value is there
-    value_read : (v : Value) → ValueAt a.w.places a.y.arena address v → EndsAt setting 450 a (gives v a.z) (exec c (code_of read) a.regs a.y)
+    value_read : (v : Value) → ValueAt a.w.places a.y.arena address v → EndsAt setting unbound_credit a (gives v a.z) (exec c (code_of read) a.regs a.y)
     value_read v at =
         let tells = tells_value setting.names (tables setting.program) a.w.places a.z.state a.y a.begins.call.things.represents v at.word at.of_value in
         let run : RunsTo c (code_of read) a.regs a.y (ends falls (loaded at.word) (mid_charged 28 a.y)) =
@@ -122,7 +128,7 @@ module _ (setting : Setting) (placed : IsPlaced setting) (k : ℕ) where
         (and_then (choose_second_falls (loaded_word at.word) (loaded_unbound at.word) (ne_eqb at.word unbound_word tells.no_unbound) none_left) none_left)))
         (omega arith)
         in
-        subst (λ q. EndsAt setting 450 a (gives v a.z) q) (sym run.same)
+        subst (λ q. EndsAt setting unbound_credit a (gives v a.z) q) (sym run.same)
         (gives_registers setting a (loaded at.word) 28 at.word v (loaded_count at.word) (λ i few. loaded_same at.word i few) (omega arith) (loaded_word at.word) at.of_value)
 
     -- there is none
@@ -131,7 +137,7 @@ module _ (setting : Setting) (placed : IsPlaced setting) (k : ℕ) where
         start_after setting a a.d a.d a.n (omega arith) (omega arith) (omega arith) a.begins.first
         (reached_registers setting {credit = 14} a (loaded unbound_word) 14 (loaded_count unbound_word) (λ i few. loaded_same unbound_word i few) (omega arith))
 
-    none_read : word_at a.y.arena address ≡ Some unbound_word → EndsAt setting 450 a unbound (exec c (code_of read) a.regs a.y)
+    none_read : word_at a.y.arena address ≡ Some unbound_word → EndsAt setting unbound_credit a unbound (exec c (code_of read) a.regs a.y)
     none_read at =
         let run :
         RunsTo c (code_of read) a.regs a.y
@@ -146,23 +152,24 @@ module _ (setting : Setting) (placed : IsPlaced setting) (k : ℕ) where
         }))
         in
         let grows = signal_later setting k unbound_variable_class (symbol (named (text setting.names n)) ∷ []) a.around a.z in
-        subst (λ q. EndsAt setting 450 a unbound q) (sym run.same)
-        (behind setting {c1 = 14} {c2 = 436} a a.d (omega arith)
+        subst (λ q. EndsAt setting unbound_credit a unbound q) (sym run.same)
+        (behind setting {c1 = 14} {c2 = routine_credit + 100} a a.d (omega arith)
         (reached_registers setting {credit = 14} a (loaded unbound_word) 14 (loaded_count unbound_word) (λ i few. loaded_same unbound_word i few) (omega arith)) (omega arith) (omega arith)
-        (choice setting {c1 = 384} {credit = 436} c asked (test_of Equal a.d (a.d + 1)) (code_of (failing_with setting.at a.s.code.site a.d unbound_variable_class (symbol_word setting.at n)))
+        (choice setting {c1 = routine_credit + 84} {credit = routine_credit + 100} c asked (test_of Equal a.d (a.d + 1)) (code_of (failing_with setting.at a.s.code.site a.d unbound_variable_class (symbol_word setting.at n)))
         no_step unbound_word unbound_word true unbound unbound (loaded_word unbound_word) (loaded_unbound unbound_word) refl (omega arith) grows.later.units grows.later.units
         (λ e.
-        (failing_law setting).with_word k 300 (tested setting asked) a.d unbound_variable_class (symbol_word setting.at n) (symbol (named (text setting.names n))) (omega arith)
-        (omega (arith, fits, loaded_count unbound_word)) room
+        (failing_law setting).with_word k routine_credit (tested setting asked) a.d unbound_variable_class (symbol_word setting.at n) (symbol (named (text setting.names n))) (omega arith)
+        (omega (arith, fits, loaded_count unbound_word)) (omega (arith, room))
         (λ number paid.
         claims a.rs a.valid (standing_world (tested setting asked).w (tested setting asked).y) a.around a.z (stored_at site_address number paid (tested setting asked).y)
-        (symbol (named (text setting.names n))) (symbol_word setting.at n) (a.begins.call.things.symbols n has)))
+        unbound_variable_class (symbol (named (text setting.names n))) (symbol_word setting.at n)
+        (record { low = omega arith; high = omega arith; slots = refl }) (a.begins.call.things.symbols n has)))
         (λ e. absurd (cc e))))
 
     -- what there is of the outermost value
     outermost_read :
         (o : Option Value) → SlotAt a.w.places a.y.arena address o
-        → EndsAt setting 450 a (flat_with_some o (unbound_variable (signal (context_at setting k)) (text setting.names n)) (λ v around z. gives v z) a.around a.z) (exec c (code_of read) a.regs a.y)
+        → EndsAt setting unbound_credit a (flat_with_some o (unbound_variable (signal (context_at setting k)) (text setting.names n)) (λ v around z. gives v z) a.around a.z) (exec c (code_of read) a.regs a.y)
     outermost_read None at = none_read at
     outermost_read (Some v) at = value_read v at
 
@@ -172,10 +179,10 @@ module _ (setting : Setting) (placed : IsPlaced setting) (k : ℕ) where
 pub dynamics_law : LawOfDynamics
 unfolding mean lower
 dynamics_law setting k turns n placed claims rs valid s d m first w env around z regs y stands begins registers words =
-    ends_charged setting {c1 = 600} (from_here setting k turns rs valid s d m env around w z regs y begins) 2 (omega arith)
-    (ends_charged setting {c1 = 600 + 300 * count} a count (omega arith)
-    (subst (λ r. EndsAt setting (600 + 300 * count) b r (exec (code_at setting k turns) (code_of code) regs y)) (sym means)
-    (binding_goes setting placed k b n d (600 + 300 * count) 450 rest stands.placed.0 (omega arith) (omega (arith, fits)) (omega (arith, words)) (subst (λ (r : FlatEvaluated). FlatGrown b.z r.state) means grown)
+    ends_sparing setting {c1 = 150 + unbound_credit} (from_here setting k turns rs valid s d m env around w z regs y begins) 2 (omega arith) (omega arith)
+    (ends_charged setting {c1 = 150 + 70 * count + unbound_credit} {c2 = 150 + unbound_credit} a count (omega arith)
+    (subst (λ r. EndsAt setting (150 + 70 * count + unbound_credit) b r (exec (code_at setting k turns) (code_of code) regs y)) (sym means)
+    (binding_goes setting placed k b n d (150 + 70 * count + unbound_credit) unbound_credit rest stands.placed.0 (omega arith) (omega (arith, fits)) (omega (arith, words)) (subst (λ (r : FlatEvaluated). FlatGrown b.z r.state) means grown)
     (omega arith) (λ address y2 low place x. by (binding_under name around.bindings) address y2 low place x))))
   where
     name : List ℕ
@@ -227,7 +234,7 @@ dynamics_law setting k turns n placed claims rs valid s d m first w env around z
     by :
         (o : Option ℕ) (address : ℕ) (y2 : MidState) → address + 4 ≤ 2 ^ 32 → PlaceOf setting w n address o
         → (x : ReachedFrom setting (150 + 70 * count) b d w b.z (slice_set (slice_set regs d (Some (dynamic_address setting.at n))) d (Some address)) y2)
-        → FormEnds setting 450 turns rs valid s d w env around b.z (slice_set (slice_set regs d (Some (dynamic_address setting.at n))) d (Some address)) y2
+        → FormEnds setting unbound_credit turns rs valid s d w env around b.z (slice_set (slice_set regs d (Some (dynamic_address setting.at n))) d (Some address)) y2
         (settled found otherwise o b.z) (exec (code_at setting k turns) (code_of rest) (slice_set (slice_set regs d (Some (dynamic_address setting.at n))) d (Some address)) y2)
     by o address y2 low place x = go o place
       where
@@ -245,7 +252,7 @@ dynamics_law setting k turns n placed claims rs valid s d m first w env around z
 
         go :
             (o : Option ℕ) → PlaceOf setting w n address o
-            → EndsAt setting 450 p (settled found otherwise o b.z) (exec (code_at setting k turns) (code_of rest) (slice_set set d (Some address)) y2)
+            → EndsAt setting unbound_credit p (settled found otherwise o b.z) (exec (code_at setting k turns) (code_of rest) (slice_set set d (Some address)) y2)
         go (Some i) at = value_read setting placed k p n address low held fits_there (omega (arith, words)) stands.placed.1 claims (value_at (Some i) b.z.state) (p.begins.call.things.boxes i (on_stack address) at)
         go None at =
             outermost_read setting placed k p n address low held fits_there (omega (arith, words)) stands.placed.1 claims (under_text (text setting.names n) z.state.dynamics)

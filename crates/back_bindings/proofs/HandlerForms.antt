@@ -27,16 +27,17 @@ use Rattle.back_lowering.specs.Routines.{is_function_routine}
 use Rattle.back_lowering.specs.Steps.{Steps, move, constant, store, call, if_equal, test_of}
 use Rattle.back_relation.specs.Setting.{Setting}
 use Rattle.back_relation.specs.Placed.{IsPlaced}
-use Rattle.back_relation.specs.Room.{words_for, words_for_handler}
+use Rattle.back_relation.specs.Room.{words_for, words_for_handler, routine_words}
 use Rattle.back_relation.specs.Worlds.{World}
 use Rattle.back_relation.specs.Forms.{Begins, FormEnds, context_at, code_at}
+use Rattle.back_relation.specs.RoutineClaims.{routine_credit, is_function_cost}
 use Rattle.back_combining.specs.Starts.{FlatGrown, Start, EndsAt}
 use Rattle.back_combining.proofs.Choices.{after, choice, tested}
 use Rattle.back_combining.proofs.Fitting.{enough_front, enough_behind, registers_front, registers_behind}
 use Rattle.back_combining.proofs.FormGrowth.{form_grows}
 use Rattle.back_combining.proofs.Growth.{grown_later}
 use Rattle.back_combining.proofs.Parts.{single_step, step_then}
-use Rattle.back_combining.proofs.Starts.{start_after, start_charged, ends_charged, reached_cost, reached_set, behind, two, gives_run}
+use Rattle.back_combining.proofs.Starts.{start_after, start_charged, reached_cost, reached_set, behind, two, gives_run, ends_sparing}
 use Rattle.back_calling.proofs.Growing.{domain_error_later}
 use Rattle.back_calling.proofs.Inner.{form_looking_law}
 use Rattle.back_calling.proofs.Sited.{failing_law}
@@ -46,13 +47,13 @@ use Rattle.back_looking.proofs.FunctionTests.{function_tests_law}
 use Rattle.back_bindings.specs.Forms.{DomainClaims, LawOfHandlers}
 use Rattle.back_bindings.proofs.Within.{tail}
 use Rattle.back_bindings.proofs.Lending.{lends}
-use Rattle.back_bindings.proofs.Points.{code_grows}
+use Rattle.back_bindings.proofs.Points.{code_grows, form_spared}
 use Rattle.back_bindings.proofs.Handlers.{handler_steps, handler_opened}
 use Rattle.back_bindings.proofs.DynamicForms.{from_here, names_inside}
 
 -- behind the handler's value, where it was asked whether it is a function
 module _ (setting : Setting) (placed : IsPlaced setting) (k : ℕ) (a : Start setting) (h : Value) (word : ℕ) (is : word_of a.w.places h ≡ Some word) (claims : DomainClaims setting k a.turns)
-    (body : Steps) (fits : a.d + 3 < length a.regs) (m : ℕ) (room : 4 + words_for_handler + m ≤ a.n) (some_room : 48 ≤ a.n) where
+    (body : Steps) (fits : a.d + 3 < length a.regs) (m : ℕ) (room : 4 + words_for_handler + m ≤ a.n) (some_room : routine_words ≤ a.n) where
   abbrev c : Context
   c = code_at setting k a.turns
 
@@ -69,12 +70,12 @@ module _ (setting : Setting) (placed : IsPlaced setting) (k : ℕ) (a : Start se
   around_body = with_block (a.d + 1) handler_words a.d (code_of (handler_steps a.d ++ (body ++ tail setting placed a handlers_address (a.d + 2) (a.d + 3)))) (code_of []) ∷ []
 
   -- it is none
-  wrong_ends : register a.d a.regs ≡ Some word → EndsAt setting 384 a error (exec c (code_of wrong) a.regs a.y)
+  wrong_ends : register a.d a.regs ≡ Some word → EndsAt setting (routine_credit + 84) a error (exec c (code_of wrong) a.regs a.y)
   wrong_ends held =
-      subst (λ q. EndsAt setting 384 a error q) (sym (in_two_parts c (domain_error setting.at a.s.code.site (a.d + 1) a.d function_class) (move a.d (a.d + 1) ∷ []) a.regs a.y))
-      (after setting {c1 = 378} {c2 = 6} a (a.d + 1) (λ g v. exec c (code_of (move a.d (a.d + 1) ∷ [])) g v) (omega arith) (omega arith)
+      subst (λ q. EndsAt setting (routine_credit + 84) a error q) (sym (in_two_parts c (domain_error setting.at a.s.code.site (a.d + 1) a.d function_class) (move a.d (a.d + 1) ∷ []) a.regs a.y))
+      (after setting {c1 = routine_credit + 78} {c2 = 6} a (a.d + 1) (λ g v. exec c (code_of (move a.d (a.d + 1) ∷ [])) g v) (omega arith) (omega arith)
       (domain_error_later setting k h function_class a.around a.z).later.units
-      ((failing_law setting).domain k 300 a (a.d + 1) a.d function_class word h (omega arith) (omega arith) (omega (arith, fits)) some_room held
+      ((failing_law setting).domain k routine_credit a (a.d + 1) a.d function_class word h (omega arith) (omega arith) (omega (arith, fits)) (omega (arith, some_room)) held
       (λ number paid. claims a.rs a.valid (standing_world a.w a.y) a.around a.z (stored_at site_address number paid a.y) h function_class word (omega arith) is))
       (λ g v. code_grows setting k a.turns (code_of (move a.d (a.d + 1) ∷ [])) g v)
       (λ x.
@@ -85,17 +86,17 @@ module _ (setting : Setting) (placed : IsPlaced setting) (k : ℕ) (a : Start se
       (body_does : (w : World) (regs : Registers) (y : MidState) → Begins setting a.rs a.valid a.s (a.d + 3) m w a.env inner_handlers a.z regs y → length regs ≡ length a.regs
       → FormEnds setting 0 a.turns a.rs a.valid a.s (a.d + 3) w a.env inner_handlers a.z regs y r (exec (code_at setting k a.turns) (code_of body) regs y)) where
     -- it is one
-    right_ends : register a.d a.regs ≡ Some word → EndsAt setting 384 a r (exec c (code_of around_body) a.regs a.y)
+    right_ends : register a.d a.regs ≡ Some word → EndsAt setting (routine_credit + 84) a r (exec c (code_of around_body) a.regs a.y)
     right_ends held =
-        subst (λ q. EndsAt setting 384 a r q)
+        subst (λ q. EndsAt setting (routine_credit + 84) a r q)
         (sym
         (single_step c (with_block (a.d + 1) handler_words a.d (code_of (handler_steps a.d ++ (body ++ tail setting placed a handlers_address (a.d + 2) (a.d + 3)))) (code_of [])) a.regs a.y))
-        (lends setting placed a k (a.d + 1) handler_words handlers_address (a.d + 2) (a.d + 3) m 384 (handler_steps a.d) body (omega (arith, room)) grown
-        (λ some. handler_opened setting placed a k h word held is body some fits m 384 room (omega arith) (λ regs y begins many. body_does _ regs y begins many)))
+        (lends setting placed a k (a.d + 1) handler_words handlers_address (a.d + 2) (a.d + 3) m (routine_credit + 84) (handler_steps a.d) body (omega (arith, room)) grown
+        (λ some. handler_opened setting placed a k h word held is body some fits m (routine_credit + 84) room (omega arith) (λ regs y begins many. body_does _ regs y begins many)))
 
 -- one or the other
 module _ (setting : Setting) (placed : IsPlaced setting) (k : ℕ) (a : Start setting) (h : Value) (word : ℕ) (held : register a.d a.regs ≡ Some word) (is : word_of a.w.places h ≡ Some word)
-    (claims : DomainClaims setting k a.turns) (body : Steps) (fits : a.d + 3 < length a.regs) (m : ℕ) (room : 4 + words_for_handler + m ≤ a.n) (some_room : 48 ≤ a.n)
+    (claims : DomainClaims setting k a.turns) (body : Steps) (fits : a.d + 3 < length a.regs) (m : ℕ) (room : 4 + words_for_handler + m ≤ a.n) (some_room : routine_words ≤ a.n)
     (r : FlatEvaluated) (grown : FlatGrown a.z r.state)
     (body_does : (w : World) (z : FlatState) (regs : Registers) (y : MidState) → z ≡ a.z → Begins setting a.rs a.valid a.s (a.d + 3) m w a.env (record a.around { handlers = h ∷ a.around.handlers }) a.z regs y → length regs ≡ length a.regs
     → FormEnds setting 0 a.turns a.rs a.valid a.s (a.d + 3) w a.env (record a.around { handlers = h ∷ a.around.handlers }) a.z regs y r (exec (code_at setting k a.turns) (code_of body) regs y)) where
@@ -114,14 +115,14 @@ module _ (setting : Setting) (placed : IsPlaced setting) (k : ℕ) (a : Start se
 
   judged_ends :
       (q : Bool) → register (a.d + 1) a.regs ≡ Some (if q then 1 else 0)
-      → EndsAt setting 404 a (if q then r else error setting placed k a h word is claims body fits m room some_room) (exec (code_at setting k a.turns) (code_of asked) a.regs a.y)
+      → EndsAt setting (routine_credit + 104) a (if q then r else error setting placed k a h word is claims body fits m room some_room) (exec (code_at setting k a.turns) (code_of asked) a.regs a.y)
   judged_ends q told =
-      subst (λ o. EndsAt setting 404 a (if q then r else error setting placed k a h word is claims body fits m room some_room) o)
+      subst (λ o. EndsAt setting (routine_credit + 104) a (if q then r else error setting placed k a h word is claims body fits m room some_room) o)
       (sym
       (step_falls (code_at setting k a.turns) (constant (a.d + 2) 0) (code_of (if_equal (a.d + 1) (a.d + 2) (wrong setting placed k a h word is claims body fits m room some_room) (around_body setting placed k a h word is claims body fits m room some_room) ∷ []))
       a.regs set a.y (mid_charged 6 a.y) (constant_falls).same
       ∙ single_step (code_at setting k a.turns) (if_equal (a.d + 1) (a.d + 2) (wrong setting placed k a h word is claims body fits m room some_room) (around_body setting placed k a h word is claims body fits m room some_room)) set (mid_charged 6 a.y)))
-      (behind setting {c1 = 6} {c2 = 398} a a.d (omega arith) (reached_set setting {credit = 6} a a.d (a.d + 2) 0 6 (omega arith) (omega arith) (omega arith)) (omega arith) (omega arith) (by q told))
+      (behind setting {c1 = 6} {c2 = routine_credit + 98} a a.d (omega arith) (reached_set setting {credit = 6} a a.d (a.d + 2) 0 6 (omega arith) (omega arith) (omega arith)) (omega arith) (omega arith) (by q told))
     where
       here_told : {v : ℕ} → register (a.d + 1) a.regs ≡ Some v → register (a.d + 1) set ≡ Some v
       here_told e = register_beside a.regs (a.d + 2) (a.d + 1) (Some 0) (λ same. omega (arith, same)) ∙ e
@@ -140,23 +141,27 @@ module _ (setting : Setting) (placed : IsPlaced setting) (k : ℕ) (a : Start se
 
       by :
           (q : Bool) → register (a.d + 1) a.regs ≡ Some (if q then 1 else 0)
-          → EndsAt setting 398 zeroed (if q then r else error setting placed k a h word is claims body fits m room some_room)
+          → EndsAt setting (routine_credit + 98) zeroed (if q then r else error setting placed k a h word is claims body fits m room some_room)
           (exec_step (code_at setting k a.turns) (if_equal (a.d + 1) (a.d + 2) (wrong setting placed k a h word is claims body fits m room some_room) (around_body setting placed k a h word is claims body fits m room some_room)) set (mid_charged 6 a.y))
       by true e =
-          choice setting {c1 = 384} {credit = 398} (code_at setting k a.turns) zeroed (test_of Equal (a.d + 1) (a.d + 2)) (code_of (wrong setting placed k a h word is claims body fits m room some_room))
+          choice setting {c1 = routine_credit + 84} {credit = routine_credit + 98} (code_at setting k a.turns) zeroed (test_of Equal (a.d + 1) (a.d + 2)) (code_of (wrong setting placed k a h word is claims body fits m room some_room))
           (code_of (around_body setting placed k a h word is claims body fits m room some_room)) 1 0 false abbrev_error r (here_told e) here_zero refl (omega arith) up grown.units (λ f. absurd (cc f))
           (λ f.
           right_ends setting placed k (tested setting zeroed) h word is claims body (omega (arith, fits, size)) m room some_room r grown
           (λ w regs y begins many. body_does w a.z regs y refl begins (many ∙ size)) here_word)
       by false e =
-          choice setting {c1 = 384} {credit = 398} (code_at setting k a.turns) zeroed (test_of Equal (a.d + 1) (a.d + 2)) (code_of (wrong setting placed k a h word is claims body fits m room some_room))
+          choice setting {c1 = routine_credit + 84} {credit = routine_credit + 98} (code_at setting k a.turns) zeroed (test_of Equal (a.d + 1) (a.d + 2)) (code_of (wrong setting placed k a h word is claims body fits m room some_room))
           (code_of (around_body setting placed k a h word is claims body fits m room some_room)) 0 0 true abbrev_error r (here_told e) here_zero refl (omega arith) up grown.units
           (λ f. wrong_ends setting placed k (tested setting zeroed) h word is claims body (omega (arith, fits, size)) m room some_room here_word) (λ f. absurd (cc f))
 
 -- ---- the form
 
+-- what it costs to ask whether the handler is a function, and to lay its cell or to signal that it is none
+abbrev handled_credit : ℕ
+handled_credit = is_function_cost + routine_credit + 150
+
 module _ (setting : Setting) (placed : IsPlaced setting) (k : ℕ) (a : Start setting) (h : Value) (word : ℕ) (held : register a.d a.regs ≡ Some word) (is : word_of a.w.places h ≡ Some word)
-    (claims : DomainClaims setting k a.turns) (body : Steps) (fits : a.d + 3 < length a.regs) (m : ℕ) (room : 4 + words_for_handler + m ≤ a.n) (some_room : 48 ≤ a.n)
+    (claims : DomainClaims setting k a.turns) (body : Steps) (fits : a.d + 3 < length a.regs) (m : ℕ) (room : 4 + words_for_handler + m ≤ a.n) (some_room : routine_words ≤ a.n)
     (mean_body : DynamicContext → FlatState → FlatEvaluated) (body_grows : (around : DynamicContext) (z : FlatState) → FlatGrown z (mean_body around z).state)
     (body_does : (w : World) (regs : Registers) (y : MidState) → Begins setting a.rs a.valid a.s (a.d + 3) m w a.env (record a.around { handlers = h ∷ a.around.handlers }) a.z regs y → length regs ≡ length a.regs
     → FormEnds setting 0 a.turns a.rs a.valid a.s (a.d + 3) w a.env (record a.around { handlers = h ∷ a.around.handlers }) a.z regs y (mean_body (record a.around { handlers = h ∷ a.around.handlers }) a.z)
@@ -181,17 +186,17 @@ module _ (setting : Setting) (placed : IsPlaced setting) (k : ℕ) (a : Start se
 
   -- **a handler around a form, behind the handler's value**
   pub handled :
-      EndsAt setting 600 a (handler_meant h a.around a.z)
+      EndsAt setting handled_credit a (handler_meant h a.around a.z)
       (exec (code_at setting k a.turns) (code_of (with_handler_code setting.names setting.at setting.program a.s.code.site a.d body)) a.regs a.y)
   unfolding paid
   handled =
-      subst (λ q. EndsAt setting 600 a (handler_meant h a.around a.z) q) (sym (step_then (code_at setting k a.turns) (call (a.d + 1) (is_function_routine setting.at) (a.d ∷ [])) rest a.regs a.y))
-      (form_looking_law setting (code_at setting k a.turns) a k a.d (a.d + 1) (is_function_routine setting.at) 150 told 600 (a.d ∷ []) (word ∷ []) (handler_meant h a.around a.z)
+      subst (λ q. EndsAt setting handled_credit a (handler_meant h a.around a.z) q) (sym (step_then (code_at setting k a.turns) (call (a.d + 1) (is_function_routine setting.at) (a.d ∷ [])) rest a.regs a.y))
+      (form_looking_law setting (code_at setting k a.turns) a k a.d (a.d + 1) (is_function_routine setting.at) is_function_cost told handled_credit (a.d ∷ []) (word ∷ []) (handler_meant h a.around a.z)
       (λ g v. exec (code_at setting k a.turns) (code_of rest) g v) (omega arith) (omega (arith, fits)) (held, tt) (handler_grows h a.around a.z)
       (λ g v. code_grows setting k a.turns (code_of rest) g v)
       (function_tests_law setting k a.turns a.rs a.valid a.w a.around a.z paid.y a.n placed h word is (omega (arith, some_room)) paid.begins.call)
       (λ x.
-      behind setting {c1 = 196} {c2 = 404} a (a.d + 1) (omega arith) x (omega arith) (omega arith)
+      behind setting {c1 = is_function_cost + 46} {c2 = routine_credit + 104} a (a.d + 1) (omega arith) x (omega arith) (omega arith)
       (judged_ends setting placed k (start_after setting a (a.d + 1) a.d a.n (omega arith) (omega arith) (omega arith) a.begins.first x) h word
       (register_beside a.regs (a.d + 1) a.d (Some told) (λ same. omega (arith, same)) ∙ held) is claims body (omega (arith, fits, length-set a.regs (a.d + 1) (Some told))) m room some_room
       (mean_body (record a.around { handlers = h ∷ a.around.handlers }) a.z) (body_grows (record a.around { handlers = h ∷ a.around.handlers }) a.z)
@@ -207,13 +212,14 @@ module _ (setting : Setting) (placed : IsPlaced setting) (k : ℕ) (a : Start se
 pub handlers_law : LawOfHandlers
 unfolding mean lower
 handlers_law setting k turns handler body placed claims handler_does body_does rs valid s d n first w env around z regs y stands begins registers words =
-    ends_charged setting {c1 = 600} (from_here setting k turns rs valid s d n env around w z regs y begins) 2 (omega arith)
-    (subst (λ q. EndsAt setting 600 a (mean (context_at setting k) (with_handler handler body) env around z) q) (sym (in_two_parts (code_at setting k turns) value code regs y))
-    (two setting {c1 = 0} {c2 = 600} a d (λ v after. with_handler_value (context_at setting k) v (λ within ready. mean (context_at setting k) body env within ready) around after)
+    ends_sparing setting {c1 = handled_credit} (from_here setting k turns rs valid s d n env around w z regs y begins) 2 (omega arith) (omega arith)
+    (subst (λ q. EndsAt setting handled_credit a (mean (context_at setting k) (with_handler handler body) env around z) q) (sym (in_two_parts (code_at setting k turns) value code regs y))
+    (two setting {c1 = 0} {c2 = handled_credit} a d (λ v after. with_handler_value (context_at setting k) v (λ within ready. mean (context_at setting k) body env within ready) around after)
     (λ g v. exec (code_at setting k turns) (code_of code) g v) (omega arith) (omega arith) (form_grows setting k handler env around (charged 2 z)).units
+    (form_spared setting turns a.begins
     (handler_does rs valid s d n first w env around (charged 2 z) regs y
     (record { stands = stands.stands.0; fits = stands.fits.0; leads = stands.leads.0; placed = stands.placed.0; forms_known = stands.forms_known }) a.begins (registers_front value code (length regs) registers)
-    (omega (arith, words)))
+    (omega (arith, words))))
     grows (λ g v. code_grows setting k turns (code_of code) g v)
     (λ x.
     let size = x.reached.kept.registers.count in
@@ -221,9 +227,10 @@ handlers_law setting k turns handler body placed claims handler_does body_does r
     (omega (arith, fits, size)) (words_for setting.names setting.program body) (omega (arith, words)) (omega (arith, words))
     (λ within ready. mean (context_at setting k) body env within ready) (λ within ready. form_grows setting k body env within ready)
     (λ w1 regs1 y1 inside many.
-    body_does rs valid s (d + 3) (words_for setting.names setting.program body) first w1 env _ _ regs1 y1
+    form_spared setting turns inside
+    (body_does rs valid s (d + 3) (words_for setting.names setting.program body) first w1 env _ _ regs1 y1
     (record { stands = stands.stands.1; fits = stands.fits.1; leads = stands.leads.1; placed = stands.placed.1; forms_known = stands.forms_known }) inside
-    (subst (λ m. enough_for (of_code (code_of body_steps)) ≤ m) (sym (many ∙ size)) names_body) (omega arith)))))
+    (subst (λ m. enough_for (of_code (code_of body_steps)) ≤ m) (sym (many ∙ size)) names_body) (omega arith))))))
   where
     a : Start setting
     a = start_charged setting (from_here setting k turns rs valid s d n env around w z regs y begins) 2

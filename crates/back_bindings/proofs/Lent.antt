@@ -368,6 +368,8 @@ module _ (setting : Setting) (placed : IsPlaced setting) (a : Start setting) whe
                     end_record = t.end_record;
                     end_valid = t.end_valid;
                     end_word = control_stays end_address (omega arith) (λ e. let stored = h.slot_stored in omega (arith, e, stored)) ∙ t.end_word;
+                    end_form = t.end_form;
+                    tags_land = t.tags_land;
                   };
                   room = room_inside setting.limit a.begins.call.room;
                 };

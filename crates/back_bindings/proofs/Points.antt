@@ -5,13 +5,14 @@ use Rattle.std.proofs.Math.ListN.{length-set}
 use Rattle.std.specs.Str.{bytes_eq}
 use Rattle.lang_meaning.specs.Lookup.{text, passed}
 use Rattle.lang_meaning.specs.Values.{Value}
-use Rattle.flat_language.specs.FlatState.{FlatEvaluated, gives}
+use Rattle.lang_meaning.specs.State.{DynamicContext}
+use Rattle.flat_language.specs.FlatState.{FlatEvaluated, gives, FlatEnvironment, FlatState, go_on}
 use Rattle.mid_code.specs.Arena.{word_in}
 use Rattle.mid_code.specs.Law.{Grown}
 use Rattle.mid_code.specs.Meaning.{Context, exec}
 use Rattle.mid_code.specs.MidCode.{MidCode, code_of}
-use Rattle.mid_code.specs.State.{Registers, register, falls, ends, MidState}
-use Rattle.mid_code.specs.State.{charged as mid_charged}
+use Rattle.mid_code.specs.State.{Registers, register, falls, ends, MidState, MidOutcome, Next}
+use Rattle.mid_code.specs.State.{charged as mid_charged, go_on as mid_go_on}
 use Rattle.mid_code.proofs.Growth.{exec_grown, levels_grow, turns_grow}
 use Rattle.mid_arena.specs.Places.{word_of}
 use Rattle.mid_arena.proofs.Registers.{register_here}
@@ -21,15 +22,19 @@ use Rattle.back_lowering.specs.Routines.{binding_routine}
 use Rattle.back_lowering.specs.Steps.{Steps, constant, call}
 use Rattle.back_relation.specs.Setting.{Setting}
 use Rattle.back_relation.specs.Placed.{IsPlaced, HasDynamic}
-use Rattle.back_relation.specs.Ends.{done}
-use Rattle.back_relation.specs.Forms.{FormEnds, code_at}
-use Rattle.back_combining.specs.Starts.{FlatGrown, Start, EndsAt, ReachedFrom}
+use Rattle.back_relation.specs.Ends.{done, form_spare, form_credit}
+use Rattle.back_relation.specs.Forms.{FormEnds, code_at, Begins, SparingForm}
+use Rattle.back_relation.specs.Room.{looking_words}
+use Rattle.back_relation.specs.Worlds.{World, Standing}
+use Rattle.back_relation.specs.Activation.{FormScope}
+use Rattle.back_combining.specs.Starts.{FlatGrown, Start, EndsAt, ReachedFrom, EndsFrom, FellFrom}
 use Rattle.back_combining.proofs.Activations.{activation_later}
-use Rattle.back_combining.proofs.Parts.{step_then}
-use Rattle.back_combining.proofs.Starts.{start_after, reached_cost, reached_set, behind}
+use Rattle.back_combining.proofs.Parts.{step_then, go_on_falls}
+use Rattle.back_combining.proofs.Starts.{start_after, reached_cost, reached_set, behind, ends_spared, start_charged, ends_charged}
 use Rattle.back_combining.proofs.Straight.{same_here, world_cost, around_cost}
-use Rattle.back_combining.proofs.Then.{reached_then}
+use Rattle.back_combining.proofs.Then.{reached_then, ends_go_on, ends_then}
 use Rattle.back_combining.proofs.Worlds.{later_same}
+use Rattle.back_combining.proofs.Growth.{then_value}
 use Rattle.back_calling.proofs.Inner.{form_looking_law}
 use Rattle.back_looking.specs.Looking.{LooksAnywhere, PlaceOf, binding_under, binding_most}
 use Rattle.back_looking.proofs.BindingWalk.{bindings_law}
@@ -38,6 +43,48 @@ module _ (setting : Setting) where
   pub code_grows : (k turns : ℕ) (code : MidCode) (g : Registers) (v : MidState) → Grown v (exec (code_at setting k turns) code g v).state
   code_grows k turns code g v =
       exec_grown (code_at setting k turns) (levels_grow setting.procedures setting.turns_each k) (turns_grow setting.procedures _ (levels_grow setting.procedures setting.turns_each k) turns) code g v
+
+  -- the start of code that begins so, and what a form there comes to, whose whole first unit pays
+  abbrev pub begun_at :
+      (turns : ℕ) {rs valid : List Standing} {s : FormScope} {d n : ℕ} {w : World} {env : FlatEnvironment} {around : DynamicContext} {z : FlatState} {regs : Registers} {y : MidState}
+      → Begins setting rs valid s d n w env around z regs y → Start setting
+  begun_at turns {rs} {valid} {s} {d} {n} {w} {env} {around} {z} {regs} {y} b = record {
+    turns = turns;
+    rs = rs;
+    valid = valid;
+    s = s;
+    d = d;
+    n = n;
+    w = w;
+    env = env;
+    around = around;
+    z = z;
+    regs = regs;
+    y = y;
+    begins = b;
+  }
+
+  pub form_spared :
+      (turns : ℕ) {rs valid : List Standing} {s : FormScope} {d n : ℕ} {w : World} {env : FlatEnvironment} {around : DynamicContext} {z : FlatState} {regs : Registers} {y : MidState}
+      → Begins setting rs valid s d n w env around z regs y → {r : FlatEvaluated} {q : MidOutcome} → SparingForm setting turns rs valid s d w env around z regs y r q
+      → FormEnds setting 0 turns rs valid s d w env around z regs y r q
+  form_spared turns b e = ends_spared setting (begun_at turns b) e
+
+  -- **a form and what comes behind it**, which what the form leaves of its first unit pays too
+  pub two_paying :
+      {c2 c : ℕ} (a : Start setting) (d1 : ℕ) {r : FlatEvaluated} {q : MidOutcome} (f : Value → FlatState → FlatEvaluated) (next : Next) → a.d ≤ d1 → c2 ≤ c + form_spare
+      → a.y.cost ≤ q.state.cost → EndsFrom setting form_credit (start_charged setting a 1) d1 r q → ((v : Value) (z : FlatState) → FlatGrown z (f v z).state)
+      → ((g : Registers) (y : MidState) → Grown y (next g y).state)
+      → ((x : FellFrom setting form_credit (start_charged setting a 1) d1 r q)
+      → FormEnds setting c2 a.turns a.rs a.valid a.s a.d x.w' a.env a.around r.state q.registers q.state (f x.result r.state) (next q.registers q.state))
+      → EndsAt setting c a (go_on r f) (mid_go_on q next)
+  two_paying {c2} {c} a d1 {r} {q} f next l enough costs e grown mid_grown h =
+      ends_charged setting {c1 = form_credit + c2} {c2 = c} a 1 (omega (arith, enough))
+      (ends_go_on setting {D = FellFrom setting form_credit (start_charged setting a 1) d1 r q} {c1 = form_credit} {d1 = d1} f next l (omega arith) e grown mid_grown
+      (λ x.
+      subst (λ p. EndsAt setting (form_credit + c2) (start_charged setting a 1) p (mid_go_on q next)) (sym (then_value r f x.result x.outcome))
+      (subst (λ p. EndsAt setting (form_credit + c2) (start_charged setting a 1) (f x.result r.state) p) (sym (go_on_falls q next x.end))
+      (ends_then setting l x.reached {c2 = c2} {c = form_credit + c2} (omega arith) (omega (arith, x.reached.back.paid, costs)) (h x)))))
 
   -- registers at or behind the first one were set, and this was paid
   pub reached_registers :
@@ -76,7 +123,7 @@ module _ (setting : Setting) where
 
     -- **the place of a dynamic variable's value comes to t**, and the code goes on
     pub binding_goes :
-        (a : Start setting) (n t credit c2 : ℕ) (rest : Steps) {r : FlatEvaluated} → HasDynamic setting n → a.d ≤ t → t < length a.regs → 8 ≤ a.n → FlatGrown a.z r.state
+        (a : Start setting) (n t credit c2 : ℕ) (rest : Steps) {r : FlatEvaluated} → HasDynamic setting n → a.d ≤ t → t < length a.regs → looking_words ≤ a.n → FlatGrown a.z r.state
         → 150 + 70 * sought a n + c2 ≤ credit
         → ((address : ℕ) (y2 : MidState) → address + 4 ≤ 2 ^ 32 → PlaceOf setting a.w n address (binding_under (text setting.names n) a.around.bindings)
         → ReachedFrom setting (150 + 70 * sought a n) a t a.w a.z (slice_set (slice_set a.regs t (Some (dynamic_address setting.at n))) t (Some address)) y2

@@ -1,19 +1,13 @@
 -- What is shown of the forms of dynamic variables, whose parts do what they mean.
-use Rattle.std.specs.Prelude.{⊤, ℕ, ◌+◌, ◌≤◌, List, [], ◌∷◌}
-use Rattle.lang_meaning.specs.Objects.{unbound_variable_class}
+use Rattle.std.specs.Prelude.{⊤, ℕ, List}
 use Rattle.lang_meaning.specs.State.{DynamicContext}
-use Rattle.lang_meaning.specs.Values.{Value}
 use Rattle.flat_language.specs.FlatForm.{FlatForm, dynamic_let, dynamic, with_handler, throw, signal_form, continue_form, FlatDynamics, no_dynamic, dynamic_and}
-use Rattle.flat_language.specs.FlatMeaning.{mean_signal}
-use Rattle.flat_language.specs.FlatSignals.{signal, throw_to, continue_with}
-use Rattle.flat_language.specs.FlatState.{FlatState, FlatEvaluated}
+use Rattle.flat_language.specs.FlatState.{FlatState}
 use Rattle.mid_code.specs.State.{MidState}
-use Rattle.back_lowering.specs.Routines.{failing_with_routine, throw_routine, continue_routine, signal_routine}
 use Rattle.back_relation.specs.Setting.{Setting}
 use Rattle.back_relation.specs.Placed.{IsPlaced}
 use Rattle.back_relation.specs.Forms.{DoesForm, context_at, code_at}
-use Rattle.back_relation.specs.RoutineClaims.{WordIs, DomainDoes, routine_credit}
-use Rattle.back_relation.specs.RoutineClaims.{Does as RoutineDoes}
+use Rattle.back_relation.specs.RoutineClaims.{FailingWithDoes, DomainDoes, ThrowDoes, SignalDoes, ContinueDoes}
 use Rattle.back_relation.specs.Worlds.{World, Standing}
 
 -- a form does what it means, wherever it stands
@@ -31,12 +25,10 @@ LawOfDynamicLets =
     (setting : Setting) (k turns : ℕ) (ds : FlatDynamics) (body : FlatForm) → IsPlaced setting → DynamicsDo setting k turns ds → Does setting k turns body
     → Does setting k turns (dynamic_let ds body)
 
--- that a variable is unbound is signalled, with its name, by the routine of conditions of one slot, wherever code stands
+-- conditions with one slot are signalled as they are claimed to be, wherever code stands
 abbrev pub FailingWithClaims : Setting → (k turns : ℕ) → Type 0
 FailingWithClaims setting k turns =
-    (rs valid : List Standing) (w : World) (around : DynamicContext) (z : FlatState) (y : MidState) (v : Value) (word : ℕ) → WordIs setting w word v
-    → RoutineDoes setting k turns rs valid w around z y routine_credit (failing_with_routine setting.at) (unbound_variable_class ∷ word ∷ [])
-    (signal (context_at setting k) unbound_variable_class (v ∷ []) around z)
+    (rs valid : List Standing) (w : World) (around : DynamicContext) (z : FlatState) (y : MidState) → FailingWithDoes setting k turns rs valid w around z y
 
 -- domain errors are signalled as they are claimed to be, wherever code stands
 abbrev pub DomainClaims : Setting → (k turns : ℕ) → Type 0
@@ -54,30 +46,33 @@ LawOfHandlers =
     (setting : Setting) (k turns : ℕ) (handler body : FlatForm) → IsPlaced setting → DomainClaims setting k turns → Does setting k turns handler
     → Does setting k turns body → Does setting k turns (with_handler handler body)
 
--- A routine that is called with the words of two values does what they mean, for so much. A form that calls it has one unit, which pays for the storing
--- of the site and the call too: so the routine is to cost no more than 228 beside its own units.
-abbrev pub TwoWordsDo : Setting → (k turns credit routine : ℕ) → (Value → Value → DynamicContext → FlatState → FlatEvaluated) → Type 0
-TwoWordsDo setting k turns credit routine act =
-    (rs valid : List Standing) (w : World) (around : DynamicContext) (z : FlatState) (y : MidState) (v x : Value) (word second : ℕ) → WordIs setting w word v
-    → WordIs setting w second x → RoutineDoes setting k turns rs valid w around z y credit routine (word ∷ second ∷ []) (act v x around z)
+-- throws, signals, and signals that are continued come to what they are claimed to
+abbrev pub ThrowClaims : Setting → (k turns : ℕ) → Type 0
+ThrowClaims setting k turns =
+    (rs valid : List Standing) (w : World) (around : DynamicContext) (z : FlatState) (y : MidState) → ThrowDoes setting k turns rs valid w around z y
+
+abbrev pub SignalClaims : Setting → (k turns : ℕ) → Type 0
+SignalClaims setting k turns =
+    (rs valid : List Standing) (w : World) (around : DynamicContext) (z : FlatState) (y : MidState) → SignalDoes setting k turns rs valid w around z y
+
+abbrev pub ContinueClaims : Setting → (k turns : ℕ) → Type 0
+ContinueClaims setting k turns =
+    (rs valid : List Standing) (w : World) (around : DynamicContext) (z : FlatState) (y : MidState) → ContinueDoes setting k turns rs valid w around z y
 
 -- a throw to a tag
 abbrev pub LawOfThrows : Type 0
 LawOfThrows =
-    (setting : Setting) (k turns credit : ℕ) (tag f : FlatForm) → credit + 72 ≤ 300
-    → TwoWordsDo setting k turns credit (throw_routine setting.at) (λ v x around z. throw_to (context_at setting k) v x around z) → Does setting k turns tag
-    → Does setting k turns f → Does setting k turns (throw tag f)
+    (setting : Setting) (k turns : ℕ) (tag f : FlatForm) → ThrowClaims setting k turns → Does setting k turns tag → Does setting k turns f
+    → Does setting k turns (throw tag f)
 
 -- a condition is signalled
 abbrev pub LawOfSignals : Type 0
 LawOfSignals =
-    (setting : Setting) (k turns credit : ℕ) (condition mark : FlatForm) → credit + 72 ≤ 300
-    → TwoWordsDo setting k turns credit (signal_routine setting.at) (λ v x around z. mean_signal (context_at setting k) v x around z)
-    → Does setting k turns condition → Does setting k turns mark → Does setting k turns (signal_form condition mark)
+    (setting : Setting) (k turns : ℕ) (condition mark : FlatForm) → SignalClaims setting k turns → Does setting k turns condition → Does setting k turns mark
+    → Does setting k turns (signal_form condition mark)
 
 -- a signal is continued
 abbrev pub LawOfContinuing : Type 0
 LawOfContinuing =
-    (setting : Setting) (k turns credit : ℕ) (condition f : FlatForm) → credit + 72 ≤ 300
-    → TwoWordsDo setting k turns credit (continue_routine setting.at) (λ v x around z. continue_with (context_at setting k) v x around z)
-    → Does setting k turns condition → Does setting k turns f → Does setting k turns (continue_form condition f)
+    (setting : Setting) (k turns : ℕ) (condition f : FlatForm) → ContinueClaims setting k turns → Does setting k turns condition → Does setting k turns f
+    → Does setting k turns (continue_form condition f)

@@ -11,11 +11,12 @@ use Rattle.flat_language.specs.FlatState.{FlatEnvironment, FlatEvaluated, FlatAc
 use Rattle.mid_code.specs.State.{End, falls, returns, cuts, no_room, no_level, no_turn, halts, unhandled, exhausted, stuck}
 use Rattle.back_relation.specs.Setting.{Setting}
 use Rattle.back_relation.specs.Worlds.{World, Later, LandsIn}
-use Rattle.back_relation.specs.Ends.{IsFullOrMore, RoomEnded, Because}
+use Rattle.back_relation.specs.Ends.{IsFull, RoomEnded, Because}
 use Rattle.back_relation.specs.Forms.{context_at}
 use Rattle.back_combining.specs.Starts.{FlatGrown}
 use Rattle.back_combining.proofs.FormGrowth.{form_grows}
 use Rattle.back_combining.proofs.Growth.{same_flat, both_flat, then_grown}
+use Rattle.back_exits.proofs.Exits.{EndsEarly, full_early}
 
 -- a transfer lands in its form in a later world
 pub lands_later : {w w' : World} (e : ℕ) (landing : Landing) → Later w w' → e < length w.exit_forms → LandsIn (slice_get w.exit_forms e) landing → LandsIn (slice_get w'.exit_forms e) landing
@@ -38,7 +39,7 @@ module _ (setting : Setting) (k : ℕ) (cleanup : FlatForm) (env : FlatEnvironme
       (r : FlatEvaluated) (e : ℕ) (v : Value) (landing : Landing) → r.outcome ≡ exit e v landing → cleaned cleans around r ≡ go_on (cleans (within e) r.state) (λ w after. leaves e v landing after)
   cleaned_exit r e v landing same = ap (λ o. cleaned_from cleans around o r.state) same
 
-  pub cleaned_other : (r : FlatEvaluated) (o : Outcome) → r.outcome ≡ o → IsFullOrMore setting o → cleaned cleans around r ≡ r
+  pub cleaned_other : (r : FlatEvaluated) (o : Outcome) → r.outcome ≡ o → EndsEarly o → cleaned cleans around r ≡ r
   cleaned_other r (value v) same h = absurd h
   cleaned_other r (exit x v l) same h = absurd h
   cleaned_other r (full asked left_then) same h = ap (λ o. cleaned_from cleans around o r.state) same ∙ ap (λ o. record { outcome = o; state = r.state }) (sym same)
@@ -60,7 +61,7 @@ module _ (setting : Setting) (k : ℕ) (cleanup : FlatForm) (env : FlatEnvironme
     where
       by : (l : Limit) → RoomEnded setting l r.outcome → RoomEnded setting l (cleaned cleans around r).outcome
       by unlimited j = tt
-      by (words m) j = subst (λ (p : FlatEvaluated). IsFullOrMore setting p.outcome) (sym (cleaned_other r r.outcome refl j)) j
+      by (words m) j = subst (λ (p : FlatEvaluated). IsFull setting p.outcome) (sym (cleaned_other r r.outcome refl (full_early setting r.outcome j))) j
   because_cleaned r no_level h = ap (λ (p : FlatEvaluated). p.outcome) (cleaned_other r more h tt) ∙ h
   because_cleaned r exhausted h = let g = cleaned_grows r in omega (arith, h, g.exits)
   because_cleaned r falls h = h

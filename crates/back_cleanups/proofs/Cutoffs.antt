@@ -1,5 +1,5 @@
 -- The valid exits around a cleanup during a transfer: those from the target on.
-use Rattle.std.proofs.Common.{◌≡◌, ℕ, ◌<◌, ◌≤◌, Bool, true, false, List, [], ◌∷◌, Some, refl, sym, ap, ◌∙◌, subst, arith}
+use Rattle.std.proofs.Common.{◌≡◌, ℕ, ◌<◌, ◌≤◌, Bool, true, false, List, [], ◌∷◌, Some, None, refl, sym, ap, ◌∙◌, subst, arith}
 use Rattle.std.specs.Prelude.{◌==◌, if◌then◌else◌}
 use Rattle.std.proofs.lemmas.Bool.{eqb-true, ne_eqb}
 use Rattle.lang_meaning.specs.State.{DynamicContext, Exit, exits_from}
@@ -111,4 +111,6 @@ module _ (setting : Setting) {w w' : World} {rs valid : List Standing} {around :
     end_record = t.end_record;
     end_valid = cutoff.inner 0 t.end_record (omega arith) t.end_valid;
     end_word = end t.end_record.address t.end_word;
+    end_form = later.exit_forms 0 None t.end_form;
+    tags_land = λ x v i role tagged. later.exit_forms x.number None (t.tags_land x v i role tagged);
   }

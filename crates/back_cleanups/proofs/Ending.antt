@@ -27,6 +27,7 @@ use Rattle.back_relation.specs.Around.{AroundStands}
 use Rattle.back_relation.specs.Ends.{LandingIs, done}
 use Rattle.back_relation.specs.Forms.{code_at}
 use Rattle.back_relation.specs.Procedures.{called}
+use Rattle.back_relation.specs.RoutineClaims.{routine_credit}
 use Rattle.back_combining.specs.Starts.{Start, ReachedFrom, EndsAt}
 use Rattle.back_combining.proofs.Parts.{single_step}
 use Rattle.back_combining.proofs.Starts.{reached_set}
@@ -90,7 +91,7 @@ module _ (setting : Setting) (placed : IsPlaced setting) (k : ℕ) (a : Start se
     (there : a.d + 8 ≤ length a.regs) (enough_words : routine_words ≤ a.n) (e : ℕ) (v : Value) (landing : Landing) (target : Standing) (word landing_word : ℕ)
     (value_held : register a.d g ≡ Some word) (target_held : register (a.d + 1) g ≡ Some target.address) (landing_held : register (a.d + 2) g ≡ Some landing_word)
     (is : word_of w.places v ≡ Some word) (valid_target : record_of_exit e exits valid ≡ Some target) (landing_is : LandingIs setting landing_word landing)
-    (lands : LandsIn (slice_get w.exit_forms e) landing) (whole : ℕ) (enough : credit + 378 ≤ whole) (up : a.z.state.units ≤ z.state.units) where
+    (lands : LandsIn (slice_get w.exit_forms e) landing) (whole : ℕ) (enough : credit + 78 + routine_credit ≤ whole) (up : a.z.state.units ≤ z.state.units) where
   abbrev c : Context
   c = code_at setting k a.turns
 

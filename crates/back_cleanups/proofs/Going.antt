@@ -21,6 +21,7 @@ use Rattle.back_relation.specs.Activation.{ActivationStands}
 use Rattle.back_relation.specs.Ends.{PaidFrom, LandingIs, ControlBack, WorldKept, Transfers, LeftCall, Because, Returned, Ends, done, left_by, full_there, stopped, few_turns}
 use Rattle.back_relation.specs.Forms.{code_at}
 use Rattle.back_relation.specs.Procedures.{called}
+use Rattle.back_relation.specs.RoutineClaims.{routine_credit}
 use Rattle.back_combining.specs.Cuts.{boxes_cut}
 use Rattle.back_combining.specs.Starts.{Start, LeftFrom, EndsAt}
 use Rattle.back_combining.specs.Stores.{stores}
@@ -48,7 +49,7 @@ module _ (setting : Setting) (placed : IsPlaced setting) (k : ℕ) (a : Start se
     (enough_words : routine_words ≤ a.n) (e : ℕ) (v : Value) (landing : Landing) (target : Standing) (word landing_word : ℕ)
     (is : word_of w.places v ≡ Some word) (valid_target : record_of_exit e exits valid ≡ Some target) (landing_is : LandingIs setting landing_word landing)
     (lands : LandsIn (slice_get w.exit_forms e) landing) (whole paid_before total : ℕ) (g6 : Registers) (size6 : length g6 ≡ length g) (same6 : (i : ℕ) → i < a.d → slice_get g6 i ≡ slice_get g i)
-    (paid7 : PaidFrom paid_before a.z a.y z (touched ((landing_address, landing_word) ∷ []) y.arena total y)) (enough : paid_before + 300 ≤ whole) (up : a.z.state.units ≤ z.state.units) where
+    (paid7 : PaidFrom paid_before a.z a.y z (touched ((landing_address, landing_word) ∷ []) y.arena total y)) (enough : paid_before + routine_credit ≤ whole) (up : a.z.state.units ≤ z.state.units) where
   abbrev c : Context
   c = code_at setting k a.turns
 
@@ -153,14 +154,14 @@ module _ (setting : Setting) (placed : IsPlaced setting) (k : ℕ) (a : Start se
 
   -- ---- a transfer left
 
-  module _ (t : LeftCall setting 300 a.rs valid w7 (around_with exits a.around) z y7 (leaves e v landing z) q7) where
-    abbrev l : Transfers setting 300 a.rs valid w7 (around_with exits a.around) z y7 (leaves e v landing z) q7
+  module _ (t : LeftCall setting routine_credit a.rs valid w7 (around_with exits a.around) z y7 (leaves e v landing z) q7) where
+    abbrev l : Transfers setting routine_credit a.rs valid w7 (around_with exits a.around) z y7 (leaves e v landing z) q7
     l = t.transfer
 
     abbrev final : MidOutcome
     final = ends (cuts l.to.outside l.word) g6 q7.state
 
-    of_final : Transfers setting 300 a.rs valid w7 (around_with exits a.around) z y7 (leaves e v landing z) final
+    of_final : Transfers setting routine_credit a.rs valid w7 (around_with exits a.around) z y7 (leaves e v landing z) final
     of_final = record {
       exit_number = l.exit_number;
       result = l.result;
@@ -221,7 +222,7 @@ module _ (setting : Setting) (placed : IsPlaced setting) (k : ℕ) (a : Start se
       stop_passes exhausted h = tt
       stop_passes o h = absurd h
 
-      by : Ends setting (Returned setting 300 w7 z y7 (leaves e v landing z) q7) (LeftCall setting 300 a.rs valid w7 (around_with exits a.around) z y7 (leaves e v landing z) q7) a.turns z y7 (leaves e v landing z) q7
+      by : Ends setting (Returned setting routine_credit w7 z y7 (leaves e v landing z) q7) (LeftCall setting routine_credit a.rs valid w7 (around_with exits a.around) z y7 (leaves e v landing z) q7) a.turns z y7 (leaves e v landing z) q7
           → EndsAt setting whole a (leaves e v landing z) p
       by (done r) = absurd (cc r.outcome)
       by (left_by t) =

@@ -36,15 +36,15 @@ use Rattle.back_relation.specs.Activation.{FormScope, ExitReached}
 use Rattle.back_relation.specs.Forms.{context_at, code_at}
 use Rattle.back_relation.specs.Procedures.{called}
 use Rattle.back_combining.specs.Points.{Point, start_at, Here}
-use Rattle.back_combining.specs.Starts.{Start, FellFrom, ReachedFrom, EndsAt}
+use Rattle.back_combining.specs.Starts.{Start, FellFrom, ReachedFrom, EndsAt, SparingAt}
 use Rattle.back_combining.proofs.FormGrowth.{form_grows}
 use Rattle.back_combining.proofs.Parts.{single_step}
 use Rattle.back_combining.proofs.Points.{code_grows}
-use Rattle.back_combining.proofs.Starts.{start_charged, reached_set, reached_same, reached_units}
+use Rattle.back_combining.proofs.Starts.{start_charged, ends_sparing, ends_spared, reached_set, reached_same, reached_units}
 use Rattle.back_combining.proofs.Then.{reached_then}
 use Rattle.back_exits.specs.Touching.{touched}
 use Rattle.back_exits.proofs.AtOnce.{transfer_grows, lands_in_block, lands_in_segment}
-use Rattle.back_exits.proofs.Charging.{next_start, whole_then, units_then, value_then}
+use Rattle.back_exits.proofs.Charging.{next_start, whole_then, value_then}
 use Rattle.back_exits.proofs.Cutting.{search_finds}
 use Rattle.back_exits.proofs.Words.{control_lent, control_of}
 use Rattle.back_cleanups.specs.Cleanups.{TransferGoes}
@@ -110,7 +110,7 @@ module _ (setting : Setting) (placed : IsPlaced setting) (k : ℕ) (a : Start se
       })))
 
   -- **the word in the first register goes to the exit**
-  pub goes_to : EndsAt setting 300 a (transfer (context_at setting k) (exit_of (Own i) a.env) v (at_segment landing) a.around a.z)
+  pub goes_to : EndsAt setting 450 a (transfer (context_at setting k) (exit_of (Own i) a.env) v (at_segment landing) a.around a.z)
       (exec c (code_of (exit_code setting.names setting.at setting.program a.s.code a.d landing (Own i))) g y)
   goes_to =
       let own = x0.kept.activation.exits i x found in
@@ -122,12 +122,12 @@ module _ (setting : Setting) (placed : IsPlaced setting) (k : ℕ) (a : Start se
       let b : Start setting = next_start setting 0 100 a a.d a.d a.n (omega arith) (omega arith) (omega arith) a.begins.first x0 (omega arith) in
       let x1 : ReachedFrom setting 100 a a.d w (charged search.0 a.z) g y = reached_then setting (omega arith) x0 (omega arith) (reached_units setting b search.0) in
       let paid = x0.back.paid in
-      subst (λ o. EndsAt setting 300 a (transfer (context_at setting k) o v (at_segment landing) a.around a.z)
+      subst (λ o. EndsAt setting 450 a (transfer (context_at setting k) o v (at_segment landing) a.around a.z)
       (exec c (code_of (exit_code setting.names setting.at setting.program a.s.code a.d landing (Own i))) g y)) (sym own.1)
-      (subst (λ r. EndsAt setting 300 a r (exec c (code_of (exit_code setting.names setting.at setting.program a.s.code a.d landing (Own i))) g y)) (sym search.2)
-      (subst (λ ss. EndsAt setting 300 a (leaves e v (at_segment landing) (charged search.0 a.z)) (exec c (code_of ss) g y)) (sym (transfer_code setting a.s.code a.d landing i x found by_transfer))
+      (subst (λ r. EndsAt setting 450 a r (exec c (code_of (exit_code setting.names setting.at setting.program a.s.code a.d landing (Own i))) g y)) (sym search.2)
+      (subst (λ ss. EndsAt setting 450 a (leaves e v (at_segment landing) (charged search.0 a.z)) (exec c (code_of ss) g y)) (sym (transfer_code setting a.s.code a.d landing i x found by_transfer))
       (transfer_passes setting placed k a goes (came_of setting a x1) {valid = a.valid} {exits = a.around.exits} (around_of setting a x1) (λ n r f. f) enough_words e v (at_segment landing) reached.0 word landing
-      of_value reached.2 refl (lands e (x0.kept.activation.exit_forms i e own.1)) 300 0 total g6
+      of_value reached.2 refl (lands e (x0.kept.activation.exit_forms i e own.1)) 450 0 total g6
       (length-set (slice_set g (a.d + 1) (Some landing)) (a.d + 1 + 1) (Some 0) ∙ length-set g (a.d + 1) (Some landing)) same6 (omega (arith, paid, some)) (omega arith) (omega arith)
       (exec c (code_of (transfer_steps setting a.d landing x.record_register)) g y) (λ last passes same. (call_runs reached.0.address reached.1 last passes same).same))))
 
@@ -165,19 +165,19 @@ module _ (setting : Setting) (placed : IsPlaced setting) (s : FormScope) (d n si
       let steps : Steps = (lower setting.names setting.at setting.program s.code d f).value in
       let r : FlatEvaluated = mean (context_at setting k) f p.env p.around (charged 1 p.z) in
       let q : MidOutcome = exec (code_at setting k turns) (code_of steps) p.regs p.y in
-      subst (λ o. EndsAt setting 0 (a0 p) (mean (context_at setting k) (return_from (Own i) f) p.env p.around p.z) o)
+      subst (λ o. SparingAt setting (a0 p) (mean (context_at setting k) (return_from (Own i) f) p.env p.around p.z) o)
       (sym (in_two_parts (code_at setting k turns) steps (leaving 0) p.regs p.y))
-      (units_then setting 300 0 (a0 p) 1 (omega arith)
-      (value_then setting (λ o t. FellFrom setting 300 (a1 p) d o t) 0 300 (a1 p) d r q
+      (ends_sparing setting {c1 = 450} (a0 p) 1 (omega arith) (omega arith)
+      (value_then setting (λ o t. FellFrom setting 450 (a1 p) d o t) 0 450 (a1 p) d r q
       (λ v after. transfer (context_at setting k) (exit_of (Own i) p.env) v (at_segment 0) p.around after)
       (λ regs y. exec (code_at setting k turns) (code_of (leaving 0)) regs y) (omega arith) (omega arith)
       (λ v z. transfer_grows setting k (exit_of (Own i) p.env) v (at_segment 0) p.around z) (λ regs y. code_grows setting s d n size k turns (leaving 0) regs y)
-      (here (charged_point p))
+      (ends_spared setting (a1 p) (here (charged_point p)))
       (λ h.
       let count = h.reached.kept.registers.count in
       let width = wide_at p in
-      let b : Start setting = next_start setting 300 300 (a1 p) d d n (omega arith) (omega arith) (omega arith) p.begins.first h.reached (omega arith) in
-      whole_then setting 300 300 (a1 p) d d n (omega arith) (omega arith) (omega arith) p.begins.first h.reached (omega arith) (form_grows setting k f p.env p.around (charged 1 p.z)).units
+      let b : Start setting = next_start setting 450 450 (a1 p) d d n (omega arith) (omega arith) (omega arith) p.begins.first h.reached (omega arith) in
+      whole_then setting 450 450 (a1 p) d d n (omega arith) (omega arith) (omega arith) p.begins.first h.reached (omega arith) (form_grows setting k f p.env p.around (charged 1 p.z)).units
       (goes_to setting placed k b goes enough_words (reached_same setting b d) i 0 x (omega (arith, count, width)) found by_transfer
       (λ e j. subst (λ o. LandsIn o (at_segment 0)) (sym j) (lands_in_block (slice_get s.exits.own i) block)) h.result h.word h.in_register h.of_value))))
 
@@ -189,8 +189,8 @@ module _ (setting : Setting) (placed : IsPlaced setting) (s : FormScope) (d n si
       reached_set setting (a1 p) d d nil_word 6 (omega arith) (omega arith) (omega arith) in
       let r : FlatEvaluated = transfer (context_at setting k) (exit_of (Own i) p.env) nil (at_segment segment) p.around (charged 1 p.z) in
       let one : RunsTo (code_at setting k turns) (code_of (constant d nil_word ∷ [])) p.regs p.y (ends falls (slice_set p.regs d (Some nil_word)) (mid_charged 6 p.y)) = and_then constant_falls none_left in
-      subst (λ q. EndsAt setting 0 (a0 p) r q) (sym (parts_then (constant d nil_word ∷ []) (leaving segment) one (record { same = refl })).same)
-      (units_then setting 300 0 (a0 p) 1 (omega arith)
+      subst (λ q. SparingAt setting (a0 p) r q) (sym (parts_then (constant d nil_word ∷ []) (leaving segment) one (record { same = refl })).same)
+      (ends_sparing setting {c1 = 450} (a0 p) 1 (omega arith) (omega arith)
       (goes_to setting placed k (a1 p) goes enough_words set i segment x width found by_transfer
       (λ e j. subst (λ o. LandsIn o (at_segment segment)) (sym j) (lands_in_segment (slice_get s.exits.own i) segment is_there)) nil nil_word (register_here p.regs d nil_word (omega (arith, width))) refl))
 

@@ -35,12 +35,12 @@ use Rattle.back_combining.proofs.Fitting.{registers_front, registers_behind}
 use Rattle.back_combining.proofs.FormGrowth.{form_grows}
 use Rattle.back_combining.proofs.Growth.{same_flat, both_prefix, both_flat, then_value}
 use Rattle.back_combining.proofs.Parts.{go_on_falls, go_on_last, step_then}
-use Rattle.back_combining.proofs.Starts.{start_charged, scope_later}
+use Rattle.back_combining.proofs.Starts.{start_charged, ends_sparing, ends_spared, scope_later}
 use Rattle.back_combining.proofs.Then.{same_world, stopped_last}
 use Rattle.back_combining.proofs.Worlds.{around_again, word_later}
 use Rattle.back_exits.specs.Inside.{around_with, around_at, address_inside, record_inside, LaidAt}
 use Rattle.back_exits.proofs.BlockRecords.{no_words, block_laid}
-use Rattle.back_exits.proofs.Charging.{part_then, units_then}
+use Rattle.back_exits.proofs.Charging.{part_then}
 use Rattle.back_exits.proofs.Exits.{cut_lands, stop_passes}
 use Rattle.back_exits.proofs.Inside.{around_cleanup, begins_inside}
 use Rattle.back_exits.proofs.Steps.{record_runs, record_wanting, Window, window_of}
@@ -181,7 +181,7 @@ module _ (setting : Setting) (placed : IsPlaced setting) (m size k : ℕ) (f cle
       qc = exec c (code_of cleanup_steps) (g3 setting placed k a.turns a laid m begins wide came ran x) (y3 setting placed k a.turns a laid m begins wide came ran x)
 
       cleaned_here : EndsAt setting 0 o3 rc qc
-      cleaned_here = cleanup_here (record {
+      cleaned_here = ends_spared setting o3 (cleanup_here (record {
         rs = a.rs;
         valid = a.valid;
         w = w3 setting placed k a.turns a laid m begins wide came ran x;
@@ -192,11 +192,11 @@ module _ (setting : Setting) (placed : IsPlaced setting) (m size k : ℕ) (f cle
         y = y3 setting placed k a.turns a laid m begins wide came ran x;
         begins = cleanup_begins setting a came3 {valid = a.valid} {exits = a.around.exits} around3 a.n (omega arith) there;
         count = x3.kept.registers.count ∙ size_is;
-      })
+      }))
 
-      left3 : LeftFrom setting 0 o3 (a.d + 3) rc qc → LeftFrom setting 600 a a.d rc qc
+      left3 : LeftFrom setting 0 o3 (a.d + 3) rc qc → LeftFrom setting 1000 a a.d rc qc
       left3 t =
-          left_outside setting a came3 600 (omega arith) t.transfer t.transfer.valid_target t.transfer.charged
+          left_outside setting a came3 1000 (omega arith) t.transfer t.transfer.valid_target t.transfer.charged
           (record { count = t.registers.count; same = λ i low none. t.registers.same i (omega (arith, low)) none }) t.activation
 
       few3 : AreFew a.turns came.state (y3 setting placed k a.turns a laid m begins wide came ran x) rc.state → AreFew a.turns a.z a.y rc.state
@@ -206,7 +206,7 @@ module _ (setting : Setting) (placed : IsPlaced setting) (m size k : ℕ) (f cle
       kept3 xc r n high low e = ap word_in (xc.reached.kept.registers.same r low (not_slot r high)) ∙ e
 
       abbrev Whole : FlatEvaluated → MidOutcome → Type 0
-      Whole r q = EndsAt setting 600 a r q
+      Whole r q = EndsAt setting 1000 a r q
 
       pub fell_sim : Whole (result came) (mid_go_on (landed (length a.y.arena.blocks) landing (mid_go_on ran behind)) after_step)
       unfolding mid_go_on
@@ -215,14 +215,14 @@ module _ (setting : Setting) (placed : IsPlaced setting) (m size k : ℕ) (f cle
           (subst (λ q. Whole (go_on rc (λ w s. gives x.result s)) q)
           (sym (ap (λ q. mid_go_on q after_step) (fell_code setting placed k a.turns a laid m begins wide came ran x)
           ∙ in_two_parts c cleanup_steps (end_steps setting a.d) (g3 setting placed k a.turns a laid m begins wide came ran x) (y3 setting placed k a.turns a laid m begins wide came ran x)))
-          (part_then setting (λ r q. FellFrom setting 600 a a.d r q) 600 600 a a.d rc qc (λ w s. gives x.result s) (λ g y. exec c (code_of (end_steps setting a.d)) g y) (omega arith) (omega arith)
+          (part_then setting (λ r q. FellFrom setting 1000 a a.d r q) 1000 1000 a a.d rc qc (λ w s. gives x.result s) (λ g y. exec c (code_of (end_steps setting a.d)) g y) (omega arith) (omega arith)
           (λ v s. same_flat s) (λ g y. code_grown (end_steps setting a.d) g y)
           (ends_so (λ (d : FellFrom setting 0 o3 (a.d + 3) rc qc). d) left3 few3 cleaned_here)
           (λ xc.
           subst (λ p. Whole p (mid_go_on qc (λ g y. exec c (code_of (end_steps setting a.d)) g y))) (sym (then_value rc (λ w s. gives x.result s) xc.result xc.outcome))
           (subst (λ q. Whole (gives x.result rc.state) q) (sym (go_on_falls qc (λ g y. exec c (code_of (end_steps setting a.d)) g y) xc.end))
           (value_ends setting c a (reached_behind setting a came3 around3 a.n (omega arith) there x3 xc) wide
-          (kept3 xc (a.d + 1) 0 (omega arith) (omega arith) (none_held setting placed k a.turns a laid m begins wide came ran x)) 600 x.result x.word (omega arith)
+          (kept3 xc (a.d + 1) 0 (omega arith) (omega arith) (none_held setting placed k a.turns a laid m begins wide came ran x)) 1000 x.result x.word (omega arith)
           (let more = up in let grown = (form_grows setting k cleanup a.env a.around came.state).units in omega (arith, more, grown))
           (kept3 xc a.d x.word (omega arith) (omega arith) (word_held setting placed k a.turns a laid m begins wide came ran x)) (word_later xc.reached.kept.world.later x.result x.word x.of_value))))))
 
@@ -264,7 +264,7 @@ module _ (setting : Setting) (placed : IsPlaced setting) (m size k : ℕ) (f cle
       qd = exec c (code_of cleanup_steps) h4 s4
 
       cleaned_there : EndsAt setting 0 o4 rd qd
-      cleaned_there = cleanup_here (record {
+      cleaned_there = ends_spared setting o4 (cleanup_here (record {
         rs = a.rs;
         valid = cut4.valid;
         w = went4;
@@ -275,11 +275,11 @@ module _ (setting : Setting) (placed : IsPlaced setting) (m size k : ℕ) (f cle
         y = s4;
         begins = cleanup_begins setting a came4 {valid = cut4.valid} {exits = exits_from l.exit_number a.around.exits} around4 a.n (omega arith) there;
         count = came4.registers.count ∙ size_is;
-      })
+      }))
 
-      left4 : LeftFrom setting 0 o4 (a.d + 3) rd qd → LeftFrom setting 600 a a.d rd qd
+      left4 : LeftFrom setting 0 o4 (a.d + 3) rd qd → LeftFrom setting 1000 a a.d rd qd
       left4 u =
-          left_outside setting a came4 600 (omega arith) u.transfer (cut4.outer u.transfer.exit_number u.transfer.target u.transfer.valid_target) u.transfer.charged
+          left_outside setting a came4 1000 (omega arith) u.transfer (cut4.outer u.transfer.exit_number u.transfer.target u.transfer.valid_target) u.transfer.charged
           (record { count = u.registers.count; same = λ i low none. u.registers.same i (omega (arith, low)) none }) u.activation
 
       few4 : AreFew a.turns came.state s4 rd.state → AreFew a.turns a.z a.y rd.state
@@ -289,7 +289,7 @@ module _ (setting : Setting) (placed : IsPlaced setting) (m size k : ℕ) (f cle
       kept4 xc r n high low e = ap word_in (xc.reached.kept.registers.same r low (not_slot r high)) ∙ e
 
       abbrev Whole4 : FlatEvaluated → MidOutcome → Type 0
-      Whole4 r q = EndsAt setting 600 a r q
+      Whole4 r q = EndsAt setting 1000 a r q
 
       around5 : (xc : FellFrom setting 0 o4 (a.d + 3) rd qd) → AroundStands setting xc.w' a.rs cut4.valid (around_with (exits_from l.exit_number a.around.exits) a.around) rd.state qd.state
       around5 xc =
@@ -312,7 +312,7 @@ module _ (setting : Setting) (placed : IsPlaced setting) (m size k : ℕ) (f cle
           (cut_lands (length a.y.arena.blocks) behind landing ran l.to.outside l.word l.end (ap (λ (s : Standing). s.outside) (sym (to_here setting placed k a.turns a laid m begins wide came ran t)))
           ∙ catch_code setting placed k a.turns a laid m begins wide came ran t)
           ∙ in_two_parts c cleanup_steps (end_steps setting a.d) h4 s4))
-          (part_then setting (λ r q. FellFrom setting 600 a a.d r q) 600 600 a a.d rd qd (λ w s. leaves l.exit_number l.result l.landing s) (λ g y. exec c (code_of (end_steps setting a.d)) g y) (omega arith) (omega arith)
+          (part_then setting (λ r q. FellFrom setting 1000 a a.d r q) 1000 1000 a a.d rd qd (λ w s. leaves l.exit_number l.result l.landing s) (λ g y. exec c (code_of (end_steps setting a.d)) g y) (omega arith) (omega arith)
           (λ v s. same_flat s) (λ g y. code_grown (end_steps setting a.d) g y)
           (ends_so (λ (d : FellFrom setting 0 o4 (a.d + 3) rd qd). d) left4 few4 cleaned_there)
           (λ xc.
@@ -323,7 +323,7 @@ module _ (setting : Setting) (placed : IsPlaced setting) (m size k : ℕ) (f cle
           (kept4 xc a.d l.word (omega arith) (omega arith) (value_held setting placed k a.turns a laid m begins wide came ran t))
           (kept4 xc (a.d + 1) l.target.address (omega arith) (omega arith) (target_held setting placed k a.turns a laid m begins wide came ran t))
           (kept4 xc (a.d + 2) l.landing_word (omega arith) (omega arith) (landing_held setting placed k a.turns a laid m begins wide came ran t))
-          (word_later xc.reached.kept.world.later l.result l.word l.of_value) cut4.target l.landing_is (lands5 xc) 600 (omega arith)
+          (word_later xc.reached.kept.world.later l.result l.word l.of_value) cut4.target l.landing_is (lands5 xc) 1000 (omega arith)
           (let more = up in let grown = (form_grows setting k cleanup a.env (within setting k cleanup a.env a.around l.exit_number) came.state).units in omega (arith, more, grown)))))))
 
     -- ---- all cases
@@ -336,7 +336,7 @@ module _ (setting : Setting) (placed : IsPlaced setting) (m size k : ℕ) (f cle
         go_on_grown (exec c (code_of (behind_form a.d)) rs y) (after setting placed k a.turns a laid m begins wide) y (code_grown (behind_form a.d) rs y) (λ rs' y'. after_inside_grown (length a.y.arena.blocks) rs' y')
 
     by_form : EndsAt setting 0 (inside setting placed k a.turns a laid m begins wide) came ran
-        → EndsAt setting 600 a (result came) (mid_go_on (landed (length a.y.arena.blocks) landing (mid_go_on ran behind)) after_step)
+        → EndsAt setting 1000 a (result came) (mid_go_on (landed (length a.y.arena.blocks) landing (mid_go_on ran behind)) after_step)
     by_form (done x) = fell_sim x
     by_form (left_by t) = left_sim t
     by_form (full_there x) =
@@ -344,11 +344,11 @@ module _ (setting : Setting) (placed : IsPlaced setting) (m size k : ℕ) (f cle
         go_on_grown (landed (length a.y.arena.blocks) landing (mid_go_on ran behind)) after_step ran.state
         (landed_grown (length a.y.arena.blocks) landing (mid_go_on ran behind) ran.state (go_on_grown ran behind ran.state (same_grown ran.state) rest_grows) catch_grows)
         (λ g y. code_grown behind_steps g y) in
-        subst (λ p. EndsAt setting 600 a p (mid_go_on (landed (length a.y.arena.blocks) landing (mid_go_on ran behind)) after_step)) (sym (cleaned_other setting k cleanup a.env a.around came _ x.outcome tt))
+        subst (λ p. EndsAt setting 1000 a p (mid_go_on (landed (length a.y.arena.blocks) landing (mid_go_on ran behind)) after_step)) (sym (cleaned_other setting k cleanup a.env a.around came _ x.outcome tt))
         (full_there (record { asked = x.asked; left_then = x.left_then; outcome = x.outcome; printed = both_prefix x.printed (record { rest = g.printed.0; is = sym g.printed.1 }) }))
     by_form (stopped x) =
         let g = cleaned_grows setting k cleanup a.env a.around came in
-        subst (λ q. EndsAt setting 600 a (result came) q)
+        subst (λ q. EndsAt setting 1000 a (result came) q)
         (sym (ap (λ q. mid_go_on q after_step) (stop_passes (length a.y.arena.blocks) behind landing setting came ran ran.end refl x.because)
         ∙ go_on_last ran.end ran after_step refl (stopped_last setting came ran.end x.because)))
         (stopped (record { because = because_cleaned setting k cleanup a.env a.around came ran.end x.because; printed = both_prefix x.printed g.printed }))
@@ -357,8 +357,8 @@ module _ (setting : Setting) (placed : IsPlaced setting) (m size k : ℕ) (f cle
         let same = laid.world.same_size in
         few_turns (omega (arith, x, g.units, same))
 
-    pub with_words : EndsAt setting 600 a (result came) (mid_go_on (exec_step c step a.regs a.y) after_step)
-    with_words = subst (λ q. EndsAt setting 600 a (result came) (mid_go_on q after_step)) (sym step_is) (by_form (f_here point))
+    pub with_words : EndsAt setting 1000 a (result came) (mid_go_on (exec_step c step a.regs a.y) after_step)
+    with_words = subst (λ q. EndsAt setting 1000 a (result came) (mid_go_on q after_step)) (sym step_is) (by_form (ends_spared setting (inside setting placed k a.turns a laid m begins wide) (f_here point)))
 
   abbrev whole : FlatEvaluated
   whole = result (mean (context_at setting k) f a.env a.around a.z)
@@ -366,25 +366,25 @@ module _ (setting : Setting) (placed : IsPlaced setting) (m size k : ℕ) (f cle
   grown : FlatGrown a.z whole.state
   grown = both_flat (form_grows setting k f a.env a.around a.z) (cleaned_grows setting k cleanup a.env a.around (mean (context_at setting k) f a.env a.around a.z))
 
-  pub unwind_step : EndsAt setting 600 a whole (mid_go_on (exec_step c step a.regs a.y) after_step)
+  pub unwind_step : EndsAt setting 1000 a whole (mid_go_on (exec_step c step a.regs a.y) after_step)
   unwind_step = by (nat_le 8 (left a.y.arena)) refl
     where
-      by : (b : Bool) → nat_le 8 (left a.y.arena) ≡ b → EndsAt setting 600 a whole (mid_go_on (exec_step c step a.regs a.y) after_step)
+      by : (b : Bool) → nat_le 8 (left a.y.arena) ≡ b → EndsAt setting 1000 a whole (mid_go_on (exec_step c step a.regs a.y) after_step)
       by true same = with_words (leb-true 8 (left a.y.arena) same)
       by false same =
           let few = leb-false 8 (left a.y.arena) same in
           let wants = record_wanting c (a.d + 1) record_words a.d (code_of inside_steps) (code_of (landing_steps a.d)) a.regs a.y few in
-          subst (λ q. EndsAt setting 600 a whole q) (sym (ap (λ q. mid_go_on q after_step) wants ∙ go_on_last _ _ after_step refl tt)) (no_words setting a record_cost whole grown (omega (arith, enough)) few)
+          subst (λ q. EndsAt setting 1000 a whole q) (sym (ap (λ q. mid_go_on q after_step) wants ∙ go_on_last _ _ after_step refl tt)) (no_words setting a record_cost whole grown (omega (arith, enough)) few)
 
-  pub unwind_code_sim : EndsAt setting 600 a whole (exec c (code_of (step ∷ behind_steps)) a.regs a.y)
-  unwind_code_sim = subst (λ q. EndsAt setting 600 a whole q) (sym (step_then c step behind_steps a.regs a.y)) unwind_step
+  pub unwind_code_sim : EndsAt setting 1000 a whole (exec c (code_of (step ∷ behind_steps)) a.regs a.y)
+  unwind_code_sim = subst (λ q. EndsAt setting 1000 a whole q) (sym (step_then c step behind_steps a.regs a.y)) unwind_step
 
 pub unwinds_law : LawOfUnwinds
 unfolding mean lower
 unwinds_law setting s d m n size k turns f cleanup placed there enough enough_words goes f_here cleanup_here p =
     let a0 : Start setting = start_at setting s d n size turns p in
     let same = p.count in
-    units_then setting 600 0 a0 2 (omega arith)
+    ends_sparing setting {c1 = 1000} a0 2 (omega arith) (omega arith)
     (unwind_code_sim setting placed m size k f cleanup (start_charged setting a0 2) (omega (arith, there, same)) p.count enough enough_words goes f_here cleanup_here)
 
 pub whole_unwinds_law : LawOfWholeUnwinds

@@ -18,7 +18,7 @@ use Rattle.back_lowering.specs.Placement.{symbol_word, dynamic_address}
 use Rattle.back_lowering.specs.Registers.{of_code, enough_for}
 use Rattle.back_lowering.specs.Steps.{Steps, constant, store, store_to}
 use Rattle.back_relation.specs.Setting.{Setting}
-use Rattle.back_relation.specs.Ends.{WorldKept, Around}
+use Rattle.back_relation.specs.Ends.{WorldKept, Around, form_credit}
 use Rattle.back_relation.specs.Placed.{IsPlaced, HasDynamic, HasSymbol}
 use Rattle.back_relation.specs.Forms.{context_at, code_at}
 use Rattle.back_combining.specs.Starts.{Start, EndsAt, ReachedFrom}
@@ -26,14 +26,14 @@ use Rattle.back_combining.proofs.Activations.{activation_later}
 use Rattle.back_combining.proofs.Fitting.{registers_front, registers_behind}
 use Rattle.back_combining.proofs.FormGrowth.{form_grows}
 use Rattle.back_combining.proofs.Growth.{same_prefix}
-use Rattle.back_combining.proofs.Starts.{start_after, start_charged, ends_charged, behind, two, gives_run}
+use Rattle.back_combining.proofs.Starts.{start_after, start_charged, behind, two, gives_run, ends_sparing}
 use Rattle.back_combining.proofs.Then.{same_world}
 use Rattle.back_combining.proofs.Worlds.{later_same}
 use Rattle.back_values.specs.Boxes.{Clean}
 use Rattle.back_values.proofs.Cleaning.{is_clean, reached_clean, start_clean}
 use Rattle.back_values.proofs.Far.{Stored, store_to_runs}
 use Rattle.back_bindings.proofs.DynamicForms.{from_here}
-use Rattle.back_bindings.proofs.Points.{code_grows}
+use Rattle.back_bindings.proofs.Points.{code_grows, form_spared}
 use Rattle.back_dynamic_values.specs.Forms.{LawOfDynamicDefinitions}
 use Rattle.back_dynamic_values.proofs.NewOutermost.{new_outermost}
 
@@ -91,34 +91,35 @@ module _ (setting : Setting) (placed : IsPlaced setting) (k n : ℕ) (has : HasD
     behind_it = start_after setting a a.d a.d a.n (omega arith) (omega arith) (omega arith) a.begins.first reached
 
     clean_defined :
-        EndsAt setting 600 a (gives (symbol (named (text setting.names n))) (given v a.z))
+        EndsAt setting form_credit a (gives (symbol (named (text setting.names n))) (given v a.z))
         (exec c (code_of (def_dynamic_code setting.names setting.at setting.program a.d n)) a.regs a.y)
     clean_defined =
         let runs : RunsTo c (code_of (first_steps ++ last_steps)) a.regs a.y (exec c (code_of last_steps) behind_it.regs behind_it.y) =
         parts_then first_steps last_steps stored.run (record { same = refl })
         in
-        subst (λ t. EndsAt setting 600 a (gives (symbol (named (text setting.names n))) (given v a.z)) t) (sym runs.same)
-        (behind setting {c1 = 24} {c2 = 300} a a.d (omega arith) reached (omega arith) (omega arith)
-        (gives_run setting {credit = 300} behind_it (symbol (named (text setting.names n))) (omega arith) (behind_it.begins.call.things.symbols n symbol_there) (and_then constant_falls none_left)))
+        subst (λ t. EndsAt setting form_credit a (gives (symbol (named (text setting.names n))) (given v a.z)) t) (sym runs.same)
+        (behind setting {c1 = 24} {c2 = 6} a a.d (omega arith) reached (omega arith) (omega arith)
+        (gives_run setting {credit = 6} behind_it (symbol (named (text setting.names n))) (omega arith) (behind_it.begins.call.things.symbols n symbol_there) (and_then constant_falls none_left)))
 
   pub defined :
       (a : Start setting) (v : Value) (word : ℕ) → a.d + 1 < length a.regs → register a.d a.regs ≡ Some word → word_of a.w.places v ≡ Some word
-      → EndsAt setting 600 a (gives (symbol (named (text setting.names n))) (given v a.z))
+      → EndsAt setting form_credit a (gives (symbol (named (text setting.names n))) (given v a.z))
       (exec (code_at setting k a.turns) (code_of (def_dynamic_code setting.names setting.at setting.program a.d n)) a.regs a.y)
   defined a v word fits held is =
-      behind setting {c1 = 0} {c2 = 600} a a.d (omega arith) (reached_clean setting a) (omega arith) (omega arith)
+      behind setting {c1 = 0} {c2 = form_credit} a a.d (omega arith) (reached_clean setting a) (omega arith) (omega arith)
       (clean_defined (start_clean setting a) (is_clean setting a.begins.call.things) v word fits held is)
 
 pub definitions_law : LawOfDynamicDefinitions
 unfolding mean lower
 definitions_law setting k turns n f placed f_does rs valid s d m first w env around z regs y stands begins registers words =
-    ends_charged setting {c1 = 600} (from_here setting k turns rs valid s d m env around w z regs y begins) 2 (omega arith)
-    (subst (λ q. EndsAt setting 600 a (go_on (mean (context_at setting k) f env around (charged 2 z)) (λ v after. next v after)) q)
+    ends_sparing setting {c1 = form_credit} (from_here setting k turns rs valid s d m env around w z regs y begins) 2 (omega arith) (omega arith)
+    (subst (λ q. EndsAt setting form_credit a (go_on (mean (context_at setting k) f env around (charged 2 z)) (λ v after. next v after)) q)
     (sym (in_two_parts (code_at setting k turns) value code regs y))
-    (two setting {c1 = 0} {c2 = 600} a d (λ v after. next v after) (λ r v. exec (code_at setting k turns) (code_of code) r v) (omega arith) (omega arith)
+    (two setting {c1 = 0} {c2 = form_credit} a d (λ v after. next v after) (λ r v. exec (code_at setting k turns) (code_of code) r v) (omega arith) (omega arith)
     (form_grows setting k f env around (charged 2 z)).units
+    (form_spared setting turns a.begins
     (f_does rs valid s d m first w env around (charged 2 z) regs y
-    (record { stands = stands.stands; fits = stands.fits; leads = stands.leads; placed = stands.placed.2; forms_known = stands.forms_known }) a.begins (registers_front value code (length regs) registers) words)
+    (record { stands = stands.stands; fits = stands.fits; leads = stands.leads; placed = stands.placed.2; forms_known = stands.forms_known }) a.begins (registers_front value code (length regs) registers) words))
     (λ v x. record { printed = same_prefix x.state.printed; units = omega arith; exits = omega arith })
     (λ r v. code_grows setting k turns (code_of code) r v)
     (λ x.

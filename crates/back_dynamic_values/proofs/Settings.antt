@@ -36,13 +36,15 @@ use Rattle.back_relation.specs.Ends.{WorldKept, Around, done}
 use Rattle.back_relation.specs.Placed.{IsPlaced, HasDynamic, HasSymbol}
 use Rattle.back_relation.specs.Worlds.{on_stack}
 use Rattle.back_relation.specs.Forms.{context_at, code_at}
+use Rattle.back_relation.specs.Room.{routine_words}
+use Rattle.back_relation.specs.RoutineClaims.{routine_credit}
 use Rattle.back_combining.specs.Starts.{FlatGrown, Start, EndsAt, ReachedFrom}
 use Rattle.back_combining.proofs.Choices.{choice, tested}
 use Rattle.back_combining.proofs.Fitting.{registers_front, registers_behind}
 use Rattle.back_combining.proofs.FormGrowth.{form_grows}
 use Rattle.back_combining.proofs.Growth.{same_prefix, both_flat, grown_later}
 use Rattle.back_combining.proofs.Parts.{single_step}
-use Rattle.back_combining.proofs.Starts.{start_after, start_charged, ends_charged, behind, two}
+use Rattle.back_combining.proofs.Starts.{start_after, start_charged, ends_charged, behind, two, ends_sparing}
 use Rattle.back_calling.specs.Storing.{stored_at, standing_world}
 use Rattle.back_calling.proofs.Growing.{signal_later}
 use Rattle.back_calling.proofs.Sited.{failing_law}
@@ -51,8 +53,8 @@ use Rattle.back_values.proofs.Cleaning.{is_clean, reached_clean, start_clean}
 use Rattle.back_looking.specs.Looking.{PlaceOf, binding_under}
 use Rattle.back_bindings.specs.Forms.{FailingWithClaims}
 use Rattle.back_bindings.proofs.DynamicForms.{from_here}
-use Rattle.back_bindings.proofs.Dynamics.{settled, search_settles}
-use Rattle.back_bindings.proofs.Points.{code_grows, reached_registers, binding_goes}
+use Rattle.back_bindings.proofs.Dynamics.{settled, search_settles, unbound_credit}
+use Rattle.back_bindings.proofs.Points.{code_grows, reached_registers, binding_goes, form_spared}
 use Rattle.back_dynamic_values.specs.Forms.{LawOfSettingDynamics}
 use Rattle.back_dynamic_values.proofs.Definitions.{reached_new}
 use Rattle.back_dynamic_values.proofs.NewBound.{cell_lent, world_bound, around_bound}
@@ -63,7 +65,7 @@ use Rattle.back_dynamic_values.proofs.NewOutermost.{new_outermost}
 module _ (setting : Setting) (placed : IsPlaced setting) (k : ℕ) where
   -- where the register of the result has the value, and the one behind it the address
   module _ (a : Start setting) (n address word : ℕ) (v : Value) (low : address + 4 ≤ 2 ^ 32) (held : register a.d a.regs ≡ Some word) (is : word_of a.w.places v ≡ Some word)
-      (held_place : register (a.d + 1) a.regs ≡ Some address) (fits : a.d + 3 < length a.regs) (room : 48 ≤ a.n) (clean : Clean a.w a.y) (has_place : HasDynamic setting n)
+      (held_place : register (a.d + 1) a.regs ≡ Some address) (fits : a.d + 3 < length a.regs) (room : routine_words ≤ a.n) (clean : Clean a.w a.y) (has_place : HasDynamic setting n)
       (has : HasSymbol setting n) (claims : FailingWithClaims setting k a.turns) where
     abbrev c : Context
     c = code_at setting k a.turns
@@ -123,14 +125,14 @@ module _ (setting : Setting) (placed : IsPlaced setting) (k : ℕ) where
 
     -- and that is what is meant
     gives_new :
-        (z : State → State) {y : MidState} (old : ℕ) → WorldKept setting a.w a.w a.z (on_state z a.z) a.y y → Around setting 450 a.z (on_state z a.z) a.y y
-        → EndsAt setting 450 a (gives v (on_state z a.z)) (ends falls (loaded old) y)
+        (z : State → State) {y : MidState} (old : ℕ) → WorldKept setting a.w a.w a.z (on_state z a.z) a.y y → Around setting unbound_credit a.z (on_state z a.z) a.y y
+        → EndsAt setting unbound_credit a (gives v (on_state z a.z)) (ends falls (loaded old) y)
     gives_new z old world back = done (record {
       result = v;
       outcome = refl;
       end = refl;
       w' = a.w;
-      reached = reached_new setting {credit = 450} a z (loaded old) world back (loaded_count old) (λ i few. loaded_same old i few);
+      reached = reached_new setting {credit = unbound_credit} a z (loaded old) world back (loaded_count old) (λ i few. loaded_same old i few);
       word = word;
       in_register = loaded_beside old a.d word (omega arith) held;
       of_value = is;
@@ -143,13 +145,13 @@ module _ (setting : Setting) (placed : IsPlaced setting) (k : ℕ) where
 
     pub bound_stored :
         (i : ℕ) → slice_get a.w.boxes i ≡ Some (on_stack address)
-        → EndsAt setting 450 a (gives v (on_state (λ s. set_at (Some i) v s) a.z)) (exec c (code_of read) a.regs a.y)
+        → EndsAt setting unbound_credit a (gives v (on_state (λ s. set_at (Some i) v s) a.z)) (exec c (code_of read) a.regs a.y)
     bound_stored i box =
         let old = a.begins.call.things.boxes i (on_stack address) box in
         let run = stored old.word old.stands (no_unbound (value_at (Some i) a.z.state) old.word old.of_value) (cell_lent setting placed a.begins.call.things clean i address box v word 36 is) in
-        subst (λ q. EndsAt setting 450 a (gives v (on_state (λ s. set_at (Some i) v s) a.z)) q) (sym run.same)
+        subst (λ q. EndsAt setting unbound_credit a (gives v (on_state (λ s. set_at (Some i) v s) a.z)) q) (sym run.same)
         (gives_new (λ s. set_at (Some i) v s) old.word (world_bound setting placed a.begins.call.things clean i address box v word 36 is)
-        (around_bound setting placed a.begins.call.things clean i address box v word 36 is {credit = 450} (omega arith)))
+        (around_bound setting placed a.begins.call.things clean i address box v word 36 is {credit = unbound_credit} (omega arith)))
 
     abbrev given : FlatState → FlatState
     given z = on_state (λ (y : State). record y { dynamics = (text setting.names n, v) ∷ y.dynamics }) z
@@ -160,7 +162,7 @@ module _ (setting : Setting) (placed : IsPlaced setting) (k : ℕ) where
         start_after setting a a.d a.d a.n (omega arith) (omega arith) (omega arith) a.begins.first
         (reached_registers setting {credit = 14} a (loaded unbound_word) 14 (loaded_count unbound_word) (λ i few. loaded_same unbound_word i few) (omega arith))
 
-    none_stored : word_at a.y.arena address ≡ Some unbound_word → EndsAt setting 450 a unbound (exec c (code_of read) a.regs a.y)
+    none_stored : word_at a.y.arena address ≡ Some unbound_word → EndsAt setting unbound_credit a unbound (exec c (code_of read) a.regs a.y)
     none_stored at =
         let run : RunsTo c (code_of read) a.regs a.y (exec_step c (if_equal (a.d + 2) (a.d + 3) failing storing) (loaded unbound_word) (mid_charged 14 a.y)) =
         and_then (load_falls held_place (address_above address 0 address (omega arith) (omega (arith, low))) at)
@@ -173,33 +175,38 @@ module _ (setting : Setting) (placed : IsPlaced setting) (k : ℕ) where
         }))
         in
         let grows = signal_later setting k unbound_variable_class (symbol (named (text setting.names n)) ∷ []) a.around a.z in
-        subst (λ q. EndsAt setting 450 a unbound q) (sym run.same)
-        (behind setting {c1 = 14} {c2 = 436} a a.d (omega arith)
+        subst (λ q. EndsAt setting unbound_credit a unbound q) (sym run.same)
+        (behind setting {c1 = 14} {c2 = routine_credit + 100} a a.d (omega arith)
         (reached_registers setting {credit = 14} a (loaded unbound_word) 14 (loaded_count unbound_word) (λ i few. loaded_same unbound_word i few) (omega arith)) (omega arith) (omega arith)
-        (choice setting {c1 = 384} {credit = 436} c asked (test_of Equal (a.d + 2) (a.d + 3)) (code_of failing) (code_of storing) unbound_word unbound_word true unbound unbound
+        (choice setting {c1 = routine_credit + 84} {credit = routine_credit + 100} c asked (test_of Equal (a.d + 2) (a.d + 3)) (code_of failing) (code_of storing) unbound_word unbound_word true unbound unbound
         (loaded_word unbound_word) (loaded_unbound unbound_word) refl (omega arith) grows.later.units grows.later.units
         (λ e.
-        (failing_law setting).with_word k 300 (tested setting asked) a.d unbound_variable_class (symbol_word setting.at n) (symbol (named (text setting.names n))) (omega arith)
-        (omega (arith, fits, loaded_count unbound_word)) room
+        (failing_law setting).with_word k routine_credit (tested setting asked) a.d unbound_variable_class (symbol_word setting.at n) (symbol (named (text setting.names n))) (omega arith)
+        (omega (arith, fits, loaded_count unbound_word)) (omega (arith, room))
         (λ number paid.
         claims a.rs a.valid (standing_world (tested setting asked).w (tested setting asked).y) a.around a.z (stored_at site_address number paid (tested setting asked).y)
-        (symbol (named (text setting.names n))) (symbol_word setting.at n) (a.begins.call.things.symbols n has)))
+        unbound_variable_class (symbol (named (text setting.names n))) (symbol_word setting.at n)
+        (record { low = omega arith; high = omega arith; slots = refl }) (a.begins.call.things.symbols n has)))
         (λ e. absurd (cc e))))
 
     pub outermost_stored :
         (o : Option Value) → SlotAt a.w.places a.y.arena address o → address ≡ dynamic_address setting.at n
-        → EndsAt setting 450 a (flat_with_some o (unbound_variable (signal (context_at setting k)) (text setting.names n)) (λ old inner x. gives v (given x)) a.around a.z)
+        → EndsAt setting unbound_credit a (flat_with_some o (unbound_variable (signal (context_at setting k)) (text setting.names n)) (λ old inner x. gives v (given x)) a.around a.z)
         (exec c (code_of read) a.regs a.y)
     outermost_stored None at same = none_stored at
     outermost_stored (Some u) at same =
         let new = new_outermost setting placed a.begins.call.things clean n has_place v word 36 is in
         let lent : is_lent a.y.arena address ≡ true = subst (λ q. is_lent a.y.arena q ≡ true) (sym same) new.lent in
         let run = stored at.word at.stands (no_unbound u at.word at.of_value) lent in
-        subst (λ q. EndsAt setting 450 a (gives v (given a.z)) q) (sym run.same)
-        (subst (λ q. EndsAt setting 450 a (gives v (given a.z)) (ends falls (loaded at.word) (with_arena (with_word q word a.y.arena) (mid_charged 36 a.y)))) (sym same)
-        (gives_new (λ (y : State). record y { dynamics = (text setting.names n, v) ∷ y.dynamics }) at.word new.world (new.around 450 (omega arith))))
+        subst (λ q. EndsAt setting unbound_credit a (gives v (given a.z)) q) (sym run.same)
+        (subst (λ q. EndsAt setting unbound_credit a (gives v (given a.z)) (ends falls (loaded at.word) (with_arena (with_word q word a.y.arena) (mid_charged 36 a.y)))) (sym same)
+        (gives_new (λ (y : State). record y { dynamics = (text setting.names n, v) ∷ y.dynamics }) at.word new.world (new.around unbound_credit (omega arith))))
 
 -- ---- the place is sought
+
+-- what it costs to seek the place, beside what is paid for each binding that is passed, and to set the value
+abbrev set_credit : ℕ
+set_credit = 150 + unbound_credit
 
 module _ (setting : Setting) (placed : IsPlaced setting) (k n : ℕ) (has_place : HasDynamic setting n) (has : HasSymbol setting n) where
   abbrev name : List ℕ
@@ -237,7 +244,7 @@ module _ (setting : Setting) (placed : IsPlaced setting) (k n : ℕ) (has_place 
         subst (λ (r : FlatEvaluated). FlatGrown z r.state) (sym (means z))
         (both_flat (record { printed = same_prefix z.state.printed; units = omega arith; exits = omega arith }) (settled_grows (binding_under name around.bindings) (charged count z)))
 
-  module _ (a : Start setting) (claims : FailingWithClaims setting k a.turns) (room : 48 ≤ a.n) (clean : Clean a.w a.y) (v : Value) (word : ℕ) (fits : a.d + 3 < length a.regs)
+  module _ (a : Start setting) (claims : FailingWithClaims setting k a.turns) (room : routine_words ≤ a.n) (clean : Clean a.w a.y) (v : Value) (word : ℕ) (fits : a.d + 3 < length a.regs)
       (held : register a.d a.regs ≡ Some word) (is : word_of a.w.places v ≡ Some word) where
     abbrev b : Start setting
     b = start_charged setting a (count v a.around)
@@ -279,7 +286,7 @@ module _ (setting : Setting) (placed : IsPlaced setting) (k n : ℕ) (has_place 
 
       p_goes :
           (o : Option ℕ) → PlaceOf setting a.w n address o
-          → EndsAt setting 450 p (settled (found v a.around) (otherwise v a.around) o b.z) (exec (code_at setting k a.turns) (code_of rest) (with_place address) y2)
+          → EndsAt setting unbound_credit p (settled (found v a.around) (otherwise v a.around) o b.z) (exec (code_at setting k a.turns) (code_of rest) (with_place address) y2)
       p_goes (Some i) at =
           bound_stored setting placed k p n address word v low p_held is p_place (omega (arith, fits, size)) room p_clean has_place has claims i at
       p_goes None at =
@@ -288,23 +295,23 @@ module _ (setting : Setting) (placed : IsPlaced setting) (k n : ℕ) (has_place 
           (subst (λ q. SlotAt a.w.places y2.arena q (under_text name a.z.state.dynamics)) (sym at) (p.begins.call.things.dynamics n has_place)) at
 
     clean_set :
-        EndsAt setting 600 a (set_dynamic_to (context_at setting k) name v a.around a.z)
+        EndsAt setting set_credit a (set_dynamic_to (context_at setting k) name v a.around a.z)
         (exec (code_at setting k a.turns) (code_of (set_dynamic_code setting.names setting.at setting.program a.s.code.site a.d n)) a.regs a.y)
     clean_set =
-        subst (λ r. EndsAt setting 600 a r (exec (code_at setting k a.turns) (code_of (set_dynamic_code setting.names setting.at setting.program a.s.code.site a.d n)) a.regs a.y))
+        subst (λ r. EndsAt setting set_credit a r (exec (code_at setting k a.turns) (code_of (set_dynamic_code setting.names setting.at setting.program a.s.code.site a.d n)) a.regs a.y))
         (sym (means v a.around a.z))
-        (ends_charged setting {c1 = 600 + 300 * count v a.around} a (count v a.around) (omega arith)
-        (binding_goes setting placed k b n (a.d + 1) (600 + 300 * count v a.around) 450 rest {r = settled (found v a.around) (otherwise v a.around) (binding_under name a.around.bindings) b.z}
+        (ends_charged setting {c1 = 150 + 70 * count v a.around + unbound_credit} {c2 = set_credit} a (count v a.around) (omega arith)
+        (binding_goes setting placed k b n (a.d + 1) (150 + 70 * count v a.around + unbound_credit) unbound_credit rest {r = settled (found v a.around) (otherwise v a.around) (binding_under name a.around.bindings) b.z}
         has_place (omega arith) (omega (arith, fits)) (omega (arith, room)) (settled_grows v a.around (binding_under name a.around.bindings) b.z) (omega arith)
         (λ address y2 low place x. p_goes address y2 low x (binding_under name a.around.bindings) place)))
 
   pub set :
-      (a : Start setting) → FailingWithClaims setting k a.turns → 48 ≤ a.n → (v : Value) (word : ℕ) → a.d + 3 < length a.regs → register a.d a.regs ≡ Some word
+      (a : Start setting) → FailingWithClaims setting k a.turns → routine_words ≤ a.n → (v : Value) (word : ℕ) → a.d + 3 < length a.regs → register a.d a.regs ≡ Some word
       → word_of a.w.places v ≡ Some word
-      → EndsAt setting 600 a (set_dynamic_to (context_at setting k) name v a.around a.z)
+      → EndsAt setting set_credit a (set_dynamic_to (context_at setting k) name v a.around a.z)
       (exec (code_at setting k a.turns) (code_of (set_dynamic_code setting.names setting.at setting.program a.s.code.site a.d n)) a.regs a.y)
   set a claims room v word fits held is =
-      behind setting {c1 = 0} {c2 = 600} a a.d (omega arith) (reached_clean setting a) (omega arith) (omega arith)
+      behind setting {c1 = 0} {c2 = set_credit} a a.d (omega arith) (reached_clean setting a) (omega arith) (omega arith)
       (clean_set (start_clean setting a) claims room (is_clean setting a.begins.call.things) v word fits held is)
 
 -- ---- the form
@@ -312,13 +319,14 @@ module _ (setting : Setting) (placed : IsPlaced setting) (k n : ℕ) (has_place 
 pub settings_law : LawOfSettingDynamics
 unfolding mean lower
 settings_law setting k turns n f placed claims f_does rs valid s d m first w env around z regs y stands begins registers words =
-    ends_charged setting {c1 = 600} (from_here setting k turns rs valid s d m env around w z regs y begins) 2 (omega arith)
-    (subst (λ q. EndsAt setting 600 a (go_on (mean (context_at setting k) f env around (charged 2 z)) (λ v after. set_dynamic_to (context_at setting k) (text setting.names n) v around after)) q)
+    ends_sparing setting {c1 = set_credit} (from_here setting k turns rs valid s d m env around w z regs y begins) 2 (omega arith) (omega arith)
+    (subst (λ q. EndsAt setting set_credit a (go_on (mean (context_at setting k) f env around (charged 2 z)) (λ v after. set_dynamic_to (context_at setting k) (text setting.names n) v around after)) q)
     (sym (in_two_parts (code_at setting k turns) value code regs y))
-    (two setting {c1 = 0} {c2 = 600} a d (λ v after. set_dynamic_to (context_at setting k) (text setting.names n) v around after) (λ r v. exec (code_at setting k turns) (code_of code) r v) (omega arith) (omega arith)
+    (two setting {c1 = 0} {c2 = set_credit} a d (λ v after. set_dynamic_to (context_at setting k) (text setting.names n) v around after) (λ r v. exec (code_at setting k turns) (code_of code) r v) (omega arith) (omega arith)
     (form_grows setting k f env around (charged 2 z)).units
+    (form_spared setting turns a.begins
     (f_does rs valid s d m first w env around (charged 2 z) regs y
-    (record { stands = stands.stands; fits = stands.fits; leads = stands.leads; placed = stands.placed.2; forms_known = stands.forms_known }) a.begins (registers_front value code (length regs) registers) (omega (arith, words)))
+    (record { stands = stands.stands; fits = stands.fits; leads = stands.leads; placed = stands.placed.2; forms_known = stands.forms_known }) a.begins (registers_front value code (length regs) registers) (omega (arith, words))))
     (λ v x. set_grows setting placed k n stands.placed.0 stands.placed.1 v around x) (λ r v. code_grows setting k turns (code_of code) r v)
     (λ x.
     let size = x.reached.kept.registers.count in

@@ -2,11 +2,11 @@
 use Rattle.std.proofs.Common.{ℕ, arith}
 use Rattle.lang_meaning.specs.State.{DynamicContext}
 use Rattle.back_relation.specs.Setting.{Setting}
-use Rattle.back_transfers.specs.Within.{FailsWithin, failing_words}
+use Rattle.back_transfers.specs.Within.{FailsWithin}
 use Rattle.back_transfers.proofs.Within.{call_less, begins_less}
 use Rattle.back_transfers.proofs.Leaving.{leave_does}
 use Rattle.back_transfers.proofs.Tagged.{throw_does, continue_does}
-use Rattle.back_signals.specs.Within.{RaisesWithin, unhandled_credit, making_words, signal_words}
+use Rattle.back_signals.specs.Within.{RaisesWithin, raise_credit, unhandled_words}
 use Rattle.back_signals.proofs.Unhandled.{unhandled_law}
 use Rattle.back_signals.specs.Law.{LawOfNewConditions, LawOfPending, LawOfSignals, LawOfErrors, LawOfUnhandledErrors}
 use Rattle.back_signals.proofs.Failing.{failing_does, failing_with_does, domain_does}
@@ -15,7 +15,7 @@ use Rattle.back_signals.proofs.Signalling.{signal_does}
 
 pub conditions_law : LawOfNewConditions
 conditions_law setting k credit turns rs valid w around z y placed low raises = record {
-  class_alone = failing_does setting placed k credit low around raises turns rs valid w z y;
+  class_alone = failing_does setting placed k credit low turns rs valid w around raises z y;
   with_word = failing_with_does setting placed k credit low turns rs valid w around raises z y;
   domain = domain_does setting placed k credit low turns rs valid w around raises z y;
 }
@@ -32,34 +32,37 @@ fewer_over setting k credit around raises turns rs valid w z y c mark c_word mar
     call_less setting (omega arith) (omega arith) (raises turns rs valid w z y c mark c_word mark_word condition of_condition of_mark site begins)
 
 pub errors_law : LawOfErrors
-errors_law setting k credit turns rs valid w around z y placed some low raises = record {
-  failing = λ class is begins.
-      call_less setting (omega arith) (omega arith) (fails turns rs valid w z y class is begins.1 (begins_less setting failing_words (omega arith) begins.0));
-  failing_with = λ class v word is of_value begins.
+errors_law setting k turns rs valid w around z y placed raises = record {
+  raise = λ c mark c_word mark_word condition of_condition of_mark site begins.
+      call_less setting (omega arith) (omega arith) (raises turns rs valid w z y c mark c_word mark_word condition of_condition of_mark site begins);
+  signal = λ c mark c_word mark_word of_condition of_mark site begins.
       call_less setting (omega arith) (omega arith)
-      (failing_with_does setting placed k credit low turns rs valid w around signal_here z y class v word of_value is begins.1 (begins_less setting making_words (omega arith) begins.0));
-  domain = λ v expected word known of_value begins.
+      (signal_does setting placed k raise_credit (omega arith) (omega arith) around raises turns rs valid w z y c mark c_word mark_word of_condition of_mark site begins);
+  pending = λ c condition at site begins.
+      call_less setting (omega arith) (omega arith) (pending_does setting placed k 0 raise_credit (omega arith) turns rs valid w around raises z y c condition at site begins);
+  failing = fails turns rs valid w z y;
+  failing_with = λ class v word is of_value site begins.
       call_less setting (omega arith) (omega arith)
-      (domain_does setting placed k credit low turns rs valid w around signal_here z y v expected word known of_value begins.1 (begins_less setting making_words (omega arith) begins.0));
+      (failing_with_does setting placed k raise_credit (omega arith) turns rs valid w around signal_here z y class v word of_value is site begins);
+  domain = λ v expected word known of_value site begins.
+      call_less setting (omega arith) (omega arith)
+      (domain_does setting placed k raise_credit (omega arith) turns rs valid w around signal_here z y v expected word known of_value site begins);
   leave = leave_does setting placed k turns rs valid w around fails z y;
-  throw = λ land. throw_does setting placed k turns rs valid w around fails z y land;
-  continue = λ land. continue_does setting placed k turns rs valid w around fails z y land;
-  signal = λ c mark c_word mark_word of_condition of_mark begins.
-      call_less setting (omega arith) (omega arith)
-      (signal_does setting placed k credit some low around raises turns rs valid w z y c mark c_word mark_word of_condition of_mark begins.1 (begins_less setting signal_words (omega arith) begins.0));
-  pending = λ c condition at begins.
-      call_less setting (omega arith) (omega arith)
-      (pending_does setting placed k 0 credit (omega arith) turns rs valid w around raises z y c condition at begins.1 (begins_less setting making_words (omega arith) begins.0));
+  throw = throw_does setting placed k turns rs valid w around fails z y;
+  continue = continue_does setting placed k turns rs valid w around fails z y;
 }
   where
-    signal_here : RaisesWithin setting k around 0 credit
-    signal_here = fewer_over setting k credit around raises
+    signal_here : RaisesWithin setting k around 0 raise_credit
+    signal_here = fewer_over setting k raise_credit around raises
 
     fails : FailsWithin setting k around
-    fails = failing_does setting placed k credit low around signal_here
+    fails turns rs valid w z y class is site begins =
+        call_less setting (omega arith) (omega arith)
+        (failing_does setting placed k raise_credit (omega arith) turns rs valid w around signal_here z y class is site begins)
 
 pub unhandled_errors_law : LawOfUnhandledErrors
 unhandled_errors_law setting k turns rs valid w around z y placed none =
-    errors_law setting k unhandled_credit turns rs valid w around z y placed (omega arith) (omega arith)
+    errors_law setting k turns rs valid w around z y placed
     (λ turns rs valid w z y c mark c_word mark_word condition of_condition of_mark site begins.
-    call_less setting (omega arith) (omega arith) (unhandled_law setting k turns rs valid w around z y placed none c mark c_word mark_word condition of_condition of_mark site begins))
+    call_less setting (omega arith) (omega arith)
+    (unhandled_law setting k turns rs valid w around z y placed none c mark c_word mark_word condition of_condition of_mark site (begins_less setting unhandled_words (omega arith) begins)))

@@ -33,7 +33,7 @@ use Rattle.back_relation.specs.Worlds.{World}
 use Rattle.back_relation.specs.Things.{Things, WithinLimit}
 use Rattle.back_relation.specs.Ends.{ChargedFrom}
 use Rattle.back_objects.proofs.Standing.{StandsBehind}
-use Rattle.back_transfers.specs.Within.{IsBuiltInCondition}
+use Rattle.back_relation.specs.RoutineClaims.{IsBuiltInCondition}
 
 get_front : {X : Type 0} (xs ys : List X) (i : ℕ) → i < length xs → slice_get (xs ++ ys) i ≡ slice_get xs i
 get_front [] ys i h = absurd (omega arith)

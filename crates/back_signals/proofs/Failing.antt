@@ -23,23 +23,22 @@ use Rattle.mid_arena.proofs.Memory.{heap_below}
 use Rattle.mid_arena.proofs.Running.{and_then, and_ends, constant_falls, compute_known, request_falls, request_wanting, load_falls, store_in_heap, address_here, address_above}
 use Rattle.mid_arena.proofs.WordFacts.{four_times_count, sum_fits}
 use Rattle.back_lowering.specs.RoutineCodes.{failing_code, failing_with_code, domain_code, returning}
-use Rattle.back_lowering.specs.Program.{procedure_with}
+use Rattle.back_lowering.specs.Program.{procedure_with, framed, passing_frame}
 use Rattle.back_lowering.specs.Routines.{raise_routine, failing_routine, failing_with_routine, domain_routine}
 use Rattle.back_relation.specs.Setting.{Setting, control_spot}
 use Rattle.back_relation.specs.Placed.{IsPlaced}
+use Rattle.back_relation.specs.Room.{raise_words}
 use Rattle.back_relation.specs.Worlds.{World, Standing}
 use Rattle.back_relation.specs.Around.{CallBegins, SiteStored}
 use Rattle.back_relation.specs.Ends.{CallEnds}
 use Rattle.back_relation.specs.Forms.{context_at, code_at}
-use Rattle.back_relation.specs.RoutineClaims.{WordIs}
+use Rattle.back_relation.specs.RoutineClaims.{WordIs, IsBuiltInCondition}
 use Rattle.back_combining.proofs.Growth.{grown_later}
-use Rattle.back_transfers.specs.Within.{IsBuiltInCondition, FailsWithin}
 use Rattle.back_transfers.proofs.Frames.{memory_holds}
 use Rattle.back_transfers.proofs.Entries.{UsedAt, routine_used, routine_registers, laid_frame, routine_enters}
 use Rattle.back_transfers.proofs.Bodies.{world_of, body_begins, body_leaves, laid_site}
 use Rattle.back_transfers.proofs.Leaving.{signal_later}
-use Rattle.back_transfers.proofs.Within.{call_less}
-use Rattle.back_signals.specs.Within.{raise_words, RaisesWithin, FailingWithWithin, DomainWithin}
+use Rattle.back_signals.specs.Within.{RaisesWithin, making_credit, FailingWithin, FailingWithWithin, DomainWithin}
 use Rattle.back_signals.proofs.Storing.{with_runs, domain_runs}
 use Rattle.back_signals.proofs.Making.{class_there, class_word, condition_comes, printed_more}
 
@@ -63,7 +62,7 @@ module _ (setting : Setting) (placed : IsPlaced setting) (k t raise_credit : ℕ
 
   module _ (class : ℕ) (is : IsBuiltInCondition class 0) where
     abbrev word : ℕ
-    word = class_word setting placed k t raise_credit 274 rs valid w around raises z y begins site class [] [] is tt
+    word = class_word setting placed k t raise_credit 0 rs valid w around raises z y begins site class [] [] is tt
 
     abbrev q : MidOutcome
     q = exec cx (code_of (failing_code setting.at)) (Some class ∷ None ∷ None ∷ None ∷ None ∷ []) y
@@ -74,7 +73,7 @@ module _ (setting : Setting) (placed : IsPlaced setting) (k t raise_credit : ℕ
         let h = heap_high in
         (begun_grows 3 (instance_header 0 ∷ []) arena_there room (omega arith)).heap.words (4 * class + 0) (omega (arith, high, h))
         ∙ ap (word_at y.arena) (omega arith)
-        ∙ (class_there setting placed k t raise_credit 274 rs valid w around raises z y begins site class [] [] is tt).stands
+        ∙ (class_there setting placed k t raise_credit 0 rs valid w around raises z y begins site class [] [] is tt).stands
 
     failing_runs : 3 ≤ left y.arena → q ≡ exec cx (code_of (returning setting.at 3 (raise_routine setting.at) (3 ∷ 4 ∷ []))) (Some class ∷ None ∷ Some 2 ∷ Some (y.arena.heap_to + 2) ∷ Some nil_word ∷ [])
         (record y { arena = begun 3 (instance_header 0 ∷ word ∷ nil_word ∷ []) y.arena; cost = y.cost + 6 + 10 + 6 + 20 + 6 + 8 + 8 + 8 + 6 + 8 + 6 + 10 })
@@ -107,9 +106,9 @@ module _ (setting : Setting) (placed : IsPlaced setting) (k t raise_credit : ℕ
         (and_then constant_falls
         (and_ends tt (request_wanting refl wants))))).same
 
-    failing_comes : CallEnds setting 274 (suc t + 1) rs valid w around z y (signal (context_at setting k) class [] around z) q
+    failing_comes : CallEnds setting 0 (suc t + 1) rs valid w around z y (signal (context_at setting k) class [] around z) q
     failing_comes =
-        condition_comes setting placed k t raise_credit 274 rs valid w around raises z y begins site class [] [] is tt q
+        condition_comes setting placed k t raise_credit 0 rs valid w around raises z y begins site class [] [] is tt q
         (printed_more setting k t (code_of (failing_code setting.at)) (Some class ∷ None ∷ None ∷ None ∷ None ∷ []) y)
         (λ room. (
           (Some class ∷ None ∷ Some 2 ∷ Some (y.arena.heap_to + 2) ∷ Some nil_word ∷ []),
@@ -125,7 +124,7 @@ module _ (setting : Setting) (placed : IsPlaced setting) (k t raise_credit : ℕ
 
   module _ (class : ℕ) (v : Value) (v_word : ℕ) (of_value : WordIs setting w v_word v) (is : IsBuiltInCondition class 1) where
     abbrev one_word : ℕ
-    one_word = class_word setting placed k t raise_credit 268 rs valid w around raises z y begins site class (v ∷ []) (v_word ∷ []) is (of_value, tt)
+    one_word = class_word setting placed k t raise_credit 0 rs valid w around raises z y begins site class (v ∷ []) (v_word ∷ []) is (of_value, tt)
 
     abbrev with_q : MidOutcome
     with_q = exec cx (code_of (failing_with_code setting.at)) (Some class ∷ Some v_word ∷ None ∷ None ∷ None ∷ []) y
@@ -139,7 +138,7 @@ module _ (setting : Setting) (placed : IsPlaced setting) (k t raise_credit : ℕ
         let h = heap_high in
         (begun_grows 4 (instance_header 1 ∷ []) arena_there room (omega arith)).heap.words (4 * class + 0) (omega (arith, high, h))
         ∙ ap (word_at y.arena) (omega arith)
-        ∙ (class_there setting placed k t raise_credit 268 rs valid w around raises z y begins site class (v ∷ []) (v_word ∷ []) is (of_value, tt)).stands
+        ∙ (class_there setting placed k t raise_credit 0 rs valid w around raises z y begins site class (v ∷ []) (v_word ∷ []) is (of_value, tt)).stands
 
     with_wants : left y.arena < 4 → with_q ≡ ends (no_room 4 (left y.arena)) (Some class ∷ Some v_word ∷ Some (4 * class) ∷ Some 4 ∷ None ∷ []) (record y { cost = y.cost + 6 + 10 + 6 + 20 })
     unfolding failing_with_code
@@ -150,9 +149,9 @@ module _ (setting : Setting) (placed : IsPlaced setting) (k t raise_credit : ℕ
         (and_then constant_falls
         (and_ends tt (request_wanting refl wants))))).same
 
-    with_comes : CallEnds setting 268 (suc t + 1) rs valid w around z y (signal (context_at setting k) class (v ∷ []) around z) with_q
+    with_comes : CallEnds setting 0 (suc t + 1) rs valid w around z y (signal (context_at setting k) class (v ∷ []) around z) with_q
     with_comes =
-        condition_comes setting placed k t raise_credit 268 rs valid w around raises z y begins site class (v ∷ []) (v_word ∷ []) is (of_value, tt) with_q
+        condition_comes setting placed k t raise_credit 0 rs valid w around raises z y begins site class (v ∷ []) (v_word ∷ []) is (of_value, tt) with_q
         (printed_more setting k t (code_of (failing_with_code setting.at)) (Some class ∷ Some v_word ∷ None ∷ None ∷ None ∷ []) y)
         (λ room. ((Some class ∷ Some v_word ∷ Some 2 ∷ Some (y.arena.heap_to + 2) ∷ Some nil_word ∷ []), with_cost, (refl, (refl, tt)), omega arith, omega (arith, low), with_runs cx setting.at y heap_small arena_there.aligned arena_there.heap class v_word one_word is.high room (one_loaded room)))
         (λ wants. ((Some class ∷ Some v_word ∷ Some (4 * class) ∷ Some 4 ∷ None ∷ []), record y { cost = y.cost + 6 + 10 + 6 + 20 }, with_wants wants, refl))
@@ -171,7 +170,7 @@ module _ (setting : Setting) (placed : IsPlaced setting) (k t raise_credit : ℕ
 
     abbrev error_word : ℕ
     error_word =
-        class_word setting placed k t raise_credit 268 rs valid w around raises z y begins site domain_error_class (v ∷ expected_class ∷ []) (v_word ∷ expected_there.word ∷ []) error_is
+        class_word setting placed k t raise_credit 0 rs valid w around raises z y begins site domain_error_class (v ∷ expected_class ∷ []) (v_word ∷ expected_there.word ∷ []) error_is
         (of_value, (expected_there.of_value, tt))
 
     abbrev domain_q : MidOutcome
@@ -184,7 +183,7 @@ module _ (setting : Setting) (placed : IsPlaced setting) (k t raise_credit : ℕ
     error_loaded room =
         let h = heap_high in
         (begun_grows 5 (instance_header 2 ∷ []) arena_there room (omega arith)).heap.words 116 (omega (arith, h))
-        ∙ (class_there setting placed k t raise_credit 268 rs valid w around raises z y begins site domain_error_class (v ∷ expected_class ∷ []) (v_word ∷ expected_there.word ∷ []) error_is
+        ∙ (class_there setting placed k t raise_credit 0 rs valid w around raises z y begins site domain_error_class (v ∷ expected_class ∷ []) (v_word ∷ expected_there.word ∷ []) error_is
         (of_value, (expected_there.of_value, tt))).stands
 
     expected_loaded : (room : 5 ≤ left y.arena) → word_at (begun 5 (instance_header 2 ∷ error_word ∷ v_word ∷ []) y.arena) (4 * expected + 0) ≡ Some expected_there.word
@@ -197,30 +196,31 @@ module _ (setting : Setting) (placed : IsPlaced setting) (k t raise_credit : ℕ
     unfolding domain_code
     domain_wants wants = (and_then constant_falls (and_then constant_falls (and_ends tt (request_wanting refl wants)))).same
 
-    domain_comes : CallEnds setting 268 (suc t + 1) rs valid w around z y (signal (context_at setting k) domain_error_class (v ∷ expected_class ∷ []) around z) domain_q
+    domain_comes : CallEnds setting 0 (suc t + 1) rs valid w around z y (signal (context_at setting k) domain_error_class (v ∷ expected_class ∷ []) around z) domain_q
     domain_comes =
-        condition_comes setting placed k t raise_credit 268 rs valid w around raises z y begins site domain_error_class (v ∷ expected_class ∷ []) (v_word ∷ expected_there.word ∷ []) error_is
+        condition_comes setting placed k t raise_credit 0 rs valid w around raises z y begins site domain_error_class (v ∷ expected_class ∷ []) (v_word ∷ expected_there.word ∷ []) error_is
         (of_value, (expected_there.of_value, tt)) domain_q
         (printed_more setting k t (code_of (domain_code setting.at)) (Some v_word ∷ Some expected ∷ None ∷ None ∷ None ∷ []) y)
         (λ room. ((Some v_word ∷ Some expected ∷ Some 2 ∷ Some (y.arena.heap_to + 2) ∷ Some nil_word ∷ []), domain_cost, (refl, (refl, tt)), omega arith, omega (arith, low), domain_runs cx setting.at y heap_small arena_there.aligned arena_there.heap v_word expected error_word expected_there.word known room (error_loaded room) (expected_loaded room)))
         (λ wants. ((Some v_word ∷ Some expected ∷ Some 116 ∷ Some 5 ∷ None ∷ []), record y { cost = y.cost + 6 + 6 + 20 }, domain_wants wants, refl))
 
 -- **a condition of a class without slots is signalled**
-pub failing_does : (setting : Setting) → IsPlaced setting → (k raise_credit : ℕ) → raise_credit ≤ 1000 → (around : DynamicContext) → RaisesWithin setting k around 0 raise_credit → FailsWithin setting k around
+pub failing_does :
+    (setting : Setting) → IsPlaced setting → (k raise_credit : ℕ) → raise_credit ≤ 1000 → (turns : ℕ) (rs valid : List Standing) (w : World) (around : DynamicContext) → RaisesWithin setting k around 0 raise_credit → (z : FlatState)
+    (y : MidState) → FailingWithin setting k turns rs valid w around z y
 unfolding failing_code
-failing_does setting placed k raise_credit low around raises turns rs valid w z y class is site begins =
-    call_less setting (omega arith) (omega arith)
-    (routine_enters setting k (failing_routine setting.at) 1 (failing_code setting.at) used (class ∷ []) refl y turns begins.things.represents.printed
-    (grown_later (signal_later setting k class [] around z)) (let all = memory_holds setting begins.things in omega (arith, all)) begins.room begins.things.within_limit (omega arith) by)
+failing_does setting placed k raise_credit low turns rs valid w around raises z y class is site begins =
+    routine_enters setting k (failing_routine setting.at) passing_frame 1 (failing_code setting.at) used (class ∷ []) refl y turns begins.things.represents.printed
+    (grown_later (signal_later setting k class [] around z)) (let all = memory_holds setting begins.things in omega (arith, all)) begins.room begins.things.within_limit (omega arith) by
   where
-    used : UsedAt setting.procedures (failing_routine setting.at) (procedure_with Turn 1 (failing_code setting.at))
-    used = routine_used setting placed 7 (procedure_with Turn 1 (failing_code setting.at)) refl
+    used : UsedAt setting.procedures (failing_routine setting.at) (framed passing_frame (procedure_with Turn 1 (failing_code setting.at)))
+    used = routine_used setting placed 7 (framed passing_frame (procedure_with Turn 1 (failing_code setting.at))) refl
 
     by : (t : ℕ) → turns ≡ suc t → used.frame ≤ left y.arena
-        → CallEnds setting 300 (turns + 1) rs valid w around z y (signal (context_at setting k) class [] around z)
+        → CallEnds setting making_credit (turns + 1) rs valid w around z y (signal (context_at setting k) class [] around z)
         (leaves y.arena.blocks (exec (code_at setting k t) (code_of (failing_code setting.at)) (routine_registers setting 1 (failing_code setting.at) (class ∷ [])) (laid_frame setting used.frame 1 y)))
     by t same room =
-        subst (λ n. CallEnds setting 300 (n + 1) rs valid w around z y (signal (context_at setting k) class [] around z)
+        subst (λ n. CallEnds setting making_credit (n + 1) rs valid w around z y (signal (context_at setting k) class [] around z)
         (leaves y.arena.blocks (exec (code_at setting k t) (code_of (failing_code setting.at)) (routine_registers setting 1 (failing_code setting.at) (class ∷ [])) (laid_frame setting used.frame 1 y)))) (sym same)
         (body_leaves setting placed begins.things used.frame 1 room (omega arith)
         (failing_comes setting placed k t raise_credit low rs valid (world_of setting placed w y) around raises z (laid_frame setting used.frame 1 y)
@@ -233,17 +233,17 @@ pub failing_with_does :
     (y : MidState) → FailingWithWithin setting k turns rs valid w around z y
 unfolding failing_with_code
 failing_with_does setting placed k raise_credit low turns rs valid w around raises z y class v word of_value is site begins =
-    routine_enters setting k (failing_with_routine setting.at) 2 (failing_with_code setting.at) used (class ∷ word ∷ []) refl y turns begins.things.represents.printed
+    routine_enters setting k (failing_with_routine setting.at) passing_frame 2 (failing_with_code setting.at) used (class ∷ word ∷ []) refl y turns begins.things.represents.printed
     (grown_later (signal_later setting k class (v ∷ []) around z)) (let all = memory_holds setting begins.things in omega (arith, all)) begins.room begins.things.within_limit (omega arith) by
   where
-    used : UsedAt setting.procedures (failing_with_routine setting.at) (procedure_with Turn 2 (failing_with_code setting.at))
-    used = routine_used setting placed 8 (procedure_with Turn 2 (failing_with_code setting.at)) refl
+    used : UsedAt setting.procedures (failing_with_routine setting.at) (framed passing_frame (procedure_with Turn 2 (failing_with_code setting.at)))
+    used = routine_used setting placed 8 (framed passing_frame (procedure_with Turn 2 (failing_with_code setting.at))) refl
 
     by : (t : ℕ) → turns ≡ suc t → used.frame ≤ left y.arena
-        → CallEnds setting 300 (turns + 1) rs valid w around z y (signal (context_at setting k) class (v ∷ []) around z)
+        → CallEnds setting making_credit (turns + 1) rs valid w around z y (signal (context_at setting k) class (v ∷ []) around z)
         (leaves y.arena.blocks (exec (code_at setting k t) (code_of (failing_with_code setting.at)) (routine_registers setting 2 (failing_with_code setting.at) (class ∷ word ∷ [])) (laid_frame setting used.frame 2 y)))
     by t same room =
-        subst (λ n. CallEnds setting 300 (n + 1) rs valid w around z y (signal (context_at setting k) class (v ∷ []) around z)
+        subst (λ n. CallEnds setting making_credit (n + 1) rs valid w around z y (signal (context_at setting k) class (v ∷ []) around z)
         (leaves y.arena.blocks (exec (code_at setting k t) (code_of (failing_with_code setting.at)) (routine_registers setting 2 (failing_with_code setting.at) (class ∷ word ∷ [])) (laid_frame setting used.frame 2 y)))) (sym same)
         (body_leaves setting placed begins.things used.frame 2 room (omega arith)
         (with_comes setting placed k t raise_credit low rs valid (world_of setting placed w y) around raises z (laid_frame setting used.frame 2 y)
@@ -256,18 +256,18 @@ pub domain_does :
     (y : MidState) → DomainWithin setting k turns rs valid w around z y
 unfolding domain_code
 domain_does setting placed k raise_credit low turns rs valid w around raises z y v expected word known of_value site begins =
-    routine_enters setting k (domain_routine setting.at) 2 (domain_code setting.at) used (word ∷ expected ∷ []) refl y turns begins.things.represents.printed
+    routine_enters setting k (domain_routine setting.at) passing_frame 2 (domain_code setting.at) used (word ∷ expected ∷ []) refl y turns begins.things.represents.printed
     (grown_later (signal_later setting k domain_error_class (v ∷ class_value setting.names (tables setting.program) expected ∷ []) around z)) (let all = memory_holds setting begins.things in omega (arith, all)) begins.room
     begins.things.within_limit (omega arith) by
   where
-    used : UsedAt setting.procedures (domain_routine setting.at) (procedure_with Turn 2 (domain_code setting.at))
-    used = routine_used setting placed 9 (procedure_with Turn 2 (domain_code setting.at)) refl
+    used : UsedAt setting.procedures (domain_routine setting.at) (framed passing_frame (procedure_with Turn 2 (domain_code setting.at)))
+    used = routine_used setting placed 9 (framed passing_frame (procedure_with Turn 2 (domain_code setting.at))) refl
 
     by : (t : ℕ) → turns ≡ suc t → used.frame ≤ left y.arena
-        → CallEnds setting 300 (turns + 1) rs valid w around z y (signal (context_at setting k) domain_error_class (v ∷ class_value setting.names (tables setting.program) expected ∷ []) around z)
+        → CallEnds setting making_credit (turns + 1) rs valid w around z y (signal (context_at setting k) domain_error_class (v ∷ class_value setting.names (tables setting.program) expected ∷ []) around z)
         (leaves y.arena.blocks (exec (code_at setting k t) (code_of (domain_code setting.at)) (routine_registers setting 2 (domain_code setting.at) (word ∷ expected ∷ [])) (laid_frame setting used.frame 2 y)))
     by t same room =
-        subst (λ n. CallEnds setting 300 (n + 1) rs valid w around z y (signal (context_at setting k) domain_error_class (v ∷ class_value setting.names (tables setting.program) expected ∷ []) around z)
+        subst (λ n. CallEnds setting making_credit (n + 1) rs valid w around z y (signal (context_at setting k) domain_error_class (v ∷ class_value setting.names (tables setting.program) expected ∷ []) around z)
         (leaves y.arena.blocks (exec (code_at setting k t) (code_of (domain_code setting.at)) (routine_registers setting 2 (domain_code setting.at) (word ∷ expected ∷ [])) (laid_frame setting used.frame 2 y)))) (sym same)
         (body_leaves setting placed begins.things used.frame 2 room (omega arith)
         (domain_comes setting placed k t raise_credit low rs valid (world_of setting placed w y) around raises z (laid_frame setting used.frame 2 y)

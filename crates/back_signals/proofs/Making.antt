@@ -3,6 +3,7 @@ use Rattle.std.proofs.Common.{◌≡◌, ℕ, suc, ◌+◌, ◌*◌, ◌<◌, �
 use Rattle.std.specs.Prelude.{if◌then◌else◌}
 use Rattle.std.proofs.lemmas.Bool.Decides.{nat_tests}
 use Rattle.base.specs.Names.{slice_get-behind}
+use Rattle.lang_meaning.specs.Counts.{unit_cost}
 use Rattle.lang_meaning.specs.Classes.{is_condition, is_below, class_of_object}
 use Rattle.lang_meaning.specs.InitialHeap.{class_value}
 use Rattle.lang_meaning.specs.Objects.{instance, serious_condition_class}
@@ -29,11 +30,11 @@ use Rattle.mid_arena.proofs.Making.{Room, room_for, is_left, is_wanting}
 use Rattle.mid_code.specs.declared.operation.Counted.TheVariants.{Turn}
 use Rattle.back_lowering.specs.ControlWords.{site_address}
 use Rattle.back_lowering.specs.RoutineCodes.{raise_code, returning}
-use Rattle.back_lowering.specs.Program.{procedure_with}
+use Rattle.back_lowering.specs.Program.{procedure_with, framed, raise_frame}
 use Rattle.back_lowering.specs.Routines.{raise_routine}
 use Rattle.back_relation.specs.Setting.{Setting}
 use Rattle.back_relation.specs.Placed.{IsPlaced}
-use Rattle.back_relation.specs.Room.{words_for_handler}
+use Rattle.back_relation.specs.Room.{words_for_handler, raise_words}
 use Rattle.back_relation.specs.Worlds.{World, Standing}
 use Rattle.back_relation.specs.Things.{WithinLimit}
 use Rattle.back_relation.specs.Around.{RoomFor, CallBegins, SiteStored}
@@ -41,16 +42,16 @@ use Rattle.back_relation.specs.Ends.{WorldKept, Around, RoomEnded, CallEnds, ful
 use Rattle.back_relation.specs.Forms.{context_at, code_at}
 use Rattle.back_combining.proofs.Growth.{grown_later}
 use Rattle.back_objects.proofs.Standing.{world_behind, world_kept_behind, control_behind}
-use Rattle.back_transfers.specs.Within.{IsBuiltInCondition}
+use Rattle.back_relation.specs.RoutineClaims.{IsBuiltInCondition}
 use Rattle.back_transfers.proofs.Entries.{UsedAt, routine_used}
 use Rattle.back_transfers.proofs.Leaving.{signal_later, begins_charged}
 use Rattle.back_transfers.proofs.Points.{point_begins}
 use Rattle.back_transfers.proofs.Returning.{HoldAll, call_behind, returning_comes}
-use Rattle.back_signals.specs.Within.{raise_words, RaisesWithin}
+use Rattle.back_signals.specs.Within.{RaisesWithin}
 use Rattle.back_signals.proofs.Conditions.{is_class, state_made, places_made, meaning_made, made_behind, pointer_is, made_charged, word_made_before}
 
-pub raise_used : (setting : Setting) → IsPlaced setting → UsedAt setting.procedures (raise_routine setting.at) (procedure_with Turn 2 (raise_code setting.at))
-raise_used setting placed = routine_used setting placed 4 (procedure_with Turn 2 (raise_code setting.at)) refl
+pub raise_used : (setting : Setting) → IsPlaced setting → UsedAt setting.procedures (raise_routine setting.at) (framed raise_frame (procedure_with Turn 2 (raise_code setting.at)))
+raise_used setting placed = routine_used setting placed 4 (framed raise_frame (procedure_with Turn 2 (raise_code setting.at))) refl
 
 -- code only prints
 pub printed_more : (setting : Setting) (k t : ℕ) (code : MidCode) (regs : Registers) (y : MidState) → Grown y (exec (code_at setting k t) code regs y).state
@@ -126,7 +127,7 @@ module _ (setting : Setting) (placed : IsPlaced setting) (k t raise_credit credi
 
     -- and it is signalled
     raised :
-        (regs : Registers) → HoldAll (3 ∷ 4 ∷ []) regs ((y.arena.heap_to + 2) ∷ nil_word ∷ []) → 3 < length regs → cost + 66 + raise_credit ≤ y.cost + 300 * (3 + length vs) + credit
+        (regs : Registers) → HoldAll (3 ∷ 4 ∷ []) regs ((y.arena.heap_to + 2) ∷ nil_word ∷ []) → 3 < length regs → cost + 66 + raise_credit ≤ y.cost + unit_cost * (3 + length vs) + credit
         → Comes (exec cx (code_of (returning setting.at 3 (raise_routine setting.at) (3 ∷ 4 ∷ []))) regs y2)
     raised regs held low few =
         subst (λ p. CallEnds setting credit (suc t + 1) rs valid w around z y p (exec cx (code_of (returning setting.at 3 (raise_routine setting.at) (3 ∷ 4 ∷ []))) regs y2))
@@ -167,7 +168,7 @@ module _ (setting : Setting) (placed : IsPlaced setting) (k t raise_credit credi
   pub condition_comes :
       (q : MidOutcome) → Grown y q.state
       → ((room : 3 + length vs ≤ left y.arena) → (regs : Registers) × (cost : ℕ) × HoldAll (3 ∷ 4 ∷ []) regs ((y.arena.heap_to + 2) ∷ nil_word ∷ []) × (3 < length regs)
-      × (cost + 66 + raise_credit ≤ y.cost + 300 * (3 + length vs) + credit)
+      × (cost + 66 + raise_credit ≤ y.cost + unit_cost * (3 + length vs) + credit)
       × (q ≡ exec cx (code_of (returning setting.at 3 (raise_routine setting.at) (3 ∷ 4 ∷ []))) regs (state_made setting things class class_word vs ws is class_there.of_value are room cost)))
       → (left y.arena < 3 + length vs → (regs : Registers) × (x : MidState) × (q ≡ ends (no_room (3 + length vs) (left y.arena)) regs x) × (x.printed ≡ y.printed))
       → Comes q

@@ -18,10 +18,11 @@ use Rattle.mid_arena.specs.Tags.{nil_word}
 use Rattle.mid_arena.specs.FixedWords.{pending_address}
 use Rattle.mid_arena.proofs.Running.{and_then, constant_falls, load_falls, address_above}
 use Rattle.back_lowering.specs.RoutineCodes.{pending_code, returning}
-use Rattle.back_lowering.specs.Program.{procedure_with}
+use Rattle.back_lowering.specs.Program.{procedure_with, framed, passing_frame}
 use Rattle.back_lowering.specs.Routines.{raise_routine, pending_routine}
 use Rattle.back_relation.specs.Setting.{Setting}
 use Rattle.back_relation.specs.Placed.{IsPlaced}
+use Rattle.back_relation.specs.Room.{raise_words}
 use Rattle.back_relation.specs.Worlds.{World, Standing}
 use Rattle.back_relation.specs.StackWords.{HasWordAt}
 use Rattle.back_relation.specs.Around.{CallBegins, SiteStored}
@@ -36,7 +37,7 @@ use Rattle.back_transfers.proofs.Entries.{UsedAt, routine_used, routine_register
 use Rattle.back_transfers.proofs.Bodies.{world_of, body_begins, body_leaves, laid_site, laid_before, laid_world}
 use Rattle.back_transfers.proofs.Leaving.{tasks_below, begins_charged}
 use Rattle.back_transfers.proofs.Returning.{call_behind, returning_comes}
-use Rattle.back_signals.specs.Within.{raise_words, RaisesWithin, PendingWithin}
+use Rattle.back_signals.specs.Within.{RaisesWithin, PendingWithin}
 use Rattle.back_signals.proofs.Making.{raise_used}
 
 module _ (setting : Setting) (placed : IsPlaced setting) (k t spare credit : ℕ) (rs valid : List Standing) (w : World) (around : DynamicContext) (raises : RaisesWithin setting k around (spare + 1) credit) (z : FlatState)
@@ -72,12 +73,12 @@ pub pending_does :
     → PendingWithin setting k turns rs valid w around z y spare (credit + 106)
 unfolding pending_code
 pending_does setting placed k spare credit few turns rs valid w around raises z y c condition at site begins =
-    routine_enters setting k (pending_routine setting.at) 0 (pending_code setting.at) used [] refl y turns begins.things.represents.printed
+    routine_enters setting k (pending_routine setting.at) passing_frame 0 (pending_code setting.at) used [] refl y turns begins.things.represents.printed
     (grown_later (signals_under {R = FlatLater} {k = later_kept} (context_at setting k) (tasks_below setting k) around.handlers c nil around z).grows)
     (let all = memory_holds setting begins.things in omega (arith, all, few)) begins.room begins.things.within_limit (omega arith) by
   where
-    used : UsedAt setting.procedures (pending_routine setting.at) (procedure_with Turn 0 (pending_code setting.at))
-    used = routine_used setting placed 6 (procedure_with Turn 0 (pending_code setting.at)) refl
+    used : UsedAt setting.procedures (pending_routine setting.at) (framed passing_frame (procedure_with Turn 0 (pending_code setting.at)))
+    used = routine_used setting placed 6 (framed passing_frame (procedure_with Turn 0 (pending_code setting.at))) refl
 
     by : (t : ℕ) → turns ≡ suc t → used.frame ≤ left y.arena
         → CallEnds setting (credit + 106) (turns + spare) rs valid w around z y (signal_under (context_at setting k) around.handlers c nil around z)

@@ -37,11 +37,12 @@ use Rattle.mid_arena.proofs.Slots.{instance_low}
 use Rattle.mid_arena.proofs.Telling.{FoundByHeader, found_kind, found_other_kind, found_other_tag, instance_told, truth_told}
 use Rattle.mid_arena.proofs.WordFacts.{low_four_bits_tested}
 use Rattle.back_lowering.specs.RoutineCodes.{signal_code, domain_code, returning, signals_domain}
-use Rattle.back_lowering.specs.Program.{procedure_with}
+use Rattle.back_lowering.specs.Program.{procedure_with, framed, passing_frame}
 use Rattle.back_lowering.specs.Routines.{raise_routine, signal_routine, domain_routine}
 use Rattle.back_lowering.specs.Steps.{Steps, constant, load, compute, load_header, test_of, if_equal, if_different}
 use Rattle.back_relation.specs.Setting.{Setting}
 use Rattle.back_relation.specs.Placed.{IsPlaced}
+use Rattle.back_relation.specs.Room.{failing_words, raise_words}
 use Rattle.back_relation.specs.Worlds.{World, Standing}
 use Rattle.back_relation.specs.Around.{CallBegins, SiteStored}
 use Rattle.back_relation.specs.Ends.{CallEnds}
@@ -58,7 +59,7 @@ use Rattle.back_transfers.proofs.Leaving.{tasks_below, begins_charged, returning
 use Rattle.back_transfers.proofs.Returning.{call_behind, returning_comes}
 use Rattle.back_transfers.proofs.Within.{begins_less, call_less}
 use Rattle.back_signals.proofs.Failing.{domain_does}
-use Rattle.back_signals.specs.Within.{raise_words, making_words, RaisesWithin, DomainWithin, SignalWithin}
+use Rattle.back_signals.specs.Within.{RaisesWithin, DomainWithin, SignalWithin}
 use Rattle.back_signals.proofs.Making.{raise_used}
 use Rattle.back_signals.proofs.Marking.{condition_of}
 
@@ -71,15 +72,15 @@ first_passes c t first second rest rs z {q = q} e f h same l =
     ap (λ p. go_on p (λ rs y. exec c rest rs y)) ((choose_first {c = c} {t = t} {first = first} {second = second} e f h (record { same = same })).same ∙ go_on_last q.end q _ refl l)
     ∙ go_on_last q.end q _ refl l
 
-domain_used : (setting : Setting) → IsPlaced setting → UsedAt setting.procedures (domain_routine setting.at) (procedure_with Turn 2 (domain_code setting.at))
-domain_used setting placed = routine_used setting placed 9 (procedure_with Turn 2 (domain_code setting.at)) refl
+domain_used : (setting : Setting) → IsPlaced setting → UsedAt setting.procedures (domain_routine setting.at) (framed passing_frame (procedure_with Turn 2 (domain_code setting.at)))
+domain_used setting placed = routine_used setting placed 9 (framed passing_frame (procedure_with Turn 2 (domain_code setting.at))) refl
 
 low_bits : (w : ℕ) → bit_and w 3 ≡ w % 4
 low_bits w = and_mask w 2
 
-module _ (setting : Setting) (placed : IsPlaced setting) (k t credit : ℕ) (some : 320 ≤ credit) (rs valid : List Standing) (w : World) (around : DynamicContext) (raises : RaisesWithin setting k around 1 credit) (z : FlatState)
+module _ (setting : Setting) (placed : IsPlaced setting) (k t credit : ℕ) (some : 100 ≤ credit) (rs valid : List Standing) (w : World) (around : DynamicContext) (raises : RaisesWithin setting k around 1 credit) (z : FlatState)
     (domains : (turns : ℕ) (rs valid : List Standing) (w : World) (z : FlatState) (y : MidState) → DomainWithin setting k turns rs valid w around z y)
-    (y : MidState) (begins : CallBegins setting rs valid making_words w around z y) (site : SiteStored setting around y) (c mark : Value) (c_word mark_word : ℕ) (of_condition : WordIs setting w c_word c)
+    (y : MidState) (begins : CallBegins setting rs valid failing_words w around z y) (site : SiteStored setting around y) (c mark : Value) (c_word mark_word : ℕ) (of_condition : WordIs setting w c_word c)
     (of_mark : WordIs setting w mark_word mark) where
   open begins use {things}
 
@@ -101,8 +102,8 @@ module _ (setting : Setting) (placed : IsPlaced setting) (k t credit : ℕ) (som
   no_condition r2 r3 cost n same few =
       subst (λ m. CallEnds setting (credit + 176) (suc t + 0) rs valid w around z y wrong (exec cx (code_of domain_steps) (regs_with r2 r3) (record y { cost = m }))) same
       (subst (λ q. CallEnds setting (credit + 176) (suc t + 0) rs valid w around z y wrong q) (sym steps)
-      (call_behind setting {c1 = n} (world_cost setting n things) (around_cost setting z y n (omega arith)) {c2 = 372} (omega (arith, some)) {t = suc t + 0} {t' = suc t + 0} refl (omega arith)
-      (call_behind setting {c1 = 6} (world_cost setting 6 (begins_charged setting n begins).things) (around_cost setting z (charged n y) 6 (omega arith)) {c2 = 366} {c = 372} (omega arith) {t = suc t + 0} {t' = t + 1} refl (omega arith)
+      (call_behind setting {c1 = n} (world_cost setting n things) (around_cost setting z y n (omega arith)) {c2 = 122} (omega (arith, some)) {t = suc t + 0} {t' = suc t + 0} refl (omega arith)
+      (call_behind setting {c1 = 6} (world_cost setting 6 (begins_charged setting n begins).things) (around_cost setting z (charged n y) 6 (omega arith)) {c2 = 116} {c = 122} (omega arith) {t = suc t + 0} {t' = t + 1} refl (omega arith)
       (returning_comes setting setting.at cx 2 (domain_routine setting.at) (0 ∷ 2 ∷ []) (c_word ∷ serious_condition_class ∷ []) (regs_with (Some serious_condition_class) r3) (charged 6 (charged n y)) (domain_used setting placed).there
       (refl, (refl, tt)) (omega arith) (omega arith) (begins_charged setting 6 (begins_charged setting n begins)).things
       (domains t rs valid w z (charged 52 (charged 6 (charged n y))) c serious_condition_class c_word (omega arith) of_condition site
@@ -250,9 +251,9 @@ word_within a x n h = by (is_lent a x) (slice_get a.memory (x / 4)) refl h
     by true None e h = absurd (cc h)
     by true (Some o) e h = slice_get_within a.memory (x / 4) o e
 
-module _ (setting : Setting) (placed : IsPlaced setting) (k t credit : ℕ) (some : 320 ≤ credit) (rs valid : List Standing) (w : World) (around : DynamicContext) (raises : RaisesWithin setting k around 1 credit) (z : FlatState)
+module _ (setting : Setting) (placed : IsPlaced setting) (k t credit : ℕ) (some : 100 ≤ credit) (rs valid : List Standing) (w : World) (around : DynamicContext) (raises : RaisesWithin setting k around 1 credit) (z : FlatState)
     (domains : (turns : ℕ) (rs valid : List Standing) (w : World) (z : FlatState) (y : MidState) → DomainWithin setting k turns rs valid w around z y)
-    (y : MidState) (begins : CallBegins setting rs valid making_words w around z y) (site : SiteStored setting around y) (c mark : Value) (c_word mark_word : ℕ) (of_condition : WordIs setting w c_word c)
+    (y : MidState) (begins : CallBegins setting rs valid failing_words w around z y) (site : SiteStored setting around y) (c mark : Value) (c_word mark_word : ℕ) (of_condition : WordIs setting w c_word c)
     (of_mark : WordIs setting w mark_word mark) where
   open begins use {things}
 
@@ -365,15 +366,15 @@ meant_grows setting k c mark around z = by (is_condition (tables setting.program
 
 -- **a value is signalled if it is a condition**
 pub signal_does :
-    (setting : Setting) → IsPlaced setting → (k credit : ℕ) → 320 ≤ credit → credit ≤ 1000 → (around : DynamicContext) → RaisesWithin setting k around 1 credit → (turns : ℕ) (rs valid : List Standing) (w : World)
+    (setting : Setting) → IsPlaced setting → (k credit : ℕ) → 100 ≤ credit → credit ≤ 1000 → (around : DynamicContext) → RaisesWithin setting k around 1 credit → (turns : ℕ) (rs valid : List Standing) (w : World)
     (z : FlatState) (y : MidState) → SignalWithin setting k turns rs valid w around z y (credit + 208)
 unfolding signal_code
 signal_does setting placed k credit some low around raises turns rs valid w z y c mark c_word mark_word of_condition of_mark site begins =
-    routine_enters setting k (signal_routine setting.at) 2 (signal_code setting.at) used (c_word ∷ mark_word ∷ []) refl y turns begins.things.represents.printed (meant_grows setting k c mark around z)
+    routine_enters setting k (signal_routine setting.at) passing_frame 2 (signal_code setting.at) used (c_word ∷ mark_word ∷ []) refl y turns begins.things.represents.printed (meant_grows setting k c mark around z)
     (let all = memory_holds setting begins.things in omega (arith, all)) begins.room begins.things.within_limit (omega arith) by
   where
-    used : UsedAt setting.procedures (signal_routine setting.at) (procedure_with Turn 2 (signal_code setting.at))
-    used = routine_used setting placed 5 (procedure_with Turn 2 (signal_code setting.at)) refl
+    used : UsedAt setting.procedures (signal_routine setting.at) (framed passing_frame (procedure_with Turn 2 (signal_code setting.at)))
+    used = routine_used setting placed 5 (framed passing_frame (procedure_with Turn 2 (signal_code setting.at))) refl
 
     domains : (turns : ℕ) (rs valid : List Standing) (w : World) (z : FlatState) (y : MidState) → DomainWithin setting k turns rs valid w around z y
     domains turns rs valid w z y =
@@ -390,5 +391,5 @@ signal_does setting placed k credit some low around raises turns rs valid w z y 
         (leaves y.arena.blocks (exec (code_at setting k t) (code_of (signal_code setting.at)) (routine_registers setting 2 (signal_code setting.at) (c_word ∷ mark_word ∷ [])) (laid_frame setting used.frame 2 y)))) (sym same)
         (body_leaves setting placed begins.things used.frame 2 room (omega arith)
         (body_comes setting placed k t credit some rs valid (world_of setting placed w y) around raises z domains (laid_frame setting used.frame 2 y)
-        (body_begins setting placed begins.things used.frame 2 room making_words (let few = used.fewer in omega (arith, few)) begins)
+        (body_begins setting placed begins.things used.frame 2 room failing_words (let few = used.fewer in omega (arith, few)) begins)
         (laid_site setting placed begins.things used.frame 2 room around site) c mark c_word mark_word of_condition of_mark))

@@ -4,8 +4,6 @@ use Rattle.std.specs.Prelude.{slice_get, ◌==◌, ◌^◌, ◌-◌}
 use Rattle.std.proofs.lemmas.Bool.{eq-eqb}
 use Rattle.std.proofs.lemmas.Bool.Decides.{nat_tests}
 use Rattle.base.specs.declared.place.Place.{Place}
-use Rattle.lang_meaning.specs.declared.scope.ExitForm.{ExitForm}
-use Rattle.lang_meaning.specs.declared.scope.ExitForm.TheVariants.{Block, Tagbody}
 use Rattle.lang_meaning.specs.Prefixes.{IsPrefix}
 use Rattle.lang_meaning.specs.State.{DynamicContext, at_site}
 use Rattle.lang_meaning.specs.State as meaning
@@ -29,7 +27,7 @@ use Rattle.mid_code.specs.State.{Registers, exhausted, ends, charged, MidState, 
 use Rattle.mid_arena.proofs.Running.{and_then, and_ends, constant_falls, load_falls, store_falls, address_above}
 use Rattle.back_lowering.specs.ControlWords.{serials_address, handlers_address, landing_address, site_address, end_address}
 use Rattle.back_lowering.specs.RoutineCodes.{raise_code, unhandled_code, handler_applied, returning}
-use Rattle.back_lowering.specs.Program.{procedure_with}
+use Rattle.back_lowering.specs.Program.{procedure_with, framed, raise_frame}
 use Rattle.back_lowering.specs.Routines.{transfer_routine, raise_routine}
 use Rattle.back_lowering.specs.Steps.{constant, load, test_of, if_equal}
 use Rattle.back_relation.specs.Setting.{Setting, control_spot}
@@ -56,15 +54,9 @@ use Rattle.back_signals.specs.Law.{LawOfUnhandled}
 use Rattle.back_signals.proofs.Marking.{ConditionIs, condition_of, z_marked, marked_is, marked_state, marked_behind, mark_runs, count, control_kept}
 use Rattle.back_signals.proofs.Drawing.{draw_ends, drawn_world, drawn_state, drawn_kept, drawn_around, drawn_site}
 
--- a site is a landing of any exit
-lands_at_site : (w : World) (e : ℕ) (place : Place) → LandsIn (slice_get w.exit_forms e) (at_site place)
-lands_at_site w e place = by (slice_get w.exit_forms e)
-  where
-    by : (o : Option (Option ExitForm)) → LandsIn o (at_site place)
-    by None = tt
-    by (Some None) = tt
-    by (Some (Some Block)) = tt
-    by (Some (Some (Tagbody segments))) = tt
+-- a site is a landing of the end of the program, which no form made
+lands_at_end : (w : World) (place : Place) → slice_get w.exit_forms 0 ≡ Some None → LandsIn (slice_get w.exit_forms 0) (at_site place)
+lands_at_end w place e = subst (λ o. LandsIn o (at_site place)) (sym e) tt
 
 no_cell : (w : World) (y : MidState) (cell : ℕ) (hs : List Value) → hs ≡ [] → HandlersAt w y cell hs → cell ≡ 0
 no_cell w y cell [] e h = h
@@ -151,9 +143,9 @@ module _ (setting : Setting) (placed : IsPlaced setting) (k t : ℕ) (rs valid :
       }))).same)
 
   -- serial numbers have ended
-  ends_there : (drawn == 2 ^ 32 - 1) ≡ true → CallEnds setting 324 (suc t + 47) rs valid w around z y r (exec cx (code_of (raise_code setting.at)) registers_first y)
+  ends_there : (drawn == 2 ^ 32 - 1) ≡ true → CallEnds setting 310 (suc t + 47) rs valid w around z y r (exec cx (code_of (raise_code setting.at)) registers_first y)
   ends_there e =
-      subst (λ q. CallEnds setting 324 (suc t + 47) rs valid w around z y r q) (sym (runs (subst (λ (q : MidOutcome). IsLast q.end) (sym ended) tt) ended))
+      subst (λ q. CallEnds setting 310 (suc t + 47) rs valid w around z y r q) (sym (runs (subst (λ (q : MidOutcome). IsLast q.end) (sym ended) tt) ended))
       (stopped (record { because = many drawn z.state.exits begins1.things.serials.2 e; printed = subst (λ (p : List ℕ). IsPrefix p z.state.printed) (sym things.represents.printed) (same_prefix z.state.printed) }))
     where
       ended : exec cx (code_of (unhandled_code setting.at)) (regs_with None) y_choice ≡ ends exhausted (regs_with None) (charged 26 y_choice)
@@ -213,30 +205,30 @@ module _ (setting : Setting) (placed : IsPlaced setting) (k t : ℕ) (rs valid :
     held : HoldAll (5 ∷ 0 ∷ []) (regs_with (Some end_at)) (end_at ∷ c_word ∷ [])
     held = (refl, (refl, tt))
 
-    returned : CallEnds setting 190 (t + 48) rs valid (world_of setting placed w2 y2) around (flat_charged 0 z2) y3 (flat_leaves 0 c (at_site around.site) (flat_charged 0 z2))
+    returned : CallEnds setting 176 (t + 48) rs valid (world_of setting placed w2 y2) around (flat_charged 0 z2) y3 (flat_leaves 0 c (at_site around.site) (flat_charged 0 z2))
         (exec cx (code_of (returning setting.at 6 (transfer_routine setting.at) (5 ∷ 0 ∷ []))) (regs_with (Some end_at)) y3)
     returned =
         transfer_last setting placed k t 6 5 0 c_word (regs_with (Some end_at)) 0 c (at_site around.site) begins2.around_stands.end_record site2.0 (point_begins setting moved.world moved.around begins2) held
         (omega arith) begins2.around_stands.end_valid (word_later moved.world.later c c_word (word_later kept2.later c c_word (word_later kept1.later c c_word of_condition)))
-        (word_stored setting placed begins2.things landing_address of_landing site2.0 0 (cost2 + 8 + 8 + 8)) site2.2 (lands_at_site (world_of setting placed w2 y2) 0 around.site)
+        (word_stored setting placed begins2.things landing_address of_landing site2.0 0 (cost2 + 8 + 8 + 8)) site2.2 (lands_at_end (world_of setting placed w2 y2) around.site (point_begins setting moved.world moved.around begins2).around_stands.end_form)
 
     units_same : flat_leaves 0 c (at_site around.site) (flat_charged 0 z2) ≡ r
     units_same = let same : z2.state.units + 0 ≡ z2.state.units = omega arith in ap (λ u. flat_leaves 0 c (at_site around.site) (record z2 { state = record z2.state { units = u } })) same
 
-    transfers : CallEnds setting 324 (suc t + 47) rs valid w around z y r (exec cx (code_of (raise_code setting.at)) registers_first y)
+    transfers : CallEnds setting 310 (suc t + 47) rs valid w around z y r (exec cx (code_of (raise_code setting.at)) registers_first y)
     transfers =
-        subst (λ q. CallEnds setting 324 (suc t + 47) rs valid w around z y r q)
+        subst (λ q. CallEnds setting 310 (suc t + 47) rs valid w around z y r q)
         (sym (runs (subst (λ (q : MidOutcome). IsLast q.end) (sym unhandled_runs)
         (returning_last setting k t 6 (transfer_routine setting.at) (5 ∷ 0 ∷ []) (end_at ∷ c_word ∷ []) (regs_with (Some end_at)) y3 (transfer_used setting placed).there held (omega arith))) unhandled_runs))
-        (call_behind setting kept1 around1 {c2 = 266} (omega arith) refl (omega arith)
-        (call_behind setting kept2 around2 {c2 = 214} {c = 266} (omega arith) {t = t + 48} {t' = t + 48} refl (omega arith)
-        (subst (λ p. CallEnds setting 214 (t + 48) rs valid w2 around z2 y2 p (exec cx (code_of (returning setting.at 6 (transfer_routine setting.at) (5 ∷ 0 ∷ []))) (regs_with (Some end_at)) y3)) units_same
-        (call_behind setting moved.world moved.around {c2 = 190} {c = 214} (omega arith) {t = t + 48} {t' = t + 48} refl (omega arith) returned))))
+        (call_behind setting kept1 around1 {c2 = 252} (omega arith) refl (omega arith)
+        (call_behind setting kept2 around2 {c2 = 200} {c = 252} (omega arith) {t = t + 48} {t' = t + 48} refl (omega arith)
+        (subst (λ p. CallEnds setting 200 (t + 48) rs valid w2 around z2 y2 p (exec cx (code_of (returning setting.at 6 (transfer_routine setting.at) (5 ∷ 0 ∷ []))) (regs_with (Some end_at)) y3)) units_same
+        (call_behind setting moved.world moved.around {c2 = 176} {c = 200} (omega arith) {t = t + 48} {t' = t + 48} refl (omega arith) returned))))
 
-  body_comes : CallEnds setting 324 (suc t + 47) rs valid w around z y r (exec cx (code_of (raise_code setting.at)) registers_first y)
+  body_comes : CallEnds setting 310 (suc t + 47) rs valid w around z y r (exec cx (code_of (raise_code setting.at)) registers_first y)
   body_comes = by (drawn == 2 ^ 32 - 1) refl
     where
-      by : (b : Bool) → (drawn == 2 ^ 32 - 1) ≡ b → CallEnds setting 324 (suc t + 47) rs valid w around z y r (exec cx (code_of (raise_code setting.at)) registers_first y)
+      by : (b : Bool) → (drawn == 2 ^ 32 - 1) ≡ b → CallEnds setting 310 (suc t + 47) rs valid w around z y r (exec cx (code_of (raise_code setting.at)) registers_first y)
       by true e = ends_there e
       by false e = transfers e
 
@@ -249,25 +241,25 @@ meant setting k (h ∷ hs) c mark around z z' e same = absurd (cc e)
 pub unhandled_law : LawOfUnhandled
 unfolding raise_code
 unhandled_law setting k turns rs valid w around z y placed none c mark c_word mark_word condition of_condition of_mark site begins =
-    routine_enters setting k (raise_routine setting.at) 2 (raise_code setting.at) used (c_word ∷ mark_word ∷ []) refl y turns begins.things.represents.printed
+    routine_enters setting k (raise_routine setting.at) raise_frame 2 (raise_code setting.at) used (c_word ∷ mark_word ∷ []) refl y turns begins.things.represents.printed
     (grown_later (signals_under {R = FlatLater} {k = later_kept} (context_at setting k) (tasks_below setting k) around.handlers c mark around z).grows)
     (let all = memory_holds setting begins.things in omega (arith, all)) begins.room begins.things.within_limit (omega arith) by
   where
-    used : UsedAt setting.procedures (raise_routine setting.at) (procedure_with Turn 2 (raise_code setting.at))
-    used = routine_used setting placed 4 (procedure_with Turn 2 (raise_code setting.at)) refl
+    used : UsedAt setting.procedures (raise_routine setting.at) (framed raise_frame (procedure_with Turn 2 (raise_code setting.at)))
+    used = routine_used setting placed 4 (framed raise_frame (procedure_with Turn 2 (raise_code setting.at))) refl
 
     is : ConditionIs (tables setting.program) z.state c
     is = condition_of (tables setting.program) z.state begins.things.represents.built_in c condition
 
     by : (t : ℕ) → turns ≡ suc t → used.frame ≤ left y.arena
-        → CallEnds setting 356 (turns + 47) rs valid w around z y (signal_under (context_at setting k) around.handlers c mark around z)
+        → CallEnds setting 344 (turns + 47) rs valid w around z y (signal_under (context_at setting k) around.handlers c mark around z)
         (leaves y.arena.blocks (exec (code_at setting k t) (code_of (raise_code setting.at)) (routine_registers setting 2 (raise_code setting.at) (c_word ∷ mark_word ∷ [])) (laid_frame setting used.frame 2 y)))
     by t same room =
-        subst (λ n. CallEnds setting 356 (n + 47) rs valid w around z y (signal_under (context_at setting k) around.handlers c mark around z)
+        subst (λ n. CallEnds setting 344 (n + 47) rs valid w around z y (signal_under (context_at setting k) around.handlers c mark around z)
         (leaves y.arena.blocks (exec (code_at setting k t) (code_of (raise_code setting.at)) (routine_registers setting 2 (raise_code setting.at) (c_word ∷ mark_word ∷ [])) (laid_frame setting used.frame 2 y)))) (sym same)
         (body_leaves setting placed begins.things used.frame 2 room (omega arith)
         (subst
-        (λ p. CallEnds setting 324 (suc t + 47) rs valid (world_of setting placed w y) around z (laid_frame setting used.frame 2 y) p
+        (λ p. CallEnds setting 310 (suc t + 47) rs valid (world_of setting placed w y) around z (laid_frame setting used.frame 2 y) p
         (exec (code_at setting k t) (code_of (raise_code setting.at)) (routine_registers setting 2 (raise_code setting.at) (c_word ∷ mark_word ∷ [])) (laid_frame setting used.frame 2 y)))
         (sym (meant setting k around.handlers c mark around z (z_marked setting inside.things c mark c_word mark_word is of_condition of_mark) none (marked_is setting inside.things c mark c_word mark_word is of_condition of_mark)))
         (body_comes setting placed k t rs valid (world_of setting placed w y) around z (laid_frame setting used.frame 2 y) inside (laid_site setting placed begins.things used.frame 2 room around site) none c mark c_word mark_word is

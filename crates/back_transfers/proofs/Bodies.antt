@@ -1,5 +1,5 @@
 -- **The body of a routine**: where it begins, in a frame of its own, and what the call comes to behind it.
-use Rattle.std.proofs.Common.{◌≡◌, ℕ, ◌+◌, ◌*◌, ◌<◌, ◌≤◌, List, [], ◌∷◌, length, refl, sym, ap, ◌∙◌, subst, arith}
+use Rattle.std.proofs.Common.{◌≡◌, ℕ, ◌+◌, ◌*◌, ◌<◌, ◌≤◌, List, [], ◌∷◌, length, None, refl, sym, ap, ◌∙◌, subst, arith}
 use Rattle.lang_meaning.specs.State.{DynamicContext, Limit, words, unlimited}
 use Rattle.lang_meaning.specs.Prefixes.{IsPrefix}
 use Rattle.flat_language.specs.FlatState.{FlatState, FlatEvaluated}
@@ -54,6 +54,8 @@ around_deeper setting {w} {w'} {rs} {valid} {around} {z} {z'} {y} {y'} l h back 
   end_record = t.end_record;
   end_valid = t.end_valid;
   end_word = end t.end_record.address t.end_word;
+  end_form = l.exit_forms 0 None t.end_form;
+  tags_land = λ x v i role tagged. l.exit_forms x.number None (t.tags_land x v i role tagged);
 }
 
 module _ (setting : Setting) where

@@ -14,6 +14,6 @@ transfers_law = record {
 pub leaving_law : LawOfLeaving
 leaving_law = record {
   by_number = λ setting k turns rs valid w around z y placed fails. leave_does setting placed k turns rs valid w around fails z y;
-  to_catch = λ setting k turns rs valid w around z y placed fails land. throw_does setting placed k turns rs valid w around fails z y land;
-  to_signal = λ setting k turns rs valid w around z y placed fails land. continue_does setting placed k turns rs valid w around fails z y land;
+  to_catch = λ setting k turns rs valid w around z y placed fails. throw_does setting placed k turns rs valid w around fails z y;
+  to_signal = λ setting k turns rs valid w around z y placed fails. continue_does setting placed k turns rs valid w around fails z y;
 }

@@ -23,7 +23,7 @@ use Rattle.mid_code.specs.State.{charged as mid_charged}
 use Rattle.mid_arena.proofs.Running.{some_found, enters, enters_wanting}
 use Rattle.back_lowering.specs.Placement.{routines_from, primitive_count}
 use Rattle.back_lowering.specs.declared.placement.Placement.{Placement}
-use Rattle.back_lowering.specs.Program.{procedure_with, entries_from, lambda_entries_from, bodies_from, lambda_bodies, primitives, routines, main_form, start, lowered, body_of, itself, numbers_below}
+use Rattle.back_lowering.specs.Program.{procedure_with, entries_from, lambda_entries_from, bodies_from, lambda_bodies, primitives, routines, main_form, start, lowered, body_of, itself, numbers_below, framed}
 use Rattle.back_lowering.specs.Registers.{of_code, enough_for, frame_for}
 use Rattle.back_lowering.specs.Steps.{Steps}
 use Rattle.back_relation.specs.Setting.{Setting, FramesWithin}
@@ -40,10 +40,6 @@ get_behind : {X : Type 0} (xs ys : List X) (i j : ℕ) → j ≡ length xs + i �
 get_behind [] ys i j e = let same : j ≡ i = omega (arith, e) in ap (slice_get ys) same
 get_behind (x ∷ xs) ys i zero e = absurd (omega (arith, e))
 get_behind (x ∷ xs) ys i (suc j) e = get_behind xs ys i j (omega (arith, e))
-
--- a procedure with a frame of its own
-abbrev pub framed : ℕ → MidProcedure → MidProcedure
-framed n p = record p { frame = n }
 
 -- a procedure that is given is used with a frame that is no larger
 pub record UsedAt (procedures : List MidProcedure) (number : ℕ) (given : MidProcedure) : Type 0 where
@@ -113,7 +109,7 @@ module _ (setting : Setting) where
   abbrev pub laid_frame : (frame parameters : ℕ) → MidState → MidState
   laid_frame f m y = with_arena (with_new_block (record { words = f; kind = activation_frame }) y.arena) (mid_charged (entry_cost m) y)
 
-  module _ (k number m : ℕ) (code : Steps) (used : UsedAt setting.procedures number (procedure_with Turn m code)) (ws : List ℕ) (many : length ws ≡ m) (y : MidState) where
+  module _ (k number f m : ℕ) (code : Steps) (used : UsedAt setting.procedures number (framed f (procedure_with Turn m code))) (ws : List ℕ) (many : length ws ≡ m) (y : MidState) where
     abbrev run_of : ℕ → MidOutcome
     run_of t = called (code_at setting k t) number ws y
 
@@ -142,7 +138,7 @@ module _ (setting : Setting) where
     pub routine_enters :
         (turns : ℕ) {credit spare n : ℕ} {rs valid : List Standing} {w : World} {around : DynamicContext} {z : FlatState} {r : FlatEvaluated}
         → y.printed ≡ z.state.printed → FlatGrown z r.state → spare ≤ length y.arena.memory → RoomFor setting.limit n z.state y → WithinLimit setting.limit z.state
-        → routine_frame code ≤ n
+        → f ≤ n
         → ((t : ℕ) → turns ≡ suc t → used.frame ≤ left y.arena
         → CallEnds setting credit (turns + spare) rs valid w around z y r
         (leaves y.arena.blocks (exec (code_at setting k t) (code_of code) (routine_registers m code ws) (laid_frame used.frame m y))))

@@ -28,17 +28,18 @@ use Rattle.mid_arena.proofs.Running.{StepsTo, and_then, constant_falls, load_fal
 use Rattle.back_lowering.specs.ControlWords.{link_address, landing_address}
 use Rattle.back_lowering.specs.RoutineCodes.{transfer_code, leave_code, failing_code, returning}
 use Rattle.back_lowering.specs.RoutineCodes.{signals as signals_steps}
-use Rattle.back_lowering.specs.Program.{procedure_with}
+use Rattle.back_lowering.specs.Program.{procedure_with, framed, passing_frame}
 use Rattle.back_lowering.specs.Routines.{transfer_routine, leave_routine, failing_routine}
 use Rattle.back_lowering.specs.Steps.{Steps, store, test_of, if_equal}
 use Rattle.back_relation.specs.Setting.{Setting}
 use Rattle.back_relation.specs.Placed.{IsPlaced}
+use Rattle.back_relation.specs.Room.{failing_words}
 use Rattle.back_relation.specs.Worlds.{World, LandsIn, Standing, record_of_exit}
 use Rattle.back_relation.specs.StackWords.{HasWordAt}
 use Rattle.back_relation.specs.Around.{CallBegins, SiteStored}
-use Rattle.back_relation.specs.Ends.{LandingIs, CallEnds, few_turns}
+use Rattle.back_relation.specs.Ends.{LandingIs, CallEnds, landing_cost, few_turns}
 use Rattle.back_relation.specs.Forms.{below_at, context_at, code_at}
-use Rattle.back_relation.specs.RoutineClaims.{WordIs, LeaveDoes}
+use Rattle.back_relation.specs.RoutineClaims.{WordIs, LeaveDoes, IsBuiltInCondition}
 use Rattle.back_relation.specs.Procedures.{called}
 use Rattle.back_combining.proofs.Growth.{grown_later}
 use Rattle.back_combining.proofs.Parts.{IsLast}
@@ -46,13 +47,13 @@ use Rattle.back_combining.proofs.Worlds.{word_later}
 use Rattle.back_transfers.proofs.Frames.{memory_holds}
 use Rattle.back_transfers.specs.Links.{along_links, link_registers, has_number, NumberSought, found, missing, LinksWalked}
 use Rattle.back_transfers.specs.Searches.{IsLong}
-use Rattle.back_transfers.specs.Within.{IsBuiltInCondition, FailsWithin, transfer_words, failing_words}
+use Rattle.back_transfers.specs.Within.{FailsWithin, transfer_words}
 use Rattle.back_transfers.proofs.Links.{links_law}
 use Rattle.back_transfers.proofs.Entries.{UsedAt, routine_used, routine_registers, laid_frame, routine_enters}
 use Rattle.back_transfers.proofs.Transfer.{transfer_does}
-use Rattle.back_transfers.proofs.Within.{call_less, begins_less}
+use Rattle.back_transfers.proofs.Within.{call_less, begins_less, landing_most}
 use Rattle.back_transfers.proofs.Bodies.{world_of, body_begins, body_leaves, laid_site, of_landing}
-use Rattle.back_transfers.proofs.Returning.{HoldAll, call_cost, call_behind, first_alone, second_alone, returning_is, returning_comes, tail_known}
+use Rattle.back_transfers.proofs.Returning.{HoldAll, call_cost, call_behind, first_alone, second_alone, returning_is, returning_comes, returning_leaves, tail_known}
 use Rattle.back_transfers.proofs.Points.{Moved, point_begins, moved_stored, stored_state, word_stored, store_lent, moved_cost}
 
 -- ---- what is meant only grows
@@ -71,8 +72,8 @@ pub transfer_used : (setting : Setting) → IsPlaced setting → UsedAt setting.
 transfer_used setting placed =
     subst (λ n. UsedAt setting.procedures n (procedure_with Turn 2 (transfer_code setting.at))) (omega arith) (routine_used setting placed 0 (procedure_with Turn 2 (transfer_code setting.at)) refl)
 
-pub failing_used : (setting : Setting) → IsPlaced setting → UsedAt setting.procedures (failing_routine setting.at) (procedure_with Turn 1 (failing_code setting.at))
-failing_used setting placed = routine_used setting placed 7 (procedure_with Turn 1 (failing_code setting.at)) refl
+pub failing_used : (setting : Setting) → IsPlaced setting → UsedAt setting.procedures (failing_routine setting.at) (framed passing_frame (procedure_with Turn 1 (failing_code setting.at)))
+failing_used setting placed = routine_used setting placed 7 (framed passing_frame (procedure_with Turn 1 (failing_code setting.at))) refl
 
 -- a call begins where more was paid
 pub begins_charged :
@@ -109,9 +110,10 @@ module _ (setting : Setting) (placed : IsPlaced setting) (k t : ℕ) {rs valid :
       → CallBegins setting rs valid transfer_words w around z y → HoldAll (a ∷ b ∷ []) regs (target.address ∷ word ∷ []) → to < length regs
       → record_of_exit e around.exits valid ≡ Some target → WordIs setting w word v → HasWordAt y landing_address landing_word
       → LandingIs setting landing_word landing → LandsIn (slice_get w.exit_forms e) landing
-      → CallEnds setting 190 (t + 48) rs valid w around z y (flat_leaves e v landing z) (exec (code_at setting k t) (code_of (returning setting.at to (transfer_routine setting.at) (a ∷ b ∷ []))) regs y)
+      → CallEnds setting (176 + landing_cost landing) (t + 48) rs valid w around z y (flat_leaves e v landing z) (exec (code_at setting k t) (code_of (returning setting.at to (transfer_routine setting.at) (a ∷ b ∷ []))) regs y)
   transfer_last to a b word regs e v landing target landing_word begins held low valid_target of_value landing_there landing_is lands =
-      returning_comes setting setting.at (code_at setting k t) to (transfer_routine setting.at) (a ∷ b ∷ []) (target.address ∷ word ∷ []) regs y (transfer_used setting placed).there held low (omega arith) begins.things
+      returning_leaves setting setting.at (code_at setting k t) to (transfer_routine setting.at) (a ∷ b ∷ []) (target.address ∷ word ∷ []) regs y (transfer_used setting placed).there held low (omega arith) begins.things
+      (λ u same. cc same)
       (transfer_does setting placed k t rs valid w around z (at_call (a ∷ b ∷ []) y) e v landing target word landing_word valid_target of_value landing_there landing_is lands
       (begins_charged setting 52 begins))
 
@@ -119,10 +121,10 @@ module _ (setting : Setting) (placed : IsPlaced setting) (k t : ℕ) {rs valid :
   pub failing_last :
       (fails : FailsWithin setting k around) (to class : ℕ) (regs : Registers) → IsBuiltInCondition class 0 → CallBegins setting rs valid failing_words w around z y → SiteStored setting around y
       → to < length regs
-      → CallEnds setting 366 (t + 0) rs valid w around z y (signal (context_at setting k) class [] around z) (exec (code_at setting k t) (code_of (signals_steps setting.at to class)) regs y)
+      → CallEnds setting 516 (t + 0) rs valid w around z y (signal (context_at setting k) class [] around z) (exec (code_at setting k t) (code_of (signals_steps setting.at to class)) regs y)
   failing_last fails to class regs small begins site low =
-      subst (λ q. CallEnds setting 366 (t + 0) rs valid w around z y (signal (context_at setting k) class [] around z) q) (sym steps)
-      (call_behind setting {c1 = 6} (world_cost setting 6 begins.things) (around_cost setting z y 6 (omega arith)) {c2 = 360} (omega arith) refl (omega arith)
+      subst (λ q. CallEnds setting 516 (t + 0) rs valid w around z y (signal (context_at setting k) class [] around z) q) (sym steps)
+      (call_behind setting {c1 = 6} (world_cost setting 6 begins.things) (around_cost setting z y 6 (omega arith)) {c2 = 510} (omega arith) refl (omega arith)
       (returning_comes setting setting.at (code_at setting k t) to (failing_routine setting.at) (to ∷ []) (class ∷ []) regs' y' (failing_used setting placed).there (register_here regs to class low, tt)
       (subst (λ n. to < n) (sym (length-set regs to (Some class))) low) (omega arith) (begins_charged setting 6 begins).things
       (fails t rs valid w z (at_call (to ∷ []) y') class small site (begins_charged setting 46 (begins_charged setting 6 begins)))))
@@ -203,7 +205,7 @@ module _ (setting : Setting) (placed : IsPlaced setting) (k t : ℕ) (rs valid :
         (subst (λ (q : MidOutcome). IsLast q.end) (sym store_runs) last) in
         subst (λ q. CallEnds setting 262 (suc t + 0) rs valid w around z y r q) (sym (runs (here ∙ store_runs)))
         (subst (λ p. CallEnds setting 262 (suc t + 0) rs valid w around z y p (exec c (code_of (returning setting.at 6 (transfer_routine setting.at) (4 ∷ 1 ∷ []))) registers_then y3)) (sym meant)
-        (call_behind setting moved.world moved.around {c2 = 190} (let total = walked.cost_is in omega (arith, total)) refl (omega arith)
+        (call_behind setting moved.world moved.around {c2 = 176 + landing_cost landing} (let total = walked.cost_is in let most = landing_most landing in omega (arith, total, most)) refl (omega arith)
         (transfer_last setting placed k t 6 4 1 word registers_then e v landing target landing_word (begins_less setting transfer_words (omega arith) (point_begins setting moved.world moved.around begins)) held (omega arith) there
         (word_later moved.world.later v word of_value) (word_stored setting placed things landing_address of_landing landing_word (walked.passed + 1) (walked.total + 12 + 8)) landing_is
         lands)))
@@ -216,7 +218,7 @@ module _ (setting : Setting) (placed : IsPlaced setting) (k t : ℕ) (rs valid :
         (signals_last setting placed k t 6 control_error_class registers_then (charged 12 y_walked) (omega arith)) in
         subst (λ q. CallEnds setting 262 (suc t + 0) rs valid w around z y r q) (sym (runs here))
         (subst (λ p. CallEnds setting 262 (suc t + 0) rs valid w around z y p (exec c (code_of fails_code) registers_then (charged 12 y_walked))) (sym meant)
-        (call_behind setting there.world there.around {c2 = 366} (let total = walked.cost_is in omega (arith, total, few)) refl (omega arith)
+        (call_behind setting there.world there.around {c2 = 516} (let total = walked.cost_is in omega (arith, total, few)) refl (omega arith)
         (failing_last setting placed k t fails 6 control_error_class registers_then control_error_is (point_begins setting there.world there.around begins) (there.site around site) (omega arith))))
 
   body_comes : CallEnds setting 262 (suc t + 0) rs valid w around z y r (exec c (code_of (leave_code setting.at)) registers_first y)
@@ -236,14 +238,14 @@ pub leave_does :
     (setting : Setting) → IsPlaced setting → (k turns : ℕ) → (rs valid : List Standing) (w : World) (around : DynamicContext) → FailsWithin setting k around → (z : FlatState) (y : MidState)
     → LeaveDoes setting k turns rs valid w around z y
 unfolding leave_code
-leave_does setting placed k turns rs valid w around fails z y e v landing word landing_word of_value landing_is lands begins =
+leave_does setting placed k turns rs valid w around fails z y e v landing word landing_word of_value landing_is lands site begins =
     call_less setting (omega arith) (omega arith)
-    (routine_enters setting k (leave_routine setting.at) 3 (leave_code setting.at) used (e ∷ word ∷ landing_word ∷ []) refl y turns begins.0.things.represents.printed
+    (routine_enters setting k (leave_routine setting.at) passing_frame 3 (leave_code setting.at) used (e ∷ word ∷ landing_word ∷ []) refl y turns begins.things.represents.printed
     (grown_later (transfers {R = FlatLater} {k = later_kept} (context_at setting k) (tasks_below setting k) (Some e) v landing around z).grows)
-    (let all = memory_holds setting begins.0.things in omega (arith, all)) begins.0.room begins.0.things.within_limit (omega arith) by)
+    (let all = memory_holds setting begins.things in omega (arith, all)) begins.room begins.things.within_limit (omega arith) by)
   where
-    used : UsedAt setting.procedures (leave_routine setting.at) (procedure_with Turn 3 (leave_code setting.at))
-    used = routine_used setting placed 1 (procedure_with Turn 3 (leave_code setting.at)) refl
+    used : UsedAt setting.procedures (leave_routine setting.at) (framed passing_frame (procedure_with Turn 3 (leave_code setting.at)))
+    used = routine_used setting placed 1 (framed passing_frame (procedure_with Turn 3 (leave_code setting.at))) refl
 
     by : (t : ℕ) → turns ≡ suc t → used.frame ≤ left y.arena
         → CallEnds setting 300 (turns + 0) rs valid w around z y (transfer (context_at setting k) (Some e) v landing around z)
@@ -251,7 +253,7 @@ leave_does setting placed k turns rs valid w around fails z y e v landing word l
     by t same room =
         subst (λ n. CallEnds setting 300 (n + 0) rs valid w around z y (transfer (context_at setting k) (Some e) v landing around z)
         (leaves y.arena.blocks (exec (code_at setting k t) (code_of (leave_code setting.at)) (routine_registers setting 3 (leave_code setting.at) (e ∷ word ∷ landing_word ∷ [])) (laid_frame setting used.frame 3 y)))) (sym same)
-        (body_leaves setting placed begins.0.things used.frame 3 room (omega arith)
+        (body_leaves setting placed begins.things used.frame 3 room (omega arith)
         (body_comes setting placed k t rs valid (world_of setting placed w y) around fails z (laid_frame setting used.frame 3 y)
-        (body_begins setting placed begins.0.things used.frame 3 room failing_words (let few = used.fewer in omega (arith, few)) begins.0)
-        (laid_site setting placed begins.0.things used.frame 3 room around begins.1) e v landing word landing_word of_value landing_is lands))
+        (body_begins setting placed begins.things used.frame 3 room failing_words (let few = used.fewer in omega (arith, few)) begins)
+        (laid_site setting placed begins.things used.frame 3 room around site) e v landing word landing_word of_value landing_is lands))

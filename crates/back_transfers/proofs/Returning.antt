@@ -1,7 +1,9 @@
 -- One routine calls another and returns what that comes to.
 use Rattle.std.proofs.Common.{◌≡◌, ℕ, ◌+◌, ◌*◌, ◌<◌, ◌≤◌, true, false, List, [], ◌∷◌, length, Some, refl, sym, ap, ◌∙◌, subst, arith}
 use Rattle.std.specs.Prelude.{slice_get, slice_set}
-use Rattle.lang_meaning.specs.State.{DynamicContext}
+use Rattle.lang_meaning.specs.Counts.{unit_cost}
+use Rattle.lang_meaning.specs.State.{DynamicContext, value}
+use Rattle.lang_meaning.specs.Values.{Value}
 use Rattle.lang_meaning.specs.Prefixes.{IsPrefix}
 use Rattle.flat_language.specs.FlatState.{FlatState, FlatEvaluated}
 use Rattle.mid_code.specs.declared.operation.Test.{Test}
@@ -31,7 +33,7 @@ use Rattle.back_transfers.proofs.Bodies.{Passes, stopped_passes}
 
 module _ (setting : Setting) where
   module _ {c1 : ℕ} {w w1 : World} {z z1 : FlatState} {y y1 : MidState} (k : WorldKept setting w w1 z z1 y y1) (a : Around setting c1 z z1 y y1) {c2 c : ℕ}
-      (paid : y1.cost + 300 * z.state.units + c2 ≤ y.cost + 300 * z1.state.units + c) where
+      (paid : y1.cost + unit_cost * z.state.units + c2 ≤ y.cost + unit_cost * z1.state.units + c) where
     transfer_behind :
         {rs valid : List Standing} {around : DynamicContext} {r : FlatEvaluated} {q : MidOutcome} → Transfers setting c2 rs valid w1 around z1 y1 r q
         → Transfers setting c rs valid w around z y r q
@@ -184,8 +186,8 @@ module _ (c : Context) (to : ℕ) (regs : Registers) (there : to < length regs) 
       by stuck same = passing q stuck same tt tt
 
   module _ (setting : Setting) {credit c' turns : ℕ} {rs valid : List Standing} {w : World} {around : DynamicContext} {z : FlatState} {y : MidState} {r : FlatEvaluated} {q : MidOutcome}
-      (enough : credit + 14 ≤ c') where
-    -- **what was called is returned**
+      (enough : credit ≤ c') (returning : (v : Value) → r.outcome ≡ value v → credit + 14 ≤ c') where
+    -- **what was called is returned**, which costs 14 where it has a value
     pub tail_comes : CallEnds setting credit turns rs valid w around z y r q → CallEnds setting c' turns rs valid w around z y r (tail q)
     tail_comes (done x) =
         subst (λ p. CallEnds setting c' turns rs valid w around z y r p) (sym (tail_returns q x.word x.end))
@@ -196,7 +198,7 @@ module _ (c : Context) (to : ℕ) (regs : Registers) (there : to < length regs) 
           end = refl;
           w' = x.w';
           world = world_then setting x.world x.back (world_cost setting 14 x.world.things);
-          back = back_then setting x.world x.back enough (around_cost setting r.state q.state 14 (omega arith));
+          back = back_then setting x.world x.back (returning x.result x.outcome) (around_cost setting r.state q.state 14 (omega arith));
           of_value = x.of_value;
           frame = x.frame;
         }))
@@ -256,7 +258,18 @@ pub returning_comes :
 returning_comes setting at c to number args ws regs {credit = credit} {c' = c'} {turns = turns} {rs = rs} {valid = valid} {w = w} {around = around} {z = z} y {r = r} there h low enough t e =
     subst (λ q. CallEnds setting c' turns rs valid w around z y r q) (sym (returning_is at c to number args ws regs y there h low))
     (call_behind setting {c1 = call_cost args} (world_cost setting (call_cost args) t) (around_cost setting z y (call_cost args) (omega arith)) {c2 = credit + 14} (omega arith) refl (omega arith)
-    (tail_comes c to regs low setting (omega arith) e))
+    (tail_comes c to regs low setting (omega arith) (λ v f. omega arith) e))
+
+-- where it never returns, nothing is paid for that
+pub returning_leaves :
+    (setting : Setting) (at : Placement) (c : Context) {p : MidProcedure} (to number : ℕ) (args ws : List ℕ) (regs : Registers) {credit c' turns : ℕ} {rs valid : List Standing} {w : World} {around : DynamicContext} {z : FlatState} (y : MidState)
+    {r : FlatEvaluated} → slice_get c.procedures number ≡ Some p → HoldAll args regs ws → to < length regs → call_cost args + credit ≤ c' → Things setting w z y → ((v : Value) → r.outcome ≡ value v → ⊥)
+    → CallEnds setting credit turns rs valid w around z (charged (call_cost args) y) r (called c number ws (charged (call_cost args) y))
+    → CallEnds setting c' turns rs valid w around z y r (exec c (code_of (returning at to number args)) regs y)
+returning_leaves setting at c to number args ws regs {credit = credit} {c' = c'} {turns = turns} {rs = rs} {valid = valid} {w = w} {around = around} {z = z} y {r = r} there h low enough t never e =
+    subst (λ q. CallEnds setting c' turns rs valid w around z y r q) (sym (returning_is at c to number args ws regs y there h low))
+    (call_behind setting {c1 = call_cost args} (world_cost setting (call_cost args) t) (around_cost setting z y (call_cost args) (omega arith)) {c2 = credit} (omega arith) refl (omega arith)
+    (tail_comes c to regs low setting (omega arith) (λ v f. absurd (never v f)) e))
 
 -- ---- the branch of a choice that is the end of the code
 

@@ -3,6 +3,7 @@ use Rattle.std.proofs.Common.{◌≡◌, ◌⊎◌, inl, inr, ℕ, suc, ◌+◌,
 use Rattle.std.specs.Prelude.{slice_get, ◌==◌, ◌^◌, not, if◌then◌else◌}
 use Rattle.std.proofs.lemmas.Bool.{eq-eqb, ne_eqb}
 use Rattle.std.proofs.lemmas.Bool.Decides.{nat_tests}
+use Rattle.lang_meaning.specs.Counts.{unit_cost}
 use Rattle.lang_meaning.specs.State.{DynamicContext, Exit, ExitKind, block_exit, tagbody_exit, catch_exit, signal_exit, end_exit, at_segment}
 use Rattle.lang_meaning.specs.Values.{Value, integer, character, symbol, nil, object, same, is_true}
 use Rattle.lang_meaning.specs.Objects.{control_error_class}
@@ -29,12 +30,13 @@ use Rattle.mid_arena.proofs.Sameness.{same_value_same_word}
 use Rattle.back_lowering.specs.ControlWords.{link_address, landing_address, record_mark, catch_kind, signal_kind}
 use Rattle.back_lowering.specs.RoutineCodes.{throw_code, continue_code, tag_sought, transfers_to_found, returning}
 use Rattle.back_lowering.specs.RoutineCodes.{signals as signals_steps}
-use Rattle.back_lowering.specs.Program.{procedure_with}
+use Rattle.back_lowering.specs.Program.{procedure_with, framed, passing_frame}
 use Rattle.back_lowering.specs.Routines.{transfer_routine, throw_routine, continue_routine}
 use Rattle.back_lowering.specs.Steps.{Steps, constant, load, test_of, if_equal}
 use Rattle.back_relation.specs.Setting.{Setting, control_spot}
 use Rattle.back_relation.specs.Placed.{IsPlaced}
-use Rattle.back_relation.specs.Worlds.{World, LandsIn, Standing, for_exit, IsIn, record_of_exit}
+use Rattle.back_relation.specs.Room.{failing_words}
+use Rattle.back_relation.specs.Worlds.{World, LandsIn, Standing, for_exit, IsIn, IsTagged, record_of_exit}
 use Rattle.back_relation.specs.StackWords.{HasWordAt, RecordAt, UseAt, TagsAt}
 use Rattle.back_relation.specs.Things.{Things}
 use Rattle.back_relation.specs.Around.{CallBegins, SiteStored}
@@ -46,7 +48,7 @@ use Rattle.back_combining.proofs.Parts.{IsLast}
 use Rattle.back_combining.proofs.Worlds.{word_later}
 use Rattle.back_transfers.specs.Searches.{Finds, Misses, IsLong}
 use Rattle.back_transfers.specs.Tags.{along_tags, tag_registers, TagTells, of_kind, of_end, of_other, TagSought, found, missing, TagsWalked}
-use Rattle.back_transfers.specs.Within.{FailsWithin, transfer_words, failing_words, IsTagged, TagsLand}
+use Rattle.back_transfers.specs.Within.{FailsWithin, transfer_words}
 use Rattle.back_transfers.proofs.Frames.{memory_holds}
 use Rattle.back_transfers.proofs.Tags.{tags_law}
 use Rattle.back_transfers.proofs.Entries.{UsedAt, routine_used, routine_registers, laid_frame, routine_enters}
@@ -143,6 +145,12 @@ is_tagged_signal c (catch_exit other) e = absurd (cc e)
 is_tagged_signal c (signal_exit other mark) e = tt
 is_tagged_signal c end_exit e = absurd (cc e)
 
+-- a transfer to such an exit lands, whoever made it
+lands_where_tagged :
+    (setting : Setting) {rs valid : List Standing} {n : ℕ} {w : World} {around : DynamicContext} {z : FlatState} {y : MidState} → CallBegins setting rs valid n w around z y
+    → (x : Exit) (v : Standing) → IsIn v rs → v.role ≡ for_exit x → IsTagged x.kind → LandsIn (slice_get w.exit_forms x.number) (at_segment 0)
+lands_where_tagged setting begins x v stands role tagged = subst (λ o. LandsIn o (at_segment 0)) (sym (begins.around_stands.tags_land x v stands role tagged)) tt
+
 -- ---- the body
 
 module _ (setting : Setting) (placed : IsPlaced setting) (k t : ℕ) (rs valid : List Standing) (w : World) (around : DynamicContext) (fails : FailsWithin setting k around) (z : FlatState) (y : MidState)
@@ -198,22 +206,22 @@ module _ (setting : Setting) (placed : IsPlaced setting) (k t : ℕ) (rs valid :
         (returning_last setting k t 6 (transfer_routine setting.at) (3 ∷ 1 ∷ []) (target.address ∷ word ∷ []) (tag_registers tag word at r4 r5 r6) y3 (transfer_used setting placed).there held (omega arith))
 
     found_comes :
-        cost + 198 ≤ y.cost + 300 * (passed + 1) + 268 → record_of_exit x.number around.exits valid ≡ Some target → LandsIn (slice_get w.exit_forms x.number) (at_segment 0)
+        cost + 448 ≤ y.cost + unit_cost * (passed + 1) + 268 → record_of_exit x.number around.exits valid ≡ Some target → LandsIn (slice_get w.exit_forms x.number) (at_segment 0)
         → Comes (flat_leaves x.number v (at_segment 0) (flat_charged (passed + 1) z)) (exec c (code_of (transfers_to_found setting.at)) (tag_registers tag word at r4 r5 r6) (record y { cost = cost }))
     found_comes few there lands =
         subst (λ q. Comes (flat_leaves x.number v (at_segment 0) (flat_charged (passed + 1) z)) q) (sym store_runs)
-        (call_behind setting moved.world moved.around {c2 = 190} (omega (arith, few)) refl (omega arith)
+        (call_behind setting moved.world moved.around {c2 = 426} (omega (arith, few)) refl (omega arith)
         (transfer_last setting placed k t 6 3 1 word (tag_registers tag word at r4 r5 r6) x.number v (at_segment 0) target 0
         (begins_less setting transfer_words (omega arith) (point_begins setting moved.world moved.around begins)) held (omega arith) there
         (word_later moved.world.later v word of_value) (word_stored setting placed things landing_address of_landing 0 (passed + 1) (cost + 8)) refl lands))
 
   -- a control error
   fails_comes :
-      (u cost : ℕ) (regs : Registers) → 6 < length regs → 1 ≤ u → cost + 366 ≤ y.cost + 300 * u + 268
+      (u cost : ℕ) (regs : Registers) → 6 < length regs → 1 ≤ u → cost + 516 ≤ y.cost + unit_cost * u + 268
       → Comes (signal (context_at setting k) control_error_class [] around (flat_charged u z)) (exec c (code_of (signals_steps setting.at 6 control_error_class)) regs (record y { cost = cost }))
   fails_comes u cost regs low some few =
       let there = moved_cost setting placed things u cost in
-      call_behind setting there.world there.around {c2 = 366} (omega (arith, few)) refl (omega (arith, some))
+      call_behind setting there.world there.around {c2 = 516} (omega (arith, few)) refl (omega (arith, some))
       (failing_last setting placed k t fails 6 control_error_class regs control_error_is (point_begins setting there.world there.around begins) (there.site around site) low)
 
   -- no valid exit was found
@@ -231,7 +239,7 @@ module _ (setting : Setting) (placed : IsPlaced setting) (k t : ℕ) (rs valid :
 -- ---- throw
 
 module _ (setting : Setting) (placed : IsPlaced setting) (k t : ℕ) (rs valid : List Standing) (w : World) (around : DynamicContext) (fails : FailsWithin setting k around) (z : FlatState) (y : MidState)
-    (begins : CallBegins setting rs valid failing_words w around z y) (site : SiteStored setting around y) (land : TagsLand w rs) (tag v : Value) (tag_word word : ℕ) (of_tag : WordIs setting w tag_word tag)
+    (begins : CallBegins setting rs valid failing_words w around z y) (site : SiteStored setting around y) (tag v : Value) (tag_word word : ℕ) (of_tag : WordIs setting w tag_word tag)
     (of_value : WordIs setting w word v) where
   abbrev failing_steps : Steps
   failing_steps = signals_steps setting.at 6 control_error_class
@@ -279,7 +287,7 @@ module _ (setting : Setting) (placed : IsPlaced setting) (k t : ℕ) (rs valid :
       (λ p. CallEnds setting 268 (suc t + 0) rs valid w around z y p (exec context (code_of found_steps) (registers_then catch_kind is_catch_of walked) (record y { cost = walked.total + 12 })))
       (sym (finds (λ x. flat_leaves x.number v (at_segment 0)) (signal (context_at setting k) control_error_class [] around) z))
       (found_comes setting placed k t rs valid w around fails z y begins site catch_kind tag_word word v of_value walked.passed (walked.total + 12) walked.at walked.last4 walked.last5 walked.last6 x target at_is
-      (let within = walked.within in omega (arith, within)) there (land x target stands role (is_tagged_catch tag x.kind is))))
+      (let within = walked.within in omega (arith, within)) there (lands_where_tagged setting begins x target stands role (is_tagged_catch tag x.kind is))))
   throw_sought walked (missing none count misses) =
       let here = first_alone context (test_of Equal 3 2) (code_of failing_steps) (code_of found_steps) (registers_then catch_kind is_catch_of walked) (y_walked catch_kind is_catch_of walked) refl refl
       (eq-eqb walked.at 0 none)
@@ -358,7 +366,7 @@ module _ (setting : Setting) (placed : IsPlaced setting) (k t : ℕ) (rs valid :
             comes =
                 subst (λ q. CallEnds setting 268 (suc t + 0) rs valid w around z y (Chosen true) q) (sym here)
                 (found_comes setting placed k t rs valid w around fails z y begins site signal_kind tag_word word v of_value walked.passed (walked.total + 12 + 8 + 6 + 12) walked.at (Some mark.word) (Some nil_word) walked.last6 x target at_is
-                (let within = walked.within in omega (arith, within)) there (land x target stands role (is_tagged_signal tag x.kind is)));
+                (let within = walked.within in omega (arith, within)) there (lands_where_tagged setting begins x target stands role (is_tagged_signal tag x.kind is)));
           }
       chosen false e =
           let same : (mark.word == nil_word) ≡ true = mark.tells ∙ ap not e in
@@ -436,17 +444,17 @@ module _ (setting : Setting) (placed : IsPlaced setting) (k t : ℕ) (rs valid :
 
 -- **the routine that leaves to a catch**
 pub throw_does :
-    (setting : Setting) → IsPlaced setting → (k turns : ℕ) → (rs valid : List Standing) (w : World) (around : DynamicContext) → FailsWithin setting k around → (z : FlatState) (y : MidState) → TagsLand w rs
+    (setting : Setting) → IsPlaced setting → (k turns : ℕ) → (rs valid : List Standing) (w : World) (around : DynamicContext) → FailsWithin setting k around → (z : FlatState) (y : MidState)
     → ThrowDoes setting k turns rs valid w around z y
 unfolding throw_code
-throw_does setting placed k turns rs valid w around fails z y land tag v tag_word word of_tag of_value begins =
+throw_does setting placed k turns rs valid w around fails z y tag v tag_word word of_tag of_value site begins =
     call_less setting (omega arith) (omega arith)
-    (routine_enters setting k (throw_routine setting.at) 2 (throw_code setting.at) used (tag_word ∷ word ∷ []) refl y turns begins.0.things.represents.printed
+    (routine_enters setting k (throw_routine setting.at) passing_frame 2 (throw_code setting.at) used (tag_word ∷ word ∷ []) refl y turns begins.things.represents.printed
     (grown_later (throws {R = FlatLater} {k = later_kept} (context_at setting k) (tasks_below setting k) tag v around z).grows)
-    (let all = memory_holds setting begins.0.things in omega (arith, all)) begins.0.room begins.0.things.within_limit (omega arith) by)
+    (let all = memory_holds setting begins.things in omega (arith, all)) begins.room begins.things.within_limit (omega arith) by)
   where
-    used : UsedAt setting.procedures (throw_routine setting.at) (procedure_with Turn 2 (throw_code setting.at))
-    used = routine_used setting placed 2 (procedure_with Turn 2 (throw_code setting.at)) refl
+    used : UsedAt setting.procedures (throw_routine setting.at) (framed passing_frame (procedure_with Turn 2 (throw_code setting.at)))
+    used = routine_used setting placed 2 (framed passing_frame (procedure_with Turn 2 (throw_code setting.at))) refl
 
     by : (t : ℕ) → turns ≡ suc t → used.frame ≤ left y.arena
         → CallEnds setting 300 (turns + 0) rs valid w around z y (throw_to (context_at setting k) tag v around z)
@@ -454,24 +462,24 @@ throw_does setting placed k turns rs valid w around fails z y land tag v tag_wor
     by t same room =
         subst (λ n. CallEnds setting 300 (n + 0) rs valid w around z y (throw_to (context_at setting k) tag v around z)
         (leaves y.arena.blocks (exec (code_at setting k t) (code_of (throw_code setting.at)) (routine_registers setting 2 (throw_code setting.at) (tag_word ∷ word ∷ [])) (laid_frame setting used.frame 2 y)))) (sym same)
-        (body_leaves setting placed begins.0.things used.frame 2 room (omega arith)
+        (body_leaves setting placed begins.things used.frame 2 room (omega arith)
         (throw_comes setting placed k t rs valid (world_of setting placed w y) around fails z (laid_frame setting used.frame 2 y)
-        (body_begins setting placed begins.0.things used.frame 2 room failing_words (let few = used.fewer in omega (arith, few)) begins.0)
-        (laid_site setting placed begins.0.things used.frame 2 room around begins.1) land tag v tag_word word of_tag of_value))
+        (body_begins setting placed begins.things used.frame 2 room failing_words (let few = used.fewer in omega (arith, few)) begins)
+        (laid_site setting placed begins.things used.frame 2 room around site) tag v tag_word word of_tag of_value))
 
 -- **the routine that leaves to the signal of a condition**
 pub continue_does :
-    (setting : Setting) → IsPlaced setting → (k turns : ℕ) → (rs valid : List Standing) (w : World) (around : DynamicContext) → FailsWithin setting k around → (z : FlatState) (y : MidState) → TagsLand w rs
+    (setting : Setting) → IsPlaced setting → (k turns : ℕ) → (rs valid : List Standing) (w : World) (around : DynamicContext) → FailsWithin setting k around → (z : FlatState) (y : MidState)
     → ContinueDoes setting k turns rs valid w around z y
 unfolding continue_code
-continue_does setting placed k turns rs valid w around fails z y land tag v tag_word word of_tag of_value begins =
+continue_does setting placed k turns rs valid w around fails z y tag v tag_word word of_tag of_value site begins =
     call_less setting (omega arith) (omega arith)
-    (routine_enters setting k (continue_routine setting.at) 2 (continue_code setting.at) used (tag_word ∷ word ∷ []) refl y turns begins.0.things.represents.printed
+    (routine_enters setting k (continue_routine setting.at) passing_frame 2 (continue_code setting.at) used (tag_word ∷ word ∷ []) refl y turns begins.things.represents.printed
     (grown_later (continues {R = FlatLater} {k = later_kept} (context_at setting k) (tasks_below setting k) tag v around z).grows)
-    (let all = memory_holds setting begins.0.things in omega (arith, all)) begins.0.room begins.0.things.within_limit (omega arith) by)
+    (let all = memory_holds setting begins.things in omega (arith, all)) begins.room begins.things.within_limit (omega arith) by)
   where
-    used : UsedAt setting.procedures (continue_routine setting.at) (procedure_with Turn 2 (continue_code setting.at))
-    used = routine_used setting placed 3 (procedure_with Turn 2 (continue_code setting.at)) refl
+    used : UsedAt setting.procedures (continue_routine setting.at) (framed passing_frame (procedure_with Turn 2 (continue_code setting.at)))
+    used = routine_used setting placed 3 (framed passing_frame (procedure_with Turn 2 (continue_code setting.at))) refl
 
     by : (t : ℕ) → turns ≡ suc t → used.frame ≤ left y.arena
         → CallEnds setting 300 (turns + 0) rs valid w around z y (continue_with (context_at setting k) tag v around z)
@@ -479,7 +487,7 @@ continue_does setting placed k turns rs valid w around fails z y land tag v tag_
     by t same room =
         subst (λ n. CallEnds setting 300 (n + 0) rs valid w around z y (continue_with (context_at setting k) tag v around z)
         (leaves y.arena.blocks (exec (code_at setting k t) (code_of (continue_code setting.at)) (routine_registers setting 2 (continue_code setting.at) (tag_word ∷ word ∷ [])) (laid_frame setting used.frame 2 y)))) (sym same)
-        (body_leaves setting placed begins.0.things used.frame 2 room (omega arith)
+        (body_leaves setting placed begins.things used.frame 2 room (omega arith)
         (continue_comes setting placed k t rs valid (world_of setting placed w y) around fails z (laid_frame setting used.frame 2 y)
-        (body_begins setting placed begins.0.things used.frame 2 room failing_words (let few = used.fewer in omega (arith, few)) begins.0)
-        (laid_site setting placed begins.0.things used.frame 2 room around begins.1) land tag v tag_word word of_tag of_value))
+        (body_begins setting placed begins.things used.frame 2 room failing_words (let few = used.fewer in omega (arith, few)) begins)
+        (laid_site setting placed begins.things used.frame 2 room around site) tag v tag_word word of_tag of_value))

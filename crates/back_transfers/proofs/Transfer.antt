@@ -29,7 +29,7 @@ use Rattle.back_relation.specs.Placed.{IsPlaced}
 use Rattle.back_relation.specs.Worlds.{World, LandsIn, Standing, is_cleanup, IsIn, Chain, Links, record_of_exit, first_stop, record_bytes}
 use Rattle.back_relation.specs.StackWords.{HasWordAt, RecordAt}
 use Rattle.back_relation.specs.Around.{CallBegins}
-use Rattle.back_relation.specs.Ends.{LandingIs, Transfers, CallEnds, AreFew, left_by, few_turns}
+use Rattle.back_relation.specs.Ends.{LandingIs, Transfers, CallEnds, AreFew, left_by, few_turns, landing_cost}
 use Rattle.back_relation.specs.Forms.{code_at}
 use Rattle.back_relation.specs.RoutineClaims.{WordIs}
 use Rattle.back_combining.specs.Walks.{walk, Passed, walk_registers, Walked}
@@ -40,7 +40,7 @@ use Rattle.back_combining.proofs.Worlds.{word_later}
 use Rattle.back_combining.specs.Cuts.{world_cut}
 use Rattle.mid_code.specs.declared.operation.Counted.TheVariants.{Turn}
 use Rattle.back_transfers.specs.Within.{TransferWithin, transfer_words, transfer_credit, transfer_spare}
-use Rattle.back_transfers.proofs.Entries.{UsedAt, routine_used, routine_registers, laid_frame, routine_enters}
+use Rattle.back_transfers.proofs.Entries.{UsedAt, routine_used, routine_frame, routine_registers, laid_frame, routine_enters}
 use Rattle.back_transfers.proofs.Frames.{memory_holds, found_outer, one_stands, IsOfTransfer, Touched, world_touched}
 
 -- ---- lists
@@ -223,7 +223,7 @@ module _ (setting : Setting) (placed : IsPlaced setting) (k t : ℕ) (rs valid :
     -- it cut to the record
     module _ (e : ℕ) (v : Value) (landing : Landing) (landing_word : ℕ) (valid_target : record_of_exit e around.exits valid ≡ Some target) (of_value : WordIs setting w word v)
         (landing_there : HasWordAt y landing_address landing_word) (landing_is : LandingIs setting landing_word landing) (lands : LandsIn (slice_get w.exit_forms e) landing) where
-      transfers : Transfers setting transfer_credit rs valid w around z y (flat_leaves e v landing z) (ends (cuts (outside_of bs) word) end_registers y')
+      transfers : Transfers setting (transfer_credit + landing_cost landing) rs valid w around z y (flat_leaves e v landing z) (ends (cuts (outside_of bs) word) end_registers y')
       transfers = record {
         exit_number = e;
         result = v;
@@ -255,11 +255,11 @@ module _ (setting : Setting) (placed : IsPlaced setting) (k t : ℕ) (rs valid :
               (in_spot_there target_address grown.heap.stands (spot_grown grown.heap target_stands) (omega arith))
 
       transfer_ends :
-          {turns : ℕ} → CallEnds setting transfer_credit turns rs valid w around z y (flat_leaves e v landing z)
+          {turns : ℕ} → CallEnds setting (transfer_credit + landing_cost landing) turns rs valid w around z y (flat_leaves e v landing z)
           (leaves y.arena.blocks (exec (code_at setting k t) (code_of (transfer_code setting.at)) (routine_registers setting 2 (transfer_code setting.at) (target.address ∷ word ∷ [])) (laid_frame setting frame 2 y)))
       unfolding leaves
       transfer_ends {turns} =
-          subst (λ q. CallEnds setting transfer_credit turns rs valid w around z y (flat_leaves e v landing z) (leaves y.arena.blocks q)) (sym runs.same) (left_by (record { transfer = transfers; frame = refl }))
+          subst (λ q. CallEnds setting (transfer_credit + landing_cost landing) turns rs valid w around z y (flat_leaves e v landing z) (leaves y.arena.blocks q)) (sym runs.same) (left_by (record { transfer = transfers; frame = refl }))
 
   -- where turns are too few for the walk
   few : {turns : ℕ} → turns ≡ suc t → t < length rs → AreFew (turns + transfer_spare) z y z
@@ -275,7 +275,7 @@ pub transfer_does :
     → TransferWithin setting k turns rs valid w around z y
 unfolding transfer_code
 transfer_does setting placed k turns rs valid w around z y e v landing target word landing_word valid_target of_value landing_there landing_is lands begins =
-    routine_enters setting k (transfer_routine setting.at) 2 (transfer_code setting.at) used (target.address ∷ word ∷ []) refl y turns printed (same_flat z) spare begins.room begins.things.within_limit (omega arith)
+    routine_enters setting k (transfer_routine setting.at) (routine_frame setting (transfer_code setting.at)) 2 (transfer_code setting.at) used (target.address ∷ word ∷ []) refl y turns printed (same_flat z) spare begins.room begins.things.within_limit (omega arith)
     (λ t e room. by t e room (nat_le (length rs) t) refl)
   where
     used : UsedAt setting.procedures (transfer_routine setting.at) (procedure_with Turn 2 (transfer_code setting.at))
@@ -288,7 +288,7 @@ transfer_does setting placed k turns rs valid w around z y e v landing target wo
     spare = let all = memory_holds setting begins.things in omega (arith, all)
 
     by : (t : ℕ) → turns ≡ suc t → used.frame ≤ left y.arena → (b : Bool) → nat_le (length rs) t ≡ b
-        → CallEnds setting transfer_credit (turns + transfer_spare) rs valid w around z y (flat_leaves e v landing z)
+        → CallEnds setting (transfer_credit + landing_cost landing) (turns + transfer_spare) rs valid w around z y (flat_leaves e v landing z)
         (leaves y.arena.blocks (exec (code_at setting k t) (code_of (transfer_code setting.at)) (routine_registers setting 2 (transfer_code setting.at) (target.address ∷ word ∷ [])) (laid_frame setting used.frame 2 y)))
     by t same room true h =
         transfer_ends setting placed k t rs valid w around z y begins used.frame room target

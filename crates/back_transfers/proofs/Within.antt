@@ -1,6 +1,6 @@
 -- What a call comes to, where it is paid more, has more words of the stack, or leaves fewer turns over.
 use Rattle.std.proofs.Common.{ℕ, ◌≤◌, List, arith}
-use Rattle.lang_meaning.specs.State.{DynamicContext, Limit, words, unlimited}
+use Rattle.lang_meaning.specs.State.{DynamicContext, Landing, at_segment, at_site, Limit, words, unlimited}
 use Rattle.lang_meaning.specs.State as base
 use Rattle.flat_language.specs.FlatState.{FlatState, FlatEvaluated}
 use Rattle.mid_code.specs.State.{MidState, MidOutcome}
@@ -8,11 +8,16 @@ use Rattle.back_relation.specs.Setting.{Setting}
 use Rattle.back_relation.specs.Placed.{IsPlaced}
 use Rattle.back_relation.specs.Worlds.{World, Standing}
 use Rattle.back_relation.specs.Around.{RoomFor, CallBegins}
-use Rattle.back_relation.specs.Ends.{Around, CallEnds, done, left_by, full_there, stopped, few_turns}
+use Rattle.back_relation.specs.Ends.{Around, CallEnds, landing_cost, done, left_by, full_there, stopped, few_turns}
 use Rattle.back_relation.specs.RoutineClaims.{TransferDoes}
 use Rattle.back_combining.proofs.Then.{transfers_less}
 use Rattle.back_transfers.specs.Within.{transfer_words}
 use Rattle.back_transfers.proofs.Transfer.{transfer_does}
+
+-- no landing costs more than that of a tagbody
+pub landing_most : (landing : Landing) → landing_cost landing ≤ 250
+landing_most (at_segment i) = omega arith
+landing_most (at_site place) = omega arith
 
 module _ (setting : Setting) where
   around_less : {c c' : ℕ} {z z' : FlatState} {y y' : MidState} → c ≤ c' → Around setting c z z' y y' → Around setting c' z z' y y'
@@ -54,6 +59,6 @@ module _ (setting : Setting) where
   pub transfer_routine_does :
       IsPlaced setting → (k turns : ℕ) (rs valid : List Standing) (w : World) (around : DynamicContext) (z : FlatState) (y : MidState) → TransferDoes setting k turns rs valid w around z y
   transfer_routine_does placed k turns rs valid w around z y e v landing target word landing_word valid_target of_value landing_there landing_is lands begins =
-      call_less (omega arith) (omega arith)
+      call_less (let most = landing_most landing in omega (arith, most)) (omega arith)
       (transfer_does setting placed k turns rs valid w around z y e v landing target word landing_word valid_target of_value landing_there landing_is lands
-      (begins_less transfer_words (omega arith) begins.0))
+      (begins_less transfer_words (omega arith) begins))

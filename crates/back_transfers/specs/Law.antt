@@ -7,7 +7,7 @@ use Rattle.back_relation.specs.Setting.{Setting}
 use Rattle.back_relation.specs.Placed.{IsPlaced}
 use Rattle.back_relation.specs.Worlds.{World, Standing}
 use Rattle.back_relation.specs.RoutineClaims.{TransferDoes, LeaveDoes, ThrowDoes, ContinueDoes}
-use Rattle.back_transfers.specs.Within.{TransferWithin, FailsWithin, TagsLand}
+use Rattle.back_transfers.specs.Within.{TransferWithin, FailsWithin}
 
 -- a transfer to the record of a valid exit, as forms call it and as other routines do
 pub record LawOfTransfers : Type 0 where
@@ -19,14 +19,14 @@ pub record LawOfTransfers : Type 0 where
       → TransferWithin setting k turns rs valid w around z y
 
 -- To an exit by its number, to a catch, and to the signal of a condition: where there is none, a control error is signalled, of which it is known
--- what it does. No tagbody made the exits of catches and signals.
+-- what it does.
 pub record LawOfLeaving : Type 0 where
   pub by_number :
       (setting : Setting) (k turns : ℕ) (rs valid : List Standing) (w : World) (around : DynamicContext) (z : FlatState) (y : MidState) → IsPlaced setting → FailsWithin setting k around
       → LeaveDoes setting k turns rs valid w around z y
   pub to_catch :
       (setting : Setting) (k turns : ℕ) (rs valid : List Standing) (w : World) (around : DynamicContext) (z : FlatState) (y : MidState) → IsPlaced setting → FailsWithin setting k around
-      → TagsLand w rs → ThrowDoes setting k turns rs valid w around z y
+      → ThrowDoes setting k turns rs valid w around z y
   pub to_signal :
       (setting : Setting) (k turns : ℕ) (rs valid : List Standing) (w : World) (around : DynamicContext) (z : FlatState) (y : MidState) → IsPlaced setting → FailsWithin setting k around
-      → TagsLand w rs → ContinueDoes setting k turns rs valid w around z y
+      → ContinueDoes setting k turns rs valid w around z y

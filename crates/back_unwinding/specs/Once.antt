@@ -8,7 +8,7 @@ use Rattle.flat_language.specs.FlatMeaning.{mean, charged_for}
 use Rattle.flat_language.specs.FlatSignals.{FlatContext}
 use Rattle.flat_language.specs.FlatState.{FlatEnvironment, FlatState, FlatEvaluated, FlatAct}
 use Rattle.back_combining.specs.Points.{Point, start_at, run, value_steps, Here}
-use Rattle.back_combining.specs.Starts.{EndsAt}
+use Rattle.back_combining.specs.Starts.{SparingAt}
 use Rattle.back_relation.specs.Setting.{Setting}
 use Rattle.back_relation.specs.Placed.{IsPlaced}
 use Rattle.back_relation.specs.Room.{routine_words, words_for}
@@ -46,7 +46,7 @@ module _ (setting : Setting) (s : FormScope) (d n size k turns : ℕ) (f cleanup
     pub left_there : left ≡ mean (context_at setting k) f p.env p.around (charged_for (unwind f cleanup) p.z)
     pub whole : FlatEvaluated
     pub once : CleanedOnce (λ within after. mean (context_at setting k) cleanup p.env within after) p.around left whole
-    pub does : EndsAt setting 0 (start_at setting s d n size turns p) whole (run setting s d n size k turns (value_steps setting s d n size k turns (unwind f cleanup)) p.regs p.y)
+    pub does : SparingAt setting (start_at setting s d n size turns p) whole (run setting s d n size k turns (value_steps setting s d n size k turns (unwind f cleanup)) p.regs p.y)
 
 abbrev pub LawOfUnwound : Type 0
 LawOfUnwound =

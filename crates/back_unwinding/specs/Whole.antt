@@ -13,7 +13,7 @@ use Rattle.back_relation.specs.Placed.{IsPlaced}
 use Rattle.back_relation.specs.Room.{words_for}
 use Rattle.back_relation.specs.Worlds.{World, Standing}
 use Rattle.back_relation.specs.Activation.{FormScope}
-use Rattle.back_relation.specs.Forms.{FormStands, Begins, HasRegisters, FormEnds, DoesForm, context_at, code_at, value_code}
+use Rattle.back_relation.specs.Forms.{FormStands, Begins, HasRegisters, SparingForm, DoesForm, context_at, code_at, value_code}
 use Rattle.back_unwinding.specs.Exits.{IsAtHand}
 
 module _ (setting : Setting) (k turns : ℕ) where
@@ -23,7 +23,7 @@ module _ (setting : Setting) (k turns : ℕ) where
       (rs valid : List Standing) (s : FormScope) (d n first : ℕ) (w : World) (env : FlatEnvironment) (around : DynamicContext) (z : FlatState) (regs : Registers) (y : MidState) (x : OwnExit)
       → slice_get s.code.exits i ≡ Some x → IsAtHand x.reach → FormStands setting s first f → Begins setting rs valid s d n w env around z regs y
       → HasRegisters (value_code setting s d f) regs → words_for setting.names setting.program f ≤ n
-      → FormEnds setting 0 turns rs valid s d w env around z regs y (mean (context_at setting k) f env around z) (exec (code_at setting k turns) (value_code setting s d f) regs y)
+      → SparingForm setting turns rs valid s d w env around z regs y (mean (context_at setting k) f env around z) (exec (code_at setting k turns) (value_code setting s d f) regs y)
 
 -- a value goes to a block
 abbrev pub LawOfWholeReturns : Type 0
