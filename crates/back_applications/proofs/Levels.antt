@@ -78,7 +78,7 @@ module _ (setting : Setting) where
       with_room c (framed routine f) [] y refl some ∙ leaves_returned y.arena.blocks _ (ap (λ (q : MidOutcome). q.end) run.same)
       ∙ ap (λ (q : MidOutcome). ends (returns 0) q.registers (with_arena (with_blocks y.arena.blocks q.state.arena) q.state)) run.same
 
-  module _ (j turns : ℕ) (rs valid : List Standing) (w : World) (around : DynamicContext) (z : FlatState) (y : MidState) where
+  module _ (j turns m : ℕ) (rs valid : List Standing) (w : World) (around : DynamicContext) (z : FlatState) (y : MidState) where
     abbrev IsThere : MidOutcome → Type 0
     IsThere q = LevelThere setting (suc j) turns rs valid w around z y q
 
@@ -88,9 +88,9 @@ module _ (setting : Setting) where
     -- with a frame that is within its own
     with_frame :
         (f : ℕ) → f ≤ level_words → CallBegins setting rs valid level_words w around z y → (left y.arena < f) ⊎ (f ≤ left y.arena)
-        → Ends setting (IsThere (run_procedure below_it (framed routine f) [] y)) ⊥ turns z y (gives nil z) (run_procedure below_it (framed routine f) [] y)
+        → Ends setting (IsThere (run_procedure below_it (framed routine f) [] y)) ⊥ m z y (gives nil z) (run_procedure below_it (framed routine f) [] y)
     with_frame f within b (inl few) =
-        subst (λ q. Ends setting (IsThere q) ⊥ turns z y (gives nil z) q) (sym (without_room below_it (framed routine f) [] y refl few))
+        subst (λ q. Ends setting (IsThere q) ⊥ m z y (gives nil z) q) (sym (without_room below_it (framed routine f) [] y refl few))
         (stopped (record {
           because = (wanting setting.limit b.room b.things.within_limit, few);
           printed = subst (λ ps. IsPrefix ps z.state.printed) (sym b.things.represents.printed) (same_flat z).printed;
@@ -100,7 +100,7 @@ module _ (setting : Setting) where
         wanting unlimited h k = tt
         wanting (words n) h k = absurd (omega (arith, h, k, few, within))
     with_frame f within b (inr some) =
-        subst (λ q. Ends setting (IsThere q) ⊥ turns z y (gives nil z) q) (sym (routine_runs below_it f y some))
+        subst (λ q. Ends setting (IsThere q) ⊥ m z y (gives nil z) q) (sym (routine_runs below_it f y some))
         (done (record {
           word = 0;
           end = refl;
@@ -114,15 +114,24 @@ module _ (setting : Setting) where
           site = λ stored. (stored.0, untouched_words setting (framed routine f) b.things some routine_cost site_address ∙ stored.1, stored.2);
         }))
 
+  -- whatever turns are asked for
+  pub levels_there_at :
+      (j turns m : ℕ) (rs valid : List Standing) (w : World) (around : DynamicContext) (z : FlatState) (y : MidState) → IsPlaced setting
+      → CallBegins setting rs valid level_words w around z y
+      → Ends setting (LevelThere setting (suc j) turns rs valid w around z y (called (code_at setting (suc j) turns) (level_routine setting.at) [] y)) ⊥ m z y (gives nil z)
+      (called (code_at setting (suc j) turns) (level_routine setting.at) [] y)
+  levels_there_at j turns m rs valid w around z y placed b =
+      let at : RunsAt setting j turns (level_routine setting.at) routine [] y = level_runs setting j turns (level_routine setting.at) routine [] y ((numbers_law setting).routine 15 _ placed refl) refl in
+      subst (λ q. Ends setting (IsThere j turns m rs valid w around z y q) ⊥ m z y (gives nil z) q) (sym at.runs)
+      (with_frame j turns m rs valid w around z y at.frame (let within = at.within in omega (arith, within, frame_small)) b (cases_lt (left y.arena) at.frame))
+
   pub levels_there_law : LawOfLevelsThere setting
   levels_there_law zero turns rs valid w around z y placed b =
       no_level_ends setting turns (level_routine setting.at) turns routine [] w z y y _ ((numbers_law setting).routine 15 _ placed refl) refl refl (same_flat z) b.things
   levels_there_law (suc j) turns rs valid w around z y placed b =
-      let at : RunsAt setting j turns (level_routine setting.at) routine [] y = level_runs setting j turns (level_routine setting.at) routine [] y ((numbers_law setting).routine 15 _ placed refl) refl in
       let code_end : MidOutcome = called (code_at setting (suc j) turns) (level_routine setting.at) [] y in
-      subst (λ r. Ends setting (IsThere j turns rs valid w around z y code_end) ⊥ turns z y r code_end) (sym (level_there j (λ entered. gives nil entered) around z))
-      (subst (λ q. Ends setting (IsThere j turns rs valid w around z y q) ⊥ turns z y (gives nil z) q) (sym at.runs)
-      (with_frame j turns rs valid w around z y at.frame (let within = at.within in omega (arith, within, frame_small)) b (cases_lt (left y.arena) at.frame)))
+      subst (λ r. Ends setting (IsThere j turns turns rs valid w around z y code_end) ⊥ turns z y r code_end) (sym (level_there j (λ entered. gives nil entered) around z))
+      (levels_there_at j turns turns rs valid w around z y placed b)
 
   -- ---- what comes behind a level
 
@@ -155,7 +164,7 @@ module _ (setting : Setting) where
       (f : FlatState → FlatEvaluated) (next : Next)
       → IsPlaced setting → CallBegins setting rs valid level_words w around z y → m ≤ turns → FlatGrown z (f z).state
       → ((g : Registers) (x : MidState) → Grown x (next g x).state)
-      → ((word : ℕ) (y' : MidState) → WorldKept setting w w z z y y' → Around setting judging_cost z z y y' → (SiteStored setting around y → SiteStored setting around y')
+      → ((j : ℕ) → k ≡ suc j → (word : ℕ) (y' : MidState) → WorldKept setting w w z z y y' → Around setting judging_cost z z y y' → (SiteStored setting around y → SiteStored setting around y')
       → Ends setting (Done (f z) (next (slice_set regs t (Some word)) y')) (Left (f z) (next (slice_set regs t (Some word)) y')) m z y (f z) (next (slice_set regs t (Some word)) y'))
       → Ends setting (Done (descend (below_at setting k) f around z) (behind_level k turns t regs y next)) (Left (descend (below_at setting k) f around z) (behind_level k turns t regs y next)) m z y
       (descend (below_at setting k) f around z) (behind_level k turns t regs y next)
@@ -174,22 +183,22 @@ module _ (setting : Setting) where
       regs (gives nil z) (f z) next tt fewer flat_grown grown (nothing_because setting (f z) b.things flat_grown) (λ asked left_then e. absurd (cc e)) (λ x. x.end)
       (judged j turns rs valid w around z y placed b)
       (λ x.
-      h x.word (level_called (suc j) turns y).state (world_then setting (world_cost setting 40 b.things) (around_cost setting {credit = 40} z y 40 (omega arith)) x.world)
+      h j refl x.word (level_called (suc j) turns y).state (world_then setting (world_cost setting 40 b.things) (around_cost setting {credit = 40} z y 40 (omega arith)) x.world)
       (back_then setting (world_cost setting 40 b.things) (around_cost setting {credit = 40} z y 40 (omega arith)) (omega arith) x.back) (λ stored. x.site stored)))
 
   -- in a procedure
   pub judged_levels_law : LawOfJudgedLevels setting
   judged_levels_law k turns m t c2 credit rs valid w around z y regs f next placed b fewer enough flat_grown grown h =
       judged_by (λ r q. Returned setting credit w z y r q) (λ r q. LeftCall setting credit rs valid w around z y r q) k turns m t rs valid w around z y regs f next placed b fewer flat_grown grown
-      (λ word y' world back site.
-      going_on_law setting judging_cost c2 credit m m rs valid w w around z z y y' (f z) (next (slice_set regs t (Some word)) y') world back enough (omega arith) refl (h word y' world back site))
+      (λ j same word y' world back site.
+      going_on_law setting judging_cost c2 credit m m rs valid w w around z z y y' (f z) (next (slice_set regs t (Some word)) y') world back enough (omega arith) refl (h j same word y' world back site))
 
   -- in a form
   pub form_levels_law : LawOfFormLevels setting
   form_levels_law k credit a d t f next placed room low there flat_grown grown h =
       judged_by (λ r q. Fell setting credit a.rs a.valid a.s d a.w a.env a.around a.z a.regs a.y r q) (λ r q. Left setting credit a.rs a.valid a.s d a.w a.env a.around a.z a.regs a.y r q) k a.turns a.turns t
       a.rs a.valid a.w a.around a.z a.y a.regs f next placed (record { things = a.begins.call.things; around_stands = a.begins.call.around_stands; room = fewer setting.limit a.begins.call.room }) (omega arith) flat_grown grown
-      (λ word y' world back site. h word y' (reached word y' world back) site)
+      (λ j same word y' world back site. h j same word y' (reached word y' world back) site)
     where
       fewer : (l : Limit) → RoomFor l (a.n + words_for_handler * length a.around.handlers) a.z.state a.y → RoomFor l (level_words + words_for_handler * length a.around.handlers) a.z.state a.y
       fewer unlimited h = tt

@@ -60,7 +60,7 @@ module _ (setting : Setting) where
       (k turns m t c2 credit : ℕ) (rs valid : List Standing) (w : World) (around : DynamicContext) (z : FlatState) (y : MidState) (regs : Registers) (f : FlatState → FlatEvaluated) (next : Next)
       → IsPlaced setting → CallBegins setting rs valid level_words w around z y → m ≤ turns → judging_cost + c2 ≤ credit → FlatGrown z (f z).state
       → ((g : Registers) (x : MidState) → Grown x (next g x).state)
-      → ((word : ℕ) (y' : MidState) → WorldKept setting w w z z y y' → Around setting judging_cost z z y y' → (SiteStored setting around y → SiteStored setting around y')
+      → ((j : ℕ) → k ≡ suc j → (word : ℕ) (y' : MidState) → WorldKept setting w w z z y y' → Around setting judging_cost z z y y' → (SiteStored setting around y → SiteStored setting around y')
       → CallEnds setting c2 m rs valid w around z y' (f z) (next (slice_set regs t (Some word)) y'))
       → CallEnds setting credit m rs valid w around z y (descend (below_at setting k) f around z)
       (mid_go_on (exec_step (code_at setting k turns) (call t (level_routine setting.at) []) regs y) next)
@@ -70,7 +70,7 @@ module _ (setting : Setting) where
   LawOfFormLevels =
       (k credit : ℕ) (a : Start setting) (d t : ℕ) (f : FlatState → FlatEvaluated) (next : Next)
       → IsPlaced setting → level_words ≤ a.n → a.d ≤ t → t < length a.regs → FlatGrown a.z (f a.z).state → ((g : Registers) (x : MidState) → Grown x (next g x).state)
-      → ((word : ℕ) (y' : MidState) → ReachedFrom setting judging_cost a t a.w a.z (slice_set a.regs t (Some word)) y' → (SiteStored setting a.around a.y → SiteStored setting a.around y')
+      → ((j : ℕ) → k ≡ suc j → (word : ℕ) (y' : MidState) → ReachedFrom setting judging_cost a t a.w a.z (slice_set a.regs t (Some word)) y' → (SiteStored setting a.around a.y → SiteStored setting a.around y')
       → EndsFrom setting credit a d (f a.z) (next (slice_set a.regs t (Some word)) y'))
       → EndsFrom setting credit a d (descend (below_at setting k) f a.around a.z)
       (mid_go_on (exec_step (code_at setting k a.turns) (call t (level_routine setting.at) []) a.regs a.y) next)

@@ -1,5 +1,6 @@
 -- Code of a form in words of an application: the words are given back, and units that were charged pay.
 use Rattle.std.proofs.Common.{◌≡◌, ℕ, ◌+◌, ◌*◌, ◌≤◌, refl, arith}
+use Rattle.lang_meaning.specs.Counts.{unit_cost}
 use Rattle.lang_meaning.specs.State.{Limit, words, unlimited}
 use Rattle.flat_language.specs.FlatState.{FlatEvaluated, charged, with_stack}
 use Rattle.mid_code.specs.State.{Registers, MidState, MidOutcome}
@@ -35,7 +36,7 @@ module _ (setting : Setting) (a : Start setting) (size u : ℕ) (r : FlatEvaluat
       activation_later setting {d = a.d} {y = x} {y' = x} (later_same w') (same_here w' {y = x} {y' = x} refl) refl (λ n cs k. k) (λ n few. refl) a.begins.scope t
 
   pub form_framed :
-      {c1 c2 : ℕ} {q : MidOutcome} → c1 ≤ 300 * u + c2
+      {c1 c2 : ℕ} {q : MidOutcome} → c1 ≤ unit_cost * u + c2
       → FormEnds setting c1 a.turns a.rs a.valid a.s a.d a.w a.env a.around (charged u (asked size a.z)) a.regs a.y r q → EndsAt setting c2 a after q
   form_framed enough (done f) =
       let b = f.reached.back in

@@ -2,6 +2,5 @@ pub mod Conses
 pub mod Lists
 pub mod Words
 pub mod Framed
-pub mod NoLevel
 pub mod RestCalls
 pub mod RestForms

@@ -2,36 +2,19 @@
 use Rattle.std.proofs.Common.{◌≡◌, inl, ℕ, suc, ◌+◌, ◌*◌, ◌<◌, ◌≤◌, Bool, true, false, List, [], ◌∷◌, ◌++◌, length, Option, Some, None, refl, sym, ap, ◌∙◌, subst, append_assoc, length-append, arith, zero}
 use Rattle.std.specs.Prelude.{◌-◌, take, drop, slice_get, is_some, option_to_list, if◌then◌else◌}
 use Rattle.std.proofs.lemmas.Bool.{le-leb}
-use Rattle.lang_meaning.specs.Prefixes.{IsPrefix}
-use Rattle.mid_arena.proofs.Growing.{spot_grown}
-use Rattle.mid_arena.proofs.Memory.{in_spot_lent}
-use Rattle.mid_arena.proofs.Registers.{register_here, register_beside}
-use Rattle.std.specs.Prelude.{slice_set}
+use Rattle.mid_arena.proofs.Registers.{register_beside}
 use Rattle.std.proofs.Math.ListN.{length-set}
-use Rattle.mid_code.specs.Arena.{is_lent}
-use Rattle.mid_code.specs.Meaning.{called as mid_called}
 use Rattle.back_lowering.specs.declared.scope.SitePlace.{SitePlace}
-use Rattle.back_lowering.specs.declared.scope.SitePlace.TheVariants.{Known, Held}
-use Rattle.back_lowering.specs.ControlWords.{site_address}
-use Rattle.back_lowering.specs.Leaves.{site_stored}
-use Rattle.back_lowering.specs.Program.{body_of}
-use Rattle.back_relation.specs.Activation.{SiteHeld}
-use Rattle.back_relation.specs.Ends.{RoomEnded, stopped, full_there, few_turns}
-use Rattle.back_combining.proofs.Growth.{same_prefix}
-use Rattle.back_calling.specs.Storing.{stored_at}
-use Rattle.back_calling.proofs.Formed.{call_comes, called_because, called_state}
-use Rattle.back_calling.proofs.Numbers.{numbers_law}
-use Rattle.back_calling.proofs.Storing.{control_stands}
-use Rattle.back_argument_lists.proofs.NoLevel.{ListRan, list_ran, ends_without_level}
+use Rattle.back_relation.specs.Ends.{full_there}
 use Rattle.lang_meaning.specs.Counts.{application_words}
 use Rattle.lang_meaning.specs.Objects.{program_error_class}
 use Rattle.lang_meaning.specs.Signals.{takes}
-use Rattle.lang_meaning.specs.State.{Limit, words, unlimited, has_room, room_left, full, more}
-use Rattle.lang_meaning.specs.Values.{Value}
+use Rattle.lang_meaning.specs.State.{Limit, words, unlimited, has_room, room_left, full}
+use Rattle.lang_meaning.specs.Values.{Value, nil}
 use Rattle.flat_language.specs.declared.program.FlatProcedure.{FlatProcedure}
 use Rattle.flat_language.specs.FlatNodes.{homes, nodes}
 use Rattle.flat_language.specs.FlatSignals.{FlatSignals, form, descend, enter, make_list, gathered, with_record, with_boxes}
-use Rattle.flat_language.specs.FlatState.{no_environment, FlatState, FlatEvaluated, charged, with_stack, in_frame, in_own_frame, with_slots}
+use Rattle.flat_language.specs.FlatState.{no_environment, FlatState, FlatEvaluated, charged, gives, with_stack, in_frame, in_own_frame, with_slots}
 use Rattle.flat_laws.specs.FlatLater.{FlatLater}
 use Rattle.flat_laws.proofs.Applied.{boxes, lists}
 use Rattle.flat_laws.proofs.Combined.{own_slots_left}
@@ -39,32 +22,33 @@ use Rattle.flat_laws.proofs.Later.{later_kept}
 use Rattle.mid_code.specs.Arena.{word_in}
 use Rattle.mid_code.specs.Meaning.{Context, exec}
 use Rattle.mid_code.specs.MidCode.{MidStep, code_of}
-use Rattle.mid_code.specs.State.{Registers, MidState, MidOutcome, falls, ends, no_level, register}
+use Rattle.mid_code.specs.State.{Registers, MidState, MidOutcome}
 use Rattle.mid_code.specs.State.{charged as mid_charged}
 use Rattle.mid_arena.specs.Places.{WordsOf}
-use Rattle.mid_arena.proofs.Running.{parts_then, RunsTo, and_then, none_left, costing, constant_falls, store_falls, address_above}
+use Rattle.mid_arena.proofs.Running.{parts_then}
 use Rattle.back_lowering.specs.Calls.{is_method, list_of, call_with_rest, enter_body, site_for, no_method}
 use Rattle.back_lowering.specs.Placement.{body_of_procedure}
 use Rattle.back_lowering.specs.Program.{extra_of}
 use Rattle.back_lowering.specs.Registers.{of_code, enough_for}
+use Rattle.back_lowering.specs.Routines.{level_routine}
 use Rattle.back_lowering.specs.Scope.{registers_from}
 use Rattle.back_lowering.specs.Sites.{asks_site}
 use Rattle.back_lowering.specs.Steps.{Steps, constant}
 use Rattle.back_lowering.specs.Steps as steps
 use Rattle.back_relation.specs.Setting.{Setting}
 use Rattle.back_relation.specs.Placed.{IsPlaced}
-use Rattle.back_relation.specs.Room.{words_for_handler}
+use Rattle.back_relation.specs.Room.{routine_words, words_for_handler}
 use Rattle.back_relation.specs.Worlds.{World, Standing}
 use Rattle.back_relation.specs.Around.{RoomFor}
 use Rattle.back_relation.specs.Ends.{CallEnds, done, left_by, full_there, stopped, few_turns}
 use Rattle.back_relation.specs.Forms.{FormEnds, below_at, context_at, code_at}
 use Rattle.back_relation.specs.Procedures.{called, mean_inside, body_words, body_credit, BodyDoes, BodyBegins}
-use Rattle.back_combining.specs.Starts.{Start, EndsAt}
+use Rattle.back_combining.specs.Starts.{FlatGrown, Start, EndsAt}
 use Rattle.back_combining.proofs.Activations.{activation_later}
 use Rattle.back_combining.proofs.Fitting.{registers_front, registers_behind}
-use Rattle.back_combining.proofs.Growth.{grown_later}
-use Rattle.back_combining.proofs.Parts.{single_step}
-use Rattle.back_combining.proofs.Starts.{start_after, reached_cost}
+use Rattle.back_combining.proofs.Growth.{grown_later, same_flat}
+use Rattle.back_combining.proofs.Parts.{single_step, step_then}
+use Rattle.back_combining.proofs.Starts.{start_after, reached_cost, behind}
 use Rattle.back_combining.proofs.Straight.{things_units}
 use Rattle.back_combining.proofs.Then.{ends_then}
 use Rattle.back_combining.proofs.Worlds.{later_same}
@@ -74,7 +58,9 @@ use Rattle.back_arguments.proofs.WordLists.{of_values_later, of_values_and_one}
 use Rattle.back_calling.specs.Calling.{WordsIn, call_cost}
 use Rattle.back_calling.proofs.Formed.{form_calls_law}
 use Rattle.back_calling.proofs.Growing.{tasks_below}
-use Rattle.back_applications.proofs.Applied.{level_there}
+use Rattle.back_calling.proofs.Units.{calls_spared}
+use Rattle.back_applications.specs.Applying.{judging_cost}
+use Rattle.back_applications.proofs.Levels.{form_levels_law}
 use Rattle.back_applications.proofs.Charging.{asked, things_charged, around_charged, within_asked}
 use Rattle.back_known_calls.proofs.KnownCalls.{Ready, ready, arguments_kept, registers_count, method_words, method_words_in, method_count, fits_nothing, extras_given, site_names}
 use Rattle.back_values.proofs.BoxesMade.{steps_grow, full_printed}
@@ -101,10 +87,20 @@ one_home None e = absurd (cc e)
 first_named : (r : ℕ) (others : List ℕ) (m : ℕ) → enough_for (r ∷ others) ≤ m → r < m
 first_named r others m h = omega (arith, h)
 
+-- what comes behind the level: the list, and the body
+abbrev behind_level : Setting → (number count : ℕ) → FlatProcedure → (d : ℕ) → SitePlace → Steps
+behind_level setting number count q d site =
+    list_of (count - length q.required) (d + length q.required) (d + count)
+    ++ enter_body setting.at setting.program number q (registers_from d (length q.required) ++ (d + count) ∷ []) d (d + count + 1) site
+
+-- what is paid of them
+abbrev made_credit : ℕ → ℕ
+made_credit n = 270 + 20 * n
+
 module _ (setting : Setting) (placed : IsPlaced setting) (a : Start setting) (number : ℕ) (q : FlatProcedure) (wrong : FlatSignals) (vs : List Value) (ws : List ℕ)
     (found : slice_get setting.program.procedures number ≡ Some q) (takes_more : is_some q.rest ≡ true) (enough : length q.required ≤ length vs)
-    (of_values : WordsOf a.w.places vs ws) (inside : arguments.WordsIn a.d ws a.regs)
-    (names : enough_for (of_code (code_of (call_with_rest setting.at setting.program number q (length ws) a.d a.s.code.site))) ≤ length a.regs) where
+    (of_values : WordsOf a.w.places vs ws) (inside : arguments.WordsIn a.d ws a.regs) (reserve : routine_words ≤ a.n)
+    (names : enough_for (of_code (code_of (behind_level setting number (length ws) q a.d a.s.code.site))) ≤ length a.regs) where
   abbrev required : ℕ
   required = length q.required
 
@@ -221,9 +217,9 @@ module _ (setting : Setting) (placed : IsPlaced setting) (a : Start setting) (nu
       z1 = charged (length vs) (asked size a.z)
 
       room_by : (l : Limit) → RoomFor l (a.n + words_for_handler * length a.around.handlers) a.z.state a.y
-          → RoomFor l (body_words q + words_for_handler * length a.around.handlers) z1.state a.y
+          → RoomFor l (body_words q + routine_words + words_for_handler * length a.around.handlers) z1.state a.y
       room_by unlimited h = tt
-      room_by (words k) h = omega (arith, h, home_count, enough)
+      room_by (words k) h = omega (arith, h, home_count, enough, reserve)
 
       abbrev a1 : Start setting
       a1 = record {
@@ -232,7 +228,7 @@ module _ (setting : Setting) (placed : IsPlaced setting) (a : Start setting) (nu
         valid = a.valid;
         s = a.s;
         d = a.d;
-        n = body_words q;
+        n = body_words q + routine_words;
         w = a.w;
         env = a.env;
         around = a.around;
@@ -301,17 +297,18 @@ module _ (setting : Setting) (placed : IsPlaced setting) (a : Start setting) (nu
               extras = extras_given setting number q r0.w z' (mid_charged paid r0.y);
               site = r0.stored;
             } in
-            let ends : CallEnds setting (body_credit q) a.turns a.rs a.valid r0.w a.around z' (mid_charged paid r0.y) result
+            let ends : CallEnds setting (10 * (required + 1)) a.turns a.rs a.valid r0.w a.around z' (mid_charged paid r0.y) result
             (called c (body_of_procedure setting.at number) (variable_words ++ given) (mid_charged paid r0.y)) =
             fewer_turns a.turns fewer
-            (bodies a.rs a.valid a.turns [] None variables variable_words given r0.w a.around z' (mid_charged paid r0.y) (inl (found, refl)) (fits_nothing setting number q r0.w) begins) in
+            (calls_spared setting {credit = body_credit q} (omega (arith, home_count))
+            (bodies a.rs a.valid a.turns [] None variables variable_words given r0.w a.around z' (mid_charged paid r0.y) (inl (found, refl)) (fits_nothing setting number q r0.w) begins)) in
             let code : entering ≡ before_call ++ (the_call ∷ []) =
             sym (append_assoc (site_for (asks_site q.body) a.s.code.site t (t + 1)) (constant t 0 ∷ []) (the_call ∷ [])) in
             let run = parts_then {c = c} before_call (the_call ∷ []) r0.runs (record { same = single_step c the_call r0.regs r0.y }) in
             subst (λ o. EndsAt setting (126 + 10 * (required + 1) + 40 + 6 * (required + 4)) b result o) (sym (ap (λ ss. exec c (code_of ss) regs' y') code ∙ run.same))
-            (ends_then setting {d = a.d} {d1 = a.d} (omega arith) r0.reached {c2 = body_credit q + paid} {c = 126 + 10 * (required + 1) + 40 + 6 * (required + 4)}
+            (ends_then setting {d = a.d} {d1 = a.d} (omega arith) r0.reached {c2 = 10 * (required + 1) + paid} {c = 126 + 10 * (required + 1) + 40 + 6 * (required + 4)}
             (omega (arith, home_count, args_count)) (omega arith)
-            ((form_calls_law setting).by_number c b2 (body_credit q) a.d (body_of_procedure setting.at number) args (variable_words ++ given) result (omega arith) b2.begins.first words_there
+            ((form_calls_law setting).by_number c b2 (10 * (required + 1)) a.d (body_of_procedure setting.at number) args (variable_words ++ given) result (omega arith) b2.begins.first words_there
             (inner_later variables z') ends))
 
         body_entered : FormEnds setting (126 + 10 * (required + 1) + 40 + 6 * (required + 4)) a.turns a.rs a.valid a.s a.d w' a.env a.around z' regs' y' result (exec c (code_of entering) regs' y')
@@ -333,21 +330,32 @@ module _ (setting : Setting) (placed : IsPlaced setting) (a : Start setting) (nu
           (λ tail after. grown_later (inner_later (take required vs ++ tail ∷ []) after))
           (λ tail w' z' regs' y' x. body_entered tail w' z' regs' y' x))
 
-    pub rest_calls : EndsAt setting (rest_credit (length vs)) a
-        (descend (below_at setting (suc j)) (λ entered. enter (context_at setting (suc j)) wrong q [] None vs a.around entered) a.around a.z)
-        (exec c (code_of (listing ++ entering)) a.regs a.y)
+    -- the meaning only grows
+    pub enter_grows : FlatGrown a.z (enter (context_at setting (suc j)) wrong q [] None vs a.around a.z).state
+    enter_grows = subst (λ (r : FlatEvaluated). FlatGrown a.z r.state) (sym (entered_is a.z)) (by (has_room setting.limit (a.z.state.heap + a.z.state.stack + 0 + size)))
+      where
+        by : (b : Bool)
+            → FlatGrown a.z
+            (if b then with_stack a.z.state.stack (listed (charged (length vs) (asked size a.z)))
+            else record { outcome = full (0 + size) (room_left setting.limit (a.z.state.heap + a.z.state.stack)); state = a.z }).state
+        by true =
+            let g = grown_later (listed_later (charged (length vs) (asked size a.z))) in
+            let up = g.units in
+            record { printed = g.printed; units = omega (arith, up); exits = g.exits }
+        by false = same_flat a.z
+
+    pub rest_calls : EndsAt setting (made_credit (length vs)) a (enter (context_at setting (suc j)) wrong q [] None vs a.around a.z) (exec c (code_of (listing ++ entering)) a.regs a.y)
     rest_calls =
-        subst (λ r. EndsAt setting (rest_credit (length vs)) a r (exec c (code_of (listing ++ entering)) a.regs a.y))
-        (sym (level_there setting j (λ entered. enter (context_at setting (suc j)) wrong q [] None vs a.around entered) a.around a.z ∙ entered_is a.z))
+        subst (λ r. EndsAt setting (made_credit (length vs)) a r (exec c (code_of (listing ++ entering)) a.regs a.y)) (sym (entered_is a.z))
         (by (has_room setting.limit (a.z.state.heap + a.z.state.stack + 0 + size)) refl)
       where
         by : (b : Bool) → has_room setting.limit (a.z.state.heap + a.z.state.stack + 0 + size) ≡ b
-            → EndsAt setting (rest_credit (length vs)) a
+            → EndsAt setting (made_credit (length vs)) a
             (if b then with_stack a.z.state.stack (listed (charged (length vs) (asked size a.z)))
             else record { outcome = full (0 + size) (room_left setting.limit (a.z.state.heap + a.z.state.stack)); state = a.z })
             (exec c (code_of (listing ++ entering)) a.regs a.y)
         by true fits =
-            form_framed setting a size (length vs) (listed (z1 fits)) (listed_later (z1 fits)).stack {c2 = rest_credit (length vs)} (omega (arith, enough)) (in_words fits)
+            form_framed setting a size (length vs) (listed (z1 fits)) (listed_later (z1 fits)).stack {c2 = made_credit (length vs)} (omega (arith, enough)) (in_words fits)
         by false fits =
             full_there (record {
               asked = 0 + size;
@@ -358,131 +366,39 @@ module _ (setting : Setting) (placed : IsPlaced setting) (a : Start setting) (nu
                   (steps_grow setting (suc j) a.turns (listing ++ entering) a.regs a.y);
             })
 
-  -- ---- without a level
-
-  abbrev none : Context
-  none = code_at setting zero a.turns
-
-  abbrev unmet : FlatEvaluated
-  unmet = descend (below_at setting zero) (λ entered. enter (context_at setting zero) wrong q [] None vs a.around entered) a.around a.z
-
-  room_more : (l : Limit) → RoomEnded setting l more
-  room_more unlimited = tt
-  room_more (words m) = tt
-
-  nothing_printed : (x : MidState) → x.printed ≡ a.y.printed → IsPrefix x.printed a.z.state.printed
-  nothing_printed x same = subst (λ p. IsPrefix p a.z.state.printed) (sym (same ∙ a.begins.call.things.represents.printed)) (same_prefix a.z.state.printed)
-
-  -- the site is stored behind the list
-  record Stored (code : Steps) (regs : Registers) (y : MidState) : Type 0 where
-    pub regs' : Registers
-    pub y' : MidState
-    pub runs : RunsTo none (code_of code) regs y (ends falls regs' y')
-    pub printed : y'.printed ≡ y.printed
-    pub below : (r : ℕ) → r < t → register r regs' ≡ register r regs
-    pub zero_there : register t regs' ≡ Some 0
-
-  module _ (regs : Registers) (y : MidState) (x : ListRan e a.regs regs a.y y) (first_there : t < length regs) where
-    lent : is_lent y.arena site_address ≡ true
-    lent = in_spot_lent site_address (spot_grown x.grows (control_stands setting a.begins.call.things)) (omega arith) (omega arith) (omega arith)
-
-    site_by : (p : SitePlace) → a.s.code.site ≡ p → SiteHeld setting a.regs p a.around.site → t + 1 < length regs → Stored (site_stored p t (t + 1) ++ (constant t 0 ∷ [])) regs y
-    site_by (Known n) same is there =
-        let regs1 : Registers = slice_set regs t (Some n) in
-        let regs2 : Registers = slice_set regs1 (t + 1) (Some 0) in
-        let size1 : length regs1 ≡ length regs = length-set regs t (Some n) in
-        let size2 : length regs2 ≡ length regs1 = length-set regs1 (t + 1) (Some 0) in
-        let run : RunsTo none (code_of (site_stored (Known n) t (t + 1))) regs y (ends falls regs2 (stored_at site_address n (y.cost + 20) y)) =
-        costing {n = y.cost + 20}
-        (and_then constant_falls
-        (and_then constant_falls
-        (and_then
-        (store_falls (register_beside regs1 (t + 1) t (Some 0) (λ e. omega (arith, e)) ∙ register_here regs t n first_there) (register_here regs1 (t + 1) 0 (omega (arith, size1, there)))
-        (address_above 0 site_address site_address (omega arith) (omega arith)) lent)
-        none_left)))
-        (omega arith) in
-        record {
-          regs' = slice_set regs2 t (Some 0);
-          y' = mid_charged 6 (stored_at site_address n (y.cost + 20) y);
-          runs = parts_then (site_stored (Known n) t (t + 1)) (constant t 0 ∷ []) run (and_then constant_falls none_left);
-          printed = refl;
-          below = λ r few.
-              register_beside regs2 t r (Some 0) (λ e. omega (arith, e, few)) ∙ register_beside regs1 (t + 1) r (Some 0) (λ e. omega (arith, e, few))
-              ∙ register_beside regs t r (Some n) (λ e. omega (arith, e, few));
-          zero_there = register_here regs2 t 0 (omega (arith, size1, size2, first_there));
-        }
-    site_by (Held r) same is there =
-        let own = (a.begins.scope.site r same).0 in
-        let regs1 : Registers = slice_set regs (t + 1) (Some 0) in
-        let size1 : length regs1 ≡ length regs = length-set regs (t + 1) (Some 0) in
-        let run : RunsTo none (code_of (site_stored (Held r) t (t + 1))) regs y (ends falls regs1 (stored_at site_address is.0 (y.cost + 14) y)) =
-        costing {n = y.cost + 14}
-        (and_then constant_falls
-        (and_then
-        (store_falls (register_beside regs (t + 1) r (Some 0) (λ e. omega (arith, e, own)) ∙ ap word_in (x.below r (omega (arith, own))) ∙ is.1) (register_here regs (t + 1) 0 there)
-        (address_above 0 site_address site_address (omega arith) (omega arith)) lent)
-        none_left))
-        (omega arith) in
-        record {
-          regs' = slice_set regs1 t (Some 0);
-          y' = mid_charged 6 (stored_at site_address is.0 (y.cost + 14) y);
-          runs = parts_then (site_stored (Held r) t (t + 1)) (constant t 0 ∷ []) run (and_then constant_falls none_left);
-          printed = refl;
-          below = λ i few. register_beside regs1 t i (Some 0) (λ e. omega (arith, e, few)) ∙ register_beside regs (t + 1) i (Some 0) (λ e. omega (arith, e, few));
-          zero_there = register_here regs1 t 0 (omega (arith, size1, first_there));
-        }
-
-    site_there : (asks : Bool) → (asks ≡ true → t + 1 < length regs) → Stored (site_for asks a.s.code.site t (t + 1) ++ (constant t 0 ∷ [])) regs y
-    site_there true there = site_by a.s.code.site refl a.begins.activation.site (there refl)
-    site_there false there = record {
-      regs' = slice_set regs t (Some 0);
-      y' = mid_charged 6 y;
-      runs = and_then constant_falls none_left;
-      printed = refl;
-      below = λ r few. register_beside regs t r (Some 0) (λ e. omega (arith, e, few));
-      zero_there = register_here regs t 0 first_there;
-    }
-
-    unmet_call : {credit : ℕ} → Stored before_call regs y → EndsAt setting credit a unmet (exec none (code_of entering) regs y)
-    unmet_call {credit} s =
-        let taken : length (take required ws) ≡ required = take_count required ws (omega (arith, enough, word_count)) in
-        let still : arguments.WordsIn a.d (take required ws) s.regs' =
-        arguments_kept a.d (take required ws) a.regs s.regs'
-        (λ r few. s.below r (omega (arith, few, taken, enough, word_count)) ∙ ap word_in (x.below r (omega (arith, few, taken, enough, word_count))))
-        (words_taken required a.d ws a.regs inside) in
-        let all : List ℕ = (take required ws ++ x.word ∷ []) ++ method_words method in
-        let words_there : WordsIn s.regs' args all =
-        words_and_rest a.d (take required ws) required e x.word s.regs' (no_method method t) (method_words method) taken still (s.below e (omega arith) ∙ x.here)
-        (method_words_in method t s.regs' s.zero_there) in
-        let y3 : MidState = mid_charged (call_cost args) s.y' in
-        let code : entering ≡ before_call ++ (the_call ∷ []) =
-        sym (append_assoc (site_for (asks_site q.body) a.s.code.site t (t + 1)) (constant t 0 ∷ []) (the_call ∷ [])) in
-        let stop : called none (body_of_procedure setting.at number) all y3 ≡ ends no_level [] y3 =
-        ends_without_level setting a.turns (body_of_procedure setting.at number) (body_of setting.names setting.at setting.program (extra_of setting.names setting.at setting.program number) q) all y3
-        ((numbers_law setting).body number q placed found) refl in
-        let run = parts_then {c = none} before_call (the_call ∷ []) s.runs
-        (record { same = single_step none the_call s.regs' s.y' ∙ call_comes none s.regs' s.y' a.d (body_of_procedure setting.at number) args all words_there ∙ ap (λ o. mid_called o a.d s.regs') stop }) in
-        subst (λ o. EndsAt setting credit a unmet o) (sym (ap (λ ss. exec none (code_of ss) regs y) code ∙ run.same))
-        (stopped (record {
-          because = called_because setting unmet (ends no_level [] y3) a.d s.regs' refl;
-          printed =
-              subst (λ (z : MidState). IsPrefix z.printed a.z.state.printed) (sym (called_state (ends no_level [] y3) a.d s.regs')) (nothing_printed y3 (s.printed ∙ x.printed));
-        }))
-
-  pub unmet_calls : {credit : ℕ} → EndsAt setting credit a unmet (exec none (code_of (listing ++ entering)) a.regs a.y)
-  unmet_calls {credit} =
-      subst (λ n. EndsAt setting credit a unmet (exec none (code_of (list_of n (a.d + required) e ++ entering)) a.regs a.y)) rest_count
-      (list_ran none e (λ o. EndsAt setting credit a unmet o) (drop required ws) (a.d + required) a.regs a.y entering a.begins.call.things.represents.arena
-      (words_dropped required a.d (a.d + required) ws a.regs refl inside) (omega (arith, drop_count required ws (omega (arith, enough, word_count))))
-      (subst (λ n. enough_for (of_code (code_of (list_of n (a.d + required) e))) ≤ length a.regs) (sym rest_count) listing_names)
-      (λ wanted left_then g x few same. stopped (record { because = (room_more setting.limit, few); printed = nothing_printed x same }))
-      (λ regs y x.
-      let size0 = x.count in
-      unmet_call regs y x (omega (arith, size0, constant_there))
-      (site_there regs y x (omega (arith, size0, constant_there)) (asks_site q.body) (λ asks. let both = both_there asks in omega (arith, size0, both)))))
+-- where the level is judged there is a register for what its routine returns
+judged_there : (setting : Setting) (number count : ℕ) (q : FlatProcedure) (d size : ℕ) (site : SitePlace)
+    → enough_for (of_code (code_of (call_with_rest setting.at setting.program number q count d site))) ≤ size → d + count < size
+judged_there setting number count q d size site names =
+    first_named (d + count) [] size
+    (registers_front (steps.call (d + count) (level_routine setting.at) [] ∷ []) (behind_level setting number count q d site) size names)
 
 pub rest_calls_law : LawOfRestCalls
-rest_calls_law setting zero a number q wrong vs ws placed found takes_more enough fewer bodies of_values inside names =
-    unmet_calls setting placed a number q wrong vs ws found takes_more enough of_values inside names
-rest_calls_law setting (suc j) a number q wrong vs ws placed found takes_more enough fewer bodies of_values inside names =
-    rest_calls setting placed a number q wrong vs ws found takes_more enough of_values inside names j fewer (bodies j refl)
+rest_calls_law setting zero a number q wrong vs ws placed found takes_more enough fewer bodies of_values inside reserve names =
+    let others : Steps = behind_level setting number (length ws) q a.d a.s.code.site in
+    subst
+    (λ p.
+    EndsAt setting (rest_credit (length vs)) a (descend (below_at setting zero) (λ entered. enter (context_at setting zero) wrong q [] None vs a.around entered) a.around a.z) p)
+    (sym (step_then (code_at setting zero a.turns) (steps.call (a.d + length ws) (level_routine setting.at) []) others a.regs a.y))
+    (form_levels_law setting zero (rest_credit (length vs)) a a.d (a.d + length ws) (λ entered. gives nil entered) (λ g x. exec (code_at setting zero a.turns) (code_of others) g x) placed
+    (omega (arith, reserve)) (omega arith) (judged_there setting number (length ws) q a.d (length a.regs) a.s.code.site names) (same_flat a.z)
+    (λ g x. steps_grow setting zero a.turns others g x) (λ j same word y' x site. absurd (cc same)))
+rest_calls_law setting (suc j) a number q wrong vs ws placed found takes_more enough fewer bodies of_values inside reserve names =
+    let others : Steps = behind_level setting number (length ws) q a.d a.s.code.site in
+    let behind_names : enough_for (of_code (code_of others)) ≤ length a.regs =
+    registers_behind (steps.call (a.d + length ws) (level_routine setting.at) [] ∷ []) others (length a.regs) names in
+    subst
+    (λ p.
+    EndsAt setting (rest_credit (length vs)) a (descend (below_at setting (suc j)) (λ entered. enter (context_at setting (suc j)) wrong q [] None vs a.around entered) a.around a.z) p)
+    (sym (step_then (code_at setting (suc j) a.turns) (steps.call (a.d + length ws) (level_routine setting.at) []) others a.regs a.y))
+    (form_levels_law setting (suc j) (rest_credit (length vs)) a a.d (a.d + length ws) (λ entered. enter (context_at setting (suc j)) wrong q [] None vs a.around entered)
+    (λ g x. exec (code_at setting (suc j) a.turns) (code_of others) g x) placed (omega (arith, reserve)) (omega arith)
+    (judged_there setting number (length ws) q a.d (length a.regs) a.s.code.site names)
+    (enter_grows setting placed a number q wrong vs ws found takes_more enough of_values inside reserve behind_names j fewer (bodies j refl))
+    (λ g x. steps_grow setting (suc j) a.turns others g x)
+    (λ i same word y' x site.
+    let a2 : Start setting = start_after setting a (a.d + length ws) a.d a.n (omega arith) (omega arith) (omega arith) a.begins.first x in
+    behind setting {c1 = judging_cost} {c2 = made_credit (length vs)} {c = rest_credit (length vs)} a (a.d + length ws) (omega arith) x (omega arith) (omega arith)
+    (rest_calls setting placed a2 number q wrong vs ws found takes_more enough of_values
+    (arguments_kept a.d ws a.regs a2.regs (λ r few. register_beside a.regs (a.d + length ws) r (Some word) (λ e. omega (arith, e, few))) inside) reserve
+    (subst (λ m. enough_for (of_code (code_of others)) ≤ m) (sym (length-set a.regs (a.d + length ws) (Some word))) behind_names) j fewer (bodies j refl))))

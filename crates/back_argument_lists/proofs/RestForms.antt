@@ -1,5 +1,5 @@
 -- The form: all arguments come in registers, and the function is called from there.
-use Rattle.std.proofs.Common.{◌≡◌, inl, ℕ, ◌+◌, ◌*◌, ◌≤◌, Bool, true, length, None, refl, sym, ap, ◌∙◌, subst, arith}
+use Rattle.std.proofs.Common.{◌≡◌, inl, ℕ, ◌+◌, ◌≤◌, Bool, true, length, None, refl, sym, ap, ◌∙◌, subst, arith}
 use Rattle.std.specs.Prelude.{is_some, if◌then◌else◌}
 use Rattle.std.proofs.lemmas.Bool.{le-leb}
 use Rattle.lang_meaning.specs.Literals.{function_row}
@@ -32,12 +32,13 @@ use Rattle.back_combining.specs.Points.{Point, start_at}
 use Rattle.back_combining.specs.Starts.{Start, EndsAt}
 use Rattle.back_combining.proofs.Fitting.{registers_front, registers_behind}
 use Rattle.back_combining.proofs.Growth.{grown_later}
-use Rattle.back_combining.proofs.Starts.{start_after, start_charged, ends_charged, reached_same}
+use Rattle.back_combining.proofs.Starts.{start_after, start_charged, ends_sparing, reached_same}
 use Rattle.back_combining.proofs.Then.{ends_then}
 use Rattle.mid_code.specs.State.{MidOutcome}
 use Rattle.back_arguments.proofs.Arguments.{arguments_law}
 use Rattle.back_arguments.proofs.Lists.{argument_lists_law}
 use Rattle.back_calling.proofs.Growing.{tasks_below}
+use Rattle.back_known_calls.proofs.KnownCalls.{call_reserve}
 use Rattle.back_argument_lists.specs.RestCalls.{rest_credit}
 use Rattle.back_argument_lists.specs.RestForms.{IsRestCall, LawOfRestForms}
 use Rattle.back_argument_lists.proofs.RestCalls.{rest_calls_law}
@@ -111,8 +112,8 @@ rest_forms_law setting k turns name fs right fewer known does bodies rs valid s 
     (registers_front front behind (length regs) registers) (omega (arith, words)) in
     let names : enough_for (of_code (code_of (listing setting k turns name fs known s d))) ≤ length regs =
     subst (λ ss. enough_for (of_code (code_of ss)) ≤ length regs) (rest_is setting k turns name fs known s d) (registers_behind front behind (length regs) registers) in
-    ends_charged setting {c1 = 300 * units} (start_at setting s d n (length regs) turns p0) units (omega arith)
-    (arguments_law setting s d n (length regs) k turns (300 * units) fs pc (next setting k turns name fs known s d around) behind lists.0 lists.1
+    ends_sparing setting {c1 = rest_credit (count_forms fs)} (start_at setting s d n (length regs) turns p0) units (omega arith) (omega arith)
+    (arguments_law setting s d n (length regs) k turns (rest_credit (count_forms fs)) fs pc (next setting k turns name fs known s d around) behind lists.0 lists.1
     (λ vs x. grown_later (next_later setting k turns name fs known s d around vs x))
     (λ vs z' regs' y' x.
     let b : Start setting = start_after setting (start_at setting s d n (length regs) turns pc) d d n (omega arith) (omega arith) (omega arith) begins.first x.reached in
@@ -125,8 +126,9 @@ rest_forms_law setting k turns name fs right fewer known does bodies rs valid s 
     (descend (below_at setting k) (λ entered. enter (context_at setting k) (signal (context_at setting k)) known.function [] None vs around entered) around z')
     (exec (code_at setting k turns) (code_of (call_with_rest setting.at setting.program known.number known.function (length x.words) d s.code.site)) regs' y') =
     rest_calls_law setting k b known.number known.function (signal (context_at setting k)) vs x.words right.placed.placed known.found known.takes_more (omega (arith, count, enough)) fewer
-    (λ j e. bodies j e known.number (extra_of setting.names setting.at setting.program known.number) known.function (inl (known.found, refl))) x.of_values x.in_registers named in
-    ends_more b (rest_credit (length vs)) (300 * units) (omega (arith, count))
+    (λ j e. bodies j e known.number (extra_of setting.names setting.at setting.program known.number) known.function (inl (known.found, refl))) x.of_values x.in_registers
+    (call_reserve setting name (count_forms fs) n known.row known.number known.there known.callee (omega (arith, words))) named in
+    ends_more b (rest_credit (length vs)) (rest_credit (count_forms fs)) (omega (arith, count))
     (subst (λ r. EndsAt setting (rest_credit (length vs)) b r (exec (code_at setting k turns) (code_of behind) regs' y')) (sym (next_is setting k turns name fs known s d around vs z'))
     (subst
     (λ ss.

@@ -1,4 +1,4 @@
--- **The law of functions that take further arguments**: their list is made, and the body is entered, where there is a level.
+-- **The law of functions that take further arguments**: a level is judged, their list is made, and the body is entered.
 use Rattle.std.specs.Prelude.{◌≡◌, ℕ, suc, ◌+◌, ◌*◌, ◌≤◌, true, List, [], Some, None, length, slice_get, is_some}
 use Rattle.lang_meaning.specs.Values.{Value}
 use Rattle.flat_language.specs.declared.program.FlatProcedure.{FlatProcedure}
@@ -11,6 +11,7 @@ use Rattle.back_lowering.specs.Program.{extra_of}
 use Rattle.back_lowering.specs.Registers.{of_code, enough_for}
 use Rattle.back_relation.specs.Setting.{Setting}
 use Rattle.back_relation.specs.Placed.{IsPlaced}
+use Rattle.back_relation.specs.Room.{routine_words}
 use Rattle.back_relation.specs.Forms.{below_at, context_at, code_at}
 use Rattle.back_relation.specs.Procedures.{BodyDoes}
 use Rattle.back_combining.specs.Starts.{Start, EndsAt}
@@ -26,7 +27,7 @@ abbrev pub LawOfRestCalls : Type 0
 LawOfRestCalls =
     (setting : Setting) (k : ℕ) (a : Start setting) (number : ℕ) (q : FlatProcedure) (wrong : FlatSignals) (vs : List Value) (ws : List ℕ) → IsPlaced setting
     → slice_get setting.program.procedures number ≡ Some q → is_some q.rest ≡ true → length q.required ≤ length vs → a.turns ≤ setting.turns_each
-    → ((j : ℕ) → k ≡ suc j → BodyDoes setting j number (extra_of setting.names setting.at setting.program number) q) → WordsOf a.w.places vs ws → WordsIn a.d ws a.regs
+    → ((j : ℕ) → k ≡ suc j → BodyDoes setting j number (extra_of setting.names setting.at setting.program number) q) → WordsOf a.w.places vs ws → WordsIn a.d ws a.regs → routine_words ≤ a.n
     → enough_for (of_code (code_of (call_with_rest setting.at setting.program number q (length ws) a.d a.s.code.site))) ≤ length a.regs
     → EndsAt setting (rest_credit (length vs)) a
     (descend (below_at setting k) (λ entered. enter (context_at setting k) wrong q [] None vs a.around entered) a.around a.z)

@@ -349,11 +349,11 @@ module _ (setting : Setting) (room inside credit m : ℕ) (p : MidProcedure) (ws
 
   -- with a turn
   turn_ends :
-      (k n : ℕ) → z.state.units ≤ r.state.state.units → m ≤ n + 50 → ((j : ℕ) → n ≡ suc j → BodyComes setting (code_at setting k j) p credit m inside ws rs valid w around z y r)
+      (k n : ℕ) → m + 16 * z.state.units ≤ n + 50 + 16 * r.state.state.units → ((j : ℕ) → n ≡ suc j → BodyComes setting (code_at setting k j) p credit m inside ws rs valid w around z y r)
       → CallEnds setting (credit + entry_cost p.parameters) m rs valid w around z y r ((code_at setting k n).further (enter (framed p f) ws) y)
   unfolding turns
-  turn_ends k zero up few body = few_turns (omega (arith, few, up, some_words setting b.things))
-  turn_ends k (suc j) up few body = procedure_ends (code_at setting k j) (body j refl)
+  turn_ends k zero few body = few_turns (omega (arith, few, some_words setting b.things))
+  turn_ends k (suc j) few body = procedure_ends (code_at setting k j) (body j refl)
 
   -- with a level
   level_ends :
@@ -407,7 +407,7 @@ pub record UsedAt (procedures : List MidProcedure) (number : ℕ) (p : MidProced
   pub within : frame ≤ p.frame
   pub there : slice_get procedures number ≡ Some (framed p frame)
 
-used_at : (gs ps : List MidProcedure) (number : ℕ) (p : MidProcedure) → FramesWithin gs ps → slice_get gs number ≡ Some p → UsedAt ps number p
+pub used_at : (gs ps : List MidProcedure) (number : ℕ) (p : MidProcedure) → FramesWithin gs ps → slice_get gs number ≡ Some p → UsedAt ps number p
 used_at [] ps number p h e = absurd (cc e)
 used_at (g ∷ gs) [] number p h e = absurd h
 used_at (g ∷ gs) (q ∷ ps) zero p h e =
@@ -420,17 +420,28 @@ used_at (g ∷ gs) (q ∷ ps) zero p h e =
 used_at (g ∷ gs) (q ∷ ps) (suc number) p h e = let u = used_at gs ps number p h.1 e in record { frame = u.frame; within = u.within; there = u.there }
 
 module _ (setting : Setting) where
-  called_by : (k n number : ℕ) (p : MidProcedure) (ws : List ℕ) (y : MidState) (how : Counted) → p.counted ≡ how → (u : UsedAt setting.procedures number p)
+  pub called_by : (k n number : ℕ) (p : MidProcedure) (ws : List ℕ) (y : MidState) (how : Counted) → p.counted ≡ how → (u : UsedAt setting.procedures number p)
       → called (code_at setting k n) number ws y ≡ count (code_at setting k n) how (enter (framed p u.frame) ws) y
   called_by k n number p ws y how same u =
       some_found (λ (q : MidProcedure) rs x. count (code_at setting k n) q.counted (enter q ws) x) [] y u.there
       ∙ ap (λ h. count (code_at setting k n) h (enter (framed p u.frame) ws) y) same
 
-  pub turns_law : LawOfTurns setting
-  turns_law k n number m room inside credit p ws rs valid w around z y r found counted many enough few grown b body =
+  -- of the growth of the meaning only what is printed counts, and units as far as they pay for turns
+  pub turns_entered :
+      (k turns number m room inside credit : ℕ) (p : MidProcedure) (ws : List ℕ) (rs valid : List Standing) (w : World) (around : DynamicContext) (z : FlatState) (y : MidState)
+      (r : FlatEvaluated)
+      → slice_get (lowered setting.names setting.at setting.program) number ≡ Some p → p.counted ≡ Turn → length ws ≡ p.parameters → p.frame + inside ≤ room
+      → m + 16 * z.state.units ≤ turns + 50 + 16 * r.state.state.units → IsPrefix z.state.printed r.state.state.printed → CallBegins setting rs valid room w around z y
+      → ((n : ℕ) → turns ≡ suc n → BodyComes setting (code_at setting k n) p credit m inside ws rs valid w around z y r)
+      → CallEnds setting (credit + entry_cost p.parameters) m rs valid w around z y r (called (code_at setting k turns) number ws y)
+  turns_entered k n number m room inside credit p ws rs valid w around z y r found counted many enough few grown b body =
       let u = used_at _ setting.procedures number p setting.frames found in
       subst (λ o. CallEnds setting (credit + entry_cost p.parameters) m rs valid w around z y r o) (sym (called_by k n number p ws y Turn counted u))
-      (turn_ends setting room inside credit m p ws rs valid w around z y r u.frame u.within many enough grown.printed b k n grown.units few body)
+      (turn_ends setting room inside credit m p ws rs valid w around z y r u.frame u.within many enough grown b k n few body)
+
+  pub turns_law : LawOfTurns setting
+  turns_law k n number m room inside credit p ws rs valid w around z y r found counted many enough few grown b body =
+      turns_entered k n number m room inside credit p ws rs valid w around z y r found counted many enough (omega (arith, few, grown.units)) grown.printed b body
 
   -- of the growth of the meaning only what is printed counts with a level
   pub levels_entered :

@@ -1,5 +1,5 @@
 -- Inside a routine: each point of its body is where the rest of a call begins.
-use Rattle.std.proofs.Common.{◌≡◌, ℕ, ◌+◌, ◌≤◌, List, ◌∷◌, Some, refl, sym, ap, ◌∙◌, subst, arith}
+use Rattle.std.proofs.Common.{◌≡◌, ℕ, ◌+◌, ◌*◌, ◌<◌, ◌≤◌, List, ◌∷◌, length, Some, refl, sym, ap, ◌∙◌, subst, arith}
 use Rattle.std.specs.Prelude.{slice_set}
 use Rattle.lang_meaning.specs.Prefixes.{IsPrefix}
 use Rattle.lang_meaning.specs.State.{DynamicContext, Limit, words, unlimited}
@@ -177,19 +177,31 @@ module _ (setting : Setting) where
       exec_grown (code_at setting k n) (levels_grow setting.procedures setting.turns_each k)
       (turns_grow setting.procedures _ (levels_grow setting.procedures setting.turns_each k) n) (code_of ss) g x
 
-  pub returning_law : LawOfReturning setting
-  returning_law k n credit m t number arguments ws ss rs valid w around z y regs r there low things up e =
+  -- whatever units were charged
+  pub returned :
+      (k n credit m t number : ℕ) (arguments ws : List ℕ) (ss : Steps) (rs valid : List Standing) (w : World) (around : DynamicContext) (z : FlatState) (y : MidState)
+      (regs : Registers) (r : FlatEvaluated)
+      → WordsIn regs arguments ws → t < length regs → Things setting w z y
+      → CallEnds setting credit m rs valid w around z (mid_charged (call_cost arguments) y) r
+      (called (code_at setting k n) number ws (mid_charged (call_cost arguments) y))
+      → CallEnds setting (credit + call_cost arguments + return_cost) m rs valid w around z y r
+      (exec (code_at setting k n) (code_of (call t number arguments ∷ return_word t ∷ ss)) regs y)
+  returned k n credit m t number arguments ws ss rs valid w around z y regs r there low things e =
       subst (λ q. CallEnds setting (credit + call_cost arguments + return_cost) m rs valid w around z y r q)
       (sym (step_then (code_at setting k n) (call t number arguments) (return_word t ∷ ss) regs y))
       (subst
       (λ p. CallEnds setting (credit + call_cost arguments + return_cost) m rs valid w around z y p
       (mid_go_on (exec_step (code_at setting k n) (call t number arguments) regs y) (λ g x. exec (code_at setting k n) (code_of (return_word t ∷ ss)) g x)))
       (go_gives r)
-      (calls_then_law (code_at setting k n) credit return_cost (credit + call_cost arguments + return_cost) m m m t number arguments ws rs valid w around z y regs r (λ v x. gives v x)
-      (λ g x. exec (code_at setting k n) (code_of (return_word t ∷ ss)) g x) there things (omega arith) (omega arith) (omega (arith, up)) (λ v x. same_flat x) (λ g x. behind_grows k n (return_word t ∷ ss) g x) e
+      (calls_then_law (code_at setting k n) credit return_cost (credit + call_cost arguments + return_cost) m (m + 16 * z.state.units) m t number arguments ws rs valid w around z y regs r (λ v x. gives v x)
+      (λ g x. exec (code_at setting k n) (code_of (return_word t ∷ ss)) g x) there things (omega arith) (omega arith) (omega arith) (λ v x. same_flat x) (λ g x. behind_grows k n (return_word t ∷ ss) g x) e
       (λ x.
-      returns_law (code_at setting k n) return_cost m t x.word ss rs valid x.w' around r.state (called (code_at setting k n) number ws (mid_charged (call_cost arguments) y)).state (slice_set regs t (Some x.word)) x.result
+      returns_law (code_at setting k n) return_cost (m + 16 * z.state.units) t x.word ss rs valid x.w' around r.state (called (code_at setting k n) number ws (mid_charged (call_cost arguments) y)).state (slice_set regs t (Some x.word)) x.result
       x.world.things (register_here regs t x.word low) x.of_value (omega arith))))
+
+  pub returning_law : LawOfReturning setting
+  returning_law k n credit m t number arguments ws ss rs valid w around z y regs r there low things up e =
+      returned k n credit m t number arguments ws ss rs valid w around z y regs r there low things e
 
   -- **a routine that only looks**: it returns a word, or what comes to r1 stops there, which is nothing else but what r comes to
   pub looked :

@@ -1,9 +1,9 @@
 -- The entry of a function: its arguments are loaded, its body is called, and its word returned.
 use Rattle.std.proofs.Common.{◌≡◌, inl, inr, ℕ, zero, suc, ◌+◌, ◌*◌, ◌==◌, ◌<◌, ◌≤◌, Bool, true, false, List, [], ◌∷◌, ◌++◌, length, Option, Some, None, refl, sym, ap, ◌∙◌, subst, arith}
-use Rattle.std.specs.Prelude.{slice_get, slice_index_or, is_some, option_to_list, if◌then◌else◌}
+use Rattle.std.specs.Prelude.{◌||◌, slice_get, slice_index_or, is_some, option_to_list, if◌then◌else◌}
 use Rattle.std.proofs.lemmas.Bool.Decides.{nat_tests}
 use Rattle.std.proofs.lemmas.List.{append-nil, length-append}
-use Rattle.lang_meaning.specs.Counts.{application_words}
+use Rattle.lang_meaning.specs.Counts.{application_words, unit_cost}
 use Rattle.lang_meaning.specs.Objects.{Called, program_error_class}
 use Rattle.lang_meaning.specs.Signals.{takes}
 use Rattle.lang_meaning.specs.State.{DynamicContext, Limit, words, unlimited, has_room, more}
@@ -30,70 +30,72 @@ use Rattle.mid_arena.proofs.Running.{parts_then}
 use Rattle.back_lowering.specs.ControlWords.{site_address}
 use Rattle.back_lowering.specs.Placement.{entry_of_lambda, body_of_procedure}
 use Rattle.back_lowering.specs.Program.{Extra, nothing, its_method, itself, entry_extras, entry, body_of, lowered}
-use Rattle.back_lowering.specs.Routines.{list_routine, method_routine}
+use Rattle.back_lowering.specs.Routines.{level_routine, list_routine, method_routine}
 use Rattle.back_lowering.specs.Scope.{registers_from}
 use Rattle.back_lowering.specs.Steps.{Steps, constant, compute, call, if_equal, words_loaded}
 use Rattle.mid_code.specs.declared.operation.Arithmetic.TheVariants as which
 use Rattle.back_relation.specs.Setting.{Setting}
 use Rattle.back_relation.specs.Placed.{IsPlaced}
-use Rattle.back_relation.specs.Room.{words_for_handler}
+use Rattle.back_relation.specs.Room.{routine_words, entry_words, words_for_handler}
 use Rattle.back_relation.specs.Worlds.{World, Standing}
 use Rattle.back_relation.specs.Things.{Things}
 use Rattle.back_relation.specs.Around.{RoomFor, AroundStands, CallBegins}
 use Rattle.back_relation.specs.Activation.{SelfHeld, MethodHeld, MethodThere}
-use Rattle.back_relation.specs.Ends.{RoomEnded, done, left_by, full_there, stopped, few_turns, CallEnds}
+use Rattle.back_relation.specs.Ends.{done, left_by, full_there, stopped, few_turns, CallEnds, SparingCall}
 use Rattle.back_relation.specs.Forms.{below_at, context_at, code_at}
-use Rattle.back_relation.specs.Procedures.{called, as_registers, mean_inside, entry_words, body_words, body_credit, entry_credit, IsFunction, CapturedFits, ExtraGiven, BodyDoes, ArgumentsLent, EntryBegins}
+use Rattle.back_relation.specs.Procedures.{called, as_registers, mean_inside, body_words, body_credit, entry_credit, IsFunction, CapturedFits, ExtraGiven, BodyDoes, ArgumentsLent, EntryBegins}
 use Rattle.back_combining.proofs.Growth.{same_flat, grown_later}
 use Rattle.back_combining.proofs.Worlds.{later_same, around_again}
 use Rattle.back_combining.proofs.Straight.{same_here, things_units, things_cost, world_cost, around_cost}
 use Rattle.back_calling.specs.Calling.{WordsIn, call_cost}
-use Rattle.back_calling.proofs.Entered.{turns_law, paid_turns_law, no_level_ends}
+use Rattle.back_calling.proofs.Entered.{turns_entered, no_level_at}
 use Rattle.back_calling.proofs.Growing.{tasks_below}
-use Rattle.back_calling.proofs.Inner.{going_on_law, returning_law}
+use Rattle.back_calling.proofs.Inner.{going_on_law, returned}
 use Rattle.back_calling.proofs.Numbers.{numbers_law}
+use Rattle.back_calling.proofs.Units.{begins_recounted, calls_recounted}
 use Rattle.back_bodies.proofs.Held.{extra_below}
 use Rattle.back_bodies.proofs.Scopes.{first_count}
-use Rattle.back_applications.proofs.Applied.{level_there, called_grows}
-use Rattle.back_applications.proofs.Charging.{asked, things_charged, around_charged, calls_charged, framed_ends, within_asked}
+use Rattle.back_applications.proofs.Applied.{called_grows}
+use Rattle.back_applications.proofs.Levels.{level_there}
+use Rattle.back_applications.proofs.Charging.{asked, things_charged, around_charged, framed_ends, within_asked}
 use Rattle.back_function_entries.specs.FunctionEntries.{CalledFits, LawOfFunctionEntries, LawOfMethodEntries}
 use Rattle.back_function_entries.proofs.Loading.{loads_run}
 
 same_numbers : (a b : ℕ) → (a == b) ≡ true → a ≡ b
 same_numbers a b e = grind (arith, nat_tests)
 
-taken : (o : Option Home) (a b : ℕ) → o ≡ None → takes a (is_some o) b ≡ true → b ≡ a
+pub taken : (o : Option Home) (a b : ℕ) → o ≡ None → takes a (is_some o) b ≡ true → b ≡ a
 taken o a b none e = sym (same_numbers a b (ap (λ (u : Option Home). takes a (is_some u) b) (sym none) ∙ e))
 
 -- the registers, and the words, behind those of the variables
-abbrev extras : Setting → Extra → List ℕ
+abbrev pub extras : Setting → Extra → List ℕ
 extras setting extra = entry_extras setting.names setting.at setting.program extra
 
-extra_words : Extra → (self chain count address : ℕ) → List ℕ
+unfoldable pub extra_words : Extra → (self chain count address : ℕ) → List ℕ
 extra_words nothing self chain count address = []
 extra_words its_method self chain count address = chain ∷ count ∷ address ∷ []
 extra_words itself self chain count address = self ∷ []
 
-extras_in : (setting : Setting) (extra : Extra) (self chain count address : ℕ) (regs : Registers) → register 0 regs ≡ Some self → register 1 regs ≡ Some chain → register 2 regs ≡ Some count
+pub extras_in : (setting : Setting) (extra : Extra) (self chain count address : ℕ) (regs : Registers) → register 0 regs ≡ Some self → register 1 regs ≡ Some chain → register 2 regs ≡ Some count
     → register 3 regs ≡ Some address → WordsIn regs (extras setting extra) (extra_words extra self chain count address)
 unfolding extra_words
 extras_in setting nothing self chain count address regs r0 r1 r2 r3 = tt
 extras_in setting its_method self chain count address regs r0 r1 r2 r3 = (r1, (r2, (r3, tt)))
 extras_in setting itself self chain count address regs r0 r1 r2 r3 = (r0, tt)
 
-few_extras : (setting : Setting) (extra : Extra) → length (extras setting extra) ≤ 3
+pub few_extras : (setting : Setting) (extra : Extra) → length (extras setting extra) ≤ 3
 few_extras setting nothing = omega arith
 few_extras setting its_method = omega arith
 few_extras setting itself = omega arith
 
-count_from : (d n : ℕ) → length (registers_from d n) ≡ n
+pub count_from : (d n : ℕ) → length (registers_from d n) ≡ n
 count_from d zero = refl
 count_from d (suc n) = let e = count_from (d + 1) n in omega (arith, e)
 
 module _ (setting : Setting) where
   -- ---- two ways to say less
 
-  fewer_turns :
+  pub fewer_turns :
       {credit : ℕ} {rs valid : List Standing} {w : World} {around : DynamicContext} {z : FlatState} {y : MidState} {r : FlatEvaluated} {o : MidOutcome} (m1 m : ℕ) → m ≤ m1
       → CallEnds setting credit m1 rs valid w around z y r o → CallEnds setting credit m rs valid w around z y r o
   fewer_turns m1 m l (done x) = done x
@@ -102,7 +104,8 @@ module _ (setting : Setting) where
   fewer_turns m1 m l (stopped x) = stopped x
   fewer_turns m1 m l (few_turns x) = few_turns (omega (arith, x, l))
 
-  without_level :
+  -- where the meaning has no level, nothing was done, whatever was paid
+  pub without_level :
       {m : ℕ} {rs valid : List Standing} {w : World} {around : DynamicContext} {z : FlatState} {y : MidState} {r : FlatEvaluated} {o : MidOutcome} (c1 c2 : ℕ) → r.outcome ≡ more
       → CallEnds setting c1 m rs valid w around z y r o → CallEnds setting c2 m rs valid w around z y r o
   without_level c1 c2 e (done x) = absurd (cc (sym x.outcome ∙ e))
@@ -122,13 +125,13 @@ module _ (setting : Setting) where
   abbrev procedures : List MidProcedure
   procedures = lowered setting.names setting.at setting.program
 
-  found : (number : ℕ) (extra : Extra) (q : FlatProcedure) → IsPlaced setting → IsFunction setting number extra q → slice_get procedures number ≡ Some (made number extra q)
+  pub found : (number : ℕ) (extra : Extra) (q : FlatProcedure) → IsPlaced setting → IsFunction setting number extra q → slice_get procedures number ≡ Some (made number extra q)
   found number extra q placed (inl h) = subst (λ x. slice_get procedures number ≡ Some (made number x q)) (sym h.1) ((numbers_law setting).entry_of number q placed h.0)
   found number extra q placed (inr h) =
       subst (λ i. slice_get procedures i ≡ Some (made i extra q)) (sym h.2)
       (subst (λ x. slice_get procedures (entry_of_lambda setting.at h.0) ≡ Some (made (entry_of_lambda setting.at h.0) x q)) (sym h.3) ((numbers_law setting).lambda_entry_of h.0 q placed h.1))
 
-  body_found : (number : ℕ) (extra : Extra) (q : FlatProcedure) → IsPlaced setting → IsFunction setting number extra q
+  pub body_found : (number : ℕ) (extra : Extra) (q : FlatProcedure) → IsPlaced setting → IsFunction setting number extra q
       → slice_get procedures (body_of_procedure setting.at number) ≡ Some (body_made extra q)
   body_found number extra q placed (inl h) =
       subst (λ x. slice_get procedures (body_of_procedure setting.at number) ≡ Some (body_made x q)) (sym h.1) ((numbers_law setting).body number q placed h.0)
@@ -148,13 +151,14 @@ module _ (setting : Setting) where
     where
       either : (rest keeps : Bool) → Steps
       either rest keeps =
-          (if rest then
+          (if rest || keeps then call 4 (level_routine setting.at) [] ∷ [] else [])
+          ++ ((if rest then
           constant 5 (4 * length q.required) ∷ compute 5 which.Add 3 5 ∷ constant 6 (length q.required) ∷ compute 6 which.Subtract 2 6
           ∷ call 4 (list_routine setting.at) (5 ∷ 6 ∷ []) ∷ []
           else [])
           ++ ((if keeps then constant 5 0 ∷ if_equal 1 5 [] (call 3 (method_routine setting.at) (1 ∷ 2 ∷ 3 ∷ []) ∷ []) ∷ [] else [])
           ++ (words_loaded (length q.required) 7 3 0
-          ++ (call 4 (body_of_procedure setting.at number) (registers_from 7 (length q.required) ++ ((if rest then 4 ∷ [] else []) ++ extras setting extra)) ∷ return_word 4 ∷ [])))
+          ++ (call 4 (body_of_procedure setting.at number) (registers_from 7 (length q.required) ++ ((if rest then 4 ∷ [] else []) ++ extras setting extra)) ∷ return_word 4 ∷ []))))
 
   -- ---- what is behind the frame
 
@@ -175,13 +179,12 @@ module _ (setting : Setting) where
 
     inside_ends :
         (k turns m credit : ℕ) (z : FlatState) (y : MidState) (r : FlatEvaluated) → Things setting w z y → ((i : ℕ) → i < length vs → ValueAt w.places y.arena (address + 4 * i) (slice_index_or vs i nil))
-        → z.state.units ≤ r.state.state.units
         → ((ws : List ℕ) (paid : ℕ) → WordsOf w.places vs ws
         → CallEnds setting credit m rs valid w around z (mid_charged call_paid (mid_charged paid y)) r
         (called (code_at setting k turns) (body_of_procedure setting.at number) (ws ++ given) (mid_charged call_paid (mid_charged paid y))))
         → CallEnds setting (24 * length vs + (credit + call_paid + return_cost)) m rs valid w around z y r
         (exec (code_at setting k turns) (code_of (made number extra q).body) first y)
-    inside_ends k turns m credit z y r things values up comes =
+    inside_ends k turns m credit z y r things values comes =
         let count : length first ≡ 7 + length q.required = first_count (7 + length q.required) (self ∷ chain ∷ length vs ∷ address ∷ []) (omega arith) in
         let loads = loads_run (code_at setting k turns) w.places y.arena 7 0 address vs first y refl things.represents.arena.size (omega arith) (omega (arith, count, many)) refl
         (λ i few. let at : address + 4 * i ≡ address + 0 + 4 * i = omega arith in subst (λ x. ValueAt w.places y.arena x (slice_index_or vs i nil)) at (values i few)) in
@@ -200,8 +203,8 @@ module _ (setting : Setting) where
         (sym (ap (λ ss. exec (code_at setting k turns) (code_of ss) first y) code ∙ runs))
         (going_on_law setting loads.cost (credit + call_paid + return_cost) (24 * length vs + (credit + call_paid + return_cost)) m m rs valid w w around z z y y2 r behind
         (world_cost setting loads.cost things) (around_cost setting z y loads.cost (omega arith)) (omega (arith, within)) (omega arith) refl
-        (returning_law setting k turns credit m 4 (body_of_procedure setting.at number) (arguments_of (length vs) extra) (loads.ws ++ given) [] rs valid w around z y2 loads.after r
-        (loads.there (extras setting extra) given others) (omega (arith, size, count)) (things_cost setting loads.cost things) up (comes loads.ws loads.cost loads.of_values)))
+        (returned setting k turns credit m 4 (body_of_procedure setting.at number) (arguments_of (length vs) extra) (loads.ws ++ given) [] rs valid w around z y2 loads.after r
+        (loads.there (extras setting extra) given others) (omega (arith, size, count)) (things_cost setting loads.cost things) (comes loads.ws loads.cost loads.of_values)))
 
   -- ---- the meaning of an entry
 
@@ -211,7 +214,7 @@ module _ (setting : Setting) where
   abbrev meant : (j : ℕ) → FlatProcedure → List Captured → Option Called → List Value → DynamicContext → FlatState → FlatEvaluated
   meant j q cs called_as vs around x = mean_inside (context_at setting (suc j)) q cs called_as vs around x
 
-  meant_later : (j : ℕ) (q : FlatProcedure) (cs : List Captured) (called_as : Option Called) (vs : List Value) (around : DynamicContext) (x : FlatState)
+  pub meant_later : (j : ℕ) (q : FlatProcedure) (cs : List Captured) (called_as : Option Called) (vs : List Value) (around : DynamicContext) (x : FlatState)
       → FlatLater x (meant j q cs called_as vs around x).state
   meant_later j q cs called_as vs around x =
       (boxes {R = FlatLater} {k = later_kept} setting.limit around.exits (homes q) x
@@ -246,7 +249,7 @@ module _ (setting : Setting) where
 
   -- ---- what the body takes
 
-  method_there : (w : World) (y : MidState) (chain count address : ℕ) (called_as : Option Called) → stack_from y.arena ≤ address
+  pub method_there : (w : World) (y : MidState) (chain count address : ℕ) (called_as : Option Called) → stack_from y.arena ≤ address
       → MethodThere setting w y.arena (as_registers (chain ∷ count ∷ address ∷ [])) (Some 0) called_as
   method_there w y chain count address None low = tt
   method_there w y chain count address (Some c) low = λ x e. let same : address ≡ x = cc e in inr (omega (arith, low, same))
@@ -268,9 +271,10 @@ module _ (setting : Setting) where
   -- where the entry begins, with the words of the application charged
   begun :
       (q : FlatProcedure) (vs : List Value) {rs valid : List Standing} {n : ℕ} {w : World} {around : DynamicContext} {z : FlatState} {y : MidState}
-      → has_room setting.limit (z.state.heap + z.state.stack + 0 + size_of q vs) ≡ true → q.rest ≡ None → length vs ≡ length q.required → CallBegins setting rs valid n w around z y
+      → has_room setting.limit (z.state.heap + z.state.stack + 0 + size_of q vs) ≡ true → q.rest ≡ None → entry_words ≤ n → length vs ≡ length q.required
+      → CallBegins setting rs valid n w around z y
       → CallBegins setting rs valid (entry_words + body_words q) w around (charged (length vs) (asked (size_of q vs) z)) y
-  begun q vs {n = n} {around = around} {z = z} {y = y} room none same b = record {
+  begun q vs {n = n} {around = around} {z = z} {y = y} room none reserve same b = record {
     things = things_units setting (length vs) (things_charged setting (asked (size_of q vs) z) b.things refl refl refl refl refl (within_asked setting (size_of q vs) z room));
     around_stands = around_charged setting (charged (length vs) (asked (size_of q vs) z)) refl b.around_stands;
     room = room_by setting.limit b.room;
@@ -279,14 +283,10 @@ module _ (setting : Setting) where
       room_by : (l : Limit) → RoomFor l (n + words_for_handler * length around.handlers) z.state y
           → RoomFor l (entry_words + body_words q + words_for_handler * length around.handlers) (charged (length vs) (asked (size_of q vs) z)).state y
       room_by unlimited h = tt
-      room_by (words k) h = omega (arith, h, same, homes_count q none)
-
-  no_room_ended : (l : Limit) → RoomEnded setting l more
-  no_room_ended unlimited = tt
-  no_room_ended (words n) = tt
+      room_by (words k) h = omega (arith, h, same, homes_count q none, reserve)
 
   -- a cost takes no room
-  room_cost : (l : Limit) (m paid : ℕ) (z : FlatState) (y : MidState) → RoomFor l m z.state y → RoomFor l m z.state (mid_charged paid y)
+  pub room_cost : (l : Limit) (m paid : ℕ) (z : FlatState) (y : MidState) → RoomFor l m z.state y → RoomFor l m z.state (mid_charged paid y)
   room_cost unlimited m paid z y h = tt
   room_cost (words n) m paid z y h = h
 
@@ -317,26 +317,27 @@ module _ (setting : Setting) where
     abbrev credit_inside : ℕ → ℕ
     credit_inside credit = 24 * length vs + (credit + call_paid number extra q no_rest keeps_none rs valid vs self chain address w around many + return_cost)
 
-    -- with a level
+    -- with a level, behind the unit of which the body leaves something
     entered_ends : (j : ℕ) → BodyDoes setting j number extra q → (z1 : FlatState) → z1.captured ≡ z.captured → CallBegins setting rs valid (entry_words + body_words q) w around z1 y
-        → CallEnds setting (credit_inside (body_credit q) + entry_cost 4) turns rs valid w around z1 y (meant j q cs called_as vs around z1) (called (code_at setting (suc j) turns) number entry_given y)
+        → CallEnds setting (credit_inside (body_credit q) + entry_cost 4) turns rs valid w around (charged 1 z1) y (meant j q cs called_as vs around z1) (called (code_at setting (suc j) turns) number entry_given y)
     entered_ends j does z1 captured begins =
         let later = meant_later j q cs called_as vs around z1 in
         let grown = grown_later later in
-        turns_law setting (suc j) turns number turns (entry_words + body_words q) (body_words q) (credit_inside (body_credit q)) (made number extra q) entry_given rs valid w around z1 y
-        (meant j q cs called_as vs around z1) (found number extra q placed function) refl refl (omega arith) (omega arith) grown begins
+        turns_entered setting (suc j) turns number turns (entry_words + body_words q) (body_words q + routine_words) (credit_inside (body_credit q)) (made number extra q) entry_given rs valid w around (charged 1 z1) y
+        (meant j q cs called_as vs around z1) (found number extra q placed function) refl refl (omega arith) (omega (arith, grown.units)) grown.printed (begins_recounted setting (z1.state.units + 1) begins)
         (λ i e y' here.
-        inside_ends number extra q no_rest keeps_none rs valid vs self chain address w around many (suc j) i turns (body_credit q) z1 y' (meant j q cs called_as vs around z1) here.call.things
-        (values_inside w y y' address vs here.words b.arguments) grown.units
+        inside_ends number extra q no_rest keeps_none rs valid vs self chain address w around many (suc j) i turns (body_credit q) (charged 1 z1) y' (meant j q cs called_as vs around z1) here.call.things
+        (values_inside w y y' address vs here.words b.arguments)
         (λ ws paid of_values.
+        let inner : CallBegins setting rs valid (body_words q + routine_words) w around z1 y' = begins_recounted setting z1.state.units here.call in
         fewer_turns setting.turns_each turns few
         (does rs valid i cs called_as vs ws (given number extra q no_rest keeps_none rs valid vs self chain address w around many) w around z1
         (mid_charged (call_paid number extra q no_rest keeps_none rs valid vs self chain address w around many) (mid_charged paid y')) function fits
         (record {
           call = record {
-            things = things_cost setting (call_paid number extra q no_rest keeps_none rs valid vs self chain address w around many) (things_cost setting paid here.call.things);
-            around_stands = cost_around (call_paid number extra q no_rest keeps_none rs valid vs self chain address w around many) (cost_around paid here.call.around_stands);
-            room = room_cost setting.limit _ (call_paid number extra q no_rest keeps_none rs valid vs self chain address w around many) z1 (mid_charged paid y') (room_cost setting.limit _ paid z1 y' here.call.room);
+            things = things_cost setting (call_paid number extra q no_rest keeps_none rs valid vs self chain address w around many) (things_cost setting paid inner.things);
+            around_stands = cost_around (call_paid number extra q no_rest keeps_none rs valid vs self chain address w around many) (cost_around paid inner.around_stands);
+            room = room_cost setting.limit _ (call_paid number extra q no_rest keeps_none rs valid vs self chain address w around many) z1 (mid_charged paid y') (room_cost setting.limit _ paid z1 y' inner.room);
           };
           variables = of_values;
           variable_count = many ∙ sym (homes_count q no_rest);
@@ -348,37 +349,41 @@ module _ (setting : Setting) where
           site = λ asks. (b.site.0, here.words site_address ∙ b.site.1, b.site.2);
         }))))
 
-    cost_all : credit_inside (body_credit q) + entry_cost 4 ≤ 300 * length vs + entry_credit (length vs)
+    cost_all : credit_inside (body_credit q) + entry_cost 4 ≤ unit_cost * length vs + entry_credit (length vs)
     cost_all =
         let l = few_arguments number extra q no_rest keeps_none rs valid vs self chain address w around many in
         let h = homes_count q no_rest in
         omega (arith, l, h, many)
 
     entry_ends : (k : ℕ) (wrong : FlatSignals) → ((j : ℕ) → k ≡ suc j → BodyDoes setting j number extra q)
-        → CallEnds setting (entry_credit (length vs)) turns rs valid w around z y
+        → SparingCall setting (entry_credit (length vs)) turns rs valid w around z y
         (descend (below_at setting k) (λ entered. enter (context_at setting k) wrong q cs called_as vs around entered) around z) (called (code_at setting k turns) number entry_given y)
     entry_ends zero wrong does =
         let r : FlatEvaluated = descend (below_at setting zero) (λ entered. enter (context_at setting zero) wrong q cs called_as vs around entered) around z in
+        let enough = b.enough in
         without_level (credit_inside 0 + entry_cost 4) (entry_credit (length vs)) refl
-        (paid_turns_law setting zero turns number turns (credit_inside 0) (made number extra q) entry_given rs valid w around z y r (found number extra q placed function) refl refl (omega arith)
-        (same_flat z) b.call.things b.call.around_stands (λ short. no_room_ended setting.limit)
+        (turns_entered setting zero turns number turns n routine_words (credit_inside 0) (made number extra q) entry_given rs valid w around (charged 1 z) y r (found number extra q placed function) refl refl
+        (omega (arith, enough)) (omega arith) (same_flat z).printed (begins_recounted setting (z.state.units + 1) b.call)
         (λ i e y' here.
-        inside_ends number extra q no_rest keeps_none rs valid vs self chain address w around many zero i turns 0 z y' r here.things (values_inside w y y' address vs here.words b.arguments) (same_flat z).units
+        inside_ends number extra q no_rest keeps_none rs valid vs self chain address w around many zero i turns 0 (charged 1 z) y' r here.call.things (values_inside w y y' address vs here.words b.arguments)
         (λ ws paid of_values.
-        no_level_ends setting i (body_of_procedure setting.at number) turns (body_made extra q) (ws ++ given number extra q no_rest keeps_none rs valid vs self chain address w around many) w z
+        no_level_at setting i (body_of_procedure setting.at number) turns (body_made extra q) (ws ++ given number extra q no_rest keeps_none rs valid vs self chain address w around many) w z
         (mid_charged (call_paid number extra q no_rest keeps_none rs valid vs self chain address w around many) (mid_charged paid y'))
-        (mid_charged (call_paid number extra q no_rest keeps_none rs valid vs self chain address w around many) (mid_charged paid y')) r (body_found number extra q placed function) refl refl
-        (same_flat z) (things_cost setting (call_paid number extra q no_rest keeps_none rs valid vs self chain address w around many) (things_cost setting paid here.things)))))
+        (mid_charged (call_paid number extra q no_rest keeps_none rs valid vs self chain address w around many) (mid_charged paid y')) (charged 1 z) r (body_found number extra q placed function) refl refl
+        (same_flat z)
+        (things_cost setting (call_paid number extra q no_rest keeps_none rs valid vs self chain address w around many)
+        (things_cost setting paid (begins_recounted setting z.state.units here.call).things)))))
     entry_ends (suc j) wrong does =
-        subst (λ r. CallEnds setting (entry_credit (length vs)) turns rs valid w around z y r (called (code_at setting (suc j) turns) number entry_given y))
+        let z1 : FlatState = charged (length vs) (asked (size_of q vs) z) in
+        subst (λ r. SparingCall setting (entry_credit (length vs)) turns rs valid w around z y r (called (code_at setting (suc j) turns) number entry_given y))
         (sym (level_there setting j (λ entered. enter (context_at setting (suc j)) wrong q cs called_as vs around entered) around z
         ∙ entered_is j q cs called_as vs around wrong z no_rest keeps_none b.takes_so_many))
-        (framed_ends setting (size_of q vs) (λ entered. meant j q cs called_as vs around (charged (length vs) entered)) b.call.things.represents.printed
+        (framed_ends setting 1 (size_of q vs) (λ entered. meant j q cs called_as vs around (charged (length vs) entered)) b.call.things.represents.printed
         (called_grows setting (suc j) turns number entry_given y)
         (λ room. (
-          (meant_later j q cs called_as vs around (charged (length vs) (asked (size_of q vs) z))).stack,
-          calls_charged setting (length vs) cost_all
-              (entered_ends j (does j refl) (charged (length vs) (asked (size_of q vs) z)) refl (begun q vs room no_rest many b.call)),
+          (meant_later j q cs called_as vs around z1).stack,
+          calls_recounted setting {c1 = credit_inside (body_credit q) + entry_cost 4} {m1 = turns} (asked (size_of q vs) z) (z1.state.units + 1) (z.state.units + 1) (omega (arith, cost_all)) (omega arith)
+              (entered_ends j (does j refl) z1 refl (begun q vs room no_rest b.enough many b.call)),
         )))
 
 pub function_entries_law : LawOfFunctionEntries

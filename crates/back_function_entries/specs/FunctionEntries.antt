@@ -11,7 +11,7 @@ use Rattle.back_lowering.specs.Program.{Extra, nothing, its_method, itself}
 use Rattle.back_relation.specs.Setting.{Setting}
 use Rattle.back_relation.specs.Placed.{IsPlaced}
 use Rattle.back_relation.specs.Worlds.{World, Standing}
-use Rattle.back_relation.specs.Ends.{CallEnds}
+use Rattle.back_relation.specs.Ends.{SparingCall}
 use Rattle.back_relation.specs.Forms.{context_at, code_at, below_at}
 use Rattle.back_relation.specs.Procedures.{called, entry_credit, IsFunction, CapturedFits, BodyDoes, EntryBegins, EntryDoes}
 
@@ -28,7 +28,7 @@ module _ (setting : Setting) where
       (rs valid : List Standing) (n : ℕ) (wrong : FlatSignals) (cs : List Captured) (called_as : Option Called) (vs : List Value) (self chain address : ℕ) (w : World) (around : DynamicContext) (z : FlatState) (y : MidState)
       → IsFunction setting number extra q → CapturedFits setting w number extra q cs → CalledFits extra called_as
       → EntryBegins setting rs valid n q cs called_as vs self chain address w around z y
-      → CallEnds setting (entry_credit (length vs)) turns rs valid w around z y
+      → SparingCall setting (entry_credit (length vs)) turns rs valid w around z y
       (descend (below_at setting k) (λ entered. enter (context_at setting k) wrong q cs called_as vs around entered) around z)
       (called (code_at setting k turns) number (self ∷ chain ∷ length vs ∷ address ∷ []) y)
 

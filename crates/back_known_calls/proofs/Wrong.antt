@@ -146,7 +146,7 @@ module _ (setting : Setting) (placed : IsPlaced setting) (k turns name : ℕ) (f
       (sym (step_then (code_at setting k turns) (steps.call d (level_routine setting.at) []) behind_level regs y))
       (form_levels_law setting k wrong_credit b d d (signals around) (λ g x. exec (code_at setting k turns) (code_of behind_level) g x) placed (omega (arith, room)) (omega arith) begins.first
       (grown_later (signal_later setting k program_error_class [] around z)) (λ g x. code_grows setting s d n size k turns behind_level g x)
-      (λ word y' x site.
+      (λ j same word y' x site.
       let b2 : Start setting = start_after setting b d d n (omega arith) (omega arith) (omega arith) begins.first x in
       let size2 = x.kept.registers.count in
       behind setting {c1 = judging_cost} {c2 = routine_credit + 72} {c = wrong_credit} b d (omega arith) x (omega arith) (omega arith)

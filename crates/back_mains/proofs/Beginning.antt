@@ -1,4 +1,4 @@
--- The record of the end is laid with its link: what words said goes on being said, and it stands.
+-- The record of the end is laid: what words said goes on being said, and it stands.
 use Rattle.std.proofs.Common.{◌≡◌, ℕ, ◌+◌, ◌<◌, ◌≤◌, List, [], ◌∷◌, length, Option, Some, refl, ap, ◌∙◌, arith}
 use Rattle.std.specs.Prelude.{◌%◌, slice_get, if◌then◌else◌}
 use Rattle.std.proofs.lemmas.Bool.{eq-eqb, ne_eqb}
@@ -33,11 +33,10 @@ use Rattle.back_exits.proofs.Steps.{laid_size, laid_from, laid_to, laid_low, lai
 use Rattle.back_exits.proofs.Touching.{world_touched, stored_blocks, stored_heap, stored_from}
 use Rattle.back_exits.proofs.Words.{control_lent, control_there, control_of}
 use Rattle.back_objects.proofs.Boxes.{stack_above}
-use Rattle.back_mains.specs.Beginning.{block_laid, end_there, end_record, NothingAround, EndBegins, LawOfBeginnings}
-use Rattle.back_mains.specs.Links.{arena_laid, laid_at}
-use Rattle.back_mains.specs.MainSteps.{linked_stores}
+use Rattle.back_mains.specs.Beginning.{arena_laid, laid_at, block_laid, end_there, end_record, NothingAround, EndBegins, LawOfBeginnings}
+use Rattle.back_mains.specs.MainSteps.{end_stores}
 use Rattle.back_mains.specs.Surroundings.{EndStands}
-use Rattle.back_mains.proofs.MainSteps.{linked_runs}
+use Rattle.back_mains.proofs.MainSteps.{laid_runs}
 use Rattle.back_mains.proofs.Surroundings.{main_forms_law}
 
 module _ (setting : Setting) (placed : IsPlaced setting) {current link : ℕ} {w : World} {z : FlatState} {y : MidState} (b : NothingAround setting current link w z y) where
@@ -98,7 +97,7 @@ module _ (setting : Setting) (placed : IsPlaced setting) {current link : ℕ} {w
 
   -- all stores but the last one
   abbrev puts : List Put
-  puts = of_record 4 end_kind ∷ of_record 8 current ∷ of_control 0 at ∷ of_record 12 link ∷ of_record 0 0 ∷ of_control 4 at ∷ []
+  puts = of_record 4 end_kind ∷ of_record 8 current ∷ of_control 0 at ∷ of_record 0 0 ∷ of_record 12 link ∷ of_control 4 at ∷ []
 
   abbrev y1 : MidState
   y1 = touched (pairs at puts) inner (y.cost + 36 + 106) y
@@ -166,7 +165,7 @@ module _ (setting : Setting) (placed : IsPlaced setting) {current link : ℕ} {w
   changes = changes_in_spot end_address at world_then.things.represents.arena spot_then refl (omega arith) (omega arith)
 
   after : stack_from y2.arena ≡ stack_from inner
-  after = stored_from (linked_stores at current link) inner
+  after = stored_from (end_stores at current link) inner
 
   goes_on : GoesOn setting w1 w1.boxes w.exit_forms z.state.exits y1 y2
   goes_on =
@@ -200,8 +199,8 @@ module _ (setting : Setting) (placed : IsPlaced setting) {current link : ℕ} {w
 
   pub found : blocks_from (length y2.arena.memory) y2.arena.blocks at ≡ Some (record_of record_words ∷ y.arena.blocks)
   found =
-      ap (λ n. blocks_from n y2.arena.blocks at) (stored_size (linked_stores at current link) inner)
-      ∙ ap (λ bs. blocks_from (length inner.memory) bs at) (stored_blocks (linked_stores at current link) inner)
+      ap (λ n. blocks_from n y2.arena.blocks at) (stored_size (end_stores at current link) inner)
+      ∙ ap (λ bs. blocks_from (length inner.memory) bs at) (stored_blocks (end_stores at current link) inner)
       ∙ ap (λ t. if t then Some (record_of record_words ∷ y.arena.blocks) else blocks_from (length inner.memory) y.arena.blocks at) (eq-eqb at at refl)
 
   in_record : (k n : ℕ) → k < 24 → k % 4 ≡ 0 → last_record k puts ≡ Some n → HasWordAt y2 (at + k) n
@@ -218,7 +217,7 @@ module _ (setting : Setting) (placed : IsPlaced setting) {current link : ℕ} {w
     high =
         let t = to in
         let size = laid_size stands b.room in
-        let same = stored_size (linked_stores at current link) inner in
+        let same = stored_size (end_stores at current link) inner in
         omega (arith, t, size, same);
     plain = λ k few i e. let low = stack_above (stack_from y.arena) i (at + k) w.boxes e in let t = to in omega (arith, low, t, few);
     kind = in_record 4 end_kind (omega arith) refl refl;
@@ -235,12 +234,13 @@ module _ (setting : Setting) (placed : IsPlaced setting) {current link : ℕ} {w
     end = end_word;
     no_handler = in_control 20 0 0 (omega arith) refl says_inside.handlers_word refl;
     no_binding = in_control 24 0 0 (omega arith) refl says_inside.bindings_word refl;
+    end_form = b.end_form;
   }
 
   -- ---- the words that are left
 
   heap_then : y2.arena.heap_to ≡ y.arena.heap_to
-  heap_then = stored_heap (linked_stores at current link) inner
+  heap_then = stored_heap (end_stores at current link) inner
 
   pub words_left : left y2.arena + 8 ≡ left y.arena
   words_left =
@@ -257,7 +257,7 @@ module _ (setting : Setting) (placed : IsPlaced setting) {current link : ℕ} {w
 
   pub begins_then : (n : ℕ) (tail : Registers) (r1 r2 r3 r4 r5 r6 r7 r8 : Option ℕ) → EndBegins setting current link n w z y tail r1 r2 r3 r4 r5 r6 r7 r8
   begins_then n tail r1 r2 r3 r4 r5 r6 r7 r8 = record {
-    runs = λ c. (linked_runs c (r8 ∷ tail) r1 r2 r3 r4 r5 r6 r7 at current link 0 0 (block_laid y) lent_control lent_record says_inside).same;
+    runs = λ c. (laid_runs c (r8 ∷ tail) r1 r2 r3 r4 r5 r6 r7 at current link 0 0 (block_laid y) lent_control lent_record says_inside).same;
     w' = w1;
     later = world_then.later;
     things = things_then;

@@ -1,6 +1,8 @@
 pub mod MainSteps
-pub mod Links
 pub mod Surroundings
 pub mod Beginning
 pub mod MainEnds
 pub mod Numbers
+mod Kept
+mod Classes
+mod Mains

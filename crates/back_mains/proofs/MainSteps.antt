@@ -14,7 +14,7 @@ use Rattle.back_lowering.specs.Steps.{constant, store}
 use Rattle.back_combining.specs.Stores.{stores}
 use Rattle.back_combining.proofs.Windows.{constant_in, load_in, store_in, stored_elsewhere, stored_lent}
 use Rattle.back_exits.specs.RecordSteps.{ControlSays, ControlLent, RecordLent, record_stores, with_stores}
-use Rattle.back_mains.specs.MainSteps.{end_laid, end_landed, end_linked, end_stores, linked_stores, LawOfMainSteps}
+use Rattle.back_mains.specs.MainSteps.{end_laid, end_landed, end_stores, LawOfMainSteps}
 
 -- ---- laying
 
@@ -85,34 +85,19 @@ module _ (c : Context) (tail : Registers) (r1 r2 r3 r4 r5 r6 r7 : Option ℕ) (a
       none_left)))))))))
       (omega arith)
 
-  -- it is that of the end, as it is laid now
+  -- it is that of the end
   pub laid_runs :
       RunsTo c (code_of end_laid) (Some address ∷ r1 ∷ r2 ∷ r3 ∷ r4 ∷ r5 ∷ r6 ∷ r7 ∷ tail) y
-      (ends falls (registers (Some 0) (Some 0)) (with_stores (end_stores address current) 98 y))
+      (ends falls (registers (Some 0) (Some 0)) (with_stores (end_stores address current link) 106 y))
   laid_runs =
-      costing {n = y.cost + 98}
-      (parts_then (record_laid 0 6 end_kind) (constant 7 0 ∷ store 7 0 record_serial ∷ store 0 6 link_address ∷ store 0 6 end_address ∷ [])
+      costing {n = y.cost + 106}
+      (parts_then (record_laid 0 6 end_kind) (constant 7 0 ∷ store 7 0 record_serial ∷ store 2 0 record_link ∷ store 0 6 link_address ∷ store 0 6 end_address ∷ [])
       record_runs
       (and_then (constant_in c [] 0 refl _ _ 7 7 0 refl)
       (and_then (store_in c [] 0 refl _ _ 7 7 0 0 address record_serial 0 refl refl refl refl (omega (arith, low)) (lent_record (p1 ∷ p2 ∷ p3 ∷ []) record_serial (omega arith) refl))
-      (and_then (store_in c [] 0 refl _ _ 0 0 6 6 0 link_address address refl refl refl refl (omega arith) (lent_control (p1 ∷ p2 ∷ p3 ∷ serial_put ∷ []) 4 (omega arith) refl))
-      (and_then (store_in c [] 0 refl _ _ 0 0 6 6 0 end_address address refl refl refl refl (omega arith) (lent_control (p1 ∷ p2 ∷ p3 ∷ serial_put ∷ valid_put ∷ []) 32 (omega arith) refl))
-      none_left)))))
-      (omega arith)
-
-  -- and with its link
-  pub linked_runs :
-      RunsTo c (code_of end_linked) (Some address ∷ r1 ∷ r2 ∷ r3 ∷ r4 ∷ r5 ∷ r6 ∷ r7 ∷ tail) y
-      (ends falls (registers (Some 0) (Some 0)) (with_stores (linked_stores address current link) 106 y))
-  linked_runs =
-      costing {n = y.cost + 106}
-      (parts_then (record_laid 0 6 end_kind) (store 2 0 record_link ∷ constant 7 0 ∷ store 7 0 record_serial ∷ store 0 6 link_address ∷ store 0 6 end_address ∷ [])
-      record_runs
-      (and_then (store_in c [] 0 refl _ _ 2 2 0 0 address record_link link refl refl refl refl (omega (arith, low)) (lent_record (p1 ∷ p2 ∷ p3 ∷ []) record_link (omega arith) refl))
-      (and_then (constant_in c [] 0 refl _ _ 7 7 0 refl)
-      (and_then (store_in c [] 0 refl _ _ 7 7 0 0 address record_serial 0 refl refl refl refl (omega (arith, low)) (lent_record (p1 ∷ p2 ∷ p3 ∷ link_put ∷ []) record_serial (omega arith) refl))
-      (and_then (store_in c [] 0 refl _ _ 0 0 6 6 0 link_address address refl refl refl refl (omega arith) (lent_control (p1 ∷ p2 ∷ p3 ∷ link_put ∷ serial_put ∷ []) 4 (omega arith) refl))
-      (and_then (store_in c [] 0 refl _ _ 0 0 6 6 0 end_address address refl refl refl refl (omega arith) (lent_control (p1 ∷ p2 ∷ p3 ∷ link_put ∷ serial_put ∷ valid_put ∷ []) 32 (omega arith) refl))
+      (and_then (store_in c [] 0 refl _ _ 2 2 0 0 address record_link link refl refl refl refl (omega (arith, low)) (lent_record (p1 ∷ p2 ∷ p3 ∷ serial_put ∷ []) record_link (omega arith) refl))
+      (and_then (store_in c [] 0 refl _ _ 0 0 6 6 0 link_address address refl refl refl refl (omega arith) (lent_control (p1 ∷ p2 ∷ p3 ∷ serial_put ∷ link_put ∷ []) 4 (omega arith) refl))
+      (and_then (store_in c [] 0 refl _ _ 0 0 6 6 0 end_address address refl refl refl refl (omega arith) (lent_control (p1 ∷ p2 ∷ p3 ∷ serial_put ∷ link_put ∷ valid_put ∷ []) 32 (omega arith) refl))
       none_left))))))
       (omega arith)
 
@@ -148,8 +133,6 @@ main_steps_law = record {
   parts = λ names at program f. refl;
   laid = λ c tail r1 r2 r3 r4 r5 r6 r7 address current link handlers bindings y control lent says.
       (laid_runs c tail r1 r2 r3 r4 r5 r6 r7 address current link handlers bindings y control lent says).same;
-  linked = λ c tail r1 r2 r3 r4 r5 r6 r7 address current link handlers bindings y control lent says.
-      (linked_runs c tail r1 r2 r3 r4 r5 r6 r7 address current link handlers bindings y control lent says).same;
   landed = λ c tail r0 r1 r2 r3 r4 r6 r7 condition class number site y low below e f g.
       (landed_runs c tail r0 r1 r2 r3 r4 r6 r7 condition class number site y low below e f g).same;
 }

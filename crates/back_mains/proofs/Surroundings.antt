@@ -1,20 +1,27 @@
 -- What is around where the record of the end stands, and where the form begins.
-use Rattle.std.proofs.Common.{inl, inr, ℕ, ◌+◌, ◌*◌, [], ◌∷◌, length, refl, sym, ap, subst, arith}
-use Rattle.lang_meaning.specs.State.{State, main_context, Limit, words, unlimited}
+use Rattle.std.proofs.Common.{◌≡◌, inl, inr, ℕ, ◌+◌, ◌*◌, [], ◌∷◌, length, refl, sym, ap, ◌∙◌, subst, arith}
+use Rattle.lang_meaning.specs.State.{State, Exit, main_context, Limit, words, unlimited}
 use Rattle.flat_language.specs.FlatState.{FlatState}
 use Rattle.mid_code.specs.State.{MidState}
 use Rattle.back_relation.specs.Setting.{Setting}
 use Rattle.back_relation.specs.Room.{words_for_handler}
-use Rattle.back_relation.specs.Worlds.{World, Standing, IsIn}
+use Rattle.back_relation.specs.Worlds.{World, for_exit, Standing, IsIn, IsTagged}
 use Rattle.back_relation.specs.StackWords.{RecordAt}
 use Rattle.back_relation.specs.Things.{Things}
 use Rattle.back_relation.specs.Around.{RoomFor, AroundStands}
-use Rattle.back_mains.specs.Surroundings.{EndStands, LawOfMainSurroundings, LawOfMainForms}
+use Rattle.back_mains.specs.Surroundings.{the_end, EndStands, LawOfMainSurroundings, LawOfMainForms}
 
 module _ (setting : Setting) {w : World} {z : FlatState} {y : MidState} {r : Standing} (t : Things setting w z y) (e : EndStands w y r) where
   is_there : (v : Standing) → IsIn v (r ∷ []) → RecordAt w y v
   is_there v (inl same) = subst (λ u. RecordAt w y u) (sym same) e.there
   is_there v (inr none) = absurd none
+
+  not_tagged : (x : Exit) (v : Standing) → IsIn v (r ∷ []) → v.role ≡ for_exit x → IsTagged x.kind → ⊥
+  not_tagged x v (inl same) role tagged =
+      let is : for_exit the_end ≡ for_exit x = sym e.role ∙ ap (λ (s : Standing). s.role) (sym same) ∙ role in
+      let exit_is : the_end ≡ x = cc is in
+      subst (λ (o : Exit). IsTagged o.kind) (sym exit_is) tagged
+  not_tagged x v (inr none) role tagged = none
 
   pub surroundings : AroundStands setting w (r ∷ []) (r ∷ []) main_context z y
   surroundings =
@@ -37,6 +44,8 @@ module _ (setting : Setting) {w : World} {z : FlatState} {y : MidState} {r : Sta
         end_record = r;
         end_valid = refl;
         end_word = e.end;
+        end_form = e.end_form;
+        tags_land = λ x v i role tagged. absurd (not_tagged x v i role tagged);
       }
 
 main_room : (l : Limit) (n : ℕ) (z : State) (y : MidState) → RoomFor l n z y → RoomFor l (n + words_for_handler * 0) z y

@@ -1,6 +1,6 @@
 pub mod MainSteps
-pub mod Links
 pub mod Surroundings
 pub mod Beginning
 pub mod MainEnds
 pub mod Numbers
+pub mod Mains

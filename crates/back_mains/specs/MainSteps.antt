@@ -19,27 +19,19 @@ use Rattle.back_exits.specs.RecordSteps.{ControlSays, ControlLent, RecordLent, r
 
 -- in front of the form; and where a transfer lands
 abbrev pub end_laid : Steps
-end_laid = record_laid 0 6 end_kind ++ (constant 7 0 ∷ store 7 0 record_serial ∷ store 0 6 link_address ∷ store 0 6 end_address ∷ [])
+end_laid =
+    record_laid 0 6 end_kind
+    ++ (constant 7 0 ∷ store 7 0 record_serial ∷ store 2 0 record_link ∷ store 0 6 link_address ∷ store 0 6 end_address ∷ [])
 
 abbrev pub end_landed : Steps
 end_landed =
     load 6 5 2 ∷ load 6 6 2 ∷ constant 7 2 ∷ compute 6 which.ShiftRight 6 7 ∷ constant 7 0 ∷ load 7 7 landing_address ∷ end_unhandled 6 7 5 ∷ []
 
--- The same in front of the form, where the record gets the word of its link too, as those of all other exits do.
-abbrev pub end_linked : Steps
-end_linked =
-    record_laid 0 6 end_kind
-    ++ (store 2 0 record_link ∷ constant 7 0 ∷ store 7 0 record_serial ∷ store 0 6 link_address ∷ store 0 6 end_address ∷ [])
-
 -- what is stored
-abbrev pub end_stores : (address current : ℕ) → List (ℕ × ℕ)
-end_stores address current =
-    record_stores end_kind address current ++ ((address + record_serial, 0) ∷ (link_address, address) ∷ (end_address, address) ∷ [])
-
-abbrev pub linked_stores : (address current link : ℕ) → List (ℕ × ℕ)
-linked_stores address current link =
+abbrev pub end_stores : (address current link : ℕ) → List (ℕ × ℕ)
+end_stores address current link =
     record_stores end_kind address current
-    ++ ((address + record_link, link) ∷ (address + record_serial, 0) ∷ (link_address, address) ∷ (end_address, address) ∷ [])
+    ++ ((address + record_serial, 0) ∷ (address + record_link, link) ∷ (link_address, address) ∷ (end_address, address) ∷ [])
 
 pub record LawOfMainSteps : Type 0 where
   -- **a main form is** these steps, its form and the return of its word inside a control record, with these at its landing
@@ -52,13 +44,7 @@ pub record LawOfMainSteps : Type 0 where
       → ControlLent y.arena → RecordLent y.arena address → ControlSays y.arena current link handlers bindings
       → exec c (code_of end_laid) (Some address ∷ r1 ∷ r2 ∷ r3 ∷ r4 ∷ r5 ∷ r6 ∷ r7 ∷ tail) y
       ≡ ends falls (Some address ∷ Some current ∷ Some link ∷ Some handlers ∷ Some bindings ∷ r5 ∷ Some 0 ∷ Some 0 ∷ tail)
-      (with_stores (end_stores address current) 98 y)
-  pub linked :
-      (c : Context) (tail : Registers) (r1 r2 r3 r4 r5 r6 r7 : Option ℕ) (address current link handlers bindings : ℕ) (y : MidState)
-      → ControlLent y.arena → RecordLent y.arena address → ControlSays y.arena current link handlers bindings
-      → exec c (code_of end_linked) (Some address ∷ r1 ∷ r2 ∷ r3 ∷ r4 ∷ r5 ∷ r6 ∷ r7 ∷ tail) y
-      ≡ ends falls (Some address ∷ Some current ∷ Some link ∷ Some handlers ∷ Some bindings ∷ r5 ∷ Some 0 ∷ Some 0 ∷ tail)
-      (with_stores (linked_stores address current link) 106 y)
+      (with_stores (end_stores address current link) 106 y)
   -- **the run ends** with what the words of the condition say, and the landing
   pub landed :
       (c : Context) (tail : Registers) (r0 r1 r2 r3 r4 r6 r7 : Option ℕ) (condition class number site : ℕ) (y : MidState)

@@ -1,5 +1,5 @@
 -- **What is around a main form**: the record of the end and no other, no handler and no binding; and where its form begins.
-use Rattle.std.specs.Prelude.{◌≡◌, ℕ, ◌<◌, [], ◌∷◌, length, true}
+use Rattle.std.specs.Prelude.{◌≡◌, ℕ, ◌<◌, [], ◌∷◌, length, slice_get, Some, None, true}
 use Rattle.lang_meaning.specs.State.{Exit, end_exit, main_context}
 use Rattle.flat_language.specs.FlatExits.{no_exits}
 use Rattle.flat_language.specs.FlatState.{no_environment, FlatState}
@@ -26,6 +26,7 @@ pub record EndStands (w : World) (y : MidState) (r : Standing) : Type 0 where
   pub end : HasWordAt y end_address r.address
   pub no_handler : HasWordAt y handlers_address 0
   pub no_binding : HasWordAt y bindings_address 0
+  pub end_form : slice_get w.exit_forms 0 ≡ Some None
 
 -- **that is around**
 abbrev pub LawOfMainSurroundings : Type 0

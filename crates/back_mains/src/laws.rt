@@ -3,23 +3,13 @@ ghost use Rattle.back_relation.specs.Setting.{Setting};
 ghost use Rattle.back_mains.specs.Beginning.{LawOfBeginnings};
 ghost use Rattle.back_mains.specs.MainEnds.{LawOfMainEnds};
 ghost use Rattle.back_mains.specs.MainSteps.{LawOfMainSteps};
-ghost use Rattle.back_mains.specs.Links.{LawOfWantedLinks, LawOfEmptyLinks};
+ghost use Rattle.back_mains.specs.Mains.{LawOfMains};
 ghost use Rattle.back_mains.specs.Numbers.{LawOfMainNumbers};
 ghost use Rattle.back_mains.specs.Surroundings.{LawOfMainSurroundings, LawOfMainForms};
 
 /// What the steps around the form of a main form do.
 pub fn law_main_steps()
     ensures { LawOfMainSteps }
-{}
-
-/// The record of the end has to have the word of its link, or nothing is said of what is around.
-pub fn law_wanted_links()
-    ensures { LawOfWantedLinks }
-{}
-
-/// The steps of a main form leave it without.
-pub fn law_empty_links()
-    ensures { LawOfEmptyLinks }
 {}
 
 /// What is around a main form where the record of the end stands.
@@ -32,12 +22,12 @@ pub fn law_main_forms()
     ensures { LawOfMainForms }
 {}
 
-/// With the word of the link, the record of the end stands, and the form begins.
+/// The record of the end stands, and the form begins.
 pub fn law_beginnings()
     ensures { LawOfBeginnings }
 {}
 
-/// What the code of a main form comes to, with the link, from what its form comes to.
+/// What the code of a main form comes to, from what its form comes to.
 pub fn law_main_ends()
     ensures { LawOfMainEnds }
 {}
@@ -45,4 +35,9 @@ pub fn law_main_ends()
 /// Which procedures are the main forms, and which is the start.
 pub fn law_main_numbers()
     ensures { (setting : Setting) → LawOfMainNumbers setting }
+{}
+
+/// Main forms with their entry do what they mean.
+pub fn law_mains()
+    ensures { LawOfMains }
 {}

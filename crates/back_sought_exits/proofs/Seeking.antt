@@ -38,6 +38,7 @@ use Rattle.back_relation.specs.Room.{routine_words}
 use Rattle.back_relation.specs.Worlds.{World, LandsIn}
 use Rattle.back_relation.specs.Things.{MadeBy, AreMadeBy}
 use Rattle.back_relation.specs.Forms.{context_at, code_at}
+use Rattle.back_relation.specs.RoutineClaims.{routine_credit}
 use Rattle.back_combining.specs.Starts.{Start, ReachedFrom, EndsAt}
 use Rattle.back_combining.proofs.Starts.{reached_set}
 use Rattle.back_calling.specs.Calling.{Between, AllButTwo}
@@ -47,7 +48,12 @@ use Rattle.back_calling.proofs.Sited.{sited_calls_law}
 use Rattle.back_exits.proofs.Charging.{next_start, whole_then}
 use Rattle.back_values.proofs.CapturedWords.{of_kind, is_exit, part_there}
 use Rattle.back_values.proofs.Far.{load_far_runs}
-use Rattle.back_sought_exits.specs.Sought.{LeavingDoes, seeking_cost}
+use Rattle.back_sought_exits.specs.Sought.{LeavingDoes}
+
+-- what the code of such a way costs itself, at most, where the word that goes to the exit is there: a number that was captured may be far
+abbrev pub seeking_cost : ExitPlace → ℕ
+seeking_cost (place.Own n) = 90
+seeking_cost (place.Captured n) = 108
 
 -- the code of an own exit that is sought
 pub search_code :
@@ -64,7 +70,7 @@ made_at w (c ∷ cs) [] i e h g = absurd h
 made_at w (c ∷ cs) (f ∷ fs) zero e h g = let same : c ≡ of_exit (Some e) = cc g in subst (λ x. MadeBy w x f) same h.0
 made_at w (c ∷ cs) (f ∷ fs) (suc i) e h g = made_at w cs fs i e h.1 g
 
-module _ (setting : Setting) (k : ℕ) (a : Start setting) (there : a.d + 4 ≤ length a.regs) (enough_words : routine_words ≤ a.n) (credit : ℕ) (does : LeavingDoes setting k a.turns credit)
+module _ (setting : Setting) (k : ℕ) (a : Start setting) (there : a.d + 4 ≤ length a.regs) (enough_words : routine_words ≤ a.n) (does : LeavingDoes setting k a.turns)
     (landing : ℕ) (v : Value) (word : ℕ) (in_register : register a.d a.regs ≡ Some word) (of_value : word_of a.w.places v ≡ Some word) where
   abbrev c : Context
   c = code_at setting k a.turns
@@ -103,19 +109,19 @@ module _ (setting : Setting) (k : ℕ) (a : Start setting) (there : a.d + 4 ≤ 
 
   -- **the number came into the register behind the word**
   pub sought :
-      (total spent e : ℕ) (serial : Steps) → credit + spent + 84 ≤ total → RunsTo c (code_of serial) a.regs a.y (ends falls (g e) (mid_charged spent a.y))
+      (total spent e : ℕ) (serial : Steps) → routine_credit + spent + 84 ≤ total → RunsTo c (code_of serial) a.regs a.y (ends falls (g e) (mid_charged spent a.y))
       → LandsIn (slice_get a.w.exit_forms e) (at_segment landing)
       → EndsAt setting total a (goes (Some e)) (exec c (code_of (by_serial setting.at a.s.code.site serial a.d (a.d + 1) landing)) a.regs a.y)
   sought total spent e serial enough runs lands =
       let first : length (g e) ≡ length a.regs = length-set a.regs (a.d + 1) (Some e) in
       let x : ReachedFrom setting spent a a.d a.w a.z (g e) (mid_charged spent a.y) = reached_set setting a a.d (a.d + 1) e spent (omega arith) (omega arith) (omega arith) in
-      let b : Start setting = next_start setting (credit + 84) total a a.d a.d a.n (omega arith) (omega arith) (omega arith) a.begins.first x (omega (arith, enough)) in
+      let b : Start setting = next_start setting (routine_credit + 84) total a a.d a.d a.n (omega arith) (omega arith) (omega arith) a.begins.first x (omega (arith, enough)) in
       let rest : Steps =
       site_stored a.s.code.site (a.d + 1 + 1) (a.d + 1 + 2)
       ++ (constant (a.d + 1 + 1) landing ∷ call a.d (leave_routine setting.at) ((a.d + 1) ∷ a.d ∷ (a.d + 1 + 1) ∷ []) ∷ []) in
       subst (λ q. EndsAt setting total a (goes (Some e)) q) (sym (parts_then serial rest runs (record { same = refl })).same)
-      (whole_then setting {c1 = spent} (credit + 84) total a a.d a.d a.n (omega arith) (omega arith) (omega arith) a.begins.first x (omega (arith, enough)) {r = goes (Some e)} {q = exec c (code_of rest) (g e) b.y} (omega arith)
-      (sited_calls_law setting k b (credit + 84) credit 6 a.d (a.d + 1 + 1) (a.d + 1 + 2) (leave_routine setting.at) (constant (a.d + 1 + 1) landing ∷ []) ((a.d + 1) ∷ a.d ∷ (a.d + 1 + 1) ∷ [])
+      (whole_then setting {c1 = spent} (routine_credit + 84) total a a.d a.d a.n (omega arith) (omega arith) (omega arith) a.begins.first x (omega (arith, enough)) {r = goes (Some e)} {q = exec c (code_of rest) (g e) b.y} (omega arith)
+      (sited_calls_law setting k b (routine_credit + 84) routine_words routine_credit 6 a.d (a.d + 1 + 1) (a.d + 1 + 2) (leave_routine setting.at) (constant (a.d + 1 + 1) landing ∷ []) ((a.d + 1) ∷ a.d ∷ (a.d + 1 + 1) ∷ [])
       (e ∷ word ∷ landing ∷ []) (goes (Some e)) (omega arith) (omega arith) (omega arith) (omega arith) (omega (arith, first, there)) enough_words
       (transfers {R = FlatLater} {k = later_kept} (context_at setting k) (tasks_below setting k) (Some e) v (at_segment landing) a.around a.z).grows
       (λ regs number paid others. between e regs (stored_at site_address number paid b.y) others)
@@ -129,7 +135,7 @@ module _ (setting : Setting) (k : ℕ) (a : Start setting) (there : a.d + 4 ≤ 
 
   -- **an own exit is sought**
   pub own_sought :
-      (total i : ℕ) (x : OwnExit) → credit + seeking_cost (place.Own i) ≤ total → slice_get a.s.code.exits i ≡ Some x → x.reach ≡ BySearch → Lands (place.Own i) → Comes total (place.Own i)
+      (total i : ℕ) (x : OwnExit) → routine_credit + seeking_cost (place.Own i) ≤ total → slice_get a.s.code.exits i ≡ Some x → x.reach ≡ BySearch → Lands (place.Own i) → Comes total (place.Own i)
   own_sought total i x enough found by_search lands =
       let own = a.begins.activation.exits i x found in
       let e : ℕ = own.0 in
@@ -138,7 +144,7 @@ module _ (setting : Setting) (k : ℕ) (a : Start setting) (there : a.d + 4 ≤ 
       (sought total 6 e (move (a.d + 1) x.serial ∷ []) (omega (arith, enough)) (and_then (move_falls own.2) none_left) (lands e (a.begins.activation.exit_forms i e own.1))))
 
   -- **an exit that was captured is sought**
-  pub captured_sought : (total i : ℕ) → credit + seeking_cost (place.Captured i) ≤ total → slice_get a.s.flat.captured i ≡ Some kind.Exit → Lands (place.Captured i) → Comes total (place.Captured i)
+  pub captured_sought : (total i : ℕ) → routine_credit + seeking_cost (place.Captured i) ≤ total → slice_get a.s.flat.captured i ≡ Some kind.Exit → Lands (place.Captured i) → Comes total (place.Captured i)
   captured_sought total i enough stands lands =
       let part = of_kind a.s.flat.captured a.env.captured i kind.Exit a.begins.activation.kinds stands in
       let o = is_exit part.0 part.2 in by o.0 (part.1 ∙ ap (λ x. Some x) o.1)

@@ -30,7 +30,7 @@ use Rattle.back_combining.proofs.Points.{does_here}
 use Rattle.back_exits.proofs.AtOnce.{returns_at_once_law, goes_at_once_law}
 use Rattle.back_cleanups.proofs.Returns.{returns_by_transfer_law, goes_by_transfer_law}
 use Rattle.back_cleanups.specs.Cleanups.{TransferGoes}
-use Rattle.back_sought_exits.specs.Sought.{LeavingDoes, seeking_cost, LawOfWholeReturns, LawOfWholeGoes}
+use Rattle.back_sought_exits.specs.Sought.{LeavingDoes, LawOfWholeReturns, LawOfWholeGoes}
 use Rattle.back_sought_exits.proofs.Seeking.{search_code}
 use Rattle.back_sought_exits.proofs.Leaving.{returns_by_search_law, goes_by_search_law, returns_to_captured_law, goes_to_captured_law}
 
@@ -95,46 +95,46 @@ own_there xs es count i same flat low = by (slice_get_cases xs i).1
 
 -- ---- `return-from`
 
-module _ (setting : Setting) (s : FormScope) (d n size k turns credit : ℕ) (placed : IsPlaced setting) (goes : TransferGoes setting k turns) (does : LeavingDoes setting k turns credit)
+module _ (setting : Setting) (s : FormScope) (d n size k turns : ℕ) (placed : IsPlaced setting) (goes : TransferGoes setting k turns) (does : LeavingDoes setting k turns)
     (enough_words : routine_words ≤ n) where
   own_return :
-      (i : ℕ) (x : OwnExit) (f : FlatForm) → credit + seeking_cost (place.Own i) ≤ 300 → slice_get s.code.exits i ≡ Some x
+      (i : ℕ) (x : OwnExit) (f : FlatForm) → slice_get s.code.exits i ≡ Some x
       → enough_for (of_code (code_of (exit_code setting.names setting.at setting.program s.code d 0 (place.Own i)))) ≤ size → is_block (made_by s.exits (place.Own i)) ≡ true
       → Here setting s d n size k turns f → Here setting s d n size k turns (return_from (place.Own i) f)
-  own_return i x f enough found names block here = by x.reach refl
+  own_return i x f found names block here = by x.reach refl
     where
       by : (r : Reach) → x.reach ≡ r → Here setting s d n size k turns (return_from (place.Own i) f)
       by AtOnce e = returns_at_once_law setting s d n size k turns i x f placed (at_once_width setting s d 0 size i x found names e) found e block here
       by ByTransfer e = returns_by_transfer_law setting s d n size k turns i x f placed (by_transfer_width setting s d 0 size i x found names e) enough_words goes found e block here
-      by BySearch e = returns_by_search_law setting s d n size k turns credit i x f (by_search_width setting s d 0 size i x found names e) enough_words enough does found e block here
+      by BySearch e = returns_by_search_law setting s d n size k turns i x f (by_search_width setting s d 0 size i x found names e) enough_words does found e block here
 
   own_go :
-      (i segment : ℕ) (x : OwnExit) → credit + seeking_cost (place.Own i) + 6 ≤ 300 → slice_get s.code.exits i ≡ Some x
+      (i segment : ℕ) (x : OwnExit) → slice_get s.code.exits i ≡ Some x
       → enough_for (of_code (code_of (exit_code setting.names setting.at setting.program s.code d segment (place.Own i)))) ≤ size → is_segment segment (made_by s.exits (place.Own i)) ≡ true
       → Here setting s d n size k turns (go (place.Own i) segment)
-  own_go i segment x enough found names is_there = by x.reach refl
+  own_go i segment x found names is_there = by x.reach refl
     where
       by : (r : Reach) → x.reach ≡ r → Here setting s d n size k turns (go (place.Own i) segment)
       by AtOnce e = goes_at_once_law setting s d n size k turns i segment x placed (at_once_width setting s d segment size i x found names e) found e is_there
       by ByTransfer e = goes_by_transfer_law setting s d n size k turns i segment x placed (by_transfer_width setting s d segment size i x found names e) enough_words goes found e is_there
-      by BySearch e = goes_by_search_law setting s d n size k turns credit i segment x (by_search_width setting s d segment size i x found names e) enough_words enough does found e is_there
+      by BySearch e = goes_by_search_law setting s d n size k turns i segment x (by_search_width setting s d segment size i x found names e) enough_words does found e is_there
 
 pub whole_returns_law : LawOfWholeReturns
 unfolding lower
-whole_returns_law setting k turns credit (place.Own i) f placed goes leaves enough does rs valid s d n first w env around z regs y stands begins registers words =
+whole_returns_law setting k turns (place.Own i) f placed goes leaves does rs valid s d n first w env around z regs y stands begins registers words =
     let steps : Steps = (lower setting.names setting.at setting.program s.code d f).value in
     let code : Steps = exit_code setting.names setting.at setting.program s.code d 0 (place.Own i) in
     let own = own_there s.code.exits env.exits s.flat.exits i begins.activation.exit_count begins.activation.flat_count stands.stands.0 in
-    own_return setting s d n (length regs) k turns credit placed goes leaves (omega (arith, words)) i own.0 f enough own.1 (registers_behind steps code (length regs) registers) stands.leads.0
+    own_return setting s d n (length regs) k turns placed goes leaves (omega (arith, words)) i own.0 f own.1 (registers_behind steps code (length regs) registers) stands.leads.0
     (does_here setting s d n (length regs) k turns f first does
     (record { stands = stands.stands.1; fits = stands.fits; leads = stands.leads.1; placed = stands.placed; forms_known = stands.forms_known })
     (registers_front steps code (length regs) registers) (omega (arith, words)))
     (record { rs = rs; valid = valid; w = w; env = env; around = around; z = z; regs = regs; y = y; begins = begins; count = refl })
-whole_returns_law setting k turns credit (place.Captured i) f placed goes leaves enough does rs valid s d n first w env around z regs y stands begins registers words =
+whole_returns_law setting k turns (place.Captured i) f placed goes leaves does rs valid s d n first w env around z regs y stands begins registers words =
     let steps : Steps = (lower setting.names setting.at setting.program s.code d f).value in
     let code : Steps = exit_code setting.names setting.at setting.program s.code d 0 (place.Captured i) in
-    returns_to_captured_law setting s d n (length regs) k turns credit i f
-    (search_width setting s.code.site (captured_into s.code (d + 1) i) d 0 (length regs) (registers_behind steps code (length regs) registers)) (omega (arith, words)) enough leaves stands.stands.0
+    returns_to_captured_law setting s d n (length regs) k turns i f
+    (search_width setting s.code.site (captured_into s.code (d + 1) i) d 0 (length regs) (registers_behind steps code (length regs) registers)) (omega (arith, words)) leaves stands.stands.0
     stands.leads.0
     (does_here setting s d n (length regs) k turns f first does
     (record { stands = stands.stands.1; fits = stands.fits; leads = stands.leads.1; placed = stands.placed; forms_known = stands.forms_known })
@@ -143,15 +143,15 @@ whole_returns_law setting k turns credit (place.Captured i) f placed goes leaves
 
 pub whole_goes_law : LawOfWholeGoes
 unfolding lower
-whole_goes_law setting k turns credit (place.Own i) segment placed goes leaves enough rs valid s d n first w env around z regs y stands begins registers words =
+whole_goes_law setting k turns (place.Own i) segment placed goes leaves rs valid s d n first w env around z regs y stands begins registers words =
     let code : Steps = exit_code setting.names setting.at setting.program s.code d segment (place.Own i) in
     let own = own_there s.code.exits env.exits s.flat.exits i begins.activation.exit_count begins.activation.flat_count stands.stands in
-    own_go setting s d n (length regs) k turns credit placed goes leaves (omega (arith, words)) i segment own.0 enough own.1
+    own_go setting s d n (length regs) k turns placed goes leaves (omega (arith, words)) i segment own.0 own.1
     (registers_behind (constant d nil_word ∷ []) code (length regs) registers) stands.leads
     (record { rs = rs; valid = valid; w = w; env = env; around = around; z = z; regs = regs; y = y; begins = begins; count = refl })
-whole_goes_law setting k turns credit (place.Captured i) segment placed goes leaves enough rs valid s d n first w env around z regs y stands begins registers words =
+whole_goes_law setting k turns (place.Captured i) segment placed goes leaves rs valid s d n first w env around z regs y stands begins registers words =
     let code : Steps = exit_code setting.names setting.at setting.program s.code d segment (place.Captured i) in
-    goes_to_captured_law setting s d n (length regs) k turns credit i segment
-    (search_width setting s.code.site (captured_into s.code (d + 1) i) d segment (length regs) (registers_behind (constant d nil_word ∷ []) code (length regs) registers)) (omega (arith, words)) enough
+    goes_to_captured_law setting s d n (length regs) k turns i segment
+    (search_width setting s.code.site (captured_into s.code (d + 1) i) d segment (length regs) (registers_behind (constant d nil_word ∷ []) code (length regs) registers)) (omega (arith, words))
     leaves stands.stands stands.leads
     (record { rs = rs; valid = valid; w = w; env = env; around = around; z = z; regs = regs; y = y; begins = begins; count = refl })

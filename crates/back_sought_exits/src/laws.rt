@@ -1,6 +1,6 @@
 // The laws of exits that are sought, each as the contract of a function that does nothing.
 ghost use Rattle.back_sought_exits.specs.Sought.{LawOfReturnsBySearch, LawOfGoesBySearch, LawOfReturnsToCaptured, LawOfGoesToCaptured, LawOfWholeReturns, LawOfWholeGoes};
-ghost use Rattle.back_sought_exits.specs.Called.{LawOfTransferring, LawOfLeavingForLess, LawOfReturns, LawOfGoes};
+ghost use Rattle.back_sought_exits.specs.Called.{LawOfTransferring, LawOfSeeking, LawOfReturns, LawOfGoes};
 
 /// A `return-from` an own block that is sought.
 pub fn law_returns_by_search()
@@ -32,14 +32,14 @@ pub fn law_whole_goes()
     ensures { LawOfWholeGoes }
 {}
 
-/// The routine of transfers goes to a record, whatever the site.
+/// The routine of transfers goes to a record, wherever it is called.
 pub fn law_transferring()
     ensures { LawOfTransferring }
 {}
 
-/// The routine that leaves by a number is paid less than the new condition that it may signal.
-pub fn law_leaving_for_less()
-    ensures { LawOfLeavingForLess }
+/// The routine that leaves by a number finds what the meaning finds.
+pub fn law_seeking()
+    ensures { LawOfSeeking }
 {}
 
 /// A `return-from`, where new conditions are signalled as they are meant.
