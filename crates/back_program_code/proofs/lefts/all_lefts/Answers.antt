@@ -1,0 +1,12 @@
+use Rattle.std.proofs.Common.{◌≡◌, ◌++◌, [], ◌∷◌, length, ap, ◌∙◌, arith, length-append}
+use Rattle.std.specs.Prelude.{slice_get}
+use Rattle.back_program_code.specs.Shapes.{listed, shape_lefts}
+use Rattle.back_program_code.proofs.Joined.{joined_one}
+use Rattle.back_program_code.proofs.lefts.all_lefts.Goals as goal
+
+pub loop-number-preserved : goal.loop-number-preserved
+loop-number-preserved c = (
+  joined_one (λ number s. shape_lefts c.args.front (listed (slice_get c.args.nears.now number)) s ∷ []) c.loop-number.number _ _ _ _
+      (c.in_ok-push.ensures.ok ∙ ap (λ x. c.loop-number.lefts ++ x ∷ []) c.in_ok-numbered_lefts.ensures) c.loop-number.invariant.0 c.in-Some.ensures,
+  ap length c.in_ok-push.ensures.ok ∙ length-append c.loop-number.lefts _ ∙ omega (arith, c.loop-number.invariant.1),
+)

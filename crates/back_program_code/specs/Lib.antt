@@ -1,0 +1,5 @@
+pub mod Errors
+pub mod Joined
+pub mod Shapes
+pub mod ShapedImage
+pub mod Made
