@@ -1,35 +1,31 @@
 -- The spots of lines say what the layout decides: sizes, positions, and the code of all lines.
-use Rattle.std.proofs.Common.{◌≡◌, ◌≤◌, ℕ, zero, suc, ◌+◌, ◌-◌, ◌*◌, ◌<◌, Bool, true, false, List, [], ◌∷◌, ◌++◌, length, map, take, Option, Some, None, option_map, refl, sym, ap, subst, ◌∙◌, arith}
+use Rattle.std.proofs.Common.{◌≡◌, ℕ, zero, suc, ◌+◌, ◌-◌, Bool, true, List, [], ◌∷◌, ◌++◌, length, map, take, Option, Some, None, option_map, refl, sym, ap, subst, ◌∙◌, arith}
 use Rattle.std.specs.Prelude.{slice_get, slice_index, nat_le}
 use Rattle.std.specs.List.{list_all}
-use Rattle.std.proofs.lemmas.Option.{slice_get-map, slice_get_within}
+use Rattle.std.proofs.lemmas.Option.{slice_get-map}
 use Rattle.std.proofs.lemmas.List.{take-map}
-use Rattle.rv_encode.specs.declared.instruction.Instr.{Instr}
-use Rattle.mid_code.specs.declared.operation.Callee.{Callee}
 use Rattle.mid_code.specs.declared.operation.Callee.TheVariants.{Procedure, Word}
 use Rattle.mid_code.specs.declared.operation.Operation.{Operation}
 use Rattle.mid_code.specs.declared.operation.Operation.TheVariants as operation
 use Rattle.mid_code.specs.declared.program.MidProcedure.{MidProcedure}
 use Rattle.mid_code.specs.declared.program.MidProgram.{MidProgram}
 use Rattle.mid_code.specs.Checked.{is_block_size, is_checked_program}
-use Rattle.mid_code.specs.MidCode.{code_of}
 use Rattle.mid_lines.specs.declared.line.Line.{Line}
-use Rattle.mid_lines.specs.declared.line.Line.TheVariants.{Do, Branch, Switch, Jump, Lay, Landed, GiveBack, Lend, GiveBackLent, Return, Cut, Halt, Unhandled}
+use Rattle.mid_lines.specs.declared.line.Line.TheVariants.{Do, Branch, Jump, Lay}
 use Rattle.mid_lines.specs.declared.line.LineProcedure.{LineProcedure}
 use Rattle.mid_lines.specs.declared.line.LineProgram.{LineProgram}
 use Rattle.mid_lines.specs.Lines.{lines_in, line_of}
-use Rattle.mid_lines.specs.Flattened.{code_lines, procedure_lines, program_lines}
-use Rattle.mid_lines.specs.LinesChecked.{takes, operation_calls, line_calls, line_fits, is_checked_line_program}
+use Rattle.mid_lines.specs.Flattened.{procedure_lines, program_lines}
+use Rattle.mid_lines.specs.LinesChecked.{takes, operation_calls, line_calls, line_fits}
 use Rattle.mid_lines.proofs.Checking.{law_of_form}
-use Rattle.mid_lines.proofs.Conjunctions.{front_true, back_true}
-use Rattle.back_places.specs.declared.place.Place.{Place}
+use Rattle.mid_lines.proofs.Conjunctions.{back_true}
 use Rattle.back_places.specs.Places.{Located}
 use Rattle.back_places.specs.Passing.{parameters_code}
 use Rattle.back_places.specs.Blocks.{room_code}
-use Rattle.back_places.specs.LineCode.{entry_code, save_code}
-use Rattle.back_places.specs.Trivial.{own_slots, TargetIs}
-use Rattle.back_places.proofs.LinesInForm.{all_at, LineIs, line_is}
-use Rattle.back_trivial.specs.OwnSlots.{target_in, line_target, parameters_in, is_there}
+use Rattle.back_places.specs.LineCode.{save_code}
+use Rattle.back_places.specs.Trivial.{TargetIs}
+use Rattle.back_places.proofs.LinesInForm.{all_at, line_is}
+use Rattle.back_trivial.specs.OwnSlots.{target_in, parameters_in, is_there}
 use Rattle.back_trivial.proofs.Targets.{line_target_is}
 use Rattle.back_layout.specs.Sizes.{unplaced, procedure_rests, entry_size, procedure_size, code_size, all_targets, lines_there}
 use Rattle.back_layout.specs.Layout.{start_at, with_front, first_at, entry_place, body_place, line_place, table_place, placed}
@@ -37,7 +33,7 @@ use Rattle.back_layout.specs.OwnSlots.{own_slots_decided}
 use Rattle.back_emit.specs.declared.spots.Spot.{Spot}
 use Rattle.back_emit.specs.declared.spots.Sizing.{Sizing}
 use Rattle.back_emit.specs.OwnCode.{own_entry}
-use Rattle.back_emit.specs.OwnSizes.{near_in, sizing_spot, own_rests}
+use Rattle.back_emit.specs.OwnSizes.{near_in, sizing_spot}
 use Rattle.back_emit.specs.OwnLines.{line_position, line_goes, operation_goes}
 use Rattle.back_emit.specs.Agree.{OperationGoes, LineGoes, AgreesAt}
 use Rattle.back_emit.proofs.OwnRests.{law_of_own_rests}

@@ -1,26 +1,25 @@
 -- What is asked of a procedure gives what is asked of the spots of its lines.
-use Rattle.std.proofs.Common.{◌≡◌, ◌≤◌, ℕ, zero, suc, ◌+◌, ◌-◌, ◌^◌, ◌<◌, Bool, true, List, [], ◌∷◌, length, take, Option, Some, None, refl, sym, ap, subst, ◌∙◌, arith}
-use Rattle.std.specs.Prelude.{slice_get, slice_index, nat_lt, ◌&&◌}
+use Rattle.std.proofs.Common.{◌≡◌, ◌≤◌, ℕ, zero, suc, ◌+◌, ◌^◌, ◌<◌, Bool, true, List, [], ◌∷◌, length, Some, refl, sym, ap, subst, ◌∙◌, arith}
+use Rattle.std.specs.Prelude.{slice_get, slice_index, nat_lt}
 use Rattle.std.specs.List.{list_all}
 use Rattle.std.proofs.lemmas.Bool.Decides.{nat_tests}
-use Rattle.mid_code.specs.declared.operation.Callee.{Callee}
 use Rattle.mid_code.specs.declared.operation.Callee.TheVariants.{Procedure, Word}
 use Rattle.mid_code.specs.declared.operation.Operation.{Operation}
 use Rattle.mid_code.specs.declared.operation.Operation.TheVariants as operation
 use Rattle.mid_lines.specs.declared.line.Line.{Line}
-use Rattle.mid_lines.specs.declared.line.Line.TheVariants.{Do, Branch, Switch, Jump, Lay, Landed, GiveBack, Lend, GiveBackLent, Return, Cut, Halt, Unhandled}
+use Rattle.mid_lines.specs.declared.line.Line.TheVariants.{Do, Branch, Jump, Lay, Return}
 use Rattle.mid_lines.proofs.Conjunctions.{front_true, back_true}
 use Rattle.back_emit.specs.declared.spots.Spot.{Spot}
 use Rattle.back_emit.specs.declared.spots.Sizing.{Sizing}
 use Rattle.back_emit.specs.declared.ways.FrameWay.{FrameWay}
 use Rattle.back_emit.specs.declared.ways.FrameWay.TheVariants.{FromStack, PastLent, NoWay}
 use Rattle.back_emit.specs.Ways.{IsReached, depth_of}
-use Rattle.back_emit.specs.Fits.{FitsSpot, FitsLine, ReachesLink, passed_by}
+use Rattle.back_emit.specs.Fits.{FitsLine, ReachesLink, passed_by}
 use Rattle.back_emit.specs.OwnSizes.{way_in, sizing_spot, EachFits}
-use Rattle.back_emit.specs.OwnLines.{line_position, callee_position, operation_goes, line_goes, placed_spot}
+use Rattle.back_emit.specs.OwnLines.{line_position, operation_goes, line_goes, placed_spot}
 use Rattle.back_program_code.specs.declared.front.Front.{Front}
 use Rattle.back_program_code.specs.declared.shapes.Shape.{Shape}
-use Rattle.back_program_code.specs.Shapes.{is_near_way, FitsShape, sizing_of, first_position, body_position, spot_in}
+use Rattle.back_program_code.specs.Shapes.{is_near_way, FitsShape, sizing_of, body_position, spot_in}
 
 less : (a b : ℕ) → nat_lt a b ≡ true → a < b
 less a b h = grind (arith, nat_tests, h)

@@ -7,3 +7,5 @@ pub mod Positions
 pub mod ShapesFit
 pub mod ShapedImage
 pub mod Made
+pub mod Long
+pub mod TooLarge

@@ -1,16 +1,14 @@
 -- The words that are made are those of the program's image, and what it does is by its law.
-use Rattle.std.proofs.Common.{inl, inr, ◌⊎◌, get_or, ◌≡◌, ◌≤◌, ℕ, ◌+◌, ◌*◌, ◌^◌, ◌<◌, true, List, [], length, Option, Some, None, option_map, refl, sym, ap, subst, ◌∙◌, arith}
-use Rattle.std.specs.Prelude.{slice_get, slice_index}
+use Rattle.std.proofs.Common.{inl, inr, ◌⊎◌, get_or, ◌≡◌, ◌≤◌, ℕ, ◌+◌, ◌*◌, ◌^◌, ◌<◌, true, List, [], length, Some, None, refl, sym, ap, subst, ◌∙◌, arith}
+use Rattle.std.specs.Prelude.{slice_get}
 use Rattle.std.proofs.lemmas.Option.{slice_get_cases}
 use Rattle.rv_machine.specs.declared.image.Image.{Image}
 use Rattle.rv_machine.specs.State.{start}
-use Rattle.rv_machine.specs.Run.{Moment, first, run_from}
+use Rattle.rv_machine.specs.Run.{first, run_from}
 use Rattle.mid_code.specs.declared.program.MidProcedure.{MidProcedure}
 use Rattle.mid_code.specs.declared.program.MidProgram.{MidProgram}
 use Rattle.mid_code.specs.Checked.{is_checked_program}
-use Rattle.mid_code.specs.State.{MidState}
 use Rattle.mid_code.specs.Meaning.{runs}
-use Rattle.mid_lines.specs.declared.line.LineProgram.{LineProgram}
 use Rattle.mid_lines.specs.Flattened.{procedure_lines, program_lines}
 use Rattle.back_places.specs.StepLaw.{Known}
 use Rattle.back_trivial.specs.FrameFound.{finds_frames}
@@ -18,16 +16,23 @@ use Rattle.back_trivial.specs.OwnSlots.{is_in_own_slot, IsPlacedWell}
 use Rattle.back_layout.specs.OwnSlots.{own_slots_decided, own_slots_laid_out}
 use Rattle.back_layout.proofs.OwnSlots.{law_of_own_slots_laid_out}
 use Rattle.back_layout.proofs.Words.{law_of_words}
-use Rattle.back_runs.specs.Ends.{IsSaid, EndsAs}
-use Rattle.back_runs.specs.ProgramRuns.{IsLawfulEnd, DoesAs}
+use Rattle.back_runs.specs.Ends.{EndsAs}
+use Rattle.back_runs.specs.ProgramRuns.{DoesAs}
 use Rattle.back_start.specs.Images.{IsFirst, first_state}
 use Rattle.back_start.specs.Laws.{loaded}
-use Rattle.back_images.specs.Laws.{LaidAreWords, emitted, emitted_start, EmittedRuns}
+use Rattle.back_images.specs.Laws.{emitted, emitted_start, EmittedRuns}
 use Rattle.back_images.proofs.Images.{placed_well, law_of_first_states, law_of_emitted_runs}
+use Rattle.back_emit.specs.declared.errors.EmitError.{EmitError}
+use Rattle.back_emit.specs.declared.errors.EmitError.TheVariants as emit
+use Rattle.back_program_code.specs.declared.errors.ImageError.{ImageError}
+use Rattle.back_program_code.specs.declared.errors.ImageError.TheVariants as image
+use Rattle.back_program_code.specs.Errors.{image_error}
+use Rattle.back_program_code.specs.TooLarge.{IsTooLarge}
+use Rattle.back_program_code.proofs.Long.{from_large}
 use Rattle.back_program_code.specs.declared.plans.Plan.{Plan}
-use Rattle.back_program_code.specs.Shapes.{shapes_of, front_of, near_lefts, code_end, first_position}
+use Rattle.back_program_code.specs.Shapes.{shapes_of, front_of, near_lefts, code_end}
 use Rattle.back_program_code.specs.ShapedImage.{shaped_image}
-use Rattle.back_program_code.specs.Made.{IsPlan, IsImageOf, loaded_with, LawOfFirstOfImage, RunsOfImage, LawOfRunsOfImage}
+use Rattle.back_program_code.specs.Made.{IsPlan, IsImageOf, loaded_with, LawOfFirstOfImage, LawOfRunsOfImage}
 use Rattle.back_program_code.proofs.Agreeing.{procedure_there}
 use Rattle.back_program_code.proofs.ShapedImage.{law_of_shaped_image}
 
@@ -72,6 +77,15 @@ module _ (program : MidProgram) (plan : Plan) (is : IsPlan program plan) (entry 
     finds = is.finds;
     low = made_low;
   }
+
+  -- words that were to be made of a plan are not too many
+  pub words_large :
+      (from : EmitError) (e : ImageError) → e ≡ image_error from → (from ≡ emit.TooLarge → 2 ^ 24 ≤ length (shaped_image program entry)) → e ≡ image.TooLarge
+      → IsTooLarge program
+  words_large from e h long large =
+      let many = long (from_large from e h large) in
+      let few = (made_long (shaped_image program entry) refl).1 in
+      absurd (omega (arith, many, few))
 
 pub law_of_first_of_image : LawOfFirstOfImage
 law_of_first_of_image program entry arena image input checked made laid room small bytes =

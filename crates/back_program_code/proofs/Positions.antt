@@ -1,10 +1,10 @@
 -- Procedures stand one behind the other, and all end where code does.
-use Rattle.std.proofs.Common.{◌≡◌, ◌≤◌, ℕ, zero, suc, ◌+◌, ◌^◌, ◌<◌, List, [], ◌∷◌, length, take, Option, Some, None, refl, sym, ap, subst, ◌∙◌, arith}
+use Rattle.std.proofs.Common.{◌≡◌, ◌≤◌, ℕ, zero, suc, ◌+◌, ◌^◌, ◌<◌, List, [], ◌∷◌, take, Some, refl, ap, ◌∙◌, arith}
 use Rattle.std.specs.Prelude.{slice_get, slice_index}
 use Rattle.back_program_code.specs.declared.front.Front.{Front}
 use Rattle.back_program_code.specs.declared.shapes.Shape.{Shape}
 use Rattle.back_program_code.specs.Joined.{joined}
-use Rattle.back_program_code.specs.Shapes.{listed, first_position, shape_words, words_of, entry_position, all_entries, code_end, AreLow}
+use Rattle.back_program_code.specs.Shapes.{listed, shape_words, words_of, entry_position, all_entries, code_end, AreLow}
 use Rattle.back_program_code.proofs.Joined.{joined_index}
 
 module _ (f : Front) (lefts : List (List ℕ)) where
@@ -23,7 +23,7 @@ module _ (f : Front) (lefts : List (List ℕ)) where
       let k = words_next (from + 1) i n j s ys (omega (arith, e)) (omega (arith, g)) h in
       omega (arith, k)
 
-  words_within :
+  pub words_within :
       (from i j : ℕ) (s : Shape) (ss : List Shape) → j ≡ from + i → slice_get ss i ≡ Some s
       → words_of f lefts from (take i ss) + shape_words f (listed (slice_get lefts j)) s ≤ words_of f lefts from ss
   words_within from i j s [] e h = absurd (cc h)

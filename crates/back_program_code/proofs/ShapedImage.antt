@@ -1,9 +1,8 @@
 -- The words from shapes are those of the program's image.
-use Rattle.std.proofs.Common.{inl, inr, ◌⊎◌, replicate, get_or, ◌≡◌, ◌≤◌, ℕ, zero, suc, ◌+◌, ◌-◌, ◌*◌, ◌<◌, Bool, true, false, List, [], ◌∷◌, ◌++◌, length, map, take, Option, Some, None, refl, sym, ap, subst, ◌∙◌, arith, append_assoc}
+use Rattle.std.proofs.Common.{inl, inr, ◌⊎◌, replicate, get_or, ◌≡◌, ◌≤◌, ℕ, suc, ◌+◌, ◌*◌, ◌<◌, Bool, true, false, List, [], ◌∷◌, ◌++◌, length, map, Some, None, refl, sym, ap, ◌∙◌, arith, append_assoc}
 use Rattle.std.proofs.lemmas.List.{map-append}
 use Rattle.std.proofs.lemmas.Option.{slice_get_cases}
 use Rattle.std.specs.Prelude.{slice_get, slice_index}
-use Rattle.rv_encode.specs.declared.instruction.Instr.{Instr}
 use Rattle.rv_encode.specs.Encodes.{word_of}
 use Rattle.mid_code.specs.declared.operation.Callee.TheVariants.{Procedure, Word}
 use Rattle.mid_code.specs.declared.operation.Operation.TheVariants as operation
@@ -12,14 +11,13 @@ use Rattle.mid_code.specs.declared.program.MidProgram.{MidProgram}
 use Rattle.mid_code.specs.Checked.{is_checked_program}
 use Rattle.mid_lines.specs.declared.line.Line.{Line}
 use Rattle.mid_lines.specs.declared.line.Line.TheVariants.{Do, Branch, Jump}
-use Rattle.mid_lines.specs.declared.line.LineProcedure.{LineProcedure}
 use Rattle.mid_lines.specs.declared.line.LineProgram.{LineProgram}
 use Rattle.mid_lines.specs.Flattened.{procedure_lines, program_lines}
 use Rattle.mid_lines.specs.Lines.{line_of}
 use Rattle.back_places.specs.Places.{Located}
 use Rattle.back_places.specs.Selection.{far_jump_code}
 use Rattle.back_places.specs.Blocks.{end_code, full_code}
-use Rattle.back_places.specs.LineCode.{line_code, behind_code, entry_code}
+use Rattle.back_places.specs.LineCode.{behind_code, entry_code}
 use Rattle.back_layout.specs.Sizes.{switch_targets, all_targets}
 use Rattle.back_layout.specs.Layout as layout
 use Rattle.back_layout.specs.Layout.{with_front, placed, far_placed, with_near, line_is_near, laid_out, first_at, entry_place}
@@ -36,10 +34,10 @@ use Rattle.back_emit.proofs.FromSpots.{law_of_spots}
 use Rattle.back_program_code.specs.declared.front.Front.{Front}
 use Rattle.back_program_code.specs.declared.shapes.Shape.{Shape}
 use Rattle.back_program_code.specs.Joined.{joined}
-use Rattle.back_program_code.specs.Shapes.{shape_of, shapes_of, front_of, listed, full_position, sizing_of, shape_lefts, shape_nears, all_lefts, all_entries, all_nears, near_jumps, near_lefts, near_entries, code_end, body_position, spot_in, entry_position}
-use Rattle.back_program_code.specs.ShapedImage.{table_position, line_spot, line_instructions, shape_code, line_table, shape_image, numbered_image, front_words, shaped_image, LawOfShapedImage}
-use Rattle.back_program_code.proofs.Joined.{joined_get, joined_index, joined_same}
-use Rattle.back_program_code.proofs.Agreeing.{with_jumps, SameNear, procedure_there, shape_there, line_there, entry_code_same, full_same, agrees, lefts_there, line_same, entry_there, entry_place_is, end_same}
+use Rattle.back_program_code.specs.Shapes.{shape_of, shapes_of, front_of, listed, full_position, shape_lefts, shape_nears, all_lefts, all_entries, near_jumps, near_lefts, near_entries, body_position, spot_in, entry_position}
+use Rattle.back_program_code.specs.ShapedImage.{table_position, line_spot, line_instructions, line_table, shape_image, numbered_image, shaped_image, LawOfShapedImage}
+use Rattle.back_program_code.proofs.Joined.{joined_get}
+use Rattle.back_program_code.proofs.Agreeing.{SameNear, procedure_there, shape_there, line_there, entry_code_same, full_same, agrees, lefts_there, line_same, entry_there, entry_place_is, end_same}
 
 -- whether a spot is near has nothing to do with its table
 near_with : (f : Front) (entries : List ℕ) (at : ℕ) (nears : List Bool) (lefts : List ℕ) (s : Shape) (table line : ℕ) (x : Line)
@@ -116,10 +114,10 @@ module _ (program : MidProgram) (checked : is_checked_program program ≡ true) 
   S = shapes_of program
 
   -- with no jump near
-  abbrev far : (number line : ℕ) → Bool
+  abbrev pub far : (number line : ℕ) → Bool
   far number line = false
 
-  far_is : SameNear program far []
+  pub far_is : SameNear program far []
   far_is number line p x h e = refl
 
   abbrev far_lefts : List (List ℕ)
@@ -129,10 +127,10 @@ module _ (program : MidProgram) (checked : is_checked_program program ≡ true) 
   far_entries = all_entries f far_lefts S
 
   -- with jumps near where they are near then
-  abbrev near : (number line : ℕ) → Bool
+  abbrev pub near : (number line : ℕ) → Bool
   near number line = layout.near_in (far_placed P (own_slots_decided program)) number line (line_of P number line)
 
-  abbrev nears : List (List Bool)
+  abbrev pub nears : List (List Bool)
   nears = near_jumps f S
 
   abbrev far_spot : (number line : ℕ) → MidProcedure → Line → Spot
@@ -140,7 +138,7 @@ module _ (program : MidProgram) (checked : is_checked_program program ≡ true) 
       spot_in f far_entries (slice_index far_entries number) [] (shape_lefts f [] (shape_of p)) (shape_of p)
       (table_position f far_entries (slice_index far_entries number) [] (shape_lefts f [] (shape_of p)) (shape_of p) line) line x
 
-  near_is : SameNear program near nears
+  pub near_is : SameNear program near nears
   near_is number line p x h e =
       let there = shape_there program number p h in
       let list : listed (slice_get nears number) ≡ shape_nears f far_entries (slice_index far_entries number) (listed (slice_get far_lefts number)) (shape_of p) =

@@ -1,24 +1,20 @@
 -- The shapes of a program in form, whose frames are found, fit.
-use Rattle.std.proofs.Common.{◌≡◌, ◌≤◌, ℕ, ◌+◌, ◌^◌, ◌<◌, true, List, length, map, max, Option, Some, None, option_map, refl, sym, ap, subst, ◌∙◌, arith}
+use Rattle.std.proofs.Common.{◌≡◌, ℕ, ◌^◌, ◌<◌, true, List, length, Option, Some, None, option_map, refl, sym, ap, subst, ◌∙◌, arith}
 use Rattle.std.specs.Prelude.{slice_get, nat_lt, nat_le}
 use Rattle.std.specs.List.{list_all}
 use Rattle.std.proofs.lemmas.Bool.Decides.{nat_tests}
 use Rattle.std.proofs.lemmas.Option.{slice_get-map}
 use Rattle.mid_code.specs.declared.program.MidProcedure.{MidProcedure}
 use Rattle.mid_code.specs.declared.program.MidProgram.{MidProgram}
-use Rattle.mid_code.specs.Checked.{is_block_size, is_checked_program}
+use Rattle.mid_code.specs.Checked.{is_checked_program}
 use Rattle.mid_code.specs.MidCode.{code_of}
-use Rattle.mid_lines.specs.declared.line.Line.{Line}
-use Rattle.mid_lines.specs.declared.line.LineProcedure.{LineProcedure}
 use Rattle.mid_lines.specs.Flattened.{procedure_lines, program_lines}
 use Rattle.mid_lines.specs.LinesChecked.{line_fits, line_calls, is_sound_in}
 use Rattle.mid_lines.proofs.Checking.{law_of_form}
 use Rattle.mid_lines.proofs.Conjunctions.{front_true, back_true}
 use Rattle.back_places.specs.Places.{from_stack}
 use Rattle.back_places.proofs.LinesInForm.{all_at}
-use Rattle.back_trivial.specs.FrameFound.{reaches_all, code_finds, procedure_finds, finds_frames}
-use Rattle.back_emit.specs.Fits.{passed_by}
-use Rattle.back_layout.specs.OwnSlots.{most_in_lines, most_arguments}
+use Rattle.back_trivial.specs.FrameFound.{code_finds, procedure_finds, finds_frames}
 use Rattle.back_program_code.specs.declared.front.Front.{Front}
 use Rattle.back_program_code.specs.declared.shapes.Shape.{Shape}
 use Rattle.back_program_code.specs.Shapes.{shape_of, shapes_of, front_of, first_position, is_near_shape, FitsShape, EachShapeFits}

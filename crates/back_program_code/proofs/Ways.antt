@@ -1,5 +1,5 @@
 -- The ways of a procedure are those past the records that stand at its lines, and behind the last.
-use Rattle.std.proofs.Common.{◌≡◌, ◌≤◌, ℕ, zero, suc, ◌+◌, ◌<◌, List, [], ◌∷◌, ◌++◌, length, map, Some, refl, sym, ap, ◌∙◌, arith}
+use Rattle.std.proofs.Common.{◌≡◌, ◌≤◌, ℕ, zero, suc, ◌+◌, List, [], ◌∷◌, ◌++◌, length, map, Some, refl, sym, ap, ◌∙◌, arith}
 use Rattle.std.specs.Prelude.{slice_get}
 use Rattle.std.proofs.lemmas.List.{length-map}
 use Rattle.std.proofs.lemmas.Option.{slice_get_within}
@@ -55,3 +55,18 @@ way_same program number line at p x there here near =
     let long = ways_long (code_of p.body) in
     ap (λ o. past (records_in (slice_get (procedure_records o) at))) there
     ∙ way_at (code_ways (FromStack 0) (code_of p.body)) (code_records 0 (code_of p.body) []) at (law_of_tree_ways (code_of p.body)) (omega (arith, within, long, near))
+
+-- the way at a line of a procedure
+past_there : (ws : List FrameWay) (rs : List (List StaticRecord)) (i : ℕ) (way : FrameWay) → map way_of ws ≡ map past rs → slice_get ws i ≡ Some way
+    → past (records_in (slice_get rs i)) ≡ way_of way
+past_there [] rs i way e h = absurd (cc h)
+past_there (w ∷ ws) [] i way e h = absurd (cc e)
+past_there (w ∷ ws) (r ∷ rs) zero way e h =
+    let same : w ≡ way = cc h in
+    sym (head_same (way_of w) (past r) (map way_of ws) (map past rs) e) ∙ ap way_of same
+past_there (w ∷ ws) (r ∷ rs) (suc i) way e h = past_there ws rs i way (tail_same (way_of w) (past r) (map way_of ws) (map past rs) e) h
+
+pub way_past :
+    (p : MidProcedure) (i : ℕ) (way : FrameWay) → slice_get (code_ways (FromStack 0) (code_of p.body)) i ≡ Some way
+    → places.way_of (known_records (records_in (slice_get (procedure_records (Some p)) i))) ≡ way_of way
+way_past p i way h = past_there (code_ways (FromStack 0) (code_of p.body)) (code_records 0 (code_of p.body) []) i way (law_of_tree_ways (code_of p.body)) h

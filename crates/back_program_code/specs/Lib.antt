@@ -2,4 +2,5 @@ pub mod Errors
 pub mod Joined
 pub mod Shapes
 pub mod ShapedImage
+pub mod TooLarge
 pub mod Made

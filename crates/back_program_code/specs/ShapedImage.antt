@@ -1,5 +1,5 @@
 -- The words of the image from the shapes of procedures.
-use Rattle.std.specs.Prelude.{◌≡◌, ◌<◌, ℕ, ◌+◌, ◌*◌, Bool, true, List, [], ◌∷◌, ◌++◌, length, map, take, replicate, slice_get, slice_index}
+use Rattle.std.specs.Prelude.{◌≡◌, ◌<◌, ℕ, ◌+◌, ◌*◌, Bool, true, List, ◌++◌, length, map, take, replicate, slice_get, slice_index}
 use Rattle.rv_encode.specs.declared.instruction.Instr.{Instr}
 use Rattle.rv_encode.specs.Encodes.{word_of}
 use Rattle.mid_code.specs.declared.program.MidProgram.{MidProgram}

@@ -1,15 +1,15 @@
 // The positions of entries.
 
-ghost use Rattle.std.specs.Prelude.{◌≡◌, ◌+◌, ◌^◌, ◌<◌, length, IfOk};
+ghost use Rattle.std.specs.Prelude.{◌≡◌, ◌+◌, ◌^◌, ◌<◌, ◌≤◌, length, IfOk, IfErr};
+ghost use Rattle.back_emit.specs.declared.errors.EmitError.TheVariants.{TooLarge};
 ghost use Rattle.back_program_code.specs.Shapes.{first_position, shape_words, all_entries, code_end, body_position, FitsShape, EachShapeFits};
 
-use crate::errors::ImageError;
 use crate::front::Front;
 use crate::lefts::{LeftTable, entry_words, shape_words};
 use crate::shapes::{Shape, ShapeList};
-use back_emit::CodeList;
 use back_emit::placing::EntryList;
 use back_emit::sizes::LeftList;
+use back_emit::{CodeList, EmitError};
 use base::NoMemory;
 use std::alloc::Global;
 
@@ -19,10 +19,11 @@ pub fn all_entries(
     front: Front,
     lefts: &LeftTable,
     shapes: &ShapeList,
-) -> Result<EntryList, ImageError>
+) -> Result<EntryList, EmitError>
     requires { EachShapeFits front shapes.now × (first_position front < 2 ^ 24) × (length lefts.now ≡ length shapes.now) }
     ensures is { IfOk result (λ entries. entries ≡ all_entries front lefts.now shapes.now) }
     ensures low { IfOk result (λ entries. code_end front lefts.now shapes.now < 2 ^ 24) }
+    ensures err { IfErr result (λ e. e ≡ TooLarge → 2 ^ 24 ≤ code_end front lefts.now shapes.now) }
 {
     let mut entries = EntryList::new(alloc);
     let mut scratch = CodeList::new(alloc);
@@ -37,7 +38,7 @@ pub fn all_entries(
         entries.push(at)?;
         let words = shape_words(&mut scratch, front, left, shape)?;
         if 16_777_216 <= at as usize + words {
-            return Err(ImageError::TooLarge);
+            return Err(EmitError::TooLarge);
         }
         at += words as u32;
     }

@@ -1,11 +1,11 @@
 // What stands in front of all procedures of an image.
 
-ghost use Rattle.std.specs.Prelude.{◌≡◌, ◌+◌, ◌^◌, ◌<◌, max, length, map, IfOk};
+ghost use Rattle.std.specs.Prelude.{◌≡◌, ◌+◌, ◌^◌, ◌<◌, ◌≤◌, max, length, map, IfOk, IfErr};
 ghost use Rattle.back_layout.specs.OwnSlots.{arguments_passed, most_in_lines, most_arguments};
 ghost use Rattle.back_program_code.specs.Shapes.{shapes_of, procedure_of, front_of, first_position};
 
-use crate::errors::ImageError;
 use crate::shapes::ShapeList;
+use back_emit::EmitError;
 use base::WordList;
 use mid_code::{MidProgram, Operation};
 use mid_lines::{Line, LineList};
@@ -21,19 +21,26 @@ pub struct Front {
 }
 
 /// What stands in front of the procedures of a program. It is too large where that is 2^24 words or more.
-pub fn front_of(program: &MidProgram, shapes: &ShapeList) -> Result<Front, ImageError>
+pub fn front_of(program: &MidProgram, shapes: &ShapeList) -> Result<Front, EmitError>
     requires { shapes.now ≡ shapes_of program.now }
     ensures ok { IfOk result (λ front. front ≡ front_of program.now) }
     ensures low { IfOk result (λ front. first_position front < 2 ^ 24) }
+    ensures err { IfErr result (λ e. 2 ^ 24 ≤ first_position (front_of program.now)) }
 {
     let laid = program.laid.len();
     let most = most_arguments(shapes);
     let count = shapes.len();
-    if 16_777_216 <= laid || 16_777_216 <= most || 16_777_216 <= count {
-        return Err(ImageError::TooLarge);
+    if 16_777_216 <= laid {
+        return Err(EmitError::TooLarge);
+    }
+    if 16_777_216 <= most {
+        return Err(EmitError::TooLarge);
+    }
+    if 16_777_216 <= count {
+        return Err(EmitError::TooLarge);
     }
     if 16_777_205 <= laid + most + count {
-        return Err(ImageError::TooLarge);
+        return Err(EmitError::TooLarge);
     }
     Ok(Front {
         arguments_at: laid as u32,

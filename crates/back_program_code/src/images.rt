@@ -1,22 +1,26 @@
 // The image of a program.
 
-ghost use Rattle.std.specs.Prelude.{◌≡◌, ◌+◌, ◌*◌, ◌^◌, ◌<◌, ◌++◌, true, length, map, replicate, IfOk, OnOk};
+ghost use Rattle.std.specs.Prelude.{◌≡◌, ◌+◌, ◌*◌, ◌^◌, ◌<◌, ◌++◌, true, length, map, replicate, ◌≤◌, false, IfOk, IfErr, OnOk};
 ghost use Rattle.mid_code.specs.Checked.{is_checked_program};
 ghost use Rattle.rv_encode.specs.Encodes.{word_of};
 ghost use Rattle.back_places.specs.Selection.{far_jump_code};
 ghost use Rattle.back_places.specs.Blocks.{end_code, full_code};
 ghost use Rattle.back_program_code.specs.Shapes.{first_position, AreLow};
 ghost use Rattle.back_program_code.specs.ShapedImage.{front_words, shaped_image};
+ghost use Rattle.back_emit.specs.declared.errors.EmitError.TheVariants.{TooLarge};
+ghost use Rattle.back_trivial.specs.FrameFound.{finds_frames};
+ghost use Rattle.back_program_code.specs.declared.errors.ImageError.TheVariants as image;
+ghost use Rattle.back_program_code.specs.TooLarge.{IsTooLarge};
 ghost use Rattle.back_program_code.specs.Made.{IsPlan, IsImageOf};
 
 use crate::errors::ImageError;
 use crate::front::Front;
 use crate::plans::{Plan, plan_of};
 use crate::words::{put_encoded, put_shapes};
-use back_emit::CodeList;
 use back_emit::blocks::{put_end, put_full};
 use back_emit::placing::{EntryList, entry_position};
 use back_emit::selection::put_far_jump;
+use back_emit::{CodeList, EmitError};
 use base::{NoMemory, WordList};
 use mid_code::MidProgram;
 use rv_machine::Image;
@@ -93,9 +97,10 @@ pub fn words_of(
     program: &MidProgram,
     plan: &Plan,
     entry: usize,
-) -> Result<WordList, ImageError>
+) -> Result<WordList, EmitError>
     requires { IsPlan program.now plan.now }
-    ensures { IfOk result (λ words. words ≡ shaped_image program.now entry) }
+    ensures ok { IfOk result (λ words. words ≡ shaped_image program.now entry) }
+    ensures err { IfErr result (λ e. e ≡ TooLarge → 2 ^ 24 ≤ length (shaped_image program.now entry)) }
 {
     let mut words = WordList::new(alloc);
     put_front(
@@ -118,11 +123,13 @@ pub fn words_of(
     Ok(words)
 }
 
-/// The image of a program, which begins with a jump to one of its procedures. The frame of a procedure is not found where `FrameNotFound` says
-/// so, and the image, or a block of the stack, is too large where `TooLarge` does.
+/// The image of a program, which begins with a jump to one of its procedures. `FrameNotFound`: at some line the frame is not found. `TooLarge`:
+/// with all jumps far the image would have 2^24 words or more, or records have 2^29 words or more, one inside the other.
 pub fn emit(alloc: Global, program: &MidProgram, entry: usize) -> Result<Image, ImageError>
     requires { (is_checked_program program.now ≡ true) × (entry < length program.now.procedures) }
-    ensures { IfOk result (λ image. IsImageOf program.now entry image) }
+    ensures ok { IfOk result (λ image. IsImageOf program.now entry image) }
+    ensures large { IfErr result (λ e. e ≡ image.TooLarge → IsTooLarge program.now) }
+    ensures not_found { IfErr result (λ e. e ≡ image.FrameNotFound → finds_frames program.now ≡ false) }
 {
     let plan = plan_of(alloc, program)?;
     let words = words_of(alloc, program, &plan, entry)?;

@@ -1,20 +1,20 @@
 // How many words entries, procedures, and all lines have.
 
-ghost use Rattle.std.specs.Prelude.{◌≡◌, ◌+◌, ◌^◌, ◌<◌, ◌≤◌, [], length, slice_get, slice_index, IfOk, OnOk, ◌++◌};
+ghost use Rattle.std.specs.Prelude.{◌≡◌, ◌+◌, ◌^◌, ◌<◌, ◌≤◌, [], length, slice_get, slice_index, IfOk, IfErr, OnOk, ◌++◌};
+ghost use Rattle.back_emit.specs.declared.errors.EmitError.TheVariants.{TooLarge};
 ghost use Rattle.back_layout.specs.Sizes.{all_targets, switch_targets};
 ghost use Rattle.back_emit.specs.OwnCode.{own_entry};
 ghost use Rattle.back_emit.specs.OwnSizes.{own_rests};
-ghost use Rattle.back_program_code.specs.Shapes.{listed, full_position, entry_words, shape_lefts, shape_words, all_lefts, sizing_of, FitsShape, EachShapeFits};
+ghost use Rattle.back_program_code.specs.Shapes.{listed, full_position, entry_words, shape_lefts, shape_words, all_lefts, code_end, sizing_of, FitsShape, EachShapeFits};
 
-use crate::errors::ImageError;
 use crate::front::Front;
 use crate::shapes::{Shape, ShapeList, sizing_of};
-use back_emit::CodeList;
 use back_emit::blocks::put_room;
 use back_emit::operands::put_access;
 use back_emit::passing::put_parameters;
 use back_emit::sizes::{LeftList, NearList, left_at, rests_of};
 use back_emit::ways::Access;
+use back_emit::{CodeList, EmitError};
 use base::{ItemList, NoMemory};
 use mid_lines::{Line, LineList, LineProcedure};
 use rv_encode::Immediate12;
@@ -67,8 +67,9 @@ pub fn target_count(line: &Line) -> usize
 }
 
 /// How many words the tables of all switches among lines have. It is too large where these are 2^24 or more.
-pub fn table_words(lines: &LineList) -> Result<usize, ImageError>
-    ensures { IfOk result (λ words. (words ≡ length (all_targets lines.now)) × (words < 2 ^ 24)) }
+pub fn table_words(lines: &LineList) -> Result<usize, EmitError>
+    ensures ok { IfOk result (λ words. (words ≡ length (all_targets lines.now)) × (words < 2 ^ 24)) }
+    ensures err { IfErr result (λ e. 2 ^ 24 ≤ length (all_targets lines.now)) }
 {
     let mut words = 0;
     for i in 0..lines.len() {
@@ -76,8 +77,11 @@ pub fn table_words(lines: &LineList) -> Result<usize, ImageError>
             unreachable!()
         };
         let more = target_count(line);
-        if 16_777_216 <= more || 16_777_216 <= words + more {
-            return Err(ImageError::TooLarge);
+        if 16_777_216 <= more {
+            return Err(EmitError::TooLarge);
+        }
+        if 16_777_216 <= words + more {
+            return Err(EmitError::TooLarge);
         }
         words += more;
     }
@@ -90,14 +94,18 @@ pub fn shape_words(
     front: Front,
     lefts: &LeftList,
     shape: &Shape,
-) -> Result<usize, ImageError>
+) -> Result<usize, EmitError>
     requires { FitsShape front shape.now }
-    ensures { IfOk result (λ words. (words ≡ shape_words front lefts.now shape.now) × (words < 2 ^ 26)) }
+    ensures ok { IfOk result (λ words. (words ≡ shape_words front lefts.now shape.now) × (words < 2 ^ 26)) }
+    ensures err { IfErr result (λ e. e ≡ TooLarge → 2 ^ 24 ≤ shape_words front lefts.now shape.now) }
 {
     let entry = entry_words(scratch, front, &shape.procedure)?;
     let left = left_at(lefts, 0);
-    if 16_777_216 <= entry || 16_777_216 <= left {
-        return Err(ImageError::TooLarge);
+    if 16_777_216 <= entry {
+        return Err(EmitError::TooLarge);
+    }
+    if 16_777_216 <= left {
+        return Err(EmitError::TooLarge);
     }
     let tables = table_words(&shape.procedure.lines)?;
     Ok(entry + left + tables)
@@ -109,13 +117,14 @@ pub fn shape_lefts(
     front: Front,
     nears: &NearList,
     shape: &Shape,
-) -> Result<LeftList, ImageError>
+) -> Result<LeftList, EmitError>
     requires { FitsShape front shape.now }
-    ensures { IfOk result (λ lefts. lefts ≡ shape_lefts front nears.now shape.now) }
+    ensures ok { IfOk result (λ lefts. lefts ≡ shape_lefts front nears.now shape.now) }
+    ensures err { IfErr result (λ e. e ≡ TooLarge → 2 ^ 24 ≤ slice_index (shape_lefts front nears.now shape.now) 0) }
 {
     let sizing = sizing_of(front, &shape.procedure);
     let _count = shape.procedure.lines.as_slice().len();
-    Ok(rests_of(alloc, sizing, &shape.ways, nears, &shape.procedure.lines)?)
+    rests_of(alloc, sizing, &shape.ways, nears, &shape.procedure.lines)
 }
 
 fn numbered_lefts(
@@ -124,9 +133,10 @@ fn numbered_lefts(
     nears: &NearTable,
     number: usize,
     shape: &Shape,
-) -> Result<LeftList, ImageError>
+) -> Result<LeftList, EmitError>
     requires { FitsShape front shape.now }
-    ensures { IfOk result (λ lefts. lefts ≡ shape_lefts front (listed (slice_get nears.now number)) shape.now) }
+    ensures ok { IfOk result (λ lefts. lefts ≡ shape_lefts front (listed (slice_get nears.now number)) shape.now) }
+    ensures err { IfErr result (λ e. e ≡ TooLarge → 2 ^ 24 ≤ slice_index (shape_lefts front (listed (slice_get nears.now number)) shape.now) 0) }
 {
     match nears.get(number) {
         Some(list) => shape_lefts(alloc, front, list, shape),
@@ -143,10 +153,11 @@ pub fn all_lefts(
     front: Front,
     nears: &NearTable,
     shapes: &ShapeList,
-) -> Result<LeftTable, ImageError>
+) -> Result<LeftTable, EmitError>
     requires { EachShapeFits front shapes.now }
     ensures is { IfOk result (λ lefts. lefts ≡ all_lefts front nears.now shapes.now) }
     ensures long { IfOk result (λ lefts. length lefts ≡ length shapes.now) }
+    ensures err { IfErr result (λ e. e ≡ TooLarge → 2 ^ 24 ≤ code_end front (all_lefts front nears.now shapes.now) shapes.now) }
 {
     let mut lefts = LeftTable::new(alloc);
     for number in 0..shapes.len() {

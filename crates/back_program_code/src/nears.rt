@@ -7,7 +7,6 @@ ghost use Rattle.back_emit.specs.OwnNear.{own_is_near};
 ghost use Rattle.back_program_code.specs.Shapes.{first_position, shape_words, shape_nears, all_lefts, all_entries, all_nears, code_end, FitsShape, EachShapeFits, AreLow};
 
 use crate::entries::body_position;
-use crate::errors::ImageError;
 use crate::front::Front;
 use crate::lefts::{LeftTable, NearTable};
 use crate::shapes::{Shape, ShapeList, sizing_of};
@@ -91,7 +90,7 @@ pub fn shape_nears(
     at: u32,
     lefts: &LeftList,
     shape: &Shape,
-) -> Result<NearList, ImageError>
+) -> Result<NearList, NoMemory>
     requires { FitsShape front shape.now × (at + shape_words front lefts.now shape.now < 2 ^ 24) × AreLow entries.now }
     ensures { IfOk result (λ nears. nears ≡ shape_nears front entries.now at lefts.now shape.now) }
 {
@@ -118,7 +117,7 @@ pub fn all_nears(
     lefts: &LeftTable,
     entries: &EntryList,
     shapes: &ShapeList,
-) -> Result<NearTable, ImageError>
+) -> Result<NearTable, NoMemory>
     requires { EachShapeFits front shapes.now × (length lefts.now ≡ length shapes.now) × (entries.now ≡ all_entries front lefts.now shapes.now)
         × (code_end front lefts.now shapes.now < 2 ^ 24) }
     ensures { IfOk result (λ nears. nears ≡ all_nears front lefts.now entries.now shapes.now) }

@@ -1,10 +1,13 @@
 // What is found of a program before its words are made.
 
-ghost use Rattle.std.specs.Prelude.{◌≡◌, ◌+◌, ◌^◌, ◌<◌, true, IfOk};
+ghost use Rattle.std.specs.Prelude.{◌≡◌, ◌+◌, ◌^◌, ◌<◌, ◌≤◌, ◌⊎◌, true, false, IfOk, IfErr};
 ghost use Rattle.std.specs.List.{list_all};
 ghost use Rattle.mid_code.specs.Checked.{is_checked_program};
 ghost use Rattle.back_trivial.specs.FrameFound.{finds_frames};
 ghost use Rattle.back_program_code.specs.Shapes.{shapes_of, front_of, first_position, is_near_shape, EachShapeFits};
+ghost use Rattle.back_emit.specs.declared.errors.EmitError.TheVariants.{TooLarge};
+ghost use Rattle.back_program_code.specs.declared.errors.ImageError.TheVariants as image;
+ghost use Rattle.back_program_code.specs.TooLarge.{has_deep_records, far_end, IsTooLarge};
 ghost use Rattle.back_program_code.specs.Made.{IsPlan};
 
 use crate::entries::all_entries;
@@ -13,6 +16,7 @@ use crate::front::{Front, front_of};
 use crate::lefts::{LeftTable, NearTable, all_lefts};
 use crate::nears::all_nears;
 use crate::shapes::{ShapeList, are_near_ways, shapes_of};
+use back_emit::EmitError;
 use back_emit::finding::procedure_finds;
 use back_emit::placing::EntryList;
 use mid_code::MidProgram;
@@ -29,9 +33,10 @@ pub struct Plan {
     pub entries: EntryList,
 }
 
-/// Whether all procedures find their frames. It is too large where records have 2^28 words or more, one inside the other.
-pub fn finds_frames(program: &MidProgram) -> Result<bool, ImageError>
-    ensures { IfOk result (λ finds. finds ≡ finds_frames program.now) }
+/// Whether all procedures find their frames. It is too large where records have 2^29 words or more, one inside the other.
+pub fn finds_frames(program: &MidProgram) -> Result<bool, EmitError>
+    ensures ok { IfOk result (λ finds. finds ≡ finds_frames program.now) }
+    ensures err { IfErr result (λ e. e ≡ TooLarge → has_deep_records program.now ≡ true) }
 {
     for procedure in program.procedures.as_slice() {
         if !procedure_finds(procedure)? {
@@ -60,7 +65,9 @@ pub fn are_near_shapes(shapes: &ShapeList) -> bool
 /// Finds all that the words of a program's image are made of.
 pub fn plan_of(alloc: Global, program: &MidProgram) -> Result<Plan, ImageError>
     requires { is_checked_program program.now ≡ true }
-    ensures { IfOk result (λ plan. IsPlan program.now plan) }
+    ensures ok { IfOk result (λ plan. IsPlan program.now plan) }
+    ensures large { IfErr result (λ e. e ≡ image.TooLarge → IsTooLarge program.now) }
+    ensures not_found { IfErr result (λ e. e ≡ image.FrameNotFound → finds_frames program.now ≡ false) }
 {
     if !finds_frames(program)? {
         return Err(ImageError::FrameNotFound);
@@ -70,7 +77,7 @@ pub fn plan_of(alloc: Global, program: &MidProgram) -> Result<Plan, ImageError>
     if !are_near_shapes(&shapes) {
         return Err(ImageError::TooLarge);
     }
-    laid_out(alloc, program, shapes, front)
+    Ok(laid_out(alloc, program, shapes, front)?)
 }
 
 fn laid_out(
@@ -78,10 +85,11 @@ fn laid_out(
     program: &MidProgram,
     shapes: ShapeList,
     front: Front,
-) -> Result<Plan, ImageError>
-    requires { (shapes ≡ shapes_of program.now) × (front ≡ front_of program.now) × (first_position front < 2 ^ 24) × EachShapeFits front shapes
+) -> Result<Plan, EmitError>
+    requires { (is_checked_program program.now ≡ true) × (shapes ≡ shapes_of program.now) × (front ≡ front_of program.now) × (first_position front < 2 ^ 24) × EachShapeFits front shapes
         × (finds_frames program.now ≡ true) }
-    ensures { IfOk result (λ plan. IsPlan program.now plan) }
+    ensures ok { IfOk result (λ plan. IsPlan program.now plan) }
+    ensures err { IfErr result (λ e. e ≡ TooLarge → 2 ^ 24 ≤ far_end program.now) }
 {
     let none = NearTable::new(alloc);
     let far = all_lefts(alloc, front, &none, &shapes)?;

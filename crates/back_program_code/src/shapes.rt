@@ -1,10 +1,11 @@
 // The procedures of a program as lines, with the ways to the frame.
 
-ghost use Rattle.std.specs.Prelude.{◌≡◌, ◌+◌, ◌^◌, ◌<◌, nat_lt, IfOk};
+ghost use Rattle.std.specs.Prelude.{◌≡◌, ◌+◌, ◌^◌, ◌<◌, nat_lt, true, IfOk, IfErr};
 ghost use Rattle.std.specs.List.{list_all};
+ghost use Rattle.back_emit.specs.declared.errors.EmitError.TheVariants.{TooLarge};
+ghost use Rattle.back_program_code.specs.TooLarge.{is_deep_procedure, has_deep_records};
 ghost use Rattle.back_program_code.specs.Shapes.{body_ways, shape_of, shapes_of, sizing_of, is_near_way};
 
-use crate::errors::ImageError;
 use crate::front::Front;
 use back_emit::spots::Sizing;
 use back_emit::walking::{WayList, ways_of};
@@ -24,9 +25,10 @@ pub struct Shape {
 /// Procedures, by their numbers from 0.
 pub type ShapeList = ItemList<Shape>;
 
-/// The procedures of a program. It is too large where records have 2^28 words or more, one inside the other.
-pub fn shapes_of(alloc: Global, program: &MidProgram) -> Result<ShapeList, ImageError>
-    ensures { IfOk result (λ shapes. shapes ≡ shapes_of program.now) }
+/// The procedures of a program. It is too large where records have 2^29 words or more, one inside the other.
+pub fn shapes_of(alloc: Global, program: &MidProgram) -> Result<ShapeList, EmitError>
+    ensures ok { IfOk result (λ shapes. shapes ≡ shapes_of program.now) }
+    ensures err { IfErr result (λ e. e ≡ TooLarge → has_deep_records program.now ≡ true) }
 {
     let mut shapes = ShapeList::new(alloc);
     for procedure in program.procedures.as_slice() {
@@ -36,8 +38,9 @@ pub fn shapes_of(alloc: Global, program: &MidProgram) -> Result<ShapeList, Image
 }
 
 /// A procedure as lines, with the ways.
-pub fn shape_of(alloc: Global, procedure: &MidProcedure) -> Result<Shape, ImageError>
-    ensures { IfOk result (λ shape. shape ≡ shape_of procedure.now) }
+pub fn shape_of(alloc: Global, procedure: &MidProcedure) -> Result<Shape, EmitError>
+    ensures ok { IfOk result (λ shape. shape ≡ shape_of procedure.now) }
+    ensures err { IfErr result (λ e. e ≡ TooLarge → is_deep_procedure procedure.now ≡ true) }
 {
     let mut ways = ways_of(alloc, &procedure.body)?;
     ways.push(FrameWay::FromStack(0))?;

@@ -1,7 +1,8 @@
 // The words of procedures: their code and the tables of their switches.
 
-ghost use Rattle.std.specs.Prelude.{◌≡◌, ◌+◌, ◌*◌, ◌^◌, ◌<◌, ◌++◌, length, map, slice_index, OnOk};
+ghost use Rattle.std.specs.Prelude.{◌≡◌, ◌+◌, ◌*◌, ◌^◌, ◌<◌, ◌++◌, length, map, ◌≤◌, slice_index, OnOk, IfErr};
 ghost use Rattle.rv_encode.specs.Encodes.{word_of};
+ghost use Rattle.back_emit.specs.declared.errors.EmitError.TheVariants.{TooLarge};
 ghost use Rattle.back_layout.specs.Sizes.{switch_targets};
 ghost use Rattle.back_emit.specs.OwnLines.{line_position};
 ghost use Rattle.back_program_code.specs.Joined.{joined};
@@ -9,14 +10,13 @@ ghost use Rattle.back_program_code.specs.Shapes.{shape_words, all_entries, code_
 ghost use Rattle.back_program_code.specs.ShapedImage.{line_instructions, shape_code, line_table, shape_image, numbered_image};
 
 use crate::entries::body_position;
-use crate::errors::ImageError;
 use crate::front::Front;
 use crate::lefts::{LeftTable, NearTable, put_entry, target_count};
 use crate::shapes::{Shape, ShapeList, sizing_of};
-use back_emit::CodeList;
 use back_emit::code_of_lines::{put_behind, put_line};
 use back_emit::placing::{EntryList, entry_position, line_position, placed_spot};
 use back_emit::sizes::{LeftList, NearList, left_at};
+use back_emit::{CodeList, EmitError};
 use base::{NoMemory, WordList};
 use mid_lines::{Line, TargetList};
 use rv_encode::encode;
@@ -42,9 +42,11 @@ pub fn put_lines(
     nears: &NearList,
     lefts: &LeftList,
     shape: &Shape,
-) -> Result<(), ImageError>
+) -> Result<(), EmitError>
     requires { FitsShape front shape.now × (at + shape_words front lefts.now shape.now < 2 ^ 24) × AreLow entries.now }
-    ensures { OnOk result (code.new ≡ code.old ++ joined (line_instructions front entries.now at nears.now lefts.now shape.now) 0 shape.now.procedure.lines) }
+    ensures ok { OnOk result (code.new ≡ code.old ++ joined (line_instructions front entries.now at nears.now lefts.now shape.now) 0 shape.now.procedure.lines) }
+    ensures err { IfErr result (λ e. e ≡ TooLarge →
+        2 ^ 24 ≤ length (joined (line_instructions front entries.now at nears.now lefts.now shape.now) 0 shape.now.procedure.lines)) }
 {
     let mut scratch = CodeList::new(alloc);
     let body = body_position(&mut scratch, front, at, lefts, shape)?;
@@ -116,7 +118,7 @@ pub fn put_tables(
     nears: &NearList,
     lefts: &LeftList,
     shape: &Shape,
-) -> Result<(), ImageError>
+) -> Result<(), NoMemory>
     requires { FitsShape front shape.now × (at + shape_words front lefts.now shape.now < 2 ^ 24) }
     ensures { OnOk result (words.new ≡ words.old ++ joined (line_table front entries.now at nears.now lefts.now shape.now) 0 shape.now.procedure.lines) }
 {
@@ -141,15 +143,16 @@ pub fn put_shape(
     nears: &NearList,
     lefts: &LeftList,
     shape: &Shape,
-) -> Result<(), ImageError>
+) -> Result<(), EmitError>
     requires { FitsShape front shape.now × (at + shape_words front lefts.now shape.now < 2 ^ 24) × AreLow entries.now }
-    ensures { OnOk result (words.new ≡ words.old ++ shape_image front entries.now at nears.now lefts.now shape.now) }
+    ensures ok { OnOk result (words.new ≡ words.old ++ shape_image front entries.now at nears.now lefts.now shape.now) }
+    ensures err { IfErr result (λ e. e ≡ TooLarge → 2 ^ 24 ≤ length (shape_image front entries.now at nears.now lefts.now shape.now)) }
 {
     let mut code = CodeList::new(alloc);
     put_entry(&mut code, front, at, &shape.procedure)?;
     put_lines(alloc, &mut code, front, entries, at, nears, lefts, shape)?;
     put_encoded(words, &code)?;
-    put_tables(alloc, words, front, entries, at, nears, lefts, shape)
+    Ok(put_tables(alloc, words, front, entries, at, nears, lefts, shape)?)
 }
 
 /// Appends the words of all procedures.
@@ -161,10 +164,11 @@ pub fn put_shapes(
     nears: &NearTable,
     lefts: &LeftTable,
     shapes: &ShapeList,
-) -> Result<(), ImageError>
+) -> Result<(), EmitError>
     requires { EachShapeFits front shapes.now × (length lefts.now ≡ length shapes.now) × (length nears.now ≡ length shapes.now)
         × (entries.now ≡ all_entries front lefts.now shapes.now) × (code_end front lefts.now shapes.now < 2 ^ 24) }
-    ensures { OnOk result (words.new ≡ words.old ++ joined (numbered_image front entries.now nears.now lefts.now) 0 shapes.now) }
+    ensures ok { OnOk result (words.new ≡ words.old ++ joined (numbered_image front entries.now nears.now lefts.now) 0 shapes.now) }
+    ensures err { IfErr result (λ e. e ≡ TooLarge → 2 ^ 24 ≤ length (joined (numbered_image front entries.now nears.now lefts.now) 0 shapes.now)) }
 {
     for number in 0..shapes.len() {
         let Some(shape) = shapes.get(number) else {

@@ -1,4 +1,4 @@
-use Rattle.std.proofs.Common.{[], ◌∷◌, ◌++◌, refl, ap, ◌∙◌, arith}
+use Rattle.std.proofs.Common.{[], ◌∷◌, ◌++◌, ap, ◌∙◌, arith}
 use Rattle.back_emit.specs.OwnNear.{own_is_near}
 use Rattle.back_program_code.specs.Shapes.{spot_in}
 use Rattle.back_program_code.proofs.Joined.{joined_one}
