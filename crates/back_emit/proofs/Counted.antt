@@ -1,5 +1,5 @@
 -- What is left, counted from one line more on.
-use Rattle.std.proofs.Common.{◌≡◌, ℕ, zero, suc, ◌+◌, ◌-◌, ◌<◌, Bool, List, [], ◌∷◌, length, drop, replicate, Some, refl, sym, ap, subst, ◌∙◌, arith, length-set}
+use Rattle.std.proofs.Common.{◌≡◌, ◌≤◌, ◌^◌, ℕ, zero, suc, ◌+◌, ◌-◌, ◌<◌, Bool, List, [], ◌∷◌, length, drop, replicate, Some, refl, sym, ap, subst, ◌∙◌, arith, length-set}
 use Rattle.std.proofs.lemmas.List.{length-replicate}
 use Rattle.std.specs.Prelude.{slice_get, slice_index, slice_set}
 use Rattle.mid_lines.specs.declared.line.Line.{Line}
@@ -87,3 +87,52 @@ module _ (z : Sizing) (ways : List FrameWay) (nears : List Bool) (lines : List L
 
   pub ended : (from : ℕ) (lefts : List ℕ) → from ≡ 0 → IsCounted from lefts → lefts ≡ own_rests z ways nears 0 lines
   ended from lefts e h = ap (λ i. drop i lefts) (sym e) ∙ h.counted ∙ ap (λ i. own_rests z ways nears i (drop i lines)) e
+
+-- what is left from a line on is part of what is left from the first one on
+
+rests_fall :
+    (z : Sizing) (ways : List FrameWay) (nears : List Bool) (from i j : ℕ) (xs : List Line) → j ≡ from + i
+    → slice_index (own_rests z ways nears j (drop i xs)) 0 ≤ slice_index (own_rests z ways nears from xs) 0
+rests_fall z ways nears from zero j xs e = let same : j ≡ from = omega (arith, e) in omega (arith, ap (λ k. slice_index (own_rests z ways nears k xs) 0) same)
+rests_fall z ways nears from (suc i) j [] e = omega arith
+rests_fall z ways nears from (suc i) j (x ∷ xs) e =
+    let k = rests_fall z ways nears (from + 1) i j xs (omega (arith, e)) in
+    omega (arith, k)
+
+module _ (z : Sizing) (ways : List FrameWay) (nears : List Bool) (lines : List Line) where
+  -- where so many words are left behind a line, or it has so many
+  long_rest :
+      (from at : ℕ) (lefts : List ℕ) → from ≡ at + 1 → IsCounted z ways nears lines from lefts → 2 ^ 24 ≤ slice_index lefts (at + 1)
+      → 2 ^ 24 ≤ slice_index (own_rests z ways nears 0 lines) 0
+  long_rest from at lefts e h long =
+      let here = ap (slice_index lefts) e in
+      let first = index_drop lefts from in
+      let counted = ap (λ r. slice_index r 0) h.counted in
+      let fall = rests_fall z ways nears 0 from from lines (omega arith) in
+      omega (arith, here, first, counted, fall, long)
+
+  long_line :
+      (from at : ℕ) (x : Line) (lefts : List ℕ) → from ≡ at + 1 → slice_get lines at ≡ Some x → IsCounted z ways nears lines from lefts
+      → 2 ^ 24 ≤ own_line_size z ways nears at x (drop (at + 1) lefts) → 2 ^ 24 ≤ slice_index (own_rests z ways nears 0 lines) 0
+  long_line from at x lefts e there h long =
+      let next : suc at ≡ from = omega (arith, e) in
+      let next_one : at + 1 ≡ from = omega (arith, e) in
+      let rest : drop (at + 1) lefts ≡ own_rests z ways nears from (drop from lines) = ap (λ i. drop i lefts) next_one ∙ h.counted in
+      let size = ap (own_line_size z ways nears at x) rest in
+      let here : own_rests z ways nears at (drop at lines) ≡ with_own_line z ways nears at x (own_rests z ways nears from (drop from lines)) =
+      ap (own_rests z ways nears at) (drop_there lines at x there)
+      ∙ ap (λ i. with_own_line z ways nears at x (own_rests z ways nears (at + 1) (drop i lines))) next
+      ∙ ap (λ i. with_own_line z ways nears at x (own_rests z ways nears i (drop from lines))) next_one in
+      let first = ap (λ r. slice_index r 0) here in
+      let fall = rests_fall z ways nears 0 at at lines (omega arith) in
+      omega (arith, size, first, fall, long)
+
+  pub long_rest_of :
+      (n k : ℕ) (lefts : List ℕ) → n ≡ length lines → k < n → IsCounted z ways nears lines (length lines - k) lefts → 2 ^ 24 ≤ slice_index lefts (n - 1 - k + 1)
+      → 2 ^ 24 ≤ slice_index (own_rests z ways nears 0 lines) 0
+  long_rest_of n k lefts e below h long = long_rest (length lines - k) (n - 1 - k) lefts (omega (arith, e, below)) h long
+
+  pub long_line_of :
+      (n k : ℕ) (x : Line) (lefts : List ℕ) → n ≡ length lines → k < n → slice_get lines (n - 1 - k) ≡ Some x → IsCounted z ways nears lines (length lines - k) lefts
+      → 2 ^ 24 ≤ own_line_size z ways nears (n - 1 - k) x (drop (n - 1 - k + 1) lefts) → 2 ^ 24 ≤ slice_index (own_rests z ways nears 0 lines) 0
+  long_line_of n k x lefts e below there h long = long_line (length lines - k) (n - 1 - k) x lefts (omega (arith, e, below)) there h long

@@ -3,6 +3,7 @@ pub mod Short
 pub mod FromSpots
 pub mod WaysOfTrees
 pub mod Walked
+pub mod Deep
 pub mod Counted
 pub mod OwnRests
 pub mod OwnNear

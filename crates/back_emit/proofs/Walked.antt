@@ -7,7 +7,7 @@ use Rattle.back_emit.specs.declared.ways.FrameWay.{FrameWay}
 use Rattle.back_emit.specs.TreeWays.{step_ways, code_ways, codes_ways}
 
 -- what is left of a list, from a place where something stands
-rest_at : {X : Type 0} (list items : List X) (i : ℕ) (x : X) → items ≡ list → i < length items → x ≡ get_or items i x → drop i list ≡ x ∷ drop (i + 1) list
+pub rest_at : {X : Type 0} (list items : List X) (i : ℕ) (x : X) → items ≡ list → i < length items → x ≡ get_or items i x → drop i list ≡ x ∷ drop (i + 1) list
 rest_at list items i x same lt e =
     ap (drop i) (sym same) ∙ drop-cons items i x lt ∙ ap (λ y. y ∷ drop (suc i) items) (sym e) ∙ ap (λ l. x ∷ drop (suc i) l) same ∙ ap (λ k. x ∷ drop k list) (sym (add-one i))
 

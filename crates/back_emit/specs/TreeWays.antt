@@ -1,5 +1,6 @@
 -- The ways to the frame at the lines of a tree, as code has them; and whether code finds its frame.
-use Rattle.std.specs.Prelude.{◌≡◌, ℕ, ◌+◌, List, [], ◌∷◌, ◌++◌, map}
+use Rattle.std.specs.Prelude.{◌≡◌, ℕ, ◌+◌, ◌^◌, nat_le, Bool, false, List, [], ◌∷◌, ◌++◌, map}
+use Rattle.std.specs.List.{list_any}
 use Rattle.mid_code.specs.Arena.{header_words}
 use Rattle.mid_code.specs.MidCode.{MidStep, perform, choose, switch, repeat, with_block, lend, return_word, cut_to, halt_with, end_unhandled, MidCode, no_step, step_and, MidCodes, no_code, code_and}
 use Rattle.mid_lines.specs.StaticRecords as lines
@@ -19,6 +20,15 @@ abbrev pub past_block : FrameWay → FrameWay
 past_block (FromStack depth) = PastLent depth
 past_block (PastLent depth) = NoWay
 past_block NoWay = NoWay
+
+-- a way past records of so many words that it is not made, and whether there is one among ways
+abbrev pub is_deep : FrameWay → Bool
+is_deep (FromStack depth) = nat_le (2 ^ 29) depth
+is_deep (PastLent depth) = false
+is_deep NoWay = false
+
+abbrev pub has_deep : List FrameWay → Bool
+has_deep ways = list_any is_deep ways
 
 -- the ways at each line of a step, and of code, inside of a way
 abbrev mutual

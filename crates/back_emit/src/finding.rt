@@ -1,12 +1,14 @@
 // Whether the frame is found at each line of a tree, by a walk of its steps.
 
-ghost use Rattle.std.specs.Prelude.{◌≡◌, ◌+◌, ◌&&◌, ◌<◌, nat_lt, IfOk};
+ghost use Rattle.std.specs.Prelude.{◌≡◌, ◌+◌, ◌&&◌, ◌<◌, ◌∷◌, [], ◌++◌, true, nat_lt, IfOk, IfErr};
 ghost use Rattle.mid_code.specs.Arena.{header_words};
 ghost use Rattle.mid_code.specs.MidCode.{code_of};
 ghost use Rattle.mid_code.specs.model.View.{codes_of};
 ghost use Rattle.back_places.specs.Places.{is_from_stack, reachable};
 ghost use Rattle.back_trivial.specs.FrameFound.{reaches_all, step_finds, code_finds, codes_find, procedure_finds};
-ghost use Rattle.back_emit.specs.TreeWays.{past_record, past_block};
+ghost use Rattle.back_emit.specs.TreeWays.{past_record, past_block, step_ways, code_ways, codes_ways, has_deep};
+ghost use Rattle.back_emit.specs.declared.errors.EmitError.TheVariants.{TooLarge};
+ghost use Rattle.back_emit.specs.declared.ways.FrameWay.TheVariants.{FromStack};
 ghost use Rattle.back_emit.specs.Ways.{way_of};
 
 use crate::errors::EmitError;
@@ -21,9 +23,10 @@ pub struct FrameSize {
     pub frame: u32,
 }
 
-/// Whether a procedure finds its frame. It is too large where records have 2^28 words or more, one inside the other.
+/// Whether a procedure finds its frame. It is too large where records have 2^29 words or more, one inside the other.
 pub fn procedure_finds(procedure: &MidProcedure) -> Result<bool, EmitError>
-    ensures { IfOk result (λ finds. finds ≡ procedure_finds procedure.now) }
+    ensures ok { IfOk result (λ finds. finds ≡ procedure_finds procedure.now) }
+    ensures err { IfErr result (λ e. e ≡ TooLarge → has_deep (code_ways (FromStack 0) (code_of procedure.now.body)) ≡ true) }
 {
     let size = FrameSize {
         registers: procedure.registers,
@@ -68,7 +71,8 @@ pub fn is_from_stack(way: FrameWay) -> bool
 #[cycle(find)]
 #[tactic(auto, using(mid_code::specs::model::Sizes::step_turn))]
 fn code_finds(size: FrameSize, code: &Code, way: FrameWay) -> Result<bool, EmitError>
-    ensures { IfOk result (λ finds. finds ≡ code_finds size.registers size.frame (way_of way) (code_of code.now)) }
+    ensures ok { IfOk result (λ finds. finds ≡ code_finds size.registers size.frame (way_of way) (code_of code.now)) }
+    ensures err { IfErr result (λ e. e ≡ TooLarge → has_deep (code_ways way (code_of code.now)) ≡ true) }
 {
     for step in code.as_slice() {
         if !step_finds(size, step, way)? {
@@ -80,7 +84,8 @@ fn code_finds(size: FrameSize, code: &Code, way: FrameWay) -> Result<bool, EmitE
 
 #[cycle(find)]
 fn step_finds(size: FrameSize, step: &CodeStep, way: FrameWay) -> Result<bool, EmitError>
-    ensures { IfOk result (λ finds. finds ≡ step_finds size.registers size.frame (way_of way) step.now) }
+    ensures ok { IfOk result (λ finds. finds ≡ step_finds size.registers size.frame (way_of way) step.now) }
+    ensures err { IfErr result (λ e. e ≡ TooLarge → has_deep (step_ways way step.now) ≡ true) }
 {
     match &step.kind {
         StepKind::Do(_) => Ok(true),
@@ -103,8 +108,9 @@ fn step_finds(size: FrameSize, step: &CodeStep, way: FrameWay) -> Result<bool, E
 
 #[cycle(find)]
 fn both_find(size: FrameSize, first: &Code, second: &Code, way: FrameWay) -> Result<bool, EmitError>
-    ensures { IfOk result (λ finds. finds ≡
+    ensures ok { IfOk result (λ finds. finds ≡
         (code_finds size.registers size.frame (way_of way) (code_of first.now) && code_finds size.registers size.frame (way_of way) (code_of second.now))) }
+    ensures err { IfErr result (λ e. e ≡ TooLarge → has_deep (code_ways way (code_of first.now) ++ code_ways way (code_of second.now)) ≡ true) }
 {
     let first_finds = code_finds(size, first, way)?;
     let second_finds = code_finds(size, second, way)?;
@@ -114,7 +120,8 @@ fn both_find(size: FrameSize, first: &Code, second: &Code, way: FrameWay) -> Res
 #[cycle(find)]
 #[tactic(auto, using(mid_code::specs::model::Sizes::case_turn))]
 fn codes_find(size: FrameSize, codes: &CaseList, way: FrameWay) -> Result<bool, EmitError>
-    ensures { IfOk result (λ finds. finds ≡ codes_find size.registers size.frame (way_of way) (codes_of codes.now)) }
+    ensures ok { IfOk result (λ finds. finds ≡ codes_find size.registers size.frame (way_of way) (codes_of codes.now)) }
+    ensures err { IfErr result (λ e. e ≡ TooLarge → has_deep (codes_ways way (codes_of codes.now)) ≡ true) }
 {
     for case in codes.as_slice() {
         if !code_finds(size, &case.code, way)? {
@@ -132,10 +139,12 @@ fn record_finds(
     landing: &Code,
     way: FrameWay,
 ) -> Result<bool, EmitError>
-    ensures { IfOk result (λ finds. finds ≡
+    ensures ok { IfOk result (λ finds. finds ≡
         (reaches_all size.registers size.frame (way_of (past_record (words + header_words) way))
         && (code_finds size.registers size.frame (way_of (past_record (words + header_words) way)) (code_of inside.now)
         && code_finds size.registers size.frame (way_of (past_record (words + header_words) way)) (code_of landing.now)))) }
+    ensures err { IfErr result (λ e. e ≡ TooLarge → has_deep (past_record (words + header_words) way
+        ∷ (code_ways (past_record (words + header_words) way) (code_of inside.now) ++ code_ways (past_record (words + header_words) way) (code_of landing.now))) ≡ true) }
 {
     let past = past_record(words, way)?;
     let inside_finds = code_finds(size, inside, past)?;
@@ -145,9 +154,10 @@ fn record_finds(
 
 #[cycle(find)]
 fn lent_finds(size: FrameSize, inside: &Code, way: FrameWay) -> Result<bool, EmitError>
-    ensures { IfOk result (λ finds. finds ≡
+    ensures ok { IfOk result (λ finds. finds ≡
         (reaches_all size.registers size.frame (way_of (past_block way))
         && code_finds size.registers size.frame (way_of (past_block way)) (code_of inside.now))) }
+    ensures err { IfErr result (λ e. e ≡ TooLarge → has_deep (code_ways (past_block way) (code_of inside.now)) ≡ true) }
 {
     let past = past_block(way);
     let inside_finds = code_finds(size, inside, past)?;

@@ -1,6 +1,7 @@
 // How many words are left from each line on, counted once, from the last line to the first.
 
-ghost use Rattle.std.specs.Prelude.{◌≡◌, ◌+◌, ◌^◌, ◌<◌, ◌≤◌, [], ◌∷◌, length, drop, slice_index, replicate, IfOk, OnOk};
+ghost use Rattle.std.specs.Prelude.{◌≡◌, ◌+◌, ◌^◌, ◌<◌, ◌≤◌, [], ◌∷◌, length, drop, slice_index, replicate, IfOk, IfErr, OnOk};
+ghost use Rattle.back_emit.specs.declared.errors.EmitError.TheVariants.{TooLarge};
 ghost use Rattle.mid_lines.specs.declared.line.Line.TheVariants.{Jump};
 ghost use Rattle.back_layout.specs.Sizes.{jump_size, goes_over_nothing};
 ghost use Rattle.back_emit.specs.OwnCode.{own_line, own_behind};
@@ -83,7 +84,8 @@ pub fn words_of_line(
     line: &Line,
 ) -> Result<usize, EmitError>
     requires { FitsLine spot.now registers line.now }
-    ensures { IfOk result (λ words. words ≡ length (own_line spot.now line.now) + length (own_behind spot.now line.now)) }
+    ensures ok { IfOk result (λ words. words ≡ length (own_line spot.now line.now) + length (own_behind spot.now line.now)) }
+    ensures err { IfErr result (λ e. e ≡ TooLarge → 2 ^ 24 ≤ length (own_line spot.now line.now)) }
 {
     scratch.cut(0);
     put_line(scratch, spot, registers, line)?;
@@ -112,7 +114,8 @@ pub fn size_of_line(
     line: &Line,
 ) -> Result<usize, EmitError>
     requires { (at < 2 ^ 63) × FitsLine (sizing_spot sizing ways.now nears.now at) sizing.registers line.now }
-    ensures { IfOk result (λ words. words ≡ own_line_size sizing ways.now nears.now at line.now (drop (at + 1) lefts.now)) }
+    ensures ok { IfOk result (λ words. words ≡ own_line_size sizing ways.now nears.now at line.now (drop (at + 1) lefts.now)) }
+    ensures err { IfErr result (λ e. e ≡ TooLarge → 2 ^ 24 ≤ own_line_size sizing ways.now nears.now at line.now (drop (at + 1) lefts.now)) }
 {
     if let Line::Jump(to) = line {
         Ok(words_of_jump(lefts, at, *to, near_at(nears, at)))
@@ -143,7 +146,8 @@ pub fn rests_of(
     lines: &LineList,
 ) -> Result<LeftList, EmitError>
     requires { (length lines.now < 2 ^ 63) × EachFits sizing ways.now nears.now lines.now }
-    ensures { IfOk result (λ lefts. lefts ≡ own_rests sizing ways.now nears.now 0 lines.now) }
+    ensures ok { IfOk result (λ lefts. lefts ≡ own_rests sizing ways.now nears.now 0 lines.now) }
+    ensures err { IfErr result (λ e. e ≡ TooLarge → 2 ^ 24 ≤ slice_index (own_rests sizing ways.now nears.now 0 lines.now) 0) }
 {
     let mut lefts = zeros_for(alloc, lines)?;
     let mut scratch = CodeList::new(alloc);

@@ -1,11 +1,12 @@
 // The ways to the frame at the lines of a tree, by a walk of its steps.
 
-ghost use Rattle.std.specs.Prelude.{◌≡◌, ◌+◌, ◌∷◌, [], ◌++◌, IfOk, OnOk};
+ghost use Rattle.std.specs.Prelude.{◌≡◌, ◌+◌, ◌∷◌, [], ◌++◌, true, IfOk, IfErr, OnOk};
 ghost use Rattle.mid_code.specs.Arena.{header_words};
 ghost use Rattle.mid_code.specs.MidCode.{code_of};
 ghost use Rattle.mid_code.specs.model.View.{codes_of};
+ghost use Rattle.back_emit.specs.declared.errors.EmitError.TheVariants.{TooLarge};
 ghost use Rattle.back_emit.specs.declared.ways.FrameWay.TheVariants.{FromStack};
-ghost use Rattle.back_emit.specs.TreeWays.{past_record, past_block, step_ways, code_ways, codes_ways};
+ghost use Rattle.back_emit.specs.TreeWays.{past_record, past_block, has_deep, is_deep, step_ways, code_ways, codes_ways};
 
 use crate::errors::EmitError;
 use crate::ways::FrameWay;
@@ -16,25 +17,28 @@ use std::alloc::Global;
 /// Ways to the frame, line by line.
 pub type WayList = ItemList<FrameWay>;
 
-/// The ways at the lines of a procedure's code. It is too large where records have 2^28 words or more, one inside the other.
+/// The ways at the lines of a procedure's code. It is too large where records have 2^29 words or more, one inside the other.
 pub fn ways_of(alloc: Global, code: &Code) -> Result<WayList, EmitError>
-    ensures { IfOk result (λ ways. ways ≡ code_ways (FromStack 0) (code_of code.now)) }
+    ensures ok { IfOk result (λ ways. ways ≡ code_ways (FromStack 0) (code_of code.now)) }
+    ensures err { IfErr result (λ e. e ≡ TooLarge → has_deep (code_ways (FromStack 0) (code_of code.now)) ≡ true) }
 {
     let mut ways = WayList::new(alloc);
     append_code_ways(&mut ways, code, FrameWay::FromStack(0))?;
     Ok(ways)
 }
 
-/// The way past one record more, of so many words with its header.
+/// The way past one record more, of so many words with its header. It is too large where that is 2^29 words above the stack pointer, or more.
 pub fn past_record(words: u32, way: FrameWay) -> Result<FrameWay, EmitError>
-    ensures { IfOk result (λ past. past ≡ past_record (words + header_words) way) }
+    ensures ok { IfOk result (λ past. past ≡ past_record (words + header_words) way) }
+    ensures err { IfErr result (λ e. is_deep (past_record (words + header_words) way) ≡ true) }
 {
     match way {
         FrameWay::FromStack(depth) => {
-            if 268_435_456 <= depth || 16_777_216 <= words {
+            let past = u64::from(words) + 2 + u64::from(depth);
+            if 536_870_912 <= past {
                 Err(EmitError::TooLarge)
             } else {
-                Ok(FrameWay::FromStack(words + 2 + depth))
+                Ok(FrameWay::FromStack(past as u32))
             }
         }
         FrameWay::PastLent(_) => Ok(FrameWay::NoWay),
@@ -56,7 +60,8 @@ pub fn past_block(way: FrameWay) -> FrameWay
 #[cycle(walk)]
 #[tactic(auto, using(mid_code::specs::model::Sizes::step_turn))]
 fn append_code_ways(ways: &mut WayList, code: &Code, way: FrameWay) -> Result<(), EmitError>
-    ensures { OnOk result (ways.new ≡ ways.old ++ code_ways way (code_of code.now)) }
+    ensures ok { OnOk result (ways.new ≡ ways.old ++ code_ways way (code_of code.now)) }
+    ensures err { IfErr result (λ e. e ≡ TooLarge → has_deep (code_ways way (code_of code.now)) ≡ true) }
 {
     for step in code.as_slice() {
         append_step_ways(ways, step, way)?;
@@ -66,7 +71,8 @@ fn append_code_ways(ways: &mut WayList, code: &Code, way: FrameWay) -> Result<()
 
 #[cycle(walk)]
 fn append_step_ways(ways: &mut WayList, step: &CodeStep, way: FrameWay) -> Result<(), EmitError>
-    ensures { OnOk result (ways.new ≡ ways.old ++ step_ways way step.now) }
+    ensures ok { OnOk result (ways.new ≡ ways.old ++ step_ways way step.now) }
+    ensures err { IfErr result (λ e. e ≡ TooLarge → has_deep (step_ways way step.now) ≡ true) }
 {
     match &step.kind {
         StepKind::Do(_) => Ok(ways.push(way)?),
@@ -97,8 +103,9 @@ fn append_choice_ways(
     second: &Code,
     way: FrameWay,
 ) -> Result<(), EmitError>
-    ensures { OnOk result (ways.new ≡ ways.old ++
+    ensures ok { OnOk result (ways.new ≡ ways.old ++
         way ∷ (code_ways way (code_of first.now) ++ (way ∷ (code_ways way (code_of second.now) ++ way ∷ [])))) }
+    ensures err { IfErr result (λ e. e ≡ TooLarge → has_deep (way ∷ (code_ways way (code_of first.now) ++ (way ∷ (code_ways way (code_of second.now) ++ way ∷ [])))) ≡ true) }
 {
     ways.push(way)?;
     append_code_ways(ways, first, way)?;
@@ -110,7 +117,8 @@ fn append_choice_ways(
 #[cycle(walk)]
 #[tactic(auto, using(mid_code::specs::model::Sizes::case_turn))]
 fn append_codes_ways(ways: &mut WayList, codes: &CaseList, way: FrameWay) -> Result<(), EmitError>
-    ensures { OnOk result (ways.new ≡ ways.old ++ codes_ways way (codes_of codes.now)) }
+    ensures ok { OnOk result (ways.new ≡ ways.old ++ codes_ways way (codes_of codes.now)) }
+    ensures err { IfErr result (λ e. e ≡ TooLarge → has_deep (codes_ways way (codes_of codes.now)) ≡ true) }
 {
     for case in codes.as_slice() {
         append_code_ways(ways, &case.code, way)?;
@@ -126,8 +134,9 @@ fn append_loop_ways(
     body: &Code,
     way: FrameWay,
 ) -> Result<(), EmitError>
-    ensures { OnOk result (ways.new ≡ ways.old ++
+    ensures ok { OnOk result (ways.new ≡ ways.old ++
         (code_ways way (code_of head.now) ++ (way ∷ (code_ways way (code_of body.now) ++ way ∷ [])))) }
+    ensures err { IfErr result (λ e. e ≡ TooLarge → has_deep ((code_ways way (code_of head.now) ++ (way ∷ (code_ways way (code_of body.now) ++ way ∷ [])))) ≡ true) }
 {
     append_code_ways(ways, head, way)?;
     ways.push(way)?;
@@ -143,11 +152,15 @@ fn append_record_ways(
     landing: &Code,
     way: FrameWay,
 ) -> Result<(), EmitError>
-    ensures { OnOk result (ways.new ≡ ways.old ++
+    ensures ok { OnOk result (ways.new ≡ ways.old ++
         way
         ∷ (code_ways (past_record (words + header_words) way) (code_of inside.now)
         ++ (past_record (words + header_words) way ∷ way ∷ past_record (words + header_words) way
         ∷ (code_ways (past_record (words + header_words) way) (code_of landing.now) ++ past_record (words + header_words) way ∷ [])))) }
+    ensures err { IfErr result (λ e. e ≡ TooLarge → has_deep (way
+        ∷ (code_ways (past_record (words + header_words) way) (code_of inside.now)
+        ++ (past_record (words + header_words) way ∷ way ∷ past_record (words + header_words) way
+        ∷ (code_ways (past_record (words + header_words) way) (code_of landing.now) ++ past_record (words + header_words) way ∷ [])))) ≡ true) }
 {
     let past = past_record(words, way)?;
     ways.push(way)?;
@@ -161,8 +174,9 @@ fn append_record_ways(
 
 #[cycle(walk)]
 fn append_lent_ways(ways: &mut WayList, inside: &Code, way: FrameWay) -> Result<(), EmitError>
-    ensures { OnOk result (ways.new ≡ ways.old ++
+    ensures ok { OnOk result (ways.new ≡ ways.old ++
         way ∷ (code_ways (past_block way) (code_of inside.now) ++ past_block way ∷ [])) }
+    ensures err { IfErr result (λ e. e ≡ TooLarge → has_deep (way ∷ (code_ways (past_block way) (code_of inside.now) ++ past_block way ∷ [])) ≡ true) }
 {
     let past = past_block(way);
     ways.push(way)?;

@@ -4,6 +4,8 @@ use Rattle.mid_code.specs.MidCode.{step_size, code_size, codes_size, code_of}
 use Rattle.mid_code.specs.model.View.{codes_of}
 use Rattle.back_trivial.specs.FrameFound.{code_finds, codes_find}
 use Rattle.back_emit.specs.Ways.{way_of}
+use Rattle.back_emit.specs.TreeWays.{code_ways, codes_ways}
+use Rattle.back_emit.proofs.Deep.{DeepStays}
 use Rattle.back_emit.proofs.finding.+find.Given as goal
 
 abbrev pub decreases-code_finds : goal.decreases-code_finds
@@ -26,8 +28,10 @@ decreases-lent_finds l = code_size (code_of l.inside.now) + 1
 
 abbrev pub invariant-code_finds-loop-step : goal.invariant-code_finds-loop-step
 invariant-code_finds-loop-step l =
-    code_finds l.size.registers l.size.frame (way_of l.way) (code_of (drop l.step-index l.code)) ≡ code_finds l.size.registers l.size.frame (way_of l.way) (code_of l.code)
+    (code_finds l.size.registers l.size.frame (way_of l.way) (code_of (drop l.step-index l.code)) ≡ code_finds l.size.registers l.size.frame (way_of l.way) (code_of l.code))
+    × DeepStays (code_ways l.way (code_of (drop l.step-index l.code))) (code_ways l.way (code_of l.code))
 
 abbrev pub invariant-codes_find-loop-case : goal.invariant-codes_find-loop-case
 invariant-codes_find-loop-case l =
-    codes_find l.size.registers l.size.frame (way_of l.way) (codes_of (drop l.case-index l.codes)) ≡ codes_find l.size.registers l.size.frame (way_of l.way) (codes_of l.codes)
+    (codes_find l.size.registers l.size.frame (way_of l.way) (codes_of (drop l.case-index l.codes)) ≡ codes_find l.size.registers l.size.frame (way_of l.way) (codes_of l.codes))
+    × DeepStays (codes_ways l.way (codes_of (drop l.case-index l.codes))) (codes_ways l.way (codes_of l.codes))

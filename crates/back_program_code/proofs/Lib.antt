@@ -1,0 +1,11 @@
+pub mod Joined
+pub mod Ways
+pub mod Agreeing
+pub mod Fitting
+pub mod Most
+pub mod Positions
+pub mod ShapesFit
+pub mod ShapedImage
+pub mod Made
+pub mod Long
+pub mod TooLarge

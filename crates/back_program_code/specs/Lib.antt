@@ -1,0 +1,6 @@
+pub mod Errors
+pub mod Joined
+pub mod Shapes
+pub mod ShapedImage
+pub mod TooLarge
+pub mod Made

@@ -1,0 +1,71 @@
+-- An image that was made of a program, and what it does on the machine.
+use Rattle.std.specs.Prelude.{◌≡◌, ◌<◌, ◌≤◌, ℕ, ◌+◌, ◌*◌, ◌^◌, true, List, [], length, slice_index}
+use Rattle.rv_machine.specs.declared.image.Image.{Image}
+use Rattle.rv_machine.specs.State.{start}
+use Rattle.rv_machine.specs.Run.{Moment, first, run_from}
+use Rattle.mid_code.specs.declared.program.MidProgram.{MidProgram}
+use Rattle.mid_code.specs.Checked.{is_checked_program}
+use Rattle.mid_code.specs.State.{MidState}
+use Rattle.mid_code.specs.Meaning.{runs}
+use Rattle.back_trivial.specs.FrameFound.{finds_frames}
+use Rattle.back_layout.specs.OwnSlots.{own_slots_laid_out}
+use Rattle.back_runs.specs.Ends.{IsSaid, EndsAs}
+use Rattle.back_runs.specs.ProgramRuns.{IsLawfulEnd, DoesAs}
+use Rattle.back_start.specs.Images.{IsFirst, first_state}
+use Rattle.back_images.specs.Laws.{LaidAreWords, emitted, emitted_start}
+use Rattle.back_program_code.specs.declared.plans.Plan.{Plan}
+use Rattle.back_program_code.specs.Shapes.{shapes_of, front_of, near_jumps, near_lefts, near_entries, code_end, all_entries, AreLow, EachShapeFits, first_position}
+
+-- What was found of a program before its words are made: its frames are found, and the image ends below 2^24.
+pub record IsPlan (program : MidProgram) (plan : Plan) : Type 0 where
+  pub shapes : plan.shapes ≡ shapes_of program
+  pub front : plan.front ≡ front_of program
+  pub nears : plan.nears ≡ near_jumps (front_of program) (shapes_of program)
+  pub lefts : plan.lefts ≡ near_lefts (front_of program) (shapes_of program)
+  pub entries : plan.entries ≡ near_entries (front_of program) (shapes_of program)
+  pub nears_long : length plan.nears ≡ length plan.shapes
+  pub lefts_long : length plan.lefts ≡ length plan.shapes
+  pub fit : EachShapeFits plan.front plan.shapes
+  pub low : first_position plan.front < 2 ^ 24
+  pub entries_low : AreLow plan.entries
+  pub entries_listed : plan.entries ≡ all_entries plan.front plan.lefts plan.shapes
+  pub ends_low : code_end plan.front plan.lefts plan.shapes < 2 ^ 24
+  pub finds : finds_frames program ≡ true
+
+-- An image of a program, whose frames are found, and which has fewer than 2^24 words.
+pub record IsImageOf (program : MidProgram) (entry : ℕ) (image : Image) : Type 0 where
+  pub words : image.words ≡ emitted program entry
+  pub starts : image.entry ≡ 4 * emitted_start program
+  pub finds : finds_frames program ≡ true
+  pub low : (own_slots_laid_out program).code_to < 2 ^ 24
+
+-- the moment at which the machine has been loaded with it, and has executed nothing
+abbrev pub loaded_with : Image → (arena : ℕ) → (input : List ℕ) → Moment
+loaded_with image arena input = first (start image.words image.entry arena) input
+
+-- In each arena that has room for it, the state with the words laid beside the code, and an empty heap behind the image, is one with which a run
+-- of the image begins.
+abbrev pub LawOfFirstOfImage : Type 0
+LawOfFirstOfImage =
+    (program : MidProgram) (entry arena : ℕ) (image : Image) (input : List ℕ) → is_checked_program program ≡ true → IsImageOf program entry image
+    → LaidAreWords program.laid → length image.words ≤ arena → arena ≤ 2 ^ 24 → ((i : ℕ) → slice_index input i < 2 ^ 32)
+    → IsFirst (own_slots_laid_out program) image.words arena input (first_state program.laid (length image.words) arena input)
+
+-- What instructions of the image do, beside the run of the program with so many levels and turns.
+pub record RunsOfImage (program : MidProgram) (entry arena : ℕ) (image : Image) (input : List ℕ) (z : MidState) : Type 0 where
+  -- where that run is neither stuck nor out of serial numbers: 2 and n instructions have printed a beginning of what it prints, and go on, or have
+  -- ended as it has; so they have not trapped
+  pub does :
+      (n k turns_each : ℕ) → n ≤ k → n ≤ turns_each → IsLawfulEnd (runs program k turns_each entry [] z).end
+      → DoesAs (runs program k turns_each entry [] z) (loaded_with image arena input) (2 + n)
+  -- where that run comes to an end, the machine has ended so in as many instructions as the run costs
+  pub in_time :
+      (n k turns_each : ℕ) → IsSaid (runs program k turns_each entry [] z).end → (runs program k turns_each entry [] z).state.cost ≤ z.cost + n
+      → EndsAs (runs program k turns_each entry [] z).end (runs program k turns_each entry [] z).state (run_from n (loaded_with image arena input))
+
+-- **Images do what programs mean**, from each state with which a run begins.
+abbrev pub LawOfRunsOfImage : Type 0
+LawOfRunsOfImage =
+    (program : MidProgram) (entry arena : ℕ) (image : Image) (input : List ℕ) (z : MidState) → is_checked_program program ≡ true
+    → IsImageOf program entry image → entry < length program.procedures → LaidAreWords program.laid
+    → IsFirst (own_slots_laid_out program) image.words arena input z → RunsOfImage program entry arena image input z
