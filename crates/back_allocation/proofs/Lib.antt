@@ -1,0 +1,4 @@
+pub mod Facts
+pub mod GoodLines
+pub mod Parameters
+pub mod Allocating
