@@ -1,5 +1,5 @@
 -- With one place for each register, decisions are good but for positions.
-use Rattle.std.proofs.Common.{inl, inr, ◌≡◌, ◌≢◌, ℕ, zero, suc, ◌+◌, ◌<◌, ◌≤◌, Bool, true, false, List, [], ◌∷◌, length, Option, Some, None, refl, sym, ap, subst, ◌∙◌, arith}
+use Rattle.std.proofs.Common.{inl, inr, ◌≡◌, ℕ, ◌+◌, ◌<◌, ◌≤◌, Bool, true, false, length, Option, Some, None, refl, sym, ap, subst, ◌∙◌, arith}
 use Rattle.std.specs.Prelude.{◌⊎◌, slice_get, nat_le}
 use borrow.Author.Tests.{leb-true, leb-false}
 use Rattle.mid_lines.specs.declared.line.Line.{Line}
@@ -11,13 +11,13 @@ use Rattle.back_places.specs.declared.place.Place.{Place}
 use Rattle.back_places.specs.declared.place.Place.TheVariants.{InRegister}
 use Rattle.back_places.specs.Places.{Located, way_at, reachable, argument_register}
 use Rattle.back_places.specs.Facts.{IsPlace, IsSomewhere, GoodEntry, AreParameterPlaces, EachApart}
-use Rattle.back_places.specs.Good.{reach_at, LaysOne}
+use Rattle.back_places.specs.Good.{reach_at}
 use Rattle.back_places.specs.StepLaw.{Known}
 use Rattle.back_places.proofs.LinesInForm.{frame_words}
-use Rattle.back_trivial.specs.OwnSlots.{no_target, is_there, IsPlacedWell}
+use Rattle.back_trivial.specs.OwnSlots.{is_there, IsPlacedWell}
 use Rattle.back_allocation.specs.LineSteps.{line_gives}
-use Rattle.back_allocation.specs.Allocated.{Choice, is_chosen, place_given, target_at, parameter_places, IsAllocated, LawOfAllocated}
-use Rattle.back_allocation.proofs.Facts.{Stands, told, At, at_line}
+use Rattle.back_allocation.specs.Allocated.{Choice, is_chosen, place_given, target_at, IsAllocated, LawOfAllocated}
+use Rattle.back_allocation.proofs.Facts.{told, at_line}
 use Rattle.back_allocation.proofs.GoodLines.{good_line}
 use Rattle.back_allocation.proofs.Parameters.{more_frame, nowhere_placed, own_somewhere, place, count_of, place_at, place_there, place_alive, each_place, parameters_placed, all_apart}
 

@@ -1,6 +1,6 @@
 -- What is known of a choice at lines of a program: facts as tests, the line with its step, where it gives its word.
-use Rattle.std.proofs.Common.{◌≡◌, ◌≢◌, ℕ, zero, suc, ◌+◌, ◌<◌, ◌≤◌, Bool, true, false, ◌&&◌, ◌||◌, List, [], ◌∷◌, length, Option, Some, None, refl, sym, ap, subst, ◌∙◌, arith, eqb-true, eq-eqb}
-use Rattle.std.specs.Prelude.{slice_get, ◌==◌}
+use Rattle.std.proofs.Common.{◌≡◌, ℕ, zero, suc, ◌+◌, true, ◌&&◌, List, [], ◌∷◌, Option, Some, None, refl, sym, ap, subst, ◌∙◌, arith, eqb-true, eq-eqb}
+use Rattle.std.specs.Prelude.{slice_get}
 use Rattle.mid_lines.proofs.Conjunctions.{front_true, back_true, both_true}
 use Rattle.mid_lines.specs.declared.line.Line.{Line}
 use Rattle.mid_lines.specs.declared.line.LineProcedure.{LineProcedure}
@@ -10,7 +10,6 @@ use Rattle.back_places.specs.declared.place.Place.{Place}
 use Rattle.back_places.specs.declared.place.Place.TheVariants.{InRegister, InSlot, AsConstant}
 use Rattle.back_places.specs.StepLaw.{Known}
 use Rattle.back_trivial.specs.OwnSlots.{is_there}
-use Rattle.back_liveness.specs.declared.step.Step.{Step}
 use Rattle.back_allocation.specs.LineSteps.{step_of, steps_from}
 use Rattle.back_allocation.specs.Allocated.{Choice, is_same_place, is_chosen}
 

@@ -1,6 +1,6 @@
 -- Each line is good with the places of a choice.
-use Rattle.std.proofs.Common.{inl, inr, ◌≡◌, ◌≢◌, ℕ, zero, suc, ◌+◌, ◌<◌, ◌≤◌, Bool, true, false, ◌||◌, List, [], ◌∷◌, ◌++◌, length, Option, Some, None, refl, sym, ap, subst, ◌∙◌, arith, eqb-true, eq-eqb}
-use Rattle.std.specs.Prelude.{◌⊎◌, ◌==◌, slice_get}
+use Rattle.std.proofs.Common.{inl, inr, ◌≡◌, ◌≢◌, ℕ, ◌+◌, Bool, true, false, List, [], ◌∷◌, Some, None, refl, sym, ap, subst, ◌∙◌, eqb-true, eq-eqb}
+use Rattle.std.specs.Prelude.{◌⊎◌, ◌==◌}
 use Rattle.std.specs.List.{list_any}
 use Rattle.std.proofs.lemmas.List.Folds.{list_any-append}
 use Rattle.mid_code.specs.declared.operation.Operation.{Operation}
@@ -11,7 +11,7 @@ use Rattle.mid_lines.specs.declared.line.LineProgram.{LineProgram}
 use Rattle.back_places.specs.declared.place.Place.{Place}
 use Rattle.back_places.specs.declared.place.Place.TheVariants.{InRegister, InSlot, AsConstant}
 use Rattle.back_places.specs.Places.{StaticRecord, with_landing, only_lent, Located}
-use Rattle.back_places.specs.Facts.{Apart, Outlasts, IsSomewhere, CanHold, Reads, Gives, Keeps, KeepsEach, ToLandings, GivesWord, OnlyReads, Computes, GoodOperation, GoodLine, callee_registers}
+use Rattle.back_places.specs.Facts.{Apart, Outlasts, IsSomewhere, CanHold, Reads, Gives, Keeps, KeepsEach, ToLandings, GivesWord, Computes, GoodOperation, GoodLine, callee_registers}
 use Rattle.back_places.specs.StepLaw.{Known}
 use Rattle.back_places.specs.Trivial.{ToRecords, SameRecords, RecordsFollow, ArgumentsFit}
 use Rattle.back_trivial.specs.OwnSlots.{is_there}

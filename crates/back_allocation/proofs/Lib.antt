@@ -2,3 +2,5 @@ pub mod Facts
 pub mod GoodLines
 pub mod Parameters
 pub mod Allocating
+pub mod Stepping
+pub mod Choosing

@@ -1,9 +1,9 @@
 -- The places of parameters: each in its own, or nowhere.
-use Rattle.std.proofs.Common.{inl, inr, ◌≡◌, ◌≢◌, ℕ, zero, suc, ◌+◌, ◌<◌, ◌≤◌, Bool, true, false, List, [], ◌∷◌, length, Option, Some, None, refl, sym, ap, subst, ◌∙◌, arith}
+use Rattle.std.proofs.Common.{◌≡◌, ◌≢◌, ℕ, zero, suc, ◌+◌, ◌<◌, ◌≤◌, Bool, true, false, length, Some, refl, sym, ap, ◌∙◌, arith}
 use Rattle.std.specs.Prelude.{slice_get, if◌then◌else◌}
 use Rattle.back_places.specs.declared.place.Place.{Place}
 use Rattle.back_places.specs.declared.place.Place.TheVariants.{InRegister, InSlot, AsConstant}
-use Rattle.back_places.specs.Places.{Located, argument_register}
+use Rattle.back_places.specs.Places.{Located}
 use Rattle.back_places.specs.Facts.{IsPlace, Apart, IsSomewhere, IsParameterPlace, AreParameterPlaces, AllApart, EachApart}
 use Rattle.back_trivial.specs.OwnSlots.{no_target}
 use Rattle.back_allocation.specs.Standing.{IsOwnPlace}

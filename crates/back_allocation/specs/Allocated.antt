@@ -1,5 +1,5 @@
 -- Decisions by which each register has one place, and when they are good but for positions.
-use Rattle.std.specs.Prelude.{◌≡◌, ◌≤◌, ◌<◌, ℕ, zero, suc, ◌+◌, ◌==◌, Bool, true, false, ◌&&◌, List, [], ◌∷◌, length, slice_get, Option, Some, None, if◌then◌else◌}
+use Rattle.std.specs.Prelude.{◌≡◌, ◌≤◌, ◌<◌, ℕ, zero, suc, ◌+◌, ◌==◌, Bool, false, ◌&&◌, List, [], ◌∷◌, slice_get, Option, Some, None, if◌then◌else◌}
 use Rattle.mid_lines.specs.declared.line.Line.{Line}
 use Rattle.mid_lines.specs.declared.line.LineProcedure.{LineProcedure}
 use Rattle.mid_lines.specs.declared.line.LineProgram.{LineProgram}

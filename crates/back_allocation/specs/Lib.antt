@@ -1,3 +1,6 @@
 pub mod LineSteps
+pub mod Barriers
+pub mod Wishes
 pub mod Standing
+pub mod Places
 pub mod Allocated

@@ -1,5 +1,5 @@
 -- What lines do with registers, and where they go.
-use Rattle.std.specs.Prelude.{ℕ, ◌+◌, Bool, true, false, List, [], ◌∷◌, ◌++◌, Option, Some, None}
+use Rattle.std.specs.Prelude.{ℕ, ◌+◌, Bool, true, false, List, [], ◌∷◌, ◌++◌, slice_index_or, Option, Some, None}
 use Rattle.mid_code.specs.declared.operation.Operation.{Operation}
 use Rattle.mid_code.specs.declared.operation.Operation.TheVariants as operation
 use Rattle.mid_lines.specs.declared.line.Line.{Line}
@@ -93,3 +93,7 @@ step_of landings x = record { reads = line_reads x; written = line_gives x; fall
 abbrev pub steps_from : (landings : ℕ → List ℕ) → (line : ℕ) → List Line → List Step
 steps_from landings line [] = []
 steps_from landings line (x ∷ lines) = step_of (landings line) x ∷ steps_from landings (line + 1) lines
+
+-- the landings that a list gives for a line; none where it is shorter
+abbrev pub landings_in : List (List ℕ) → (line : ℕ) → List ℕ
+landings_in table line = slice_index_or table line []

@@ -1,5 +1,5 @@
 -- When the registers of a procedure stand well, each in one place.
-use Rattle.std.specs.Prelude.{◌≡◌, ◌≢◌, ◌≤◌, ◌<◌, ℕ, ◌+◌, ◌==◌, Bool, true, false, List, slice_get, Option, Some}
+use Rattle.std.specs.Prelude.{◌≡◌, ◌≢◌, ◌<◌, ℕ, ◌+◌, ◌==◌, Bool, true, List, slice_get, Some}
 use Rattle.std.specs.List.{list_any}
 use Rattle.mid_code.specs.declared.operation.Callee.{Callee}
 use Rattle.mid_code.specs.declared.operation.Operation.TheVariants.{Call}

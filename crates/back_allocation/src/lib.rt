@@ -1,6 +1,12 @@
 // Where the registers of a program of lines stand, decided by the linear scan, and that such decisions are good.
 #![tactic(auto)]
 
+pub mod allocation;
+pub mod barriers;
 pub mod laws;
+pub mod steps;
+pub mod wishes;
 
+pub use allocation::allocate;
 pub use laws::law_allocated;
+pub use steps::LandingsList;
