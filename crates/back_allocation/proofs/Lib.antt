@@ -4,3 +4,4 @@ pub mod Parameters
 pub mod Allocating
 pub mod Stepping
 pub mod Choosing
+pub mod TreePlaces

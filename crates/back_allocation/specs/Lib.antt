@@ -4,3 +4,4 @@ pub mod Wishes
 pub mod Standing
 pub mod Places
 pub mod Allocated
+pub mod TreePlaces

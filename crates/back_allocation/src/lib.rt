@@ -8,5 +8,5 @@ pub mod steps;
 pub mod wishes;
 
 pub use allocation::allocate;
-pub use laws::law_allocated;
+pub use laws::{law_allocated, law_good_places, law_places};
 pub use steps::LandingsList;
