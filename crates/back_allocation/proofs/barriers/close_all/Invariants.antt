@@ -1,0 +1,10 @@
+use Rattle.std.proofs.Common.{ℕ, ◌<◌}
+use Rattle.std.specs.Prelude.{slice_index}
+use Rattle.back_allocation.specs.Barriers.{Crosses, barrier_at}
+use Rattle.back_allocation.proofs.barriers.close_all.Given as goal
+
+abbrev pub invariant-loop-landing : goal.invariant-loop-landing
+invariant-loop-landing l = record {
+  kept : (x v : ℕ) → Crosses (barrier_at l.initial.barriers x) v → Crosses (barrier_at l.barriers x) v;
+  landed : (j v : ℕ) → j < l.landing-index → Crosses (barrier_at l.barriers (slice_index l.landings j)) v;
+}

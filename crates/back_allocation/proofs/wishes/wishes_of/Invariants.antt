@@ -1,0 +1,9 @@
+use Rattle.std.proofs.Common.{◌≡◌, length}
+use Rattle.back_allocation.specs.Wishes.{WishesHold}
+use Rattle.back_allocation.proofs.wishes.wishes_of.Given as goal
+
+abbrev pub invariant-loop-register : goal.invariant-loop-register
+invariant-loop-register l = record {
+  count : length l.wishes ≡ l.register;
+  hold : WishesHold l.all l.barriers l.parameters l.register l.wishes;
+}

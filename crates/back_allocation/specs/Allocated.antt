@@ -1,0 +1,69 @@
+-- Decisions by which each register has one place, and when they are good but for positions.
+use Rattle.std.specs.Prelude.{◌≡◌, ◌≤◌, ◌<◌, ℕ, zero, suc, ◌+◌, ◌==◌, Bool, false, ◌&&◌, List, [], ◌∷◌, slice_get, Option, Some, None, if◌then◌else◌}
+use Rattle.mid_lines.specs.declared.line.Line.{Line}
+use Rattle.mid_lines.specs.declared.line.LineProcedure.{LineProcedure}
+use Rattle.mid_lines.specs.declared.line.LineProgram.{LineProgram}
+use Rattle.mid_lines.specs.Lines.{line_of}
+use Rattle.back_places.specs.declared.place.Place.{Place}
+use Rattle.back_places.specs.declared.place.Place.TheVariants.{InRegister, InSlot, AsConstant}
+use Rattle.back_places.specs.Places.{Located, way_at, reachable}
+use Rattle.back_places.specs.StepLaw.{Known}
+use Rattle.back_places.specs.Trivial.{ToRecords, RecordsFollow, ArgumentsFit}
+use Rattle.back_trivial.specs.OwnSlots.{no_target, is_there, IsPlacedWell}
+use Rattle.back_allocation.specs.LineSteps.{landings_of, line_gives}
+use Rattle.back_allocation.specs.Standing.{AllStand}
+
+-- What is chosen for a program: the place of each register of a procedure, where registers may be alive, and how many slots it has.
+pub record Choice : Type 0 where
+  pub spot : (number register : ℕ) → Place
+  pub alive : (number register line : ℕ) → Bool
+  pub slots : (number : ℕ) → ℕ
+
+abbrev pub is_same_place : Place → Place → Bool
+is_same_place (InRegister r) (InRegister q) = r == q
+is_same_place (InSlot k) (InSlot j) = k == j
+is_same_place (AsConstant w) (AsConstant u) = w == u
+is_same_place p q = false
+
+-- what is known at a line: a register that may be alive is in its place
+abbrev pub is_chosen : LineProgram → Choice → (number line register : ℕ) → Place → Bool
+is_chosen program c number line v p = is_there (slice_get program.procedures number) && (c.alive number v line && is_same_place p (c.spot number v))
+
+-- where a line gives its word
+abbrev pub place_given : (spot : (register : ℕ) → Place) → Option ℕ → Place
+place_given spot None = no_target
+place_given spot (Some to) = spot to
+
+abbrev pub target_at : (spot : (register : ℕ) → Place) → Option Line → Place
+target_at spot None = no_target
+target_at spot (Some x) = place_given spot (line_gives x)
+
+-- so many parameters from one on; those that are not alive go nowhere
+abbrev pub parameter_places : (spot : (register : ℕ) → Place) → (is_alive : (register : ℕ) → Bool) → (from count : ℕ) → List Place
+parameter_places spot is_alive v zero = []
+parameter_places spot is_alive v (suc count) = (if is_alive v then spot v else no_target) ∷ parameter_places spot is_alive (v + 1) count
+
+-- Each register is read from its place, and given to it; the return address is always taken from the frame; the records that stand follow the
+-- lines; and the frame has a word for each slot and one for the return address, all within reach at each line.
+pub record IsAllocated (program : LineProgram) (l : Located) (c : Choice) : Type 0 where
+  pub sources : (number line v : ℕ) → l.source number line v ≡ c.spot number v
+  pub targets : (number line : ℕ) → l.target number line ≡ target_at (c.spot number) (line_of program number line)
+  pub parameters :
+      (number : ℕ) (p : LineProcedure) → slice_get program.procedures number ≡ Some p
+      → l.parameters number ≡ parameter_places (c.spot number) (λ v. c.alive number v 0) 0 p.parameters
+  pub unlinked : (number line : ℕ) → l.linked number line ≡ false
+  pub saves : (number : ℕ) → l.saves number ≡ is_there (slice_get program.procedures number)
+  pub records : (number line : ℕ) (x : Line) → line_of program number line ≡ Some x → RecordsFollow l number line x
+  pub landings : (number line : ℕ) → ToRecords l number (l.records number line)
+  pub first : (number : ℕ) → l.records number 0 ≡ []
+  pub arguments : (number line : ℕ) (x : Line) → line_of program number line ≡ Some x → ArgumentsFit l x
+  pub few : (number : ℕ) (p : LineProcedure) → slice_get program.procedures number ≡ Some p → p.parameters ≤ l.argument_words
+  pub stand :
+      (number : ℕ) (p : LineProcedure) → slice_get program.procedures number ≡ Some p
+      → AllStand p.lines p.parameters (λ line. landings_of (l.records number line)) (c.spot number) (c.alive number) (c.slots number)
+  pub frames : (number : ℕ) (p : LineProcedure) → slice_get program.procedures number ≡ Some p → c.slots number < p.frame
+  pub reach : (number line : ℕ) (p : LineProcedure) → slice_get program.procedures number ≡ Some p → c.slots number < reachable (way_at l number line) p.frame
+
+-- such decisions are good but for positions
+abbrev pub LawOfAllocated : Type 0
+LawOfAllocated = (program : LineProgram) (l : Located) (c : Choice) → IsAllocated program l c → IsPlacedWell program l (Known (is_chosen program c))

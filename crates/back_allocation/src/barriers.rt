@@ -1,0 +1,178 @@
+// Lines at which registers that are alive have to outlast calls: those behind calls, and landings.
+
+ghost use Rattle.std.specs.Prelude.{◌≡◌, ◌≢◌, ◌≤◌, ◌<◌, ◌+◌, ◌^◌, ◌==◌, ℕ, true, false, length, slice_get, slice_index_or, Some, IfOk, MatchBool};
+ghost use Rattle.std.specs.List.{list_any};
+ghost use Rattle.back_liveness.specs.Liveness.{IsWithin};
+ghost use Rattle.mid_lines.specs.declared.line.Line.{Line};
+ghost use Rattle.back_allocation.specs.LineSteps.{landings_in};
+ghost use Rattle.back_allocation.specs.Barriers.{call_result, may_cut, Crosses, barrier_at, AreBarriers};
+
+use crate::steps::LandingsList;
+use back_liveness::Interval;
+use base::NoMemory;
+use mid_code::{Operation, Register};
+use mid_lines::{Line, LineList, TargetList};
+use std::alloc::Global;
+
+/// Which registers have to outlast calls if they are alive at a line: none, all, or all but the result of a call.
+#[derive(Clone, Copy)]
+pub enum Barrier {
+    Open,
+    Closed,
+    ClosedBut(Register),
+}
+
+/// The barriers at lines, and at the end behind them, where the records that stand have these landings.
+pub fn barriers_of(
+    alloc: Global,
+    lines: &LineList,
+    landings: &LandingsList,
+) -> Result<Vec<Barrier>, NoMemory>
+    requires { length lines.now < 2 ^ 62 }
+    ensures { IfOk result (λ barriers. AreBarriers lines.now (landings_in landings.now) (length lines.now) barriers.items) }
+{
+    let mut barriers = vec![in alloc; Barrier::Open; lines.len() + 1]?;
+    close_lines(barriers.as_mut_slice(), lines, landings);
+    Ok(barriers)
+}
+
+fn close_lines(barriers: &mut [Barrier], lines: &LineList, landings: &LandingsList)
+    requires { length lines.now < 2 ^ 62 }
+    ensures { AreBarriers lines.now (landings_in landings.now) (length lines.now) barriers.new }
+{
+    for line in 0..lines.len() {
+        close_line(barriers, lines, landings, line);
+    }
+}
+
+// The barriers of a line.
+fn close_line(barriers: &mut [Barrier], lines: &LineList, landings: &LandingsList, line: usize)
+    requires { line < 2 ^ 62 }
+    ensures kept { (x v : ℕ) → Crosses (barrier_at barriers.old x) v → Crosses (barrier_at barriers.new x) v }
+    ensures call { (x : Line) (to v : ℕ) → slice_get lines.now line ≡ Some x → call_result x ≡ Some to → v ≢ to
+        → Crosses (barrier_at barriers.new (line + 1)) v }
+    ensures landed { (x : Line) (t v : ℕ) → slice_get lines.now line ≡ Some x → may_cut x ≡ true
+        → list_any (λ a. a == t) (landings_in landings.now line) ≡ true → Crosses (barrier_at barriers.new t) v }
+{
+    match lines.get(line) {
+        Some(x) => {
+            close_result(barriers, line + 1, result_of_call(x));
+            close_landings(barriers, landings, line, cuts(x))
+        }
+        None => {}
+    }
+}
+
+// The register that has the result of a call, if the line is one.
+fn result_of_call(line: &Line) -> Option<Register>
+    ensures { result ≡ call_result line.now }
+{
+    match line {
+        Line::Do(Operation::Call { to, .. }) => Some(*to),
+        _ => None,
+    }
+}
+
+// Whether a cut may go from the line to landings of its activation.
+fn cuts(line: &Line) -> bool
+    ensures { result ≡ may_cut line.now }
+{
+    match line {
+        Line::Do(Operation::Call { .. }) => true,
+        Line::Cut { .. } => true,
+        _ => false,
+    }
+}
+
+fn close_result(barriers: &mut [Barrier], line: usize, call: Option<Register>)
+    ensures kept { (x v : ℕ) → Crosses (barrier_at barriers.old x) v → Crosses (barrier_at barriers.new x) v }
+    ensures call { (to v : ℕ) → call ≡ Some to → v ≢ to → Crosses (barrier_at barriers.new line) v }
+{
+    match call {
+        Some(to) => close_but(barriers, line, to),
+        None => {}
+    }
+}
+
+fn close_but(barriers: &mut [Barrier], line: usize, to: Register)
+    ensures kept { (x v : ℕ) → Crosses (barrier_at barriers.old x) v → Crosses (barrier_at barriers.new x) v }
+    ensures closed { (v : ℕ) → v ≢ to → Crosses (barrier_at barriers.new line) v }
+{
+    if line < barriers.len() {
+        let closed = all_but(barriers[line], to);
+        barriers[line] = closed;
+    }
+}
+
+fn all_but(barrier: Barrier, to: Register) -> Barrier
+    ensures kept { (v : ℕ) → Crosses barrier v → Crosses result v }
+    ensures closed { (v : ℕ) → v ≢ to → Crosses result v }
+{
+    match barrier {
+        Barrier::Open => Barrier::ClosedBut(to),
+        Barrier::Closed => Barrier::Closed,
+        Barrier::ClosedBut(register) => {
+            if register == to {
+                Barrier::ClosedBut(to)
+            } else {
+                Barrier::Closed
+            }
+        }
+    }
+}
+
+fn close_landings(barriers: &mut [Barrier], landings: &LandingsList, line: usize, may_cut: bool)
+    ensures kept { (x v : ℕ) → Crosses (barrier_at barriers.old x) v → Crosses (barrier_at barriers.new x) v }
+    ensures landed { (t v : ℕ) → may_cut ≡ true → list_any (λ a. a == t) (landings_in landings.now line) ≡ true
+        → Crosses (barrier_at barriers.new t) v }
+{
+    if may_cut {
+        match landings.get(line) {
+            Some(here) => close_all(barriers, here.as_slice()),
+            None => {}
+        }
+    }
+}
+
+fn close_all(barriers: &mut [Barrier], landings: &[usize])
+    ensures kept { (x v : ℕ) → Crosses (barrier_at barriers.old x) v → Crosses (barrier_at barriers.new x) v }
+    ensures landed { (t v : ℕ) → list_any (λ a. a == t) landings.now ≡ true → Crosses (barrier_at barriers.new t) v }
+{
+    for landing in landings {
+        close_at(barriers, *landing);
+    }
+}
+
+fn close_at(barriers: &mut [Barrier], line: usize)
+    ensures kept { (x v : ℕ) → Crosses (barrier_at barriers.old x) v → Crosses (barrier_at barriers.new x) v }
+    ensures closed { (v : ℕ) → Crosses (barrier_at barriers.new line) v }
+{
+    if line < barriers.len() {
+        barriers[line] = Barrier::Closed;
+    }
+}
+
+/// Whether the register has to outlast calls at some line of its interval.
+pub fn crosses(interval: Interval, barriers: &[Barrier], register: Register) -> bool
+    ensures { result ≡ false → (x : ℕ) → IsWithin (Some interval) x → Crosses (barrier_at barriers.now x) register → ⊥ }
+{
+    if interval.to >= barriers.len() {
+        return true;
+    }
+    for x in interval.from..interval.to + 1 {
+        if is_crossed(barriers[x], register) {
+            return true;
+        }
+    }
+    false
+}
+
+fn is_crossed(barrier: Barrier, register: Register) -> bool
+    ensures { MatchBool result (Crosses barrier register) (Crosses barrier register → ⊥) }
+{
+    match barrier {
+        Barrier::Open => false,
+        Barrier::Closed => true,
+        Barrier::ClosedBut(to) => register != to,
+    }
+}

@@ -1,0 +1,21 @@
+// The laws of allocations, as the contracts of functions that do nothing.
+
+ghost use Rattle.back_allocation.specs.Allocated.{LawOfAllocated};
+ghost use Rattle.back_allocation.specs.TreePlaces.{LawOfPlaces, LawOfGoodPlaces};
+
+/// Decisions by which each register has one place, apart from those of others that are alive at the same line, and outside of value
+/// registers wherever a call or a cut passes it, are good but for positions.
+pub fn law_allocated()
+    ensures { LawOfAllocated }
+{}
+
+/// The lines of a tree: with places by which all registers stand well, and frames that are found past all records with a word for
+/// each slot and one for the return address, facts flow along all lines and from all entries, and all places are within reach.
+pub fn law_places()
+    ensures { LawOfPlaces }
+{}
+
+/// With good positions, such decisions are good.
+pub fn law_good_places()
+    ensures { LawOfGoodPlaces }
+{}

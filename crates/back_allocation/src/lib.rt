@@ -1,0 +1,12 @@
+// Where the registers of a program of lines stand, decided by the linear scan, and that such decisions are good.
+#![tactic(auto)]
+
+pub mod allocation;
+pub mod barriers;
+pub mod laws;
+pub mod steps;
+pub mod wishes;
+
+pub use allocation::allocate;
+pub use laws::{law_allocated, law_good_places, law_places};
+pub use steps::LandingsList;

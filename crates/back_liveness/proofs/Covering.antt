@@ -1,0 +1,82 @@
+-- Intervals of all registers.
+use Rattle.std.proofs.Common.{◌≡◌, ℕ, ◌+◌, ◌<◌, ◌≤◌, true, List, [], ◌∷◌, ◌++◌, length, get_or, Option, None, Some, Result, Ok, Err, arith}
+use Rattle.std.specs.Prelude.{slice_get, slice_index, nat_le, IfOk}
+use Rattle.std.proofs.Math.ListN.{get_or-append}
+use Rattle.std.proofs.Math.Seq.{get_or-append_seam}
+use borrow.Author.Tests.{leb-true, le-leb}
+use Rattle.back_liveness.specs.declared.lives.Life.{Life}
+use Rattle.back_liveness.specs.declared.step.Interval.{Interval}
+use Rattle.back_liveness.specs.declared.step.Step.{Step}
+use Rattle.back_liveness.specs.Liveness.{is_read, IsLive, IsWithin, IsCovered, Covers}
+use Rattle.back_liveness.specs.Ahead.{alive_ahead, alive_around}
+use Rattle.back_liveness.specs.Heads.{AreHeads, AreNested}
+use Rattle.back_liveness.specs.Points.{HasLoop, HaveLives}
+use Rattle.back_liveness.specs.Settled.{Settled}
+use Rattle.back_liveness.proofs.Forwards.{all_told}
+use Rattle.back_liveness.proofs.Around.{there_below, around_found, goes_along, law_of_alive}
+
+-- a register that is read nowhere is alive nowhere
+pub none_alive :
+    (steps : List Step) (earliest latest : List ℕ) (v : ℕ) → AreHeads steps earliest latest
+    → ((k : ℕ) (x : Step) → slice_get steps k ≡ Some x → is_read x v ≡ true → ⊥) → (k : ℕ) → alive_ahead steps v k ≡ true → ⊥
+none_alive steps earliest latest v heads none k h =
+    let life : Life = record { need = 1; from = 0; to = 0 } in
+    let s : Settled steps earliest latest v [] 0 life 1 = record {
+      reads = λ j x low up e r. absurd (omega (arith, low, up));
+      behind = λ j x low up e f w m. absurd (omega (arith, low, up));
+      aside = λ j t x low far up e a m. absurd (omega (arith, low, far, up));
+      looked = λ j low up m. absurd (omega (arith, low, up));
+    } in
+    let told = all_told steps earliest latest v [] 0 1 life heads s (omega arith) (omega arith) (λ j x e r. absurd (none j x e r)) k h in
+    omega (arith, told.0, told.1)
+
+-- one interval more
+pub older : (found : List (Option Interval)) (i : Option Interval) (v : ℕ) → v < length found → get_or (found ++ i ∷ []) v None ≡ get_or found v None
+older found i v h = get_or-append found (i ∷ []) None v h
+
+pub newest : (found : List (Option Interval)) (i : Option Interval) → get_or (found ++ i ∷ []) (length found) None ≡ i
+newest found i = get_or-append_seam found i [] None
+
+pub loop_there : (i : Option Interval) (line at last : ℕ) → HasLoop i line last → line ≤ at → at ≤ last → IsWithin i at
+loop_there None line at last h low up = h
+loop_there (Some i) line at last h low up = (omega (arith, h.0), omega (arith, h.1))
+
+-- intervals that have the lives of registers cover lines
+pub lives_cover :
+    (steps : List Step) (earliest latest : List ℕ) (found : List (Option Interval)) → AreHeads steps earliest latest → AreNested earliest latest
+    → HaveLives steps latest (length found) found → Covers steps found
+lives_cover steps earliest latest found heads nested lives = record {
+  test = alive_around steps latest;
+  along = goes_along steps earliest latest heads nested;
+  within = λ v line h a.
+      let i = around_found steps latest v line a in
+      loop_there (get_or found v None) i.head line (slice_index latest i.head) (lives.ahead v i.head h i.ahead) i.before i.back;
+  written = lives.written;
+}
+
+-- and so do intervals that have all lines
+pub all_cover :
+    (steps : List Step) (found : List (Option Interval)) → ((v line : ℕ) → v < length found → line ≤ length steps → IsCovered found v line)
+    → Covers steps found
+all_cover steps found all = record {
+  test = λ v line. nat_le line (length steps);
+  along = record {
+    reads = λ v line s e r. le-leb line (length steps) (omega (arith, there_below steps line s e));
+    behind = λ v line s e f w a. le-leb line (length steps) (omega (arith, there_below steps line s e));
+    aside = λ v line to s e g a. le-leb line (length steps) (omega (arith, there_below steps line s e));
+  };
+  within = λ v line h a. all v line h (leb-true line (length steps) a);
+  written = λ v line s h e w. all v (line + 1) h (omega (arith, there_below steps line s e));
+}
+
+-- what is covered has all lines at which registers are alive
+pub covers_alive :
+    (steps : List Step) (found : List (Option Interval)) → Covers steps found → (v line : ℕ) → v < length found → IsLive steps v line
+    → IsCovered found v line
+covers_alive steps found c v line h l = c.within v line h (law_of_alive steps c.test c.along v line l)
+
+pub if_all_alive :
+    {E : Type 0} (steps : List Step) (registers : ℕ) (r : Result (List (Option Interval)) E) → IfOk r (λ found. length found ≡ registers)
+    → IfOk r (λ found. Covers steps found) → IfOk r (λ found. (v line : ℕ) → v < registers → IsLive steps v line → IsCovered found v line)
+if_all_alive steps registers (Ok found) count covers = λ v line h l. covers_alive steps found covers v line (omega (arith, count, h)) l
+if_all_alive steps registers (Err e) count covers = tt

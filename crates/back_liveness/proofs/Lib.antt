@@ -1,0 +1,5 @@
+pub mod Lists
+pub mod Marking
+pub mod Forwards
+pub mod Around
+pub mod Covering

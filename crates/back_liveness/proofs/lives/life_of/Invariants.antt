@@ -1,0 +1,15 @@
+use Rattle.std.proofs.Common.{◌≤◌, ◌+◌}
+use Rattle.back_liveness.specs.Settled.{Settled}
+use Rattle.back_liveness.proofs.lives.life_of.Given as goal
+
+abbrev pub invariant-loop-life : goal.invariant-loop-life
+invariant-loop-life l = record {
+  settled : Settled l.steps l.heads.earliest.items l.heads.latest.items l.register l.marks l.points.to l.life l.line;
+  need : l.life.need ≤ l.points.from;
+  from : l.life.from ≤ l.points.from;
+  to : l.points.to ≤ l.life.to;
+  line : l.line ≤ l.points.to + 1;
+}
+
+abbrev pub decreases-loop-life : goal.decreases-loop-life
+decreases-loop-life l = l.line

@@ -1,0 +1,30 @@
+-- From where one comes to a line, and loops that lie one in another.
+use Rattle.std.specs.Prelude.{◌≡◌, ◌≤◌, ◌<◌, ℕ, ◌+◌, true, List, length, slice_get, slice_index, Some}
+use Rattle.back_liveness.specs.declared.step.Step.{Step}
+use Rattle.back_liveness.specs.Liveness.{goes_aside}
+
+-- a line between the first and the last that are given for another
+abbrev pub IsBetween : (earliest latest : List ℕ) → (line t : ℕ) → Type 0
+IsBetween earliest latest line t = (slice_index earliest t ≤ line) × (line ≤ slice_index latest t)
+
+-- for each line, the first and the last of it and of those that go aside to it, of the first lines
+pub record AreHeadsOf (steps : List Step) (count : ℕ) (earliest latest : List ℕ) : Type 0 where
+  pub earliest_count : length earliest ≡ length steps + 1
+  pub latest_count : length latest ≡ length steps + 1
+  pub own : (t : ℕ) → t ≤ length steps → IsBetween earliest latest t t
+  pub sources :
+      (line t : ℕ) (s : Step) → line < count → slice_get steps line ≡ Some s → goes_aside s t ≡ true → t ≤ length steps
+      → IsBetween earliest latest line t
+  pub within : (t : ℕ) → slice_index latest t ≤ length steps
+
+-- of all lines
+abbrev pub AreHeads : (steps : List Step) (earliest latest : List ℕ) → Type 0
+AreHeads steps earliest latest = AreHeadsOf steps (length steps) earliest latest
+
+-- From its head to the last line from which one comes back a loop is entered at its head alone, and all that goes back to a line
+-- inside is inside.
+abbrev pub IsNestedAt : (earliest latest : List ℕ) → (h t : ℕ) → Type 0
+IsNestedAt earliest latest h t = (h ≤ slice_index earliest t) × (slice_index latest t ≤ slice_index latest h)
+
+abbrev pub AreNested : (earliest latest : List ℕ) → Type 0
+AreNested earliest latest = (h t : ℕ) → h < t → t ≤ slice_index latest h → IsNestedAt earliest latest h t

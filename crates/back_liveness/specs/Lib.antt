@@ -1,0 +1,5 @@
+pub mod Liveness
+pub mod Ahead
+pub mod Heads
+pub mod Points
+pub mod Settled

@@ -1,0 +1,48 @@
+-- When a register is alive at a line, by paths, and what an interval of lines covers.
+use Rattle.std.specs.Prelude.{◌≡◌, ◌≢◌, ◌≤◌, ◌<◌, ℕ, ◌+◌, ◌==◌, Bool, true, List, length, slice_get, slice_index_or, Option, Some, None}
+use Rattle.std.specs.List.{list_any}
+use Rattle.back_liveness.specs.declared.step.Interval.{Interval}
+use Rattle.back_liveness.specs.declared.step.Step.{Step}
+
+-- whether a line reads a register, and whether it goes aside to a line
+abbrev pub is_read : Step → (register : ℕ) → Bool
+is_read s v = list_any (λ r. r == v) s.reads
+
+abbrev pub goes_aside : Step → (line : ℕ) → Bool
+goes_aside s to = list_any (λ t. t == to) s.aside
+
+-- A register is alive at a line from which some path leads to a read of it before it is written: the line reads it, or goes on to a line at
+-- which it is alive without writing it. Where a line goes aside it has not written.
+pub data IsLive (steps : List Step) (v : ℕ) : (line : ℕ) → Type 0 where
+  by_read : (line : ℕ) (s : Step) → slice_get steps line ≡ Some s → is_read s v ≡ true → IsLive steps v line
+  behind : (line : ℕ) (s : Step) → slice_get steps line ≡ Some s → s.falls ≡ true → s.written ≢ Some v → IsLive steps v (line + 1) → IsLive steps v line
+  aside : (line to : ℕ) (s : Step) → slice_get steps line ≡ Some s → goes_aside s to ≡ true → IsLive steps v to → IsLive steps v line
+
+-- a line of an interval
+abbrev pub IsWithin : Option Interval → (line : ℕ) → Type 0
+IsWithin None line = ⊥
+IsWithin (Some i) line = (i.from ≤ line) × (line ≤ i.to)
+
+-- a line of the interval of a register
+abbrev pub IsCovered : List (Option Interval) → (register line : ℕ) → Type 0
+IsCovered found v line = IsWithin (slice_index_or found v None) line
+
+-- A test that goes along with lines: it holds where a register is read, and before each line at which it holds, but behind a line
+-- that writes the register.
+pub record GoesAlong (steps : List Step) (test : (register line : ℕ) → Bool) : Type 0 where
+  pub reads : (v line : ℕ) (s : Step) → slice_get steps line ≡ Some s → is_read s v ≡ true → test v line ≡ true
+  pub behind :
+      (v line : ℕ) (s : Step) → slice_get steps line ≡ Some s → s.falls ≡ true → s.written ≢ Some v → test v (line + 1) ≡ true → test v line ≡ true
+  pub aside : (v line to : ℕ) (s : Step) → slice_get steps line ≡ Some s → goes_aside s to ≡ true → test v to ≡ true → test v line ≡ true
+
+-- The intervals of the first registers. They have the lines at which a test that goes along tells that the registers are alive, and
+-- each line behind one that writes them.
+pub record Covers (steps : List Step) (found : List (Option Interval)) : Type 0 where
+  pub test : (register line : ℕ) → Bool
+  pub along : GoesAlong steps test
+  pub within : (v line : ℕ) → v < length found → test v line ≡ true → IsCovered found v line
+  pub written : (v line : ℕ) (s : Step) → v < length found → slice_get steps line ≡ Some s → s.written ≡ Some v → IsCovered found v (line + 1)
+
+-- a register is alive only where such a test tells it
+abbrev pub LawOfAlive : Type 0
+LawOfAlive = (steps : List Step) (test : (register line : ℕ) → Bool) → GoesAlong steps test → (v line : ℕ) → IsLive steps v line → test v line ≡ true

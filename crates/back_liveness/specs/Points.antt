@@ -1,0 +1,33 @@
+-- Intervals that have the points of registers.
+use Rattle.std.specs.Prelude.{◌≡◌, ◌≤◌, ◌<◌, ℕ, ◌+◌, true, List, length, slice_get, slice_index, slice_index_or, Option, Some, None}
+use Rattle.back_liveness.specs.declared.step.Interval.{Interval}
+use Rattle.back_liveness.specs.declared.step.Step.{Step}
+use Rattle.back_liveness.specs.Liveness.{is_read, IsCovered}
+use Rattle.back_liveness.specs.Ahead.{alive_ahead}
+
+-- all points of the first lines: lines that read a register, and lines behind those that write it
+pub record ArePoints (steps : List Step) (count : ℕ) (hulls : List (Option Interval)) : Type 0 where
+  pub reads :
+      (v line : ℕ) (s : Step) → v < length hulls → line < count → slice_get steps line ≡ Some s → is_read s v ≡ true → IsCovered hulls v line
+  pub written :
+      (v line : ℕ) (s : Step) → v < length hulls → line < count → slice_get steps line ≡ Some s → s.written ≡ Some v → IsCovered hulls v (line + 1)
+
+-- an interval that ends by a line, and all of them
+abbrev pub EndsBy : (n : ℕ) → Option Interval → Type 0
+EndsBy n None = Unit {0}
+EndsBy n (Some i) = i.to ≤ n
+
+abbrev pub EndBy : (n : ℕ) → List (Option Interval) → Type 0
+EndBy n hulls = (v : ℕ) → EndsBy n (slice_index_or hulls v None)
+
+-- the lines from one to another, both of them too
+abbrev pub HasLoop : Option Interval → (line last : ℕ) → Type 0
+HasLoop None line last = ⊥
+HasLoop (Some i) line last = (i.from ≤ line) × (last ≤ i.to)
+
+-- The intervals of the first registers have the lines at which they are alive along paths forwards, with the loops of which these are the
+-- heads, and each line behind one that writes them.
+pub record HaveLives (steps : List Step) (latest : List ℕ) (registers : ℕ) (found : List (Option Interval)) : Type 0 where
+  pub ahead :
+      (v line : ℕ) → v < registers → alive_ahead steps v line ≡ true → HasLoop (slice_index_or found v None) line (slice_index latest line)
+  pub written : (v line : ℕ) (s : Step) → v < registers → slice_get steps line ≡ Some s → s.written ≡ Some v → IsCovered found v (line + 1)

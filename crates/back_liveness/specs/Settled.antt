@@ -1,0 +1,23 @@
+-- Marks at lines that tell where a register is alive, made from a last line backwards.
+use Rattle.std.specs.Prelude.{◌≡◌, ◌≤◌, ◌<◌, ℕ, ◌+◌, ◌-◌, Bool, true, false, List, slice_get, slice_index, slice_index_or, Some}
+use Rattle.back_liveness.specs.declared.lives.Life.{Life}
+use Rattle.back_liveness.specs.declared.step.Step.{Step}
+use Rattle.back_liveness.specs.Liveness.{is_read, goes_aside}
+use Rattle.back_liveness.specs.Ahead.{is_written}
+
+abbrev pub is_marked : List Bool → (line : ℕ) → Bool
+is_marked marks line = slice_index_or marks line false
+
+-- The lines from one to the last are marked where they read the register, or lead on to a marked one. What leads to a marked one is to be looked
+-- at, and the life has the marked lines with the loops of which they are the heads.
+pub record Settled (steps : List Step) (earliest latest : List ℕ) (v : ℕ) (marks : List Bool) (high : ℕ) (life : Life) (line : ℕ) : Type 0 where
+  pub reads : (k : ℕ) (s : Step) → line ≤ k → k ≤ high → slice_get steps k ≡ Some s → is_read s v ≡ true → is_marked marks k ≡ true
+  pub behind :
+      (k : ℕ) (s : Step) → line ≤ k → k < high → slice_get steps k ≡ Some s → s.falls ≡ true → is_written s.written v ≡ false
+      → is_marked marks (k + 1) ≡ true → is_marked marks k ≡ true
+  pub aside :
+      (k t : ℕ) (s : Step) → line ≤ k → k < t → t ≤ high → slice_get steps k ≡ Some s → goes_aside s t ≡ true → is_marked marks t ≡ true
+      → is_marked marks k ≡ true
+  pub looked :
+      (k : ℕ) → line ≤ k → k ≤ high → is_marked marks k ≡ true
+      → (life.need ≤ k - 1) × (life.need ≤ slice_index earliest k) × (life.from ≤ k) × (slice_index latest k ≤ life.to)

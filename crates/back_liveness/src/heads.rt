@@ -1,0 +1,123 @@
+// From where one comes to a line: the first and the last line that goes aside to it; and whether loops lie one in another.
+
+ghost use Rattle.std.specs.Prelude.{◌≡◌, ◌≤◌, ◌<◌, ◌+◌, ◌^◌, ◌==◌, ℕ, true, length, slice_get, slice_index, Some, IfOk, IsTrue};
+ghost use Rattle.std.specs.List.{list_any};
+ghost use Rattle.back_liveness.specs.declared.step.Step.{Step};
+ghost use Rattle.back_liveness.specs.Liveness.{goes_aside};
+ghost use Rattle.back_liveness.specs.Heads.{IsBetween, AreHeadsOf, AreHeads, IsNestedAt, AreNested};
+
+use crate::step::StepList;
+use base::NoMemory;
+use std::alloc::Global;
+
+/// For each line, and for the end behind them: the first and the last of it and of the lines that go aside to it.
+#[derive(Drop)]
+pub struct Heads {
+    pub earliest: Vec<usize>,
+    pub latest: Vec<usize>,
+}
+
+/// The heads of these lines.
+pub fn heads_of(alloc: Global, steps: &StepList) -> Result<Heads, NoMemory>
+    requires { length steps.now < 2 ^ 62 }
+    ensures { IfOk result (λ h. AreHeads steps.now h.earliest.items h.latest.items) }
+{
+    let mut earliest = own_lines(alloc, steps.len())?;
+    let mut latest = own_lines(alloc, steps.len())?;
+    add_lines(&mut earliest, &mut latest, steps);
+    Ok(Heads { earliest, latest })
+}
+
+// All lines, from which one comes to those to which they go aside.
+fn add_lines(earliest: &mut [usize], latest: &mut [usize], steps: &StepList)
+    requires { AreHeadsOf steps.now 0 earliest.old latest.old }
+    ensures { AreHeads steps.now earliest.new latest.new }
+{
+    for line in 0..steps.len() {
+        add_line(earliest, latest, steps, line);
+    }
+}
+
+// The numbers up to one.
+fn own_lines(alloc: Global, last: usize) -> Result<Vec<usize>, NoMemory>
+    requires { last < 2 ^ 62 }
+    ensures count { IfOk result (λ own. length own.items ≡ last + 1) }
+    ensures own { IfOk result (λ own. (t : ℕ) → t ≤ last → slice_index own.items t ≡ t) }
+    ensures within { IfOk result (λ own. (t : ℕ) → slice_index own.items t ≤ last) }
+{
+    let mut own = Vec::new(alloc);
+    for t in 0..last + 1 {
+        own.push(t)?;
+    }
+    Ok(own)
+}
+
+// The line, from which one comes to each of those to which it goes aside.
+fn add_line(earliest: &mut [usize], latest: &mut [usize], steps: &StepList, line: usize)
+    requires { length earliest.old ≡ length latest.old }
+    ensures kept { (k t : ℕ) → IsBetween earliest.old latest.old k t → IsBetween earliest.new latest.new k t }
+    ensures added { (t : ℕ) (s : Step) → slice_get steps.now line ≡ Some s → goes_aside s t ≡ true → t < length earliest.old
+        → IsBetween earliest.new latest.new line t }
+    ensures within { (n : ℕ) → line ≤ n → ((t : ℕ) → slice_index latest.old t ≤ n) → (t : ℕ) → slice_index latest.new t ≤ n }
+{
+    match steps.get(line) {
+        Some(step) => add_sources(earliest, latest, step.aside.as_slice(), line),
+        None => {}
+    }
+}
+
+fn add_sources(earliest: &mut [usize], latest: &mut [usize], aside: &[usize], line: usize)
+    requires { length earliest.old ≡ length latest.old }
+    ensures kept { (k t : ℕ) → IsBetween earliest.old latest.old k t → IsBetween earliest.new latest.new k t }
+    ensures added { (t : ℕ) → list_any (λ a. a == t) aside.now ≡ true → t < length earliest.old
+        → IsBetween earliest.new latest.new line t }
+    ensures within { (n : ℕ) → line ≤ n → ((t : ℕ) → slice_index latest.old t ≤ n) → (t : ℕ) → slice_index latest.new t ≤ n }
+{
+    for to in aside {
+        add_source(earliest, latest, *to, line);
+    }
+}
+
+fn add_source(earliest: &mut [usize], latest: &mut [usize], to: usize, line: usize)
+    requires { length earliest.old ≡ length latest.old }
+    ensures kept { (k t : ℕ) → IsBetween earliest.old latest.old k t → IsBetween earliest.new latest.new k t }
+    ensures added { to < length earliest.old → IsBetween earliest.new latest.new line to }
+    ensures within { (n : ℕ) → line ≤ n → ((t : ℕ) → slice_index latest.old t ≤ n) → (t : ℕ) → slice_index latest.new t ≤ n }
+{
+    if to < earliest.len() {
+        let first = earliest[to].min(line);
+        let last = latest[to].max(line);
+        earliest[to] = first;
+        latest[to] = last;
+    }
+}
+
+/// Whether loops lie one in another.
+pub fn are_nested(earliest: &[usize], latest: &[usize]) -> bool
+    requires same { length earliest.now ≡ length latest.now }
+    requires within { (t : ℕ) → slice_index latest.now t < length latest.now }
+    ensures { IsTrue result → AreNested earliest.now latest.now }
+{
+    for h in 0..latest.len() {
+        if !is_nested(earliest, latest, h) {
+            return false;
+        }
+    }
+    true
+}
+
+// Whether all loops that one can come to inside of the loop with this head lie in it.
+fn is_nested(earliest: &[usize], latest: &[usize], h: usize) -> bool
+    requires same { length earliest.now ≡ length latest.now }
+    requires there { h < length latest.now }
+    requires within { (t : ℕ) → slice_index latest.now t < length latest.now }
+    ensures { IsTrue result → (t : ℕ) → h < t → t ≤ slice_index latest.now h → IsNestedAt earliest.now latest.now h t }
+{
+    let last = latest[h];
+    for t in h + 1..last + 1 {
+        if earliest[t] < h || last < latest[t] {
+            return false;
+        }
+    }
+    true
+}

@@ -1,0 +1,14 @@
+// Which registers are alive at which lines: liveness by paths, and for each register one interval of lines outside of which it is not
+// alive.
+#![tactic(auto)]
+
+mod heads;
+pub mod intervals;
+pub mod laws;
+mod lives;
+mod points;
+pub mod step;
+
+pub use intervals::live_intervals;
+pub use laws::law_alive;
+pub use step::{Interval, IntervalList, Step, StepList};

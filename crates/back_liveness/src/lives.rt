@@ -1,0 +1,152 @@
+// The interval of one register: its lines are marked backwards, from its last point on.
+
+ghost use Rattle.std.specs.Prelude.{◌≡◌, ◌≤◌, ◌<◌, ◌+◌, ◌-◌, ◌^◌, ◌==◌, ℕ, true, false, length, slice_get, slice_index, Some, IsTrue};
+ghost use Rattle.std.specs.List.{list_any};
+ghost use Rattle.back_liveness.specs.declared.step.Step.{Step};
+ghost use Rattle.back_liveness.specs.Liveness.{is_read, goes_aside, IsWithin};
+ghost use Rattle.back_liveness.specs.Ahead.{is_written, alive_ahead};
+ghost use Rattle.back_liveness.specs.Heads.{AreHeads};
+ghost use Rattle.back_liveness.specs.Settled.{is_marked, Settled};
+
+use crate::heads::Heads;
+use crate::step::{Interval, StepList};
+use mid_code::Register;
+
+/// What is known of a register: the first line that is still to be looked at, and the first and the last line of its interval.
+#[derive(Clone, Copy)]
+pub struct Life {
+    pub need: usize,
+    pub from: usize,
+    pub to: usize,
+}
+
+/// The interval of a register whose points are in one, with all lines at which it is alive along paths forwards, and from heads of
+/// loops at which it is alive up to the last lines from which one comes back to them.
+pub fn life_of(
+    steps: &StepList,
+    heads: &Heads,
+    register: Register,
+    points: Interval,
+    marks: &mut [bool],
+) -> Interval
+    requires heads { AreHeads steps.now heads.now.earliest.items heads.now.latest.items }
+    requires room { length steps.now < 2 ^ 62 }
+    requires marks { length marks.old ≡ length steps.now + 1 }
+    requires points { (line : ℕ) (s : Step) → slice_get steps.now line ≡ Some s → is_read s register ≡ true → IsWithin (Some points) line }
+    requires ends { points.to ≤ length steps.now }
+    ensures ahead { (line : ℕ) → alive_ahead steps.now register line ≡ true
+        → (result.from ≤ line) × (slice_index heads.now.latest.items line ≤ result.to) }
+    ensures points { (line : ℕ) → IsWithin (Some points) line → IsWithin (Some result) line }
+{
+    let mut life = Life {
+        need: points.from,
+        from: points.from,
+        to: points.to,
+    };
+    let mut line = points.to + 1;
+    while life.need < line {
+        line -= 1;
+        life = look(
+            steps,
+            heads.earliest.as_slice(),
+            heads.latest.as_slice(),
+            register,
+            points.to,
+            marks,
+            life,
+            line,
+        );
+    }
+    Interval {
+        from: life.from,
+        to: life.to,
+    }
+}
+
+// Marks one line more.
+fn look(
+    steps: &StepList,
+    earliest: &[usize],
+    latest: &[usize],
+    register: Register,
+    high: usize,
+    marks: &mut [bool],
+    life: Life,
+    line: usize,
+) -> Life
+    requires earliest { length earliest.now ≡ length marks.old }
+    requires latest { length latest.now ≡ length marks.old }
+    requires high { high < length marks.old }
+    requires line { line ≤ high }
+    requires settled { Settled steps.now earliest.now latest.now register marks.old high life (line + 1) }
+    ensures settled { Settled steps.now earliest.now latest.now register marks.new high result line }
+    ensures need { result.need ≤ life.need }
+    ensures from { result.from ≤ life.from }
+    ensures to { life.to ≤ result.to }
+{
+    let is_alive = is_alive(steps, marks, register, line, high);
+    marks[line] = is_alive;
+    with_line(life, is_alive, line, earliest[line], latest[line])
+}
+
+// The life with a line more, if it is marked.
+fn with_line(life: Life, is_marked: bool, line: usize, first: usize, last: usize) -> Life
+    ensures need { result.need ≤ life.need }
+    ensures from { result.from ≤ life.from }
+    ensures to { life.to ≤ result.to }
+    ensures marked { is_marked ≡ true → (result.need ≤ line - 1) × (result.need ≤ first) × (result.from ≤ line) × (last ≤ result.to) }
+{
+    if is_marked {
+        Life {
+            need: life.need.min(first).min(line.saturating_sub(1)),
+            from: life.from.min(line),
+            to: life.to.max(last),
+        }
+    } else {
+        life
+    }
+}
+
+// Whether the register is alive at a line, by the marks of the lines behind it up to a last one.
+fn is_alive(steps: &StepList, marks: &[bool], register: Register, line: usize, high: usize) -> bool
+    requires high { high < length marks.now }
+    requires line { line ≤ high }
+    ensures reads { (s : Step) → slice_get steps.now line ≡ Some s → is_read s register ≡ true → result ≡ true }
+    ensures behind { (s : Step) → line < high → slice_get steps.now line ≡ Some s → s.falls ≡ true → is_written s.written register ≡ false
+        → is_marked marks.now (line + 1) ≡ true → result ≡ true }
+    ensures aside { (t : ℕ) (s : Step) → line < t → t ≤ high → slice_get steps.now line ≡ Some s → goes_aside s t ≡ true
+        → is_marked marks.now t ≡ true → result ≡ true }
+{
+    let Some(step) = steps.get(line) else {
+        return false;
+    };
+    if step.reads.as_slice().contains(&register) {
+        return true;
+    }
+    if step.falls && line < high && marks[line + 1] && !writes(step.written, register) {
+        return true;
+    }
+    any_marked(step.aside.as_slice(), marks, line, high)
+}
+
+fn writes(written: Option<Register>, register: Register) -> bool
+    ensures { result ≡ is_written written register }
+{
+    match written {
+        Some(r) => r == register,
+        None => false,
+    }
+}
+
+// Whether one of these lines is marked and stands behind a line, and not behind a last one.
+fn any_marked(aside: &[usize], marks: &[bool], line: usize, high: usize) -> bool
+    requires { high < length marks.now }
+    ensures { (t : ℕ) → list_any (λ a. a == t) aside.now ≡ true → line < t → t ≤ high → is_marked marks.now t ≡ true → result ≡ true }
+{
+    for t in aside {
+        if line < *t && *t <= high && marks[*t] {
+            return true;
+        }
+    }
+    false
+}
