@@ -87,8 +87,8 @@ fn without_chain(variables: &mut RegisterList, method: bool, t: Register) -> Res
     Ok(())
 }
 
-// The number of the body of a procedure.
-fn body_of_procedure(at: &Placement, number: usize) -> Result<usize, NoMemory>
+/// The number of the body of a procedure.
+pub fn body_of_procedure(at: &Placement, number: usize) -> Result<usize, NoMemory>
     ensures { IfOk result (λ n. n ≡ body_of_procedure at.now number) }
 {
     if at.procedures >= MOST_REGISTERS || at.lambdas >= MOST_REGISTERS || number >= MOST_REGISTERS {
@@ -168,7 +168,7 @@ fn takes(required: usize, more: bool, count: usize) -> bool
     }
 }
 
-// The words behind those of the required variables are one list.
+// The words behind those of the required variables are one list, which is made only where there is a level for the body.
 fn call_with_rest(
     code: &mut Code,
     alloc: Global,
@@ -185,9 +185,11 @@ fn call_with_rest(
     requires many { d + count < 2 ^ 60 }
     ensures { OnOk result (code.new ≡ code.old ++ calls.call_with_rest given.now.at.now given.now.program.now number procedure.now count d site) }
 {
+    let level = routine(given.at, LEVEL)?;
     let required = procedure.required.len();
     let mut variables = registers(alloc, d, required)?;
     variables.push(d + count)?;
+    code.push(call(d + count, level, RegisterList::new(alloc)))?;
     list_of(code, count - required, d + required, d + count)?;
     enter_body(
         code,

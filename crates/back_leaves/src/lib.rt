@@ -9,5 +9,6 @@ pub mod numbers;
 pub mod primitives;
 pub mod quick;
 pub mod registers;
+pub mod routine_steps;
 pub mod steps;
 pub mod words;

@@ -127,8 +127,15 @@ pub const NEXT: usize = 14;
 
 pub const LEVEL: usize = 15;
 
+pub const LIST: usize = 16;
+
+pub const METHOD: usize = 17;
+
 pub const BINDING: usize = 18;
 
 pub const IS_FUNCTION: usize = 19;
 
 pub const CLASS: usize = 20;
+
+/// How many routines there are.
+pub const ROUTINES: usize = 21;

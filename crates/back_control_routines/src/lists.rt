@@ -2,9 +2,9 @@
 
 ghost use Rattle.std.specs.Prelude.{◌≡◌, ◌++◌, [], ◌∷◌, OnOk, IfOk};
 ghost use Rattle.back_lowering.specs.RoutineCodes as routines;
-ghost use Rattle.back_routines.specs.Parts as parts;
+ghost use Rattle.back_control_routines.specs.Parts as parts;
 
-use crate::steps::{add_to, turns_while};
+use back_leaves::routine_steps::{add_to, turns_while};
 use back_leaves::steps::{if_equal, move_word, request, setting};
 use back_leaves::words::BINDINGS;
 use back_lowering::Placement;

@@ -2,11 +2,13 @@
 
 ghost use Rattle.std.specs.Prelude.{◌≡◌, ◌++◌, ◌+◌, ◌<◌, ◌^◌, [], ◌∷◌, OnOk, IfOk};
 ghost use Rattle.back_lowering.specs.RoutineCodes as routines;
-ghost use Rattle.back_routines.specs.Parts as parts;
+ghost use Rattle.back_application_routines.specs.Parts as parts;
 
-use crate::steps::{add_to, call_number, four, returning, signals, signals_domain, turns_while};
 use back_leaves::leaves::routine;
 use back_leaves::primitives::{car_into, where_tag};
+use back_leaves::routine_steps::{
+    add_to, call_number, four, returning, signals, signals_domain, turns_while,
+};
 use back_leaves::steps::{
     call, if_different, if_equal, move_word, one, setting, three, two, where_so,
 };
@@ -376,32 +378,36 @@ fn lent(inside: Code) -> CodeStep
     })
 }
 
-// A function is applied to them.
+// A function is applied to them, where there is a level.
 fn function_spread(alloc: Global, at: &Placement) -> Result<Code, NoMemory>
     ensures { IfOk result (λ code. code ≡ parts.function_spread at.now) }
 {
     let few = wrong_number(alloc, at, 5)?;
     let other = wrong_number(alloc, at, 5)?;
+    let level = routine(at, LEVEL)?;
     let mut inside = list_copied(alloc)?;
     inside.push(constant(3, 0))?;
     inside.push(call_number(10, 11, four(alloc, 0, 3, 2, 9)?))?;
     let mut code = Code::new(alloc);
     arity_into(&mut code, at, 3, 11, 0)?;
     where_takes(&mut code, alloc, 3, 2, 5, few, other)?;
+    code.push(call(10, level, RegisterList::new(alloc)))?;
     code.push(lent(inside))?;
     code.push(return_word(10))?;
     Ok(code)
 }
 
-// A chain is.
+// A chain is, where there is a level.
 fn chain_spread(alloc: Global, at: &Placement) -> Result<Code, NoMemory>
     ensures { IfOk result (λ code. code ≡ parts.chain_spread at.now) }
 {
     let run = routine(at, CHAIN)?;
+    let level = routine(at, LEVEL)?;
     let mut inside = list_copied(alloc)?;
     inside.push(call(10, run, three(alloc, 11, 2, 9)?))?;
     let mut code = Code::new(alloc);
     code.push(move_word(11, 4))?;
+    code.push(call(10, level, RegisterList::new(alloc)))?;
     code.push(lent(inside))?;
     code.push(return_word(10))?;
     Ok(code)

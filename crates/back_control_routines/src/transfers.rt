@@ -2,10 +2,10 @@
 
 ghost use Rattle.std.specs.Prelude.{◌≡◌, ◌++◌, [], ◌∷◌, OnOk, IfOk};
 ghost use Rattle.back_lowering.specs.RoutineCodes as routines;
-ghost use Rattle.back_routines.specs.Parts as parts;
+ghost use Rattle.back_control_routines.specs.Parts as parts;
 
-use crate::steps::{returning, signals, turns_while};
 use back_leaves::leaves::routine;
+use back_leaves::routine_steps::{returning, signals, turns_while};
 use back_leaves::steps::{if_equal, setting, two};
 use back_leaves::words::{
     CATCH_KIND, CLEANUP_KIND, CONTROL_ERROR_CLASS, CURRENT, END_KIND, LANDING, LINK, RECORD_KIND,

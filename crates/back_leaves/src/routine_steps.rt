@@ -5,9 +5,9 @@ ghost use Rattle.mid_code.specs.MidCode.{return_word};
 ghost use Rattle.back_lowering.specs.RoutineCodes as routines;
 ghost use Rattle.back_lowering.specs.Steps as steps;
 
-use back_leaves::leaves::routine;
-use back_leaves::steps::{call, one, two};
-use back_leaves::words::{DOMAIN, FAILING};
+use crate::leaves::routine;
+use crate::steps::{call, one, two};
+use crate::words::{DOMAIN, FAILING};
 use back_lowering::Placement;
 use base::NoMemory;
 use mid_arena::steps::{comparing, compute, constant, return_word};
@@ -17,16 +17,16 @@ use mid_code::{
 };
 use std::alloc::Global;
 
-// A constant is added to a register; t is used.
-pub(crate) fn add_to(code: &mut Code, r: Register, t: Register, word: u32) -> Result<(), NoMemory>
+/// A constant is added to a register; t is used.
+pub fn add_to(code: &mut Code, r: Register, t: Register, word: u32) -> Result<(), NoMemory>
     ensures { OnOk result (code.new ≡ code.old ++ routines.add_to r t word) }
 {
     code.push(constant(t, word))?;
     code.push(compute(r, Arithmetic::Add, r, t))
 }
 
-// A loop of a routine.
-pub(crate) fn turns_while(head: Code, first: Register, second: Register, body: Code) -> CodeStep
+/// A loop of a routine.
+pub fn turns_while(head: Code, first: Register, second: Register, body: Code) -> CodeStep
     ensures { result ≡ routines.turns_while head first second body }
 {
     CodeStep::new(StepKind::Repeat {
@@ -37,8 +37,8 @@ pub(crate) fn turns_while(head: Code, first: Register, second: Register, body: C
     })
 }
 
-// A call of the procedure whose number is in a register.
-pub(crate) fn call_number(to: Register, number: Register, arguments: RegisterList) -> CodeStep
+/// A call of the procedure whose number is in a register.
+pub fn call_number(to: Register, number: Register, arguments: RegisterList) -> CodeStep
     ensures { result ≡ steps.call_number to number arguments }
 {
     CodeStep::new(StepKind::Do(Operation::Call {
@@ -48,8 +48,8 @@ pub(crate) fn call_number(to: Register, number: Register, arguments: RegisterLis
     }))
 }
 
-// Four registers.
-pub(crate) fn four(
+/// Four registers.
+pub fn four(
     alloc: Global,
     first: Register,
     second: Register,
@@ -66,8 +66,8 @@ pub(crate) fn four(
     Ok(list)
 }
 
-// What a call comes to is returned.
-pub(crate) fn returning(
+/// What a call comes to is returned.
+pub fn returning(
     code: &mut Code,
     t: Register,
     procedure: usize,
@@ -79,13 +79,8 @@ pub(crate) fn returning(
     code.push(return_word(t))
 }
 
-// A condition of a class without slots is signalled; it uses t.
-pub(crate) fn signals(
-    alloc: Global,
-    at: &Placement,
-    t: Register,
-    class: u32,
-) -> Result<Code, NoMemory>
+/// A condition of a class without slots is signalled; it uses t.
+pub fn signals(alloc: Global, at: &Placement, t: Register, class: u32) -> Result<Code, NoMemory>
     ensures { IfOk result (λ code. code ≡ routines.signals at.now t class) }
 {
     let failing = routine(at, FAILING)?;
@@ -95,8 +90,8 @@ pub(crate) fn signals(
     Ok(code)
 }
 
-// And a domain error of the word in a register.
-pub(crate) fn signals_domain(
+/// And a domain error of the word in a register.
+pub fn signals_domain(
     alloc: Global,
     at: &Placement,
     of: Register,

@@ -2,12 +2,12 @@
 
 ghost use Rattle.std.specs.Prelude.{◌≡◌, ◌++◌, ◌+◌, ◌*◌, ◌<◌, ◌^◌, [], ◌∷◌, OnOk, IfOk};
 ghost use Rattle.back_lowering.specs.RoutineCodes as routines;
-ghost use Rattle.back_routines.specs.Parts as parts;
+ghost use Rattle.back_control_routines.specs.Parts as parts;
 
-use crate::steps::{returning, signals_domain};
 use back_calls::records::{exit_laid, record_landed, record_left, with_block};
 use back_leaves::leaves::routine;
 use back_leaves::primitives::where_tag;
+use back_leaves::routine_steps::{returning, signals_domain};
 use back_leaves::steps::{call, if_different, if_equal, one, request, three, two};
 use back_leaves::words::{
     CONTROL_ERROR_CLASS, END, FAILING, FUNCTION, HANDLER_FUNCTION, HANDLER_OUTER, HANDLERS,

@@ -2,9 +2,9 @@
 
 ghost use Rattle.std.specs.Prelude.{◌≡◌, ◌++◌, ◌<◌, ◌^◌, [], ◌∷◌, OnOk, IfOk};
 ghost use Rattle.back_lowering.specs.RoutineCodes as routines;
-ghost use Rattle.back_routines.specs.Parts as parts;
+ghost use Rattle.back_application_routines.specs.Parts as parts;
 
-use crate::steps::{add_to, call_number, four, signals};
+use back_leaves::routine_steps::{add_to, call_number, four, signals};
 use back_leaves::steps::{if_equal, move_word};
 use back_leaves::words::{CHAIN_END, CONTROL_ERROR_CLASS, SITE};
 use back_lowering::Placement;
