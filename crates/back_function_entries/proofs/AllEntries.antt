@@ -1,109 +1,76 @@
 -- The entry of any function: from its body upwards, and then to the level that is judged first.
-use Rattle.std.proofs.Common.{◌≡◌, inl, inr, ℕ, zero, suc, ◌+◌, ◌*◌, ◌^◌, ◌==◌, ◌<◌, ◌≤◌, Bool, true, false, List, [], ◌∷◌, ◌++◌, length, Option, Some, None, refl, sym, ap, ◌∙◌, subst, append_assoc, arith}
-use Rattle.std.specs.Prelude.{◌-◌, ◌||◌, take, drop, slice_get, slice_set, slice_index_or, is_some, option_to_list, if◌then◌else◌}
+use Rattle.std.specs.Prelude.{◌-◌, take, drop, slice_get, slice_set, slice_index_or, is_some, option_to_list, if◌then◌else◌}
+use Rattle.std.proofs.Common.{◌≡◌, inl, ℕ, zero, suc, ◌+◌, ◌*◌, ◌^◌, ◌<◌, ◌≤◌, Bool, true, false, List, [], ◌∷◌, ◌++◌, length, Option, Some, None, refl, sym, ap, ◌∙◌, subst, append_assoc, arith}
 use Rattle.std.proofs.Math.ListN.{length-set}
-use Rattle.std.proofs.lemmas.List.{append-nil, length-append}
-use Rattle.lang_meaning.specs.Counts.{application_words, unit_cost}
+use Rattle.std.proofs.lemmas.List.{length-append}
+use Rattle.std.proofs.lemmas.Bool.{eq-eqb, ne_eqb}
+use Rattle.base.specs.Arithmetic.{sum32, difference32}
 use Rattle.lang_meaning.specs.Objects.{Called}
-use Rattle.lang_meaning.specs.State.{DynamicContext}
+use Rattle.lang_meaning.specs.State.{DynamicContext, Limit, words, unlimited}
 use Rattle.lang_meaning.specs.Values.{Value, nil}
 use Rattle.flat_language.specs.declared.program.FlatProcedure.{FlatProcedure}
-use Rattle.flat_language.specs.FlatNodes.{homes, nodes}
-use Rattle.flat_language.specs.FlatState.{Captured, FlatState, FlatEvaluated, charged}
+use Rattle.flat_language.specs.FlatNodes.{homes}
+use Rattle.flat_language.specs.FlatState.{Captured, FlatState, FlatEvaluated, charged, gives, go_on, no_environment}
+use Rattle.flat_language.specs.FlatSignals.{with_record, make_list, form, gathered}
 use Rattle.flat_laws.specs.FlatLater.{FlatLater}
-use Rattle.mid_code.specs.declared.program.MidProcedure.{MidProcedure}
-use Rattle.mid_code.specs.Arena.{stack_from, word_at}
-use Rattle.mid_code.specs.Costs.{return_cost}
-use Rattle.mid_code.specs.Meaning.{Context, exec}
-use Rattle.mid_code.specs.MidCode.{return_word, code_of}
-use Rattle.mid_code.specs.State.{Registers, register, MidState, MidOutcome}
+use Rattle.flat_laws.proofs.Applied.{records, lists, boxes, gathers}
+use Rattle.flat_laws.proofs.Combined.{given, own_slots_left}
+use Rattle.flat_laws.proofs.Later.{later_kept}
+use Rattle.mid_code.specs.Arena.{stack_from, Arena}
+use Rattle.mid_code.specs.Costs.{return_cost, test_cost, jump_cost}
+use Rattle.mid_code.specs.Meaning.{Context, exec, exec_step}
+use Rattle.mid_code.specs.MidCode.{return_word, code_of, MidStep}
+use Rattle.mid_code.specs.State.{Registers, register, MidState, MidOutcome, falls, ends}
 use Rattle.mid_code.specs.State.{charged as mid_charged}
+use Rattle.mid_code.specs.declared.operation.Comparison.TheVariants.{Equal}
+use Rattle.mid_code.specs.Law.{Grown}
+use Rattle.mid_code.specs.State.{go_on as mid_go_on}
+use Rattle.mid_code.specs.declared.operation.Arithmetic.TheVariants as which
+use Rattle.mid_code.proofs.Growth.{both_grown, charged_grown}
 use Rattle.mid_arena.specs.Places.{Places, WordsOf}
 use Rattle.mid_arena.specs.Standing.{ValueAt}
-use Rattle.mid_arena.proofs.Running.{parts_then}
+use Rattle.mid_arena.proofs.Running.{parts_then, RunsTo, and_then, none_left, costing, constant_falls, choose_first_falls, choose_second, go_on_twice, compute_known}
+use Rattle.mid_arena.proofs.Registers.{register_here, register_beside}
+use Rattle.mid_arena.proofs.WordFacts.{sum_fits}
 use Rattle.back_lowering.specs.Placement.{body_of_procedure}
 use Rattle.back_lowering.specs.Program.{Extra, nothing, its_method, itself}
 use Rattle.back_lowering.specs.Scope.{registers_from}
-use Rattle.back_lowering.specs.Steps.{Steps, call, words_loaded}
+use Rattle.back_lowering.specs.Steps.{Steps, call, words_loaded, constant, if_equal, test_of, compute}
+use Rattle.back_lowering.specs.Routines.{method_routine, list_routine, level_routine}
 use Rattle.back_relation.specs.Setting.{Setting}
-use Rattle.back_relation.specs.Room.{routine_words}
-use Rattle.back_relation.specs.Worlds.{World, Later, Standing}
-use Rattle.back_relation.specs.Around.{CallBegins, SiteStored}
-use Rattle.back_relation.specs.Activation.{SelfHeld, MethodHeld, MethodThere}
+use Rattle.back_relation.specs.Room.{routine_words, words_for_handler, level_words}
+use Rattle.back_relation.specs.Worlds.{World, Later, Standing, Plain}
+use Rattle.back_relation.specs.Around.{CallBegins, SiteStored, RoomFor}
+use Rattle.back_relation.specs.Activation.{SelfHeld, MethodHeld, MethodThere, in_heap, CallHeld}
 use Rattle.back_relation.specs.Ends.{WorldKept, Around, SparingCall}
 use Rattle.back_relation.specs.Forms.{context_at, code_at}
 use Rattle.back_relation.specs.Procedures.{called, as_registers, mean_inside, body_words, body_credit, IsFunction, CapturedFits, ExtraGiven, BodyDoes, ArgumentsLent}
+use Rattle.back_relation.specs.Chains.{ChainAt, ChainTakes}
+use Rattle.back_relation.specs.RoutineClaims.{list_credit, argument_credit, level_credit, LevelThere}
+use Rattle.back_relation.specs.Placed.{IsPlaced}
 use Rattle.back_combining.proofs.Activations.{made_by_later}
 use Rattle.back_combining.proofs.Starts.{room_after}
 use Rattle.back_combining.proofs.Straight.{things_cost, things_units, world_cost, around_cost}
-use Rattle.back_combining.proofs.Then.{call_then, from_same}
+use Rattle.back_combining.proofs.Then.{call_then, from_same, world_then, back_then}
 use Rattle.back_combining.proofs.Worlds.{word_later, plain_later}
+use Rattle.back_combining.proofs.Growth.{grown_later}
+use Rattle.back_combining.proofs.Parts.{go_on_falls, single_step, step_then}
+use Rattle.back_arguments.proofs.WordLists.{of_values_later}
+use Rattle.back_values.proofs.BoxesMade.{steps_grow}
 use Rattle.back_calling.specs.Calling.{WordsIn, call_cost}
 use Rattle.back_calling.proofs.Inner.{going_on_law, returned}
 use Rattle.back_calling.proofs.Outward.{captured_later, self_out, method_out}
-use Rattle.back_bodies.proofs.Held.{extra_below}
-use Rattle.back_function_entries.specs.FunctionEntries.{CalledFits}
-use Rattle.back_function_entries.proofs.FunctionEntries.{extras, extra_words, extras_in, few_extras, count_from, fewer_turns, room_cost}
-use Rattle.std.proofs.lemmas.Bool.{eq-eqb, ne_eqb}
-use Rattle.flat_laws.proofs.Applied.{records, lists}
-use Rattle.flat_laws.proofs.Combined.{given}
-use Rattle.flat_laws.proofs.Later.{later_kept}
-use Rattle.flat_language.specs.FlatSignals.{with_record, make_list}
-use Rattle.mid_code.specs.declared.operation.Comparison.TheVariants.{Equal}
-use Rattle.mid_code.specs.Costs.{test_cost, jump_cost}
-use Rattle.mid_code.specs.Law.{Grown}
-use Rattle.mid_code.specs.Meaning.{exec_step}
-use Rattle.mid_code.specs.MidCode.{MidStep}
-use Rattle.mid_code.specs.State.{falls, ends}
-use Rattle.mid_code.specs.State.{go_on as mid_go_on}
-use Rattle.mid_code.proofs.Growth.{both_grown, charged_grown}
-use Rattle.mid_arena.proofs.Registers.{register_here, register_beside}
-use Rattle.mid_arena.proofs.Running.{RunsTo, and_then, none_left, costing, constant_falls, choose_first_falls, choose_second, go_on_twice}
-use Rattle.back_lowering.specs.Routines.{method_routine}
-use Rattle.back_lowering.specs.Steps.{constant, if_equal, test_of}
-use Rattle.back_relation.specs.Room.{words_for_handler}
-use Rattle.back_relation.specs.Around.{RoomFor}
-use Rattle.back_relation.specs.Chains.{ChainAt, ChainTakes}
-use Rattle.back_relation.specs.Activation.{in_heap, CallHeld}
-use Rattle.back_relation.specs.RoutineClaims.{list_credit, argument_credit}
-use Rattle.flat_language.specs.FlatState.{gives, go_on}
-use Rattle.lang_meaning.specs.State.{Limit, words, unlimited}
-use Rattle.back_arguments.proofs.WordLists.{of_values_later}
-use Rattle.back_combining.proofs.Growth.{grown_later}
-use Rattle.back_combining.proofs.Parts.{go_on_falls, single_step, step_then}
-use Rattle.back_combining.proofs.Then.{world_then, back_then}
 use Rattle.back_calling.proofs.Numbers.{behind_front}
-use Rattle.back_calling.proofs.Units.{world_both, around_both}
-use Rattle.back_values.proofs.BoxesMade.{steps_grow}
-use Rattle.back_function_entries.specs.AllEntries.{entry_spare, KeptThere, CallsKept}
-use Rattle.back_function_entries.proofs.FunctionEntries.{meant_later, method_there}
-use Rattle.back_function_entries.proofs.Made.{record_in_parts, made_after, made_then}
-use Rattle.base.specs.Arithmetic.{sum32, difference32}
-use Rattle.flat_laws.proofs.Applied.{boxes}
-use Rattle.flat_laws.proofs.Combined.{own_slots_left}
-use Rattle.flat_language.specs.FlatSignals.{form}
-use Rattle.flat_language.specs.FlatState.{no_environment}
-use Rattle.mid_code.specs.Arena.{Arena}
-use Rattle.mid_code.specs.declared.operation.Arithmetic.TheVariants as which
-use Rattle.mid_arena.proofs.Running.{compute_known}
-use Rattle.mid_arena.proofs.WordFacts.{sum_fits}
-use Rattle.back_lowering.specs.Routines.{list_routine}
-use Rattle.back_lowering.specs.Steps.{compute}
-use Rattle.back_relation.specs.Worlds.{Plain}
+use Rattle.back_calling.proofs.Units.{world_both, around_both, calls_spared, calls_recounted}
 use Rattle.back_calling.proofs.Growing.{tasks_below}
-use Rattle.back_calling.proofs.Units.{calls_spared, calls_recounted}
+use Rattle.back_bodies.proofs.Held.{extra_below}
 use Rattle.back_applications.proofs.Applied.{called_grows}
-use Rattle.back_function_entries.specs.AllEntries.{ListThere, ListsMade}
-use Rattle.back_function_entries.proofs.Loading.{word_below}
-use Rattle.back_function_entries.proofs.Made.{list_in_parts}
-use Rattle.flat_laws.proofs.Applied.{gathers}
-use Rattle.flat_language.specs.FlatSignals.{gathered}
-use Rattle.back_lowering.specs.Routines.{level_routine}
-use Rattle.back_relation.specs.Placed.{IsPlaced}
-use Rattle.back_relation.specs.Room.{level_words}
-use Rattle.back_relation.specs.RoutineClaims.{level_credit, LevelThere}
 use Rattle.back_applications.proofs.Levels.{levels_there_at}
-use Rattle.back_function_entries.proofs.Loading.{loads_run}
+use Rattle.back_function_entries.specs.FunctionEntries.{CalledFits}
+use Rattle.back_function_entries.specs.AllEntries.{entry_spare, KeptThere, CallsKept, ListThere, ListsMade}
+use Rattle.back_function_entries.proofs.FunctionEntries.{extras, extra_words, extras_in, few_extras, count_from, fewer_turns, room_cost, meant_later, method_there}
+use Rattle.back_function_entries.proofs.Made.{record_in_parts, made_after, made_then, list_in_parts}
+use Rattle.back_function_entries.proofs.Loading.{word_below, loads_run}
 
 -- ---- the first values of a list
 

@@ -1,12 +1,12 @@
 -- What a routine made inside an entry, and what goes on with it; and lists and kept calls in two parts.
-use Rattle.std.proofs.Common.{◌≡◌, ℕ, ◌+◌, ◌*◌, ◌<◌, ◌≤◌, Bool, true, false, List, [], ◌∷◌, length, Some, refl, sym, ap, ◌∙◌, subst, arith}
+use Rattle.std.proofs.Common.{◌≡◌, ℕ, ◌+◌, ◌≤◌, Bool, true, false, List, [], ◌∷◌, length, Some, refl, sym, ap, ◌∙◌, subst, arith}
 use Rattle.std.specs.Prelude.{slice_set, if◌then◌else◌}
 use Rattle.lang_meaning.specs.Objects.{Called, Object, cons}
 use Rattle.lang_meaning.specs.Prefixes.{IsPrefix}
 use Rattle.lang_meaning.specs.State.{DynamicContext, value, Limit, has_room, room_left, full}
 use Rattle.lang_meaning.specs.Values.{Value, nil}
 use Rattle.flat_language.specs.FlatSignals.{make_list, with_record}
-use Rattle.flat_language.specs.FlatState.{FlatState, FlatEvaluated, gives, go_on, charged, make, request}
+use Rattle.flat_language.specs.FlatState.{FlatState, FlatEvaluated, gives, go_on, charged, make}
 use Rattle.mid_code.specs.Law.{Grown}
 use Rattle.mid_code.specs.Meaning.{Context, exec_step}
 use Rattle.mid_code.specs.Meaning.{called as mid_called}

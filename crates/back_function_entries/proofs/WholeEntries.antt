@@ -1,6 +1,6 @@
 -- The entry of a function that makes a list or keeps a call: it is entered, and its arguments are given.
-use Rattle.std.proofs.Common.{◌≡◌, ℕ, zero, suc, ◌+◌, ◌*◌, ◌<◌, ◌≤◌, Bool, true, false, List, [], ◌∷◌, ◌++◌, length, Option, Some, None, refl, sym, ap, ◌∙◌, subst, arith}
 use Rattle.std.specs.Prelude.{◌||◌, is_some, option_to_list, if◌then◌else◌}
+use Rattle.std.proofs.Common.{◌≡◌, ℕ, zero, suc, ◌+◌, ◌*◌, ◌≤◌, Bool, true, false, List, [], ◌∷◌, ◌++◌, length, Option, Some, None, refl, sym, ap, ◌∙◌, subst, arith}
 use Rattle.std.proofs.lemmas.Bool.Decides.{nat_tests}
 use Rattle.std.proofs.lemmas.List.{length-append}
 use Rattle.lang_meaning.specs.Counts.{application_words, unit_cost}
@@ -10,34 +10,28 @@ use Rattle.lang_meaning.specs.State.{DynamicContext, Limit, words, unlimited, ha
 use Rattle.lang_meaning.specs.Values.{Value}
 use Rattle.flat_language.specs.declared.program.FlatProcedure.{FlatProcedure}
 use Rattle.flat_language.specs.FlatNodes.{homes, nodes}
-use Rattle.flat_language.specs.FlatSignals.{FlatSignals, descend, enter, gathered}
-use Rattle.flat_language.specs.FlatState.{Captured, FlatState, FlatEvaluated, charged, in_frame}
-use Rattle.mid_code.specs.declared.operation.Counted.TheVariants.{Level}
-use Rattle.mid_code.specs.declared.program.MidProcedure.{MidProcedure}
-use Rattle.mid_code.specs.Costs.{entry_cost, return_cost}
-use Rattle.mid_code.specs.Meaning.{exec}
-use Rattle.mid_code.specs.MidCode.{code_of}
-use Rattle.mid_code.specs.State.{Registers, first_registers, MidState}
-use Rattle.mid_code.specs.State.{charged as mid_charged}
-use Rattle.back_lowering.specs.ControlWords.{site_address}
-use Rattle.back_lowering.specs.Placement.{body_of_procedure}
-use Rattle.back_lowering.specs.Program.{Extra, its_method, procedure_with, entry}
-use Rattle.back_lowering.specs.RoutineCodes.{level_code}
-use Rattle.back_lowering.specs.Routines.{level_routine}
-use Rattle.back_lowering.specs.Steps.{Steps, call}
-use Rattle.flat_language.specs.FlatSignals.{form, with_record}
-use Rattle.flat_language.specs.FlatState.{no_environment}
+use Rattle.flat_language.specs.FlatSignals.{FlatSignals, descend, enter, gathered, form, with_record}
+use Rattle.flat_language.specs.FlatState.{Captured, FlatState, FlatEvaluated, charged, in_frame, no_environment}
 use Rattle.flat_laws.specs.FlatLater.{FlatLater}
 use Rattle.flat_laws.proofs.Applied.{gathers, records, boxes}
 use Rattle.flat_laws.proofs.Combined.{own_slots_left}
 use Rattle.flat_laws.proofs.Later.{later_kept}
-use Rattle.mid_code.specs.MidCode.{return_word}
+use Rattle.mid_code.specs.declared.operation.Counted.TheVariants.{Level}
+use Rattle.mid_code.specs.declared.program.MidProcedure.{MidProcedure}
+use Rattle.mid_code.specs.Costs.{entry_cost, return_cost}
+use Rattle.mid_code.specs.Meaning.{exec}
+use Rattle.mid_code.specs.MidCode.{code_of, return_word}
+use Rattle.mid_code.specs.State.{Registers, first_registers, MidState}
+use Rattle.mid_code.specs.State.{charged as mid_charged}
 use Rattle.mid_code.specs.declared.operation.Arithmetic.TheVariants as which
-use Rattle.back_lowering.specs.Routines.{list_routine, method_routine}
+use Rattle.back_lowering.specs.ControlWords.{site_address}
+use Rattle.back_lowering.specs.Placement.{body_of_procedure}
+use Rattle.back_lowering.specs.Program.{Extra, its_method, procedure_with, entry}
+use Rattle.back_lowering.specs.RoutineCodes.{level_code}
+use Rattle.back_lowering.specs.Routines.{level_routine, list_routine, method_routine}
+use Rattle.back_lowering.specs.Steps.{Steps, call, constant, compute, if_equal, words_loaded}
 use Rattle.back_lowering.specs.Scope.{registers_from}
-use Rattle.back_lowering.specs.Steps.{constant, compute, if_equal, words_loaded}
-use Rattle.back_relation.specs.Procedures.{mean_inside}
-use Rattle.back_calling.proofs.Growing.{tasks_below}
+use Rattle.back_relation.specs.Procedures.{mean_inside, called, body_words, body_credit, entry_credit, IsFunction, CapturedFits, BodyDoes, EntryBegins}
 use Rattle.back_relation.specs.Setting.{Setting}
 use Rattle.back_relation.specs.Placed.{IsPlaced}
 use Rattle.back_relation.specs.Room.{routine_words, entry_words, words_for_handler}
@@ -45,13 +39,14 @@ use Rattle.back_relation.specs.Worlds.{World, Standing}
 use Rattle.back_relation.specs.Around.{RoomFor, CallBegins}
 use Rattle.back_relation.specs.Ends.{Returned, LeftCall, CallEnds, SparingCall}
 use Rattle.back_relation.specs.Forms.{below_at, context_at, code_at}
-use Rattle.back_relation.specs.Procedures.{called, body_words, body_credit, entry_credit, IsFunction, CapturedFits, BodyDoes, EntryBegins}
 use Rattle.back_relation.specs.RoutineClaims.{list_credit}
 use Rattle.back_combining.proofs.Growth.{same_flat, grown_later}
 use Rattle.back_combining.proofs.Parts.{step_then}
 use Rattle.back_combining.proofs.Straight.{things_cost, things_units}
+use Rattle.back_values.proofs.BoxesMade.{steps_grow}
 use Rattle.back_calling.specs.Calling.{call_cost}
 use Rattle.back_calling.specs.Entering.{Inside}
+use Rattle.back_calling.proofs.Growing.{tasks_below}
 use Rattle.back_calling.proofs.Entered.{turns_entered, no_level_at}
 use Rattle.back_calling.proofs.Inner.{looked}
 use Rattle.back_calling.proofs.Numbers.{numbers_law}
@@ -61,7 +56,6 @@ use Rattle.back_bodies.proofs.Scopes.{first_count}
 use Rattle.back_applications.proofs.Applied.{called_grows}
 use Rattle.back_applications.proofs.Charging.{asked, things_charged, around_charged, framed_ends, within_asked}
 use Rattle.back_applications.proofs.Levels.{level_there}
-use Rattle.back_values.proofs.BoxesMade.{steps_grow}
 use Rattle.back_function_entries.specs.AllEntries.{ListsMade, CallsKept, LawOfEntries, LawOfMethods}
 use Rattle.back_function_entries.specs.FunctionEntries.{CalledFits}
 use Rattle.back_function_entries.proofs.AllEntries.{Given, few_args, level_ends}
