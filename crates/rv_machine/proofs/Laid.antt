@@ -28,22 +28,7 @@ laid_from_reads words arena fits reads =
     (λ k h. reads k h ∙ sym (get_or-laid words (length arena) k h fits))
 
 -- as many words written over a list of words
-overwritten : (items written : List ℕ) (n : ℕ) → length written ≡ length items → n ≡ length items → take n (written ++ drop (length written) items) ≡ written
+pub overwritten : (items written : List ℕ) (n : ℕ) → length written ≡ length items → n ≡ length items → take n (written ++ drop (length written) items) ≡ written
 overwritten items written n same e =
     ap (λ rest. take n (written ++ rest)) (drop_all (length written) items (omega arith))
     ∙ (ap (take n) (append-nil written) ∙ take_all n written (omega arith))
-
--- the state that a load leaves is the start
-pub started :
-    (words : List ℕ) (entry n asked arena : ℕ) (items written : List ℕ) (len : ℕ) → n ≡ arena → asked ≡ length words
-    → length items ≡ arena → len ≡ arena → length words ≤ arena → written ≡ laid words arena
-    → ◌≡◌ {A = State} (record {
-      pc = entry;
-      registers = slice_set (slice_set (replicate 32 0) 2 (4 * n)) 3 (4 * asked);
-      memory = bytes_of (take len (written ++ drop (length written) items));
-    })
-    (start words entry arena)
-started words entry n asked arena items written len en ea ei el fits ew =
-    let long : length written ≡ arena = ap length ew ∙ length-laid words arena fits in
-    let over = overwritten items written len (omega arith) (omega arith) ∙ ew in
-    rw (over, en, ea) refl

@@ -4,3 +4,5 @@ pub mod Calls
 pub mod Steps
 pub mod Runs
 pub mod Turns
+pub mod Rows
+pub mod Flows

@@ -4,17 +4,17 @@ use Rattle.std.specs.Prelude.{Option, IfSome, min}
 use Rattle.rv_machine.specs.declared.ending.Ending.{Ending}
 use Rattle.rv_machine.specs.declared.ending.Ending.TheVariants.{Halt, Unhandled, Full, Budget}
 use Rattle.rv_machine.specs.State.{State, Counted, register}
-use Rattle.rv_machine.specs.Step.{Result, environment_call, step_of}
-use Rattle.rv_machine.specs.Run.{Moment, Ended, ends, run_from, first, turn_of, Feeds, Outside, Gave, StandsAt, Tells, CutOff}
-use Rattle.rv_machine.specs.Turn.{Turned, acted}
-use Rattle.rv_machine.proofs.Runs.{after, run_from-more, run_from-turn, run_from-read_more}
+use Rattle.rv_machine.specs.Step.{Result, next, environment_call, step_of}
+use Rattle.rv_machine.specs.Run.{Moment, Ended, act, stop, ends, run_from, first, turn_of, Feeds, Outside, Gave, StandsAt, Tells, CutOff}
+use Rattle.rv_machine.specs.Turn.{Turned, Walks, acted}
+use Rattle.rv_machine.proofs.Runs.{after, run_from-more, run_from-turn, run_from-read_more, run_from-split}
 
 gave-nothing : (told : Option (List ℕ)) (writes : ℕ) → IfSome told (λ after. Gave told writes [] after writes)
 gave-nothing None writes = tt
 gave-nothing (Some all) writes =
     record { before = all; was = refl; appended = sym (append-nil all); counted = sym (add-zero writes) }
 
-at-some : (P : List ℕ → Type 0) (told : Option (List ℕ)) (x : List ℕ) → told ≡ Some x → IfSome told P → P x
+pub at-some : (P : List ℕ → Type 0) (told : Option (List ℕ)) (x : List ℕ) → told ≡ Some x → IfSome told P → P x
 at-some P None x e h = cc
 at-some P (Some y) x e h = let same : y ≡ x = cc in subst P same h
 
@@ -180,6 +180,63 @@ one_more told i input old mid new o o' o'' A B C both p t fed =
           let parts = append-none m.printed e.at.printed (sym (ap (λ (x : Ended). x.at.printed) turned) ∙ none) in
           both (p.unwritten parts.0) (t.unwritten m.input fed' parts.1);
     }
+
+-- Rows that were followed.
+
+-- no instruction
+pub walks-none : (s : State) → Walks 0 s s
+unfolding run_from
+walks-none s m e =
+    subst (λ (x : State). stop m ≡ stop (record m { state = x; executed = m.executed + 0 })) e
+    (ap (λ k. stop (record m { executed = k })) (sym (add-zero m.executed)))
+
+-- one instruction more
+pub walks-on :
+    (k : ℕ) (s s' s'' : State) → Walks k s s' → step_of s' ≡ next s'' → Walks (k + 1) s s''
+unfolding run_from
+walks-on k s s' s'' walks steps m e =
+    let there = walks m e in
+    let m' : Moment = record m { state = s'; executed = m.executed + k } in
+    run_from-split k 1 m (ap (λ (x : Ended). x.ending) there)
+    ∙ (ap (λ (x : Ended). run_from 1 x.at) there
+    ∙ (ap (λ r. act stop r m') steps ∙ ap (λ n. stop (record m { state = s''; executed = n })) (omega arith)))
+
+pub walks-as : (k k' : ℕ) (s s' : State) → k ≡ k' → Walks k s s' → Walks k' s s'
+walks-as k k' s s' same walks = subst (λ n. Walks n s s') same walks
+
+-- a run that has passed goes on so
+walked :
+    (i k : ℕ) (input : List ℕ) (old mid mid' : Counted) (o o' : Outside) (Same : Type 0) → Passed i input old mid o o' Same
+    → Walks k mid.state mid'.state
+    → run_from (i + k) (first old.state input)
+    ≡ stop (record (run_from i (first old.state input)).at {
+      state = mid'.state;
+      executed = (run_from i (first old.state input)).at.executed + k;
+    })
+walked i k input old mid mid' o o' Same p walks =
+    run_from-split i k (first old.state input) p.goes_on ∙ walks (run_from i (first old.state input)).at (sym p.stands.state)
+
+pub passed-walk :
+    (i k : ℕ) (input : List ℕ) (old mid mid' : Counted) (o o' : Outside) (Same : Type 0) → Passed i input old mid o o' Same
+    → Walks k mid.state mid'.state → mid'.count ≡ mid.count + k → Passed (i + k) input old mid' o o' Same
+passed-walk i k input old mid mid' o o' Same p walks count =
+    let there = walked i k input old mid mid' o o' Same p walks in
+    let before = p.stands.count in
+    record {
+      goes_on = ap (λ (x : Ended). x.ending) there;
+      stands = subst (λ (x : Ended). StandsAt x.at input old mid' o o') (sym there)
+          (record { state = refl; count = omega arith; left = p.stands.left; given = p.stands.given });
+      unwritten = λ none. p.unwritten (sym (ap (λ (x : Ended). x.at.printed) there) ∙ none);
+    }
+
+pub passed-on :
+    (i k : ℕ) (input : List ℕ) (old mid mid' : Counted) (o o' : Outside) (Same : Type 0)
+    → (Feeds o.left input (run_from i (first old.state input)) → Passed i input old mid o o' Same)
+    → Walks k mid.state mid'.state → mid'.count ≡ mid.count + k → Feeds o.left input (run_from (i + k) (first old.state input))
+    → Passed (i + k) input old mid' o o' Same
+passed-on i k input old mid mid' o o' Same passed walks count fed =
+    passed-walk i k input old mid mid' o o' Same
+    (passed (feeds_shorter o.left input i (i + k) (first old.state input) (omega arith) fed)) walks count
 
 -- the run goes on
 pub passed-more :

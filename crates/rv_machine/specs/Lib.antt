@@ -5,5 +5,7 @@ pub mod Arithmetic
 pub mod State
 pub mod Step
 pub mod Effects
+pub mod Rows
+pub mod Held
 pub mod Run
 pub mod Turn

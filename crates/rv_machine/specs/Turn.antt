@@ -3,9 +3,9 @@
 use Rattle.std.specs.Prelude.{◌≡◌, ◌≤◌, ℕ, ◌+◌, List, [], Option, Some, None, IfSome}
 use Rattle.rv_machine.specs.declared.ending.Ending.{Ending}
 use Rattle.rv_machine.specs.declared.ending.Ending.TheVariants.{Budget}
-use Rattle.rv_machine.specs.State.{Counted}
+use Rattle.rv_machine.specs.State.{State, Counted}
 use Rattle.rv_machine.specs.Step.{Result, environment_call}
-use Rattle.rv_machine.specs.Run.{Ended, Outside, Feeds, StandsAt, Tells, IsNoFault, act, stop, first}
+use Rattle.rv_machine.specs.Run.{Moment, Ended, Outside, Feeds, StandsAt, Tells, IsNoFault, act, stop, first, run_from}
 
 -- what a step comes to in a run of one instruction
 abbrev pub acted : Result → Counted → List ℕ → Ended
@@ -33,3 +33,7 @@ Counts (Some ending) count count' = (count ≤ count') × (count' ≤ count + 1)
 -- at a fault the machine stands before that environment call
 abbrev pub StandsBefore : ℕ → Result → Counted → Counted → Type 0
 StandsBefore call r old new = (r ≡ environment_call call) × (new ≡ old)
+
+-- a run of so many instructions from the first state comes to the second one and goes on, and has read and put nothing
+abbrev pub Walks : ℕ → State → State → Type 0
+Walks k s s' = (m : Moment) → m.state ≡ s → run_from k m ≡ stop (record m { state = s'; executed = m.executed + k })

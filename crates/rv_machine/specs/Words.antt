@@ -312,3 +312,8 @@ word_stored words i word within =
 abbrev pub HasStored : ℕ → ℕ → ℕ → Bool → List ℕ → List ℕ → Type 0
 HasStored size a value true ws ws' = stored_at size a value (bytes_of ws) ≡ Some (bytes_of ws')
 HasStored size a value false ws ws' = (stored_at size a value (bytes_of ws) ≡ None) × (ws' ≡ ws)
+
+-- at most one word has changed
+abbrev pub OneWord : ℕ → List ℕ → List ℕ → Type 0
+OneWord place ws ws' =
+    (length ws' ≡ length ws) × ((k : ℕ) → (k ≡ place → ⊥) → get_or ws' k 0 ≡ get_or ws k 0)

@@ -2,18 +2,25 @@
 
 ghost use Rattle.std.specs.Prelude.{◌≡◌, ◌+◌, ◌*◌, ◌<◌, ◌≤◌, length, replicate, slice_index, IfOk, IfErr, MatchResult};
 ghost use Rattle.rv_machine.specs.Memory.{bytes_of};
-ghost use Rattle.rv_machine.specs.State.{arena_words as arena_words_of, start, laid};
+ghost use Rattle.rv_machine.specs.State.{arena_words as arena_words_of, start};
 
 mod arithmetic;
+mod carrying;
+mod contents;
 mod control;
 mod effects;
+mod keeping;
 mod memory;
+mod registers;
+mod rows;
 mod steps;
 mod transfers;
+mod walking;
 
+use self::contents::Contents;
 use crate::ending::TooBig;
 use crate::image::Image;
-use base::{NoMemory, WordList};
+use base::NoMemory;
 use std::alloc::Global;
 use std::marker::Model;
 
@@ -23,26 +30,19 @@ use std::marker::Model;
 #[derive(Drop)]
 pub struct Machine {
     pc: u32,
-    registers: [u32; 32],
-    arena: Vec<u32>,
+    contents: Contents,
     count: u64,
 }
 
 impl Model for Machine {
-    ghost use Rattle.std.specs.Prelude.{◌≡◌, ◌≤◌, length, slice_index};
-    ghost use Rattle.rv_machine.specs.Memory.{bytes_of};
     ghost use Rattle.rv_machine.specs.State.{Counted};
 
     ghost Value = { Counted };
 
     ghost view = { λ m. record {
-      state = record { pc = m.pc; registers = m.registers; memory = bytes_of m.arena.items };
+      state = record { pc = m.pc; registers = m.contents.registers; memory = m.contents.memory };
       count = m.count;
     } };
-
-    ghost invariant = { λ m.
-        (1 ≤ length m.arena.items) × (length m.arena.items ≤ 16777216)
-        × (slice_index m.registers 0 ≡ 0) };
 }
 
 impl Machine {
@@ -56,11 +56,10 @@ impl Machine {
         ensures memory { IfOk result (λ m. m.state.memory ≡ replicate (4 * arena_words) 0) }
         ensures count { IfOk result (λ m. m.count ≡ 0) }
     {
-        let arena = zeros(alloc, arena_words)?;
+        let contents = Contents::new(alloc, arena_words)?;
         Ok(Machine {
             pc: 0,
-            registers: [0; 32],
-            arena,
+            contents,
             count: 0,
         })
     }
@@ -86,10 +85,7 @@ impl Machine {
         if left < asked {
             return Err(TooBig { asked, left });
         }
-        lay(&image.words, &mut self.arena[..]);
-        self.registers = [0; 32];
-        self.registers[2] = 4 * left;
-        self.registers[3] = 4 * asked;
+        self.contents.load(&image.words);
         self.pc = image.entry;
         self.count = 0;
         Ok(())
@@ -108,7 +104,7 @@ impl Machine {
         ensures exact { result ≡ slice_index self.now.state.registers at }
         ensures zero { at ≡ 0 → result ≡ 0 }
     {
-        self.registers[at as usize]
+        self.contents.register(at)
     }
 
     /// The arena's words, least address first: 1 to 16,777,216. Their bytes, least first, are the
@@ -119,7 +115,7 @@ impl Machine {
         ensures some { 1 ≤ length result.now }
         ensures bounded { length result.now ≤ 16777216 }
     {
-        self.arena.as_slice()
+        self.contents.arena()
     }
 
     /// How many instructions were executed since the image was loaded; the count stays at its
@@ -128,33 +124,5 @@ impl Machine {
         ensures { result ≡ self.now.count }
     {
         self.count
-    }
-}
-
-// That many words of 0.
-fn zeros(alloc: Global, words: u32) -> Result<Vec<u32>, NoMemory>
-    ensures { IfOk result (λ zeros. zeros.items ≡ replicate words 0) }
-{
-    Ok(vec![in alloc; 0; words as usize]?)
-}
-
-// The words at the front of the arena, and 0 behind them.
-#[tactic(auto, using(crate::proofs::Laid::laid_from_reads))]
-fn lay(words: &WordList, arena: &mut [u32])
-    requires { length words.now ≤ length arena.old }
-    ensures { arena.new ≡ laid words.now (length arena.old) }
-{
-    for (at, word) in arena.iter_mut().enumerate() {
-        *word = word_or_zero(words, at);
-    }
-}
-
-// The word at that place, or 0 behind the last.
-fn word_or_zero(words: &WordList, at: usize) -> u32
-    ensures { result ≡ slice_index words.now at }
-{
-    match words.get(at) {
-        Some(word) => *word,
-        None => 0,
     }
 }

@@ -52,10 +52,14 @@ impl Machine {
         ensures source_faults { S.faults source.old ≤ S.faults source.new }
         ensures sink_faults { K.faults sink.old ≤ K.faults sink.new }
     {
-        for _turn in 0..n {
-            match self.turn(source, sink) {
-                None => {}
-                Some(ending) => return ending,
+        let mut done = 0;
+        while done < n {
+            done += self.walk(n - done);
+            if done < n {
+                match self.turn(source, sink) {
+                    None => done += 1,
+                    Some(ending) => return ending,
+                }
             }
         }
         Ending::Budget

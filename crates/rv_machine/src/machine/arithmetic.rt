@@ -7,7 +7,7 @@ ghost use Rattle.rv_machine.specs.Arithmetic.{even as even_of, sign_extended, hi
 use rv_encode::{Immediate12, Offset13, Offset21};
 
 // The word of bits of which the highest, worth `highest`, is repeated up to bit 31: `above` has the bits above it.
-fn extended(bits: u32, highest: u32, above: u32) -> u32
+pub fn extended(bits: u32, highest: u32, above: u32) -> u32
     requires { bits + above < 2 ^ 32 }
     ensures { result ≡ (if nat_lt bits highest then bits else bits + above) }
 {

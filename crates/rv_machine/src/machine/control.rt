@@ -66,9 +66,7 @@ impl Machine {
         requires { rd < 32 }
         ensures { self.new ≡ record self.old { state = put_of rd value self.old.state } }
     {
-        if rd != 0 {
-            self.registers[rd as usize] = value;
-        }
+        self.contents.put(rd, value);
     }
 
     // Passes on to the next instruction, and counts the one executed.

@@ -1,19 +1,17 @@
 // What an instruction does, with all that it reads worked out (RISC-V Unprivileged ISA, 2.4 to 2.8, and
 // the M extension).
 
-ghost use Rattle.std.specs.Prelude.{◌≡◌, option_map};
-ghost use Rattle.rv_machine.specs.Arithmetic.{sign_extended};
-ghost use Rattle.rv_machine.specs.Memory.{number_at};
+ghost use Rattle.std.specs.Prelude.{◌≡◌};
 ghost use Rattle.rv_machine.specs.Step.{address as address_of, execute as execute_of};
 ghost use Rattle.rv_machine.specs.Effects.{result_of};
 
 use super::Machine;
 use super::arithmetic::{
-    even, extended8, extended12, extended16, extended21, high_mixed, high_signed, high_unsigned,
-    is_less_signed, one_if_less, one_if_less_signed, quotient, quotient_signed, remainder,
-    remainder_signed, shift_left, shift_right, shift_right_signed,
+    even, extended12, extended21, high_mixed, high_signed, high_unsigned, is_less_signed,
+    one_if_less, one_if_less_signed, quotient, quotient_signed, remainder, remainder_signed,
+    shift_left, shift_right, shift_right_signed,
 };
-use super::memory::{byte_at, half_at, word_at};
+use super::memory::{byte_at, half_at, signed_byte_at, signed_half_at, word_at};
 use rv_encode::{Immediate12, Instr, Offset13, Register};
 
 // What an instruction does.
@@ -81,11 +79,11 @@ impl Machine {
                 Effect::Branch { taken, offset }
             }
             Instr::Lb { rd, rs1, offset } => {
-                let found = self.signed_byte_at(self.address(rs1, offset));
+                let found = signed_byte_at(self.arena(), self.address(rs1, offset));
                 Effect::Load { rd, found }
             }
             Instr::Lh { rd, rs1, offset } => {
-                let found = self.signed_half_at(self.address(rs1, offset));
+                let found = signed_half_at(self.arena(), self.address(rs1, offset));
                 Effect::Load { rd, found }
             }
             Instr::Lw { rd, rs1, offset } => {
@@ -234,25 +232,5 @@ impl Machine {
         ensures { result ≡ address_of rs1 offset self.now.state }
     {
         self.read(rs1).wrapping_add(extended12(offset))
-    }
-
-    // The byte at an address with its highest bit repeated.
-    fn signed_byte_at(&self, address: u32) -> Option<u32>
-        ensures { result ≡ option_map (sign_extended 8) (number_at 1 address self.now.state.memory) }
-    {
-        match byte_at(self.arena(), address) {
-            Some(byte) => Some(extended8(byte)),
-            None => None,
-        }
-    }
-
-    // The half at an address with its highest bit repeated.
-    fn signed_half_at(&self, address: u32) -> Option<u32>
-        ensures { result ≡ option_map (sign_extended 16) (number_at 2 address self.now.state.memory) }
-    {
-        match half_at(self.arena(), address) {
-            Some(half) => Some(extended16(half)),
-            None => None,
-        }
     }
 }

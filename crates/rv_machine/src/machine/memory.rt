@@ -1,9 +1,12 @@
 // Loads from the arena's words and stores into them, by words, halves and bytes (RISC-V Unprivileged
 // ISA, 2.6). A half is two bytes at a multiple of 2, a word four at a multiple of 4.
 
-ghost use Rattle.std.specs.Prelude.{◌≡◌, ◌+◌, ◌*◌, ◌<◌, IfSome};
+ghost use Rattle.std.specs.Prelude.{◌≡◌, ◌+◌, ◌*◌, ◌/◌, ◌<◌, IfSome, option_map};
+ghost use Rattle.rv_machine.specs.Arithmetic.{sign_extended};
 ghost use Rattle.rv_machine.specs.Memory.{number_at, bytes_of};
-ghost use Rattle.rv_machine.specs.Words.{HasStored, with_half as with_half_of, with_byte as with_byte_of};
+ghost use Rattle.rv_machine.specs.Words.{HasStored, OneWord, with_half as with_half_of, with_byte as with_byte_of};
+
+use super::arithmetic::{extended8, extended16};
 
 // The word at an address, where that is aligned and in the arena.
 pub fn word_at(arena: &[u32], address: u32) -> Option<u32>
@@ -43,9 +46,30 @@ pub fn byte_at(arena: &[u32], address: u32) -> Option<u32>
     }
 }
 
+// The byte at an address with its highest bit repeated.
+pub fn signed_byte_at(arena: &[u32], address: u32) -> Option<u32>
+    ensures { result ≡ option_map (sign_extended 8) (number_at 1 address (bytes_of arena.now)) }
+{
+    match byte_at(arena, address) {
+        Some(byte) => Some(extended8(byte)),
+        None => None,
+    }
+}
+
+// The half at an address with its highest bit repeated.
+pub fn signed_half_at(arena: &[u32], address: u32) -> Option<u32>
+    ensures { result ≡ option_map (sign_extended 16) (number_at 2 address (bytes_of arena.now)) }
+{
+    match half_at(arena, address) {
+        Some(half) => Some(extended16(half)),
+        None => None,
+    }
+}
+
 // Stores a word, where the address is aligned and in the arena, and says whether it was.
 pub fn store_word(arena: &mut [u32], address: u32, value: u32) -> bool
-    ensures { HasStored 4 address value result arena.old arena.new }
+    ensures stored { HasStored 4 address value result arena.old arena.new }
+    ensures others { OneWord (address / 4) arena.old arena.new }
 {
     let place = (address / 4) as usize;
     if address % 4 == 0 && place < arena.len() {
@@ -59,7 +83,8 @@ pub fn store_word(arena: &mut [u32], address: u32, value: u32) -> bool
 // Stores the lower half of a word, where the address is aligned and in the arena, and says whether it
 // was.
 pub fn store_half(arena: &mut [u32], address: u32, value: u32) -> bool
-    ensures { HasStored 2 address value result arena.old arena.new }
+    ensures stored { HasStored 2 address value result arena.old arena.new }
+    ensures others { OneWord (address / 4) arena.old arena.new }
 {
     let place = (address / 4) as usize;
     if address % 2 == 0 && place < arena.len() {
@@ -72,7 +97,8 @@ pub fn store_half(arena: &mut [u32], address: u32, value: u32) -> bool
 
 // Stores the lowest byte of a word, where the address is in the arena, and says whether it was.
 pub fn store_byte(arena: &mut [u32], address: u32, value: u32) -> bool
-    ensures { HasStored 1 address value result arena.old arena.new }
+    ensures stored { HasStored 1 address value result arena.old arena.new }
+    ensures others { OneWord (address / 4) arena.old arena.new }
 {
     let place = (address / 4) as usize;
     if place < arena.len() {

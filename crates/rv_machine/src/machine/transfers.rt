@@ -5,7 +5,6 @@ ghost use Rattle.rv_machine.specs.Memory.{number_at, stored_at};
 ghost use Rattle.rv_machine.specs.Step.{ResultIs, load as load_of, store as store_of};
 
 use super::Machine;
-use super::memory::{store_byte, store_half, store_word};
 use crate::ending::{StepEnd, TrapKind};
 use rv_encode::Register;
 
@@ -24,7 +23,7 @@ impl Machine {
         ensures { let memory = stored_at 4 address value self.old.state.memory in
             ResultIs (store_of memory self.old.state) self.old result self.new }
     {
-        if store_word(&mut self.arena[..], address, value) {
+        if self.contents.store_word(address, value) {
             self.go_behind();
             StepEnd::Went
         } else {
@@ -36,7 +35,7 @@ impl Machine {
         ensures { let memory = stored_at 2 address value self.old.state.memory in
             ResultIs (store_of memory self.old.state) self.old result self.new }
     {
-        if store_half(&mut self.arena[..], address, value) {
+        if self.contents.store_half(address, value) {
             self.go_behind();
             StepEnd::Went
         } else {
@@ -48,7 +47,7 @@ impl Machine {
         ensures { let memory = stored_at 1 address value self.old.state.memory in
             ResultIs (store_of memory self.old.state) self.old result self.new }
     {
-        if store_byte(&mut self.arena[..], address, value) {
+        if self.contents.store_byte(address, value) {
             self.go_behind();
             StepEnd::Went
         } else {

@@ -1,5 +1,5 @@
 use Rattle.std.proofs.Common.{◌≡◌, ℕ, ◌<◌, get_or}
-use Rattle.rv_machine.proofs.machine.lay.Given as goal
+use Rattle.rv_machine.proofs.machine.contents.lay.Given as goal
 
 abbrev pub invariant-loop-at : goal.invariant-loop-at
 invariant-loop-at l = (k : ℕ) → k < l.at → get_or l.arena k 0 ≡ get_or l.words k 0
