@@ -20,7 +20,7 @@ use Rattle.back_runs.specs.Ends.{EndsAs}
 use Rattle.back_runs.specs.ProgramRuns.{DoesAs}
 use Rattle.back_start.specs.Images.{IsFirst, first_state}
 use Rattle.back_start.specs.Laws.{loaded}
-use Rattle.back_images.specs.Laws.{emitted, emitted_start, EmittedRuns}
+use Rattle.back_images.specs.Laws.{LaidAreWords, emitted, emitted_start, EmittedRuns}
 use Rattle.back_images.proofs.Images.{placed_well, law_of_first_states, law_of_emitted_runs}
 use Rattle.back_emit.specs.declared.errors.EmitError.{EmitError}
 use Rattle.back_emit.specs.declared.errors.EmitError.TheVariants as emit
@@ -70,12 +70,14 @@ module _ (program : MidProgram) (plan : Plan) (is : IsPlan program plan) (entry 
   made_start = ap (λ f. f.start_at) is.front
 
   pub made :
-      (image : Image) (words : List ℕ) → words ≡ shaped_image program entry → image.words ≡ words → image.entry ≡ 4 * plan.front.start_at → IsImageOf program entry image
-  made image words e same starts = record {
+      (image : Image) (words : List ℕ) → words ≡ shaped_image program entry → image.words ≡ words → image.entry ≡ 4 * plan.front.start_at
+      → LaidAreWords program.laid → IsImageOf program entry image
+  made image words e same starts laid = record {
     words = same ∙ made_words words e;
     starts = starts ∙ ap (λ n. 4 * n) made_start;
     finds = is.finds;
     low = made_low;
+    laid = laid;
   }
 
   -- words that were to be made of a plan are not too many
@@ -88,13 +90,13 @@ module _ (program : MidProgram) (plan : Plan) (is : IsPlan program plan) (entry 
       absurd (omega (arith, many, few))
 
 pub law_of_first_of_image : LawOfFirstOfImage
-law_of_first_of_image program entry arena image input checked made laid room small bytes =
+law_of_first_of_image program entry arena image input checked made room small bytes =
     let l = own_slots_laid_out program in
     let n = long program entry checked made.finds made.low in
     let w = ap length made.words in
     let begins : IsFirst l (emitted program entry) arena input (first_state program.laid l.code_to arena input) =
     law_of_first_states (program_lines program) (own_slots_decided program) (is_in_own_slot (program_lines program)) entry arena input
-    (well program checked made.finds made.low) made.low laid (omega (arith, n, w, room)) small bytes in
+    (well program checked made.finds made.low) made.low made.laid (omega (arith, n, w, room)) small bytes in
     subst (λ ws. IsFirst l ws arena input (first_state program.laid (length ws) arena input)) (sym made.words)
     (subst (λ k. IsFirst l (emitted program entry) arena input (first_state program.laid k arena input)) (sym n) begins)
 
@@ -109,12 +111,12 @@ entry_there program entry h = by (slice_get_cases program.procedures entry).1
     by (inr k) = let past = k.0 in absurd (omega (arith, h, past))
 
 pub law_of_runs_of_image : LawOfRunsOfImage
-law_of_runs_of_image program entry arena image input z checked made h laid begins =
+law_of_runs_of_image program entry arena image input z checked made h begins =
     let p = entry_there program entry h in
     let first_one : IsFirst (own_slots_laid_out program) (emitted program entry) arena input z =
     subst (λ ws. IsFirst (own_slots_laid_out program) ws arena input z) made.words begins in
     let e : EmittedRuns program entry arena input z =
-    law_of_emitted_runs program entry arena input z (procedure_lines p.0) checked made.finds made.low laid (procedure_there program entry p.0 p.1) first_one in
+    law_of_emitted_runs program entry arena input z (procedure_lines p.0) checked made.finds made.low made.laid (procedure_there program entry p.0 p.1) first_one in
     let same : loaded (emitted program entry) (emitted_start program) arena input ≡ loaded_with image arena input =
     ap (λ at. first (start (emitted program entry) at arena) input) (sym made.starts) ∙ ap (λ ws. first (start ws image.entry arena) input) (sym made.words) in
     record {

@@ -32,12 +32,13 @@ pub record IsPlan (program : MidProgram) (plan : Plan) : Type 0 where
   pub ends_low : code_end plan.front plan.lefts plan.shapes < 2 ^ 24
   pub finds : finds_frames program ≡ true
 
--- An image of a program, whose frames are found, and which has fewer than 2^24 words.
+-- An image of a program, whose frames are found, and which has fewer than 2^24 words; the words laid beside the code are words.
 pub record IsImageOf (program : MidProgram) (entry : ℕ) (image : Image) : Type 0 where
   pub words : image.words ≡ emitted program entry
   pub starts : image.entry ≡ 4 * emitted_start program
   pub finds : finds_frames program ≡ true
   pub low : (own_slots_laid_out program).code_to < 2 ^ 24
+  pub laid : LaidAreWords program.laid
 
 -- the moment at which the machine has been loaded with it, and has executed nothing
 abbrev pub loaded_with : Image → (arena : ℕ) → (input : List ℕ) → Moment
@@ -48,7 +49,7 @@ loaded_with image arena input = first (start image.words image.entry arena) inpu
 abbrev pub LawOfFirstOfImage : Type 0
 LawOfFirstOfImage =
     (program : MidProgram) (entry arena : ℕ) (image : Image) (input : List ℕ) → is_checked_program program ≡ true → IsImageOf program entry image
-    → LaidAreWords program.laid → length image.words ≤ arena → arena ≤ 2 ^ 24 → ((i : ℕ) → slice_index input i < 2 ^ 32)
+    → length image.words ≤ arena → arena ≤ 2 ^ 24 → ((i : ℕ) → slice_index input i < 2 ^ 32)
     → IsFirst (own_slots_laid_out program) image.words arena input (first_state program.laid (length image.words) arena input)
 
 -- What instructions of the image do, beside the run of the program with so many levels and turns.
@@ -67,5 +68,5 @@ pub record RunsOfImage (program : MidProgram) (entry arena : ℕ) (image : Image
 abbrev pub LawOfRunsOfImage : Type 0
 LawOfRunsOfImage =
     (program : MidProgram) (entry arena : ℕ) (image : Image) (input : List ℕ) (z : MidState) → is_checked_program program ≡ true
-    → IsImageOf program entry image → entry < length program.procedures → LaidAreWords program.laid
+    → IsImageOf program entry image → entry < length program.procedures
     → IsFirst (own_slots_laid_out program) image.words arena input z → RunsOfImage program entry arena image input z

@@ -9,6 +9,7 @@ ghost use Rattle.back_program_code.specs.Shapes.{first_position, AreLow};
 ghost use Rattle.back_program_code.specs.ShapedImage.{front_words, shaped_image};
 ghost use Rattle.back_emit.specs.declared.errors.EmitError.TheVariants.{TooLarge};
 ghost use Rattle.back_trivial.specs.FrameFound.{finds_frames};
+ghost use Rattle.back_images.specs.Laws.{LaidAreWords};
 ghost use Rattle.back_program_code.specs.declared.errors.ImageError.TheVariants as image;
 ghost use Rattle.back_program_code.specs.TooLarge.{IsTooLarge};
 ghost use Rattle.back_program_code.specs.Made.{IsPlan, IsImageOf};
@@ -133,6 +134,7 @@ pub fn emit(alloc: Global, program: &MidProgram, entry: usize) -> Result<Image, 
 {
     let plan = plan_of(alloc, program)?;
     let words = words_of(alloc, program, &plan, entry)?;
+    are_words(program.laid.as_slice());
     Ok(image_of(words, plan.front.start_at))
 }
 
@@ -146,4 +148,11 @@ pub fn image_of(words: WordList, start_at: u32) -> Image
         entry: 4 * start_at,
         words,
     }
+}
+
+// Each word has 32 bits, by its type.
+fn are_words(words: &[u32])
+    ensures { LaidAreWords words.now }
+{
+    let _ = words;
 }
