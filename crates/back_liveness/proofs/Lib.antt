@@ -2,4 +2,5 @@ pub mod Lists
 pub mod Marking
 pub mod Forwards
 pub mod Around
+pub mod Closing
 pub mod Covering

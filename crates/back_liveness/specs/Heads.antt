@@ -21,6 +21,15 @@ pub record AreHeadsOf (steps : List Step) (count : ℕ) (earliest latest : List 
 abbrev pub AreHeads : (steps : List Step) (earliest latest : List ℕ) → Type 0
 AreHeads steps earliest latest = AreHeadsOf steps (length steps) earliest latest
 
+-- at each line one number that is no more than those of the lines from it on, or no less than those of the lines up to it
+pub record AreFloors (earliest floors : List ℕ) : Type 0 where
+  pub count : length floors ≡ length earliest
+  pub below : (t k : ℕ) → t ≤ k → k < length earliest → slice_index floors t ≤ slice_index earliest k
+
+pub record AreRoofs (latest roofs : List ℕ) : Type 0 where
+  pub count : length roofs ≡ length latest
+  pub above : (t k : ℕ) → k ≤ t → t < length latest → slice_index latest k ≤ slice_index roofs t
+
 -- From its head to the last line from which one comes back a loop is entered at its head alone, and all that goes back to a line
 -- inside is inside.
 abbrev pub IsNestedAt : (earliest latest : List ℕ) → (h t : ℕ) → Type 0

@@ -3,3 +3,4 @@ pub mod Ahead
 pub mod Heads
 pub mod Points
 pub mod Settled
+pub mod Closed

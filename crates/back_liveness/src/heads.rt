@@ -4,28 +4,82 @@ ghost use Rattle.std.specs.Prelude.{◌≡◌, ◌≤◌, ◌<◌, ◌+◌, ◌^
 ghost use Rattle.std.specs.List.{list_any};
 ghost use Rattle.back_liveness.specs.declared.step.Step.{Step};
 ghost use Rattle.back_liveness.specs.Liveness.{goes_aside};
-ghost use Rattle.back_liveness.specs.Heads.{IsBetween, AreHeadsOf, AreHeads, IsNestedAt, AreNested};
+ghost use Rattle.back_liveness.specs.Heads.{IsBetween, AreHeadsOf, AreHeads, AreFloors, AreRoofs, IsNestedAt, AreNested};
 
 use crate::step::StepList;
 use base::NoMemory;
 use std::alloc::Global;
 
-/// For each line, and for the end behind them: the first and the last of it and of the lines that go aside to it.
+/// For each line, and for the end behind them: the first and the last of it and of the lines that go aside to it; the first of those of
+/// all lines from it on, and the last of those of all lines up to it.
 #[derive(Drop)]
 pub struct Heads {
     pub earliest: Vec<usize>,
     pub latest: Vec<usize>,
+    pub floors: Vec<usize>,
+    pub roofs: Vec<usize>,
 }
 
 /// The heads of these lines.
 pub fn heads_of(alloc: Global, steps: &StepList) -> Result<Heads, NoMemory>
     requires { length steps.now < 2 ^ 62 }
-    ensures { IfOk result (λ h. AreHeads steps.now h.earliest.items h.latest.items) }
+    ensures heads { IfOk result (λ h. AreHeads steps.now h.earliest.items h.latest.items) }
+    ensures floors { IfOk result (λ h. AreFloors h.earliest.items h.floors.items) }
+    ensures roofs { IfOk result (λ h. AreRoofs h.latest.items h.roofs.items) }
 {
     let mut earliest = own_lines(alloc, steps.len())?;
     let mut latest = own_lines(alloc, steps.len())?;
     add_lines(&mut earliest, &mut latest, steps);
-    Ok(Heads { earliest, latest })
+    let floors = floors_of(alloc, earliest.as_slice())?;
+    let roofs = roofs_of(alloc, latest.as_slice())?;
+    Ok(Heads {
+        earliest,
+        latest,
+        floors,
+        roofs,
+    })
+}
+
+// The least of each number and those behind it.
+fn floors_of(alloc: Global, earliest: &[usize]) -> Result<Vec<usize>, NoMemory>
+    ensures { IfOk result (λ floors. AreFloors earliest.now floors.items) }
+{
+    let mut floors = vec![in alloc; 0; earliest.len()]?;
+    fill_floors(floors.as_mut_slice(), earliest);
+    Ok(floors)
+}
+
+fn fill_floors(floors: &mut [usize], earliest: &[usize])
+    requires { length floors.old ≡ length earliest.now }
+    ensures { AreFloors earliest.now floors.new }
+{
+    let count = earliest.len();
+    let mut least = count;
+    for done in 0..count {
+        let t = count - 1 - done;
+        least = least.min(earliest[t]);
+        floors[t] = least;
+    }
+}
+
+// The greatest of each number and those before it.
+fn roofs_of(alloc: Global, latest: &[usize]) -> Result<Vec<usize>, NoMemory>
+    ensures { IfOk result (λ roofs. AreRoofs latest.now roofs.items) }
+{
+    let mut roofs = vec![in alloc; 0; latest.len()]?;
+    fill_roofs(roofs.as_mut_slice(), latest);
+    Ok(roofs)
+}
+
+fn fill_roofs(roofs: &mut [usize], latest: &[usize])
+    requires { length roofs.old ≡ length latest.now }
+    ensures { AreRoofs latest.now roofs.new }
+{
+    let mut greatest = 0;
+    for t in 0..latest.len() {
+        greatest = greatest.max(latest[t]);
+        roofs[t] = greatest;
+    }
 }
 
 // All lines, from which one comes to those to which they go aside.

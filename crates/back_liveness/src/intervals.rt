@@ -5,7 +5,7 @@ ghost use Rattle.back_liveness.specs.declared.step.Interval.{Interval};
 ghost use Rattle.back_liveness.specs.declared.step.Step.{Step};
 ghost use Rattle.back_liveness.specs.Liveness.{is_read, IsLive, IsWithin, IsCovered, Covers};
 ghost use Rattle.back_liveness.specs.Ahead.{alive_ahead};
-ghost use Rattle.back_liveness.specs.Heads.{AreHeads, AreNested};
+ghost use Rattle.back_liveness.specs.Heads.{AreHeads, AreFloors, AreRoofs, AreNested};
 ghost use Rattle.back_liveness.specs.Points.{EndsBy, EndBy, ArePoints, HasLoop, HaveLives};
 
 use crate::heads::{Heads, are_nested, heads_of};
@@ -60,6 +60,8 @@ fn lives(
     registers: usize,
 ) -> Result<IntervalList, NoMemory>
     requires heads { AreHeads steps.now heads.now.earliest.items heads.now.latest.items }
+    requires floors { AreFloors heads.now.earliest.items heads.now.floors.items }
+    requires roofs { AreRoofs heads.now.latest.items heads.now.roofs.items }
     requires nested { AreNested heads.now.earliest.items heads.now.latest.items }
     requires room { length steps.now < 2 ^ 62 }
     ensures count { IfOk result (λ found. length found ≡ registers) }
@@ -79,6 +81,8 @@ fn lives_with(
     marks: &mut [bool],
 ) -> Result<IntervalList, NoMemory>
     requires heads { AreHeads steps.now heads.now.earliest.items heads.now.latest.items }
+    requires floors { AreFloors heads.now.earliest.items heads.now.floors.items }
+    requires roofs { AreRoofs heads.now.latest.items heads.now.roofs.items }
     requires nested { AreNested heads.now.earliest.items heads.now.latest.items }
     requires room { length steps.now < 2 ^ 62 }
     requires points { ArePoints steps.now (length steps.now) points.now }
@@ -104,6 +108,8 @@ fn interval_of(
     marks: &mut [bool],
 ) -> Option<Interval>
     requires heads { AreHeads steps.now heads.now.earliest.items heads.now.latest.items }
+    requires floors { AreFloors heads.now.earliest.items heads.now.floors.items }
+    requires roofs { AreRoofs heads.now.latest.items heads.now.roofs.items }
     requires room { length steps.now < 2 ^ 62 }
     requires marks { length marks.old ≡ length steps.now + 1 }
     requires points { (line : ℕ) (s : Step) → slice_get steps.now line ≡ Some s → is_read s register ≡ true → IsWithin points line }

@@ -5,8 +5,9 @@ ghost use Rattle.std.specs.List.{list_any};
 ghost use Rattle.back_liveness.specs.declared.step.Step.{Step};
 ghost use Rattle.back_liveness.specs.Liveness.{is_read, goes_aside, IsWithin};
 ghost use Rattle.back_liveness.specs.Ahead.{is_written, alive_ahead};
-ghost use Rattle.back_liveness.specs.Heads.{AreHeads};
+ghost use Rattle.back_liveness.specs.Heads.{AreHeads, AreFloors, AreRoofs};
 ghost use Rattle.back_liveness.specs.Settled.{is_marked, Settled};
+ghost use Rattle.back_liveness.specs.Closed.{IsWrittenBefore, IsClosed};
 
 use crate::heads::Heads;
 use crate::step::{Interval, StepList};
@@ -30,6 +31,8 @@ pub fn life_of(
     marks: &mut [bool],
 ) -> Interval
     requires heads { AreHeads steps.now heads.now.earliest.items heads.now.latest.items }
+    requires floors { AreFloors heads.now.earliest.items heads.now.floors.items }
+    requires roofs { AreRoofs heads.now.latest.items heads.now.roofs.items }
     requires room { length steps.now < 2 ^ 62 }
     requires marks { length marks.old ≡ length steps.now + 1 }
     requires points { (line : ℕ) (s : Step) → slice_get steps.now line ≡ Some s → is_read s register ≡ true → IsWithin (Some points) line }
@@ -38,6 +41,15 @@ pub fn life_of(
         → (result.from ≤ line) × (slice_index heads.now.latest.items line ≤ result.to) }
     ensures points { (line : ℕ) → IsWithin (Some points) line → IsWithin (Some result) line }
 {
+    if is_closed(
+        steps,
+        heads.floors.as_slice(),
+        heads.roofs.as_slice(),
+        register,
+        points,
+    ) {
+        return points;
+    }
     let mut life = Life {
         need: points.from,
         from: points.from,
@@ -60,6 +72,40 @@ pub fn life_of(
     Interval {
         from: life.from,
         to: life.to,
+    }
+}
+
+// Whether an interval begins behind a line that writes the register, or at the first line, and no line goes into it from before it, nor
+// from behind it.
+fn is_closed(
+    steps: &StepList,
+    floors: &[usize],
+    roofs: &[usize],
+    register: Register,
+    points: Interval,
+) -> bool
+    requires floors { length floors.now ≡ length steps.now + 1 }
+    requires roofs { length roofs.now ≡ length steps.now + 1 }
+    requires room { length steps.now < 2 ^ 62 }
+    ensures { result ≡ true → IsClosed steps.now floors.now roofs.now register points }
+{
+    points.from <= points.to
+        && points.to <= steps.len()
+        && points.from <= floors[points.from]
+        && roofs[points.to] <= points.to
+        && is_written_before(steps, register, points.from)
+}
+
+// Whether the line before one writes the register, if there is one.
+fn is_written_before(steps: &StepList, register: Register, line: usize) -> bool
+    ensures { result ≡ true → IsWrittenBefore steps.now register line }
+{
+    if line == 0 {
+        return true;
+    }
+    match steps.get(line - 1) {
+        Some(step) => writes(step.written, register),
+        None => true,
     }
 }
 

@@ -1,4 +1,6 @@
-use Rattle.std.proofs.Common.{◌≤◌, arith}
+use Rattle.std.proofs.Common.{◌≤◌, arith, ℕ, List, subst, sym}
+use Rattle.back_liveness.specs.Heads.{AreFloors, AreRoofs}
+use Rattle.back_liveness.proofs.Closing.{closed_has}
 use Rattle.back_liveness.proofs.Forwards.{all_told}
 use Rattle.back_liveness.proofs.lives.life_of.Goals as goal
 
@@ -12,3 +14,11 @@ returns-clause-ahead c k h =
     (λ j x e r. let p = c.requires.points j x e r in (omega (arith, p.0, i.need), p.1)) k h in
     let l = i.settled.looked k (omega (arith, low, told.0)) told.1 told.2 in
     (l.2, l.3)
+
+pub returns-then-is_closed-clause-ahead : goal.returns-then-is_closed-clause-ahead
+returns-then-is_closed-clause-ahead c k h =
+    closed_has c.args.steps.now c.args.heads.now.earliest.items c.args.heads.now.latest.items c.as_slice.result.now c.as_slice-2.result.now
+    c.args.register c.args.points c.requires.heads
+    (subst (λ (f : List ℕ). AreFloors c.args.heads.now.earliest.items f) (sym c.as_slice.ensures.value) c.requires.floors)
+    (subst (λ (f : List ℕ). AreRoofs c.args.heads.now.latest.items f) (sym c.as_slice-2.ensures.value) c.requires.roofs)
+    (c.is_closed.ensures c.if-is_closed.true) c.requires.points k h
