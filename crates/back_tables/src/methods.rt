@@ -1,12 +1,13 @@
 // Which procedures are methods: the generic functions are gone through once, and each method of theirs is marked.
 
-ghost use Rattle.std.specs.Prelude.{◌≡◌, [], ◌∷◌, false, IfOk, map};
+ghost use Rattle.std.specs.Prelude.{◌≡◌, IfOk, map};
 ghost use Rattle.lang_meaning.specs.declared.program.MethodRow.{MethodRow};
 ghost use Rattle.back_tables.specs.Marked.{AreMarked, AreFlags, methods_of};
 
+use crate::flags::{mark, no_flags};
 use back_calls::given::FlagList;
 use base::NoMemory;
-use lang_meaning::{GenericRows, MethodRows, ProcedureId};
+use lang_meaning::{GenericRows, MethodRows};
 use std::alloc::Global;
 
 // For each of so many procedures, whether it is a method.
@@ -28,18 +29,6 @@ pub(crate) fn method_flags(
     Ok(flags)
 }
 
-// So many flags, none of them set.
-#[tactic(auto, using(crate::proofs::Filling::none_there, crate::proofs::Filling::one_more, crate::proofs::Marking::none_set))]
-fn no_flags(alloc: Global, count: usize) -> Result<FlagList, NoMemory>
-    ensures { IfOk result (λ flags. AreFlags count [] flags) }
-{
-    let mut flags = FlagList::new(alloc);
-    for _number in 0..count {
-        flags.push(false)?;
-    }
-    Ok(flags)
-}
-
 // The procedures of these methods are marked.
 #[tactic(auto, using(crate::proofs::Marking::no_method_yet))]
 fn mark_methods(flags: &mut FlagList, methods: &MethodRows)
@@ -50,15 +39,5 @@ fn mark_methods(flags: &mut FlagList, methods: &MethodRows)
             unreachable!()
         };
         mark(flags, method.procedure);
-    }
-}
-
-// A procedure is marked, where there is one of that number.
-#[tactic(auto, using(crate::proofs::Marking::one_marked, crate::proofs::Marking::none_to_mark))]
-fn mark(flags: &mut FlagList, procedure: ProcedureId)
-    ensures { AreMarked flags.old (procedure ∷ []) flags.new }
-{
-    if procedure < flags.len() {
-        flags.replace(procedure, true);
     }
 }

@@ -105,9 +105,10 @@ fn write(code: &mut Code, alloc: Global, line: Line) -> Result<(), NoMemory>
 
 /// The procedure of a primitive. Entered with the words of its arguments in an arena that represents a state of the meaning, it comes to what the
 /// primitive answers there, within its cost: it returns the word of a value, or `SIGNAL` where it made a condition, whose word then stands at the address `PENDING_AT`; or the
-/// words that an object, or its frame, takes are not left, and then nothing has changed. Its code is in form, and costs what
-/// docs/COSTS.md says. Fails only for want of memory.
+/// words that an object, or its frame, takes are not left, and then nothing has changed. Its code is that of its lines, in form, and costs
+/// what docs/COSTS.md says. Fails only for want of memory.
 pub fn primitive(alloc: Global, which: Primitive) -> Result<MidProcedure, NoMemory>
+    ensures exact { IfOk result (λ p. p ≡ procedure_of which) }
     ensures does { IfOk result (λ p. IsPrimitive which p) }
     ensures counted { IfOk result (λ p. p.counted ≡ Turn) }
     ensures parameters { IfOk result (λ p. p.parameters ≡ arity which) }

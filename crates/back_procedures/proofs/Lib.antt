@@ -1,0 +1,3 @@
+mod MainForms
+pub mod Walking
+pub mod Counting
