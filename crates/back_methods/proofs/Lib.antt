@@ -1,1 +1,4 @@
 pub mod Given
+pub mod Calling
+pub mod Loops
+pub mod Each
