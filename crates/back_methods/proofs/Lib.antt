@@ -2,3 +2,4 @@ pub mod Given
 pub mod Calling
 pub mod Loops
 pub mod Each
+pub mod Running

@@ -71,14 +71,14 @@ LawOfLentMethods =
     → EntryDoes setting k turns entry its_method q)
     → MethodsDo setting (ArgumentsLent setting) k entry_credit
 
--- What is paid for a chain: the walk past its methods before and after the primary one, and what is left of the first unit of the method that runs
--- always, which pays for what is around it.
-abbrev pub chain_cost : (credit : ℕ) → Chain → ℕ
-chain_cost credit c = 430 + credit + 60 * (length c.before + length c.after)
+-- What is paid for a chain: what comes before its first method is called, of which the walk past the methods before and after the primary one is
+-- for each of them.
+abbrev pub chain_cost : Chain → ℕ
+chain_cost c = 256 + 60 * (length c.before + length c.after)
 
--- each method that runs pays for what is around it, the walk aside
+-- where no more is paid for a method, what it leaves of its first unit pays for all else that is around it
 abbrev pub most_credit : ℕ
-most_credit = 1146
+most_credit = 1126
 
 module _ (setting : Setting) (Given : Arguments) (k turns : ℕ) (rs valid : List Standing) (w : World) (around : DynamicContext) (z : FlatState) (y : MidState) where
   -- the chain of a generic function, for so much
@@ -108,7 +108,7 @@ module _ (setting : Setting) (k turns : ℕ) (rs valid : List Standing) (w : Wor
 abbrev pub LawOfLentChains : Type 0
 LawOfLentChains =
     (setting : Setting) (k turns : ℕ) (credit : ℕ → ℕ) (paid : (count : ℕ) → Chain → ℕ) (rs valid : List Standing) (w : World) (around : DynamicContext) (z : FlatState) (y : MidState)
-    → IsPlaced setting → turns ≤ setting.turns_each → ((n : ℕ) → credit n ≤ most_credit) → ((n : ℕ) (c : Chain) → chain_cost (credit n) c ≤ unit_cost + paid n c)
+    → IsPlaced setting → turns ≤ setting.turns_each → ((n : ℕ) → credit n ≤ most_credit) → ((n : ℕ) (c : Chain) → chain_cost c ≤ paid n c)
     → ((j : ℕ) → k ≡ suc j → MethodsDo setting (ArgumentsLent setting) j credit)
     → ChainRuns setting (ArgumentsLent setting) k turns rs valid w around z y paid
 
@@ -116,7 +116,7 @@ LawOfLentChains =
 abbrev pub LawOfChains : Type 0
 LawOfChains =
     (setting : Setting) (k turns : ℕ) (credit : ℕ → ℕ) (paid : (count : ℕ) → Chain → ℕ) (rs valid : List Standing) (w : World) (around : DynamicContext) (z : FlatState) (y : MidState)
-    → IsPlaced setting → turns ≤ setting.turns_each → ((n : ℕ) → credit n ≤ most_credit) → ((n : ℕ) (c : Chain) → chain_cost (credit n) c ≤ unit_cost + paid n c)
+    → IsPlaced setting → turns ≤ setting.turns_each → ((n : ℕ) → credit n ≤ most_credit) → ((n : ℕ) (c : Chain) → chain_cost c ≤ paid n c)
     → ((j : ℕ) → k ≡ suc j → MethodsDo setting (ArgumentsGiven setting) j credit)
     → ChainRuns setting (ArgumentsGiven setting) k turns rs valid w around z y paid
 
@@ -124,8 +124,7 @@ LawOfChains =
 abbrev pub LawOfNext : Type 0
 LawOfNext =
     (setting : Setting) (k turns : ℕ) (credit : ℕ → ℕ) (paid : (count : ℕ) → Chain → ℕ) (rs valid : List Standing) (w : World) (around : DynamicContext) (z : FlatState) (y : MidState)
-    → IsPlaced setting → turns ≤ suc setting.turns_each → ((n : ℕ) → credit n ≤ most_credit) → ((n : ℕ) (c : Chain) → chain_cost (credit n) c ≤ unit_cost + paid n c)
-    → ((n : ℕ) (c : Chain) → 220 ≤ paid n c)
+    → IsPlaced setting → turns ≤ suc setting.turns_each → ((n : ℕ) → credit n ≤ most_credit) → ((n : ℕ) (c : Chain) → chain_cost c ≤ paid n c)
     → MethodsDo setting (ArgumentsGiven setting) k credit
     → ((t : ℕ) (rs valid : List Standing) (w : World) (z : FlatState) (y : MidState) → FailingWithin setting k t rs valid w around z y)
     → NextRuns setting k turns rs valid w around z y paid

@@ -1,3 +1,4 @@
+use Rattle.back_methods.proofs.Running as running
 use Rattle.back_methods.proofs.Each as each
 use Rattle.back_methods.proofs.Calling as calling
 use Rattle.back_methods.proofs.Given.{lent_methods_law}
