@@ -5,7 +5,7 @@ use Rattle.lang_meaning.specs.Objects.{Called}
 use Rattle.lang_meaning.specs.Values.{Value, nil}
 use Rattle.flat_language.specs.FlatSignals.{signal}
 use Rattle.flat_language.specs.FlatState.{FlatState}
-use Rattle.mid_code.specs.Arena.{stack_from}
+use Rattle.mid_code.specs.Arena.{Arena, stack_from, word_at}
 use Rattle.mid_code.specs.State.{MidState}
 use Rattle.mid_arena.specs.Standing.{ValuesAt}
 use Rattle.back_lowering.specs.Program.{Extra, nothing, its_method, extra_of}
@@ -25,6 +25,8 @@ pub record Stays (setting : Setting) (Given : Arguments) : Type 0 where
   pub at :
       (c : ℕ) (w w' : World) (z z' : FlatState) (y y' : MidState) (address : ℕ) (vs : List Value) → WorldKept setting w w' z z' y y' → Around setting c z z' y y' → Given w y.arena address vs
       → Given w' y'.arena address vs
+  pub inside :
+      (w : World) (a a' : Arena) (address : ℕ) (vs : List Value) → ((x : ℕ) → word_at a' x ≡ word_at a x) → stack_from a' ≤ stack_from a → Given w a address vs → Given w a' address vs
 
 pub lent_stays : (setting : Setting) → Stays setting (ArgumentsLent setting)
 lent_stays setting = record {
@@ -35,13 +37,24 @@ lent_stays setting = record {
         value_stays k.later (deeper_same (same_world setting k a)) (address + 4 * i) (slice_index_or vs i nil) (omega (arith, low)) (g.plain (4 * i) (omega (arith, few))) (g.values i few);
     plain = λ i few. plain_later (address + i) k.later (g.plain i few);
   };
+  inside = λ w a a' address vs same from g. record {
+    low = let low = g.low in omega (arith, low, from);
+    values = λ i few. let at = g.values i few in record { word = at.word; of_value = at.of_value; stands = same (address + 4 * i) ∙ at.stands };
+    plain = λ i few. g.plain i few;
+  };
 }
 
 pub given_stays : (setting : Setting) → Stays setting (ArgumentsGiven setting)
 given_stays setting = record {
   at = λ c w w' z z' y y' address vs k a g. by c w w' z z' y y' address vs k a g;
+  inside = λ w a a' address vs same from g. deeper w a a' address vs same from g;
 }
   where
+    deeper : (w : World) (a a' : Arena) (address : ℕ) (vs : List Value) → ((x : ℕ) → word_at a' x ≡ word_at a x) → stack_from a' ≤ stack_from a → ArgumentsGiven setting w a address vs
+        → ArgumentsGiven setting w a' address vs
+    deeper w a a' address vs same from (lent g) = lent ((lent_stays setting).inside w a a' address vs same from g)
+    deeper w a a' address vs same from (kept call start arguments here is) = kept call start arguments here is
+
     by : (c : ℕ) (w w' : World) (z z' : FlatState) (y y' : MidState) (address : ℕ) (vs : List Value) → WorldKept setting w w' z z' y y' → Around setting c z z' y y' → ArgumentsGiven setting w y.arena address vs
         → ArgumentsGiven setting w' y'.arena address vs
     by c w w' z z' y y' address vs k a (lent g) = lent ((lent_stays setting).at c w w' z z' y y' address vs k a g)

@@ -3,3 +3,4 @@ pub mod Calling
 pub mod Loops
 pub mod Each
 pub mod Running
+pub mod Chains

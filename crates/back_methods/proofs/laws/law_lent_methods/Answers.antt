@@ -1,6 +1,3 @@
-use Rattle.back_methods.proofs.Running as running
-use Rattle.back_methods.proofs.Each as each
-use Rattle.back_methods.proofs.Calling as calling
 use Rattle.back_methods.proofs.Given.{lent_methods_law}
 use Rattle.back_methods.proofs.laws.law_lent_methods.Goals as goal
 
