@@ -6,8 +6,8 @@ use Rattle.lang_meaning.specs.Objects.{Chain}
 use Rattle.lang_meaning.specs.State.{DynamicContext, Limit, words, unlimited, has_room, room_left, full}
 use Rattle.lang_meaning.specs.Values.{Value}
 use Rattle.flat_language.specs.FlatMeaning.{flat_meaning_at}
-use Rattle.flat_language.specs.FlatSignals.{methods, descend, signal, apply_chain, run_chain}
-use Rattle.flat_language.specs.FlatState.{no_environment, FlatState, FlatEvaluated, in_frame, with_stack, charged}
+use Rattle.flat_language.specs.FlatSignals.{methods, signal, apply_chain, run_chain}
+use Rattle.flat_language.specs.FlatState.{no_environment, FlatState, in_frame, with_stack, charged}
 use Rattle.flat_laws.specs.FlatLater.{FlatLater}
 use Rattle.flat_laws.proofs.Applied.{signals, chain_runs}
 use Rattle.flat_laws.proofs.Later.{later_kept}
@@ -37,7 +37,7 @@ use Rattle.back_calling.proofs.Units.{calls_charged, calls_recounted}
 use Rattle.back_applications.proofs.Applied.{called_grows}
 use Rattle.back_applications.proofs.Charging.{asked, things_charged, around_charged, framed_ends, within_asked}
 use Rattle.back_applications.proofs.Levels.{level_there}
-use Rattle.back_methods.specs.Methods.{Arguments, ArgumentsGiven, MethodsDo, chain_cost, most_credit, ChainRuns, LawOfLentChains, LawOfChains}
+use Rattle.back_methods.specs.Methods.{Arguments, ArgumentsGiven, MethodsDo, chain_cost, most_credit, LawOfLentChains, LawOfChains}
 use Rattle.back_methods.proofs.Given.{Stays, lent_stays, given_stays}
 use Rattle.back_methods.proofs.Running.{chain_comes}
 

@@ -3,27 +3,25 @@ use Rattle.std.proofs.Common.{◌≡◌, ℕ, zero, suc, ◌+◌, ◌*◌, ◌%�
 use Rattle.std.proofs.lemmas.Bool.{eq-eqb, ne_eqb}
 use Rattle.std.proofs.lemmas.Nat.{and_mask}
 use Rattle.base.specs.AllOf.{AllOf}
-use Rattle.lang_meaning.specs.Counts.{unit_cost}
 use Rattle.lang_meaning.specs.State.{DynamicContext}
 use Rattle.lang_meaning.specs.Values.{Value, nil}
 use Rattle.flat_language.specs.FlatSignals.{signal, apply_procedure, apply_each}
-use Rattle.flat_language.specs.FlatState.{FlatState, FlatEvaluated, gives, go_on, go_on_from, charged}
+use Rattle.flat_language.specs.FlatState.{FlatState, FlatEvaluated, go_on, go_on_from, charged}
 use Rattle.lang_meaning.specs.State.{Outcome, value, exit, full, more}
 use Rattle.flat_laws.specs.FlatLater.{FlatLater}
 use Rattle.flat_laws.proofs.Applied.{signals, each_applies}
 use Rattle.flat_laws.proofs.Later.{later_kept}
-use Rattle.mid_code.specs.declared.operation.Arithmetic.TheVariants as which
 use Rattle.mid_code.specs.declared.operation.Comparison.TheVariants.{Equal}
 use Rattle.mid_code.specs.declared.operation.Counted.TheVariants.{Turn}
 use Rattle.mid_code.specs.Arena.{stack_from}
 use Rattle.mid_code.specs.Law.{Grown}
-use Rattle.mid_code.specs.Meaning.{Context, exec_step}
+use Rattle.mid_code.specs.Meaning.{exec_step}
 use Rattle.mid_code.specs.MidCode.{MidStep, repeat, code_of}
 use Rattle.mid_code.specs.State.{Registers, falls, ends, MidState, Next}
 use Rattle.mid_code.specs.State.{charged as mid_charged, go_on as mid_go_on}
 use Rattle.mid_code.proofs.Growth.{go_on_grown}
 use Rattle.mid_arena.specs.Places.{word_of}
-use Rattle.mid_arena.proofs.Running.{loop_again, RunsTo, StepsTo, and_then, none_left, constant_falls, compute_known, load_falls, store_falls, repeat_falls, address_above, jumped_falls, go_on_twice}
+use Rattle.mid_arena.proofs.Running.{loop_again, RunsTo, and_then, none_left, constant_falls, compute_known, load_falls, store_falls, repeat_falls, address_above, jumped_falls, go_on_twice}
 use Rattle.mid_arena.proofs.WordFacts.{sum_fits}
 use Rattle.back_lowering.specs.ControlWords.{site_address}
 use Rattle.back_lowering.specs.RoutineCodes.{kind_into, number_into, add_to, methods_called}
@@ -32,7 +30,6 @@ use Rattle.back_relation.specs.Setting.{Setting, ConstantsAt}
 use Rattle.back_relation.specs.Chains.{MethodTakes, method_words}
 use Rattle.back_relation.specs.Worlds.{World, Later, Standing}
 use Rattle.back_relation.specs.Things.{SiteIs}
-use Rattle.back_relation.specs.Around.{SiteStored}
 use Rattle.back_relation.specs.Ends.{CallEnds}
 use Rattle.back_relation.specs.Forms.{context_at, code_at}
 use Rattle.back_combining.specs.Starts.{FlatGrown}

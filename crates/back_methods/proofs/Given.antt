@@ -1,5 +1,5 @@
 -- Arguments stay where they are given, as long as the stack stands where they are lent; and entries are called with them as methods.
-use Rattle.std.proofs.Common.{◌≡◌, inl, ℕ, ◌+◌, ◌*◌, ◌<◌, ◌≤◌, true, false, List, [], ◌∷◌, length, Option, Some, None, refl, sym, ap, ◌∙◌, subst, arith}
+use Rattle.std.proofs.Common.{◌≡◌, inl, ℕ, ◌+◌, ◌*◌, ◌<◌, ◌≤◌, false, List, [], ◌∷◌, length, Option, Some, None, refl, sym, ap, ◌∙◌, subst, arith}
 use Rattle.std.specs.Prelude.{slice_index_or, if◌then◌else◌}
 use Rattle.lang_meaning.specs.Objects.{Called}
 use Rattle.lang_meaning.specs.Values.{Value, nil}
@@ -8,17 +8,17 @@ use Rattle.flat_language.specs.FlatState.{FlatState}
 use Rattle.mid_code.specs.Arena.{Arena, stack_from, word_at}
 use Rattle.mid_code.specs.State.{MidState}
 use Rattle.mid_arena.specs.Standing.{ValuesAt}
-use Rattle.back_lowering.specs.Program.{Extra, nothing, its_method, extra_of}
+use Rattle.back_lowering.specs.Program.{nothing, its_method, extra_of}
 use Rattle.back_relation.specs.Setting.{Setting}
 use Rattle.back_relation.specs.Chains.{ChainTakes}
 use Rattle.back_relation.specs.Worlds.{World, Plain}
 use Rattle.back_relation.specs.Activation.{on_stack, MethodHeld}
 use Rattle.back_relation.specs.Ends.{WorldKept, Around}
 use Rattle.back_relation.specs.Forms.{context_at}
-use Rattle.back_relation.specs.Procedures.{as_registers, ArgumentsLent, entry_credit}
+use Rattle.back_relation.specs.Procedures.{as_registers, ArgumentsLent}
 use Rattle.back_combining.proofs.Then.{same_world, from_same}
 use Rattle.back_combining.proofs.Worlds.{plain_later, deeper_same, value_stays}
-use Rattle.back_methods.specs.Methods.{Arguments, ArgumentsGiven, lent, kept, CalledBy, MethodsDo, LawOfLentMethods}
+use Rattle.back_methods.specs.Methods.{Arguments, ArgumentsGiven, lent, kept, CalledBy, LawOfLentMethods}
 
 -- arguments are given where code goes on
 pub record Stays (setting : Setting) (Given : Arguments) : Type 0 where

@@ -4,3 +4,4 @@ pub mod Loops
 pub mod Each
 pub mod Running
 pub mod Chains
+pub mod Next

@@ -1,5 +1,5 @@
 -- A loop that counts turns, whose body calls something: what follows the call is the rest of the body and the loop with a turn less.
-use Rattle.std.proofs.Common.{◌≡◌, ℕ, suc, ◌+◌, true, List, ◌∷◌, ◌++◌, Some, refl, sym, ap, ◌∙◌, arith}
+use Rattle.std.proofs.Common.{◌≡◌, ℕ, suc, true, ◌∷◌, ◌++◌, Some, refl, ap, ◌∙◌}
 use Rattle.mid_code.specs.declared.operation.Counted.{Counted}
 use Rattle.mid_code.specs.declared.operation.Counted.TheVariants.{Turn}
 use Rattle.mid_code.specs.declared.operation.Test.{Test}

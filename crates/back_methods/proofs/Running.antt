@@ -1,36 +1,34 @@
 -- **A chain of methods runs**: the first around method; else the methods before, the first primary one, and the methods after.
-use Rattle.std.proofs.Common.{◌≡◌, ◌⊎◌, inl, inr, ℕ, zero, suc, ◌+◌, ◌-◌, ◌*◌, ◌%◌, ◌/◌, ◌^◌, ◌<◌, ◌≤◌, List, [], ◌∷◌, ◌++◌, length, Option, Some, None, refl, sym, ap, ◌∙◌, subst, arith}
+use Rattle.std.proofs.Common.{◌≡◌, ◌⊎◌, inl, inr, ℕ, suc, ◌+◌, ◌-◌, ◌*◌, ◌%◌, ◌^◌, ◌<◌, ◌≤◌, List, [], ◌∷◌, ◌++◌, length, Option, Some, refl, sym, ap, ◌∙◌, subst, arith}
 use Rattle.std.proofs.lemmas.Bool.{cases_lt, eq-eqb, ne_eqb}
 use Rattle.std.proofs.lemmas.Nat.{and_mask}
 use Rattle.std.proofs.lemmas.Option.{slice_get_within}
-use Rattle.lang_meaning.specs.Counts.{unit_cost}
 use Rattle.lang_meaning.specs.Objects.{Chain, Called}
 use Rattle.lang_meaning.specs.State.{DynamicContext}
-use Rattle.lang_meaning.specs.Values.{Value, nil}
-use Rattle.flat_language.specs.FlatSignals.{signal, apply_method, apply_each, run_primary, run_around, run_chain}
+use Rattle.lang_meaning.specs.Values.{Value}
+use Rattle.flat_language.specs.FlatSignals.{signal, apply_method, run_chain}
 use Rattle.flat_language.specs.FlatState.{FlatState, FlatEvaluated, gives, go_on, charged}
 use Rattle.flat_laws.specs.FlatLater.{FlatLater}
 use Rattle.flat_laws.proofs.Applied.{signals, chain_runs}
 use Rattle.flat_laws.proofs.Later.{later_kept}
 use Rattle.mid_code.specs.declared.operation.Arithmetic.TheVariants as which
-use Rattle.mid_code.specs.declared.operation.Comparison.TheVariants.{Equal}
-use Rattle.mid_code.specs.Arena.{stack_from, word_at}
+use Rattle.mid_code.specs.Arena.{word_at}
 use Rattle.mid_code.specs.Law.{Grown}
-use Rattle.mid_code.specs.Meaning.{Context, exec, exec_step}
+use Rattle.mid_code.specs.Meaning.{exec, exec_step}
 use Rattle.mid_code.specs.MidCode.{MidStep, return_word, code_of}
 use Rattle.mid_code.specs.State.{Registers, falls, ends, MidState, MidOutcome, Next, jumped}
 use Rattle.mid_code.specs.State.{charged as mid_charged, go_on as mid_go_on}
 use Rattle.mid_code.proofs.Growth.{exec_grown, charged_grown, levels_grow, turns_grow}
 use Rattle.mid_arena.specs.Places.{of_other, word_of}
 use Rattle.mid_arena.proofs.Growing.{spot_below}
-use Rattle.mid_arena.proofs.Running.{RunsTo, and_then, none_left, move_falls, constant_falls, compute_known, load_falls, store_falls, choose_first, choose_second_falls, address_above}
+use Rattle.mid_arena.proofs.Running.{and_then, none_left, move_falls, constant_falls, compute_known, load_falls, store_falls, choose_first, choose_second_falls, address_above}
 use Rattle.mid_arena.proofs.WordFacts.{sum_fits}
 use Rattle.back_lowering.specs.ControlWords.{site_address, around_method, before_method, after_method, primary_method, chain_end}
 use Rattle.back_lowering.specs.RoutineCodes.{number_into, methods_called, chain_run}
-use Rattle.back_lowering.specs.Steps.{Steps, move, if_equal, constant, compute, load, store, call_number, test_of}
+use Rattle.back_lowering.specs.Steps.{Steps, move, if_equal, constant, compute, load, store, call_number}
 use Rattle.back_relation.specs.Setting.{Setting, ConstantAt, ConstantsAt}
-use Rattle.back_relation.specs.Chains.{MethodTakes, ChainTakes, ChainAt, method_words, chain_words}
-use Rattle.back_relation.specs.Worlds.{World, Later, Standing}
+use Rattle.back_relation.specs.Chains.{MethodTakes, ChainTakes, ChainAt, method_words}
+use Rattle.back_relation.specs.Worlds.{World, Standing}
 use Rattle.back_relation.specs.Things.{Things, SiteIs}
 use Rattle.back_relation.specs.StackWords.{HasWordAt}
 use Rattle.back_relation.specs.Around.{SiteStored}
@@ -53,7 +51,7 @@ use Rattle.back_chains.proofs.Primaries.{primaries_law}
 use Rattle.back_transfers.proofs.Within.{call_less}
 use Rattle.back_methods.specs.Methods.{Arguments, CalledBy, MethodsDo, most_credit}
 use Rattle.back_methods.proofs.Calling.{Here, here_then, method_then}
-use Rattle.back_methods.proofs.Each.{kind_of, procedure_of, site_control, each, each_grows, file, loop, Behind, methods_run}
+use Rattle.back_methods.proofs.Each.{kind_of, procedure_of, site_control, each, each_grows, loop, methods_run}
 use Rattle.back_methods.proofs.Given.{Stays}
 
 -- ---- the words of a chain

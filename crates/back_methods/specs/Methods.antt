@@ -1,8 +1,7 @@
 -- **A chain of methods runs**: a level below, for a generic function, and at the same level, for the next method.
-use Rattle.std.specs.Prelude.{◌≡◌, ℕ, suc, ◌+◌, ◌*◌, ◌<◌, ◌≤◌, true, false, List, [], ◌∷◌, Option, Some, None, length, slice_get, is_some}
+use Rattle.std.specs.Prelude.{◌≡◌, ℕ, suc, ◌+◌, ◌*◌, ◌≤◌, true, false, List, [], ◌∷◌, Option, Some, None, length, slice_get, is_some}
 use Rattle.lang_meaning.specs.declared.program.GenericRow.{GenericRow}
-use Rattle.lang_meaning.specs.Counts.{unit_cost}
-use Rattle.lang_meaning.specs.Objects.{Chain, Called, control_error_class}
+use Rattle.lang_meaning.specs.Objects.{Chain, Called}
 use Rattle.lang_meaning.specs.Signals.{takes}
 use Rattle.lang_meaning.specs.State.{DynamicContext}
 use Rattle.lang_meaning.specs.Values.{Value}

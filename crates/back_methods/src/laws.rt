@@ -1,5 +1,5 @@
 // The laws of chains of methods, each as the contract of a function that does nothing.
-ghost use Rattle.back_methods.specs.Methods.{LawOfLentMethods, LawOfLentChains, LawOfChains};
+ghost use Rattle.back_methods.specs.Methods.{LawOfLentMethods, LawOfLentChains, LawOfChains, LawOfNext};
 
 /// Methods do with arguments that are lent.
 pub fn law_lent_methods()
@@ -14,4 +14,9 @@ pub fn law_lent_chains()
 /// The chain of a generic function, with arguments that are given in whatever way.
 pub fn law_chains()
     ensures { LawOfChains }
+{}
+
+/// The next method of a method's call.
+pub fn law_next()
+    ensures { LawOfNext }
 {}
