@@ -78,7 +78,7 @@ module _ (setting : Setting) where
       with_room c (framed routine f) [] y refl some ∙ leaves_returned y.arena.blocks _ (ap (λ (q : MidOutcome). q.end) run.same)
       ∙ ap (λ (q : MidOutcome). ends (returns 0) q.registers (with_arena (with_blocks y.arena.blocks q.state.arena) q.state)) run.same
 
-  module _ (j turns : ℕ) (rs valid : List Standing) (w : World) (around : DynamicContext) (z : FlatState) (y : MidState) where
+  module _ (j turns m : ℕ) (rs valid : List Standing) (w : World) (around : DynamicContext) (z : FlatState) (y : MidState) where
     abbrev IsThere : MidOutcome → Type 0
     IsThere q = LevelThere setting (suc j) turns rs valid w around z y q
 
@@ -88,9 +88,9 @@ module _ (setting : Setting) where
     -- with a frame that is within its own
     with_frame :
         (f : ℕ) → f ≤ level_words → CallBegins setting rs valid level_words w around z y → (left y.arena < f) ⊎ (f ≤ left y.arena)
-        → Ends setting (IsThere (run_procedure below_it (framed routine f) [] y)) ⊥ turns z y (gives nil z) (run_procedure below_it (framed routine f) [] y)
+        → Ends setting (IsThere (run_procedure below_it (framed routine f) [] y)) ⊥ m z y (gives nil z) (run_procedure below_it (framed routine f) [] y)
     with_frame f within b (inl few) =
-        subst (λ q. Ends setting (IsThere q) ⊥ turns z y (gives nil z) q) (sym (without_room below_it (framed routine f) [] y refl few))
+        subst (λ q. Ends setting (IsThere q) ⊥ m z y (gives nil z) q) (sym (without_room below_it (framed routine f) [] y refl few))
         (stopped (record {
           because = (wanting setting.limit b.room b.things.within_limit, few);
           printed = subst (λ ps. IsPrefix ps z.state.printed) (sym b.things.represents.printed) (same_flat z).printed;
@@ -100,7 +100,7 @@ module _ (setting : Setting) where
         wanting unlimited h k = tt
         wanting (words n) h k = absurd (omega (arith, h, k, few, within))
     with_frame f within b (inr some) =
-        subst (λ q. Ends setting (IsThere q) ⊥ turns z y (gives nil z) q) (sym (routine_runs below_it f y some))
+        subst (λ q. Ends setting (IsThere q) ⊥ m z y (gives nil z) q) (sym (routine_runs below_it f y some))
         (done (record {
           word = 0;
           end = refl;
@@ -114,15 +114,24 @@ module _ (setting : Setting) where
           site = λ stored. (stored.0, untouched_words setting (framed routine f) b.things some routine_cost site_address ∙ stored.1, stored.2);
         }))
 
+  -- whatever turns are asked for
+  pub levels_there_at :
+      (j turns m : ℕ) (rs valid : List Standing) (w : World) (around : DynamicContext) (z : FlatState) (y : MidState) → IsPlaced setting
+      → CallBegins setting rs valid level_words w around z y
+      → Ends setting (LevelThere setting (suc j) turns rs valid w around z y (called (code_at setting (suc j) turns) (level_routine setting.at) [] y)) ⊥ m z y (gives nil z)
+      (called (code_at setting (suc j) turns) (level_routine setting.at) [] y)
+  levels_there_at j turns m rs valid w around z y placed b =
+      let at : RunsAt setting j turns (level_routine setting.at) routine [] y = level_runs setting j turns (level_routine setting.at) routine [] y ((numbers_law setting).routine 15 _ placed refl) refl in
+      subst (λ q. Ends setting (IsThere j turns m rs valid w around z y q) ⊥ m z y (gives nil z) q) (sym at.runs)
+      (with_frame j turns m rs valid w around z y at.frame (let within = at.within in omega (arith, within, frame_small)) b (cases_lt (left y.arena) at.frame))
+
   pub levels_there_law : LawOfLevelsThere setting
   levels_there_law zero turns rs valid w around z y placed b =
       no_level_ends setting turns (level_routine setting.at) turns routine [] w z y y _ ((numbers_law setting).routine 15 _ placed refl) refl refl (same_flat z) b.things
   levels_there_law (suc j) turns rs valid w around z y placed b =
-      let at : RunsAt setting j turns (level_routine setting.at) routine [] y = level_runs setting j turns (level_routine setting.at) routine [] y ((numbers_law setting).routine 15 _ placed refl) refl in
       let code_end : MidOutcome = called (code_at setting (suc j) turns) (level_routine setting.at) [] y in
-      subst (λ r. Ends setting (IsThere j turns rs valid w around z y code_end) ⊥ turns z y r code_end) (sym (level_there j (λ entered. gives nil entered) around z))
-      (subst (λ q. Ends setting (IsThere j turns rs valid w around z y q) ⊥ turns z y (gives nil z) q) (sym at.runs)
-      (with_frame j turns rs valid w around z y at.frame (let within = at.within in omega (arith, within, frame_small)) b (cases_lt (left y.arena) at.frame)))
+      subst (λ r. Ends setting (IsThere j turns turns rs valid w around z y code_end) ⊥ turns z y r code_end) (sym (level_there j (λ entered. gives nil entered) around z))
+      (levels_there_at j turns turns rs valid w around z y placed b)
 
   -- ---- what comes behind a level
 

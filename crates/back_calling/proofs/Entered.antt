@@ -407,7 +407,7 @@ pub record UsedAt (procedures : List MidProcedure) (number : ℕ) (p : MidProced
   pub within : frame ≤ p.frame
   pub there : slice_get procedures number ≡ Some (framed p frame)
 
-used_at : (gs ps : List MidProcedure) (number : ℕ) (p : MidProcedure) → FramesWithin gs ps → slice_get gs number ≡ Some p → UsedAt ps number p
+pub used_at : (gs ps : List MidProcedure) (number : ℕ) (p : MidProcedure) → FramesWithin gs ps → slice_get gs number ≡ Some p → UsedAt ps number p
 used_at [] ps number p h e = absurd (cc e)
 used_at (g ∷ gs) [] number p h e = absurd h
 used_at (g ∷ gs) (q ∷ ps) zero p h e =
@@ -420,7 +420,7 @@ used_at (g ∷ gs) (q ∷ ps) zero p h e =
 used_at (g ∷ gs) (q ∷ ps) (suc number) p h e = let u = used_at gs ps number p h.1 e in record { frame = u.frame; within = u.within; there = u.there }
 
 module _ (setting : Setting) where
-  called_by : (k n number : ℕ) (p : MidProcedure) (ws : List ℕ) (y : MidState) (how : Counted) → p.counted ≡ how → (u : UsedAt setting.procedures number p)
+  pub called_by : (k n number : ℕ) (p : MidProcedure) (ws : List ℕ) (y : MidState) (how : Counted) → p.counted ≡ how → (u : UsedAt setting.procedures number p)
       → called (code_at setting k n) number ws y ≡ count (code_at setting k n) how (enter (framed p u.frame) ws) y
   called_by k n number p ws y how same u =
       some_found (λ (q : MidProcedure) rs x. count (code_at setting k n) q.counted (enter q ws) x) [] y u.there

@@ -1,5 +1,5 @@
 -- **What is to be shown of main forms.** The record of the end of the program stands around each; a transfer to it ends the run.
-use Rattle.std.specs.Prelude.{◌≡◌, ℕ, ◌+◌, [], Some, None, length, slice_get}
+use Rattle.std.specs.Prelude.{◌≡◌, ℕ, ◌+◌, ◌≤◌, [], Some, None, length, slice_get}
 use Rattle.base.specs.declared.place.Place.{Place}
 use Rattle.lang_meaning.specs.Meaning.{class_in}
 use Rattle.lang_meaning.specs.State.{exit, value, at_site}
@@ -12,6 +12,7 @@ use Rattle.mid_arena.specs.Places.{word_of}
 use Rattle.back_lowering.specs.ControlWords.{current_address, link_address, handlers_address, bindings_address, end_address}
 use Rattle.back_lowering.specs.Program.{mains_from}
 use Rattle.back_relation.specs.Setting.{Setting}
+use Rattle.back_relation.specs.Room.{routine_words}
 use Rattle.back_relation.specs.Worlds.{World}
 use Rattle.back_relation.specs.StackWords.{HasWordAt}
 use Rattle.back_relation.specs.Things.{Things, SiteIs}
@@ -64,14 +65,14 @@ module _ (setting : Setting) where
     pub things : Things setting w' r.state q.state
     pub paid : PaidFrom credit z y r.state q.state
 
-  -- **a main form**, by its number, with k levels and so many turns
+  -- **a main form**, by its number, with k levels and so many turns; the reserve is among the words that are for more than what is charged
   abbrev pub MainDoes : (k turns number : ℕ) → FlatForm → Type 0
   MainDoes k turns number f =
-      (n : ℕ) (w : World) (z : FlatState) (y : MidState) → slice_get setting.program.main number ≡ Some f → MainBegins n w z y
+      (n : ℕ) (w : World) (z : FlatState) (y : MidState) → slice_get setting.program.main number ≡ Some f → routine_words ≤ n → MainBegins n w z y
       → Ends setting
       (MainReturned n main_credit (charged 1 z) y (mean_main setting.names setting.program setting.limit k f z)
       (called (code_at setting k turns) (mains_from setting.names setting.at setting.program + number) [] y))
       (Unhandled main_credit (charged 1 z) y (mean_main setting.names setting.program setting.limit k f z)
       (called (code_at setting k turns) (mains_from setting.names setting.at setting.program + number) [] y))
-      turns (charged 1 z) y (mean_main setting.names setting.program setting.limit k f z)
+      turns z y (mean_main setting.names setting.program setting.limit k f z)
       (called (code_at setting k turns) (mains_from setting.names setting.at setting.program + number) [] y)

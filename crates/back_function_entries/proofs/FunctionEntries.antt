@@ -64,38 +64,38 @@ use Rattle.back_function_entries.proofs.Loading.{loads_run}
 same_numbers : (a b : ℕ) → (a == b) ≡ true → a ≡ b
 same_numbers a b e = grind (arith, nat_tests)
 
-taken : (o : Option Home) (a b : ℕ) → o ≡ None → takes a (is_some o) b ≡ true → b ≡ a
+pub taken : (o : Option Home) (a b : ℕ) → o ≡ None → takes a (is_some o) b ≡ true → b ≡ a
 taken o a b none e = sym (same_numbers a b (ap (λ (u : Option Home). takes a (is_some u) b) (sym none) ∙ e))
 
 -- the registers, and the words, behind those of the variables
-abbrev extras : Setting → Extra → List ℕ
+abbrev pub extras : Setting → Extra → List ℕ
 extras setting extra = entry_extras setting.names setting.at setting.program extra
 
-extra_words : Extra → (self chain count address : ℕ) → List ℕ
+unfoldable pub extra_words : Extra → (self chain count address : ℕ) → List ℕ
 extra_words nothing self chain count address = []
 extra_words its_method self chain count address = chain ∷ count ∷ address ∷ []
 extra_words itself self chain count address = self ∷ []
 
-extras_in : (setting : Setting) (extra : Extra) (self chain count address : ℕ) (regs : Registers) → register 0 regs ≡ Some self → register 1 regs ≡ Some chain → register 2 regs ≡ Some count
+pub extras_in : (setting : Setting) (extra : Extra) (self chain count address : ℕ) (regs : Registers) → register 0 regs ≡ Some self → register 1 regs ≡ Some chain → register 2 regs ≡ Some count
     → register 3 regs ≡ Some address → WordsIn regs (extras setting extra) (extra_words extra self chain count address)
 unfolding extra_words
 extras_in setting nothing self chain count address regs r0 r1 r2 r3 = tt
 extras_in setting its_method self chain count address regs r0 r1 r2 r3 = (r1, (r2, (r3, tt)))
 extras_in setting itself self chain count address regs r0 r1 r2 r3 = (r0, tt)
 
-few_extras : (setting : Setting) (extra : Extra) → length (extras setting extra) ≤ 3
+pub few_extras : (setting : Setting) (extra : Extra) → length (extras setting extra) ≤ 3
 few_extras setting nothing = omega arith
 few_extras setting its_method = omega arith
 few_extras setting itself = omega arith
 
-count_from : (d n : ℕ) → length (registers_from d n) ≡ n
+pub count_from : (d n : ℕ) → length (registers_from d n) ≡ n
 count_from d zero = refl
 count_from d (suc n) = let e = count_from (d + 1) n in omega (arith, e)
 
 module _ (setting : Setting) where
   -- ---- two ways to say less
 
-  fewer_turns :
+  pub fewer_turns :
       {credit : ℕ} {rs valid : List Standing} {w : World} {around : DynamicContext} {z : FlatState} {y : MidState} {r : FlatEvaluated} {o : MidOutcome} (m1 m : ℕ) → m ≤ m1
       → CallEnds setting credit m1 rs valid w around z y r o → CallEnds setting credit m rs valid w around z y r o
   fewer_turns m1 m l (done x) = done x
@@ -105,7 +105,7 @@ module _ (setting : Setting) where
   fewer_turns m1 m l (few_turns x) = few_turns (omega (arith, x, l))
 
   -- where the meaning has no level, nothing was done, whatever was paid
-  without_level :
+  pub without_level :
       {m : ℕ} {rs valid : List Standing} {w : World} {around : DynamicContext} {z : FlatState} {y : MidState} {r : FlatEvaluated} {o : MidOutcome} (c1 c2 : ℕ) → r.outcome ≡ more
       → CallEnds setting c1 m rs valid w around z y r o → CallEnds setting c2 m rs valid w around z y r o
   without_level c1 c2 e (done x) = absurd (cc (sym x.outcome ∙ e))
@@ -125,13 +125,13 @@ module _ (setting : Setting) where
   abbrev procedures : List MidProcedure
   procedures = lowered setting.names setting.at setting.program
 
-  found : (number : ℕ) (extra : Extra) (q : FlatProcedure) → IsPlaced setting → IsFunction setting number extra q → slice_get procedures number ≡ Some (made number extra q)
+  pub found : (number : ℕ) (extra : Extra) (q : FlatProcedure) → IsPlaced setting → IsFunction setting number extra q → slice_get procedures number ≡ Some (made number extra q)
   found number extra q placed (inl h) = subst (λ x. slice_get procedures number ≡ Some (made number x q)) (sym h.1) ((numbers_law setting).entry_of number q placed h.0)
   found number extra q placed (inr h) =
       subst (λ i. slice_get procedures i ≡ Some (made i extra q)) (sym h.2)
       (subst (λ x. slice_get procedures (entry_of_lambda setting.at h.0) ≡ Some (made (entry_of_lambda setting.at h.0) x q)) (sym h.3) ((numbers_law setting).lambda_entry_of h.0 q placed h.1))
 
-  body_found : (number : ℕ) (extra : Extra) (q : FlatProcedure) → IsPlaced setting → IsFunction setting number extra q
+  pub body_found : (number : ℕ) (extra : Extra) (q : FlatProcedure) → IsPlaced setting → IsFunction setting number extra q
       → slice_get procedures (body_of_procedure setting.at number) ≡ Some (body_made extra q)
   body_found number extra q placed (inl h) =
       subst (λ x. slice_get procedures (body_of_procedure setting.at number) ≡ Some (body_made x q)) (sym h.1) ((numbers_law setting).body number q placed h.0)
@@ -214,7 +214,7 @@ module _ (setting : Setting) where
   abbrev meant : (j : ℕ) → FlatProcedure → List Captured → Option Called → List Value → DynamicContext → FlatState → FlatEvaluated
   meant j q cs called_as vs around x = mean_inside (context_at setting (suc j)) q cs called_as vs around x
 
-  meant_later : (j : ℕ) (q : FlatProcedure) (cs : List Captured) (called_as : Option Called) (vs : List Value) (around : DynamicContext) (x : FlatState)
+  pub meant_later : (j : ℕ) (q : FlatProcedure) (cs : List Captured) (called_as : Option Called) (vs : List Value) (around : DynamicContext) (x : FlatState)
       → FlatLater x (meant j q cs called_as vs around x).state
   meant_later j q cs called_as vs around x =
       (boxes {R = FlatLater} {k = later_kept} setting.limit around.exits (homes q) x
@@ -249,7 +249,7 @@ module _ (setting : Setting) where
 
   -- ---- what the body takes
 
-  method_there : (w : World) (y : MidState) (chain count address : ℕ) (called_as : Option Called) → stack_from y.arena ≤ address
+  pub method_there : (w : World) (y : MidState) (chain count address : ℕ) (called_as : Option Called) → stack_from y.arena ≤ address
       → MethodThere setting w y.arena (as_registers (chain ∷ count ∷ address ∷ [])) (Some 0) called_as
   method_there w y chain count address None low = tt
   method_there w y chain count address (Some c) low = λ x e. let same : address ≡ x = cc e in inr (omega (arith, low, same))
@@ -286,7 +286,7 @@ module _ (setting : Setting) where
       room_by (words k) h = omega (arith, h, same, homes_count q none, reserve)
 
   -- a cost takes no room
-  room_cost : (l : Limit) (m paid : ℕ) (z : FlatState) (y : MidState) → RoomFor l m z.state y → RoomFor l m z.state (mid_charged paid y)
+  pub room_cost : (l : Limit) (m paid : ℕ) (z : FlatState) (y : MidState) → RoomFor l m z.state y → RoomFor l m z.state (mid_charged paid y)
   room_cost unlimited m paid z y h = tt
   room_cost (words n) m paid z y h = h
 

@@ -1,2 +1,5 @@
 pub mod Loading
+pub mod Made
 pub mod FunctionEntries
+pub mod AllEntries
+pub mod WholeEntries

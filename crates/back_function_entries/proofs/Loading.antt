@@ -23,7 +23,7 @@ some_there [] i w e = absurd (cc e)
 some_there (m ∷ ms) zero w e = omega arith
 some_there (m ∷ ms) (suc i) w e = let l = some_there ms i w e in omega (arith, l)
 
-word_below : (a : Arena) (x w : ℕ) → word_at a x ≡ Some w → x < 4 * length a.memory
+pub word_below : (a : Arena) (x w : ℕ) → word_at a x ≡ Some w → x < 4 * length a.memory
 word_below a x w e = by (is_lent a x) e
   where
     by : (b : Bool) → (if b then word_in (slice_get a.memory (x / 4)) else None) ≡ Some w → x < 4 * length a.memory

@@ -1,1 +1,2 @@
 pub mod FunctionEntries
+pub mod AllEntries

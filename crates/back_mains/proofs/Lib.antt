@@ -3,3 +3,6 @@ pub mod Surroundings
 pub mod Beginning
 pub mod MainEnds
 pub mod Numbers
+mod Kept
+mod Classes
+mod Mains

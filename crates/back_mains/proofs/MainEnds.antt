@@ -20,7 +20,7 @@ use Rattle.back_lowering.specs.Program.{main_scope}
 use Rattle.back_lowering.specs.ControlWords.{record_words, landing_address}
 use Rattle.back_lowering.specs.Steps.{Steps}
 use Rattle.back_relation.specs.Setting.{Setting}
-use Rattle.back_relation.specs.Worlds.{World, Standing}
+use Rattle.back_relation.specs.Worlds.{World, Later, Standing}
 use Rattle.back_relation.specs.StackWords.{HasWordAt}
 use Rattle.back_relation.specs.Ends.{done, left_by, full_there, stopped, few_turns, Ends}
 use Rattle.back_relation.specs.Forms.{context_at, code_at, SparingForm}
@@ -29,11 +29,12 @@ use Rattle.back_combining.proofs.Parts.{go_on_falls, go_on_last}
 use Rattle.back_combining.proofs.Straight.{things_cost}
 use Rattle.back_combining.proofs.Then.{stopped_last}
 use Rattle.back_combining.proofs.Windows.{stored_size}
+use Rattle.back_combining.proofs.Worlds.{later_then}
 use Rattle.back_exits.proofs.Exits.{cut_lands, stop_passes}
 use Rattle.back_exits.proofs.Steps.{record_runs, closes, laid_size}
 use Rattle.back_exits.proofs.Touching.{stored_blocks}
 use Rattle.back_mains.specs.Beginning.{arena_laid, laid_at, block_laid, end_there, end_record}
-use Rattle.back_mains.specs.MainEnds.{MainValue, MainLeft, LawOfMainEnds}
+use Rattle.back_mains.specs.MainEnds.{end_closed, MainValue, MainLeft, LawOfMainEnds}
 use Rattle.back_mains.specs.MainSteps.{end_laid, end_landed, end_stores}
 use Rattle.back_mains.specs.Surroundings.{main_form_scope}
 use Rattle.back_mains.proofs.Beginning.{beginnings_law, found}
@@ -114,7 +115,7 @@ module _ (setting : Setting) (k turns current link n : ℕ) (w : World) (z : Fla
     (size : length (end_there current link y).arena.memory ≡ length y.arena.memory)
     (found_end : blocks_from (length (end_there current link y).arena.memory) (end_there current link y).arena.blocks (laid_at y.arena) ≡ Some (record_of record_words ∷ y.arena.blocks))
     (blocks_there : (end_there current link y).arena.blocks ≡ record_of record_words ∷ y.arena.blocks)
-    (wb : World) where
+    (wb : World) (later : Later w wb) where
   abbrev y2 : MidState
   y2 = end_there current link y
 
@@ -124,13 +125,13 @@ module _ (setting : Setting) (k turns current link n : ℕ) (w : World) (z : Fla
   ends_then :
       (r : FlatEvaluated) (q : MidOutcome)
       → SparingForm setting turns (end_record current link y ∷ []) (end_record current link y ∷ []) (main_form_scope setting) 8 wb no_environment main_context z regs2 y2 r q
-      → Ends setting (MainValue setting current link z y r (whole setting k turns form y q)) (MainLeft setting z y r (whole setting k turns form y q)) turns (charged 1 z) y r (whole setting k turns form y q)
+      → Ends setting (MainValue setting current link w z y r (whole setting k turns form y q)) (MainLeft setting z y r (whole setting k turns form y q)) turns (charged 1 z) y r (whole setting k turns form y q)
   ends_then r q (done x) =
       let run : RunsTo (c setting k turns form y) (code_of (return_word 8 ∷ [])) q.registers q.state (ends (returns x.word) q.registers (mid_charged 14 q.state)) =
       and_ends tt (return_ends x.in_register) in
       let back = x.reached.back in
       subst
-      (λ p. Ends setting (MainValue setting current link z y r p) (MainLeft setting z y r p) turns (charged 1 z) y r p)
+      (λ p. Ends setting (MainValue setting current link w z y r p) (MainLeft setting z y r p) turns (charged 1 z) y r p)
       (sym (whole_returns setting k turns form y q x.word (go_on_falls q (ret setting k turns form y) x.end ∙ run.same)))
       (done (record {
         result = x.result;
@@ -138,6 +139,7 @@ module _ (setting : Setting) (k turns current link n : ℕ) (w : World) (z : Fla
         word = x.word;
         end = refl;
         w' = x.w';
+        later = later_then later x.reached.kept.world.later;
         things = things_cost setting 14 x.reached.kept.world.things;
         of_value = x.of_value;
         control = record { current = back.control.current; link = back.control.link; handlers = back.control.handlers; bindings = back.control.bindings };
@@ -163,6 +165,7 @@ module _ (setting : Setting) (k turns current link n : ℕ) (w : World) (z : Fla
         there = q.state;
         w' = t.w';
         things = t.world.things;
+        blocks = sym blocks;
         word = t.word;
         of_value = t.of_value;
         landing_word = t.landing_word;
@@ -175,21 +178,23 @@ module _ (setting : Setting) (k turns current link n : ℕ) (w : World) (z : Fla
       lands :
           (word site class number : ℕ) {outside_there : ℕ} → q.state.arena.blocks ≡ record_of record_words ∷ y.arena.blocks → q.end ≡ cuts outside_there word → outside_there ≡ length y.arena.blocks
           → word + 2 < 2 ^ 32 → class + 2 < 2 ^ 32 → HasWordAt q.state (word + 2) class → HasWordAt q.state (class + 2) number → HasWordAt q.state landing_address site
-          → length q.registers ≡ length regs2 → (whole setting k turns form y q).end ≡ unhandled (computed which.ShiftRight number 2) site word
+          → length q.registers ≡ length regs2
+          → (regs : Registers) × (whole setting k turns form y q ≡ ends (unhandled (computed which.ShiftRight number 2) site word) regs (mid_charged 60 (end_closed y.arena.blocks q.state)))
       lands word site class number {outside_there} blocks end same low below e f g count =
           let win = eight q.registers (omega (arith, count)) in
           let yc : MidState = with_arena (with_blocks (record (record_of record_words) { kind = closed_record } ∷ y.arena.blocks) q.state.arena) q.state in
           let run =
           landed_runs (c setting k turns form y) win.tail win.r0 win.r1 win.r2 win.r3 win.r4 win.r6 win.r7 word class number site yc low below
           (closed_word q.state.arena y.arena.blocks (word + 2) blocks ∙ e) (closed_word q.state.arena y.arena.blocks (class + 2) blocks ∙ f)
-          (closed_word q.state.arena y.arena.blocks landing_address blocks ∙ g) in
-          ap (λ (p : MidOutcome). p.end)
-          (whole_lands setting k turns form y q outside_there word end same
-          ∙ closes (record_of record_words) y.arena.blocks
-          (λ rs x. mid_go_on (exec (c setting k turns form y) (code_of end_landed) (slice_set rs 5 (Some word)) x) (give_back (outside setting k turns form y))) q.registers q.state blocks refl
-          ∙ ap (λ rs. mid_go_on (exec (c setting k turns form y) (code_of end_landed) (slice_set rs 5 (Some word)) yc) (give_back (outside setting k turns form y))) win.parts
-          ∙ go_on_last (unhandled (computed which.ShiftRight number 2) site word) _ (give_back (outside setting k turns form y)) (ap (λ (p : MidOutcome). p.end) run.same) tt
-          ∙ run.same)
+          (closed_word q.state.arena y.arena.blocks landing_address blocks ∙ g) in (
+            win.r0 ∷ win.r1 ∷ win.r2 ∷ win.r3 ∷ win.r4 ∷ Some word ∷ Some (computed which.ShiftRight number 2) ∷ Some site ∷ win.tail,
+            whole_lands setting k turns form y q outside_there word end same
+                ∙ closes (record_of record_words) y.arena.blocks
+                (λ rs x. mid_go_on (exec (c setting k turns form y) (code_of end_landed) (slice_set rs 5 (Some word)) x) (give_back (outside setting k turns form y))) q.registers q.state blocks refl
+                ∙ ap (λ rs. mid_go_on (exec (c setting k turns form y) (code_of end_landed) (slice_set rs 5 (Some word)) yc) (give_back (outside setting k turns form y))) win.parts
+                ∙ go_on_last (unhandled (computed which.ShiftRight number 2) site word) _ (give_back (outside setting k turns form y)) (ap (λ (p : MidOutcome). p.end) run.same) tt
+                ∙ run.same,
+          )
   ends_then r q (full_there x) =
       let later = whole_grown setting k turns form y q in
       full_there (record {
@@ -200,7 +205,7 @@ module _ (setting : Setting) (k turns current link n : ℕ) (w : World) (z : Fla
       })
   ends_then r q (stopped x) =
       subst
-      (λ p. Ends setting (MainValue setting current link z y r p) (MainLeft setting z y r p) turns (charged 1 z) y r p)
+      (λ p. Ends setting (MainValue setting current link w z y r p) (MainLeft setting z y r p) turns (charged 1 z) y r p)
       (sym (ap (λ p. landed (outside setting k turns form y) (catch setting k turns form y) (mid_go_on p (rest setting k turns form y)))
       (go_on_last q.end q (ret setting k turns form y) refl (stopped_last setting r q.end x.because))
       ∙ stop_passes (outside setting k turns form y) (rest setting k turns form y) (catch setting k turns form y) setting r q q.end refl x.because))
@@ -219,7 +224,7 @@ main_ends_law setting k turns current link n first f w z y tail r0 r1 r2 r3 r4 r
     parts_then end_laid (form ++ (return_word 8 ∷ [])) (record { same = begin.runs context }) (record { same = in_two_parts context form (return_word 8 ∷ []) regs2 y2 }) in
     let stands_size = laid_size b.things.represents.arena b.room in
     subst
-    (λ p. Ends setting (MainValue setting current link z y (mean (context_at setting k) f no_environment main_context z) p) (MainLeft setting z y (mean (context_at setting k) f no_environment main_context z) p) turns (charged 1 z) y
+    (λ p. Ends setting (MainValue setting current link w z y (mean (context_at setting k) f no_environment main_context z) p) (MainLeft setting z y (mean (context_at setting k) f no_environment main_context z) p) turns (charged 1 z) y
     (mean (context_at setting k) f no_environment main_context z) p)
     (sym (record_runs context 0 record_words 5 (code_of (end_laid ++ (form ++ (return_word 8 ∷ [])))) (code_of end_landed) (r0 ∷ r1 ∷ r2 ∷ r3 ∷ r4 ∷ r5 ∷ r6 ∷ r7 ∷ r8 ∷ tail) y b.room
     ∙ ap (λ p. landed (length y.arena.blocks) (catch setting k turns form y) (mid_go_on p (rest setting k turns form y))) inside.same))
@@ -227,5 +232,5 @@ main_ends_law setting k turns current link n first f w z y tail r0 r1 r2 r3 r4 r
     (stored_size (end_stores (laid_at y.arena) current link) (arena_laid y.arena) ∙ stands_size)
     (found setting placed b)
     (stored_blocks (end_stores (laid_at y.arena) current link) (arena_laid y.arena))
-    begin.w' (mean (context_at setting k) f no_environment main_context z) (exec context (code_of form) regs2 y2)
+    begin.w' begin.later (mean (context_at setting k) f no_environment main_context z) (exec context (code_of form) regs2 y2)
     (does (end_record current link y ∷ []) (end_record current link y ∷ []) (main_form_scope setting) 8 n first begin.w' no_environment main_context z regs2 y2 form_stands (begin.begins room none) many few))

@@ -3,3 +3,4 @@ pub mod Surroundings
 pub mod Beginning
 pub mod MainEnds
 pub mod Numbers
+pub mod Mains

@@ -3,6 +3,7 @@ ghost use Rattle.back_relation.specs.Setting.{Setting};
 ghost use Rattle.back_mains.specs.Beginning.{LawOfBeginnings};
 ghost use Rattle.back_mains.specs.MainEnds.{LawOfMainEnds};
 ghost use Rattle.back_mains.specs.MainSteps.{LawOfMainSteps};
+ghost use Rattle.back_mains.specs.Mains.{LawOfMains};
 ghost use Rattle.back_mains.specs.Numbers.{LawOfMainNumbers};
 ghost use Rattle.back_mains.specs.Surroundings.{LawOfMainSurroundings, LawOfMainForms};
 
@@ -34,4 +35,9 @@ pub fn law_main_ends()
 /// Which procedures are the main forms, and which is the start.
 pub fn law_main_numbers()
     ensures { (setting : Setting) → LawOfMainNumbers setting }
+{}
+
+/// Main forms with their entry do what they mean.
+pub fn law_mains()
+    ensures { LawOfMains }
 {}

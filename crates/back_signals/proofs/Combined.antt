@@ -3,10 +3,10 @@ use Rattle.std.proofs.Common.{ℕ, arith}
 use Rattle.lang_meaning.specs.State.{DynamicContext}
 use Rattle.back_relation.specs.Setting.{Setting}
 use Rattle.back_transfers.specs.Within.{FailsWithin}
-use Rattle.back_transfers.proofs.Within.{call_less}
+use Rattle.back_transfers.proofs.Within.{call_less, begins_less}
 use Rattle.back_transfers.proofs.Leaving.{leave_does}
 use Rattle.back_transfers.proofs.Tagged.{throw_does, continue_does}
-use Rattle.back_signals.specs.Within.{RaisesWithin, raise_credit}
+use Rattle.back_signals.specs.Within.{RaisesWithin, raise_credit, unhandled_words}
 use Rattle.back_signals.proofs.Unhandled.{unhandled_law}
 use Rattle.back_signals.specs.Law.{LawOfNewConditions, LawOfPending, LawOfSignals, LawOfErrors, LawOfUnhandledErrors}
 use Rattle.back_signals.proofs.Failing.{failing_does, failing_with_does, domain_does}
@@ -64,4 +64,5 @@ pub unhandled_errors_law : LawOfUnhandledErrors
 unhandled_errors_law setting k turns rs valid w around z y placed none =
     errors_law setting k turns rs valid w around z y placed
     (λ turns rs valid w z y c mark c_word mark_word condition of_condition of_mark site begins.
-    call_less setting (omega arith) (omega arith) (unhandled_law setting k turns rs valid w around z y placed none c mark c_word mark_word condition of_condition of_mark site begins))
+    call_less setting (omega arith) (omega arith)
+    (unhandled_law setting k turns rs valid w around z y placed none c mark c_word mark_word condition of_condition of_mark site (begins_less setting unhandled_words (omega arith) begins)))

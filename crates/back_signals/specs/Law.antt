@@ -7,13 +7,13 @@ use Rattle.mid_code.specs.State.{MidState}
 use Rattle.back_relation.specs.Setting.{Setting}
 use Rattle.back_relation.specs.Placed.{IsPlaced}
 use Rattle.back_relation.specs.Worlds.{World, Standing}
-use Rattle.back_signals.specs.Within.{RaiseWithin, RaisesWithin, FailingWithin, FailingWithWithin, DomainWithin, PendingWithin, SignalWithin, raise_credit, unhandled_spare}
+use Rattle.back_signals.specs.Within.{RaiseWithin, RaisesWithin, FailingWithin, FailingWithWithin, DomainWithin, PendingWithin, SignalWithin, raise_credit, unhandled_spare, unhandled_words}
 
 -- a condition for which there is no handler ends the program, at the site
 abbrev pub LawOfUnhandled : Type 0
 LawOfUnhandled =
     (setting : Setting) (k turns : ℕ) (rs valid : List Standing) (w : World) (around : DynamicContext) (z : FlatState) (y : MidState) → IsPlaced setting
-    → around.handlers ≡ [] → RaiseWithin setting k turns rs valid w around z y unhandled_spare raise_credit
+    → around.handlers ≡ [] → RaiseWithin setting k turns rs valid w around z y unhandled_words unhandled_spare raise_credit
 
 -- a condition of a class without slots, one of a class with one slot, and a domain error
 pub record NewConditions (setting : Setting) (k turns : ℕ) (rs valid : List Standing) (w : World) (around : DynamicContext) (z : FlatState) (y : MidState) : Type 0 where

@@ -1,6 +1,6 @@
 -- What the routines of signals do that other routines call: how many words of the stack they have, what they are paid, and how many turns they
 -- leave over.
-use Rattle.std.specs.Prelude.{◌≡◌, ℕ, ◌<◌, true, List, [], ◌∷◌}
+use Rattle.std.specs.Prelude.{◌≡◌, ℕ, ◌+◌, ◌<◌, true, List, [], ◌∷◌}
 use Rattle.lang_meaning.specs.Classes.{is_condition}
 use Rattle.lang_meaning.specs.Objects.{built_in_classes}
 use Rattle.lang_meaning.specs.State.{DynamicContext}
@@ -12,6 +12,7 @@ use Rattle.flat_language.specs.FlatState.{FlatState}
 use Rattle.mid_code.specs.State.{MidState}
 use Rattle.mid_arena.specs.FixedWords.{pending_address}
 use Rattle.mid_arena.specs.Standing.{ValueAt}
+use Rattle.back_lowering.specs.Program.{raise_frame}
 use Rattle.back_lowering.specs.Routines.{raise_routine, signal_routine, pending_routine, failing_routine, failing_with_routine, domain_routine}
 use Rattle.back_relation.specs.Setting.{Setting}
 use Rattle.back_relation.specs.Worlds.{World, Standing}
@@ -19,7 +20,7 @@ use Rattle.back_relation.specs.Around.{SiteStored}
 use Rattle.back_relation.specs.Forms.{context_at}
 use Rattle.back_relation.specs.Room.{routine_words, failing_words, raise_words}
 use Rattle.back_relation.specs.RoutineClaims.{WordIs, IsBuiltInCondition}
-use Rattle.back_transfers.specs.Within.{DoesWithin}
+use Rattle.back_transfers.specs.Within.{DoesWithin, transfer_words}
 
 -- What is paid for a signal, so that the condition that a primitive made is paid too, and the turns that it leaves over where no handler takes
 -- it.
@@ -29,24 +30,28 @@ raise_credit = 344
 abbrev pub unhandled_spare : ℕ
 unhandled_spare = 47
 
+-- it lays its own frame then, and what the transfer lays
+abbrev pub unhandled_words : ℕ
+unhandled_words = raise_frame + transfer_words
+
 -- what is paid for a new condition beside the units of its words
 abbrev pub making_credit : ℕ
 making_credit = 50
 
 module _ (setting : Setting) (k turns : ℕ) (rs valid : List Standing) (w : World) (around : DynamicContext) (z : FlatState) (y : MidState) where
   -- a condition is signalled under the handlers around
-  abbrev pub RaiseWithin : (spare credit : ℕ) → Type 0
-  RaiseWithin spare credit =
+  abbrev pub RaiseWithin : (room spare credit : ℕ) → Type 0
+  RaiseWithin room spare credit =
       (c mark : Value) (c_word mark_word : ℕ) → is_condition (tables setting.program) z.state c ≡ true → WordIs setting w c_word c → WordIs setting w mark_word mark
       → SiteStored setting around y
-      → DoesWithin setting k turns rs valid w around z y raise_words spare credit (raise_routine setting.at) (c_word ∷ mark_word ∷ [])
+      → DoesWithin setting k turns rs valid w around z y room spare credit (raise_routine setting.at) (c_word ∷ mark_word ∷ [])
       (signal_under (context_at setting k) around.handlers c mark around z)
 
 -- wherever it is, with that around
 abbrev pub RaisesWithin : Setting → (k : ℕ) → DynamicContext → (spare credit : ℕ) → Type 0
 RaisesWithin setting k around spare credit =
     (turns : ℕ) (rs valid : List Standing) (w : World) (z : FlatState) (y : MidState)
-    → RaiseWithin setting k turns rs valid w around z y spare credit
+    → RaiseWithin setting k turns rs valid w around z y raise_words spare credit
 
 module _ (setting : Setting) (k turns : ℕ) (rs valid : List Standing) (w : World) (around : DynamicContext) (z : FlatState) (y : MidState) where
   -- a condition of a class without slots, one of a class with one slot, and a domain error
