@@ -1,0 +1,4 @@
+// Chains of methods: what their routines do.
+#![tactic(auto)]
+
+pub mod laws;
