@@ -1,0 +1,12 @@
+// The laws of applications of values and of generic functions, each as the contract of a function that does nothing.
+ghost use Rattle.back_generics.specs.Functions.{LawOfFunctions, LawOfFunctionClaims};
+
+/// The application of a value.
+pub fn law_functions()
+    ensures { LawOfFunctions }
+{}
+
+/// The same as it is claimed.
+pub fn law_function_claims()
+    ensures { LawOfFunctionClaims }
+{}
