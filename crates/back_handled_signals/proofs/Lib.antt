@@ -1,2 +1,4 @@
 pub mod Wrong
 pub mod Blocks
+pub mod Laid
+pub mod Argued
