@@ -139,7 +139,7 @@ module _ (setting : Setting) (placed : IsPlaced setting) (k t : ℕ) (rs valid :
     stack = refl;
   }
 
-  control : ControlBack y y_argued
+  pub control : ControlBack y y_argued
   control = record {
     current = λ n e. before current_address n (omega arith) e;
     link = λ n e. before link_address n (omega arith) e;

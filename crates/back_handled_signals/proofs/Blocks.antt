@@ -131,7 +131,7 @@ module _ (setting : Setting) where
       module _ {rs valid rs1 valid1 : List Standing} {around around1 : DynamicContext} {c1 c2 : ℕ} {r : FlatEvaluated} {q : MidOutcome} (x : Transfers setting c1 rs1 valid1 w1 around1 z1 y1 r q) (regs : Registers)
           (valid_there : record_of_exit x.exit_number around.exits valid ≡ Some x.target) (stop_there : first_stop x.target.address rs ≡ x.to ∷ x.outer) (low : stack_from y.arena ≤ x.to.address)
           (enough : y1.cost + walk_cost * length rs1 + unit_cost * z.state.units + c1 ≤ y.cost + walk_cost * length rs + unit_cost * z1.state.units + c2) where
-        pub transfer_out : Transfers setting c2 rs valid w around z y r (ends (cuts x.to.outside x.word) regs q.state)
+        unfoldable pub transfer_out : Transfers setting c2 rs valid w around z y r (ends (cuts x.to.outside x.word) regs q.state)
         transfer_out = record {
           exit_number = x.exit_number;
           result = x.result;

@@ -2,3 +2,4 @@ pub mod Wrong
 pub mod Blocks
 pub mod Laid
 pub mod Argued
+pub mod Inner
