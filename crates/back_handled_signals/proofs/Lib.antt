@@ -1,0 +1,5 @@
+pub mod Wrong
+pub mod Blocks
+pub mod Laid
+pub mod Argued
+pub mod Inner

@@ -1,0 +1,50 @@
+-- What is asked where a handler is applied: how the application ends, and what a control error leaves over.
+use Rattle.std.specs.Prelude.{◌≡◌, ℕ, ◌<◌, List, [], ◌∷◌, length}
+use Rattle.base.specs.declared.place.Place.{Place}
+use Rattle.lang_meaning.specs.Objects.{control_error_class}
+use Rattle.lang_meaning.specs.State.{DynamicContext, at_site, value, exit}
+use Rattle.lang_meaning.specs.Values.{Value}
+use Rattle.flat_language.specs.FlatSignals.{FlatContext, signal, apply_value}
+use Rattle.flat_language.specs.FlatState.{FlatState, FlatEvaluated, charged}
+use Rattle.mid_code.specs.State.{MidState, MidOutcome}
+use Rattle.back_lowering.specs.Routines.{failing_routine}
+use Rattle.back_relation.specs.Setting.{Setting}
+use Rattle.back_relation.specs.Room.{failing_words}
+use Rattle.back_relation.specs.Worlds.{World, Standing}
+use Rattle.back_relation.specs.Around.{CallBegins, SiteStored}
+use Rattle.back_relation.specs.Ends.{Ends, Returned, LeftCall}
+use Rattle.back_relation.specs.Forms.{context_at, code_at}
+use Rattle.back_relation.specs.Procedures.{called}
+use Rattle.back_relation.specs.RoutineClaims.{FunctionDoes}
+use Rattle.back_signals.specs.Within.{making_credit}
+
+-- how an application ends: a transfer at a site goes to the end of the program; and where it has a value, the control error behind it has none
+pub record LeavesSo (context : FlatContext) (f : Value) (vs : List Value) (around : DynamicContext) (z : FlatState) : Type 0 where
+  pub sites : (e : ℕ) (v : Value) (place : Place) → (apply_value context (signal context) f vs around z).outcome ≡ exit e v (at_site place) → e ≡ 0
+  pub never :
+      (v : Value) → (apply_value context (signal context) f vs around z).outcome ≡ value v → (u : Value)
+      → (signal context control_error_class [] around (apply_value context (signal context) f vs around z).state).outcome ≡ value u → ⊥
+
+module _ (setting : Setting) (k : ℕ) (around : DynamicContext) where
+  -- the application of a function, wherever it is with that around
+  abbrev pub FunctionsDo : Type 0
+  FunctionsDo =
+      (turns : ℕ) (rs valid : List Standing) (w : World) (z : FlatState) (y : MidState) → FunctionDoes setting k turns rs valid w around z y
+
+  -- how it ends where all stands
+  abbrev pub FunctionsLeave : Type 0
+  FunctionsLeave =
+      (n : ℕ) (rs valid : List Standing) (w : World) (z : FlatState) (y : MidState) → CallBegins setting rs valid n w around z y
+      → (f : Value) (vs : List Value) → LeavesSo (context_at setting k) f vs around z
+
+  -- a control error, which leaves one of the units of its words over
+  abbrev pub FailsPaid : Type 0
+  FailsPaid =
+      (turns : ℕ) (rs valid : List Standing) (w : World) (z : FlatState) (y : MidState) → SiteStored setting around y → CallBegins setting rs valid failing_words w around z y
+      → Ends setting
+      (Returned setting making_credit w (charged 1 z) y (signal (context_at setting k) control_error_class [] around z)
+      (called (code_at setting k turns) (failing_routine setting.at) (control_error_class ∷ []) y))
+      (LeftCall setting making_credit rs valid w around (charged 1 z) y (signal (context_at setting k) control_error_class [] around z)
+      (called (code_at setting k turns) (failing_routine setting.at) (control_error_class ∷ []) y))
+      turns z y (signal (context_at setting k) control_error_class [] around z)
+      (called (code_at setting k turns) (failing_routine setting.at) (control_error_class ∷ []) y)
