@@ -71,12 +71,7 @@ fn run_image(got: &mut RowAnswer, image: &Image, room: u32, input: &str) -> Opti
     told
 }
 
-fn run_with(
-    got: &mut RowAnswer,
-    image: &Image,
-    room: u32,
-    source: &mut MemSource,
-) -> Option<()> {
+fn run_with(got: &mut RowAnswer, image: &Image, room: u32, source: &mut MemSource) -> Option<()> {
     if room > MOST_WORDS - image.words() {
         return None;
     }
