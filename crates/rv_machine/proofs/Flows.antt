@@ -3,7 +3,7 @@ use Rattle.std.proofs.Common.{◌≡◌, ℕ, ◌+◌, ◌*◌, ◌/◌, ◌%◌
 use Rattle.std.specs.Prelude.{Option, IfSome}
 use Rattle.rv_machine.specs.declared.machine.rows.Row.{Row}
 use Rattle.rv_machine.specs.declared.machine.carrying.Flow.{Flow}
-use Rattle.rv_machine.specs.declared.machine.carrying.Flow.TheVariants.{On, To, Leave}
+use Rattle.rv_machine.specs.declared.machine.carrying.Flow.TheVariants.{On, Branch, Leave}
 use Rattle.base.specs.Arithmetic.{sum32}
 use Rattle.rv_machine.specs.Arithmetic.{even}
 use Rattle.rv_machine.specs.Memory.{stored_at}
@@ -41,5 +41,11 @@ pub goes_from :
     → IfSome (does row (standing place h)) (λ x. x ≡ step_of (standing place h)) → Flows (does row (standing place h)) place flow h h'
     → Goes place flow h h'
 goes_from row place On h h' steps flows = sym (came _ _ _ flows.0 steps) ∙ behind-is place h'
-goes_from row place (To target) h h' steps flows = sym (came _ _ _ flows.0 steps)
+goes_from row place (Branch true target) h h' steps flows = sym (came _ _ _ flows.0 steps)
+goes_from row place (Branch false target) h h' steps flows = sym (came _ _ _ flows.0 steps) ∙ behind-is place h'
 goes_from row place Leave h h' steps flows = flows
+
+pub goes_so :
+    (taken so : Bool) (place target : ℕ) (h h' : Held) → taken ≡ so → Goes place (Branch taken target) h h'
+    → Goes place (Branch so target) h h'
+goes_so taken so place target h h' is goes = subst (λ t. Goes place (Branch t target) h h') is goes

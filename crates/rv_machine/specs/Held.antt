@@ -1,7 +1,7 @@
 -- What a machine holds beside its program counter, and what becomes of it where rows are followed.
 use Rattle.std.specs.Prelude.{◌≡◌, ℕ, ◌+◌, List, Bool, true, false, Option, Some, None, if◌then◌else◌, ◌==◌, slice_set}
 use Rattle.rv_machine.specs.declared.machine.carrying.Flow.{Flow}
-use Rattle.rv_machine.specs.declared.machine.carrying.Flow.TheVariants.{On, To, Leave as LeaveIt}
+use Rattle.rv_machine.specs.declared.machine.carrying.Flow.TheVariants.{On, Branch, Leave as LeaveIt}
 use Rattle.rv_machine.specs.Memory.{stored_at}
 use Rattle.rv_machine.specs.State.{State}
 use Rattle.rv_machine.specs.Step.{Result, next, behind, step_of}
@@ -27,15 +27,17 @@ StoredIn size address value true h h' =
     (stored_at size address value h.memory ≡ Some h'.memory) × (h'.registers ≡ h.registers) × (h'.rows ≡ h.rows)
 StoredIn size address value false h h' = (stored_at size address value h.memory ≡ None) × (h' ≡ h)
 
--- where a machine comes to from a place by what a row does there: behind it, at another place, or nowhere, and it is
--- left to a step
+-- where a machine comes to from a place by what a row does there: behind it, at another place if that is taken, or
+-- nowhere, and it is left to a step
 abbrev pub Flows : Option Result → ℕ → Flow → Held → Held → Type 0
 Flows came place On h h' = (came ≡ Some (next (behind (standing place h')))) × (h'.rows ≡ h.rows)
-Flows came place (To target) h h' = (came ≡ Some (next (standing target h'))) × (h'.rows ≡ h.rows)
+Flows came place (Branch taken target) h h' =
+    (came ≡ Some (next (if taken then standing target h' else behind (standing place h')))) × (h'.rows ≡ h.rows)
 Flows came place LeaveIt h h' = h' ≡ h
 
 -- the same by the step that the machine takes there
 abbrev pub Goes : ℕ → Flow → Held → Held → Type 0
 Goes place On h h' = step_of (standing place h) ≡ next (standing (place + 1) h')
-Goes place (To target) h h' = step_of (standing place h) ≡ next (standing target h')
+Goes place (Branch taken target) h h' =
+    step_of (standing place h) ≡ next (standing (if taken then target else place + 1) h')
 Goes place LeaveIt h h' = h' ≡ h

@@ -5,7 +5,7 @@ ghost use Rattle.rv_machine.specs.Arithmetic.{even as even_of};
 ghost use Rattle.rv_machine.specs.Memory.{stored_at};
 ghost use Rattle.rv_machine.specs.State.{register as register_of};
 ghost use Rattle.rv_machine.specs.Step.{go_to, next, link as link_of, load as load_of, store as store_of};
-ghost use Rattle.rv_machine.specs.Rows.{address_of, branches, does, reached};
+ghost use Rattle.rv_machine.specs.Rows.{address_of, does, reached};
 ghost use Rattle.rv_machine.specs.Held.{Flows, standing, written};
 
 use super::arithmetic::{
@@ -23,8 +23,8 @@ use super::rows::Row;
 pub(crate) enum Flow {
     // Behind the instruction.
     On,
-    // At this place.
-    To(u32),
+    // At that place where it is taken, else behind the instruction.
+    Branch { taken: bool, target: u32 },
     // At the instruction itself, which is left to a step.
     Leave,
 }
@@ -147,27 +147,27 @@ impl Contents {
             }
             Row::Beq { rs1, rs2, target } => {
                 let taken = self.read(rs1) == self.read(rs2);
-                self.branch(taken, target)
+                Flow::Branch { taken, target }
             }
             Row::Bne { rs1, rs2, target } => {
                 let taken = self.read(rs1) != self.read(rs2);
-                self.branch(taken, target)
+                Flow::Branch { taken, target }
             }
             Row::Blt { rs1, rs2, target } => {
                 let taken = is_less_signed(self.read(rs1), self.read(rs2));
-                self.branch(taken, target)
+                Flow::Branch { taken, target }
             }
             Row::Bge { rs1, rs2, target } => {
                 let taken = !is_less_signed(self.read(rs1), self.read(rs2));
-                self.branch(taken, target)
+                Flow::Branch { taken, target }
             }
             Row::Bltu { rs1, rs2, target } => {
                 let taken = self.read(rs1) < self.read(rs2);
-                self.branch(taken, target)
+                Flow::Branch { taken, target }
             }
             Row::Bgeu { rs1, rs2, target } => {
                 let taken = !(self.read(rs1) < self.read(rs2));
-                self.branch(taken, target)
+                Flow::Branch { taken, target }
             }
             Row::Lb { rd, rs1, offset } => {
                 let found = signed_byte_at(self.arena(), self.reached(rs1, offset));
@@ -217,7 +217,10 @@ impl Contents {
                 }
             }
             Row::Set { rd, value } => self.gives(rd, value),
-            Row::Jump { target } => Flow::To(target),
+            Row::Jump { target } => Flow::Branch {
+                taken: true,
+                target,
+            },
             Row::JumpAndLink { rd, target } => self.links(rd, place, target),
             Row::JumpTo { rs1, offset } => {
                 let address = self.reached(rs1, offset);
@@ -259,13 +262,6 @@ impl Contents {
         Flow::On
     }
 
-    fn branch(&self, taken: bool, target: u32) -> Flow
-        ensures { (place : ℕ) →
-            Flows (branches taken target (standing place self.now)) place result self.now self.now }
-    {
-        if taken { Flow::To(target) } else { Flow::On }
-    }
-
     // What a load found in a register; a load that found nothing is left to a step.
     fn loads(&mut self, rd: TargetRegister, found: Option<u32>) -> Flow
         ensures { (place : ℕ) →
@@ -283,7 +279,10 @@ impl Contents {
             Flows (Some (next (go_to (even_of address) (standing place self.now)))) place result self.now self.now }
     {
         if address % 4 < 2 {
-            Flow::To(address / 4)
+            Flow::Branch {
+                taken: true,
+                target: address / 4,
+            }
         } else {
             Flow::Leave
         }
@@ -295,6 +294,9 @@ impl Contents {
         ensures { Flows (Some (link_of rd (address_of target) (standing place self.old))) place result self.old self.new }
     {
         self.gives(rd, 4 * place + 4);
-        Flow::To(target)
+        Flow::Branch {
+            taken: true,
+            target,
+        }
     }
 }

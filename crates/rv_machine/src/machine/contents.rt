@@ -165,27 +165,36 @@ impl Contents {
     pub(crate) fn store_word(&mut self, address: u32, value: u32) -> bool
         ensures { StoredIn 4 address value result self.old self.new }
     {
-        let stored = store_word(&mut self.arena[..], address, value);
-        give_up(&mut self.rows[..], address / 4);
-        stored
+        if store_word(&mut self.arena[..], address, value) {
+            give_up(&mut self.rows[..], address / 4);
+            true
+        } else {
+            false
+        }
     }
 
     // Stores the lower half of a word, where the address is aligned and in the arena, and says whether it was.
     pub(crate) fn store_half(&mut self, address: u32, value: u32) -> bool
         ensures { StoredIn 2 address value result self.old self.new }
     {
-        let stored = store_half(&mut self.arena[..], address, value);
-        give_up(&mut self.rows[..], address / 4);
-        stored
+        if store_half(&mut self.arena[..], address, value) {
+            give_up(&mut self.rows[..], address / 4);
+            true
+        } else {
+            false
+        }
     }
 
     // Stores the lowest byte of a word, where the address is in the arena, and says whether it was.
     pub(crate) fn store_byte(&mut self, address: u32, value: u32) -> bool
         ensures { StoredIn 1 address value result self.old self.new }
     {
-        let stored = store_byte(&mut self.arena[..], address, value);
-        give_up(&mut self.rows[..], address / 4);
-        stored
+        if store_byte(&mut self.arena[..], address, value) {
+            give_up(&mut self.rows[..], address / 4);
+            true
+        } else {
+            false
+        }
     }
 }
 

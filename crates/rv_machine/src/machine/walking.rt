@@ -8,6 +8,9 @@ use super::Machine;
 use super::carrying::Flow;
 use super::contents::Contents;
 
+// The most instructions of one walk, so that a place and they are no more than a `u64` holds.
+const MOST_AT_ONCE: u64 = 0x4000_0000_0000_0000;
+
 // How many instructions were executed, and the place of the next one.
 #[derive(Clone, Copy)]
 pub(crate) struct Walk {
@@ -27,7 +30,7 @@ impl Machine {
         if self.pc % 4 != 0 {
             return 0;
         }
-        let walk = self.contents.walk(self.pc / 4, n);
+        let walk = self.contents.walk(self.pc / 4, n.min(MOST_AT_ONCE));
         self.contents.keep_again(walk.place);
         self.pc = walk.place.wrapping_mul(4);
         self.count = self.count.saturating_add(walk.executed);
@@ -39,43 +42,44 @@ impl Contents {
     // Rows from that place on, at most `n`.
     #[inline(never)]
     fn walk(&mut self, from: u32, n: u64) -> Walk
+        requires { n ≤ 2 ^ 62 }
         ensures most { result.executed ≤ n }
         ensures walks { Walks result.executed (standing from self.old) (standing result.place self.new) }
     {
         let mut place = from;
-        let mut start = from;
-        let mut executed = 0;
-        let mut end = self.stretch_end(from, n);
+        // The place where the last of `n` instructions is behind, if none of them jumps any more.
+        let mut last = u64::from(from) + n;
+        let mut end = self.stretch_end(last);
         while place < end {
             match self.follow(place) {
                 Flow::On => place += 1,
-                Flow::To(target) => {
-                    executed += u64::from(place - start) + 1;
-                    start = target;
-                    place = target;
-                    end = self.stretch_end(target, n - executed);
+                Flow::Branch { taken, target } => {
+                    if taken {
+                        last = last - u64::from(place) - 1 + u64::from(target);
+                        place = target;
+                        end = self.stretch_end(last);
+                    } else {
+                        place += 1;
+                    }
                 }
                 Flow::Leave => break,
             }
         }
         Walk {
-            executed: executed + u64::from(place - start),
+            executed: n - (last - u64::from(place)),
             place,
         }
     }
 
-    // How far rows go from that place on, at most so many: each place before the end has a row.
-    fn stretch_end(&self, place: u32, most: u64) -> u32
-        ensures ahead { place ≤ result }
-        ensures most { result ≤ place + most }
-        ensures rows { place < result → result ≤ self.now.rows }
+    // Up to where rows are followed without a jump: each place before has a row.
+    fn stretch_end(&self, last: u64) -> u32
+        ensures last { result ≤ last }
+        ensures rows { result ≤ self.now.rows }
+        ensures bounded { result ≤ 16777216 }
     {
         let rows = self.rows();
-        if rows <= place {
-            return place;
-        }
-        if most < u64::from(rows - place) {
-            place + most as u32
+        if last < u64::from(rows) {
+            last as u32
         } else {
             rows
         }

@@ -1,38 +1,68 @@
-use Rattle.std.proofs.Common.{◌+◌, ◌-◌, arith}
+use Rattle.std.proofs.Common.{◌+◌, ◌-◌, true, false, arith}
 use Rattle.rv_machine.specs.Held.{standing}
+use Rattle.rv_machine.proofs.Flows.{goes_so}
 use Rattle.rv_machine.proofs.Turns.{walks-none, walks-on, walks-as}
 use Rattle.rv_machine.proofs.machine.contents.Contents.walk.Goals as goal
 
 pub loop-place-init : goal.loop-place-init
 loop-place-init c = record {
-  begun = omega arith;
-  ahead = c.stretch_end-end.ensures.ahead;
-  small = c.stretch_end-end.type_inv;
-  left = omega (arith, c.stretch_end-end.ensures.most);
+  room = c.requires;
+  ahead = omega (arith, c.from.ensures);
+  left = omega (arith, c.from.ensures);
+  within = c.stretch_end-end.ensures.last;
   rows = c.stretch_end-end.ensures.rows;
-  walks = walks-as 0 _ _ _ (omega arith) (walks-none (standing c.args.from c.args.self.now));
+  bounded = c.stretch_end-end.ensures.bounded;
+  walks = walks-as 0 _ _ _ (omega (arith, c.from.ensures)) (walks-none (standing c.args.from c.args.self.now));
 }
 
+pub overflow_add-place : goal.overflow_add-place
+overflow_add-place c = record { fits = omega (arith, c.loop-place-test.true, c.loop-place.invariant.bounded) }
+
+pub overflow_add-place-else-taken : goal.overflow_add-place-else-taken
+overflow_add-place-else-taken c = record { fits = omega (arith, c.loop-place-test.true, c.loop-place.invariant.bounded) }
+
 pub loop-place-preserved-in-On : goal.loop-place-preserved-in-On
-loop-place-preserved-in-On c = record {
-  begun = omega (arith, c.loop-place.invariant.begun);
-  ahead = omega (arith, c.loop-place-test.true);
-  small = c.loop-place.invariant.small;
-  left = c.loop-place.invariant.left;
-  rows = λ some. let e = c.loop-place.invariant.rows some in let f = c.follow.ensures.rows in omega arith;
-  walks = walks-as _ _ _ _ (omega (arith, c.loop-place.invariant.begun))
-      (walks-on _ _ (standing c.loop-place.place c.loop-place.self) _ c.loop-place.invariant.walks c.in-On.ensures.goes);
-}
+loop-place-preserved-in-On c =
+    let kept = c.loop-place.invariant in
+    record {
+      room = kept.room;
+      ahead = omega (arith, c.loop-place-test.true, kept.within);
+      left = omega (arith, kept.left);
+      within = kept.within;
+      rows = omega (arith, kept.rows, c.follow.ensures.rows);
+      bounded = kept.bounded;
+      walks = walks-as _ _ _ _ (omega (arith, c.loop-place-test.true, kept.within, kept.left))
+          (walks-on _ _ (standing c.loop-place.place c.loop-place.self) _ kept.walks c.in-On.ensures.goes);
+    }
 
 pub loop-place-preserved : goal.loop-place-preserved
 loop-place-preserved c =
-    let place_to = c.from.ensures in
+    let kept = c.loop-place.invariant in
     record {
-      begun = omega arith;
-      ahead = c.stretch_end-end-in-To.ensures.ahead;
-      small = c.stretch_end-end-in-To.type_inv;
-      left = omega (arith, c.stretch_end-end-in-To.ensures.most, c.loop-place.invariant.left, c.loop-place.invariant.begun, c.loop-place-test.true);
-      rows = c.stretch_end-end-in-To.ensures.rows;
-      walks = walks-as _ _ _ _ (omega (arith, c.loop-place.invariant.begun))
-          (walks-on _ _ (standing c.loop-place.place c.loop-place.self) _ c.loop-place.invariant.walks c.in-To.ensures.goes);
+      room = kept.room;
+      ahead = omega (arith, c.loop-place-test.true, kept.within);
+      left = omega (arith, kept.left);
+      within = kept.within;
+      rows = omega (arith, kept.rows, c.follow.ensures.rows);
+      bounded = kept.bounded;
+      walks = walks-as _ _ _ _ (omega (arith, c.loop-place-test.true, kept.within, kept.left))
+          (walks-on _ _ (standing c.loop-place.place c.loop-place.self) _ kept.walks
+          (goes_so c.in-Branch.taken false c.loop-place.place c.in-Branch.target c.loop-place.self c.follow.new.self c.if-taken.false c.in-Branch.ensures.goes));
+    }
+
+pub loop-place-preserved-then-taken : goal.loop-place-preserved-then-taken
+loop-place-preserved-then-taken c =
+    let kept = c.loop-place.invariant in
+    let here = c.from-then-taken.ensures in
+    let there = c.from-then-taken-2.ensures in
+    record {
+      room = kept.room;
+      ahead = omega (arith, c.loop-place-test.true, kept.within);
+      left = omega (arith, kept.left, c.loop-place-test.true, kept.within);
+      within = c.stretch_end-end-then-taken.ensures.last;
+      rows = c.stretch_end-end-then-taken.ensures.rows;
+      bounded = c.stretch_end-end-then-taken.ensures.bounded;
+      walks = walks-as _ _ _ _ (omega (arith, c.loop-place-test.true, kept.within, kept.left))
+          (walks-on _ _ (standing c.loop-place.place c.loop-place.self) _ kept.walks
+          (goes_so c.in-Branch.taken true c.loop-place.place c.in-Branch.target c.loop-place.self c.follow.new.self c.if-taken.true c.in-Branch.ensures.goes));
     }

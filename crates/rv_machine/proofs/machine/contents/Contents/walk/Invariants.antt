@@ -6,13 +6,14 @@ use Rattle.rv_machine.proofs.machine.contents.Contents.walk.Given as goal
 
 abbrev pub invariant-loop-place : goal.invariant-loop-place
 invariant-loop-place l = record {
-  begun : l.start ≤ l.place;
-  ahead : l.place ≤ l.end;
-  small : l.end < 4294967296;
-  left : l.executed + (l.end - l.start) ≤ l.n;
-  rows : l.start < l.end → l.end ≤ l.self.rows;
-  walks : Walks (l.executed + (l.place - l.start)) (standing l.fn.from l.fn.self) (standing l.place l.self);
+  room : l.n ≤ 4611686018427387904;
+  ahead : l.place ≤ l.last;
+  left : l.last ≤ l.place + l.n;
+  within : l.end ≤ l.last;
+  rows : l.end ≤ l.self.rows;
+  bounded : l.end ≤ 16777216;
+  walks : Walks (l.n - (l.last - l.place)) (standing l.fn.from l.fn.self) (standing l.place l.self);
 }
 
 abbrev pub decreases-loop-place : goal.decreases-loop-place
-decreases-loop-place l = l.n - (l.executed + (l.place - l.start))
+decreases-loop-place l = l.last - l.place
