@@ -60,8 +60,8 @@ module _ (setting : Setting) where
       (chain_runs {R = FlatLater} {k = later_kept} (context_at setting j) (tasks_below setting j) (signal (context_at setting j))
       (signals {R = FlatLater} {k = later_kept} (context_at setting j) (tasks_below setting j)) c vs around z).grows
 
-  module _ (Given : Arguments) (stays : Stays setting Given) (turns : ℕ) (credit : ℕ → ℕ) (rs valid : List Standing) (w : World) (around : DynamicContext) (y : MidState) (placed : IsPlaced setting)
-      (few : turns ≤ setting.turns_each) (c : Chain) (vs : List Value) (chain address : ℕ) (low : credit (length vs) ≤ most_credit) (at : ChainAt setting chain c)
+  module _ (Given : Arguments) (stays : Stays setting Given) (turns spare : ℕ) (credit : ℕ → ℕ) (rs valid : List Standing) (w : World) (around : DynamicContext) (y : MidState) (placed : IsPlaced setting)
+      (few : turns + spare ≤ suc setting.turns_each) (c : Chain) (vs : List Value) (chain address : ℕ) (low : credit (length vs) ≤ most_credit) (at : ChainAt setting chain c)
       (takes : ChainTakes setting (length vs) c) (some : c.primary ≡ [] → ⊥) (given : Given w y.arena address vs) (site : SiteStored setting around y) where
     abbrev size : ℕ
     size = 16 + length vs
@@ -90,40 +90,40 @@ module _ (setting : Setting) where
         by (words n) h = omega (arith, h)
 
     body_comes : (j : ℕ) → MethodsDo setting Given j credit → (z : FlatState)
-        → BodyComes setting (code_at setting j setting.turns_each) routine cost_inside turns entry_words ws rs valid w around z y
+        → BodyComes setting (code_at setting j setting.turns_each) routine cost_inside (turns + spare) entry_words ws rs valid w around z y
         (run_chain (context_at setting j) (signal (context_at setting j)) c vs around z)
     unfolding chain_code
     body_comes j does z y' here =
-        chain_comes setting Given stays j credit does rs valid around vs address low setting.turns_each chain turns c None None None None None None None [] w z y' (omega arith) (omega (arith, few)) some at takes
+        chain_comes setting Given stays j credit does rs valid around vs address low setting.turns_each chain (turns + spare) c None None None None None None None [] w z y' (omega arith) few some at takes
         (record { call = here.call; given = stays.inside w y.arena y'.arena address vs here.words here.from given }) (site.0, here.words site_address ∙ site.1, site.2)
 
     level_runs : (j : ℕ) → MethodsDo setting Given j credit → (z : FlatState) → CallBegins setting rs valid (entry_words + size) w around z y
-        → CallEnds setting (cost_inside + 38) turns rs valid w around z y (run_chain (context_at setting j) (signal (context_at setting j)) c vs around z)
+        → CallEnds setting (cost_inside + 38) (turns + spare) rs valid w around z y (run_chain (context_at setting j) (signal (context_at setting j)) c vs around z)
         (called (code_at setting (suc j) turns) (chain_routine setting.at) ws y)
     level_runs j does z begins =
-        levels_entered setting (suc j) turns (chain_routine setting.at) turns (entry_words + size) entry_words cost_inside routine ws rs valid w around z y
+        levels_entered setting (suc j) turns (chain_routine setting.at) (turns + spare) (entry_words + size) entry_words cost_inside routine ws rs valid w around z y
         (run_chain (context_at setting j) (signal (context_at setting j)) c vs around z) (found placed) refl refl (omega arith) (grown_later (chain_later j c vs around z)).printed begins (λ e. absurd (cc e))
         (λ i e.
         let same : j ≡ i = cc e in
         subst
-        (λ i. BodyComes setting (code_at setting i setting.turns_each) routine cost_inside turns entry_words ws rs valid w around z y (run_chain (context_at setting j) (signal (context_at setting j)) c vs around z))
+        (λ i. BodyComes setting (code_at setting i setting.turns_each) routine cost_inside (turns + spare) entry_words ws rs valid w around z y (run_chain (context_at setting j) (signal (context_at setting j)) c vs around z))
         same (body_comes j does z))
 
     chain_does :
         (k : ℕ) (g : GenericRow) (paid : ℕ) (z : FlatState) → chain_cost c ≤ paid → ((j : ℕ) → k ≡ suc j → MethodsDo setting Given j credit) → CallBegins setting rs valid entry_words w around z y
-        → CallEnds setting paid turns rs valid w around z y (apply_chain (context_at setting k) (signal (context_at setting k)) g (Some c) vs around z)
+        → CallEnds setting paid (turns + spare) rs valid w around z y (apply_chain (context_at setting k) (signal (context_at setting k)) g (Some c) vs around z)
         (called (code_at setting k turns) (chain_routine setting.at) ws y)
     chain_does zero g paid z enough does begins =
-        no_level_ends setting turns (chain_routine setting.at) turns routine ws w z y y (apply_chain (context_at setting zero) (signal (context_at setting zero)) g (Some c) vs around z) (found placed) refl refl
+        no_level_ends setting turns (chain_routine setting.at) (turns + spare) routine ws w z y y (apply_chain (context_at setting zero) (signal (context_at setting zero)) g (Some c) vs around z) (found placed) refl refl
         (same_flat z) begins.things
     chain_does (suc j) g paid z enough does begins =
-        subst (λ r. CallEnds setting paid turns rs valid w around z y r code_end) (sym meaning)
+        subst (λ r. CallEnds setting paid (turns + spare) rs valid w around z y r code_end) (sym meaning)
         (calls_charged setting {c1 = paid} 0 (omega arith)
         (framed_ends setting 0 size (λ entered. run_chain (context_at setting j) (signal (context_at setting j)) c vs around (charged (length vs) entered)) begins.things.represents.printed
         (called_grows setting (suc j) turns (chain_routine setting.at) ws y)
         (λ room. (
           (chain_later j c vs around (charged_words z)).stack,
-          calls_recounted setting {c1 = cost_inside + 38} {m1 = turns} (asked size z) (z.state.units + length vs) (z.state.units + 0) (omega (arith, enough)) (omega arith)
+          calls_recounted setting {c1 = cost_inside + 38} {m1 = turns + spare} (asked size z) (z.state.units + length vs) (z.state.units + 0) (omega (arith, enough)) (omega arith)
               (level_runs j (does j refl) (charged_words z) (begun z room begins)),
         ))))
       where
@@ -138,11 +138,11 @@ module _ (setting : Setting) where
             else record { outcome = full (0 + size) (room_left setting.limit (z.state.heap + z.state.stack)); state = z }) (chain_below j c vs around (charged (length vs) (asked size z)))
 
 pub lent_chains_law : LawOfLentChains
-lent_chains_law setting k turns credit paid rs valid w around z y placed few low enough does g c vs chain address at takes some given site begins =
-    chain_does setting (ArgumentsLent setting) (lent_stays setting) turns credit rs valid w around y placed few c vs chain address (low (length vs)) at takes some given site k g (paid (length vs) c) z
+lent_chains_law setting k turns spare credit paid rs valid w around z y placed few low enough does g c vs chain address at takes some given site begins =
+    chain_does setting (ArgumentsLent setting) (lent_stays setting) turns spare credit rs valid w around y placed few c vs chain address (low (length vs)) at takes some given site k g (paid (length vs) c) z
     (enough (length vs) c) does begins
 
 pub chains_law : LawOfChains
-chains_law setting k turns credit paid rs valid w around z y placed few low enough does g c vs chain address at takes some given site begins =
-    chain_does setting (ArgumentsGiven setting) (given_stays setting) turns credit rs valid w around y placed few c vs chain address (low (length vs)) at takes some given site k g (paid (length vs) c) z
+chains_law setting k turns spare credit paid rs valid w around z y placed few low enough does g c vs chain address at takes some given site begins =
+    chain_does setting (ArgumentsGiven setting) (given_stays setting) turns spare credit rs valid w around y placed few c vs chain address (low (length vs)) at takes some given site k g (paid (length vs) c) z
     (enough (length vs) c) does begins

@@ -5,3 +5,4 @@ pub mod Each
 pub mod Running
 pub mod Chains
 pub mod Next
+pub mod Claims

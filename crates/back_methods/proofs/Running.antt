@@ -182,9 +182,6 @@ module _ (setting : Setting) (Given : Arguments) (stays : Stays setting Given) (
 
     -- ---- the first kind
 
-    abbrev after_around : Steps
-    after_around = chain_tail
-
     around_runs :
         (m p : ℕ) (ms be pr af : List ℕ) (r3 r4 r5 r6 r7 r8 r9 : Option ℕ) (w : World) (z : FlatState) (y : MidState) → m ≤ suc t
         → ChainAt setting chain (record { around = p ∷ ms; before = be; primary = pr; after = af }) → ChainTakes setting (length vs) (record { around = p ∷ ms; before = be; primary = pr; after = af })
@@ -193,7 +190,7 @@ module _ (setting : Setting) (Given : Arguments) (stays : Stays setting Given) (
         (exec (code_at setting k t) (code_of (chain_run setting.at)) (Some chain ∷ Some (length vs) ∷ Some address ∷ r3 ∷ r4 ∷ r5 ∷ r6 ∷ r7 ∷ r8 ∷ r9 ∷ rest) y)
     around_runs m p ms be pr af r3 r4 r5 r6 r7 r8 r9 w z y turns at takes h site_word site_is =
         subst (λ q. CallEnds setting 56 m rs valid w around z y meant q) (sym code_comes)
-        (passing_law setting 56 m rs valid w around z y meant (jumped inner) (λ g x. exec (code_at setting k t) (code_of after_around) g x) (λ g x. behind_grows t after_around g x)
+        (passing_law setting 56 m rs valid w around z y meant (jumped inner) (λ g x. exec (code_at setting k t) (code_of chain_tail) g x) (λ g x. behind_grows t chain_tail g x)
         (passing_law setting 56 m rs valid w around z y meant inner (λ g x. ends falls g (mid_charged 2 x)) (λ g x. charged_grown 2 x)
         (going_on_law setting 56 0 56 m m rs valid w w around z z y (mid_charged 56 y) meant inner (world_cost setting 56 h.call.things) (around_cost setting {credit = 56} z y 56 (omega arith)) (omega arith)
         (omega arith) refl
@@ -222,14 +219,14 @@ module _ (setting : Setting) (Given : Arguments) (stays : Stays setting Given) (
         next_takes = record { around = takes.around.1; before = takes.before; primary = takes.primary; after = takes.after }
 
         code_comes : exec (code_at setting k t) (code_of (chain_run setting.at)) (Some chain ∷ Some (length vs) ∷ Some address ∷ r3 ∷ r4 ∷ r5 ∷ r6 ∷ r7 ∷ r8 ∷ r9 ∷ rest) y
-            ≡ mid_go_on (jumped inner) (λ g x. exec (code_at setting k t) (code_of after_around) g x)
+            ≡ mid_go_on (jumped inner) (λ g x. exec (code_at setting k t) (code_of chain_tail) g x)
         code_comes =
             (and_then constant_falls (and_then (load_falls refl (address_above 0 site_address site_address (omega arith) (omega arith)) site_word)
             (and_then (load_falls refl (address_above chain 0 chain (omega arith) (omega (arith, small))) (constants_law setting w z y h.call.things chain word at.words.0).0)
             (and_then constant_falls (and_then (compute_known refl refl (and_mask word 3)) (and_then constant_falls (record { same = refl }))))))).same
-            ∙ ap (λ n. exec (code_at setting k t) (code_of (if_equal 4 5 around_steps [] ∷ after_around)) regs' (record y { cost = n })) (omega arith)
-            ∙ step_then (code_at setting k t) (if_equal 4 5 around_steps []) after_around regs' (mid_charged 44 y)
-            ∙ ap (λ q. mid_go_on q (λ g x. exec (code_at setting k t) (code_of after_around) g x))
+            ∙ ap (λ n. exec (code_at setting k t) (code_of (if_equal 4 5 around_steps [] ∷ chain_tail)) regs' (record y { cost = n })) (omega arith)
+            ∙ step_then (code_at setting k t) (if_equal 4 5 around_steps []) chain_tail regs' (mid_charged 44 y)
+            ∙ ap (λ q. mid_go_on q (λ g x. exec (code_at setting k t) (code_of chain_tail) g x))
             ((choose_first refl refl (eq-eqb _ _ (kind_of p around_method (omega arith))) (record { same = refl })).same
             ∙ ap (λ n. jumped (exec (code_at setting k t) (code_of around_steps) regs' (record y { cost = n }))) (omega arith))
 

@@ -21,10 +21,10 @@ use Rattle.back_relation.specs.Room.{entry_words, next_words}
 use Rattle.back_relation.specs.Worlds.{World, MethodIs, Standing}
 use Rattle.back_relation.specs.Around.{CallBegins, SiteStored}
 use Rattle.back_relation.specs.Activation.{MethodHeld, MethodThere}
-use Rattle.back_relation.specs.Ends.{SparingCall}
+use Rattle.back_relation.specs.Ends.{CallEnds, SparingCall}
 use Rattle.back_relation.specs.Forms.{context_at, code_at, below_at}
 use Rattle.back_relation.specs.Procedures.{called, as_registers, ArgumentsLent, entry_credit, EntryDoes}
-use Rattle.back_relation.specs.RoutineClaims.{Does}
+use Rattle.back_relation.specs.RoutineClaims.{Does, ChainDoes, NextDoes}
 use Rattle.back_signals.specs.Within.{FailingWithin}
 
 -- where arguments are
@@ -79,14 +79,14 @@ chain_cost c = 256 + 60 * (length c.before + length c.after)
 abbrev pub most_credit : ℕ
 most_credit = 1126
 
-module _ (setting : Setting) (Given : Arguments) (k turns : ℕ) (rs valid : List Standing) (w : World) (around : DynamicContext) (z : FlatState) (y : MidState) where
-  -- the chain of a generic function, for so much
+module _ (setting : Setting) (Given : Arguments) (k turns spare : ℕ) (rs valid : List Standing) (w : World) (around : DynamicContext) (z : FlatState) (y : MidState) where
+  -- the chain of a generic function, for so much, with so many turns left over for what calls it
   abbrev pub ChainRuns : (paid : (count : ℕ) → Chain → ℕ) → Type 0
   ChainRuns paid =
       (g : GenericRow) (c : Chain) (vs : List Value) (chain address : ℕ) → ChainAt setting chain c → ChainTakes setting (length vs) c → (c.primary ≡ [] → ⊥)
-      → Given w y.arena address vs
-      → Does setting k turns rs valid w around z y entry_words (paid (length vs) c) (chain_routine setting.at) (chain ∷ length vs ∷ address ∷ [])
-      (apply_chain (context_at setting k) (signal (context_at setting k)) g (Some c) vs around z)
+      → Given w y.arena address vs → SiteStored setting around y → CallBegins setting rs valid entry_words w around z y
+      → CallEnds setting (paid (length vs) c) (turns + spare) rs valid w around z y (apply_chain (context_at setting k) (signal (context_at setting k)) g (Some c) vs around z)
+      (called (code_at setting k turns) (chain_routine setting.at) (chain ∷ length vs ∷ address ∷ []) y)
 
 -- the chain of a call, which may be none
 abbrev pub rest_of : Option Called → Chain
@@ -103,21 +103,21 @@ module _ (setting : Setting) (k turns : ℕ) (rs valid : List Standing) (w : Wor
       → Does setting k turns rs valid w around z y next_words (paid count (rest_of called_as)) (next_routine setting.at) (chain ∷ count ∷ address ∷ [])
       (mean_next (context_at setting k) called_as around z)
 
--- **the chain of a generic function**, with no more turns than a level has, where its methods do a level below with arguments that are lent
+-- **the chain of a generic function**, with a turn more than a level has at most, where its methods do a level below with arguments that are lent
 abbrev pub LawOfLentChains : Type 0
 LawOfLentChains =
-    (setting : Setting) (k turns : ℕ) (credit : ℕ → ℕ) (paid : (count : ℕ) → Chain → ℕ) (rs valid : List Standing) (w : World) (around : DynamicContext) (z : FlatState) (y : MidState)
-    → IsPlaced setting → turns ≤ setting.turns_each → ((n : ℕ) → credit n ≤ most_credit) → ((n : ℕ) (c : Chain) → chain_cost c ≤ paid n c)
+    (setting : Setting) (k turns spare : ℕ) (credit : ℕ → ℕ) (paid : (count : ℕ) → Chain → ℕ) (rs valid : List Standing) (w : World) (around : DynamicContext) (z : FlatState) (y : MidState)
+    → IsPlaced setting → turns + spare ≤ suc setting.turns_each → ((n : ℕ) → credit n ≤ most_credit) → ((n : ℕ) (c : Chain) → chain_cost c ≤ paid n c)
     → ((j : ℕ) → k ≡ suc j → MethodsDo setting (ArgumentsLent setting) j credit)
-    → ChainRuns setting (ArgumentsLent setting) k turns rs valid w around z y paid
+    → ChainRuns setting (ArgumentsLent setting) k turns spare rs valid w around z y paid
 
 -- or with arguments that are given in whatever way
 abbrev pub LawOfChains : Type 0
 LawOfChains =
-    (setting : Setting) (k turns : ℕ) (credit : ℕ → ℕ) (paid : (count : ℕ) → Chain → ℕ) (rs valid : List Standing) (w : World) (around : DynamicContext) (z : FlatState) (y : MidState)
-    → IsPlaced setting → turns ≤ setting.turns_each → ((n : ℕ) → credit n ≤ most_credit) → ((n : ℕ) (c : Chain) → chain_cost c ≤ paid n c)
+    (setting : Setting) (k turns spare : ℕ) (credit : ℕ → ℕ) (paid : (count : ℕ) → Chain → ℕ) (rs valid : List Standing) (w : World) (around : DynamicContext) (z : FlatState) (y : MidState)
+    → IsPlaced setting → turns + spare ≤ suc setting.turns_each → ((n : ℕ) → credit n ≤ most_credit) → ((n : ℕ) (c : Chain) → chain_cost c ≤ paid n c)
     → ((j : ℕ) → k ≡ suc j → MethodsDo setting (ArgumentsGiven setting) j credit)
-    → ChainRuns setting (ArgumentsGiven setting) k turns rs valid w around z y paid
+    → ChainRuns setting (ArgumentsGiven setting) k turns spare rs valid w around z y paid
 
 -- **the next method**, where methods do at that level, and new conditions are signalled for what is paid for them beside the units of their words
 abbrev pub LawOfNext : Type 0
@@ -127,3 +127,24 @@ LawOfNext =
     → MethodsDo setting (ArgumentsGiven setting) k credit
     → ((t : ℕ) (rs valid : List Standing) (w : World) (z : FlatState) (y : MidState) → FailingWithin setting k t rs valid w around z y)
     → NextRuns setting k turns rs valid w around z y paid
+
+-- chains whose methods before and after the primary one are so few that what is claimed of chains pays for the walk past them
+abbrev pub ChainsAreShort : Setting → Type 0
+ChainsAreShort setting = (chain : ℕ) (c : Chain) → ChainAt setting chain c → length c.before + length c.after ≤ 3
+
+-- where all chains are so, the routine of chains does what is claimed of it
+abbrev pub LawOfChainClaims : Type 0
+LawOfChainClaims =
+    (setting : Setting) (k turns : ℕ) (credit : ℕ → ℕ) (rs valid : List Standing) (w : World) (around : DynamicContext) (z : FlatState) (y : MidState)
+    → IsPlaced setting → turns ≤ setting.turns_each → ((n : ℕ) → credit n ≤ most_credit) → ChainsAreShort setting
+    → ((j : ℕ) → k ≡ suc j → MethodsDo setting (ArgumentsLent setting) j credit)
+    → ChainDoes setting k turns rs valid w around z y
+
+-- and so does that of the next method
+abbrev pub LawOfNextClaims : Type 0
+LawOfNextClaims =
+    (setting : Setting) (k turns : ℕ) (credit : ℕ → ℕ) (rs valid : List Standing) (w : World) (around : DynamicContext) (z : FlatState) (y : MidState)
+    → IsPlaced setting → turns ≤ suc setting.turns_each → ((n : ℕ) → credit n ≤ most_credit) → ChainsAreShort setting
+    → MethodsDo setting (ArgumentsGiven setting) k credit
+    → ((t : ℕ) (rs valid : List Standing) (w : World) (z : FlatState) (y : MidState) → FailingWithin setting k t rs valid w around z y)
+    → NextDoes setting k turns rs valid w around z y
