@@ -136,6 +136,20 @@ regs_inside c_word mark_word r2 cell site at current link bindings drawn r5 r6 r
 abbrev pub inside_credit : ℕ
 inside_credit = 1170 + 108
 
+-- **a transfer leaves it**: what registers hold, and what is paid where it goes to the exit of the signal
+pub record LeftInside (setting : Setting) (rs valid : List Standing) (w : World) (around : DynamicContext) (z : FlatState) (y : MidState) (regs : Option ℕ → Option ℕ → Option ℕ → Option ℕ → Registers) (number : ℕ)
+    (r : FlatEvaluated) (q : MidOutcome) : Type 0 where
+  pub transfer : Transfers setting inside_credit rs valid w around z y r q
+  pub frame : r.state.frame ≡ z.frame
+  pub r5 : Option ℕ
+  pub r6 : Option ℕ
+  pub r16 : Option ℕ
+  pub r17 : Option ℕ
+  pub registers : q.registers ≡ regs r5 r6 r16 r17
+  pub landing_paid :
+      transfer.exit_number ≡ number
+      → q.state.cost + 62 + walk_cost * length (transfer.to ∷ transfer.outer) + unit_cost * z.state.units ≤ y.cost + walk_cost * length rs + unit_cost * r.state.state.units + inside_credit
+
 module _ (setting : Setting) (placed : IsPlaced setting) (k t : ℕ) (rs valid : List Standing) (w : World) (around : DynamicContext) (z : FlatState) (y : MidState)
     (begins : CallBegins setting rs valid (applying_words + 3) w around z y) (site : SiteStored setting around y) (h c : Value) (h_word c_word : ℕ)
     (of_handler : WordIs setting w h_word h) (of_condition : WordIs setting w c_word c) (mark_word r2 cell at current link bindings drawn number : ℕ) (some : 1 ≤ number) (room : 3 ≤ left y.arena) where
@@ -158,21 +172,8 @@ module _ (setting : Setting) (placed : IsPlaced setting) (k t : ℕ) (rs valid :
   abbrev pub regs : Option ℕ → Option ℕ → Option ℕ → Option ℕ → Registers
   regs r5 r6 r16 r17 = regs_inside c_word mark_word r2 cell site.0 at current link bindings drawn r5 r6 r16 r17
 
-  -- **a transfer leaves it**: what registers hold, and what is paid where it goes to the exit of the signal
-  pub record LeftInside (r : FlatEvaluated) (q : MidOutcome) : Type 0 where
-    pub transfer : Transfers setting inside_credit rs valid w around z y r q
-    pub frame : r.state.frame ≡ z.frame
-    pub r5 : Option ℕ
-    pub r6 : Option ℕ
-    pub r16 : Option ℕ
-    pub r17 : Option ℕ
-    pub registers : q.registers ≡ regs r5 r6 r16 r17
-    pub landing_paid :
-        transfer.exit_number ≡ number
-        → q.state.cost + 62 + walk_cost * length (transfer.to ∷ transfer.outer) + unit_cost * z.state.units ≤ y.cost + walk_cost * length rs + unit_cost * r.state.state.units + inside_credit
-
   abbrev pub InsideEnds : FlatEvaluated → MidOutcome → Type 0
-  InsideEnds r q = Ends setting ⊥ (LeftInside r q) t z y r q
+  InsideEnds r q = Ends setting ⊥ (LeftInside setting rs valid w around z y regs number r q) t z y r q
 
   abbrev n : ℕ
   n = length y.arena.blocks

@@ -19,7 +19,7 @@ use Rattle.mid_arena.specs.Standing.{ArenaStands, SpotStands}
 use Rattle.mid_arena.proofs.Growing.{spot_below, spot_grown}
 use Rattle.mid_arena.proofs.Memory.{grows_with_new_block, stands_with_new_block}
 use Rattle.mid_arena.proofs.Running.{and_then, and_ends, constant_falls, load_falls, store_falls, address_above}
-use Rattle.back_lowering.specs.ControlWords.{control_address, record_words, record_tag, record_mark, signal_kind, serials_address, current_address, link_address, handlers_address, bindings_address, handler_function, handler_outer}
+use Rattle.back_lowering.specs.ControlWords.{control_address, record_words, record_tag, record_mark, signal_kind, serials_address, current_address, link_address, handlers_address, bindings_address, site_address, handler_function, handler_outer}
 use Rattle.back_lowering.specs.Records.{exit_laid}
 use Rattle.back_lowering.specs.Steps.{Steps, load, store}
 use Rattle.back_relation.specs.Setting.{Setting, control_spot}
@@ -27,7 +27,7 @@ use Rattle.back_relation.specs.Placed.{IsPlaced}
 use Rattle.back_relation.specs.Worlds.{World, RecordRole, for_exit, Standing, IsIn, Chain, EndsAtEnd, TagsLand, IsTagged, record_of_exit, record_bytes}
 use Rattle.back_relation.specs.StackWords.{HasWordAt, HandlersAt, RecordAt}
 use Rattle.back_relation.specs.Things.{Things}
-use Rattle.back_relation.specs.Around.{AroundStands}
+use Rattle.back_relation.specs.Around.{AroundStands, SiteStored}
 use Rattle.back_relation.specs.Ends.{WorldKept}
 use Rattle.back_relation.specs.Forms.{code_at}
 use Rattle.back_relation.specs.RoutineClaims.{WordIs}
@@ -116,10 +116,10 @@ module _ (setting : Setting) (placed : IsPlaced setting) (k t : ℕ) (rs valid :
   record_lent_then : (ps : List Put) (i : ℕ) → i < 24 → i % 4 ≡ 0 → is_lent (stores (pairs at ps) inner) (at + i) ≡ true
   record_lent_then ps i few aligned = stored_lent (pairs at ps) inner (at + i) ∙ block_lent 6 stands room i (omega (arith, few)) aligned
 
-  word_inside : (x n : ℕ) → x < 220 → HasWordAt y x n → word_at inner x ≡ Some n
+  pub word_inside : (x n : ℕ) → x < 220 → HasWordAt y x n → word_at inner x ≡ Some n
   word_inside x n low e = let below = below_heap in grows.words x (omega (arith, low, below)) ∙ e
 
-  control_after : (i : ℕ) (ps : List Put) → are_puts ps ≡ true → i < 36 → i % 4 ≡ 0
+  pub control_after : (i : ℕ) (ps : List Put) → are_puts ps ≡ true → i < 36 → i % 4 ≡ 0
       → word_at (stores (pairs at ps) inner) (control_address + i) ≡ or_before (last_control i ps) (word_at inner (control_address + i))
   control_after i ps are few word = control_stands at at_aligned above i ps inner are few (lent_control i few word) (control_there setting spot_inside stands_inside i few)
 
@@ -391,3 +391,6 @@ module _ (setting : Setting) (placed : IsPlaced setting) (k t : ℕ) (rs valid :
       end_form = opened.world.later.exit_forms 0 None ar.end_form;
       tags_land = lands;
     }
+
+    abbrev pub site_laid : SiteStored setting around y → SiteStored setting around_inside y_laid
+    site_laid s = (s.0, control_after 28 puts refl (omega arith) refl ∙ word_inside site_address s.0 (omega arith) s.1, s.2)

@@ -3,3 +3,4 @@ pub mod Blocks
 pub mod Laid
 pub mod Argued
 pub mod Inner
+pub mod Outer

@@ -7,7 +7,7 @@ use Rattle.lang_meaning.specs.State.{DynamicContext}
 use Rattle.lang_meaning.specs.Values.{Value}
 use Rattle.flat_language.specs.FlatNodes.{tables}
 use Rattle.flat_language.specs.FlatSignals.{signal}
-use Rattle.flat_language.specs.FlatState.{FlatState}
+use Rattle.flat_language.specs.FlatState.{FlatState, FlatEvaluated, charged}
 use Rattle.mid_code.specs.declared.operation.Counted.TheVariants.{Turn}
 use Rattle.mid_code.specs.Arena.{left, word_at}
 use Rattle.mid_code.specs.Meaning.{Context, exec, leaves}
@@ -34,6 +34,9 @@ use Rattle.back_relation.specs.Ends.{CallEnds}
 use Rattle.back_relation.specs.Forms.{context_at, code_at}
 use Rattle.back_relation.specs.RoutineClaims.{WordIs, IsBuiltInCondition}
 use Rattle.back_combining.proofs.Growth.{grown_later}
+use Rattle.back_relation.specs.Things.{Things}
+use Rattle.back_combining.proofs.Straight.{world_units, around_units}
+use Rattle.back_transfers.proofs.Returning.{call_behind}
 use Rattle.back_transfers.proofs.Frames.{memory_holds}
 use Rattle.back_transfers.proofs.Entries.{UsedAt, routine_used, routine_registers, laid_frame, routine_enters}
 use Rattle.back_transfers.proofs.Bodies.{world_of, body_begins, body_leaves, laid_site}
@@ -106,7 +109,7 @@ module _ (setting : Setting) (placed : IsPlaced setting) (k t raise_credit : ℕ
         (and_then constant_falls
         (and_ends tt (request_wanting refl wants))))).same
 
-    failing_comes : CallEnds setting 0 (suc t + 1) rs valid w around z y (signal (context_at setting k) class [] around z) q
+    pub failing_comes : CallEnds setting 0 (suc t + 1) rs valid w around (charged 1 z) y (signal (context_at setting k) class [] around z) q
     failing_comes =
         condition_comes setting placed k t raise_credit 0 rs valid w around raises z y begins site class [] [] is tt q
         (printed_more setting k t (code_of (failing_code setting.at)) (Some class ∷ None ∷ None ∷ None ∷ None ∷ []) y)
@@ -149,7 +152,7 @@ module _ (setting : Setting) (placed : IsPlaced setting) (k t raise_credit : ℕ
         (and_then constant_falls
         (and_ends tt (request_wanting refl wants))))).same
 
-    with_comes : CallEnds setting 0 (suc t + 1) rs valid w around z y (signal (context_at setting k) class (v ∷ []) around z) with_q
+    pub with_comes : CallEnds setting 0 (suc t + 1) rs valid w around (charged 1 z) y (signal (context_at setting k) class (v ∷ []) around z) with_q
     with_comes =
         condition_comes setting placed k t raise_credit 0 rs valid w around raises z y begins site class (v ∷ []) (v_word ∷ []) is (of_value, tt) with_q
         (printed_more setting k t (code_of (failing_with_code setting.at)) (Some class ∷ Some v_word ∷ None ∷ None ∷ None ∷ []) y)
@@ -196,13 +199,19 @@ module _ (setting : Setting) (placed : IsPlaced setting) (k t raise_credit : ℕ
     unfolding domain_code
     domain_wants wants = (and_then constant_falls (and_then constant_falls (and_ends tt (request_wanting refl wants)))).same
 
-    domain_comes : CallEnds setting 0 (suc t + 1) rs valid w around z y (signal (context_at setting k) domain_error_class (v ∷ expected_class ∷ []) around z) domain_q
+    pub domain_comes : CallEnds setting 0 (suc t + 1) rs valid w around (charged 1 z) y (signal (context_at setting k) domain_error_class (v ∷ expected_class ∷ []) around z) domain_q
     domain_comes =
         condition_comes setting placed k t raise_credit 0 rs valid w around raises z y begins site domain_error_class (v ∷ expected_class ∷ []) (v_word ∷ expected_there.word ∷ []) error_is
         (of_value, (expected_there.of_value, tt)) domain_q
         (printed_more setting k t (code_of (domain_code setting.at)) (Some v_word ∷ Some expected ∷ None ∷ None ∷ None ∷ []) y)
         (λ room. ((Some v_word ∷ Some expected ∷ Some 2 ∷ Some (y.arena.heap_to + 2) ∷ Some nil_word ∷ []), domain_cost, (refl, (refl, tt)), omega arith, omega (arith, low), domain_runs cx setting.at y heap_small arena_there.aligned arena_there.heap v_word expected error_word expected_there.word known room (error_loaded room) (expected_loaded room)))
         (λ wants. ((Some v_word ∷ Some expected ∷ Some 116 ∷ Some 5 ∷ None ∷ []), record y { cost = y.cost + 6 + 6 + 20 }, domain_wants wants, refl))
+
+-- a unit is left over
+from_unit :
+    (setting : Setting) {turns : ℕ} {rs valid : List Standing} {w : World} {around : DynamicContext} {z : FlatState} {y : MidState} {r : FlatEvaluated} {q : MidOutcome} → Things setting w z y
+    → CallEnds setting 0 turns rs valid w around (charged 1 z) y r q → CallEnds setting 0 turns rs valid w around z y r q
+from_unit setting {z = z} {y = y} t e = call_behind setting (world_units setting 1 t) (around_units setting z y 1) {c2 = 0} (omega arith) refl (omega arith) e
 
 -- **a condition of a class without slots is signalled**
 pub failing_does :
@@ -223,9 +232,10 @@ failing_does setting placed k raise_credit low turns rs valid w around raises z 
         subst (λ n. CallEnds setting making_credit (n + 1) rs valid w around z y (signal (context_at setting k) class [] around z)
         (leaves y.arena.blocks (exec (code_at setting k t) (code_of (failing_code setting.at)) (routine_registers setting 1 (failing_code setting.at) (class ∷ [])) (laid_frame setting used.frame 1 y)))) (sym same)
         (body_leaves setting placed begins.things used.frame 1 room (omega arith)
+        (from_unit setting (body_begins setting placed begins.things used.frame 1 room raise_words (let few = used.fewer in omega (arith, few)) begins).things
         (failing_comes setting placed k t raise_credit low rs valid (world_of setting placed w y) around raises z (laid_frame setting used.frame 1 y)
         (body_begins setting placed begins.things used.frame 1 room raise_words (let few = used.fewer in omega (arith, few)) begins)
-        (laid_site setting placed begins.things used.frame 1 room around site) class is))
+        (laid_site setting placed begins.things used.frame 1 room around site) class is)))
 
 -- **and one of a class with one slot**
 pub failing_with_does :
@@ -246,9 +256,10 @@ failing_with_does setting placed k raise_credit low turns rs valid w around rais
         subst (λ n. CallEnds setting making_credit (n + 1) rs valid w around z y (signal (context_at setting k) class (v ∷ []) around z)
         (leaves y.arena.blocks (exec (code_at setting k t) (code_of (failing_with_code setting.at)) (routine_registers setting 2 (failing_with_code setting.at) (class ∷ word ∷ [])) (laid_frame setting used.frame 2 y)))) (sym same)
         (body_leaves setting placed begins.things used.frame 2 room (omega arith)
+        (from_unit setting (body_begins setting placed begins.things used.frame 2 room raise_words (let few = used.fewer in omega (arith, few)) begins).things
         (with_comes setting placed k t raise_credit low rs valid (world_of setting placed w y) around raises z (laid_frame setting used.frame 2 y)
         (body_begins setting placed begins.things used.frame 2 room raise_words (let few = used.fewer in omega (arith, few)) begins)
-        (laid_site setting placed begins.things used.frame 2 room around site) class v word of_value is))
+        (laid_site setting placed begins.things used.frame 2 room around site) class v word of_value is)))
 
 -- **a domain error is signalled**
 pub domain_does :
@@ -270,6 +281,7 @@ domain_does setting placed k raise_credit low turns rs valid w around raises z y
         subst (λ n. CallEnds setting making_credit (n + 1) rs valid w around z y (signal (context_at setting k) domain_error_class (v ∷ class_value setting.names (tables setting.program) expected ∷ []) around z)
         (leaves y.arena.blocks (exec (code_at setting k t) (code_of (domain_code setting.at)) (routine_registers setting 2 (domain_code setting.at) (word ∷ expected ∷ [])) (laid_frame setting used.frame 2 y)))) (sym same)
         (body_leaves setting placed begins.things used.frame 2 room (omega arith)
+        (from_unit setting (body_begins setting placed begins.things used.frame 2 room raise_words (let few = used.fewer in omega (arith, few)) begins).things
         (domain_comes setting placed k t raise_credit low rs valid (world_of setting placed w y) around raises z (laid_frame setting used.frame 2 y)
         (body_begins setting placed begins.things used.frame 2 room raise_words (let few = used.fewer in omega (arith, few)) begins)
-        (laid_site setting placed begins.things used.frame 2 room around site) v expected word of_value known))
+        (laid_site setting placed begins.things used.frame 2 room around site) v expected word of_value known)))

@@ -14,6 +14,7 @@ use Rattle.lang_meaning.specs.Values.{Value, nil, object}
 use Rattle.flat_language.specs.FlatNodes.{tables}
 use Rattle.flat_language.specs.FlatSignals.{signal, signal_under}
 use Rattle.flat_language.specs.FlatState.{FlatState, FlatEvaluated}
+use Rattle.flat_language.specs.FlatState.{charged as flat_charged}
 use Rattle.mid_code.specs.Arena.{left}
 use Rattle.mid_code.specs.Law.{Grown}
 use Rattle.mid_code.specs.Meaning.{Context, exec}
@@ -76,17 +77,17 @@ module _ (setting : Setting) (placed : IsPlaced setting) (k t raise_credit credi
   class_word = class_there.word
 
   abbrev Comes : MidOutcome → Type 0
-  Comes q = CallEnds setting credit (suc t + 1) rs valid w around z y r q
+  Comes q = CallEnds setting credit (suc t + 1) rs valid w around (flat_charged 1 z) y r q
 
   -- the meaning, where the words of the condition are known
-  abbrev with_size : (size : ℕ) → Bool → FlatEvaluated
+  abbrev pub with_size : (size : ℕ) → Bool → FlatEvaluated
   with_size size fits =
       if fits then
       signal_under (context_at setting k) around.handlers (object (length z.state.store)) nil around
       (record z { state = meaning.stored (instance class (map (λ v. Some v) vs) nil) (meaning.charged (size + 0) (meaning.with_words size 0 z.state)) })
       else record { outcome = full (size + 0) (room_left setting.limit (z.state.heap + z.state.stack)); state = z }
 
-  meant : r ≡ with_size (3 + length vs) (has_room setting.limit (z.state.heap + z.state.stack + (3 + length vs) + 0))
+  pub meant : r ≡ with_size (3 + length vs) (has_room setting.limit (z.state.heap + z.state.stack + (3 + length vs) + 0))
   meant =
       let low = is.low in
       let size = words_of_condition (tables setting.program) class (length vs) (is_condition_class (tables setting.program) things.represents.built_in class (omega (arith, low)) is.high) in
@@ -106,6 +107,9 @@ module _ (setting : Setting) (placed : IsPlaced setting) (k t raise_credit credi
     kept : WorldKept setting w w2 z z2 y y2
     kept = world_kept_behind setting placed things (made_behind setting things class class_word vs ws is class_there.of_value are room (3 + length vs) (3 + length vs + 0) cost fits)
 
+    kept_paid : WorldKept setting w w2 (flat_charged 1 z) z2 y y2
+    kept_paid = record { later = kept.later; things = kept.things; stack = kept.stack; end = kept.end; more_exits = kept.more_exits; same_size = kept.same_size }
+
     around_made : Around setting cost z z2 y y2
     around_made = record {
       control = control_behind setting placed things (made_behind setting things class class_word vs ws is class_there.of_value are room (3 + length vs) (3 + length vs + 0) cost fits);
@@ -113,6 +117,9 @@ module _ (setting : Setting) (placed : IsPlaced setting) (k t raise_credit credi
       charged = made_charged setting things class class_word vs ws is class_there.of_value are room (3 + length vs + 0) cost;
       paid = omega arith;
     }
+
+    around_paid : Around setting cost (flat_charged 1 z) z2 y y2
+    around_paid = record { control = around_made.control; blocks = around_made.blocks; charged = around_made.charged; paid = omega arith }
 
     begins2 : CallBegins setting rs valid raise_words w2 around z2 y2
     begins2 = point_begins setting kept around_made begins
@@ -127,12 +134,12 @@ module _ (setting : Setting) (placed : IsPlaced setting) (k t raise_credit credi
 
     -- and it is signalled
     raised :
-        (regs : Registers) → HoldAll (3 ∷ 4 ∷ []) regs ((y.arena.heap_to + 2) ∷ nil_word ∷ []) → 3 < length regs → cost + 66 + raise_credit ≤ y.cost + unit_cost * (3 + length vs) + credit
+        (regs : Registers) → HoldAll (3 ∷ 4 ∷ []) regs ((y.arena.heap_to + 2) ∷ nil_word ∷ []) → 3 < length regs → cost + 66 + raise_credit + unit_cost ≤ y.cost + unit_cost * (3 + length vs) + credit
         → Comes (exec cx (code_of (returning setting.at 3 (raise_routine setting.at) (3 ∷ 4 ∷ []))) regs y2)
     raised regs held low few =
-        subst (λ p. CallEnds setting credit (suc t + 1) rs valid w around z y p (exec cx (code_of (returning setting.at 3 (raise_routine setting.at) (3 ∷ 4 ∷ []))) regs y2))
+        subst (λ p. CallEnds setting credit (suc t + 1) rs valid w around (flat_charged 1 z) y p (exec cx (code_of (returning setting.at 3 (raise_routine setting.at) (3 ∷ 4 ∷ []))) regs y2))
         (sym (meant ∙ ap (with_size (3 + length vs)) fits))
-        (call_behind setting kept around_made {c2 = 66 + raise_credit} (omega (arith, few)) refl (omega arith)
+        (call_behind setting kept_paid around_paid {c2 = 66 + raise_credit} (omega (arith, few)) refl (omega arith)
         (returning_comes setting setting.at cx 3 (raise_routine setting.at) (3 ∷ 4 ∷ []) ((y.arena.heap_to + 2) ∷ nil_word ∷ []) regs y2 (raise_used setting placed).there held low (omega arith) begins2.things
         (raises t rs valid w2 z2 (charged 52 y2) (object (length z.state.store)) nil (y.arena.heap_to + 2) nil_word condition
         (pointer_is setting things class class_word vs ws is class_there.of_value are room (3 + length vs) (3 + length vs + 0)) refl site2 (begins_charged setting 52 begins2))))
@@ -156,7 +163,7 @@ module _ (setting : Setting) (placed : IsPlaced setting) (k t raise_credit credi
   -- there is none in the meaning
   full_so : (q : MidOutcome) → Grown y q.state → has_room setting.limit (z.state.heap + z.state.stack + (3 + length vs) + 0) ≡ false → Comes q
   full_so q grown none =
-      subst (λ p. CallEnds setting credit (suc t + 1) rs valid w around z y p q) (sym (meant ∙ ap (with_size (3 + length vs)) none))
+      subst (λ p. CallEnds setting credit (suc t + 1) rs valid w around (flat_charged 1 z) y p q) (sym (meant ∙ ap (with_size (3 + length vs)) none))
       (full_there (record {
         asked = 3 + length vs + 0;
         left_then = room_left setting.limit (z.state.heap + z.state.stack);
@@ -168,7 +175,7 @@ module _ (setting : Setting) (placed : IsPlaced setting) (k t raise_credit credi
   pub condition_comes :
       (q : MidOutcome) → Grown y q.state
       → ((room : 3 + length vs ≤ left y.arena) → (regs : Registers) × (cost : ℕ) × HoldAll (3 ∷ 4 ∷ []) regs ((y.arena.heap_to + 2) ∷ nil_word ∷ []) × (3 < length regs)
-      × (cost + 66 + raise_credit ≤ y.cost + unit_cost * (3 + length vs) + credit)
+      × (cost + 66 + raise_credit + unit_cost ≤ y.cost + unit_cost * (3 + length vs) + credit)
       × (q ≡ exec cx (code_of (returning setting.at 3 (raise_routine setting.at) (3 ∷ 4 ∷ []))) regs (state_made setting things class class_word vs ws is class_there.of_value are room cost)))
       → (left y.arena < 3 + length vs → (regs : Registers) × (x : MidState) × (q ≡ ends (no_room (3 + length vs) (left y.arena)) regs x) × (x.printed ≡ y.printed))
       → Comes q

@@ -1,5 +1,4 @@
-use Rattle.back_handled_signals.proofs.Laid.{around_laid, lays, lays_none}
-use Rattle.back_handled_signals.proofs.Inner.{inside_ends}
+use Rattle.back_handled_signals.proofs.Outer.{outer_ends}
 use Rattle.back_handled_signals.proofs.Argued.{argued, arguments, begins_argued}
 use Rattle.back_handled_signals.proofs.Wrong.{wrong_law}
 use Rattle.back_handled_signals.proofs.laws.law_wrong.Goals as goal
