@@ -1,0 +1,4 @@
+pub mod Entering
+pub mod Onto
+pub mod Conses
+pub mod Lists

@@ -1,0 +1,12 @@
+// The laws of the routines of lists and of methods' calls, each as the contract of a function that does nothing.
+ghost use Rattle.back_lists.specs.Lists.{LawOfListsMade, LawOfListClaims};
+
+/// A list of further arguments is made, with turns left over and the site as it was.
+pub fn law_lists()
+    ensures { LawOfListsMade }
+{}
+
+/// The same, as the relation of lowered code claims it.
+pub fn law_list_claims()
+    ensures { LawOfListClaims }
+{}
