@@ -92,7 +92,10 @@ module _ (procedures : List MidProcedure) (below : Task → MidState → MidOutc
         to_then = rest.to_then;
         last_then = rest.last_then;
         total = rest.total;
-        runs = repeat_turn procedures below t none_left refl refl (ap not (ne_eqb from end (λ e. more (sym e)))) turned rest.runs;
+        runs =
+            repeat_turn procedures below t
+            {r = ends falls (copying chain n rest.from_then kept end rest.to_then rest.last_then) (record y { arena = with_words (to + 4) ws (with_word to w y.arena); cost = rest.total })}
+            none_left refl refl (ap not (ne_eqb from end (λ e. more (sym e)))) turned rest.runs;
         is = let sum = rest.is in omega (arith, sum);
       }
     where
