@@ -1,2 +1,3 @@
 pub mod Making
 pub mod Lists
+pub mod Methods
