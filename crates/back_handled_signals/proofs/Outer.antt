@@ -70,7 +70,7 @@ landed_controls current link handlers bindings = (
 )
 
 module _ (setting : Setting) (placed : IsPlaced setting) (k t : ℕ) (rs valid : List Standing) (w : World) (around : DynamicContext) (z : FlatState) (y : MidState)
-    (begins : CallBegins setting rs valid (applying_words + 3 + 8) w around z y)
+    {m : ℕ} (begins : CallBegins setting rs valid m w around z y)
     (c mark h : Value) (hs : List Value) (fewer_room : RoomFor setting.limit (applying_words + 3 + 8 + words_for_handler * length hs) z.state y) (c_word mark_word : ℕ)
     (of_condition : WordIs setting w c_word c) (of_mark : WordIs setting w mark_word mark) (handlers : HandlersAt w y begins.around_stands.handlers_cell (h ∷ hs)) (site : SiteStored setting around y) (r2 : ℕ) where
   abbrev things : Things setting w z y
