@@ -1,10 +1,10 @@
 -- A control error, which leaves one of the units of its words over.
-use Rattle.std.proofs.Common.{◌≡◌, ℕ, suc, ◌+◌, ◌<◌, ◌≤◌, Bool, true, false, List, [], ◌∷◌, length, map, Some, refl, sym, ap, ◌∙◌, subst, arith}
+use Rattle.std.proofs.Common.{◌≡◌, ℕ, suc, ◌+◌, ◌≤◌, Bool, true, false, List, [], ◌∷◌, length, refl, sym, ap, ◌∙◌, subst, arith}
 use Rattle.lang_meaning.specs.Objects.{control_error_class, instance}
 use Rattle.lang_meaning.specs.State.{DynamicContext, Outcome, value, exit, full, has_room, room_left}
 use Rattle.lang_meaning.specs.State as meaning
-use Rattle.lang_meaning.specs.Values.{Value, nil, object}
-use Rattle.flat_language.specs.FlatSignals.{signal, signal_under}
+use Rattle.lang_meaning.specs.Values.{nil, object}
+use Rattle.flat_language.specs.FlatSignals.{signal}
 use Rattle.flat_language.specs.FlatState.{FlatState, FlatEvaluated, charged}
 use Rattle.flat_laws.specs.FlatLater.{FlatLater}
 use Rattle.flat_laws.proofs.Applied.{signals_under}

@@ -1,8 +1,6 @@
 -- **A condition is raised**, whatever handlers are around: by induction on the handlers.
-use Rattle.std.proofs.Common.{◌≡◌, ℕ, zero, suc, ◌+◌, ◌*◌, ◌<◌, ◌≤◌, Bool, true, false, List, [], ◌∷◌, length, Option, Some, None, refl, sym, ap, ◌∙◌, subst, arith}
-use Rattle.std.specs.Prelude.{◌==◌}
+use Rattle.std.proofs.Common.{◌≡◌, ℕ, suc, ◌+◌, ◌*◌, ◌<◌, ◌≤◌, List, [], ◌∷◌, length, Option, Some, None, refl, sym, ap, ◌∙◌, subst, arith}
 use Rattle.std.proofs.lemmas.Bool.{ne_eqb}
-use Rattle.lang_meaning.specs.Classes.{is_condition}
 use Rattle.lang_meaning.specs.Objects.{control_error_class}
 use Rattle.lang_meaning.specs.State.{DynamicContext, signal_exit, Limit, words, unlimited}
 use Rattle.lang_meaning.specs.State as meaning
@@ -16,10 +14,9 @@ use Rattle.flat_laws.proofs.Applied.{signals_under}
 use Rattle.flat_laws.proofs.Later.{later_kept}
 use Rattle.mid_code.specs.declared.operation.Comparison.TheVariants.{Equal}
 use Rattle.mid_code.specs.declared.operation.Counted.TheVariants.{Turn}
-use Rattle.mid_code.specs.declared.operation.Test.{Test}
 use Rattle.mid_code.specs.Arena.{left}
 use Rattle.mid_code.specs.Meaning.{Context, exec, leaves}
-use Rattle.mid_code.specs.MidCode.{MidCode, choose, no_step, step_and, return_word, code_of}
+use Rattle.mid_code.specs.MidCode.{no_step, return_word, code_of}
 use Rattle.mid_code.specs.State.{Registers, register, End, falls, returns, cuts, no_room, no_level, no_turn, halts, unhandled, exhausted, stuck, ends, MidState, MidOutcome, Next, with_some}
 use Rattle.mid_code.specs.State.{go_on as mid_go_on}
 use Rattle.mid_code.specs.State.{charged as mid_charged}
@@ -40,7 +37,7 @@ use Rattle.back_relation.specs.Ends.{WorldKept, Around, CallEnds}
 use Rattle.back_relation.specs.Forms.{context_at, code_at}
 use Rattle.back_relation.specs.RoutineClaims.{WordIs}
 use Rattle.back_combining.proofs.Growth.{grown_later}
-use Rattle.back_combining.proofs.Parts.{IsLast, go_on_falls, go_on_last, single_step, step_then}
+use Rattle.back_combining.proofs.Parts.{IsLast, go_on_falls, go_on_last, step_then}
 use Rattle.back_combining.proofs.Worlds.{word_later}
 use Rattle.back_objects.proofs.Standing.{world_behind, world_kept_behind, control_behind}
 use Rattle.back_transfers.proofs.Bodies.{world_of, body_begins, body_leaves, laid_site}
