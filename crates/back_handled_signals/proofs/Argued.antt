@@ -1,11 +1,11 @@
 -- The block of the argument of a handler, and the call of the routine of functions.
-use Rattle.std.proofs.Common.{◌≡◌, inl, inr, ℕ, zero, suc, ◌+◌, ◌*◌, ◌/◌, ◌<◌, ◌≤◌, true, List, [], ◌∷◌, ◌++◌, length, Option, Some, None, refl, sym, ap, ◌∙◌, subst, arith}
-use Rattle.std.specs.Prelude.{◌%◌, ◌^◌, slice_get, slice_index_or, slice_set}
+use Rattle.std.proofs.Common.{◌≡◌, inr, ℕ, zero, suc, ◌+◌, ◌*◌, ◌<◌, ◌≤◌, true, List, [], ◌∷◌, length, Option, Some, None, refl, ◌∙◌, arith}
+use Rattle.std.specs.Prelude.{◌%◌, slice_index_or}
 use Rattle.lang_meaning.specs.State.{DynamicContext, Limit, words, unlimited}
 use Rattle.lang_meaning.specs.Values.{Value, nil}
 use Rattle.flat_language.specs.FlatState.{FlatState}
 use Rattle.mid_code.specs.declared.operation.Counted.TheVariants.{Turn}
-use Rattle.mid_code.specs.Arena.{Arena, record_of, left, stack_from, is_lent, word_at}
+use Rattle.mid_code.specs.Arena.{Arena, record_of, left, stack_from, is_lent}
 use Rattle.mid_code.specs.Costs.{record_cost}
 use Rattle.mid_code.specs.Meaning.{Context, exec}
 use Rattle.mid_code.specs.Meaning.{called as mid_called}
@@ -25,12 +25,12 @@ use Rattle.back_lowering.specs.Routines.{function_routine}
 use Rattle.back_lowering.specs.Steps.{Steps, constant, store, call}
 use Rattle.back_relation.specs.Setting.{Setting, control_spot}
 use Rattle.back_relation.specs.Placed.{IsPlaced}
-use Rattle.back_relation.specs.Room.{words_for_handler, applying_words}
+use Rattle.back_relation.specs.Room.{words_for_handler}
 use Rattle.back_relation.specs.Worlds.{World, Standing}
 use Rattle.back_relation.specs.StackWords.{HasWordAt}
 use Rattle.back_relation.specs.Things.{Things}
 use Rattle.back_relation.specs.Around.{RoomFor, AroundStands, CallBegins, SiteStored}
-use Rattle.back_relation.specs.Ends.{WorldKept, ControlBack}
+use Rattle.back_relation.specs.Ends.{ControlBack}
 use Rattle.back_relation.specs.Forms.{code_at}
 use Rattle.back_relation.specs.Procedures.{called, ArgumentsLent}
 use Rattle.back_relation.specs.RoutineClaims.{WordIs}
@@ -47,7 +47,7 @@ use Rattle.back_exits.proofs.Words.{control_of}
 use Rattle.back_transfers.proofs.Bodies.{around_deeper}
 use Rattle.back_transfers.proofs.Entries.{UsedAt, routine_used}
 use Rattle.back_transfers.proofs.Returning.{call_steps}
-use Rattle.back_handled_signals.proofs.Blocks.{block_arena, block_at, block_from, block_to, block_low, block_aligned, block_lent, block_there, Opened, at_from, at_to, words_left, deeper}
+use Rattle.back_handled_signals.proofs.Blocks.{block_arena, block_at, block_from, block_to, block_low, block_aligned, block_lent, block_there, Opened, at_from, words_left, deeper}
 
 pub function_used : (setting : Setting) → IsPlaced setting → UsedAt setting.procedures (function_routine setting.at) (framed passing_frame (procedure_with Turn 3 (function_code setting.at)))
 function_used setting placed = routine_used setting placed 10 (framed passing_frame (procedure_with Turn 3 (function_code setting.at))) refl

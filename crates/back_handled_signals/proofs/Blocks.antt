@@ -1,11 +1,11 @@
 -- A block that was laid: what stands inside it, how transfers pass out of it, and where it is given back.
-use Rattle.std.proofs.Common.{◌≡◌, ℕ, ◌+◌, ◌*◌, ◌/◌, ◌<◌, ◌≤◌, Bool, true, false, List, [], ◌∷◌, length, Option, Some, refl, sym, ap, ◌∙◌, subst, arith}
-use Rattle.std.specs.Prelude.{◌%◌, ◌^◌, ◌==◌, slice_get, if◌then◌else◌}
+use Rattle.std.proofs.Common.{◌≡◌, ℕ, ◌+◌, ◌*◌, ◌/◌, ◌<◌, ◌≤◌, true, List, [], ◌∷◌, length, Some, refl, sym, ap, ◌∙◌, arith}
+use Rattle.std.specs.Prelude.{◌%◌, if◌then◌else◌}
 use Rattle.std.proofs.lemmas.Bool.{le-leb, lt-ltb, eq-eqb, ne_eqb, and_from, or_left, or_right}
 use Rattle.lang_meaning.specs.Counts.{unit_cost}
 use Rattle.lang_meaning.specs.State.{DynamicContext}
 use Rattle.flat_language.specs.FlatState.{FlatState, FlatEvaluated}
-use Rattle.mid_code.specs.Arena.{Arena, Block, record_of, begin_of, lent_from, left, stack_from, words_of, blocks_from, is_within, is_lent, with_blocks, with_new_block}
+use Rattle.mid_code.specs.Arena.{Arena, record_of, begin_of, lent_from, left, stack_from, words_of, blocks_from, is_within, is_lent, with_blocks, with_new_block}
 use Rattle.mid_code.specs.State.{Registers, MidState, MidOutcome, cuts, ends}
 use Rattle.mid_code.proofs.Growth.{length-emptied}
 use Rattle.mid_arena.specs.Growing.{Grows}
@@ -17,7 +17,7 @@ use Rattle.back_lowering.specs.ControlWords.{serials_address}
 use Rattle.back_relation.specs.Setting.{Setting, control_spot}
 use Rattle.back_relation.specs.Placed.{IsPlaced}
 use Rattle.back_relation.specs.Worlds.{World, Standing, record_of_exit, first_stop}
-use Rattle.back_relation.specs.Ends.{ChargedFrom, TakenCharged, WorldKept, Transfers, landing_cost, walk_cost}
+use Rattle.back_relation.specs.Ends.{ChargedFrom, TakenCharged, WorldKept, Transfers, walk_cost}
 use Rattle.back_combining.specs.Cuts.{boxes_cut}
 use Rattle.back_combining.specs.Stores.{stores}
 use Rattle.back_combining.proofs.Windows.{stored_elsewhere}

@@ -1,8 +1,7 @@
 -- **What the inside of a signal's exit comes to**: the handler is applied, and where it returns, a control error is signalled.
-use Rattle.std.proofs.Common.{◌≡◌, ℕ, ◌+◌, ◌*◌, ◌<◌, ◌≤◌, Bool, true, false, List, [], ◌∷◌, ◌++◌, length, Option, Some, None, refl, sym, ap, ◌∙◌, subst, arith}
+use Rattle.std.proofs.Common.{◌≡◌, ℕ, ◌+◌, ◌*◌, ◌<◌, ◌≤◌, true, false, List, [], ◌∷◌, length, Option, Some, None, refl, sym, ap, ◌∙◌, subst, arith}
 use Rattle.std.specs.Prelude.{◌==◌, ◌%◌, slice_set}
 use Rattle.std.proofs.lemmas.Bool.{ne_eqb}
-use Rattle.base.specs.declared.place.Place.{Place}
 use Rattle.lang_meaning.specs.Counts.{unit_cost}
 use Rattle.lang_meaning.specs.Objects.{control_error_class}
 use Rattle.lang_meaning.specs.State.{DynamicContext, Landing, at_segment, at_site, exit}
@@ -12,10 +11,9 @@ use Rattle.flat_language.specs.FlatState.{FlatState, FlatEvaluated, charged, go_
 use Rattle.flat_laws.proofs.Later.{later_kept}
 use Rattle.flat_laws.proofs.Applied.{value_applies, signals}
 use Rattle.flat_laws.specs.FlatLater.{FlatLater}
-use Rattle.mid_code.specs.declared.operation.Counted.TheVariants.{Turn}
-use Rattle.mid_code.specs.Arena.{Arena, Block, record_of, left, stack_from, is_lent, word_at, with_blocks}
+use Rattle.mid_code.specs.Arena.{record_of, left, is_lent, word_at, with_blocks}
 use Rattle.mid_code.specs.Law.{Grown}
-use Rattle.mid_code.specs.Meaning.{Context, exec, exec_step, give_back, run_landing, called_from}
+use Rattle.mid_code.specs.Meaning.{Context, exec, give_back, run_landing, called_from}
 use Rattle.mid_code.specs.Meaning.{called as mid_called}
 use Rattle.mid_code.specs.MidCode.{with_block, no_step, code_of}
 use Rattle.mid_code.specs.State.{Registers, End, falls, returns, cuts, no_room, no_level, no_turn, halts, unhandled, exhausted, stuck, ends, MidState, MidOutcome, Next, jumped, landed, with_arena}
@@ -24,25 +22,25 @@ use Rattle.mid_code.specs.State.{charged as mid_charged}
 use Rattle.mid_code.proofs.Growth.{go_on_grown, landed_grown, called_grown, same_grown, exec_grown, levels_grow, turns_grow, after_inside_grown, run_landing_grown}
 use Rattle.mid_arena.proofs.Growing.{spot_stands}
 use Rattle.mid_arena.proofs.Running.{and_then, constant_falls, store_falls, address_above}
-use Rattle.back_lowering.specs.ControlWords.{control_address, site_address, current_address, link_address, handlers_address, bindings_address}
+use Rattle.back_lowering.specs.ControlWords.{control_address, site_address}
 use Rattle.back_lowering.specs.Records.{record_left}
 use Rattle.back_lowering.specs.Routines.{function_routine, failing_routine}
 use Rattle.back_lowering.specs.Steps.{Steps, constant, store, call}
 use Rattle.back_relation.specs.Setting.{Setting, control_spot}
 use Rattle.back_relation.specs.Placed.{IsPlaced}
-use Rattle.back_relation.specs.Room.{words_for_handler, applying_words, failing_words}
+use Rattle.back_relation.specs.Room.{applying_words, failing_words}
 use Rattle.back_relation.specs.Worlds.{World, Standing, IsIn}
 use Rattle.back_relation.specs.StackWords.{HasWordAt}
 use Rattle.back_relation.specs.Things.{Things}
-use Rattle.back_relation.specs.Around.{RoomFor, AroundStands, CallBegins, SiteStored}
+use Rattle.back_relation.specs.Around.{AroundStands, CallBegins, SiteStored}
 use Rattle.back_relation.specs.Ends.{WorldKept, Around, Transfers, Returned, LeftCall, Because, ControlBack, Ends, CallEnds, done, left_by, full_there, stopped, few_turns, walk_cost, landing_cost}
 use Rattle.back_relation.specs.Forms.{context_at, code_at}
 use Rattle.back_relation.specs.Procedures.{called}
 use Rattle.back_relation.specs.RoutineClaims.{WordIs, FunctionDoes}
 use Rattle.back_combining.specs.Starts.{FlatGrown}
 use Rattle.back_combining.specs.Stores.{stores}
-use Rattle.back_combining.proofs.Growth.{grown_later, same_flat, both_prefix, both_flat, then_value, then_other, then_grown}
-use Rattle.back_combining.proofs.Parts.{go_on_last, step_then, IsLast}
+use Rattle.back_combining.proofs.Growth.{grown_later, both_prefix, both_flat, then_value, then_other, then_grown}
+use Rattle.back_combining.proofs.Parts.{go_on_last, step_then}
 use Rattle.back_combining.proofs.Reaches.{first_stop_in}
 use Rattle.back_combining.proofs.Straight.{things_units}
 use Rattle.back_combining.proofs.Worlds.{word_later}
@@ -61,8 +59,8 @@ use Rattle.back_transfers.proofs.Returning.{call_steps}
 use Rattle.back_transfers.proofs.Within.{begins_less}
 use Rattle.back_signals.specs.Within.{making_credit}
 use Rattle.back_handled_signals.specs.Handled.{LeavesSo, FailsPaid}
-use Rattle.back_handled_signals.proofs.Blocks.{Opened, deeper, transfer_out, arena_back, state_back, world_back, world_given, charged_given}
-use Rattle.back_handled_signals.proofs.Argued.{at as argument_at, control, steps, opened, y_argued, w_argued, begins_argued, site_argued, arguments, regs_before, regs_argued, argued, block_laid}
+use Rattle.back_handled_signals.proofs.Blocks.{Opened, transfer_out, state_back, world_back, world_given, charged_given}
+use Rattle.back_handled_signals.proofs.Argued.{at as argument_at, control, steps, opened, y_argued, w_argued, begins_argued, site_argued, arguments, argued}
 
 -- ---- a call that does not return
 

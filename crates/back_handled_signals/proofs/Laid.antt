@@ -1,5 +1,5 @@
 -- The record of a signal's exit is laid, and the handlers outside the innermost one are around.
-use Rattle.std.proofs.Common.{◌≡◌, inl, inr, ℕ, ◌+◌, ◌*◌, ◌/◌, ◌<◌, ◌≤◌, Bool, true, false, List, [], ◌∷◌, ◌++◌, length, Option, Some, None, refl, sym, ap, ◌∙◌, subst, arith, length-append}
+use Rattle.std.proofs.Common.{◌≡◌, inl, inr, ℕ, ◌+◌, ◌<◌, ◌≤◌, true, false, List, [], ◌∷◌, ◌++◌, length, Option, Some, None, refl, sym, ap, ◌∙◌, subst, arith, length-append}
 use Rattle.std.specs.Prelude.{◌%◌, ◌^◌, ◌==◌, ◌-◌, slice_get, if◌then◌else◌}
 use Rattle.std.proofs.lemmas.Bool.{eqb-false, ne_eqb}
 use Rattle.base.specs.Names.{slice_get-front, slice_get-behind}
@@ -14,7 +14,7 @@ use Rattle.mid_code.specs.MidCode.{code_of}
 use Rattle.mid_code.specs.State.{Registers, exhausted, ends, MidState, with_arena}
 use Rattle.mid_code.specs.State.{charged as mid_charged}
 use Rattle.mid_arena.specs.Growing.{Grows}
-use Rattle.mid_arena.specs.Places.{end_of, of_other}
+use Rattle.mid_arena.specs.Places.{end_of}
 use Rattle.mid_arena.specs.Standing.{ArenaStands, SpotStands}
 use Rattle.mid_arena.proofs.Growing.{spot_below, spot_grown}
 use Rattle.mid_arena.proofs.Memory.{grows_with_new_block, stands_with_new_block}
@@ -24,7 +24,7 @@ use Rattle.back_lowering.specs.Records.{exit_laid}
 use Rattle.back_lowering.specs.Steps.{Steps, load, store}
 use Rattle.back_relation.specs.Setting.{Setting, control_spot}
 use Rattle.back_relation.specs.Placed.{IsPlaced}
-use Rattle.back_relation.specs.Worlds.{World, RecordRole, for_exit, Standing, IsIn, Chain, EndsAtEnd, TagsLand, IsTagged, record_of_exit, record_bytes}
+use Rattle.back_relation.specs.Worlds.{World, for_exit, Standing, IsIn, EndsAtEnd, TagsLand, record_of_exit, record_bytes}
 use Rattle.back_relation.specs.StackWords.{HasWordAt, HandlersAt, RecordAt}
 use Rattle.back_relation.specs.Things.{Things}
 use Rattle.back_relation.specs.Around.{AroundStands, SiteStored}
@@ -46,7 +46,7 @@ use Rattle.back_exits.proofs.Touching.{world_touched, stored_blocks, stored_heap
 use Rattle.back_exits.proofs.Words.{control_lent, control_there, control_of}
 use Rattle.back_looking.proofs.Frames.{word_there}
 use Rattle.back_signals.proofs.Drawing.{draw_ends}
-use Rattle.back_handled_signals.proofs.Blocks.{block_arena, block_at, block_from, block_to, block_low, block_aligned, block_lent, block_there, Opened, at_from, at_to, found_new, deeper}
+use Rattle.back_handled_signals.proofs.Blocks.{block_arena, block_at, block_from, block_to, block_low, block_aligned, block_lent, block_there, Opened, at_from, found_new, deeper}
 
 exit_of_role : (x e : Exit) → for_exit x ≡ for_exit e → x ≡ e
 exit_of_role x e same = cc same

@@ -4,3 +4,5 @@ pub mod Laid
 pub mod Argued
 pub mod Inner
 pub mod Outer
+pub mod Paid
+pub mod Raising

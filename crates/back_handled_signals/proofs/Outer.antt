@@ -2,7 +2,6 @@
 use Rattle.std.proofs.Common.{◌≡◌, ℕ, ◌+◌, ◌*◌, ◌<◌, ◌≤◌, Bool, true, false, List, [], ◌∷◌, ◌++◌, length, Option, Some, None, refl, sym, ap, ◌∙◌, subst, arith}
 use Rattle.std.specs.Prelude.{◌==◌, ◌%◌, ◌^◌, ◌-◌, ◌||◌, nat_le, slice_set, if◌then◌else◌}
 use Rattle.std.proofs.lemmas.Bool.{leb-true, leb-false, eq-eqb, ne_eqb, eqb-true, eqb-false}
-use Rattle.lang_meaning.specs.Counts.{unit_cost}
 use Rattle.lang_meaning.specs.Objects.{control_error_class}
 use Rattle.lang_meaning.specs.Prefixes.{IsPrefix}
 use Rattle.lang_meaning.specs.State.{DynamicContext, signal_exit, Landing, exit, Outcome, Limit, words, unlimited}
@@ -10,13 +9,11 @@ use Rattle.lang_meaning.specs.Values.{Value}
 use Rattle.flat_language.specs.FlatState.{FlatState, FlatEvaluated, charged, exit_made, gives, caught}
 use Rattle.flat_language.specs.FlatState.{landed_from as flat_landed_from}
 use Rattle.mid_code.specs.Arena.{Arena, Block, record_of, closed_record, left, stack_from, with_blocks, blocks_from, word_at}
-use Rattle.mid_code.specs.Costs.{record_cost}
 use Rattle.mid_code.specs.Law.{Grown}
-use Rattle.mid_code.specs.Meaning.{Context, exec, exec_step, give_back, run_landing}
-use Rattle.mid_code.specs.MidCode.{with_block, return_word, no_step, code_of}
-use Rattle.mid_code.specs.State.{Registers, returns, cuts, no_room, exhausted, falls, ends, MidState, MidOutcome, Next, jumped, landed, with_arena}
+use Rattle.mid_code.specs.Meaning.{Context, exec, give_back, run_landing}
+use Rattle.mid_code.specs.MidCode.{with_block, return_word, code_of}
+use Rattle.mid_code.specs.State.{Registers, returns, cuts, falls, ends, MidState, MidOutcome, Next, jumped, landed, with_arena}
 use Rattle.mid_code.specs.State.{go_on as mid_go_on}
-use Rattle.mid_code.specs.State.{charged as mid_charged}
 use Rattle.mid_code.proofs.Growth.{go_on_grown, landed_grown, same_grown, exec_grown, levels_grow, turns_grow, after_inside_grown, run_landing_grown}
 use Rattle.mid_arena.proofs.Growing.{spot_stands}
 use Rattle.mid_arena.proofs.Running.{and_ends, return_ends}
@@ -31,12 +28,12 @@ use Rattle.back_relation.specs.Worlds.{World, Standing, IsIn, record_of_exit, fi
 use Rattle.back_relation.specs.StackWords.{HandlersAt}
 use Rattle.back_relation.specs.Things.{Things, WithinLimit}
 use Rattle.back_relation.specs.Around.{RoomFor, AroundStands, CallBegins, SiteStored}
-use Rattle.back_relation.specs.Ends.{Around, Transfers, Because, RoomEnded, Ends, CallEnds, done, left_by, full_there, stopped, few_turns}
+use Rattle.back_relation.specs.Ends.{Around, Transfers, RoomEnded, Ends, CallEnds, done, left_by, full_there, stopped, few_turns}
 use Rattle.back_relation.specs.Forms.{context_at, code_at}
-use Rattle.back_relation.specs.RoutineClaims.{WordIs, FunctionDoes}
+use Rattle.back_relation.specs.RoutineClaims.{WordIs}
 use Rattle.back_combining.specs.Starts.{FlatGrown}
 use Rattle.back_combining.specs.Stores.{stores}
-use Rattle.back_combining.proofs.Growth.{same_flat, both_prefix, both_flat}
+use Rattle.back_combining.proofs.Growth.{same_flat, both_prefix}
 use Rattle.back_combining.proofs.Parts.{go_on_last, step_then}
 use Rattle.back_combining.proofs.Reaches.{first_stop_in}
 use Rattle.back_combining.proofs.Then.{stopped_last}
@@ -50,10 +47,9 @@ use Rattle.back_exits.proofs.Leaving.{AreControls}
 use Rattle.back_exits.proofs.Puts.{Put, of_control, or_before, last_control}
 use Rattle.back_exits.proofs.Steps.{record_runs, record_wanting, gives_back, closes}
 use Rattle.back_exits.proofs.Words.{control_lent, control_of}
-use Rattle.back_handled_signals.specs.Handled.{LeavesSo, FunctionsDo, FunctionsLeave, FailsPaid}
-use Rattle.back_handled_signals.proofs.Blocks.{Opened, words_left, found_new, at_from, at_to, transfer_out, state_back, world_back, world_given, charged_back}
-use Rattle.back_handled_signals.proofs.Laid.{at, drawn, outer, h_word, lays, lays_none, regs_before, regs_laid, block_laid, y_laid, w_laid, z_laid, new, the_exit, around_inside, around_laid, site_laid, opened, none_regs, none_state}
-use Rattle.back_handled_signals.proofs.Argued.{w_argued, y_argued}
+use Rattle.back_handled_signals.specs.Handled.{FunctionsDo, FunctionsLeave, FailsPaid}
+use Rattle.back_handled_signals.proofs.Blocks.{Opened, words_left, found_new, at_to, transfer_out, state_back, world_back, world_given, charged_back}
+use Rattle.back_handled_signals.proofs.Laid.{at, lays, lays_none, regs_before, block_laid, y_laid, w_laid, new, around_laid, site_laid, opened}
 use Rattle.back_handled_signals.proofs.Inner.{meant_inside, inside_grows, LeftInside, inside_ends, regs_inside}
 
 landed_controls : (current link handlers bindings : ℕ) → AreControls (landed_stores current link handlers bindings)
@@ -70,7 +66,7 @@ landed_controls current link handlers bindings = (
 )
 
 module _ (setting : Setting) (placed : IsPlaced setting) (k t : ℕ) (rs valid : List Standing) (w : World) (around : DynamicContext) (z : FlatState) (y : MidState)
-    (begins : CallBegins setting rs valid (applying_words + 3 + 8) w around z y)
+    {m : ℕ} (begins : CallBegins setting rs valid m w around z y)
     (c mark h : Value) (hs : List Value) (fewer_room : RoomFor setting.limit (applying_words + 3 + 8 + words_for_handler * length hs) z.state y) (c_word mark_word : ℕ)
     (of_condition : WordIs setting w c_word c) (of_mark : WordIs setting w mark_word mark) (handlers : HandlersAt w y begins.around_stands.handlers_cell (h ∷ hs)) (site : SiteStored setting around y) (r2 : ℕ) where
   abbrev things : Things setting w z y

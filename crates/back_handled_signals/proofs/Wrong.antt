@@ -11,7 +11,7 @@ use Rattle.lang_meaning.specs.State.{DynamicContext, Outcome, value, exit, full,
 use Rattle.lang_meaning.specs.Values.{Value, symbol, named, nil}
 use Rattle.flat_language.specs.declared.program.FlatProcedure.{FlatProcedure}
 use Rattle.flat_language.specs.FlatNodes.{tables}
-use Rattle.flat_language.specs.FlatSignals.{FlatContext, FlatSignals, nothing, with_some, enter, apply_procedure, apply_function, apply_chain, apply_generic_row, apply_object, apply_value}
+use Rattle.flat_language.specs.FlatSignals.{FlatContext, FlatSignals, nothing, with_some, enter, apply_procedure, apply_function, apply_chain, apply_generic_row, apply_object}
 use Rattle.flat_language.specs.FlatState.{Captured, no_environment, FlatState, FlatEvaluated, gives, go_on, go_on_from, captured_by}
 use Rattle.back_handled_signals.specs.Law.{LawOfWrong}
 

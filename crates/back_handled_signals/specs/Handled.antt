@@ -1,12 +1,12 @@
 -- What is asked where a handler is applied: how the application ends, and what a control error leaves over.
-use Rattle.std.specs.Prelude.{◌≡◌, ℕ, ◌<◌, List, [], ◌∷◌, length}
+use Rattle.std.specs.Prelude.{◌≡◌, ℕ, List, [], ◌∷◌}
 use Rattle.base.specs.declared.place.Place.{Place}
 use Rattle.lang_meaning.specs.Objects.{control_error_class}
 use Rattle.lang_meaning.specs.State.{DynamicContext, at_site, value, exit}
 use Rattle.lang_meaning.specs.Values.{Value}
 use Rattle.flat_language.specs.FlatSignals.{FlatContext, signal, apply_value}
-use Rattle.flat_language.specs.FlatState.{FlatState, FlatEvaluated, charged}
-use Rattle.mid_code.specs.State.{MidState, MidOutcome}
+use Rattle.flat_language.specs.FlatState.{FlatState, charged}
+use Rattle.mid_code.specs.State.{MidState}
 use Rattle.back_lowering.specs.Routines.{failing_routine}
 use Rattle.back_relation.specs.Setting.{Setting}
 use Rattle.back_relation.specs.Room.{failing_words}

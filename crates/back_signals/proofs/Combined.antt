@@ -24,23 +24,23 @@ pub pending_law : LawOfPending
 pending_law setting k spare credit turns rs valid w around z y placed few raises = pending_does setting placed k spare credit few turns rs valid w around raises z y
 
 pub signals_law : LawOfSignals
-signals_law setting k credit turns rs valid w around z y placed some low raises = signal_does setting placed k credit some low around raises turns rs valid w z y
+signals_law setting k credit turns rs valid w around z y placed some low raises = signal_does setting placed k credit some low around turns raises rs valid w z y
 
 -- fewer turns are left over
-fewer_over : (setting : Setting) (k credit : ℕ) (around : DynamicContext) → RaisesWithin setting k around 1 credit → RaisesWithin setting k around 0 credit
-fewer_over setting k credit around raises turns rs valid w z y c mark c_word mark_word condition of_condition of_mark site begins =
-    call_less setting (omega arith) (omega arith) (raises turns rs valid w z y c mark c_word mark_word condition of_condition of_mark site begins)
+fewer_over : (setting : Setting) (k turns credit : ℕ) (around : DynamicContext) → RaisesWithin setting k turns around 1 credit → RaisesWithin setting k turns around 0 credit
+fewer_over setting k turns credit around raises t few rs valid w z y c mark c_word mark_word condition of_condition of_mark site begins =
+    call_less setting (omega arith) (omega arith) (raises t few rs valid w z y c mark c_word mark_word condition of_condition of_mark site begins)
 
 pub errors_law : LawOfErrors
 errors_law setting k turns rs valid w around z y placed raises = record {
   raise = λ c mark c_word mark_word condition of_condition of_mark site begins.
-      call_less setting (omega arith) (omega arith) (raises turns rs valid w z y c mark c_word mark_word condition of_condition of_mark site begins);
+      call_less setting (omega arith) (omega arith) (raises turns (omega arith) rs valid w z y c mark c_word mark_word condition of_condition of_mark site begins);
   signal = λ c mark c_word mark_word of_condition of_mark site begins.
       call_less setting (omega arith) (omega arith)
-      (signal_does setting placed k raise_credit (omega arith) (omega arith) around raises turns rs valid w z y c mark c_word mark_word of_condition of_mark site begins);
+      (signal_does setting placed k raise_credit (omega arith) (omega arith) around turns raises rs valid w z y c mark c_word mark_word of_condition of_mark site begins);
   pending = λ c condition at site begins.
       call_less setting (omega arith) (omega arith) (pending_does setting placed k 0 raise_credit (omega arith) turns rs valid w around raises z y c condition at site begins);
-  failing = fails turns rs valid w z y;
+  failing = fails turns (omega arith) rs valid w z y;
   failing_with = λ class v word is of_value site begins.
       call_less setting (omega arith) (omega arith)
       (failing_with_does setting placed k raise_credit (omega arith) turns rs valid w around signal_here z y class v word of_value is site begins);
@@ -52,17 +52,17 @@ errors_law setting k turns rs valid w around z y placed raises = record {
   continue = continue_does setting placed k turns rs valid w around fails z y;
 }
   where
-    signal_here : RaisesWithin setting k around 0 raise_credit
-    signal_here = fewer_over setting k raise_credit around raises
+    signal_here : RaisesWithin setting k turns around 0 raise_credit
+    signal_here = fewer_over setting k turns raise_credit around raises
 
-    fails : FailsWithin setting k around
-    fails turns rs valid w z y class is site begins =
+    fails : FailsWithin setting k turns around
+    fails t few rs valid w z y class is site begins =
         call_less setting (omega arith) (omega arith)
-        (failing_does setting placed k raise_credit (omega arith) turns rs valid w around signal_here z y class is site begins)
+        (failing_does setting placed k raise_credit (omega arith) t rs valid w around (λ s fewer. signal_here s (omega (arith, few, fewer))) z y class is site begins)
 
 pub unhandled_errors_law : LawOfUnhandledErrors
 unhandled_errors_law setting k turns rs valid w around z y placed none =
     errors_law setting k turns rs valid w around z y placed
-    (λ turns rs valid w z y c mark c_word mark_word condition of_condition of_mark site begins.
+    (λ t few rs valid w z y c mark c_word mark_word condition of_condition of_mark site begins.
     call_less setting (omega arith) (omega arith)
-    (unhandled_law setting k turns rs valid w around z y placed none c mark c_word mark_word condition of_condition of_mark site (begins_less setting unhandled_words (omega arith) begins)))
+    (unhandled_law setting k t rs valid w around z y placed none c mark c_word mark_word condition of_condition of_mark site (begins_less setting unhandled_words (omega arith) begins)))

@@ -41,13 +41,13 @@ use Rattle.back_transfers.proofs.Frames.{memory_holds}
 use Rattle.back_transfers.proofs.Entries.{UsedAt, routine_used, routine_registers, laid_frame, routine_enters}
 use Rattle.back_transfers.proofs.Bodies.{world_of, body_begins, body_leaves, laid_site}
 use Rattle.back_transfers.proofs.Leaving.{signal_later}
-use Rattle.back_signals.specs.Within.{RaisesWithin, making_credit, FailingWithin, FailingWithWithin, DomainWithin}
+use Rattle.back_signals.specs.Within.{RaisesAt, RaisesWithin, making_credit, FailingWithin, FailingWithWithin, DomainWithin}
 use Rattle.back_signals.proofs.Storing.{with_runs, domain_runs}
 use Rattle.back_signals.proofs.Making.{class_there, class_word, condition_comes, printed_more}
 
 -- ---- a class without slots
 
-module _ (setting : Setting) (placed : IsPlaced setting) (k t raise_credit : ℕ) (low : raise_credit ≤ 1000) (rs valid : List Standing) (w : World) (around : DynamicContext) (raises : RaisesWithin setting k around 0 raise_credit)
+module _ (setting : Setting) (placed : IsPlaced setting) (k t raise_credit : ℕ) (low : raise_credit ≤ 1000) (rs valid : List Standing) (w : World) (around : DynamicContext) (raises : RaisesAt setting k t around 0 raise_credit)
     (z : FlatState) (y : MidState) (begins : CallBegins setting rs valid raise_words w around z y) (site : SiteStored setting around y) where
   open begins use {things}
 
@@ -215,7 +215,7 @@ from_unit setting {z = z} {y = y} t e = call_behind setting (world_units setting
 
 -- **a condition of a class without slots is signalled**
 pub failing_does :
-    (setting : Setting) → IsPlaced setting → (k raise_credit : ℕ) → raise_credit ≤ 1000 → (turns : ℕ) (rs valid : List Standing) (w : World) (around : DynamicContext) → RaisesWithin setting k around 0 raise_credit → (z : FlatState)
+    (setting : Setting) → IsPlaced setting → (k raise_credit : ℕ) → raise_credit ≤ 1000 → (turns : ℕ) (rs valid : List Standing) (w : World) (around : DynamicContext) → RaisesWithin setting k turns around 0 raise_credit → (z : FlatState)
     (y : MidState) → FailingWithin setting k turns rs valid w around z y
 unfolding failing_code
 failing_does setting placed k raise_credit low turns rs valid w around raises z y class is site begins =
@@ -233,13 +233,13 @@ failing_does setting placed k raise_credit low turns rs valid w around raises z 
         (leaves y.arena.blocks (exec (code_at setting k t) (code_of (failing_code setting.at)) (routine_registers setting 1 (failing_code setting.at) (class ∷ [])) (laid_frame setting used.frame 1 y)))) (sym same)
         (body_leaves setting placed begins.things used.frame 1 room (omega arith)
         (from_unit setting (body_begins setting placed begins.things used.frame 1 room raise_words (let few = used.fewer in omega (arith, few)) begins).things
-        (failing_comes setting placed k t raise_credit low rs valid (world_of setting placed w y) around raises z (laid_frame setting used.frame 1 y)
+        (failing_comes setting placed k t raise_credit low rs valid (world_of setting placed w y) around (raises t (omega (arith, same))) z (laid_frame setting used.frame 1 y)
         (body_begins setting placed begins.things used.frame 1 room raise_words (let few = used.fewer in omega (arith, few)) begins)
         (laid_site setting placed begins.things used.frame 1 room around site) class is)))
 
 -- **and one of a class with one slot**
 pub failing_with_does :
-    (setting : Setting) → IsPlaced setting → (k raise_credit : ℕ) → raise_credit ≤ 1000 → (turns : ℕ) (rs valid : List Standing) (w : World) (around : DynamicContext) → RaisesWithin setting k around 0 raise_credit → (z : FlatState)
+    (setting : Setting) → IsPlaced setting → (k raise_credit : ℕ) → raise_credit ≤ 1000 → (turns : ℕ) (rs valid : List Standing) (w : World) (around : DynamicContext) → RaisesWithin setting k turns around 0 raise_credit → (z : FlatState)
     (y : MidState) → FailingWithWithin setting k turns rs valid w around z y
 unfolding failing_with_code
 failing_with_does setting placed k raise_credit low turns rs valid w around raises z y class v word of_value is site begins =
@@ -257,13 +257,13 @@ failing_with_does setting placed k raise_credit low turns rs valid w around rais
         (leaves y.arena.blocks (exec (code_at setting k t) (code_of (failing_with_code setting.at)) (routine_registers setting 2 (failing_with_code setting.at) (class ∷ word ∷ [])) (laid_frame setting used.frame 2 y)))) (sym same)
         (body_leaves setting placed begins.things used.frame 2 room (omega arith)
         (from_unit setting (body_begins setting placed begins.things used.frame 2 room raise_words (let few = used.fewer in omega (arith, few)) begins).things
-        (with_comes setting placed k t raise_credit low rs valid (world_of setting placed w y) around raises z (laid_frame setting used.frame 2 y)
+        (with_comes setting placed k t raise_credit low rs valid (world_of setting placed w y) around (raises t (omega (arith, same))) z (laid_frame setting used.frame 2 y)
         (body_begins setting placed begins.things used.frame 2 room raise_words (let few = used.fewer in omega (arith, few)) begins)
         (laid_site setting placed begins.things used.frame 2 room around site) class v word of_value is)))
 
 -- **a domain error is signalled**
 pub domain_does :
-    (setting : Setting) → IsPlaced setting → (k raise_credit : ℕ) → raise_credit ≤ 1000 → (turns : ℕ) (rs valid : List Standing) (w : World) (around : DynamicContext) → RaisesWithin setting k around 0 raise_credit → (z : FlatState)
+    (setting : Setting) → IsPlaced setting → (k raise_credit : ℕ) → raise_credit ≤ 1000 → (turns : ℕ) (rs valid : List Standing) (w : World) (around : DynamicContext) → RaisesWithin setting k turns around 0 raise_credit → (z : FlatState)
     (y : MidState) → DomainWithin setting k turns rs valid w around z y
 unfolding domain_code
 domain_does setting placed k raise_credit low turns rs valid w around raises z y v expected word known of_value site begins =
@@ -282,6 +282,6 @@ domain_does setting placed k raise_credit low turns rs valid w around raises z y
         (leaves y.arena.blocks (exec (code_at setting k t) (code_of (domain_code setting.at)) (routine_registers setting 2 (domain_code setting.at) (word ∷ expected ∷ [])) (laid_frame setting used.frame 2 y)))) (sym same)
         (body_leaves setting placed begins.things used.frame 2 room (omega arith)
         (from_unit setting (body_begins setting placed begins.things used.frame 2 room raise_words (let few = used.fewer in omega (arith, few)) begins).things
-        (domain_comes setting placed k t raise_credit low rs valid (world_of setting placed w y) around raises z (laid_frame setting used.frame 2 y)
+        (domain_comes setting placed k t raise_credit low rs valid (world_of setting placed w y) around (raises t (omega (arith, same))) z (laid_frame setting used.frame 2 y)
         (body_begins setting placed begins.things used.frame 2 room raise_words (let few = used.fewer in omega (arith, few)) begins)
         (laid_site setting placed begins.things used.frame 2 room around site) v expected word of_value known)))

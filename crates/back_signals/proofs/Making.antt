@@ -48,7 +48,7 @@ use Rattle.back_transfers.proofs.Entries.{UsedAt, routine_used}
 use Rattle.back_transfers.proofs.Leaving.{signal_later, begins_charged}
 use Rattle.back_transfers.proofs.Points.{point_begins}
 use Rattle.back_transfers.proofs.Returning.{HoldAll, call_behind, returning_comes}
-use Rattle.back_signals.specs.Within.{RaisesWithin}
+use Rattle.back_signals.specs.Within.{RaisesAt}
 use Rattle.back_signals.proofs.Conditions.{is_class, state_made, places_made, meaning_made, made_behind, pointer_is, made_charged, word_made_before}
 
 pub raise_used : (setting : Setting) → IsPlaced setting → UsedAt setting.procedures (raise_routine setting.at) (framed raise_frame (procedure_with Turn 2 (raise_code setting.at)))
@@ -59,7 +59,7 @@ pub printed_more : (setting : Setting) (k t : ℕ) (code : MidCode) (regs : Regi
 printed_more setting k t code regs y =
     exec_grown (code_at setting k t) (levels_grow setting.procedures setting.turns_each k) (turns_grow setting.procedures _ (levels_grow setting.procedures setting.turns_each k) t) code regs y
 
-module _ (setting : Setting) (placed : IsPlaced setting) (k t raise_credit credit : ℕ) (rs valid : List Standing) (w : World) (around : DynamicContext) (raises : RaisesWithin setting k around 0 raise_credit) (z : FlatState) (y : MidState)
+module _ (setting : Setting) (placed : IsPlaced setting) (k t raise_credit credit : ℕ) (rs valid : List Standing) (w : World) (around : DynamicContext) (raises : RaisesAt setting k t around 0 raise_credit) (z : FlatState) (y : MidState)
     (begins : CallBegins setting rs valid raise_words w around z y) (site : SiteStored setting around y) (class : ℕ) (vs : List Value) (ws : List ℕ) (is : IsBuiltInCondition class (length vs))
     (are : WordsOf w.places vs ws) where
   open begins use {things}
@@ -141,7 +141,7 @@ module _ (setting : Setting) (placed : IsPlaced setting) (k t raise_credit credi
         (sym (meant ∙ ap (with_size (3 + length vs)) fits))
         (call_behind setting kept_paid around_paid {c2 = 66 + raise_credit} (omega (arith, few)) refl (omega arith)
         (returning_comes setting setting.at cx 3 (raise_routine setting.at) (3 ∷ 4 ∷ []) ((y.arena.heap_to + 2) ∷ nil_word ∷ []) regs y2 (raise_used setting placed).there held low (omega arith) begins2.things
-        (raises t rs valid w2 z2 (charged 52 y2) (object (length z.state.store)) nil (y.arena.heap_to + 2) nil_word condition
+        (raises rs valid w2 z2 (charged 52 y2) (object (length z.state.store)) nil (y.arena.heap_to + 2) nil_word condition
         (pointer_is setting things class class_word vs ws is class_there.of_value are room (3 + length vs) (3 + length vs + 0)) refl site2 (begins_charged setting 52 begins2))))
 
   -- there is no room in the code

@@ -37,10 +37,10 @@ use Rattle.back_transfers.proofs.Entries.{UsedAt, routine_used, routine_register
 use Rattle.back_transfers.proofs.Bodies.{world_of, body_begins, body_leaves, laid_site, laid_before, laid_world}
 use Rattle.back_transfers.proofs.Leaving.{tasks_below, begins_charged}
 use Rattle.back_transfers.proofs.Returning.{call_behind, returning_comes}
-use Rattle.back_signals.specs.Within.{RaisesWithin, PendingWithin}
+use Rattle.back_signals.specs.Within.{RaisesAt, RaisesWithin, PendingWithin}
 use Rattle.back_signals.proofs.Making.{raise_used}
 
-module _ (setting : Setting) (placed : IsPlaced setting) (k t spare credit : ℕ) (rs valid : List Standing) (w : World) (around : DynamicContext) (raises : RaisesWithin setting k around (spare + 1) credit) (z : FlatState)
+module _ (setting : Setting) (placed : IsPlaced setting) (k t spare credit : ℕ) (rs valid : List Standing) (w : World) (around : DynamicContext) (raises : RaisesAt setting k t around (spare + 1) credit) (z : FlatState)
     (y : MidState) (begins : CallBegins setting rs valid raise_words w around z y) (site : SiteStored setting around y) (c : Value) (condition : is_condition (tables setting.program) z.state c ≡ true) (word : ℕ)
     (of_condition : WordIs setting w word c) (there : HasWordAt y pending_address word) where
   abbrev cx : Context
@@ -65,11 +65,11 @@ module _ (setting : Setting) (placed : IsPlaced setting) (k t spare credit : ℕ
       (call_behind setting {c1 = 20} (world_cost setting 20 begins.things) (around_cost setting z y 20 (omega arith)) {c2 = 66 + credit} (omega arith) {t = suc t + spare} {t' = t + (spare + 1)} refl (omega arith)
       (returning_comes setting setting.at cx 2 (raise_routine setting.at) (0 ∷ 1 ∷ []) (word ∷ nil_word ∷ []) (Some word ∷ Some nil_word ∷ None ∷ []) (charged 20 y) (raise_used setting placed).there (refl, (refl, tt)) (omega arith)
       (omega arith) (begins_charged setting 20 begins).things
-      (raises t rs valid w z (charged 52 (charged 20 y)) c nil word nil_word condition of_condition refl site (begins_charged setting 52 (begins_charged setting 20 begins)))))
+      (raises rs valid w z (charged 52 (charged 20 y)) c nil word nil_word condition of_condition refl site (begins_charged setting 52 (begins_charged setting 20 begins)))))
 
 -- **the condition that a primitive made is signalled**
 pub pending_does :
-    (setting : Setting) → IsPlaced setting → (k spare credit : ℕ) → spare ≤ 55 → (turns : ℕ) (rs valid : List Standing) (w : World) (around : DynamicContext) → RaisesWithin setting k around (spare + 1) credit → (z : FlatState) (y : MidState)
+    (setting : Setting) → IsPlaced setting → (k spare credit : ℕ) → spare ≤ 55 → (turns : ℕ) (rs valid : List Standing) (w : World) (around : DynamicContext) → RaisesWithin setting k turns around (spare + 1) credit → (z : FlatState) (y : MidState)
     → PendingWithin setting k turns rs valid w around z y spare (credit + 106)
 unfolding pending_code
 pending_does setting placed k spare credit few turns rs valid w around raises z y c condition at site begins =
@@ -87,7 +87,7 @@ pending_does setting placed k spare credit few turns rs valid w around raises z 
         subst (λ n. CallEnds setting (credit + 106) (n + spare) rs valid w around z y (signal_under (context_at setting k) around.handlers c nil around z)
         (leaves y.arena.blocks (exec (code_at setting k t) (code_of (pending_code setting.at)) (routine_registers setting 0 (pending_code setting.at) []) (laid_frame setting used.frame 0 y)))) (sym same)
         (body_leaves setting placed begins.things used.frame 0 room (omega arith)
-        (pending_comes setting placed k t spare credit rs valid (world_of setting placed w y) around raises z (laid_frame setting used.frame 0 y)
+        (pending_comes setting placed k t spare credit rs valid (world_of setting placed w y) around (raises t (omega (arith, same))) z (laid_frame setting used.frame 0 y)
         (body_begins setting placed begins.things used.frame 0 room raise_words (let less = used.fewer in omega (arith, less)) begins)
         (laid_site setting placed begins.things used.frame 0 room around site) c condition at.word
         (word_later (laid_world setting placed begins.things used.frame 0 room).later c at.word at.of_value)

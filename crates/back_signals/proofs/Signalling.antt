@@ -59,7 +59,7 @@ use Rattle.back_transfers.proofs.Leaving.{tasks_below, begins_charged, returning
 use Rattle.back_transfers.proofs.Returning.{call_behind, returning_comes}
 use Rattle.back_transfers.proofs.Within.{begins_less, call_less}
 use Rattle.back_signals.proofs.Failing.{domain_does}
-use Rattle.back_signals.specs.Within.{RaisesWithin, DomainWithin, SignalWithin}
+use Rattle.back_signals.specs.Within.{RaisesAt, RaisesWithin, DomainWithin, SignalWithin}
 use Rattle.back_signals.proofs.Making.{raise_used}
 use Rattle.back_signals.proofs.Marking.{condition_of}
 
@@ -78,8 +78,8 @@ domain_used setting placed = routine_used setting placed 9 (framed passing_frame
 low_bits : (w : ℕ) → bit_and w 3 ≡ w % 4
 low_bits w = and_mask w 2
 
-module _ (setting : Setting) (placed : IsPlaced setting) (k t credit : ℕ) (some : 100 ≤ credit) (rs valid : List Standing) (w : World) (around : DynamicContext) (raises : RaisesWithin setting k around 1 credit) (z : FlatState)
-    (domains : (turns : ℕ) (rs valid : List Standing) (w : World) (z : FlatState) (y : MidState) → DomainWithin setting k turns rs valid w around z y)
+module _ (setting : Setting) (placed : IsPlaced setting) (k t credit : ℕ) (some : 100 ≤ credit) (rs valid : List Standing) (w : World) (around : DynamicContext) (raises : RaisesAt setting k t around 1 credit) (z : FlatState)
+    (domains : (rs valid : List Standing) (w : World) (z : FlatState) (y : MidState) → DomainWithin setting k t rs valid w around z y)
     (y : MidState) (begins : CallBegins setting rs valid failing_words w around z y) (site : SiteStored setting around y) (c mark : Value) (c_word mark_word : ℕ) (of_condition : WordIs setting w c_word c)
     (of_mark : WordIs setting w mark_word mark) where
   open begins use {things}
@@ -106,7 +106,7 @@ module _ (setting : Setting) (placed : IsPlaced setting) (k t credit : ℕ) (som
       (call_behind setting {c1 = 6} (world_cost setting 6 (begins_charged setting n begins).things) (around_cost setting z (charged n y) 6 (omega arith)) {c2 = 116} {c = 122} (omega arith) {t = suc t + 0} {t' = t + 1} refl (omega arith)
       (returning_comes setting setting.at cx 2 (domain_routine setting.at) (0 ∷ 2 ∷ []) (c_word ∷ serious_condition_class ∷ []) (regs_with (Some serious_condition_class) r3) (charged 6 (charged n y)) (domain_used setting placed).there
       (refl, (refl, tt)) (omega arith) (omega arith) (begins_charged setting 6 (begins_charged setting n begins)).things
-      (domains t rs valid w z (charged 52 (charged 6 (charged n y))) c serious_condition_class c_word (omega arith) of_condition site
+      (domains rs valid w z (charged 52 (charged 6 (charged n y))) c serious_condition_class c_word (omega arith) of_condition site
       (begins_charged setting 52 (begins_charged setting 6 (begins_charged setting n begins))))))))
     where
       steps : exec cx (code_of domain_steps) (regs_with r2 r3) (charged n y) ≡ exec cx (code_of (returning setting.at 2 (domain_routine setting.at) (0 ∷ 2 ∷ []))) (regs_with (Some serious_condition_class) r3) (charged 6 (charged n y))
@@ -204,7 +204,7 @@ module _ (setting : Setting) (placed : IsPlaced setting) (k t credit : ℕ) (som
           call_behind setting {c1 = 110} (world_cost setting 110 things) (around_cost setting z y 110 (omega arith)) {c2 = 66 + credit} (omega arith) {t = suc t + 0} {t' = t + 1} refl (omega arith)
           (returning_comes setting setting.at cx 4 (raise_routine setting.at) (0 ∷ 1 ∷ []) (c_word ∷ mark_word ∷ []) (regs_with (Some flag) (Some nil_word)) (charged 110 y) (raise_used setting placed).there (refl, (refl, tt)) (omega arith)
           (omega arith) (begins_charged setting 110 begins).things
-          (raises t rs valid w z (charged 52 (charged 110 y)) c mark c_word mark_word condition of_condition of_mark site
+          (raises rs valid w z (charged 52 (charged 110 y)) c mark c_word mark_word condition of_condition of_mark site
           (begins_less setting raise_words (omega arith) (begins_charged setting 52 (begins_charged setting 110 begins)))))
 
       raise_last : IsLast (exec cx (code_of raise_steps) (regs_with (Some flag) (Some nil_word)) (charged 110 y)).end
@@ -251,8 +251,8 @@ word_within a x n h = by (is_lent a x) (slice_get a.memory (x / 4)) refl h
     by true None e h = absurd (cc h)
     by true (Some o) e h = slice_get_within a.memory (x / 4) o e
 
-module _ (setting : Setting) (placed : IsPlaced setting) (k t credit : ℕ) (some : 100 ≤ credit) (rs valid : List Standing) (w : World) (around : DynamicContext) (raises : RaisesWithin setting k around 1 credit) (z : FlatState)
-    (domains : (turns : ℕ) (rs valid : List Standing) (w : World) (z : FlatState) (y : MidState) → DomainWithin setting k turns rs valid w around z y)
+module _ (setting : Setting) (placed : IsPlaced setting) (k t credit : ℕ) (some : 100 ≤ credit) (rs valid : List Standing) (w : World) (around : DynamicContext) (raises : RaisesAt setting k t around 1 credit) (z : FlatState)
+    (domains : (rs valid : List Standing) (w : World) (z : FlatState) (y : MidState) → DomainWithin setting k t rs valid w around z y)
     (y : MidState) (begins : CallBegins setting rs valid failing_words w around z y) (site : SiteStored setting around y) (c mark : Value) (c_word mark_word : ℕ) (of_condition : WordIs setting w c_word c)
     (of_mark : WordIs setting w mark_word mark) where
   open begins use {things}
@@ -366,21 +366,21 @@ meant_grows setting k c mark around z = by (is_condition (tables setting.program
 
 -- **a value is signalled if it is a condition**
 pub signal_does :
-    (setting : Setting) → IsPlaced setting → (k credit : ℕ) → 100 ≤ credit → credit ≤ 1000 → (around : DynamicContext) → RaisesWithin setting k around 1 credit → (turns : ℕ) (rs valid : List Standing) (w : World)
+    (setting : Setting) → IsPlaced setting → (k credit : ℕ) → 100 ≤ credit → credit ≤ 1000 → (around : DynamicContext) (turns : ℕ) → RaisesWithin setting k turns around 1 credit → (rs valid : List Standing) (w : World)
     (z : FlatState) (y : MidState) → SignalWithin setting k turns rs valid w around z y (credit + 208)
 unfolding signal_code
-signal_does setting placed k credit some low around raises turns rs valid w z y c mark c_word mark_word of_condition of_mark site begins =
+signal_does setting placed k credit some low around turns raises rs valid w z y c mark c_word mark_word of_condition of_mark site begins =
     routine_enters setting k (signal_routine setting.at) passing_frame 2 (signal_code setting.at) used (c_word ∷ mark_word ∷ []) refl y turns begins.things.represents.printed (meant_grows setting k c mark around z)
     (let all = memory_holds setting begins.things in omega (arith, all)) begins.room begins.things.within_limit (omega arith) by
   where
     used : UsedAt setting.procedures (signal_routine setting.at) (framed passing_frame (procedure_with Turn 2 (signal_code setting.at)))
     used = routine_used setting placed 5 (framed passing_frame (procedure_with Turn 2 (signal_code setting.at))) refl
 
-    domains : (turns : ℕ) (rs valid : List Standing) (w : World) (z : FlatState) (y : MidState) → DomainWithin setting k turns rs valid w around z y
-    domains turns rs valid w z y =
-        domain_does setting placed k credit low turns rs valid w around
-        (λ turns rs valid w z y c mark c_word mark_word condition of_condition of_mark site begins.
-        call_less setting (omega arith) (omega arith) (raises turns rs valid w z y c mark c_word mark_word condition of_condition of_mark site begins))
+    domains : (t : ℕ) → t ≤ turns → (rs valid : List Standing) (w : World) (z : FlatState) (y : MidState) → DomainWithin setting k t rs valid w around z y
+    domains t few rs valid w z y =
+        domain_does setting placed k credit low t rs valid w around
+        (λ s fewer rs valid w z y c mark c_word mark_word condition of_condition of_mark site begins.
+        call_less setting (omega arith) (omega arith) (raises s (omega (arith, few, fewer)) rs valid w z y c mark c_word mark_word condition of_condition of_mark site begins))
         z y
 
     by : (t : ℕ) → turns ≡ suc t → used.frame ≤ left y.arena
@@ -390,6 +390,6 @@ signal_does setting placed k credit some low around raises turns rs valid w z y 
         subst (λ n. CallEnds setting (credit + 208) (n + 0) rs valid w around z y (mean_signal (context_at setting k) c mark around z)
         (leaves y.arena.blocks (exec (code_at setting k t) (code_of (signal_code setting.at)) (routine_registers setting 2 (signal_code setting.at) (c_word ∷ mark_word ∷ [])) (laid_frame setting used.frame 2 y)))) (sym same)
         (body_leaves setting placed begins.things used.frame 2 room (omega arith)
-        (body_comes setting placed k t credit some rs valid (world_of setting placed w y) around raises z domains (laid_frame setting used.frame 2 y)
+        (body_comes setting placed k t credit some rs valid (world_of setting placed w y) around (raises t (omega (arith, same))) z (domains t (omega (arith, same))) (laid_frame setting used.frame 2 y)
         (body_begins setting placed begins.things used.frame 2 room failing_words (let few = used.fewer in omega (arith, few)) begins)
         (laid_site setting placed begins.things used.frame 2 room around site) c mark c_word mark_word of_condition of_mark))

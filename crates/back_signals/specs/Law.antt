@@ -25,19 +25,19 @@ pub record NewConditions (setting : Setting) (k turns : ℕ) (rs valid : List St
 abbrev pub LawOfNewConditions : Type 0
 LawOfNewConditions =
     (setting : Setting) (k credit turns : ℕ) (rs valid : List Standing) (w : World) (around : DynamicContext) (z : FlatState) (y : MidState) → IsPlaced setting → credit ≤ 1000
-    → RaisesWithin setting k around 0 credit → NewConditions setting k turns rs valid w around z y
+    → RaisesWithin setting k turns around 0 credit → NewConditions setting k turns rs valid w around z y
 
 -- the condition that a primitive made costs 106 more than its signal, and a turn
 abbrev pub LawOfPending : Type 0
 LawOfPending =
     (setting : Setting) (k spare credit turns : ℕ) (rs valid : List Standing) (w : World) (around : DynamicContext) (z : FlatState) (y : MidState) → IsPlaced setting → spare ≤ 55
-    → RaisesWithin setting k around (spare + 1) credit → PendingWithin setting k turns rs valid w around z y spare (credit + 106)
+    → RaisesWithin setting k turns around (spare + 1) credit → PendingWithin setting k turns rs valid w around z y spare (credit + 106)
 
 -- a value is signalled if it is a condition; else it is a domain error: it costs 208 more than its signal, and a turn
 abbrev pub LawOfSignals : Type 0
 LawOfSignals =
     (setting : Setting) (k credit turns : ℕ) (rs valid : List Standing) (w : World) (around : DynamicContext) (z : FlatState) (y : MidState) → IsPlaced setting → 100 ≤ credit → credit ≤ 1000
-    → RaisesWithin setting k around 1 credit → SignalWithin setting k turns rs valid w around z y (credit + 208)
+    → RaisesWithin setting k turns around 1 credit → SignalWithin setting k turns rs valid w around z y (credit + 208)
 
 -- **what goes wrong**: the routines do what is claimed of them
 pub record Errors (setting : Setting) (k turns : ℕ) (rs valid : List Standing) (w : World) (around : DynamicContext) (z : FlatState) (y : MidState) : Type 0 where
@@ -55,7 +55,7 @@ pub record Errors (setting : Setting) (k turns : ℕ) (rs valid : List Standing)
 abbrev pub LawOfErrors : Type 0
 LawOfErrors =
     (setting : Setting) (k turns : ℕ) (rs valid : List Standing) (w : World) (around : DynamicContext) (z : FlatState) (y : MidState) → IsPlaced setting
-    → RaisesWithin setting k around 1 raise_credit → Errors setting k turns rs valid w around z y
+    → RaisesWithin setting k turns around 1 raise_credit → Errors setting k turns rs valid w around z y
 
 -- so it is where there is no handler
 abbrev pub LawOfUnhandledErrors : Type 0

@@ -1,6 +1,6 @@
 -- What the routines of signals do that other routines call: how many words of the stack they have, what they are paid, and how many turns they
 -- leave over.
-use Rattle.std.specs.Prelude.{◌≡◌, ℕ, ◌+◌, ◌<◌, true, List, [], ◌∷◌}
+use Rattle.std.specs.Prelude.{◌≡◌, ℕ, ◌+◌, ◌<◌, ◌≤◌, true, List, [], ◌∷◌}
 use Rattle.lang_meaning.specs.Classes.{is_condition}
 use Rattle.lang_meaning.specs.Objects.{built_in_classes}
 use Rattle.lang_meaning.specs.State.{DynamicContext}
@@ -47,11 +47,14 @@ module _ (setting : Setting) (k turns : ℕ) (rs valid : List Standing) (w : Wor
       → DoesWithin setting k turns rs valid w around z y room spare credit (raise_routine setting.at) (c_word ∷ mark_word ∷ [])
       (signal_under (context_at setting k) around.handlers c mark around z)
 
--- wherever it is, with that around
-abbrev pub RaisesWithin : Setting → (k : ℕ) → DynamicContext → (spare credit : ℕ) → Type 0
-RaisesWithin setting k around spare credit =
-    (turns : ℕ) (rs valid : List Standing) (w : World) (z : FlatState) (y : MidState)
-    → RaiseWithin setting k turns rs valid w around z y raise_words spare credit
+-- wherever it is, with that around, and with so many turns
+abbrev pub RaisesAt : Setting → (k turns : ℕ) → DynamicContext → (spare credit : ℕ) → Type 0
+RaisesAt setting k turns around spare credit =
+    (rs valid : List Standing) (w : World) (z : FlatState) (y : MidState) → RaiseWithin setting k turns rs valid w around z y raise_words spare credit
+
+-- or with fewer
+abbrev pub RaisesWithin : Setting → (k turns : ℕ) → DynamicContext → (spare credit : ℕ) → Type 0
+RaisesWithin setting k turns around spare credit = (t : ℕ) → t ≤ turns → RaisesAt setting k t around spare credit
 
 module _ (setting : Setting) (k turns : ℕ) (rs valid : List Standing) (w : World) (around : DynamicContext) (z : FlatState) (y : MidState) where
   -- a condition of a class without slots, one of a class with one slot, and a domain error

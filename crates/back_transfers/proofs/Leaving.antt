@@ -47,7 +47,7 @@ use Rattle.back_combining.proofs.Worlds.{word_later}
 use Rattle.back_transfers.proofs.Frames.{memory_holds}
 use Rattle.back_transfers.specs.Links.{along_links, link_registers, has_number, NumberSought, found, missing, LinksWalked}
 use Rattle.back_transfers.specs.Searches.{IsLong}
-use Rattle.back_transfers.specs.Within.{FailsWithin, transfer_words}
+use Rattle.back_transfers.specs.Within.{FailsAt, FailsWithin, transfer_words}
 use Rattle.back_transfers.proofs.Links.{links_law}
 use Rattle.back_transfers.proofs.Entries.{UsedAt, routine_used, routine_registers, laid_frame, routine_enters}
 use Rattle.back_transfers.proofs.Transfer.{transfer_does}
@@ -119,7 +119,7 @@ module _ (setting : Setting) (placed : IsPlaced setting) (k t : ℕ) {rs valid :
 
   -- a new condition is signalled
   pub failing_last :
-      (fails : FailsWithin setting k around) (to class : ℕ) (regs : Registers) → IsBuiltInCondition class 0 → CallBegins setting rs valid failing_words w around z y → SiteStored setting around y
+      (fails : FailsAt setting k t around) (to class : ℕ) (regs : Registers) → IsBuiltInCondition class 0 → CallBegins setting rs valid failing_words w around z y → SiteStored setting around y
       → to < length regs
       → CallEnds setting 516 (t + 0) rs valid w around z y (signal (context_at setting k) class [] around z) (exec (code_at setting k t) (code_of (signals_steps setting.at to class)) regs y)
   failing_last fails to class regs small begins site low =
@@ -127,7 +127,7 @@ module _ (setting : Setting) (placed : IsPlaced setting) (k t : ℕ) {rs valid :
       (call_behind setting {c1 = 6} (world_cost setting 6 begins.things) (around_cost setting z y 6 (omega arith)) {c2 = 510} (omega arith) refl (omega arith)
       (returning_comes setting setting.at (code_at setting k t) to (failing_routine setting.at) (to ∷ []) (class ∷ []) regs' y' (failing_used setting placed).there (register_here regs to class low, tt)
       (subst (λ n. to < n) (sym (length-set regs to (Some class))) low) (omega arith) (begins_charged setting 6 begins).things
-      (fails t rs valid w z (at_call (to ∷ []) y') class small site (begins_charged setting 46 (begins_charged setting 6 begins)))))
+      (fails rs valid w z (at_call (to ∷ []) y') class small site (begins_charged setting 46 (begins_charged setting 6 begins)))))
     where
       regs' : Registers
       regs' = slice_set regs to (Some class)
@@ -144,7 +144,7 @@ control_error_is = record { low = omega arith; high = omega arith; slots = refl 
 
 -- ---- leaving by a number
 
-module _ (setting : Setting) (placed : IsPlaced setting) (k t : ℕ) (rs valid : List Standing) (w : World) (around : DynamicContext) (fails : FailsWithin setting k around) (z : FlatState) (y : MidState)
+module _ (setting : Setting) (placed : IsPlaced setting) (k t : ℕ) (rs valid : List Standing) (w : World) (around : DynamicContext) (fails : FailsAt setting k t around) (z : FlatState) (y : MidState)
     (begins : CallBegins setting rs valid failing_words w around z y) (site : SiteStored setting around y) (e : ℕ) (v : Value) (landing : Landing) (word landing_word : ℕ)
     (of_value : WordIs setting w word v) (landing_is : LandingIs setting landing_word landing) (lands : LandsIn (slice_get w.exit_forms e) landing) where
   open begins use {things, around_stands}
@@ -235,7 +235,7 @@ module _ (setting : Setting) (placed : IsPlaced setting) (k t : ℕ) (rs valid :
 
 -- **the routine that leaves to an exit by its number**
 pub leave_does :
-    (setting : Setting) → IsPlaced setting → (k turns : ℕ) → (rs valid : List Standing) (w : World) (around : DynamicContext) → FailsWithin setting k around → (z : FlatState) (y : MidState)
+    (setting : Setting) → IsPlaced setting → (k turns : ℕ) → (rs valid : List Standing) (w : World) (around : DynamicContext) → FailsWithin setting k turns around → (z : FlatState) (y : MidState)
     → LeaveDoes setting k turns rs valid w around z y
 unfolding leave_code
 leave_does setting placed k turns rs valid w around fails z y e v landing word landing_word of_value landing_is lands site begins =
@@ -254,6 +254,6 @@ leave_does setting placed k turns rs valid w around fails z y e v landing word l
         subst (λ n. CallEnds setting 300 (n + 0) rs valid w around z y (transfer (context_at setting k) (Some e) v landing around z)
         (leaves y.arena.blocks (exec (code_at setting k t) (code_of (leave_code setting.at)) (routine_registers setting 3 (leave_code setting.at) (e ∷ word ∷ landing_word ∷ [])) (laid_frame setting used.frame 3 y)))) (sym same)
         (body_leaves setting placed begins.things used.frame 3 room (omega arith)
-        (body_comes setting placed k t rs valid (world_of setting placed w y) around fails z (laid_frame setting used.frame 3 y)
+        (body_comes setting placed k t rs valid (world_of setting placed w y) around (fails t (omega (arith, same))) z (laid_frame setting used.frame 3 y)
         (body_begins setting placed begins.things used.frame 3 room failing_words (let few = used.fewer in omega (arith, few)) begins)
         (laid_site setting placed begins.things used.frame 3 room around site) e v landing word landing_word of_value landing_is lands))

@@ -48,7 +48,7 @@ use Rattle.back_combining.proofs.Parts.{IsLast}
 use Rattle.back_combining.proofs.Worlds.{word_later}
 use Rattle.back_transfers.specs.Searches.{Finds, Misses, IsLong}
 use Rattle.back_transfers.specs.Tags.{along_tags, tag_registers, TagTells, of_kind, of_end, of_other, TagSought, found, missing, TagsWalked}
-use Rattle.back_transfers.specs.Within.{FailsWithin, transfer_words}
+use Rattle.back_transfers.specs.Within.{FailsAt, FailsWithin, transfer_words}
 use Rattle.back_transfers.proofs.Frames.{memory_holds}
 use Rattle.back_transfers.proofs.Tags.{tags_law}
 use Rattle.back_transfers.proofs.Entries.{UsedAt, routine_used, routine_registers, laid_frame, routine_enters}
@@ -153,7 +153,7 @@ lands_where_tagged setting begins x v stands role tagged = subst (λ o. LandsIn 
 
 -- ---- the body
 
-module _ (setting : Setting) (placed : IsPlaced setting) (k t : ℕ) (rs valid : List Standing) (w : World) (around : DynamicContext) (fails : FailsWithin setting k around) (z : FlatState) (y : MidState)
+module _ (setting : Setting) (placed : IsPlaced setting) (k t : ℕ) (rs valid : List Standing) (w : World) (around : DynamicContext) (fails : FailsAt setting k t around) (z : FlatState) (y : MidState)
     (begins : CallBegins setting rs valid failing_words w around z y) (site : SiteStored setting around y) (kind tag word : ℕ) (v : Value) (of_value : WordIs setting w word v) where
   open begins use {things, around_stands}
 
@@ -238,7 +238,7 @@ module _ (setting : Setting) (placed : IsPlaced setting) (k t : ℕ) (rs valid :
 
 -- ---- throw
 
-module _ (setting : Setting) (placed : IsPlaced setting) (k t : ℕ) (rs valid : List Standing) (w : World) (around : DynamicContext) (fails : FailsWithin setting k around) (z : FlatState) (y : MidState)
+module _ (setting : Setting) (placed : IsPlaced setting) (k t : ℕ) (rs valid : List Standing) (w : World) (around : DynamicContext) (fails : FailsAt setting k t around) (z : FlatState) (y : MidState)
     (begins : CallBegins setting rs valid failing_words w around z y) (site : SiteStored setting around y) (tag v : Value) (tag_word word : ℕ) (of_tag : WordIs setting w tag_word tag)
     (of_value : WordIs setting w word v) where
   abbrev failing_steps : Steps
@@ -444,7 +444,7 @@ module _ (setting : Setting) (placed : IsPlaced setting) (k t : ℕ) (rs valid :
 
 -- **the routine that leaves to a catch**
 pub throw_does :
-    (setting : Setting) → IsPlaced setting → (k turns : ℕ) → (rs valid : List Standing) (w : World) (around : DynamicContext) → FailsWithin setting k around → (z : FlatState) (y : MidState)
+    (setting : Setting) → IsPlaced setting → (k turns : ℕ) → (rs valid : List Standing) (w : World) (around : DynamicContext) → FailsWithin setting k turns around → (z : FlatState) (y : MidState)
     → ThrowDoes setting k turns rs valid w around z y
 unfolding throw_code
 throw_does setting placed k turns rs valid w around fails z y tag v tag_word word of_tag of_value site begins =
@@ -463,13 +463,13 @@ throw_does setting placed k turns rs valid w around fails z y tag v tag_word wor
         subst (λ n. CallEnds setting 300 (n + 0) rs valid w around z y (throw_to (context_at setting k) tag v around z)
         (leaves y.arena.blocks (exec (code_at setting k t) (code_of (throw_code setting.at)) (routine_registers setting 2 (throw_code setting.at) (tag_word ∷ word ∷ [])) (laid_frame setting used.frame 2 y)))) (sym same)
         (body_leaves setting placed begins.things used.frame 2 room (omega arith)
-        (throw_comes setting placed k t rs valid (world_of setting placed w y) around fails z (laid_frame setting used.frame 2 y)
+        (throw_comes setting placed k t rs valid (world_of setting placed w y) around (fails t (omega (arith, same))) z (laid_frame setting used.frame 2 y)
         (body_begins setting placed begins.things used.frame 2 room failing_words (let few = used.fewer in omega (arith, few)) begins)
         (laid_site setting placed begins.things used.frame 2 room around site) tag v tag_word word of_tag of_value))
 
 -- **the routine that leaves to the signal of a condition**
 pub continue_does :
-    (setting : Setting) → IsPlaced setting → (k turns : ℕ) → (rs valid : List Standing) (w : World) (around : DynamicContext) → FailsWithin setting k around → (z : FlatState) (y : MidState)
+    (setting : Setting) → IsPlaced setting → (k turns : ℕ) → (rs valid : List Standing) (w : World) (around : DynamicContext) → FailsWithin setting k turns around → (z : FlatState) (y : MidState)
     → ContinueDoes setting k turns rs valid w around z y
 unfolding continue_code
 continue_does setting placed k turns rs valid w around fails z y tag v tag_word word of_tag of_value site begins =
@@ -488,6 +488,6 @@ continue_does setting placed k turns rs valid w around fails z y tag v tag_word 
         subst (λ n. CallEnds setting 300 (n + 0) rs valid w around z y (continue_with (context_at setting k) tag v around z)
         (leaves y.arena.blocks (exec (code_at setting k t) (code_of (continue_code setting.at)) (routine_registers setting 2 (continue_code setting.at) (tag_word ∷ word ∷ [])) (laid_frame setting used.frame 2 y)))) (sym same)
         (body_leaves setting placed begins.things used.frame 2 room (omega arith)
-        (continue_comes setting placed k t rs valid (world_of setting placed w y) around fails z (laid_frame setting used.frame 2 y)
+        (continue_comes setting placed k t rs valid (world_of setting placed w y) around (fails t (omega (arith, same))) z (laid_frame setting used.frame 2 y)
         (body_begins setting placed begins.things used.frame 2 room failing_words (let few = used.fewer in omega (arith, few)) begins)
         (laid_site setting placed begins.things used.frame 2 room around site) tag v tag_word word of_tag of_value))

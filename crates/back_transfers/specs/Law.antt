@@ -22,11 +22,11 @@ pub record LawOfTransfers : Type 0 where
 -- what it does.
 pub record LawOfLeaving : Type 0 where
   pub by_number :
-      (setting : Setting) (k turns : ℕ) (rs valid : List Standing) (w : World) (around : DynamicContext) (z : FlatState) (y : MidState) → IsPlaced setting → FailsWithin setting k around
+      (setting : Setting) (k turns : ℕ) (rs valid : List Standing) (w : World) (around : DynamicContext) (z : FlatState) (y : MidState) → IsPlaced setting → FailsWithin setting k turns around
       → LeaveDoes setting k turns rs valid w around z y
   pub to_catch :
-      (setting : Setting) (k turns : ℕ) (rs valid : List Standing) (w : World) (around : DynamicContext) (z : FlatState) (y : MidState) → IsPlaced setting → FailsWithin setting k around
+      (setting : Setting) (k turns : ℕ) (rs valid : List Standing) (w : World) (around : DynamicContext) (z : FlatState) (y : MidState) → IsPlaced setting → FailsWithin setting k turns around
       → ThrowDoes setting k turns rs valid w around z y
   pub to_signal :
-      (setting : Setting) (k turns : ℕ) (rs valid : List Standing) (w : World) (around : DynamicContext) (z : FlatState) (y : MidState) → IsPlaced setting → FailsWithin setting k around
+      (setting : Setting) (k turns : ℕ) (rs valid : List Standing) (w : World) (around : DynamicContext) (z : FlatState) (y : MidState) → IsPlaced setting → FailsWithin setting k turns around
       → ContinueDoes setting k turns rs valid w around z y

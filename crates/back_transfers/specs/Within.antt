@@ -1,6 +1,6 @@
 -- What routines do that other routines call: they have fewer words of the stack than a form gives, they are paid no more than they cost, and they
 -- leave turns over for those that called them.
-use Rattle.std.specs.Prelude.{◌≡◌, ℕ, ◌+◌, List, [], ◌∷◌, Some, slice_get}
+use Rattle.std.specs.Prelude.{◌≡◌, ℕ, ◌+◌, ◌≤◌, List, [], ◌∷◌, Some, slice_get}
 use Rattle.lang_meaning.specs.State.{DynamicContext, Landing}
 use Rattle.lang_meaning.specs.Values.{Value}
 use Rattle.flat_language.specs.FlatState.{FlatState, FlatEvaluated, leaves}
@@ -41,7 +41,11 @@ module _ (setting : Setting) (k turns : ℕ) (rs valid : List Standing) (w : Wor
       → LandingIs setting landing_word landing → LandsIn (slice_get w.exit_forms e) landing
       → DoesWithin transfer_words transfer_spare (transfer_credit + landing_cost landing) (transfer_routine setting.at) (target.address ∷ word ∷ []) (leaves e v landing z)
 
--- a condition of a class without slots is signalled, wherever it is, with that around
-abbrev pub FailsWithin : Setting → (k : ℕ) → DynamicContext → Type 0
-FailsWithin setting k around =
-    (turns : ℕ) (rs valid : List Standing) (w : World) (z : FlatState) (y : MidState) → FailingDoes setting k turns rs valid w around z y
+-- a condition of a class without slots is signalled, wherever it is, with that around, and with so many turns
+abbrev pub FailsAt : Setting → (k turns : ℕ) → DynamicContext → Type 0
+FailsAt setting k turns around =
+    (rs valid : List Standing) (w : World) (z : FlatState) (y : MidState) → FailingDoes setting k turns rs valid w around z y
+
+-- or with fewer
+abbrev pub FailsWithin : Setting → (k turns : ℕ) → DynamicContext → Type 0
+FailsWithin setting k turns around = (t : ℕ) → t ≤ turns → FailsAt setting k t around
