@@ -45,7 +45,7 @@ use Rattle.back_lowering.specs.Steps.{Steps, constant, load_header, call, call_n
 use Rattle.back_relation.specs.Setting.{Setting, ConstantAt}
 use Rattle.back_relation.specs.Chains.{arity_word, GenericAt}
 use Rattle.back_relation.specs.Room.{applying_words, generic_words, failing_words, level_words}
-use Rattle.back_relation.specs.Placed.{IsPlaced, ArityStands}
+use Rattle.back_relation.specs.Placed.{IsPlaced, ArityStands, HasSymbol}
 use Rattle.back_relation.specs.Worlds.{World, Standing}
 use Rattle.back_relation.specs.Things.{AreMadeBy, FunctionStands}
 use Rattle.back_relation.specs.Activation.{SelfHeld}
@@ -308,10 +308,10 @@ module _ (setting : Setting) (placed : IsPlaced setting) (k n spare : ℕ) (few 
   generic_steps = generic_into setting.at 3 4 0 ++ returning setting.at 6 (generic_routine setting.at) (3 ∷ 1 ∷ 2 ∷ [])
 
   generic_comes :
-      (g : ℕ) (row : GenericRow) (start : ℕ) → ConstantAt setting (setting.at.generics + 4 * g) start → GenericAt setting start row
+      (g : ℕ) (row : GenericRow) (start : ℕ) → ConstantAt setting (setting.at.generics + 4 * g) start → GenericAt setting start row → HasSymbol setting row.name.0
       → (r3 r4 r5 r6 r7 r8 : Option ℕ) (y : MidState) → Here y → word_at y.arena (word + 2) ≡ Some (4 * g) → word + 2 < 2 ^ 32
       → Comes (generic (length vs) + 104) y (apply_generic_row (context_at setting k) (signal (context_at setting k)) (Some row) vs around z) (exec c (code_of generic_steps) (file r3 r4 r5 r6 r7 r8) y)
-  generic_comes g row start at stands r3 r4 r5 r6 r7 r8 y h there low =
+  generic_comes g row start at stands named r3 r4 r5 r6 r7 r8 y h there low =
       let here = constants_law setting w z y h.call.things (setting.at.generics + 4 * g) start at in
       let below = here.1 in
       let sum : setting.at.generics + 4 * g < 2 ^ 32 = omega (arith, below) in
@@ -324,7 +324,7 @@ module _ (setting : Setting) (placed : IsPlaced setting) (k n spare : ℕ) (few 
       ∙ ap (λ x. exec c (code_of (returning setting.at 6 (generic_routine setting.at) (3 ∷ 1 ∷ 2 ∷ []))) regs (record y { cost = x })) (omega arith))
       (returned setting k n (generic (length vs)) m 6 (generic_routine setting.at) (3 ∷ 1 ∷ 2 ∷ []) (start ∷ length vs ∷ address ∷ []) [] rs valid w around z (mid_charged 32 y) regs meant
       (refl, (refl, (refl, tt))) (omega arith) (here_cost 32 h).call.things
-      (parts.generics n rs valid w z (mid_charged 58 (mid_charged 32 y)) few row vs start address stands (here_cost 58 (here_cost 32 h)).lent (here_cost 58 (here_cost 32 h)).site
+      (parts.generics n rs valid w z (mid_charged 58 (mid_charged 32 y)) few row vs start address stands named (here_cost 58 (here_cost 32 h)).lent (here_cost 58 (here_cost 32 h)).site
       (here_cost 58 (here_cost 32 h)).call))
     where
       regs : Registers
@@ -386,11 +386,11 @@ module _ (setting : Setting) (placed : IsPlaced setting) (k n spare : ℕ) (few 
       (function_comes number extra q cs is_one fits held as_extra arity (Some function_header) (Some function_header) None None None None (mid_charged 12 (mid_charged 48 y)) (here_cost 12 (here_cost 48 h)) there low)))
 
   generic_path :
-      (g : ℕ) (row : GenericRow) (start : ℕ) → ConstantAt setting (setting.at.generics + 4 * g) start → GenericAt setting start row
+      (g : ℕ) (row : GenericRow) (start : ℕ) → ConstantAt setting (setting.at.generics + 4 * g) start → GenericAt setting start row → HasSymbol setting row.name.0
       → meant ≡ apply_generic_row (context_at setting k) (signal (context_at setting k)) (Some row) vs around z → (y : MidState) → Here y → (word % 4 == object_tag) ≡ true
       → word_at y.arena (word - 2) ≡ Some generic_header → word_at y.arena (word + 2) ≡ Some (4 * g) → word + 2 < 2 ^ 32
       → Comes (generic (length vs) + 182) y meant (exec c (code_of (function_code setting.at)) begun y)
-  generic_path g row start at stands same y h tag header there low =
+  generic_path g row start at stands named same y h tag header there low =
       let regs : Registers = file (Some generic_header) (Some function_header) None None None None in
       let regs' : Registers = file (Some generic_header) (Some generic_header) None None None None in
       let y1 : MidState = mid_charged 12 (mid_charged 48 y) in
@@ -404,7 +404,7 @@ module _ (setting : Setting) (placed : IsPlaced setting) (k n spare : ℕ) (few 
       ((and_then constant_falls (record { same = refl })).same)
       (first_branch setting k n m rs valid w around z meant (generic (length vs) + 104) (test_of Equal 3 4) generic_steps [] [] regs' (mid_charged 6 y1) (omega arith) (here_cost 6 h1).call.things refl refl refl
       (subst (λ r. Comes (generic (length vs) + 104) y2 r (exec c (code_of generic_steps) regs' y2)) (sym same)
-      (generic_comes g row start at stands (Some generic_header) (Some generic_header) None None None None y2 h2 there low)))))
+      (generic_comes g row start at stands named (Some generic_header) (Some generic_header) None None None None y2 h2 there low)))))
 
   -- what is no function, by its tag or by its header
   abbrev is_kind : ℕ → Bool
@@ -531,7 +531,7 @@ module _ (setting : Setting) (placed : IsPlaced setting) (k n spare : ℕ) (few 
       let behind : word + 2 ≡ it.spot.address + 4 = omega (arith, here) in
       let many = it.stands.size.words in
       let below = spot_low h.call.things.represents.arena it.spot_stands in
-      generic_path g row.0 words.0 words.1 words.2
+      generic_path g row.0 words.0 words.1 words.2 (placed.generic_names g row.0 row.1)
       (ap (λ o. applied o (captured_by f z)) e ∙ ap (λ o. apply_generic_row (context_at setting k) (signal (context_at setting k)) o vs around z) row.1)
       y h tag_is (ap (word_at y.arena) front ∙ it.stands.header) (ap (word_at y.arena) behind ∙ it.stands.word) (omega (arith, behind, many, below))
 

@@ -1,3 +1,7 @@
 mod Points
 mod Judging
 mod Functions
+mod Classes
+mod Loops
+mod Sought
+mod Generics

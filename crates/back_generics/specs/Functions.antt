@@ -12,7 +12,7 @@ use Rattle.back_lowering.specs.Program.{Extra}
 use Rattle.back_lowering.specs.Routines.{failing_routine, failing_with_routine, domain_routine, function_routine, generic_routine}
 use Rattle.back_relation.specs.Setting.{Setting}
 use Rattle.back_relation.specs.Room.{failing_words, generic_words, applying_words}
-use Rattle.back_relation.specs.Placed.{IsPlaced}
+use Rattle.back_relation.specs.Placed.{IsPlaced, HasSymbol}
 use Rattle.back_relation.specs.Chains.{GenericAt}
 use Rattle.back_relation.specs.Worlds.{World, Standing}
 use Rattle.back_relation.specs.Around.{CallBegins, SiteStored}
@@ -46,10 +46,10 @@ module _ (setting : Setting) (k turns spare : ℕ) (rs valid : List Standing) (w
       → DoesOver failing_words credit (domain_routine setting.at) (word ∷ expected ∷ [])
       (signal_domain_error (context_at setting k) (signal (context_at setting k)) v expected around z)
 
-  -- a generic function, and a value, for so much by the number of arguments
+  -- a generic function, whose name has a symbol, and a value, for so much by the number of arguments
   abbrev pub GenericOver : (credit : ℕ → ℕ) → Type 0
   GenericOver credit =
-      (g : GenericRow) (vs : List Value) (generic address : ℕ) → GenericAt setting generic g → ArgumentsLent setting w y.arena address vs
+      (g : GenericRow) (vs : List Value) (generic address : ℕ) → GenericAt setting generic g → HasSymbol setting g.name.0 → ArgumentsLent setting w y.arena address vs
       → DoesOver generic_words (credit (length vs)) (generic_routine setting.at) (generic ∷ length vs ∷ address ∷ [])
       (apply_generic_row (context_at setting k) (signal (context_at setting k)) (Some g) vs around z)
 

@@ -1,5 +1,6 @@
 // The laws of applications of values and of generic functions, each as the contract of a function that does nothing.
 ghost use Rattle.back_generics.specs.Functions.{LawOfFunctions, LawOfFunctionClaims};
+ghost use Rattle.back_generics.specs.Generics.{LawOfGenerics, LawOfGenericsOver};
 
 /// The application of a value.
 pub fn law_functions()
@@ -9,4 +10,14 @@ pub fn law_functions()
 /// The same as it is claimed.
 pub fn law_function_claims()
     ensures { LawOfFunctionClaims }
+{}
+
+/// The application of a generic function.
+pub fn law_generics()
+    ensures { LawOfGenerics }
+{}
+
+/// The same by the number of arguments.
+pub fn law_generics_over()
+    ensures { LawOfGenericsOver }
 {}

@@ -64,15 +64,15 @@ class_known names program z built_in there v = by v
     by nil = built_in_known program built_in null_class (omega arith)
     by (object i) = of_stored i (slice_get z.store i) refl
 
-abbrev given : Setting → MidProcedure
+abbrev pub given : Setting → MidProcedure
 given setting = procedure_with Turn 1 (class_code setting.at)
 
-given_small : (setting : Setting) → (given setting).frame ≤ 8
+pub given_small : (setting : Setting) → (given setting).frame ≤ 8
 unfolding class_code class_word object_code class_by_header
 given_small setting = omega arith
 
 -- the body, where its frame is laid
-body_finds :
+pub body_finds :
     (setting : Setting) (k n frame : ℕ) (w : World) (z : FlatState) (y : MidState) (v : Value) (word : ℕ) → Things setting w z y → word_of w.places v ≡ Some word
     → frame ≤ left y.arena → BodyLooks setting k n (with_frame_of frame (given setting)) (word ∷ []) (4 * class_of z.state v) class_cost y
 unfolding class_code class_word object_code class_by_header

@@ -41,7 +41,7 @@ abbrev pub looked : MidProcedure → ℕ → MidState → MidState
 looked p cost y = record y { arena = framed (frame_of p) y.arena; cost = cost }
 
 module _ (setting : Setting) {w : World} {z : FlatState} {y : MidState} (t : Things setting w z y) (p : MidProcedure) (some : p.frame ≤ left y.arena) (cost : ℕ) where
-  same_word : (x : ℕ) → word_at (looked p cost y).arena x ≡ word_at y.arena x
+  pub same_word : (x : ℕ) → word_at (looked p cost y).arena x ≡ word_at y.arena x
   same_word x = framed_word (frame_of p) t.represents.arena some x
 
   goes_on : GoesOn setting w w.boxes w.exit_forms z.state.exits y (looked p cost y)

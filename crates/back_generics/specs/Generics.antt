@@ -1,0 +1,79 @@
+-- **A generic function is applied** to words that were lent: the classes of its specialised arguments lead to a chain, which runs, or to none.
+use Rattle.std.specs.Prelude.{◌≡◌, ℕ, suc, ◌+◌, ◌*◌, ◌≤◌, true, List, [], ◌∷◌, Some, length}
+use Rattle.lang_meaning.specs.declared.program.GenericRow.{GenericRow}
+use Rattle.lang_meaning.specs.Objects.{Chain}
+use Rattle.lang_meaning.specs.Signals.{takes}
+use Rattle.lang_meaning.specs.State.{DynamicContext}
+use Rattle.lang_meaning.specs.Values.{Value}
+use Rattle.flat_language.specs.FlatSignals.{signal, apply_chain, apply_generic_row}
+use Rattle.flat_language.specs.FlatState.{FlatState}
+use Rattle.mid_code.specs.State.{MidState}
+use Rattle.back_lowering.specs.Routines.{chain_routine, generic_routine}
+use Rattle.back_relation.specs.Setting.{Setting}
+use Rattle.back_relation.specs.Room.{entry_words, generic_words}
+use Rattle.back_relation.specs.Placed.{IsPlaced, HasSymbol}
+use Rattle.back_relation.specs.Chains.{ChainAt, ChainTakes, GenericAt}
+use Rattle.back_relation.specs.Worlds.{World, Standing}
+use Rattle.back_relation.specs.Forms.{context_at}
+use Rattle.back_relation.specs.Procedures.{ArgumentsLent}
+use Rattle.back_relation.specs.RoutineClaims.{routine_credit}
+use Rattle.back_generics.specs.Functions.{DoesOver, FailingOver, FailingWithOver, GenericOver}
+
+module _ (setting : Setting) (k turns spare : ℕ) (rs valid : List Standing) (w : World) (around : DynamicContext) (z : FlatState) (y : MidState) where
+  -- a chain with a primary method, for so much by the number of arguments
+  abbrev pub ChainOver : (credit : ℕ → ℕ) → Type 0
+  ChainOver credit =
+      (g : GenericRow) (c : Chain) (vs : List Value) (chain address : ℕ) → ChainAt setting chain c → ChainTakes setting (length vs) c → (c.primary ≡ [] → ⊥)
+      → ArgumentsLent setting w y.arena address vs
+      → DoesOver setting k turns spare rs valid w around z y entry_words (credit (length vs)) (chain_routine setting.at) (chain ∷ length vs ∷ address ∷ [])
+      (apply_chain (context_at setting k) (signal (context_at setting k)) g (Some c) vs around z)
+
+module _ (setting : Setting) (k spare : ℕ) (around : DynamicContext) (chain : ℕ → ℕ) where
+  -- what is to be known of what the routine calls, at its level
+  pub record GenericParts : Type 0 where
+    pub chains :
+        (turns : ℕ) (rs valid : List Standing) (w : World) (z : FlatState) (y : MidState) → turns ≤ setting.turns_each
+        → ChainOver setting k turns (suc spare) rs valid w around z y chain
+    pub failing :
+        (turns : ℕ) (rs valid : List Standing) (w : World) (z : FlatState) (y : MidState) → turns ≤ setting.turns_each
+        → FailingOver setting k turns (suc spare) rs valid w around z y routine_credit
+    pub failing_with :
+        (turns : ℕ) (rs valid : List Standing) (w : World) (z : FlatState) (y : MidState) → turns ≤ setting.turns_each
+        → FailingWithOver setting k turns (suc spare) rs valid w around z y routine_credit
+
+-- what each specialised argument costs, and what is around the chain, around a function that is not defined, and a wrong number of arguments
+abbrev pub specialised_cost : ℕ
+specialised_cost = 456
+
+abbrev pub chain_around : ℕ
+chain_around = 252
+
+abbrev pub undefined_cost : ℕ
+undefined_cost = 708
+
+abbrev pub wrong_cost : ℕ
+wrong_cost = 620
+
+-- **the application of a generic function**, for what its specialised arguments cost
+abbrev pub LawOfGenerics : Type 0
+LawOfGenerics =
+    (setting : Setting) (k turns spare credit : ℕ) (chain : ℕ → ℕ) (rs valid : List Standing) (w : World) (around : DynamicContext) (z : FlatState) (y : MidState)
+    (g : GenericRow) (vs : List Value) (generic address : ℕ) (at : GenericAt setting generic g)
+    → IsPlaced setting → turns ≤ setting.turns_each → spare ≤ 14 → GenericParts setting k spare around chain → HasSymbol setting g.name.0
+    → ArgumentsLent setting w y.arena address vs → wrong_cost ≤ credit
+    → (takes g.required g.rest (length vs) ≡ true
+    → (chain_around + specialised_cost * length at.specialised + chain (length vs) ≤ credit) × (undefined_cost + specialised_cost * length at.specialised ≤ credit))
+    → DoesOver setting k turns spare rs valid w around z y generic_words credit (generic_routine setting.at) (generic ∷ length vs ∷ address ∷ [])
+    (apply_generic_row (context_at setting k) (signal (context_at setting k)) (Some g) vs around z)
+
+-- no more arguments are specialised than are required
+abbrev pub FewSpecialised : Setting → Type 0
+FewSpecialised setting = (generic : ℕ) (g : GenericRow) (at : GenericAt setting generic g) → length at.specialised ≤ g.required
+
+-- the same by the number of arguments
+abbrev pub LawOfGenericsOver : Type 0
+LawOfGenericsOver =
+    (setting : Setting) (k turns spare : ℕ) (chain credit : ℕ → ℕ) (rs valid : List Standing) (w : World) (around : DynamicContext) (z : FlatState) (y : MidState)
+    → IsPlaced setting → turns ≤ setting.turns_each → spare ≤ 14 → GenericParts setting k spare around chain → FewSpecialised setting
+    → ((n : ℕ) → chain_around + specialised_cost * n + chain n ≤ credit n) → ((n : ℕ) → undefined_cost + specialised_cost * n ≤ credit n)
+    → GenericOver setting k turns spare rs valid w around z y credit
