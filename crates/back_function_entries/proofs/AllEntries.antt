@@ -1,108 +1,76 @@
 -- The entry of any function: from its body upwards, and then to the level that is judged first.
-use Rattle.std.proofs.Common.{◌≡◌, inl, inr, ℕ, zero, suc, ◌+◌, ◌*◌, ◌^◌, ◌==◌, ◌<◌, ◌≤◌, Bool, true, false, List, [], ◌∷◌, ◌++◌, length, Option, Some, None, refl, sym, ap, ◌∙◌, subst, append_assoc, arith}
-use Rattle.std.specs.Prelude.{◌-◌, ◌||◌, take, drop, slice_get, slice_set, slice_index_or, is_some, option_to_list, if◌then◌else◌}
+use Rattle.std.specs.Prelude.{◌-◌, take, drop, slice_get, slice_set, slice_index_or, is_some, option_to_list, if◌then◌else◌}
+use Rattle.std.proofs.Common.{◌≡◌, inl, ℕ, zero, suc, ◌+◌, ◌*◌, ◌^◌, ◌<◌, ◌≤◌, Bool, true, false, List, [], ◌∷◌, ◌++◌, length, Option, Some, None, refl, sym, ap, ◌∙◌, subst, append_assoc, arith}
 use Rattle.std.proofs.Math.ListN.{length-set}
-use Rattle.std.proofs.lemmas.List.{append-nil, length-append}
-use Rattle.lang_meaning.specs.Counts.{application_words, unit_cost}
+use Rattle.std.proofs.lemmas.List.{length-append}
+use Rattle.std.proofs.lemmas.Bool.{eq-eqb, ne_eqb}
+use Rattle.base.specs.Arithmetic.{sum32, difference32}
 use Rattle.lang_meaning.specs.Objects.{Called}
-use Rattle.lang_meaning.specs.State.{DynamicContext}
+use Rattle.lang_meaning.specs.State.{DynamicContext, Limit, words, unlimited}
 use Rattle.lang_meaning.specs.Values.{Value, nil}
 use Rattle.flat_language.specs.declared.program.FlatProcedure.{FlatProcedure}
-use Rattle.flat_language.specs.FlatNodes.{homes, nodes}
-use Rattle.flat_language.specs.FlatState.{Captured, FlatState, FlatEvaluated, charged}
+use Rattle.flat_language.specs.FlatNodes.{homes}
+use Rattle.flat_language.specs.FlatState.{Captured, FlatState, FlatEvaluated, charged, gives, go_on, no_environment}
+use Rattle.flat_language.specs.FlatSignals.{with_record, make_list, form, gathered}
 use Rattle.flat_laws.specs.FlatLater.{FlatLater}
-use Rattle.mid_code.specs.declared.program.MidProcedure.{MidProcedure}
-use Rattle.mid_code.specs.Arena.{stack_from, word_at}
-use Rattle.mid_code.specs.Costs.{return_cost}
-use Rattle.mid_code.specs.Meaning.{Context, exec}
-use Rattle.mid_code.specs.MidCode.{return_word, code_of}
-use Rattle.mid_code.specs.State.{Registers, register, MidState, MidOutcome}
+use Rattle.flat_laws.proofs.Applied.{records, lists, boxes, gathers}
+use Rattle.flat_laws.proofs.Combined.{given, own_slots_left}
+use Rattle.flat_laws.proofs.Later.{later_kept}
+use Rattle.mid_code.specs.Arena.{stack_from, Arena}
+use Rattle.mid_code.specs.Costs.{return_cost, test_cost, jump_cost}
+use Rattle.mid_code.specs.Meaning.{Context, exec, exec_step}
+use Rattle.mid_code.specs.MidCode.{return_word, code_of, MidStep}
+use Rattle.mid_code.specs.State.{Registers, register, MidState, MidOutcome, falls, ends}
 use Rattle.mid_code.specs.State.{charged as mid_charged}
+use Rattle.mid_code.specs.declared.operation.Comparison.TheVariants.{Equal}
+use Rattle.mid_code.specs.Law.{Grown}
+use Rattle.mid_code.specs.State.{go_on as mid_go_on}
+use Rattle.mid_code.specs.declared.operation.Arithmetic.TheVariants as which
+use Rattle.mid_code.proofs.Growth.{both_grown, charged_grown}
 use Rattle.mid_arena.specs.Places.{Places, WordsOf}
 use Rattle.mid_arena.specs.Standing.{ValueAt}
-use Rattle.mid_arena.proofs.Running.{parts_then}
+use Rattle.mid_arena.proofs.Running.{parts_then, RunsTo, and_then, none_left, costing, constant_falls, choose_first_falls, choose_second, go_on_twice, compute_known}
+use Rattle.mid_arena.proofs.Registers.{register_here, register_beside}
+use Rattle.mid_arena.proofs.WordFacts.{sum_fits}
 use Rattle.back_lowering.specs.Placement.{body_of_procedure}
 use Rattle.back_lowering.specs.Program.{Extra, nothing, its_method, itself}
 use Rattle.back_lowering.specs.Scope.{registers_from}
-use Rattle.back_lowering.specs.Steps.{Steps, call, words_loaded}
+use Rattle.back_lowering.specs.Steps.{Steps, call, words_loaded, constant, if_equal, test_of, compute}
+use Rattle.back_lowering.specs.Routines.{method_routine, list_routine, level_routine}
 use Rattle.back_relation.specs.Setting.{Setting}
-use Rattle.back_relation.specs.Room.{routine_words}
-use Rattle.back_relation.specs.Worlds.{World, Later, Standing}
-use Rattle.back_relation.specs.Around.{CallBegins, SiteStored}
-use Rattle.back_relation.specs.Activation.{SelfHeld, MethodHeld, MethodThere}
+use Rattle.back_relation.specs.Room.{routine_words, words_for_handler, level_words}
+use Rattle.back_relation.specs.Worlds.{World, Later, Standing, Plain}
+use Rattle.back_relation.specs.Around.{CallBegins, SiteStored, RoomFor}
+use Rattle.back_relation.specs.Activation.{SelfHeld, MethodHeld, MethodThere, in_heap, CallHeld}
 use Rattle.back_relation.specs.Ends.{WorldKept, Around, SparingCall}
 use Rattle.back_relation.specs.Forms.{context_at, code_at}
 use Rattle.back_relation.specs.Procedures.{called, as_registers, mean_inside, body_words, body_credit, IsFunction, CapturedFits, ExtraGiven, BodyDoes, ArgumentsLent}
+use Rattle.back_relation.specs.Chains.{ChainAt, ChainTakes}
+use Rattle.back_relation.specs.RoutineClaims.{list_credit, argument_credit, level_credit, LevelThere}
+use Rattle.back_relation.specs.Placed.{IsPlaced}
 use Rattle.back_combining.proofs.Activations.{made_by_later}
 use Rattle.back_combining.proofs.Starts.{room_after}
 use Rattle.back_combining.proofs.Straight.{things_cost, things_units, world_cost, around_cost}
-use Rattle.back_combining.proofs.Then.{call_then, from_same}
+use Rattle.back_combining.proofs.Then.{call_then, from_same, world_then, back_then}
 use Rattle.back_combining.proofs.Worlds.{word_later, plain_later}
+use Rattle.back_combining.proofs.Growth.{grown_later}
+use Rattle.back_combining.proofs.Parts.{go_on_falls, single_step, step_then}
+use Rattle.back_arguments.proofs.WordLists.{of_values_later}
+use Rattle.back_values.proofs.BoxesMade.{steps_grow}
 use Rattle.back_calling.specs.Calling.{WordsIn, call_cost}
 use Rattle.back_calling.proofs.Inner.{going_on_law, returned}
 use Rattle.back_calling.proofs.Outward.{captured_later, self_out, method_out}
-use Rattle.back_bodies.proofs.Held.{extra_below}
-use Rattle.back_function_entries.specs.FunctionEntries.{CalledFits}
-use Rattle.back_function_entries.proofs.FunctionEntries.{extras, extra_words, extras_in, few_extras, count_from, fewer_turns, room_cost}
-use Rattle.std.proofs.lemmas.Bool.{eq-eqb, ne_eqb}
-use Rattle.flat_laws.proofs.Applied.{records, lists}
-use Rattle.flat_laws.proofs.Combined.{given}
-use Rattle.flat_laws.proofs.Later.{later_kept}
-use Rattle.flat_language.specs.FlatSignals.{with_record, make_list}
-use Rattle.mid_code.specs.declared.operation.Comparison.TheVariants.{Equal}
-use Rattle.mid_code.specs.Costs.{test_cost, jump_cost}
-use Rattle.mid_code.specs.Law.{Grown}
-use Rattle.mid_code.specs.Meaning.{exec_step}
-use Rattle.mid_code.specs.MidCode.{MidStep}
-use Rattle.mid_code.specs.State.{falls, ends}
-use Rattle.mid_code.specs.State.{go_on as mid_go_on}
-use Rattle.mid_code.proofs.Growth.{both_grown, charged_grown}
-use Rattle.mid_arena.proofs.Registers.{register_here, register_beside}
-use Rattle.mid_arena.proofs.Running.{RunsTo, and_then, none_left, costing, constant_falls, choose_first_falls, choose_second, go_on_twice}
-use Rattle.back_lowering.specs.Routines.{method_routine}
-use Rattle.back_lowering.specs.Steps.{constant, if_equal, test_of}
-use Rattle.back_relation.specs.Room.{words_for_handler}
-use Rattle.back_relation.specs.Around.{RoomFor}
-use Rattle.back_relation.specs.Chains.{ChainAt, ChainTakes}
-use Rattle.back_relation.specs.Activation.{in_heap, CallHeld}
-use Rattle.back_relation.specs.RoutineClaims.{argument_credit}
-use Rattle.flat_language.specs.FlatState.{gives, go_on}
-use Rattle.lang_meaning.specs.State.{Limit, words, unlimited}
-use Rattle.back_arguments.proofs.WordLists.{of_values_later}
-use Rattle.back_combining.proofs.Growth.{grown_later}
-use Rattle.back_combining.proofs.Parts.{go_on_falls, single_step, step_then}
-use Rattle.back_combining.proofs.Then.{world_then, back_then}
 use Rattle.back_calling.proofs.Numbers.{behind_front}
-use Rattle.back_calling.proofs.Units.{world_both, around_both}
-use Rattle.back_values.proofs.BoxesMade.{steps_grow}
-use Rattle.back_function_entries.specs.AllEntries.{entry_spare, KeptThere, CallsKept}
-use Rattle.back_function_entries.proofs.FunctionEntries.{meant_later, method_there}
-use Rattle.back_function_entries.proofs.Made.{record_in_parts, made_then}
-use Rattle.base.specs.Arithmetic.{sum32, difference32}
-use Rattle.flat_laws.proofs.Applied.{boxes}
-use Rattle.flat_laws.proofs.Combined.{own_slots_left}
-use Rattle.flat_language.specs.FlatSignals.{form}
-use Rattle.flat_language.specs.FlatState.{no_environment}
-use Rattle.mid_code.specs.Arena.{Arena}
-use Rattle.mid_code.specs.declared.operation.Arithmetic.TheVariants as which
-use Rattle.mid_arena.proofs.Running.{compute_known}
-use Rattle.mid_arena.proofs.WordFacts.{sum_fits}
-use Rattle.back_lowering.specs.Routines.{list_routine}
-use Rattle.back_lowering.specs.Steps.{compute}
-use Rattle.back_relation.specs.Worlds.{Plain}
+use Rattle.back_calling.proofs.Units.{world_both, around_both, calls_spared, calls_recounted}
 use Rattle.back_calling.proofs.Growing.{tasks_below}
-use Rattle.back_calling.proofs.Units.{calls_recounted}
-use Rattle.back_function_entries.specs.AllEntries.{ListThere, ListsMade}
-use Rattle.back_function_entries.proofs.Loading.{word_below}
-use Rattle.back_function_entries.proofs.Made.{list_in_parts}
-use Rattle.flat_laws.proofs.Applied.{gathers}
-use Rattle.flat_language.specs.FlatSignals.{gathered}
-use Rattle.back_lowering.specs.Routines.{level_routine}
-use Rattle.back_relation.specs.Placed.{IsPlaced}
-use Rattle.back_relation.specs.Room.{level_words}
-use Rattle.back_relation.specs.RoutineClaims.{level_credit, LevelThere}
+use Rattle.back_bodies.proofs.Held.{extra_below}
+use Rattle.back_applications.proofs.Applied.{called_grows}
 use Rattle.back_applications.proofs.Levels.{levels_there_at}
-use Rattle.back_function_entries.proofs.Loading.{loads_run}
+use Rattle.back_function_entries.specs.FunctionEntries.{CalledFits}
+use Rattle.back_function_entries.specs.AllEntries.{entry_spare, KeptThere, CallsKept, ListThere, ListsMade}
+use Rattle.back_function_entries.proofs.FunctionEntries.{extras, extra_words, extras_in, few_extras, count_from, fewer_turns, room_cost, meant_later, method_there}
+use Rattle.back_function_entries.proofs.Made.{record_in_parts, made_after, made_then, list_in_parts}
+use Rattle.back_function_entries.proofs.Loading.{word_below, loads_run}
 
 -- ---- the first values of a list
 
@@ -368,7 +336,7 @@ module _ (setting : Setting) (number : ℕ) (extra : Extra) (q : FlatProcedure) 
         (extras_held w x (mid_charged paid y) address extra as_extra g.held method (method_there setting w y chain (length vs) address called_as g.lent.low)) g.site g.fits of_rest rest_there
 
     abbrev kept_paid : ℕ
-    kept_paid = 78 + argument_credit (length vs) + loaded_paid
+    kept_paid = 20 + loaded_paid
 
     -- no method was called
     none_kept :
@@ -470,13 +438,18 @@ module _ (setting : Setting) (number : ℕ) (extra : Extra) (q : FlatProcedure) 
           subst (λ (p : MidOutcome). Grown x1 p.state) (sym (go_on_falls (ends falls g1 (mid_charged jump_cost x1)) (λ g2 x2. loaded g2 x2) refl))
           (both_grown (charged_grown jump_cost x1) (steps_grow setting (suc j) n (body_steps req) g1 (mid_charged jump_cost x1)))
 
-      -- behind the routine
+      -- behind the call, where the routine left a unit
+      abbrev kept_behind : ℕ
+      kept_behind = 58 + (loaded_paid - 700)
+
       kept_on :
-          (t : Kept) → WorldKept setting w t.kept.w' x kept_record.state y6 kept_outcome.state
-          → Around setting (argument_credit (length called_there.arguments) + call_cost (1 ∷ 2 ∷ 3 ∷ [])) x kept_record.state y6 kept_outcome.state
-          → SparingCall setting (2 + loaded_paid) m rs valid t.kept.w' around kept_record.state kept_outcome.state (meant kept_record.state)
-          (jumping (slice_set regs5 3 (Some (t.kept.start + 8))) kept_outcome.state)
-      kept_on t world back =
+          (t : Kept) → SparingCall setting kept_behind m rs valid w around x y6 (meant kept_record.state) (jumping (slice_set regs5 3 (Some (t.kept.start + 8))) kept_outcome.state)
+      kept_on t =
+          let b6 : CallBegins setting rs valid inside_words w around x y6 = cost_begins test_cost (cost_begins 6 g.call) in
+          let world : WorldKept setting w t.kept.w' x kept_record.state y6 kept_outcome.state =
+          world_then setting (world_cost setting 58 b6.things) (around_cost setting {credit = 58} x y6 58 (omega arith)) t.kept.world in
+          let back : Around setting (58 + argument_credit (length called_there.arguments)) x kept_record.state y6 kept_outcome.state =
+          back_then setting (world_cost setting 58 b6.things) (around_cost setting {credit = 58} x y6 58 (omega arith)) (omega arith) t.kept.back in
           let regs' : Registers = slice_set regs5 3 (Some (t.kept.start + 8)) in
           let w2 : World = t.kept.w' in
           let x2 : FlatState = kept_record.state in
@@ -507,6 +480,7 @@ module _ (setting : Setting) (number : ℕ) (extra : Extra) (q : FlatProcedure) 
           let call8 : CallBegins setting rs valid inside_words w2 around x2 y8 =
           call_then setting world back inside_words (cost_begins test_cost (cost_begins 6 g.call)) (room_after setting.limit _ _ x x2 y6 y8 (omega arith) back.charged (cost_begins test_cost (cost_begins 6 g.call)).room) in
           let y9 : MidState = mid_charged jump_cost y8 in
+          let behind_ends : SparingCall setting (2 + loaded_paid) m rs valid w2 around x2 y8 (meant x2) (jumping regs' y8) =
           subst (λ o. SparingCall setting (2 + loaded_paid) m rs valid w2 around x2 y8 (meant x2) o) (sym (go_on_falls (ends falls regs' y9) (λ g2 x3. loaded g2 x3) refl))
           (going_on_law setting jump_cost loaded_paid (2 + loaded_paid) m m rs valid w2 w2 around (charged 1 x2) (charged 1 x2) y8 y9 (meant x2) (loaded regs' y9)
           (world_cost setting jump_cost (things_units setting 1 call8.things)) (around_cost setting (charged 1 x2) y8 jump_cost (omega arith)) (omega arith) (omega arith) refl
@@ -518,7 +492,13 @@ module _ (setting : Setting) (number : ℕ) (extra : Extra) (q : FlatProcedure) 
           (extras_held w2 x2 y9 (t.kept.start + 8) extra as_extra
           (self_out x.captured x2.captured (Some self) world.later (captured_later setting g.call.things later) cs g.held) method method_is_there)
           (t.site g.site) (fits_later extra world.later g.fits) (of_values_later world.later rv rw of_rest)
-          (rest_beside (is_some q.rest) rw regs' regs (beside 4 (omega arith) (λ e. omega (arith, e))) rest_there)))
+          (rest_beside (is_some q.rest) rw regs' regs (beside 4 (omega arith) (λ e. omega (arith, e))) rest_there))) in
+          let spared = t.spared in
+          let costs = (called_grows setting (suc j) n (method_routine setting.at) keep_words y7).cost in
+          going_on_law setting 58 (loaded_paid - 700) kept_behind m m rs valid w w2 around (charged 1 x) x2 y6 y8 (meant x2) (jumping regs' y8)
+          (record { later = world.later; things = world.things; stack = world.stack; end = world.end; more_exits = world.more_exits; same_size = world.same_size })
+          (record { control = back.control; blocks = back.blocks; charged = back.charged; paid = omega (arith, spared) }) (omega arith) (omega (arith, spared, costs)) t.kept.frame
+          (calls_spared setting {credit = 2 + loaded_paid} {c = loaded_paid - 700} (omega arith) behind_ends)
 
       one_kept :
           SparingCall setting kept_paid m rs valid w around x y (with_record setting.limit (Some called_there) true x (λ recorded. meant recorded))
@@ -539,16 +519,14 @@ module _ (setting : Setting) (number : ℕ) (extra : Extra) (q : FlatProcedure) 
           subst (λ p. SparingCall setting kept_paid m rs valid w around x y p (exec c (code_of (constant 5 0 ∷ choice ∷ body_steps req)) regs y))
           (sym (record_in_parts setting.limit called_there x (λ recorded. meant recorded)))
           (subst (λ p. SparingCall setting kept_paid m rs valid w around x y (go_on kept_record (λ v a. meant a)) p) (sym run)
-          (going_on_law setting 18 (60 + argument_credit (length vs) + loaded_paid) kept_paid m m rs valid w w around (charged 1 x) (charged 1 x) y y6 (go_on kept_record (λ v a. meant a))
+          (going_on_law setting 18 kept_behind kept_paid m m rs valid w w around (charged 1 x) (charged 1 x) y y6 (go_on kept_record (λ v a. meant a))
           (mid_go_on (exec_step c keep_call regs5 y6) jumping) (world_both setting 1 twice_world) (around_both setting 1 twice_around) (omega arith) (omega arith) refl
-          (made_then setting Kept (λ t. t.kept.w') (λ t. nil) (λ t. t.kept.start + 8) c (argument_credit (length called_there.arguments)) (2 + loaded_paid)
-          (60 + argument_credit (length vs) + loaded_paid) (n + entry_spare) m 3 (method_routine setting.at) (1 ∷ 2 ∷ 3 ∷ []) keep_words rs valid w around x y6 regs5 kept_record
-          (λ v a. meant a) jumping words_there (cost_begins test_cost (cost_begins 6 g.call)).things (omega (arith, counted)) left_over (grown_later later).units
-          (λ v a. grown_later (meant_later setting j q cs called_as variables around a)) (λ g1 x1. jumping_grows g1 x1)
-          (λ t. record { outcome = ap (λ (e : FlatEvaluated). e.outcome) t.kept.outcome; end = t.kept.end; world = t.kept.world; back = t.kept.back; frame = t.kept.frame })
+          (made_after setting Kept (λ t. nil) (λ t. t.kept.start + 8) c kept_behind (n + entry_spare) m 3 (method_routine setting.at) (1 ∷ 2 ∷ 3 ∷ []) keep_words rs valid w around x y6 regs5
+          kept_record (λ v a. meant a) jumping words_there left_over (λ v a. grown_later (meant_later setting j q cs called_as variables around a)) (λ g1 x1. jumping_grows g1 x1)
+          (λ t. ap (λ (e : FlatEvaluated). e.outcome) t.kept.outcome) (λ t. t.kept.end)
           (keeps rs valid w around x y7 called_there chain address chain_at takes_them (subst (λ us. ArgumentsLent setting w y7.arena address us) (sym same_arguments) g.lent)
           (fewer_begins routine_words (omega arith) begins7))
-          (λ t world back. kept_on t world back))))
+          (λ t. kept_on t))))
         where
           twice_world : WorldKept setting w w x x y y6
           twice_world = world_then setting (world_cost setting 6 g.call.things) (around_cost setting {credit = 6} x y 6 (omega arith)) (world_cost setting test_cost (cost_begins 6 g.call).things)
@@ -561,12 +539,8 @@ module _ (setting : Setting) (number : ℕ) (extra : Extra) (q : FlatProcedure) 
     abbrev kept_code : Bool → Steps
     kept_code b = (if b then constant 5 0 ∷ if_equal 1 5 [] (keep_call ∷ []) ∷ [] else []) ++ body_steps req
 
-    -- what is paid of it
-    abbrev keeping_paid : Bool → ℕ
-    keeping_paid b = (if b then 78 + argument_credit (length vs) else 0) + loaded_paid
-
     not_kept : {w : World} {x : FlatState} {y : MidState} (regs : Registers) → q.keeps_method ≡ false → Given w x y regs → WordsOf w.places rv rw → WordsIn regs rest_registers rw
-        → SparingCall setting (0 + loaded_paid) m rs valid w around x y (meant x) (loaded regs y)
+        → SparingCall setting kept_paid m rs valid w around x y (meant x) (loaded regs y)
     not_kept {w} {x} {y} regs keeps_none g of_rest rest_there =
         let no_cost : y.cost + 0 ≡ y.cost = omega arith in
         calls_recounted setting {c1 = loaded_paid} {m1 = m} x (x.state.units + 1) (x.state.units + 1) (omega arith) (omega arith)
@@ -577,7 +551,7 @@ module _ (setting : Setting) (number : ℕ) (extra : Extra) (q : FlatProcedure) 
     method_ends :
         CallsKept setting (suc j) n → m + 16 ≤ n + entry_spare → ((k : Called) → called_as ≡ Some k → k.arguments ≡ vs) → (b : Bool) → q.keeps_method ≡ b → (o : Option Called)
         → called_as ≡ o → {w : World} {x : FlatState} {y : MidState} (regs : Registers) → Given w x y regs → WordsOf w.places rv rw → WordsIn regs rest_registers rw
-        → SparingCall setting (keeping_paid b) m rs valid w around x y (with_record setting.limit o b x (λ recorded. meant recorded)) (exec c (code_of (kept_code b)) regs y)
+        → SparingCall setting kept_paid m rs valid w around x y (with_record setting.limit o b x (λ recorded. meant recorded)) (exec c (code_of (kept_code b)) regs y)
     method_ends keeps left_over of_method false same None e regs g of_rest rest_there = not_kept regs same g of_rest rest_there
     method_ends keeps left_over of_method false same (Some k) e regs g of_rest rest_there = not_kept regs same g of_rest rest_there
     method_ends keeps left_over of_method true same None e regs g of_rest rest_there = none_kept regs e g of_rest rest_there
@@ -612,10 +586,10 @@ module _ (setting : Setting) (number : ℕ) (extra : Extra) (q : FlatProcedure) 
         (λ got. own_slots_left (homes q) us got (λ b. tasks_below setting (suc j) (form q.body) (record no_environment { captured = cs; method = called_as }) around b)))).grows
 
     abbrev all_kept_paid : ℕ
-    all_kept_paid = (if q.keeps_method then 78 + argument_credit (length vs) else 0) + (24 * req + (body_credit q + call_cost args + return_cost))
+    all_kept_paid = 20 + (24 * req + (body_credit q + call_cost args + return_cost))
 
     abbrev rest_paid : ℕ
-    rest_paid = 84 + argument_credit (length vs) + all_kept_paid
+    rest_paid = 84 + list_credit (length vs) + all_kept_paid
 
     abbrev pub rest_code : Bool → Steps
     rest_code b = (if b then constant 5 (4 * req) ∷ compute 5 which.Add 3 5 ∷ constant 6 req ∷ compute 6 which.Subtract 2 6 ∷ list_call ∷ [] else []) ++ kept_steps
@@ -721,7 +695,7 @@ module _ (setting : Setting) (number : ℕ) (extra : Extra) (q : FlatProcedure) 
       list_outcome = called code_here (list_routine setting.at) list_words y84
 
       abbrev Made : Type 0
-      Made = ListThere setting (suc j) n rs valid w around x y84 (argument_credit (length tail_values)) listed list_outcome
+      Made = ListThere setting (suc j) n rs valid w around x y84 (list_credit (length tail_values)) listed list_outcome
 
       begins32 : CallBegins setting rs valid inside_words w around x y32
       begins32 = cost_begins 32 g.call
@@ -748,7 +722,7 @@ module _ (setting : Setting) (number : ℕ) (extra : Extra) (q : FlatProcedure) 
       -- behind the list
       listed_on :
           (t : Made) → WorldKept setting w t.returned.w' x listed.state y32 list_outcome.state
-          → Around setting (argument_credit (length tail_values) + call_cost (5 ∷ 6 ∷ [])) x listed.state y32 list_outcome.state
+          → Around setting (list_credit (length tail_values) + call_cost (5 ∷ 6 ∷ [])) x listed.state y32 list_outcome.state
           → SparingCall setting all_kept_paid m rs valid t.returned.w' around listed.state list_outcome.state (recorded_body (take req vs ++ t.returned.result ∷ []) listed.state)
           (exec code_here (code_of kept_steps) (slice_set r4 4 (Some t.returned.word)) list_outcome.state)
       listed_on t world back =
@@ -773,11 +747,11 @@ module _ (setting : Setting) (number : ℕ) (extra : Extra) (q : FlatProcedure) 
           subst (λ p. SparingCall setting rest_paid m rs valid w around x y p (exec code_here (code_of (front ++ (list_call ∷ kept_steps))) regs y))
           (sym (list_in_parts setting.limit tail_values x (λ tail after. recorded_body (take req vs ++ tail ∷ []) after)))
           (subst (λ p. SparingCall setting rest_paid m rs valid w around x y (go_on listed (λ tail after. recorded_body (take req vs ++ tail ∷ []) after)) p) (sym run)
-          (going_on_law setting 32 (52 + argument_credit (length vs) + all_kept_paid) rest_paid m m rs valid w w around (charged 1 x) (charged 1 x) y y32
+          (going_on_law setting 32 (52 + list_credit (length vs) + all_kept_paid) rest_paid m m rs valid w w around (charged 1 x) (charged 1 x) y y32
           (go_on listed (λ tail after. recorded_body (take req vs ++ tail ∷ []) after)) (mid_go_on (exec_step code_here list_call r4 y32) (λ g1 x1. exec code_here (code_of kept_steps) g1 x1))
           (world_cost setting 32 (things_units setting 1 g.call.things)) (around_cost setting (charged 1 x) y 32 (omega arith)) (omega arith) (omega arith) refl
-          (made_then setting Made (λ t. t.returned.w') (λ t. t.returned.result) (λ t. t.returned.word) code_here (argument_credit (length tail_values)) all_kept_paid
-          (52 + argument_credit (length vs) + all_kept_paid) (n + entry_spare) m 4 (list_routine setting.at) (5 ∷ 6 ∷ []) list_words rs valid w around x y32 r4 listed
+          (made_then setting Made (λ t. t.returned.w') (λ t. t.returned.result) (λ t. t.returned.word) code_here (list_credit (length tail_values)) all_kept_paid
+          (52 + list_credit (length vs) + all_kept_paid) (n + entry_spare) m 4 (list_routine setting.at) (5 ∷ 6 ∷ []) list_words rs valid w around x y32 r4 listed
           (λ tail after. recorded_body (take req vs ++ tail ∷ []) after) (λ g1 x1. exec code_here (code_of kept_steps) g1 x1) list_there begins32.things (omega (arith, counted)) left_over
           (grown_later listed_later).units (λ tail after. grown_later (recorded_later (take req vs ++ tail ∷ []) after)) (λ g1 x1. steps_grow setting (suc j) n kept_steps g1 x1)
           (λ t. record { outcome = t.returned.outcome; end = t.returned.end; world = t.returned.world; back = t.returned.back; frame = t.returned.frame })

@@ -1,12 +1,12 @@
 -- What a routine made inside an entry, and what goes on with it; and lists and kept calls in two parts.
-use Rattle.std.proofs.Common.{◌≡◌, ℕ, ◌+◌, ◌*◌, ◌<◌, ◌≤◌, Bool, true, false, List, [], ◌∷◌, length, Some, refl, sym, ap, ◌∙◌, subst, arith}
+use Rattle.std.proofs.Common.{◌≡◌, ℕ, ◌+◌, ◌≤◌, Bool, true, false, List, [], ◌∷◌, length, Some, refl, sym, ap, ◌∙◌, subst, arith}
 use Rattle.std.specs.Prelude.{slice_set, if◌then◌else◌}
 use Rattle.lang_meaning.specs.Objects.{Called, Object, cons}
 use Rattle.lang_meaning.specs.Prefixes.{IsPrefix}
 use Rattle.lang_meaning.specs.State.{DynamicContext, value, Limit, has_room, room_left, full}
 use Rattle.lang_meaning.specs.Values.{Value, nil}
 use Rattle.flat_language.specs.FlatSignals.{make_list, with_record}
-use Rattle.flat_language.specs.FlatState.{FlatState, FlatEvaluated, gives, go_on, charged, make, request}
+use Rattle.flat_language.specs.FlatState.{FlatState, FlatEvaluated, gives, go_on, charged, make}
 use Rattle.mid_code.specs.Law.{Grown}
 use Rattle.mid_code.specs.Meaning.{Context, exec_step}
 use Rattle.mid_code.specs.Meaning.{called as mid_called}
@@ -98,20 +98,19 @@ pub record MadeBy (setting : Setting) (credit : ℕ) (w w' : World) (v : Value) 
   pub back : Around setting credit z r.state y q.state
   pub frame : r.state.frame ≡ z.frame
 
--- **a routine is called that makes something, and the code goes on with it**, which leaves something of the first unit that is charged there
-pub made_then :
-    (setting : Setting) (There : Type 0) (world_of : There → World) (value_of : There → Value) (word_of : There → ℕ) (c : Context) (c1 c2 credit m1 m t number : ℕ)
+-- **a routine is called that makes something**, and what all comes to where it did
+pub made_after :
+    (setting : Setting) (There : Type 0) (value_of : There → Value) (word_of : There → ℕ) (c : Context) (credit m1 m t number : ℕ)
     (arguments ws : List ℕ) (rs valid : List Standing) (w : World) (around : DynamicContext) (z : FlatState) (y : MidState) (regs : Registers) (r : FlatEvaluated)
     (f : Value → FlatState → FlatEvaluated) (next : Next)
-    → WordsIn regs arguments ws → Things setting w z y → c1 + call_cost arguments + c2 ≤ credit → m + 16 ≤ m1 → z.state.units ≤ r.state.state.units
+    → WordsIn regs arguments ws → m + 16 ≤ m1
     → ((v : Value) (x : FlatState) → FlatGrown x (f v x).state) → ((g : Registers) (x : MidState) → Grown x (next g x).state)
-    → ((x : There) → MadeBy setting c1 w (world_of x) (value_of x) (word_of x) z (mid_charged (call_cost arguments) y) r (after c number arguments ws y))
+    → ((x : There) → r.outcome ≡ value (value_of x)) → ((x : There) → (after c number arguments ws y).end ≡ returns (word_of x))
     → Ends setting There ⊥ m1 z (mid_charged (call_cost arguments) y) r (after c number arguments ws y)
-    → ((x : There) → WorldKept setting w (world_of x) z r.state y (after c number arguments ws y).state → Around setting (c1 + call_cost arguments) z r.state y (after c number arguments ws y).state
-    → SparingCall setting c2 m rs valid (world_of x) around r.state (after c number arguments ws y).state (f (value_of x) r.state)
-    (next (slice_set regs t (Some (word_of x))) (after c number arguments ws y).state))
+    → ((x : There)
+    → SparingCall setting credit m rs valid w around z y (f (value_of x) r.state) (next (slice_set regs t (Some (word_of x))) (after c number arguments ws y).state))
     → SparingCall setting credit m rs valid w around z y (go_on r f) (mid_go_on (exec_step c (call t number arguments) regs y) next)
-made_then setting There world_of value_of word_of c c1 c2 credit m1 m t number arguments ws rs valid w around z y regs r f next there things enough fewer up flat_grown grown made e h =
+made_after setting There value_of word_of c credit m1 m t number arguments ws rs valid w around z y regs r f next there fewer flat_grown grown outcome end e h =
     subst (λ p. SparingCall setting credit m rs valid w around z y (go_on r f) p) (sym (ap (λ p. mid_go_on p next) (call_comes c regs y t number arguments ws there))) (cases e)
   where
     flat_later : FlatGrown r.state (go_on r f).state
@@ -125,18 +124,11 @@ made_then setting There world_of value_of word_of c c1 c2 credit m1 m t number a
     cases : Ends setting There ⊥ m1 z (mid_charged (call_cost arguments) y) r (after c number arguments ws y)
         → SparingCall setting credit m rs valid w around z y (go_on r f) (mid_go_on (mid_called (after c number arguments ws y) t regs) next)
     cases (done x) =
-        let k = made x in
-        let world : WorldKept setting w (world_of x) z r.state y (after c number arguments ws y).state =
-        world_then setting (world_cost setting (call_cost arguments) things) (around_cost setting {credit = call_cost arguments} z y (call_cost arguments) (omega arith)) k.world in
-        let back : Around setting (c1 + call_cost arguments) z r.state y (after c number arguments ws y).state =
-        back_then setting (world_cost setting (call_cost arguments) things) (around_cost setting {credit = call_cost arguments} z y (call_cost arguments) (omega arith)) (omega arith) k.back in
-        subst (λ p. SparingCall setting credit m rs valid w around z y p (mid_go_on (mid_called (after c number arguments ws y) t regs) next)) (sym (then_value r f (value_of x) k.outcome))
+        subst (λ p. SparingCall setting credit m rs valid w around z y p (mid_go_on (mid_called (after c number arguments ws y) t regs) next)) (sym (then_value r f (value_of x) (outcome x)))
         (subst (λ p. SparingCall setting credit m rs valid w around z y (f (value_of x) r.state) p)
-        (sym (ap (λ p. mid_go_on p next) (called_returned (after c number arguments ws y) t regs k.end)
+        (sym (ap (λ p. mid_go_on p next) (called_returned (after c number arguments ws y) t regs (end x))
         ∙ go_on_falls (ends falls (slice_set regs t (Some (word_of x))) (after c number arguments ws y).state) next refl))
-        (going_on_law setting (c1 + call_cost arguments) c2 credit m m rs valid w (world_of x) around (charged 1 z) (charged 1 r.state) y (after c number arguments ws y).state
-        (f (value_of x) r.state) (next (slice_set regs t (Some (word_of x))) (after c number arguments ws y).state) (world_both setting 1 world) (around_both setting 1 back) enough
-        (omega (arith, up)) k.frame (h x world back)))
+        (h x))
     cases (left_by x) = absurd x
     cases (full_there x) =
         subst (λ p. SparingCall setting credit m rs valid w around z y p (mid_go_on (mid_called (after c number arguments ws y) t regs) next)) (sym (then_other r f _ x.outcome tt))
@@ -159,3 +151,28 @@ made_then setting There world_of value_of word_of c c1 c2 credit m1 m t number a
               both_prefix (subst (λ (s : MidState). IsPrefix s.printed r.state.state.printed) (sym (called_state (after c number arguments ws y) t regs)) x.printed) flat_later.printed;
         }))
     cases (few_turns x) = few_turns (omega (arith, x, fewer, flat_later.units))
+
+-- **and the code goes on with it**, which leaves something of the first unit that is charged there
+pub made_then :
+    (setting : Setting) (There : Type 0) (world_of : There → World) (value_of : There → Value) (word_of : There → ℕ) (c : Context) (c1 c2 credit m1 m t number : ℕ)
+    (arguments ws : List ℕ) (rs valid : List Standing) (w : World) (around : DynamicContext) (z : FlatState) (y : MidState) (regs : Registers) (r : FlatEvaluated)
+    (f : Value → FlatState → FlatEvaluated) (next : Next)
+    → WordsIn regs arguments ws → Things setting w z y → c1 + call_cost arguments + c2 ≤ credit → m + 16 ≤ m1 → z.state.units ≤ r.state.state.units
+    → ((v : Value) (x : FlatState) → FlatGrown x (f v x).state) → ((g : Registers) (x : MidState) → Grown x (next g x).state)
+    → ((x : There) → MadeBy setting c1 w (world_of x) (value_of x) (word_of x) z (mid_charged (call_cost arguments) y) r (after c number arguments ws y))
+    → Ends setting There ⊥ m1 z (mid_charged (call_cost arguments) y) r (after c number arguments ws y)
+    → ((x : There) → WorldKept setting w (world_of x) z r.state y (after c number arguments ws y).state → Around setting (c1 + call_cost arguments) z r.state y (after c number arguments ws y).state
+    → SparingCall setting c2 m rs valid (world_of x) around r.state (after c number arguments ws y).state (f (value_of x) r.state)
+    (next (slice_set regs t (Some (word_of x))) (after c number arguments ws y).state))
+    → SparingCall setting credit m rs valid w around z y (go_on r f) (mid_go_on (exec_step c (call t number arguments) regs y) next)
+made_then setting There world_of value_of word_of c c1 c2 credit m1 m t number arguments ws rs valid w around z y regs r f next there things enough fewer up flat_grown grown made e h =
+    made_after setting There value_of word_of c credit m1 m t number arguments ws rs valid w around z y regs r f next there fewer flat_grown grown (λ x. (made x).outcome) (λ x. (made x).end) e
+    (λ x.
+    let k = made x in
+    let world : WorldKept setting w (world_of x) z r.state y (after c number arguments ws y).state =
+    world_then setting (world_cost setting (call_cost arguments) things) (around_cost setting {credit = call_cost arguments} z y (call_cost arguments) (omega arith)) k.world in
+    let back : Around setting (c1 + call_cost arguments) z r.state y (after c number arguments ws y).state =
+    back_then setting (world_cost setting (call_cost arguments) things) (around_cost setting {credit = call_cost arguments} z y (call_cost arguments) (omega arith)) (omega arith) k.back in
+    going_on_law setting (c1 + call_cost arguments) c2 credit m m rs valid w (world_of x) around (charged 1 z) (charged 1 r.state) y (after c number arguments ws y).state
+    (f (value_of x) r.state) (next (slice_set regs t (Some (word_of x))) (after c number arguments ws y).state) (world_both setting 1 world) (around_both setting 1 back) enough
+    (omega (arith, up)) k.frame (h x world back))

@@ -1,6 +1,6 @@
 -- The entry of a function that makes a list or keeps a call: it is entered, and its arguments are given.
-use Rattle.std.proofs.Common.{◌≡◌, ℕ, zero, suc, ◌+◌, ◌*◌, ◌<◌, ◌≤◌, Bool, true, false, List, [], ◌∷◌, ◌++◌, length, Option, Some, None, refl, sym, ap, ◌∙◌, subst, arith}
 use Rattle.std.specs.Prelude.{◌||◌, is_some, option_to_list, if◌then◌else◌}
+use Rattle.std.proofs.Common.{◌≡◌, ℕ, zero, suc, ◌+◌, ◌*◌, ◌≤◌, Bool, true, false, List, [], ◌∷◌, ◌++◌, length, Option, Some, None, refl, sym, ap, ◌∙◌, subst, arith}
 use Rattle.std.proofs.lemmas.Bool.Decides.{nat_tests}
 use Rattle.std.proofs.lemmas.List.{length-append}
 use Rattle.lang_meaning.specs.Counts.{application_words, unit_cost}
@@ -10,34 +10,28 @@ use Rattle.lang_meaning.specs.State.{DynamicContext, Limit, words, unlimited, ha
 use Rattle.lang_meaning.specs.Values.{Value}
 use Rattle.flat_language.specs.declared.program.FlatProcedure.{FlatProcedure}
 use Rattle.flat_language.specs.FlatNodes.{homes, nodes}
-use Rattle.flat_language.specs.FlatSignals.{FlatSignals, descend, enter, gathered}
-use Rattle.flat_language.specs.FlatState.{Captured, FlatState, FlatEvaluated, charged, in_frame}
-use Rattle.mid_code.specs.declared.operation.Counted.TheVariants.{Level}
-use Rattle.mid_code.specs.declared.program.MidProcedure.{MidProcedure}
-use Rattle.mid_code.specs.Costs.{entry_cost, return_cost}
-use Rattle.mid_code.specs.Meaning.{exec}
-use Rattle.mid_code.specs.MidCode.{code_of}
-use Rattle.mid_code.specs.State.{Registers, first_registers, MidState}
-use Rattle.mid_code.specs.State.{charged as mid_charged}
-use Rattle.back_lowering.specs.ControlWords.{site_address}
-use Rattle.back_lowering.specs.Placement.{body_of_procedure}
-use Rattle.back_lowering.specs.Program.{Extra, its_method, procedure_with, entry}
-use Rattle.back_lowering.specs.RoutineCodes.{level_code}
-use Rattle.back_lowering.specs.Routines.{level_routine}
-use Rattle.back_lowering.specs.Steps.{Steps, call}
-use Rattle.flat_language.specs.FlatSignals.{form, with_record}
-use Rattle.flat_language.specs.FlatState.{no_environment}
+use Rattle.flat_language.specs.FlatSignals.{FlatSignals, descend, enter, gathered, form, with_record}
+use Rattle.flat_language.specs.FlatState.{Captured, FlatState, FlatEvaluated, charged, in_frame, no_environment}
 use Rattle.flat_laws.specs.FlatLater.{FlatLater}
 use Rattle.flat_laws.proofs.Applied.{gathers, records, boxes}
 use Rattle.flat_laws.proofs.Combined.{own_slots_left}
 use Rattle.flat_laws.proofs.Later.{later_kept}
-use Rattle.mid_code.specs.MidCode.{return_word}
+use Rattle.mid_code.specs.declared.operation.Counted.TheVariants.{Level}
+use Rattle.mid_code.specs.declared.program.MidProcedure.{MidProcedure}
+use Rattle.mid_code.specs.Costs.{entry_cost, return_cost}
+use Rattle.mid_code.specs.Meaning.{exec}
+use Rattle.mid_code.specs.MidCode.{code_of, return_word}
+use Rattle.mid_code.specs.State.{Registers, first_registers, MidState}
+use Rattle.mid_code.specs.State.{charged as mid_charged}
 use Rattle.mid_code.specs.declared.operation.Arithmetic.TheVariants as which
-use Rattle.back_lowering.specs.Routines.{list_routine, method_routine}
+use Rattle.back_lowering.specs.ControlWords.{site_address}
+use Rattle.back_lowering.specs.Placement.{body_of_procedure}
+use Rattle.back_lowering.specs.Program.{Extra, its_method, procedure_with, entry}
+use Rattle.back_lowering.specs.RoutineCodes.{level_code}
+use Rattle.back_lowering.specs.Routines.{level_routine, list_routine, method_routine}
+use Rattle.back_lowering.specs.Steps.{Steps, call, constant, compute, if_equal, words_loaded}
 use Rattle.back_lowering.specs.Scope.{registers_from}
-use Rattle.back_lowering.specs.Steps.{constant, compute, if_equal, words_loaded}
-use Rattle.back_relation.specs.Procedures.{mean_inside}
-use Rattle.back_calling.proofs.Growing.{tasks_below}
+use Rattle.back_relation.specs.Procedures.{mean_inside, called, body_words, body_credit, entry_credit, IsFunction, CapturedFits, BodyDoes, EntryBegins}
 use Rattle.back_relation.specs.Setting.{Setting}
 use Rattle.back_relation.specs.Placed.{IsPlaced}
 use Rattle.back_relation.specs.Room.{routine_words, entry_words, words_for_handler}
@@ -45,13 +39,14 @@ use Rattle.back_relation.specs.Worlds.{World, Standing}
 use Rattle.back_relation.specs.Around.{RoomFor, CallBegins}
 use Rattle.back_relation.specs.Ends.{Returned, LeftCall, CallEnds, SparingCall}
 use Rattle.back_relation.specs.Forms.{below_at, context_at, code_at}
-use Rattle.back_relation.specs.Procedures.{called, body_words, body_credit, IsFunction, CapturedFits, BodyDoes, EntryBegins}
-use Rattle.back_relation.specs.RoutineClaims.{argument_credit}
+use Rattle.back_relation.specs.RoutineClaims.{list_credit}
 use Rattle.back_combining.proofs.Growth.{same_flat, grown_later}
 use Rattle.back_combining.proofs.Parts.{step_then}
 use Rattle.back_combining.proofs.Straight.{things_cost, things_units}
+use Rattle.back_values.proofs.BoxesMade.{steps_grow}
 use Rattle.back_calling.specs.Calling.{call_cost}
 use Rattle.back_calling.specs.Entering.{Inside}
+use Rattle.back_calling.proofs.Growing.{tasks_below}
 use Rattle.back_calling.proofs.Entered.{turns_entered, no_level_at}
 use Rattle.back_calling.proofs.Inner.{looked}
 use Rattle.back_calling.proofs.Numbers.{numbers_law}
@@ -61,11 +56,10 @@ use Rattle.back_bodies.proofs.Scopes.{first_count}
 use Rattle.back_applications.proofs.Applied.{called_grows}
 use Rattle.back_applications.proofs.Charging.{asked, things_charged, around_charged, framed_ends, within_asked}
 use Rattle.back_applications.proofs.Levels.{level_there}
-use Rattle.back_values.proofs.BoxesMade.{steps_grow}
-use Rattle.back_function_entries.specs.AllEntries.{ListsMade, CallsKept, LawOfEntries}
+use Rattle.back_function_entries.specs.AllEntries.{ListsMade, CallsKept, LawOfEntries, LawOfMethods}
 use Rattle.back_function_entries.specs.FunctionEntries.{CalledFits}
 use Rattle.back_function_entries.proofs.AllEntries.{Given, few_args, level_ends}
-use Rattle.back_function_entries.proofs.FunctionEntries.{extras, found, method_there, without_level}
+use Rattle.back_function_entries.proofs.FunctionEntries.{extras, found, method_there, without_level, function_entries_law}
 
 takes_enough : (a b : ℕ) (r : Bool) → takes a r b ≡ true → a ≤ b
 takes_enough a b true e = grind (arith, nat_tests)
@@ -176,8 +170,8 @@ module _ (setting : Setting) (turns number : ℕ) (extra : Extra) (q : FlatProce
 
     abbrev inside_paid : ℕ
     inside_paid =
-        80 + (84 + argument_credit (length vs)
-        + ((if q.keeps_method then 78 + argument_credit (length vs) else 0)
+        80 + (84 + list_credit (length vs)
+        + (20
         + (24 * length q.required + (body_credit q + call_cost (registers_from 7 (length q.required) ++ ((if is_some q.rest then 4 ∷ [] else []) ++ extras setting extra)) + return_cost))))
 
     entered_ends : has_room setting.limit (z.state.heap + z.state.stack + 0 + size) ≡ true
@@ -199,31 +193,23 @@ module _ (setting : Setting) (turns number : ℕ) (extra : Extra) (q : FlatProce
         (λ t. if t then in_frame setting.limit size (λ entered. meant_all (charged (length vs) entered)) z else wrong program_error_class [] around z)
         b.takes_so_many
 
-    cost_fits : (credit : ℕ) → (if q.keeps_method then 1700 else 1300) ≤ 1200 * length vs + credit → inside_paid + entry_cost 4 ≤ unit_cost * length vs + credit
-    cost_fits credit h =
+    cost_fits : inside_paid + entry_cost 4 ≤ unit_cost * length vs + entry_credit (length vs)
+    cost_fits =
         let most = few_args setting number extra q rs valid cs called_as vs self chain address around in
         let one = few_more q.rest in
-        by q.keeps_method h (omega (arith, most, one, enough, length-append q.required (option_to_list q.rest)))
-      where
-        abbreviated : ℕ
-        abbreviated = 24 * length q.required + (body_credit q + call_cost (registers_from 7 (length q.required) ++ ((if is_some q.rest then 4 ∷ [] else []) ++ extras setting extra)) + return_cost)
-
-        by : (keeps : Bool) → (if keeps then 1700 else 1300) ≤ 1200 * length vs + credit → abbreviated ≤ 788 + 40 * length vs
-            → 80 + (84 + argument_credit (length vs) + ((if keeps then 78 + argument_credit (length vs) else 0) + abbreviated)) + entry_cost 4 ≤ unit_cost * length vs + credit
-        by true h few_paid = omega (arith, h, few_paid)
-        by false h few_paid = omega (arith, h, few_paid)
+        omega (arith, most, one, enough, length-append q.required (option_to_list q.rest))
 
     level_there_ends :
-        (credit : ℕ) (wrong : FlatSignals) → (if q.keeps_method then 1700 else 1300) ≤ 1200 * length vs + credit
-        → SparingCall setting credit turns rs valid w around z y
+        (wrong : FlatSignals)
+        → SparingCall setting (entry_credit (length vs)) turns rs valid w around z y
         (descend (below_at setting (suc j)) (λ entered. enter (context_at setting (suc j)) wrong q cs called_as vs around entered) around z) (called (code_at setting (suc j) turns) number entry_given y)
-    level_there_ends credit wrong paid =
-        subst (λ r. SparingCall setting credit turns rs valid w around z y r (called (code_at setting (suc j) turns) number entry_given y))
+    level_there_ends wrong =
+        subst (λ r. SparingCall setting (entry_credit (length vs)) turns rs valid w around z y r (called (code_at setting (suc j) turns) number entry_given y))
         (sym (level_there setting j (λ entered. enter (context_at setting (suc j)) wrong q cs called_as vs around entered) around z ∙ entered_is wrong))
         (framed_ends setting 1 size (λ entered. meant_all (charged (length vs) entered)) b.call.things.represents.printed (called_grows setting (suc j) turns number entry_given y)
         (λ room. (
           (meant_all_later z1).stack,
-          calls_recounted setting {c1 = inside_paid + entry_cost 4} {m1 = turns} (asked size z) (z1.state.units + 1) (z.state.units + 1) (omega (arith, cost_fits credit paid)) (omega arith) (entered_ends room),
+          calls_recounted setting {c1 = inside_paid + entry_cost 4} {m1 = turns} (asked size z) (z1.state.units + 1) (z.state.units + 1) (omega (arith, cost_fits)) (omega arith) (entered_ends room),
         )))
 
   -- ---- without one
@@ -261,9 +247,51 @@ module _ (setting : Setting) (turns number : ℕ) (extra : Extra) (q : FlatProce
       behind_is : made_entry.body ≡ call 4 (level_routine setting.at) [] ∷ behind_level
       behind_is = ap (λ t. (if t then call 4 (level_routine setting.at) [] ∷ [] else []) ++ behind_level) some
 
+-- ---- all functions
+
+none_there : {X : Type 0} (o : Option X) → is_some o ≡ false → o ≡ None
+none_there None e = refl
+none_there (Some x) e = absurd (cc e)
+
+neither : (a b : Bool) → (a || b) ≡ false → (a ≡ false) × (b ≡ false)
+neither true b e = absurd (cc e)
+neither false b e = (refl, e)
+
 pub entries_law : LawOfEntries
-entries_law setting credit zero turns number extra q placed few some paid made does rs valid n wrong cs called_as vs self chain address w around z y function fits as_extra b =
-    none_there_ends setting turns number extra q placed few some rs valid n cs called_as vs self chain address w around z y function fits as_extra b (credit (length vs)) _ refl
-entries_law setting credit (suc j) turns number extra q placed few some paid made does rs valid n wrong cs called_as vs self chain address w around z y function fits as_extra b =
-    level_there_ends setting turns number extra q placed few some rs valid n cs called_as vs self chain address w around z y function fits as_extra b j (does j refl) made (credit (length vs)) wrong
-    (paid (length vs))
+entries_law setting k turns number extra q placed few made does rs valid n wrong cs called_as vs self chain address w around z y function fits as_extra b =
+    by (is_some q.rest || q.keeps_method) refl
+  where
+    at_level : (l : ℕ) → k ≡ l → (is_some q.rest || q.keeps_method) ≡ true
+        → SparingCall setting (entry_credit (length vs)) turns rs valid w around z y
+        (descend (below_at setting k) (λ entered. enter (context_at setting k) wrong q cs called_as vs around entered) around z)
+        (called (code_at setting k turns) number (self ∷ chain ∷ length vs ∷ address ∷ []) y)
+    at_level zero e some =
+        subst
+        (λ l.
+        SparingCall setting (entry_credit (length vs)) turns rs valid w around z y
+        (descend (below_at setting l) (λ entered. enter (context_at setting l) wrong q cs called_as vs around entered) around z)
+        (called (code_at setting l turns) number (self ∷ chain ∷ length vs ∷ address ∷ []) y))
+        (sym e)
+        (none_there_ends setting turns number extra q placed few some rs valid n cs called_as vs self chain address w around z y function fits as_extra b (entry_credit (length vs)) _ refl)
+    at_level (suc j) e some =
+        subst
+        (λ l.
+        SparingCall setting (entry_credit (length vs)) turns rs valid w around z y
+        (descend (below_at setting l) (λ entered. enter (context_at setting l) wrong q cs called_as vs around entered) around z)
+        (called (code_at setting l turns) number (self ∷ chain ∷ length vs ∷ address ∷ []) y))
+        (sym e)
+        (level_there_ends setting turns number extra q placed few some rs valid n cs called_as vs self chain address w around z y function fits as_extra b j (does j e)
+        (λ i same. subst (λ l. ListsMade setting l i × CallsKept setting l i) e (made i same)) wrong)
+
+    by : (t : Bool) → (is_some q.rest || q.keeps_method) ≡ t
+        → SparingCall setting (entry_credit (length vs)) turns rs valid w around z y
+        (descend (below_at setting k) (λ entered. enter (context_at setting k) wrong q cs called_as vs around entered) around z)
+        (called (code_at setting k turns) number (self ∷ chain ∷ length vs ∷ address ∷ []) y)
+    by true some = at_level k refl some
+    by false none =
+        let no = neither (is_some q.rest) q.keeps_method none in
+        function_entries_law setting k turns number extra q placed few (none_there q.rest no.0) no.1 does rs valid n wrong cs called_as vs self chain address w around z y function fits as_extra b
+
+pub methods_law : LawOfMethods
+methods_law setting k turns number q placed few made does rs valid n wrong cs called_as vs self chain address w around z y function fits b =
+    entries_law setting k turns number its_method q placed few made does rs valid n wrong cs called_as vs self chain address w around z y function fits tt b

@@ -1,13 +1,13 @@
--- **The entry of a function that makes a list of further arguments, or keeps the call of a method**: a level is judged first.
-use Rattle.std.specs.Prelude.{◌≡◌, ℕ, suc, ◌+◌, ◌*◌, ◌≤◌, ◌||◌, true, List, [], ◌∷◌, Some, length, is_some, if◌then◌else◌}
+-- **The entry of any function**: where it makes a list of further arguments, or keeps the call of a method, a level is judged first.
+use Rattle.std.specs.Prelude.{◌≡◌, ℕ, suc, ◌+◌, ◌≤◌, true, List, [], ◌∷◌, Some, length}
 use Rattle.lang_meaning.specs.Objects.{Called}
 use Rattle.lang_meaning.specs.State.{DynamicContext}
 use Rattle.lang_meaning.specs.Values.{Value, nil}
 use Rattle.flat_language.specs.declared.program.FlatProcedure.{FlatProcedure}
 use Rattle.flat_language.specs.FlatSignals.{make_list, with_record}
-use Rattle.flat_language.specs.FlatState.{FlatState, FlatEvaluated, gives}
+use Rattle.flat_language.specs.FlatState.{FlatState, FlatEvaluated, gives, charged}
 use Rattle.mid_code.specs.State.{MidState, MidOutcome}
-use Rattle.back_lowering.specs.Program.{Extra}
+use Rattle.back_lowering.specs.Program.{Extra, its_method}
 use Rattle.back_lowering.specs.Routines.{list_routine, method_routine}
 use Rattle.back_relation.specs.Setting.{Setting}
 use Rattle.back_relation.specs.Placed.{IsPlaced}
@@ -15,11 +15,11 @@ use Rattle.back_relation.specs.Room.{routine_words}
 use Rattle.back_relation.specs.Chains.{ChainAt, ChainTakes}
 use Rattle.back_relation.specs.Worlds.{World, Standing}
 use Rattle.back_relation.specs.Around.{CallBegins, SiteStored}
-use Rattle.back_relation.specs.Ends.{Ends, Returned}
+use Rattle.back_relation.specs.Ends.{PaidFrom, Ends, Returned}
 use Rattle.back_relation.specs.Forms.{code_at}
-use Rattle.back_relation.specs.Procedures.{called, ArgumentsLent, BodyDoes}
-use Rattle.back_relation.specs.RoutineClaims.{argument_credit, MethodKept}
-use Rattle.back_function_entries.specs.FunctionEntries.{EntryDoesPaid}
+use Rattle.back_relation.specs.Procedures.{called, ArgumentsLent, BodyDoes, EntryDoes}
+use Rattle.back_relation.specs.RoutineClaims.{list_credit, argument_credit, MethodKept}
+use Rattle.back_function_entries.specs.FunctionEntries.{EntryDoesFitting}
 
 -- So many turns the routines of lists and of methods' calls leave over: the one of the entry, and those that a unit pays, of which the body leaves
 -- something.
@@ -38,14 +38,15 @@ module _ (setting : Setting) (k turns : ℕ) (rs valid : List Standing) (w : Wor
       (vs : List Value) (address : ℕ) → ((v : Value) (others : List Value) → vs ≡ v ∷ others → ArgumentsLent setting w y.arena address vs)
       → CallBegins setting rs valid routine_words w around z y
       → Ends setting
-      (ListThere (argument_credit (length vs)) (make_list setting.limit vs z (λ v after. gives v after))
+      (ListThere (list_credit (length vs)) (make_list setting.limit vs z (λ v after. gives v after))
       (called (code_at setting k turns) (list_routine setting.at) (address ∷ length vs ∷ []) y))
       ⊥ (turns + entry_spare) z y (make_list setting.limit vs z (λ v after. gives v after))
       (called (code_at setting k turns) (list_routine setting.at) (address ∷ length vs ∷ []) y)
 
-  -- the call of a method is kept, and the site is as it was stored
+  -- the call of a method is kept, and the site is as it was stored; of the units that its words are charged one is left over
   pub record KeptThere (called_as : Called) (credit : ℕ) (r : FlatEvaluated) (q : MidOutcome) : Type 0 where
     pub kept : MethodKept setting k turns rs valid w around z y called_as credit r q
+    pub spared : PaidFrom 0 (charged 1 z) y r.state q.state
     pub site : SiteStored setting around y → SiteStored setting around q.state
 
   -- so the routine of methods' calls
@@ -68,11 +69,16 @@ abbrev pub CallsKept : Setting → (k turns : ℕ) → Type 0
 CallsKept setting k turns =
     (rs valid : List Standing) (w : World) (around : DynamicContext) (z : FlatState) (y : MidState) → CallKeeps setting k turns rs valid w around z y
 
--- With no more turns than a level has, of which one is the entry's: the entry of a function that takes further arguments, or keeps the call of a
--- method. It costs up to 1,300 beside what its arguments add, and 1,700 where it may keep a call; each argument pays 1,200 of them.
+-- with no more turns than a level has, of which one is the entry's
 abbrev pub LawOfEntries : Type 0
 LawOfEntries =
-    (setting : Setting) (credit : ℕ → ℕ) (k turns number : ℕ) (extra : Extra) (q : FlatProcedure) → IsPlaced setting → turns ≤ setting.turns_each
-    → (is_some q.rest || q.keeps_method) ≡ true → ((n : ℕ) → (if q.keeps_method then 1700 else 1300) ≤ 1200 * n + credit n)
+    (setting : Setting) (k turns number : ℕ) (extra : Extra) (q : FlatProcedure) → IsPlaced setting → turns ≤ setting.turns_each
     → ((n : ℕ) → turns ≡ suc n → ListsMade setting k n × CallsKept setting k n)
-    → ((j : ℕ) → k ≡ suc j → BodyDoes setting j number extra q) → EntryDoesPaid setting credit k turns number extra q
+    → ((j : ℕ) → k ≡ suc j → BodyDoes setting j number extra q) → EntryDoesFitting setting k turns number extra q
+
+-- of a method all that is to be shown of an entry
+abbrev pub LawOfMethods : Type 0
+LawOfMethods =
+    (setting : Setting) (k turns number : ℕ) (q : FlatProcedure) → IsPlaced setting → turns ≤ setting.turns_each
+    → ((n : ℕ) → turns ≡ suc n → ListsMade setting k n × CallsKept setting k n)
+    → ((j : ℕ) → k ≡ suc j → BodyDoes setting j number its_method q) → EntryDoes setting k turns number its_method q

@@ -22,18 +22,15 @@ CalledFits its_method m = ⊤
 CalledFits itself m = m ≡ None
 
 module _ (setting : Setting) where
-  -- what an entry does for so much, where only methods are called as methods
-  abbrev pub EntryDoesPaid : (credit : ℕ → ℕ) → (k turns number : ℕ) → Extra → FlatProcedure → Type 0
-  EntryDoesPaid credit k turns number extra q =
+  -- what an entry does, where only methods are called as methods
+  abbrev pub EntryDoesFitting : (k turns number : ℕ) → Extra → FlatProcedure → Type 0
+  EntryDoesFitting k turns number extra q =
       (rs valid : List Standing) (n : ℕ) (wrong : FlatSignals) (cs : List Captured) (called_as : Option Called) (vs : List Value) (self chain address : ℕ) (w : World) (around : DynamicContext) (z : FlatState) (y : MidState)
       → IsFunction setting number extra q → CapturedFits setting w number extra q cs → CalledFits extra called_as
       → EntryBegins setting rs valid n q cs called_as vs self chain address w around z y
-      → SparingCall setting (credit (length vs)) turns rs valid w around z y
+      → SparingCall setting (entry_credit (length vs)) turns rs valid w around z y
       (descend (below_at setting k) (λ entered. enter (context_at setting k) wrong q cs called_as vs around entered) around z)
       (called (code_at setting k turns) number (self ∷ chain ∷ length vs ∷ address ∷ []) y)
-
-  abbrev pub EntryDoesFitting : (k turns number : ℕ) → Extra → FlatProcedure → Type 0
-  EntryDoesFitting k turns number extra q = EntryDoesPaid entry_credit k turns number extra q
 
 -- with no more turns than a level has
 abbrev pub LawOfFunctionEntries : Type 0

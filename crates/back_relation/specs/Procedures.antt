@@ -46,12 +46,13 @@ mean_inside context q captured called vs around z =
 abbrev pub body_words : FlatProcedure → ℕ
 body_words q = 12 + 16 * nodes q.body
 
--- what is paid of the cost of a body, and of an entry, beside the units, of the first of which something is left
+-- What is paid of the cost of a body, and of an entry, beside the units, of the first of which something is left. The units of the arguments pay
+-- what each of them adds.
 abbrev pub body_credit : FlatProcedure → ℕ
 body_credit q = form_credit + 100 + 10 * length (homes q)
 
 abbrev pub entry_credit : (arguments : ℕ) → ℕ
-entry_credit n = form_credit + 400 + 20 * n
+entry_credit n = form_credit + 520
 
 module _ (setting : Setting) where
   -- the words that are charged for an application, and the reserve, are enough for the frame of a body and what its code lays

@@ -33,7 +33,8 @@ use Rattle.back_relation.specs.Forms.{context_at, code_at, below_at}
 use Rattle.back_relation.specs.Procedures.{called, as_registers, ArgumentsLent}
 
 -- What is paid of the cost of a call before: of a routine that signals a new condition or transfers, of one that signals what may be no
--- condition, of a level, of what makes words of arguments, of a chain, and of the application of a generic function, of a value and to a list.
+-- condition, of a level, of what makes a list or words of arguments, of a chain, and of the application of a generic function, of a value and to a
+-- list.
 abbrev pub routine_credit : ℕ
 routine_credit = 450
 
@@ -42,6 +43,9 @@ signal_credit = 600
 
 abbrev pub level_credit : ℕ
 level_credit = 40
+
+abbrev pub list_credit : ℕ → ℕ
+list_credit n = 100 + 20 * n
 
 abbrev pub argument_credit : ℕ → ℕ
 argument_credit n = 300 + 20 * n
@@ -208,7 +212,7 @@ module _ (setting : Setting) where
     abbrev pub ListDoes : Type 0
     ListDoes =
         (vs : List Value) (address : ℕ) → ArgumentsLent setting w y.arena address vs
-        → DoesAnywhere routine_words (argument_credit (length vs)) (list_routine setting.at) (address ∷ length vs ∷ [])
+        → DoesAnywhere routine_words (list_credit (length vs)) (list_routine setting.at) (address ∷ length vs ∷ [])
         (make_list setting.limit vs z (λ v after. gives v after))
 
     -- the call of a method is kept: the address of its arguments in the heap is returned
