@@ -390,8 +390,8 @@ module _ (setting : Setting) (placed : IsPlaced setting) (k t : ℕ) (rs valid :
           landing_paid = λ e. let paid = u.paid in omega (arith, paid);
         }))
 
-    failed : FailsPaid setting k around → LeavesSo (context_at setting k) h (c ∷ []) around z → Whole (mid_go_on (mid_called cf 6 regs5) leaving)
-    failed fails so = by (fails t rs valid w3 ra.state y3 site3 begins3)
+    failed : FailsPaid setting k t around → LeavesSo (context_at setting k) h (c ∷ []) around z → Whole (mid_go_on (mid_called cf 6 regs5) leaving)
+    failed fails so = by (fails rs valid w3 ra.state y3 site3 begins3)
       where
         by :
             Ends setting (Returned setting making_credit w3 (charged 1 ra.state) y3 rf cf) (LeftCall setting making_credit rs valid w3 around (charged 1 ra.state) y3 rf cf) t ra.state y3 rf cf
@@ -412,7 +412,7 @@ module _ (setting : Setting) (placed : IsPlaced setting) (k t : ℕ) (rs valid :
 
   -- ---- **in all cases**
 
-  module _ (fails : FailsPaid setting k around) (so : LeavesSo (context_at setting k) h (c ∷ []) around z) where
+  module _ (fails : FailsPaid setting k t around) (so : LeavesSo (context_at setting k) h (c ∷ []) around z) where
     left_case : LeftCall setting 1170 rs valid w2 around z y2 ra came → InsideEnds r1 q1
     unfolding transfer_out
     left_case l =

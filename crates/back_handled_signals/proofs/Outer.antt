@@ -421,7 +421,7 @@ module _ (setting : Setting) (placed : IsPlaced setting) (k t : ℕ) (rs valid :
             printed = subst (λ ps. IsPrefix ps r1.state.state.printed) (sym things.represents.printed) r1_grown.printed;
           }))
 
-      module _ (applies : FunctionsDo setting k inner_around) (leaves_so : FunctionsLeave setting k inner_around) (fails : FailsPaid setting k inner_around) where
+      module _ (applies : FunctionsDo setting k t inner_around) (leaves_so : FunctionsLeave setting k inner_around) (fails : FailsPaid setting k t inner_around) where
         inside_so : Inside r1 inside_q
         inside_so = by (nat_le 3 (left yl.arena)) refl
           where
@@ -434,12 +434,12 @@ module _ (setting : Setting) (placed : IsPlaced setting) (k t : ℕ) (rs valid :
                 (at setting placed k t rs valid w around z y things ar c mark h hs c_word mark_word of_condition of_mark handlers room) ar.current ar.link ar.bindings_cell (things.serials.0 + 1) z.state.exits
                 (let count = things.serials.2 in omega (arith, count)) (leb-true 3 (left yl.arena) e) fails
                 (leaves_so (applying_words + 3) (record_new ∷ rs) (record_new ∷ valid) wl inner_state yl begins_laid h (c ∷ []))
-                (applies t (record_new ∷ rs) (record_new ∷ valid) _ inner_state _)
+                (applies (record_new ∷ rs) (record_new ∷ valid) _ inner_state _)
 
         laid_ends : Whole r (exec cx (code_of whole) regs0 y)
         laid_ends = subst (λ q. Whole r q) (sym whole_is) (ends_so inside_so)
 
-  module _ (applies : FunctionsDo setting k inner_around) (leaves_so : FunctionsLeave setting k inner_around) (fails : FailsPaid setting k inner_around) where
+  module _ (applies : FunctionsDo setting k t inner_around) (leaves_so : FunctionsLeave setting k inner_around) (fails : FailsPaid setting k t inner_around) where
     -- **in all cases**
     pub outer_ends : Whole r (exec cx (code_of whole) regs0 y)
     unfolding mid_go_on

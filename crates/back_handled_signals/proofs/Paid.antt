@@ -39,8 +39,8 @@ use Rattle.back_signals.proofs.Failing.{failing_does, failing_comes}
 use Rattle.back_signals.proofs.Making.{meant, with_size}
 use Rattle.back_handled_signals.specs.Handled.{FailsPaid}
 
-module _ (setting : Setting) (placed : IsPlaced setting) (k raise_credit : ℕ) (low : raise_credit ≤ 1000) (around : DynamicContext) (raises : RaisesWithin setting k around 0 raise_credit)
-    (turns : ℕ) (rs valid : List Standing) (w : World) (z : FlatState) (y : MidState) (site : SiteStored setting around y) (begins : CallBegins setting rs valid failing_words w around z y) where
+module _ (setting : Setting) (placed : IsPlaced setting) (k raise_credit : ℕ) (low : raise_credit ≤ 1000) (around : DynamicContext) (turns : ℕ) (raises : RaisesWithin setting k turns around 0 raise_credit)
+    (rs valid : List Standing) (w : World) (z : FlatState) (y : MidState) (site : SiteStored setting around y) (begins : CallBegins setting rs valid failing_words w around z y) where
   abbrev r : FlatEvaluated
   r = signal (context_at setting k) control_error_class [] around z
 
@@ -54,10 +54,10 @@ module _ (setting : Setting) (placed : IsPlaced setting) (k raise_credit : ℕ) 
   begins_there = begins_less setting raise_words (omega arith) begins
 
   abbrev size_so : Bool → FlatEvaluated
-  size_so = with_size setting placed k 0 raise_credit 0 rs valid w around raises z y begins_there site control_error_class [] [] control_error_is tt 3
+  size_so = with_size setting placed k 0 raise_credit 0 rs valid w around (raises 0 (omega arith)) z y begins_there site control_error_class [] [] control_error_is tt 3
 
   means : r ≡ size_so fits
-  means = meant setting placed k 0 raise_credit 0 rs valid w around raises z y begins_there site control_error_class [] [] control_error_is tt
+  means = meant setting placed k 0 raise_credit 0 rs valid w around (raises 0 (omega arith)) z y begins_there site control_error_class [] [] control_error_is tt
 
   abbrev Paid : Type 0
   Paid = Ends setting (Returned setting making_credit w (charged 1 z) y r q) (LeftCall setting making_credit rs valid w around (charged 1 z) y r q) turns z y r q
@@ -107,7 +107,7 @@ module _ (setting : Setting) (placed : IsPlaced setting) (k raise_credit : ℕ) 
           subst (λ n. CallEnds setting making_credit (n + 1) rs valid w around (charged 1 z) y r
           (leaves y.arena.blocks (exec (code_at setting k t) (code_of (failing_code setting.at)) (routine_registers setting 1 (failing_code setting.at) (control_error_class ∷ [])) (laid_frame setting used.frame 1 y)))) (sym same)
           (body_leaves setting placed begins1.things used.frame 1 room (omega arith)
-          (failing_comes setting placed k t raise_credit low rs valid (world_of setting placed w y) around raises z (laid_frame setting used.frame 1 y)
+          (failing_comes setting placed k t raise_credit low rs valid (world_of setting placed w y) around (raises t (omega (arith, same))) z (laid_frame setting used.frame 1 y)
           (body_begins setting placed begins.things used.frame 1 room raise_words (let few = used.fewer in omega (arith, few)) begins)
           (laid_site setting placed begins.things used.frame 1 room around site) control_error_class control_error_is))
 
@@ -132,5 +132,5 @@ module _ (setting : Setting) (placed : IsPlaced setting) (k raise_credit : ℕ) 
 
 -- **a control error leaves a unit over**, where it is known what a signal does
 pub fails_paid :
-    (setting : Setting) → IsPlaced setting → (k raise_credit : ℕ) → raise_credit ≤ 1000 → (around : DynamicContext) → RaisesWithin setting k around 0 raise_credit → FailsPaid setting k around
-fails_paid setting placed k raise_credit low around raises turns rs valid w z y site begins = paid setting placed k raise_credit low around raises turns rs valid w z y site begins
+    (setting : Setting) → IsPlaced setting → (k raise_credit : ℕ) → raise_credit ≤ 1000 → (around : DynamicContext) (turns : ℕ) → RaisesWithin setting k turns around 0 raise_credit → FailsPaid setting k turns around
+fails_paid setting placed k raise_credit low around turns raises rs valid w z y site begins = paid setting placed k raise_credit low around turns raises rs valid w z y site begins

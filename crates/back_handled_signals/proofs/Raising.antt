@@ -207,7 +207,7 @@ module _ (setting : Setting) (placed : IsPlaced setting) (k t : ℕ) (rs valid :
             ∙ handler_runs;
       }))).same)
 
-  module _ (applies : FunctionsDo setting k (inner around z c mark hs)) (leave : FunctionsLeave setting k (inner around z c mark hs)) (fails : FailsPaid setting k (inner around z c mark hs)) where
+  module _ (applies : FunctionsDo setting k t (inner around z c mark hs)) (leave : FunctionsLeave setting k (inner around z c mark hs)) (fails : FailsPaid setting k t (inner around z c mark hs)) where
     abbrev r : FlatEvaluated
     r = caught z.state.exits (meant_inside (context_at setting k) h c (inner around z c mark hs) (flat_charged 1 (exit_made z1)))
 
@@ -220,16 +220,16 @@ module _ (setting : Setting) (placed : IsPlaced setting) (k t : ℕ) (rs valid :
 -- ---- **by induction on the handlers**
 
 -- fewer turns are left over
-fewer_over : (setting : Setting) (k credit : ℕ) (around : DynamicContext) → RaisesWithin setting k around 1 credit → RaisesWithin setting k around 0 credit
-fewer_over setting k credit around raises turns rs valid w z y c mark c_word mark_word condition of_condition of_mark site begins =
-    call_less setting (omega arith) (omega arith) (raises turns rs valid w z y c mark c_word mark_word condition of_condition of_mark site begins)
+fewer_over : (setting : Setting) (k turns credit : ℕ) (around : DynamicContext) → RaisesWithin setting k turns around 1 credit → RaisesWithin setting k turns around 0 credit
+fewer_over setting k turns credit around raises t few rs valid w z y c mark c_word mark_word condition of_condition of_mark site begins =
+    call_less setting (omega arith) (omega arith) (raises t few rs valid w z y c mark c_word mark_word condition of_condition of_mark site begins)
 
-module _ (setting : Setting) (placed : IsPlaced setting) (k : ℕ) where
+module _ (setting : Setting) (placed : IsPlaced setting) (k most : ℕ) where
   handled :
-      (h : Value) (hs : List Value) (around : DynamicContext) → around.handlers ≡ h ∷ hs → ((within : DynamicContext) → within.handlers ≡ hs → RaisesWithin setting k within 1 raise_credit) → UnderFewer setting k around
-      → RaisesWithin setting k around 1 raise_credit
+      (h : Value) (hs : List Value) (around : DynamicContext) → around.handlers ≡ h ∷ hs → ((within : DynamicContext) → within.handlers ≡ hs → RaisesWithin setting k most within 1 raise_credit) → UnderFewer setting k most around
+      → RaisesWithin setting k most around 1 raise_credit
   unfolding raise_code
-  handled h hs around is inside_raises fewer turns rs valid w z y c mark c_word mark_word condition of_condition of_mark site begins =
+  handled h hs around is inside_raises fewer turns most_turns rs valid w z y c mark c_word mark_word condition of_condition of_mark site begins =
       routine_enters setting k (raise_routine setting.at) raise_frame 2 (raise_code setting.at) used (c_word ∷ mark_word ∷ []) refl y turns begins.things.represents.printed
       (grown_later (signals_under {R = FlatLater} {k = later_kept} (context_at setting k) (tasks_below setting k) around.handlers c mark around z).grows)
       (let all = memory_holds setting begins.things in omega (arith, all)) begins.room begins.things.within_limit (omega arith) by
@@ -255,29 +255,30 @@ module _ (setting : Setting) (placed : IsPlaced setting) (k : ℕ) where
           (exec (code_at setting k t) (code_of (raise_code setting.at)) (routine_registers setting 2 (raise_code setting.at) (c_word ∷ mark_word ∷ [])) (laid_frame setting used.frame 2 y)))
           (sym (meant setting k around.handlers h hs c mark around z (z_marked setting inside.things c mark c_word mark_word it of_condition of_mark) is (marked_is setting inside.things c mark c_word mark_word it of_condition of_mark)))
           (body_comes setting placed k t rs valid (world_of setting placed w y) around z (laid_frame setting used.frame 2 y) inside (laid_site setting placed begins.things used.frame 2 room around site) h hs is c mark c_word mark_word it
-          of_condition of_mark (fewer.apply (inner around z c mark hs) fewer_handlers) (fewer.leave (inner around z c mark hs) fewer_handlers)
-          (fails_paid setting placed k raise_credit (omega arith) (inner around z c mark hs) (fewer_over setting k raise_credit (inner around z c mark hs) (inside_raises (inner around z c mark hs) refl))))))
+          of_condition of_mark (fewer.apply t (omega (arith, same, most_turns)) (inner around z c mark hs) fewer_handlers) (fewer.leave (inner around z c mark hs) fewer_handlers)
+          (fails_paid setting placed k raise_credit (omega arith) (inner around z c mark hs) t
+          (λ s few. fewer_over setting k most raise_credit (inner around z c mark hs) (inside_raises (inner around z c mark hs) refl) s (omega (arith, few, same, most_turns)))))))
         where
           inside : CallBegins setting rs valid 41 (world_of setting placed w y) around z (laid_frame setting used.frame 2 y)
           inside = body_begins setting placed begins.things used.frame 2 room 41 (let few = used.fewer in omega (arith, few)) begins
 
-  unhandled_raises : (around : DynamicContext) → around.handlers ≡ [] → RaisesWithin setting k around 1 raise_credit
-  unhandled_raises around is turns rs valid w z y c mark c_word mark_word condition of_condition of_mark site begins =
+  unhandled_raises : (around : DynamicContext) → around.handlers ≡ [] → RaisesWithin setting k most around 1 raise_credit
+  unhandled_raises around is turns few rs valid w z y c mark c_word mark_word condition of_condition of_mark site begins =
       call_less setting (omega arith) (omega arith)
       (unhandled_law setting k turns rs valid w around z y placed is c mark c_word mark_word condition of_condition of_mark site (begins_less setting unhandled_words (omega arith) begins))
 
-  raises : (hs : List Value) (around : DynamicContext) → around.handlers ≡ hs → UnderFewer setting k around → RaisesWithin setting k around 1 raise_credit
+  raises : (hs : List Value) (around : DynamicContext) → around.handlers ≡ hs → UnderFewer setting k most around → RaisesWithin setting k most around 1 raise_credit
   raises [] around is fewer = unhandled_raises around is
   raises (h ∷ hs) around is fewer =
       handled h hs around is
       (λ within e. raises hs within e (record {
-        apply = λ a few. fewer.apply a (let more : length around.handlers ≡ suc (length hs) = ap length is in let so : length within.handlers ≡ length hs = ap length e in omega (arith, more, few, so));
+        apply = λ t low a few. fewer.apply t low a (let more : length around.handlers ≡ suc (length hs) = ap length is in let so : length within.handlers ≡ length hs = ap length e in omega (arith, more, few, so));
         leave = λ a few. fewer.leave a (let more : length around.handlers ≡ suc (length hs) = ap length is in let so : length within.handlers ≡ length hs = ap length e in omega (arith, more, few, so));
       }))
       fewer
 
 pub raising_law : LawOfRaising
-raising_law setting k around placed fewer = raises setting placed k around.handlers around refl fewer
+raising_law setting k turns around placed fewer = raises setting placed k turns around.handlers around refl fewer
 
 pub handled_errors_law : LawOfHandledErrors
-handled_errors_law setting k turns rs valid w around z y placed fewer = errors_law setting k turns rs valid w around z y placed (raises setting placed k around.handlers around refl fewer)
+handled_errors_law setting k turns rs valid w around z y placed fewer = errors_law setting k turns rs valid w around z y placed (raises setting placed k turns around.handlers around refl fewer)

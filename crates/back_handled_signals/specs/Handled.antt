@@ -25,22 +25,22 @@ pub record LeavesSo (context : FlatContext) (f : Value) (vs : List Value) (aroun
       (v : Value) → (apply_value context (signal context) f vs around z).outcome ≡ value v → (u : Value)
       → (signal context control_error_class [] around (apply_value context (signal context) f vs around z).state).outcome ≡ value u → ⊥
 
-module _ (setting : Setting) (k : ℕ) (around : DynamicContext) where
-  -- the application of a function, wherever it is with that around
+-- how an application ends where all stands
+abbrev pub FunctionsLeave : Setting → (k : ℕ) → DynamicContext → Type 0
+FunctionsLeave setting k around =
+    (n : ℕ) (rs valid : List Standing) (w : World) (z : FlatState) (y : MidState) → CallBegins setting rs valid n w around z y
+    → (f : Value) (vs : List Value) → LeavesSo (context_at setting k) f vs around z
+
+module _ (setting : Setting) (k turns : ℕ) (around : DynamicContext) where
+  -- the application of a function, wherever it is with that around, and with so many turns
   abbrev pub FunctionsDo : Type 0
   FunctionsDo =
-      (turns : ℕ) (rs valid : List Standing) (w : World) (z : FlatState) (y : MidState) → FunctionDoes setting k turns rs valid w around z y
-
-  -- how it ends where all stands
-  abbrev pub FunctionsLeave : Type 0
-  FunctionsLeave =
-      (n : ℕ) (rs valid : List Standing) (w : World) (z : FlatState) (y : MidState) → CallBegins setting rs valid n w around z y
-      → (f : Value) (vs : List Value) → LeavesSo (context_at setting k) f vs around z
+      (rs valid : List Standing) (w : World) (z : FlatState) (y : MidState) → FunctionDoes setting k turns rs valid w around z y
 
   -- a control error, which leaves one of the units of its words over
   abbrev pub FailsPaid : Type 0
   FailsPaid =
-      (turns : ℕ) (rs valid : List Standing) (w : World) (z : FlatState) (y : MidState) → SiteStored setting around y → CallBegins setting rs valid failing_words w around z y
+      (rs valid : List Standing) (w : World) (z : FlatState) (y : MidState) → SiteStored setting around y → CallBegins setting rs valid failing_words w around z y
       → Ends setting
       (Returned setting making_credit w (charged 1 z) y (signal (context_at setting k) control_error_class [] around z)
       (called (code_at setting k turns) (failing_routine setting.at) (control_error_class ∷ []) y))

@@ -19,17 +19,17 @@ LawOfWrong =
     → ((class : ℕ) (slots : List Value) (y : FlatState) → w1 class slots around y ≡ w2 class slots around y)
     → apply_value context w1 f vs around z ≡ apply_value context w2 f vs around z
 
--- functions are applied under fewer handlers than are around
-pub record UnderFewer (setting : Setting) (k : ℕ) (around : DynamicContext) : Type 0 where
-  pub apply : (inner : DynamicContext) → length inner.handlers < length around.handlers → FunctionsDo setting k inner
+-- functions are applied under fewer handlers than are around, and with fewer turns
+pub record UnderFewer (setting : Setting) (k turns : ℕ) (around : DynamicContext) : Type 0 where
+  pub apply : (t : ℕ) → t < turns → (inner : DynamicContext) → length inner.handlers < length around.handlers → FunctionsDo setting k t inner
   pub leave : (inner : DynamicContext) → length inner.handlers < length around.handlers → FunctionsLeave setting k inner
 
 -- **a condition is raised**, whatever handlers are around: the innermost one is applied under those outside it
 abbrev pub LawOfRaising : Type 0
-LawOfRaising = (setting : Setting) (k : ℕ) (around : DynamicContext) → IsPlaced setting → UnderFewer setting k around → RaisesWithin setting k around 1 raise_credit
+LawOfRaising = (setting : Setting) (k turns : ℕ) (around : DynamicContext) → IsPlaced setting → UnderFewer setting k turns around → RaisesWithin setting k turns around 1 raise_credit
 
 -- **what goes wrong**: all routines of conditions do what is claimed of them
 abbrev pub LawOfHandledErrors : Type 0
 LawOfHandledErrors =
-    (setting : Setting) (k turns : ℕ) (rs valid : List Standing) (w : World) (around : DynamicContext) (z : FlatState) (y : MidState) → IsPlaced setting → UnderFewer setting k around
+    (setting : Setting) (k turns : ℕ) (rs valid : List Standing) (w : World) (around : DynamicContext) (z : FlatState) (y : MidState) → IsPlaced setting → UnderFewer setting k turns around
     → Errors setting k turns rs valid w around z y

@@ -9,7 +9,7 @@ transferring_law setting k turns placed rs valid w around z y = transfers_law.do
 
 pub seeking_law : LawOfSeeking
 seeking_law setting k turns placed fails rs valid w around z y =
-    leaving_law.by_number setting k turns rs valid w around z y placed (λ turns rs valid w z y. fails turns rs valid w around z y)
+    leaving_law.by_number setting k turns rs valid w around z y placed (λ t few rs valid w z y. fails t few rs valid w around z y)
 
 pub returns_law : LawOfReturns
 returns_law setting k turns p f placed fails does =
