@@ -48,7 +48,6 @@ use Rattle.back_relation.specs.Worlds.{World, Standing}
 use Rattle.back_relation.specs.Around.{RoomFor, CallBegins}
 use Rattle.back_relation.specs.Ends.{CallEnds, few_turns}
 use Rattle.back_relation.specs.Forms.{context_at, code_at}
-use Rattle.back_relation.specs.RoutineClaims.{routine_credit}
 use Rattle.back_combining.specs.Starts.{FlatGrown}
 use Rattle.back_combining.proofs.Growth.{grown_later}
 use Rattle.back_combining.proofs.Parts.{step_then}
@@ -109,8 +108,8 @@ fewer_room : (l : Limit) (m m' : ℕ) (z : FlatState) (y : MidState) → m' ≤ 
 fewer_room unlimited m m' z y few h = tt
 fewer_room (words n) m m' z y few h = omega (arith, h, few)
 
-module _ (setting : Setting) (placed : IsPlaced setting) (k n spare : ℕ) (few : n ≤ setting.turns_each) (over : spare ≤ 14) (chain : ℕ → ℕ) (rs valid : List Standing) (around : DynamicContext)
-    (parts : GenericParts setting k spare around chain) (w : World) (z : FlatState) (g : GenericRow) (vs : List Value) (generic address : ℕ) (at : GenericAt setting generic g)
+module _ (setting : Setting) (placed : IsPlaced setting) (k n spare fail : ℕ) (few : n ≤ setting.turns_each) (over : spare ≤ 14) (chain : ℕ → ℕ) (rs valid : List Standing) (around : DynamicContext)
+    (parts : GenericParts setting k spare fail around chain) (w : World) (z : FlatState) (g : GenericRow) (vs : List Value) (generic address : ℕ) (at : GenericAt setting generic g)
     (named_so : HasSymbol setting g.name.0) where
   abbrev c : Context
   c = code_at setting k n
@@ -154,12 +153,12 @@ module _ (setting : Setting) (placed : IsPlaced setting) (k n spare : ℕ) (few 
   -- ---- a wrong number of arguments
 
   fails_comes : takes g.required g.rest (length vs) ≡ false → (r3 r4 r5 r6 r7 r8 : Option ℕ) (y : MidState) → Here y
-      → Comes 516 y (exec c (code_of (signals_steps setting.at 4 program_error_class)) (file r3 r4 r5 r6 r7 r8) y)
+      → Comes (fail + 66) y (exec c (code_of (signals_steps setting.at 4 program_error_class)) (file r3 r4 r5 r6 r7 r8) y)
   fails_comes none r3 r4 r5 r6 r7 r8 y h =
-      subst (λ r. CallEnds setting 516 m rs valid w around z y r (exec c (code_of (signals_steps setting.at 4 program_error_class)) (file r3 r4 r5 r6 r7 r8) y)) (sym wrong_is)
-      (straight setting k n m rs valid w around z wrong_many 6 510 (omega arith) h.call.things
+      subst (λ r. CallEnds setting (fail + 66) m rs valid w around z y r (exec c (code_of (signals_steps setting.at 4 program_error_class)) (file r3 r4 r5 r6 r7 r8) y)) (sym wrong_is)
+      (straight setting k n m rs valid w around z wrong_many 6 (fail + 46 + 14) (omega arith) h.call.things
       ((and_then constant_falls (record { same = refl })).same)
-      (returned setting k n routine_credit m 4 (failing_routine setting.at) (4 ∷ []) (program_error_class ∷ []) [] rs valid w around z (mid_charged 6 y) (file r3 (Some program_error_class) r5 r6 r7 r8)
+      (returned setting k n fail m 4 (failing_routine setting.at) (4 ∷ []) (program_error_class ∷ []) [] rs valid w around z (mid_charged 6 y) (file r3 (Some program_error_class) r5 r6 r7 r8)
       wrong_many (refl, tt) (omega arith) (here_cost 6 h).call.things
       (parts.failing n rs valid w z (mid_charged 46 (mid_charged 6 y)) few program_error_class (record { low = omega arith; high = omega arith; slots = refl }) (here_cost 46 (here_cost 6 h)).site
       (fewer_begins failing_words (omega arith) (here_cost 46 (here_cost 6 h)).call))))
@@ -183,7 +182,7 @@ module _ (setting : Setting) (placed : IsPlaced setting) (k n spare : ℕ) (few 
 
   found_comes :
       (o : Option Chain) → classes.chain (tables setting.program) g class_list ≡ o → takes g.required g.rest (length vs) ≡ true → (a offset credit : ℕ) → ChainFound setting g (a + offset) o
-      → chain (length vs) + 104 ≤ credit → 560 ≤ credit → (r7 r8 : Option ℕ) (y : MidState) → Here y
+      → chain (length vs) + 104 ≤ credit → fail + 110 ≤ credit → (r7 r8 : Option ℕ) (y : MidState) → Here y
       → Comes credit y (exec c (code_of found_steps) (file (Some 0) (Some a) (Some offset) (Some 0) r7 r8) y)
   found_comes None none taken a offset credit found chain_low low r7 r8 y h =
       let there = constants_law setting w z y h.call.things (a + offset) 0 found in
@@ -199,16 +198,16 @@ module _ (setting : Setting) (placed : IsPlaced setting) (k n spare : ℕ) (few 
       let unknown : FlatEvaluated = signal (context_at setting k) undefined_function_class (symbol (named (text setting.names g.name.0)) ∷ []) around z in
       let unknown_is : meant ≡ unknown =
       first_of _ _ taken ∙ ap (λ o. apply_chain (context_at setting k) (signal (context_at setting k)) g o vs around z) none in
-      straight setting k n m rs valid w around z meant 18 542 (omega (arith, low)) h.call.things
+      straight setting k n m rs valid w around z meant 18 (fail + 92) (omega (arith, low)) h.call.things
       ((and_then (compute_known refl refl (sum_fits a offset (omega (arith, small))))
       (and_then (load_falls refl (address_above (a + offset) 0 (a + offset) (omega arith) (omega (arith, small))) there.0) (record { same = refl }))).same
       ∙ ap (λ x. exec c (code_of (if_equal 4 6 undefined_steps [] ∷ chain_steps)) regs (record y { cost = x })) (omega arith))
-      (first_branch setting k n m rs valid w around z meant 530 (test_of Equal 4 6) undefined_steps [] chain_steps regs (mid_charged 18 y) (omega arith) (here_cost 18 h).call.things refl refl refl
-      (straight setting k n m rs valid w around z meant 14 516 (omega arith) h1.call.things
+      (first_branch setting k n m rs valid w around z meant (fail + 80) (test_of Equal 4 6) undefined_steps [] chain_steps regs (mid_charged 18 y) (omega arith) (here_cost 18 h).call.things refl refl refl
+      (straight setting k n m rs valid w around z meant 14 (fail + 52 + 14) (omega arith) h1.call.things
       ((and_then (load_falls refl (address_above generic generic_name (generic + generic_name) refl (omega (arith, name_low))) name.0) (and_then constant_falls (record { same = refl }))).same
       ∙ ap (λ x. exec c (code_of (returning setting.at 7 (failing_with_routine setting.at) (8 ∷ 7 ∷ []))) regs2 (record y { cost = x })) (omega arith))
-      (subst (λ r. CallEnds setting 516 m rs valid w around z y2 r (exec c (code_of (returning setting.at 7 (failing_with_routine setting.at) (8 ∷ 7 ∷ []))) regs2 y2)) (sym unknown_is)
-      (returned setting k n routine_credit m 7 (failing_with_routine setting.at) (8 ∷ 7 ∷ []) (undefined_function_class ∷ symbol_word setting.at g.name.0 ∷ []) [] rs valid w around z y2 regs2 unknown (refl, (refl, tt))
+      (subst (λ r. CallEnds setting (fail + 52 + 14) m rs valid w around z y2 r (exec c (code_of (returning setting.at 7 (failing_with_routine setting.at) (8 ∷ 7 ∷ []))) regs2 y2)) (sym unknown_is)
+      (returned setting k n fail m 7 (failing_with_routine setting.at) (8 ∷ 7 ∷ []) (undefined_function_class ∷ symbol_word setting.at g.name.0 ∷ []) [] rs valid w around z y2 regs2 unknown (refl, (refl, tt))
       (omega arith) h2.call.things
       (parts.failing_with n rs valid w z (mid_charged 52 y2) few undefined_function_class (symbol (named (text setting.names g.name.0))) (symbol_word setting.at g.name.0)
       (record { low = omega arith; high = omega arith; slots = refl }) (h.call.things.symbols g.name.0 named_so) (here_cost 52 h2).site (fewer_begins failing_words (omega arith) (here_cost 52 h2).call))))))
@@ -243,7 +242,7 @@ module _ (setting : Setting) (placed : IsPlaced setting) (k n spare : ℕ) (few 
   class_loop = loop setting placed k m rs valid w around z vs generic address g.required meant meant_grows
 
   sought_comes :
-      takes g.required g.rest (length vs) ≡ true → (credit : ℕ) → chain (length vs) + 456 * many + 152 ≤ credit → 608 + 456 * many ≤ credit → (r3 r4 r5 r6 r7 r8 : Option ℕ) (y : MidState) → Here y
+      takes g.required g.rest (length vs) ≡ true → (credit : ℕ) → chain (length vs) + 456 * many + 152 ≤ credit → fail + 158 + 456 * many ≤ credit → (r3 r4 r5 r6 r7 r8 : Option ℕ) (y : MidState) → Here y
       → Comes credit y (exec c (code_of sought_steps) (file r3 r4 r5 r6 r7 r8) y)
   sought_comes taken credit chain_low low r3 r4 r5 r6 r7 r8 y h = by (cases_lt n many)
     where
@@ -328,8 +327,8 @@ module _ (setting : Setting) (placed : IsPlaced setting) (k n spare : ℕ) (few 
   abbrev test_steps : Steps
   test_steps = if_equal 5 4 (where_so LessUnsigned 1 6 wrong [] ∷ []) (where_so Different 1 6 wrong [] ∷ []) ∷ []
 
-  module _ (odd_word credit : ℕ) (wrong_low : 540 ≤ credit)
-      (paid : takes g.required g.rest (length vs) ≡ true → (chain (length vs) + 456 * many + 180 ≤ credit) × (636 + 456 * many ≤ credit)) where
+  module _ (odd_word credit : ℕ) (wrong_low : fail + 90 ≤ credit)
+      (paid : takes g.required g.rest (length vs) ≡ true → (chain (length vs) + 456 * many + 180 ≤ credit) × (fail + 186 + 456 * many ≤ credit)) where
     abbrev told : Registers
     told = file (Some arity) (Some 1) (Some odd_word) (Some g.required) None None
 
@@ -353,21 +352,21 @@ module _ (setting : Setting) (placed : IsPlaced setting) (k n spare : ℕ) (few 
         ∙ ap (λ x. exec c (code_of sought_steps) told (record y { cost = x })) (omega arith))
         (goes_on (ap (λ t. takes g.required t (length vs)) rest ∙ taken) y h)
     tested_comes true rest odd false taken y h =
-        first_branch setting k n m rs valid w around z meant 528 (test_of Equal 5 4) (where_so LessUnsigned 1 6 wrong [] ∷ []) (where_so Different 1 6 wrong [] ∷ []) sought_steps told y (omega (arith, wrong_low))
+        first_branch setting k n m rs valid w around z meant (fail + 78) (test_of Equal 5 4) (where_so LessUnsigned 1 6 wrong [] ∷ []) (where_so Different 1 6 wrong [] ∷ []) sought_steps told y (omega (arith, wrong_low))
         h.call.things refl refl odd
-        (first_branch setting k n m rs valid w around z meant 516 (test_of LessUnsigned 1 6) wrong [] [] told (mid_charged 12 y) (omega arith) (here_cost 12 h).call.things refl refl
+        (first_branch setting k n m rs valid w around z meant (fail + 66) (test_of LessUnsigned 1 6) wrong [] [] told (mid_charged 12 y) (omega arith) (here_cost 12 h).call.things refl refl
         (too_few g.required (length vs) taken)
         (fails_comes (ap (λ t. takes g.required t (length vs)) rest ∙ taken) (Some arity) (Some 1) (Some odd_word) (Some g.required) None None (mid_charged 12 (mid_charged 12 y)) (here_cost 12 (here_cost 12 h))))
     tested_comes false rest odd false taken y h =
-        second_branch setting k n m rs valid w around z meant 528 (test_of Equal 5 4) (where_so LessUnsigned 1 6 wrong [] ∷ []) (where_so Different 1 6 wrong [] ∷ []) sought_steps told y (omega (arith, wrong_low))
+        second_branch setting k n m rs valid w around z meant (fail + 78) (test_of Equal 5 4) (where_so LessUnsigned 1 6 wrong [] ∷ []) (where_so Different 1 6 wrong [] ∷ []) sought_steps told y (omega (arith, wrong_low))
         h.call.things refl refl odd
-        (first_branch setting k n m rs valid w around z meant 516 (test_of Different 1 6) wrong [] [] told (mid_charged 12 y) (omega arith) (here_cost 12 h).call.things refl refl
+        (first_branch setting k n m rs valid w around z meant (fail + 66) (test_of Different 1 6) wrong [] [] told (mid_charged 12 y) (omega arith) (here_cost 12 h).call.things refl refl
         (others_many g.required (length vs) taken)
         (fails_comes (ap (λ t. takes g.required t (length vs)) rest ∙ taken) (Some arity) (Some 1) (Some odd_word) (Some g.required) None None (mid_charged 12 (mid_charged 12 y)) (here_cost 12 (here_cost 12 h))))
 
   -- **what the body comes to**
   generic_comes :
-      (credit : ℕ) → 574 ≤ credit → (takes g.required g.rest (length vs) ≡ true → (chain (length vs) + 456 * many + 214 ≤ credit) × (670 + 456 * many ≤ credit)) → (y : MidState) → Here y
+      (credit : ℕ) → fail + 124 ≤ credit → (takes g.required g.rest (length vs) ≡ true → (chain (length vs) + 456 * many + 214 ≤ credit) × (fail + 220 + 456 * many ≤ credit)) → (y : MidState) → Here y
       → Comes credit y (exec c (code_of (generic_code setting.at)) (file None None None None None None) y)
   unfolding generic_code
   generic_comes credit low paid y h =
@@ -390,14 +389,14 @@ given setting = framed generic_frame (procedure_with Turn 3 (generic_code settin
 -- **the application of a generic function**
 pub generics_law : LawOfGenerics
 unfolding generic_code
-generics_law setting k turns spare credit chain rs valid w around z y g vs generic address at placed few over parts named_so lent low paid site begins =
+generics_law setting k turns spare fail credit chain rs valid w around z y g vs generic address at placed few over parts named_so lent low paid site begins =
     calls_recounted setting {c1 = inner + entry_cost 3} {m1 = turns + spare} z z.state.units z.state.units (omega (arith, low)) (omega arith)
     (turns_law setting k turns (generic_routine setting.at) (turns + spare) generic_words entry_words inner (given setting) (generic ∷ length vs ∷ address ∷ []) rs valid w around z y meant_here
     ((numbers_law setting).routine 12 (given setting) placed refl) refl refl (omega arith) (omega (arith, over)) grown begins
     (λ n e y' here.
     let same : n + suc spare ≡ turns + spare = omega (arith, e) in
     subst (λ t. CallEnds setting inner t rs valid w around z y' meant_here (exec (code_at setting k n) (code_of (generic_code setting.at)) regs y')) same
-    (generic_comes setting placed k n spare (omega (arith, few, e)) over chain rs valid around parts w z g vs generic address at named_so inner (omega (arith, low)) inner_paid y'
+    (generic_comes setting placed k n spare fail (omega (arith, few, e)) over chain rs valid around parts w z g vs generic address at named_so inner (omega (arith, low)) inner_paid y'
     (record {
       call = here.call;
       site = (site.0, here.words site_address ∙ site.1, site.2);
@@ -416,7 +415,7 @@ generics_law setting k turns spare credit chain rs valid w around z y g vs gener
 
     inner_paid :
         takes g.required g.rest (length vs) ≡ true
-        → (chain (length vs) + 456 * length at.specialised + 214 ≤ inner) × (670 + 456 * length at.specialised ≤ inner)
+        → (chain (length vs) + 456 * length at.specialised + 214 ≤ inner) × (fail + 220 + 456 * length at.specialised ≤ inner)
     inner_paid taken = let enough = paid taken in let one = enough.0 in let other = enough.1 in (omega (arith, one), omega (arith, other))
 
     regs : Registers
@@ -433,9 +432,9 @@ generics_law setting k turns spare credit chain rs valid w around z y g vs gener
 
 -- the same by the number of arguments
 pub generics_over_law : LawOfGenericsOver
-generics_over_law setting k turns spare chain credit rs valid w around z y placed few over parts few_there chain_low other_low g vs generic address at named_so lent =
+generics_over_law setting k turns spare fail chain credit rs valid w around z y placed few over parts few_there chain_low other_low g vs generic address at named_so lent =
     let low = other_low (length vs) in
-    generics_law setting k turns spare (credit (length vs)) chain rs valid w around z y g vs generic address at placed few over parts named_so lent (omega (arith, low))
+    generics_law setting k turns spare fail (credit (length vs)) chain rs valid w around z y g vs generic address at placed few over parts named_so lent (omega (arith, low))
     (λ taken.
     let required = enough_taken g.required (length vs) g.rest taken in
     let many = few_there generic g at in

@@ -16,7 +16,6 @@ use Rattle.back_relation.specs.Chains.{ChainAt, ChainTakes, GenericAt}
 use Rattle.back_relation.specs.Worlds.{World, Standing}
 use Rattle.back_relation.specs.Forms.{context_at}
 use Rattle.back_relation.specs.Procedures.{ArgumentsLent}
-use Rattle.back_relation.specs.RoutineClaims.{routine_credit}
 use Rattle.back_generics.specs.Functions.{DoesOver, FailingOver, FailingWithOver, GenericOver}
 
 module _ (setting : Setting) (k turns spare : ℕ) (rs valid : List Standing) (w : World) (around : DynamicContext) (z : FlatState) (y : MidState) where
@@ -28,7 +27,7 @@ module _ (setting : Setting) (k turns spare : ℕ) (rs valid : List Standing) (w
       → DoesOver setting k turns spare rs valid w around z y entry_words (credit (length vs)) (chain_routine setting.at) (chain ∷ length vs ∷ address ∷ [])
       (apply_chain (context_at setting k) (signal (context_at setting k)) g (Some c) vs around z)
 
-module _ (setting : Setting) (k spare : ℕ) (around : DynamicContext) (chain : ℕ → ℕ) where
+module _ (setting : Setting) (k spare fail : ℕ) (around : DynamicContext) (chain : ℕ → ℕ) where
   -- what is to be known of what the routine calls, at its level
   pub record GenericParts : Type 0 where
     pub chains :
@@ -36,12 +35,13 @@ module _ (setting : Setting) (k spare : ℕ) (around : DynamicContext) (chain : 
         → ChainOver setting k turns (suc spare) rs valid w around z y chain
     pub failing :
         (turns : ℕ) (rs valid : List Standing) (w : World) (z : FlatState) (y : MidState) → turns ≤ setting.turns_each
-        → FailingOver setting k turns (suc spare) rs valid w around z y routine_credit
+        → FailingOver setting k turns (suc spare) rs valid w around z y fail
     pub failing_with :
         (turns : ℕ) (rs valid : List Standing) (w : World) (z : FlatState) (y : MidState) → turns ≤ setting.turns_each
-        → FailingWithOver setting k turns (suc spare) rs valid w around z y routine_credit
+        → FailingWithOver setting k turns (suc spare) rs valid w around z y fail
 
--- what each specialised argument costs, and what is around the chain, around a function that is not defined, and a wrong number of arguments
+-- what each specialised argument costs, and what is around the chain, and around the conditions of a function that is not defined and of a wrong
+-- number of arguments
 abbrev pub specialised_cost : ℕ
 specialised_cost = 456
 
@@ -49,20 +49,20 @@ abbrev pub chain_around : ℕ
 chain_around = 252
 
 abbrev pub undefined_cost : ℕ
-undefined_cost = 708
+undefined_cost = 258
 
 abbrev pub wrong_cost : ℕ
-wrong_cost = 620
+wrong_cost = 170
 
 -- **the application of a generic function**, for what its specialised arguments cost
 abbrev pub LawOfGenerics : Type 0
 LawOfGenerics =
-    (setting : Setting) (k turns spare credit : ℕ) (chain : ℕ → ℕ) (rs valid : List Standing) (w : World) (around : DynamicContext) (z : FlatState) (y : MidState)
+    (setting : Setting) (k turns spare fail credit : ℕ) (chain : ℕ → ℕ) (rs valid : List Standing) (w : World) (around : DynamicContext) (z : FlatState) (y : MidState)
     (g : GenericRow) (vs : List Value) (generic address : ℕ) (at : GenericAt setting generic g)
-    → IsPlaced setting → turns ≤ setting.turns_each → spare ≤ 14 → GenericParts setting k spare around chain → HasSymbol setting g.name.0
-    → ArgumentsLent setting w y.arena address vs → wrong_cost ≤ credit
+    → IsPlaced setting → turns ≤ setting.turns_each → spare ≤ 14 → GenericParts setting k spare fail around chain → HasSymbol setting g.name.0
+    → ArgumentsLent setting w y.arena address vs → fail + wrong_cost ≤ credit
     → (takes g.required g.rest (length vs) ≡ true
-    → (chain_around + specialised_cost * length at.specialised + chain (length vs) ≤ credit) × (undefined_cost + specialised_cost * length at.specialised ≤ credit))
+    → (chain_around + specialised_cost * length at.specialised + chain (length vs) ≤ credit) × (fail + undefined_cost + specialised_cost * length at.specialised ≤ credit))
     → DoesOver setting k turns spare rs valid w around z y generic_words credit (generic_routine setting.at) (generic ∷ length vs ∷ address ∷ [])
     (apply_generic_row (context_at setting k) (signal (context_at setting k)) (Some g) vs around z)
 
@@ -73,7 +73,7 @@ FewSpecialised setting = (generic : ℕ) (g : GenericRow) (at : GenericAt settin
 -- the same by the number of arguments
 abbrev pub LawOfGenericsOver : Type 0
 LawOfGenericsOver =
-    (setting : Setting) (k turns spare : ℕ) (chain credit : ℕ → ℕ) (rs valid : List Standing) (w : World) (around : DynamicContext) (z : FlatState) (y : MidState)
-    → IsPlaced setting → turns ≤ setting.turns_each → spare ≤ 14 → GenericParts setting k spare around chain → FewSpecialised setting
-    → ((n : ℕ) → chain_around + specialised_cost * n + chain n ≤ credit n) → ((n : ℕ) → undefined_cost + specialised_cost * n ≤ credit n)
+    (setting : Setting) (k turns spare fail : ℕ) (chain credit : ℕ → ℕ) (rs valid : List Standing) (w : World) (around : DynamicContext) (z : FlatState) (y : MidState)
+    → IsPlaced setting → turns ≤ setting.turns_each → spare ≤ 14 → GenericParts setting k spare fail around chain → FewSpecialised setting
+    → ((n : ℕ) → chain_around + specialised_cost * n + chain n ≤ credit n) → ((n : ℕ) → fail + undefined_cost + specialised_cost * n ≤ credit n)
     → GenericOver setting k turns spare rs valid w around z y credit
