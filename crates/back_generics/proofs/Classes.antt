@@ -30,7 +30,7 @@ use Rattle.back_looking.proofs.ClassNumbers.{given, given_small, body_finds}
 use Rattle.back_looking.proofs.Entering.{same_word, looked_world, looked_back, with_frame_of, BodyLooks, frame_left}
 use Rattle.back_looking.proofs.Finding.{Used, routine_used}
 
-module _ (setting : Setting) (placed : IsPlaced setting) (k t m : ℕ) (rs valid : List Standing) (w : World) (around : DynamicContext) (z : FlatState) (y : MidState) where
+module _ (setting : Setting) (placed : IsPlaced setting) (k t m : ℕ) (rs valid : List Standing) (w : World) (around : DynamicContext) (z counted : FlatState) (y : MidState) where
   -- the class is returned, and all but the cost is as it was
   pub record ClassThere (word : ℕ) (q : MidOutcome) : Type 0 where
     pub end : q.end ≡ returns word
@@ -39,7 +39,7 @@ module _ (setting : Setting) (placed : IsPlaced setting) (k t m : ℕ) (rs valid
     pub site : SiteStored setting around y → SiteStored setting around q.state
 
   abbrev pub ClassEnds : (word : ℕ) → MidOutcome → Type 0
-  ClassEnds word q = Ends setting (ClassThere word q) ⊥ m z y (gives nil z) q
+  ClassEnds word q = Ends setting (ClassThere word q) ⊥ m counted y (gives nil z) q
 
   abbrev below : Task → MidState → MidOutcome
   below = levels setting.procedures setting.turns_each k

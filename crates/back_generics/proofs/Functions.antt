@@ -53,7 +53,7 @@ use Rattle.back_relation.specs.Around.{RoomFor, CallBegins, SiteStored}
 use Rattle.back_relation.specs.Ends.{WorldKept, Around, CallEnds}
 use Rattle.back_relation.specs.Forms.{below_at, context_at, code_at}
 use Rattle.back_relation.specs.Procedures.{called, IsFunction, CapturedFits, ArgumentsLent, entry_credit}
-use Rattle.back_relation.specs.RoutineClaims.{WordIs, routine_credit, applying_credit}
+use Rattle.back_relation.specs.RoutineClaims.{WordIs, applying_credit}
 use Rattle.back_combining.specs.Starts.{FlatGrown}
 use Rattle.back_combining.proofs.Growth.{grown_later}
 use Rattle.back_combining.proofs.Parts.{step_then}
@@ -81,8 +81,8 @@ fewer_room : (l : Limit) (m m' : ℕ) (z : FlatState) (y : MidState) → m' ≤ 
 fewer_room unlimited m m' z y few h = tt
 fewer_room (words n) m m' z y few h = omega (arith, h, few)
 
-module _ (setting : Setting) (placed : IsPlaced setting) (k n spare : ℕ) (few : n ≤ setting.turns_each) (over : spare ≤ 14) (generic : ℕ → ℕ) (rs valid : List Standing) (around : DynamicContext)
-    (parts : FunctionParts setting k spare around generic) (w : World) (z : FlatState) (f : Value) (vs : List Value) (word address : ℕ) (is : WordIs setting w word f) where
+module _ (setting : Setting) (placed : IsPlaced setting) (k n spare fail : ℕ) (few : n ≤ setting.turns_each) (over : spare ≤ 14) (generic : ℕ → ℕ) (rs valid : List Standing) (around : DynamicContext)
+    (parts : FunctionParts setting k spare fail around generic) (w : World) (z : FlatState) (f : Value) (vs : List Value) (word address : ℕ) (is : WordIs setting w word f) where
   abbrev c : Context
   c = code_at setting k n
 
@@ -136,11 +136,11 @@ module _ (setting : Setting) (placed : IsPlaced setting) (k n spare : ℕ) (few 
   abbrev wrong_kind : FlatEvaluated
   wrong_kind = signal_domain_error (context_at setting k) (signal (context_at setting k)) f function_class around z
 
-  domain_comes : (r3 r4 r5 r6 r7 r8 : Option ℕ) (y : MidState) → Here y → Comes 522 y wrong_kind (exec c (code_of (signals_domain setting.at 0 3 function_class)) (file r3 r4 r5 r6 r7 r8) y)
+  domain_comes : (r3 r4 r5 r6 r7 r8 : Option ℕ) (y : MidState) → Here y → Comes (fail + 72) y wrong_kind (exec c (code_of (signals_domain setting.at 0 3 function_class)) (file r3 r4 r5 r6 r7 r8) y)
   domain_comes r3 r4 r5 r6 r7 r8 y h =
-      straight setting k n m rs valid w around z wrong_kind 6 516 (omega arith) h.call.things
+      straight setting k n m rs valid w around z wrong_kind 6 (fail + 52 + 14) (omega arith) h.call.things
       ((and_then constant_falls (record { same = refl })).same)
-      (returned setting k n routine_credit m 3 (domain_routine setting.at) (0 ∷ 3 ∷ []) (word ∷ function_class ∷ []) [] rs valid w around z (mid_charged 6 y) (file (Some function_class) r4 r5 r6 r7 r8) wrong_kind
+      (returned setting k n fail m 3 (domain_routine setting.at) (0 ∷ 3 ∷ []) (word ∷ function_class ∷ []) [] rs valid w around z (mid_charged 6 y) (file (Some function_class) r4 r5 r6 r7 r8) wrong_kind
       (refl, (refl, tt)) (omega arith) (here_cost 6 h).call.things
       (parts.domain n rs valid w z (mid_charged 52 (mid_charged 6 y)) few f function_class word (omega arith) is (here_cost 52 (here_cost 6 h)).site
       (fewer_begins failing_words (omega arith) (here_cost 52 (here_cost 6 h)).call)))
@@ -150,11 +150,11 @@ module _ (setting : Setting) (placed : IsPlaced setting) (k n spare : ℕ) (few 
   abbrev wrong_many : FlatEvaluated
   wrong_many = signal (context_at setting k) program_error_class [] around z
 
-  fails_comes : (r3 r4 r5 r6 r7 r8 : Option ℕ) (y : MidState) → Here y → Comes 516 y wrong_many (exec c (code_of (signals_steps setting.at 6 program_error_class)) (file r3 r4 r5 r6 r7 r8) y)
+  fails_comes : (r3 r4 r5 r6 r7 r8 : Option ℕ) (y : MidState) → Here y → Comes (fail + 66) y wrong_many (exec c (code_of (signals_steps setting.at 6 program_error_class)) (file r3 r4 r5 r6 r7 r8) y)
   fails_comes r3 r4 r5 r6 r7 r8 y h =
-      straight setting k n m rs valid w around z wrong_many 6 510 (omega arith) h.call.things
+      straight setting k n m rs valid w around z wrong_many 6 (fail + 46 + 14) (omega arith) h.call.things
       ((and_then constant_falls (record { same = refl })).same)
-      (returned setting k n routine_credit m 6 (failing_routine setting.at) (6 ∷ []) (program_error_class ∷ []) [] rs valid w around z (mid_charged 6 y) (file r3 r4 r5 (Some program_error_class) r7 r8)
+      (returned setting k n fail m 6 (failing_routine setting.at) (6 ∷ []) (program_error_class ∷ []) [] rs valid w around z (mid_charged 6 y) (file r3 r4 r5 (Some program_error_class) r7 r8)
       wrong_many (refl, tt) (omega arith) (here_cost 6 h).call.things
       (parts.failing n rs valid w z (mid_charged 46 (mid_charged 6 y)) few program_error_class (record { low = omega arith; high = omega arith; slots = refl }) (here_cost 46 (here_cost 6 h)).site
       (fewer_begins failing_words (omega arith) (here_cost 46 (here_cost 6 h)).call)))
@@ -226,15 +226,15 @@ module _ (setting : Setting) (placed : IsPlaced setting) (k n spare : ℕ) (few 
 
     -- a wrong number of arguments
     wrong_comes : takes req more_taken (length vs) ≡ false → (r3 r4 r5 r6 r7 r8 : Option ℕ) (y : MidState) → Here y
-        → Comes 596 y (entered cs q) (exec c (code_of (wrong_number setting.at 6)) (file r3 r4 r5 r6 r7 r8) y)
+        → Comes (fail + 146) y (entered cs q) (exec c (code_of (wrong_number setting.at 6)) (file r3 r4 r5 r6 r7 r8) y)
     wrong_comes none r3 r4 r5 r6 r7 r8 y h =
-        subst (λ o. Comes 596 y (entered cs q) o) (sym (step_then c (call 6 (level_routine setting.at) []) (signals_steps setting.at 6 program_error_class) (file r3 r4 r5 r6 r7 r8) y))
-        (judged_over setting placed k n m 6 516 596 rs valid w around z y (file r3 r4 r5 r6 r7 r8) meant
+        subst (λ o. Comes (fail + 146) y (entered cs q) o) (sym (step_then c (call 6 (level_routine setting.at) []) (signals_steps setting.at 6 program_error_class) (file r3 r4 r5 r6 r7 r8) y))
+        (judged_over setting placed k n m 6 (fail + 66) (fail + 146) rs valid w around z y (file r3 r4 r5 r6 r7 r8) meant
         (λ g x. exec c (code_of (signals_steps setting.at 6 program_error_class)) g x) (fewer_begins level_words (omega arith) h.call) (omega arith)
         (subst (λ (r : FlatEvaluated). FlatGrown z r.state) (sym (wrong_is z)) (grown_later (signal_later setting k program_error_class [] around z)))
         (λ g x. steps_grown setting k n (signals_steps setting.at 6 program_error_class) g x)
         (λ level y' world back site.
-        subst (λ r. CallEnds setting 516 m rs valid w around z y' r (exec c (code_of (signals_steps setting.at 6 program_error_class)) (file r3 r4 r5 (Some level) r7 r8) y')) (sym (wrong_is z))
+        subst (λ r. CallEnds setting (fail + 66) m rs valid w around z y' r (exec c (code_of (signals_steps setting.at 6 program_error_class)) (file r3 r4 r5 (Some level) r7 r8) y')) (sym (wrong_is z))
         (fails_comes r3 r4 r5 (Some level) r7 r8 y' (here_then world back (site h.site) h))))
       where
         meant : FlatState → FlatEvaluated
@@ -256,7 +256,7 @@ module _ (setting : Setting) (placed : IsPlaced setting) (k n spare : ℕ) (few 
       told = file (Some arity) r4 (Some number) (Some 1) (Some odd_word) (Some req)
 
       tested_comes : (t : Bool) → is_some q.rest ≡ t → (odd_word == 1) ≡ t → (b : Bool) → takes req t (length vs) ≡ b → (y : MidState) → Here y
-          → Comes 620 y (entered cs q) (exec c (code_of (test_steps ++ last_steps)) told y)
+          → Comes (fail + 170) y (entered cs q) (exec c (code_of (test_steps ++ last_steps)) told y)
       tested_comes true rest odd true taken y h =
           straight setting k n m rs valid w around z (entered cs q) 28 84 (omega arith) h.call.things
           ((and_then (choose_first_falls refl refl odd (and_then (choose_second_falls refl refl (some_more req (length vs) taken) none_left) none_left)) (record { same = refl })).same
@@ -268,27 +268,27 @@ module _ (setting : Setting) (placed : IsPlaced setting) (k n spare : ℕ) (few 
           ∙ ap (λ x. exec c (code_of last_steps) told (record y { cost = x })) (omega arith))
           (entry_comes (ap (λ t. takes req t (length vs)) rest ∙ taken) (Some arity) r4 (Some 1) (Some odd_word) (Some req) (mid_charged 28 y) (here_cost 28 h))
       tested_comes true rest odd false taken y h =
-          first_branch setting k n m rs valid w around z (entered cs q) 608 (test_of Equal 7 6) (where_so LessUnsigned 1 8 wrong [] ∷ []) (where_so Different 1 8 wrong [] ∷ []) last_steps told y (omega arith)
+          first_branch setting k n m rs valid w around z (entered cs q) (fail + 158) (test_of Equal 7 6) (where_so LessUnsigned 1 8 wrong [] ∷ []) (where_so Different 1 8 wrong [] ∷ []) last_steps told y (omega arith)
           h.call.things refl refl odd
-          (first_branch setting k n m rs valid w around z (entered cs q) 596 (test_of LessUnsigned 1 8) wrong [] [] told (mid_charged 12 y) (omega arith) (here_cost 12 h).call.things refl refl
+          (first_branch setting k n m rs valid w around z (entered cs q) (fail + 146) (test_of LessUnsigned 1 8) wrong [] [] told (mid_charged 12 y) (omega arith) (here_cost 12 h).call.things refl refl
           (too_few req (length vs) taken)
           (wrong_comes (ap (λ t. takes req t (length vs)) rest ∙ taken) (Some arity) r4 (Some number) (Some 1) (Some odd_word) (Some req) (mid_charged 12 (mid_charged 12 y)) (here_cost 12 (here_cost 12 h))))
       tested_comes false rest odd false taken y h =
-          second_branch setting k n m rs valid w around z (entered cs q) 608 (test_of Equal 7 6) (where_so LessUnsigned 1 8 wrong [] ∷ []) (where_so Different 1 8 wrong [] ∷ []) last_steps told y (omega arith)
+          second_branch setting k n m rs valid w around z (entered cs q) (fail + 158) (test_of Equal 7 6) (where_so LessUnsigned 1 8 wrong [] ∷ []) (where_so Different 1 8 wrong [] ∷ []) last_steps told y (omega arith)
           h.call.things refl refl odd
-          (first_branch setting k n m rs valid w around z (entered cs q) 596 (test_of Different 1 8) wrong [] [] told (mid_charged 12 y) (omega arith) (here_cost 12 h).call.things refl refl
+          (first_branch setting k n m rs valid w around z (entered cs q) (fail + 146) (test_of Different 1 8) wrong [] [] told (mid_charged 12 y) (omega arith) (here_cost 12 h).call.things refl refl
           (others_many req (length vs) taken)
           (wrong_comes (ap (λ t. takes req t (length vs)) rest ∙ taken) (Some arity) r4 (Some number) (Some 1) (Some odd_word) (Some req) (mid_charged 12 (mid_charged 12 y)) (here_cost 12 (here_cost 12 h))))
 
     -- **the function is entered**, or that is an error
     function_comes :
         ArityStands setting number q → (r3 r4 r5 r6 r7 r8 : Option ℕ) (y : MidState) → Here y → word_at y.arena (word + 2) ≡ Some number → word + 2 < 2 ^ 32
-        → Comes 694 y (entered cs q) (exec c (code_of function_steps) (file r3 r4 r5 r6 r7 r8) y)
+        → Comes (fail + 244) y (entered cs q) (exec c (code_of function_steps) (file r3 r4 r5 r6 r7 r8) y)
     function_comes stands r3 r4 r5 r6 r7 r8 y h number_there low =
         let there = constants_law setting w z y h.call.things (setting.at.arities + 4 * number) arity stands in
         let below = there.1 in
         let sum : 4 * number + setting.at.arities < 2 ^ 32 = omega (arith, below) in
-        straight setting k n m rs valid w around z (entered cs q) 74 620 (omega arith) h.call.things
+        straight setting k n m rs valid w around z (entered cs q) 74 (fail + 170) (omega arith) h.call.things
         ((and_then (load_falls refl (address_above word 2 (word + 2) (omega arith) low) number_there)
         (and_then constant_falls
         (and_then (compute_known refl refl (four_times_count number (omega (arith, below))))
@@ -377,12 +377,12 @@ module _ (setting : Setting) (placed : IsPlaced setting) (k n spare : ℕ) (few 
   function_path :
       (number : ℕ) (extra : Extra) (q : FlatProcedure) (cs : List Captured) → IsFunction setting number extra q → CapturedFits setting w number extra q cs → SelfHeld w z.captured (Some word) cs
       → CalledFits extra None → ArityStands setting number q → meant ≡ entered cs q → (y : MidState) → Here y → (word % 4 == object_tag) ≡ true → word_at y.arena (word - 2) ≡ Some function_header
-      → word_at y.arena (word + 2) ≡ Some number → word + 2 < 2 ^ 32 → Comes 754 y meant (exec c (code_of (function_code setting.at)) begun y)
+      → word_at y.arena (word + 2) ≡ Some number → word + 2 < 2 ^ 32 → Comes (fail + 304) y meant (exec c (code_of (function_code setting.at)) begun y)
   function_path number extra q cs is_one fits held as_extra arity same y h tag header there low =
-      tag_comes 706 754 function_header y (omega arith) h tag header
-      (first_branch setting k n m rs valid w around z meant 694 (test_of Equal 3 4) function_steps generic_test [] (file (Some function_header) (Some function_header) None None None None) (mid_charged 48 y) (omega arith)
+      tag_comes (fail + 256) (fail + 304) function_header y (omega arith) h tag header
+      (first_branch setting k n m rs valid w around z meant (fail + 244) (test_of Equal 3 4) function_steps generic_test [] (file (Some function_header) (Some function_header) None None None None) (mid_charged 48 y) (omega arith)
       (here_cost 48 h).call.things refl refl refl
-      (subst (λ r. Comes 694 (mid_charged 12 (mid_charged 48 y)) r (exec c (code_of function_steps) (file (Some function_header) (Some function_header) None None None None) (mid_charged 12 (mid_charged 48 y)))) (sym same)
+      (subst (λ r. Comes (fail + 244) (mid_charged 12 (mid_charged 48 y)) r (exec c (code_of function_steps) (file (Some function_header) (Some function_header) None None None None) (mid_charged 12 (mid_charged 48 y)))) (sym same)
       (function_comes number extra q cs is_one fits held as_extra arity (Some function_header) (Some function_header) None None None None (mid_charged 12 (mid_charged 48 y)) (here_cost 12 (here_cost 48 h)) there low)))
 
   generic_path :
@@ -411,7 +411,7 @@ module _ (setting : Setting) (placed : IsPlaced setting) (k n spare : ℕ) (few 
   is_kind h = h == function_header || h == generic_header
 
   other_header : (header : ℕ) (y : MidState) → Here y → (word % 4 == object_tag) ≡ true → word_at y.arena (word - 2) ≡ Some header → is_kind header ≡ false
-      → Comes 606 y wrong_kind (exec c (code_of (function_code setting.at)) begun y)
+      → Comes (fail + 156) y wrong_kind (exec c (code_of (function_code setting.at)) begun y)
   unfolding function_code
   other_header header y h tag there kind = by (header == function_header) refl kind
     where
@@ -421,10 +421,10 @@ module _ (setting : Setting) (placed : IsPlaced setting) (k n spare : ℕ) (few 
       start : word ≡ (word - 2) + suc 1
       start = omega (arith, high)
 
-      by : (b : Bool) → (header == function_header) ≡ b → (b || header == generic_header) ≡ false → Comes 606 y wrong_kind (exec c (code_of (function_code setting.at)) begun y)
+      by : (b : Bool) → (header == function_header) ≡ b → (b || header == generic_header) ≡ false → Comes (fail + 156) y wrong_kind (exec c (code_of (function_code setting.at)) begun y)
       by true e g = absurd (cc g)
       by false e g =
-          straight setting k n m rs valid w around z wrong_kind 84 522 (omega arith) h.call.things
+          straight setting k n m rs valid w around z wrong_kind 84 (fail + 72) (omega arith) h.call.things
           ((and_then constant_falls
           (and_then (compute_known refl refl (and_mask word 2))
           (and_then constant_falls
@@ -437,10 +437,10 @@ module _ (setting : Setting) (placed : IsPlaced setting) (k n spare : ℕ) (few 
           ∙ ap (λ x. exec c (code_of rest_steps) (file (Some header) (Some generic_header) None None None None) (record y { cost = x })) (omega arith))
           (domain_comes (Some header) (Some generic_header) None None None None (mid_charged 84 y) (here_cost 84 h))
 
-  other_tag : (y : MidState) → Here y → (word % 4 == object_tag) ≡ false → Comes 606 y wrong_kind (exec c (code_of (function_code setting.at)) begun y)
+  other_tag : (y : MidState) → Here y → (word % 4 == object_tag) ≡ false → Comes (fail + 156) y wrong_kind (exec c (code_of (function_code setting.at)) begun y)
   unfolding function_code
   other_tag y h tag =
-      straight setting k n m rs valid w around z wrong_kind 36 522 (omega arith) h.call.things
+      straight setting k n m rs valid w around z wrong_kind 36 (fail + 72) (omega arith) h.call.things
       ((and_then constant_falls
       (and_then (compute_known refl refl (and_mask word 2))
       (and_then constant_falls
@@ -449,12 +449,12 @@ module _ (setting : Setting) (placed : IsPlaced setting) (k n spare : ℕ) (few 
       ∙ ap (λ x. exec c (code_of rest_steps) (file (Some (word % 4)) (Some object_tag) None None None None) (record y { cost = x })) (omega arith))
       (domain_comes (Some (word % 4)) (Some object_tag) None None None None (mid_charged 36 y) (here_cost 36 h))
 
-  other_comes : is_function (fetch z.state f) ≡ false → meant ≡ wrong_kind → (y : MidState) → Here y → Comes 606 y meant (exec c (code_of (function_code setting.at)) begun y)
+  other_comes : is_function (fetch z.state f) ≡ false → meant ≡ wrong_kind → (y : MidState) → Here y → Comes (fail + 156) y meant (exec c (code_of (function_code setting.at)) begun y)
   other_comes none same y h =
-      subst (λ r. Comes 606 y r (exec c (code_of (function_code setting.at)) begun y)) (sym same)
+      subst (λ r. Comes (fail + 156) y r (exec c (code_of (function_code setting.at)) begun y)) (sym same)
       (by (header_decides setting.names (tables setting.program) w.places z.state y h.call.things.represents is_function is_kind function_kind f word is))
     where
-      by : ByHeader y.arena word is_kind (is_function (fetch z.state f)) → Comes 606 y wrong_kind (exec c (code_of (function_code setting.at)) begun y)
+      by : ByHeader y.arena word is_kind (is_function (fetch z.state f)) → Comes (fail + 156) y wrong_kind (exec c (code_of (function_code setting.at)) begun y)
       by (of_kind header some tag at kind) = absurd (cc (none, some))
       by (of_other_kind header other tag at kind) = other_header header y h tag at kind
       by (of_other_tag other tag) = other_tag y h tag
@@ -478,7 +478,7 @@ module _ (setting : Setting) (placed : IsPlaced setting) (k n spare : ℕ) (few 
   defined_called true = tt
   defined_called false = refl
 
-  function_found : (p : ℕ) → fetch z.state f ≡ Some (function p) → (y : MidState) → Here y → Comes 754 y meant (exec c (code_of (function_code setting.at)) begun y)
+  function_found : (p : ℕ) → fetch z.state f ≡ Some (function p) → (y : MidState) → Here y → Comes (fail + 304) y meant (exec c (code_of (function_code setting.at)) begun y)
   function_found p e y h = by (under it.number z.captured) refl (h.call.things.functions it.number p it.spot it.stored it.found)
     where
       it : ObjectFound setting.names (tables setting.program) w.places z.state y h.call.things.represents f word (function p)
@@ -499,7 +499,7 @@ module _ (setting : Setting) (placed : IsPlaced setting) (k n spare : ℕ) (few 
       low : word + 2 < 2 ^ 32
       low = let here = behind in let many = it.stands.words in let below = spot_low h.call.things.represents.arena it.spot_stands in omega (arith, here, many, below)
 
-      by : (o : Option (List Captured)) → under it.number z.captured ≡ o → FunctionStands setting w y.arena it.spot p o → Comes 754 y meant (exec c (code_of (function_code setting.at)) begun y)
+      by : (o : Option (List Captured)) → under it.number z.captured ≡ o → FunctionStands setting w y.arena it.spot p o → Comes (fail + 304) y meant (exec c (code_of (function_code setting.at)) begun y)
       by None same d =
           function_path p (extra_of setting.names setting.at setting.program p) d.row [] (inl (d.there, refl)) (defined_fits (is_method setting.program p) p d.row) tt
           (defined_called (is_method setting.program p)) (placed.procedure_arities p d.row d.there)
@@ -536,7 +536,7 @@ module _ (setting : Setting) (placed : IsPlaced setting) (k n spare : ℕ) (few 
       y h tag_is (ap (word_at y.arena) front ∙ it.stands.header) (ap (word_at y.arena) behind ∙ it.stands.word) (omega (arith, behind, many, below))
 
   -- **what the body comes to**
-  value_comes : (credit : ℕ) → generic (length vs) + 182 ≤ credit → 754 ≤ credit → (y : MidState) → Here y → Comes credit y meant (exec c (code_of (function_code setting.at)) begun y)
+  value_comes : (credit : ℕ) → generic (length vs) + 182 ≤ credit → fail + 304 ≤ credit → (y : MidState) → Here y → Comes credit y meant (exec c (code_of (function_code setting.at)) begun y)
   value_comes credit generic_low low y h = by (fetch z.state f) refl
     where
       code_end : MidOutcome
@@ -562,14 +562,14 @@ given setting = framed passing_frame (procedure_with Turn 3 (function_code setti
 -- **the application of a value**
 pub functions_law : LawOfFunctions
 unfolding function_code
-functions_law setting k turns spare generic credit rs valid w around z y placed few over generic_low other_low parts f vs word address is lent site begins =
+functions_law setting k turns spare fail generic credit rs valid w around z y placed few over generic_low other_low parts f vs word address is lent site begins =
     calls_recounted setting {c1 = inner + entry_cost 3} {m1 = turns + spare} z z.state.units z.state.units (omega (arith, low)) (omega arith)
     (turns_law setting k turns (function_routine setting.at) (turns + spare) applying_words generic_words inner (given setting) (word ∷ length vs ∷ address ∷ []) rs valid w around z y meant_here
     ((numbers_law setting).routine 10 (given setting) placed refl) refl refl (omega arith) (omega (arith, over)) grown begins
     (λ n e y' here.
     let same : n + suc spare ≡ turns + spare = omega (arith, e) in
     subst (λ t. CallEnds setting inner t rs valid w around z y' meant_here (exec (code_at setting k n) (code_of (function_code setting.at)) regs y')) same
-    (value_comes setting placed k n spare (omega (arith, few, e)) over generic rs valid around parts w z f vs word address is inner (omega (arith, generic_fits)) (omega (arith, low)) y'
+    (value_comes setting placed k n spare fail (omega (arith, few, e)) over generic rs valid around parts w z f vs word address is inner (omega (arith, generic_fits)) (omega (arith, low)) y'
     (record {
       call = here.call;
       site = (site.0, here.words site_address ∙ site.1, site.2);
@@ -580,7 +580,7 @@ functions_law setting k turns spare generic credit rs valid w around z y placed 
       };
     }))))
   where
-    low : other_cost ≤ credit (length vs)
+    low : fail + other_cost ≤ credit (length vs)
     low = other_low (length vs)
 
     generic_fits : generic (length vs) + function_cost ≤ credit (length vs)
@@ -606,11 +606,11 @@ functions_law setting k turns spare generic credit rs valid w around z y placed 
 
 -- the same as it is claimed
 pub function_claims_law : LawOfFunctionClaims
-function_claims_law setting k turns generic rs valid w around z y placed few generic_low parts f vs word address is lent site begins =
+function_claims_law setting k turns fail generic rs valid w around z y placed few fail_low generic_low parts f vs word address is lent site begins =
     let same : turns + 0 ≡ turns = omega arith in
     subst
     (λ t.
     CallEnds setting (applying_credit (length vs)) t rs valid w around z y (apply_value (context_at setting k) (signal (context_at setting k)) f vs around z)
     (called (code_at setting k turns) (function_routine setting.at) (word ∷ length vs ∷ address ∷ []) y))
     same
-    (functions_law setting k turns 0 generic applying_credit rs valid w around z y placed few (omega arith) generic_low (λ n. omega arith) parts f vs word address is lent site begins)
+    (functions_law setting k turns 0 fail generic applying_credit rs valid w around z y placed few (omega arith) generic_low (λ n. omega (arith, fail_low)) parts f vs word address is lent site begins)

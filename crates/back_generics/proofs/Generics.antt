@@ -5,6 +5,7 @@ use Rattle.std.proofs.lemmas.Bool.{cases_lt, ne_eqb}
 use Rattle.std.proofs.lemmas.Bool.Decides.{nat_tests}
 use Rattle.std.proofs.lemmas.Nat.{and_mask}
 use Rattle.base.specs.AllOf.{AllOf}
+use Rattle.lang_meaning.specs.Counts.{unit_cost}
 use Rattle.lang_meaning.specs.declared.program.GenericRow.{GenericRow}
 use Rattle.lang_meaning.specs.declared.program.ProgramRows.{ProgramRows}
 use Rattle.lang_meaning.specs.declared.program.Qualifier.TheVariants.{Primary}
@@ -17,7 +18,7 @@ use Rattle.lang_meaning.specs.State.{DynamicContext, Limit, words, unlimited}
 use Rattle.lang_meaning.specs.Values.{Value, symbol, named}
 use Rattle.flat_language.specs.FlatNodes.{tables}
 use Rattle.flat_language.specs.FlatSignals.{signal, apply_chain, apply_generic_row}
-use Rattle.flat_language.specs.FlatState.{FlatState, FlatEvaluated}
+use Rattle.flat_language.specs.FlatState.{FlatState, FlatEvaluated, charged}
 use Rattle.flat_laws.specs.FlatLater.{FlatLater}
 use Rattle.flat_laws.proofs.Applied.{signals, generic_row_applies}
 use Rattle.flat_laws.proofs.Later.{later_kept}
@@ -45,13 +46,14 @@ use Rattle.back_relation.specs.Chains.{arity_word, GenericAt, ChainFound, Specia
 use Rattle.back_relation.specs.Room.{generic_words, entry_words, failing_words}
 use Rattle.back_relation.specs.Placed.{IsPlaced, HasSymbol}
 use Rattle.back_relation.specs.Worlds.{World, Standing}
+use Rattle.back_relation.specs.Things.{Things}
 use Rattle.back_relation.specs.Around.{RoomFor, CallBegins}
 use Rattle.back_relation.specs.Ends.{CallEnds, few_turns}
 use Rattle.back_relation.specs.Forms.{context_at, code_at}
-use Rattle.back_relation.specs.RoutineClaims.{routine_credit}
 use Rattle.back_combining.specs.Starts.{FlatGrown}
 use Rattle.back_combining.proofs.Growth.{grown_later}
 use Rattle.back_combining.proofs.Parts.{step_then}
+use Rattle.back_combining.proofs.Straight.{things_units}
 use Rattle.back_calling.proofs.Entered.{turns_law}
 use Rattle.back_calling.proofs.Growing.{tasks_below}
 use Rattle.back_calling.proofs.Inner.{returned}
@@ -109,9 +111,11 @@ fewer_room : (l : Limit) (m m' : ℕ) (z : FlatState) (y : MidState) → m' ≤ 
 fewer_room unlimited m m' z y few h = tt
 fewer_room (words n) m m' z y few h = omega (arith, h, few)
 
-module _ (setting : Setting) (placed : IsPlaced setting) (k n spare : ℕ) (few : n ≤ setting.turns_each) (over : spare ≤ 14) (chain : ℕ → ℕ) (rs valid : List Standing) (around : DynamicContext)
-    (parts : GenericParts setting k spare around chain) (w : World) (z : FlatState) (g : GenericRow) (vs : List Value) (generic address : ℕ) (at : GenericAt setting generic g)
-    (named_so : HasSymbol setting g.name.0) where
+module _ (setting : Setting) (placed : IsPlaced setting) (k n spare fail : ℕ) (few : n ≤ setting.turns_each) (over : spare ≤ 14) (chain over_left : ℕ → ℕ) (rs valid : List Standing) (around : DynamicContext)
+    (parts : GenericParts setting k spare fail around chain over_left) (w : World) (z : FlatState) (g : GenericRow) (vs : List Value) (generic address : ℕ) (at : GenericAt setting generic g)
+    (named_so : HasSymbol setting g.name.0) (left : ℕ) (few_left : left ≤ over_left (length vs)) (many_turns : length at.specialised ≤ n)
+    (wrong_left : takes g.required g.rest (length vs) ≡ false → left ≡ 0)
+    (none_there : classes.chain (tables setting.program) g (map (class_of z.state) (take g.required vs)) ≡ None → left ≡ 0) where
   abbrev c : Context
   c = code_at setting k n
 
@@ -128,16 +132,26 @@ module _ (setting : Setting) (placed : IsPlaced setting) (k n spare : ℕ) (few 
       (signals {R = FlatLater} {k = later_kept} (context_at setting k) (tasks_below setting k)) (Some g) vs around z).grows
 
   abbrev Here : MidState → Type 0
-  Here y = Point setting placed k m rs valid w around z vs generic address g.required meant meant_grows y
+  Here y = Point setting placed k m rs valid w around z vs generic address g.required left meant meant_grows y
 
   here_cost : {y : MidState} (p : ℕ) → Here y → Here (mid_charged p y)
-  here_cost {y} p h = point_cost setting placed k m rs valid w around z vs generic address g.required meant meant_grows {y = y} p h
+  here_cost {y} p h = point_cost setting placed k m rs valid w around z vs generic address g.required left meant meant_grows {y = y} p h
 
   fewer_begins : {y : MidState} (words_here : ℕ) → words_here ≤ entry_words → CallBegins setting rs valid entry_words w around z y → CallBegins setting rs valid words_here w around z y
   fewer_begins {y} words_here enough b = record { things = b.things; around_stands = b.around_stands; room = fewer_room setting.limit _ _ z y (omega (arith, enough)) b.room }
 
+  -- the chain leaves so many units
+  abbrev zl : FlatState
+  zl = charged left z
+
+  up : {y : MidState} → Here y → Things setting w zl y
+  up h = things_units setting left h.call.things
+
+  lifted : {c1 : ℕ} {y : MidState} {r : FlatEvaluated} {q : MidOutcome} → left ≡ 0 → CallEnds setting c1 m rs valid w around z y r q → CallEnds setting c1 m rs valid w around zl y r q
+  lifted {c1} none e = calls_recounted setting {c1 = c1} {m1 = m} z z.state.units (z.state.units + left) (omega (arith, none)) (omega (arith, none)) e
+
   abbrev Comes : ℕ → MidState → MidOutcome → Type 0
-  Comes credit y q = CallEnds setting credit m rs valid w around z y meant q
+  Comes credit y q = CallEnds setting credit m rs valid w around zl y meant q
 
   abbrev file : (r3 r4 r5 r6 r7 r8 : Option ℕ) → Registers
   file r3 r4 r5 r6 r7 r8 = Some generic ∷ Some (length vs) ∷ Some address ∷ r3 ∷ r4 ∷ r5 ∷ r6 ∷ r7 ∷ r8 ∷ []
@@ -151,18 +165,31 @@ module _ (setting : Setting) (placed : IsPlaced setting) (k n spare : ℕ) (few 
   abbrev class_list : List ℕ
   class_list = map (class_of z.state) (take g.required vs)
 
+  abbrev chain_is : Option Chain
+  chain_is = classes.chain (tables setting.program) g class_list
+
+  -- what is paid, with so much more, where there is a chain and where there is none
+  abbrev Paid : (more credit : ℕ) → Type 0
+  Paid more credit =
+      (456 * many + more ≤ credit) × ((d : Chain) → chain_is ≡ Some d → chain (length vs) + 456 * many + more ≤ credit) × (chain_is ≡ None → fail + 456 * many + more + 6 ≤ credit)
+
+  paid_less : (x more credit : ℕ) → Paid (more + x) credit → Paid more (credit - x)
+  paid_less x more credit p =
+      let base = p.0 in
+      (omega (arith, base), (λ d e. let some = p.1 d e in omega (arith, some)), (λ e. let none = p.2 e in omega (arith, none)))
+
   -- ---- a wrong number of arguments
 
   fails_comes : takes g.required g.rest (length vs) ≡ false → (r3 r4 r5 r6 r7 r8 : Option ℕ) (y : MidState) → Here y
-      → Comes 516 y (exec c (code_of (signals_steps setting.at 4 program_error_class)) (file r3 r4 r5 r6 r7 r8) y)
+      → Comes (fail + 66) y (exec c (code_of (signals_steps setting.at 4 program_error_class)) (file r3 r4 r5 r6 r7 r8) y)
   fails_comes none r3 r4 r5 r6 r7 r8 y h =
-      subst (λ r. CallEnds setting 516 m rs valid w around z y r (exec c (code_of (signals_steps setting.at 4 program_error_class)) (file r3 r4 r5 r6 r7 r8) y)) (sym wrong_is)
-      (straight setting k n m rs valid w around z wrong_many 6 510 (omega arith) h.call.things
+      subst (λ r. CallEnds setting (fail + 66) m rs valid w around zl y r (exec c (code_of (signals_steps setting.at 4 program_error_class)) (file r3 r4 r5 r6 r7 r8) y)) (sym wrong_is)
+      (straight setting k n m rs valid w around zl wrong_many 6 (fail + 46 + 14) (omega arith) (up h)
       ((and_then constant_falls (record { same = refl })).same)
-      (returned setting k n routine_credit m 4 (failing_routine setting.at) (4 ∷ []) (program_error_class ∷ []) [] rs valid w around z (mid_charged 6 y) (file r3 (Some program_error_class) r5 r6 r7 r8)
-      wrong_many (refl, tt) (omega arith) (here_cost 6 h).call.things
-      (parts.failing n rs valid w z (mid_charged 46 (mid_charged 6 y)) few program_error_class (record { low = omega arith; high = omega arith; slots = refl }) (here_cost 46 (here_cost 6 h)).site
-      (fewer_begins failing_words (omega arith) (here_cost 46 (here_cost 6 h)).call))))
+      (returned setting k n fail m 4 (failing_routine setting.at) (4 ∷ []) (program_error_class ∷ []) [] rs valid w around zl (mid_charged 6 y) (file r3 (Some program_error_class) r5 r6 r7 r8)
+      wrong_many (refl, tt) (omega arith) (up (here_cost 6 h))
+      (lifted (wrong_left none) (parts.failing n rs valid w z (mid_charged 46 (mid_charged 6 y)) few program_error_class (record { low = omega arith; high = omega arith; slots = refl }) (here_cost 46 (here_cost 6 h)).site
+      (fewer_begins failing_words (omega arith) (here_cost 46 (here_cost 6 h)).call)))))
     where
       wrong_many : FlatEvaluated
       wrong_many = signal (context_at setting k) program_error_class [] around z
@@ -183,9 +210,10 @@ module _ (setting : Setting) (placed : IsPlaced setting) (k n spare : ℕ) (few 
 
   found_comes :
       (o : Option Chain) → classes.chain (tables setting.program) g class_list ≡ o → takes g.required g.rest (length vs) ≡ true → (a offset credit : ℕ) → ChainFound setting g (a + offset) o
-      → chain (length vs) + 104 ≤ credit → 560 ≤ credit → (r7 r8 : Option ℕ) (y : MidState) → Here y
+      → ((d : Chain) → o ≡ Some d → chain (length vs) + 104 ≤ credit) → (o ≡ None → fail + 110 ≤ credit) → (r7 r8 : Option ℕ) (y : MidState) → Here y
       → Comes credit y (exec c (code_of found_steps) (file (Some 0) (Some a) (Some offset) (Some 0) r7 r8) y)
-  found_comes None none taken a offset credit found chain_low low r7 r8 y h =
+  found_comes None none taken a offset credit found chain_paid none_paid r7 r8 y h =
+      let low = none_paid refl in
       let there = constants_law setting w z y h.call.things (a + offset) 0 found in
       let small = there.1 in
       let name = constants_law setting w z y h.call.things (generic + generic_name) (symbol_word setting.at g.name.0) at.name in
@@ -199,20 +227,21 @@ module _ (setting : Setting) (placed : IsPlaced setting) (k n spare : ℕ) (few 
       let unknown : FlatEvaluated = signal (context_at setting k) undefined_function_class (symbol (named (text setting.names g.name.0)) ∷ []) around z in
       let unknown_is : meant ≡ unknown =
       first_of _ _ taken ∙ ap (λ o. apply_chain (context_at setting k) (signal (context_at setting k)) g o vs around z) none in
-      straight setting k n m rs valid w around z meant 18 542 (omega (arith, low)) h.call.things
+      straight setting k n m rs valid w around zl meant 18 (fail + 92) (omega (arith, low)) (up h)
       ((and_then (compute_known refl refl (sum_fits a offset (omega (arith, small))))
       (and_then (load_falls refl (address_above (a + offset) 0 (a + offset) (omega arith) (omega (arith, small))) there.0) (record { same = refl }))).same
       ∙ ap (λ x. exec c (code_of (if_equal 4 6 undefined_steps [] ∷ chain_steps)) regs (record y { cost = x })) (omega arith))
-      (first_branch setting k n m rs valid w around z meant 530 (test_of Equal 4 6) undefined_steps [] chain_steps regs (mid_charged 18 y) (omega arith) (here_cost 18 h).call.things refl refl refl
-      (straight setting k n m rs valid w around z meant 14 516 (omega arith) h1.call.things
+      (first_branch setting k n m rs valid w around zl meant (fail + 80) (test_of Equal 4 6) undefined_steps [] chain_steps regs (mid_charged 18 y) (omega arith) (up (here_cost 18 h)) refl refl refl
+      (straight setting k n m rs valid w around zl meant 14 (fail + 52 + 14) (omega arith) (up h1)
       ((and_then (load_falls refl (address_above generic generic_name (generic + generic_name) refl (omega (arith, name_low))) name.0) (and_then constant_falls (record { same = refl }))).same
       ∙ ap (λ x. exec c (code_of (returning setting.at 7 (failing_with_routine setting.at) (8 ∷ 7 ∷ []))) regs2 (record y { cost = x })) (omega arith))
-      (subst (λ r. CallEnds setting 516 m rs valid w around z y2 r (exec c (code_of (returning setting.at 7 (failing_with_routine setting.at) (8 ∷ 7 ∷ []))) regs2 y2)) (sym unknown_is)
-      (returned setting k n routine_credit m 7 (failing_with_routine setting.at) (8 ∷ 7 ∷ []) (undefined_function_class ∷ symbol_word setting.at g.name.0 ∷ []) [] rs valid w around z y2 regs2 unknown (refl, (refl, tt))
-      (omega arith) h2.call.things
-      (parts.failing_with n rs valid w z (mid_charged 52 y2) few undefined_function_class (symbol (named (text setting.names g.name.0))) (symbol_word setting.at g.name.0)
-      (record { low = omega arith; high = omega arith; slots = refl }) (h.call.things.symbols g.name.0 named_so) (here_cost 52 h2).site (fewer_begins failing_words (omega arith) (here_cost 52 h2).call))))))
-  found_comes (Some d) some taken a offset credit found chain_low low r7 r8 y h =
+      (subst (λ r. CallEnds setting (fail + 52 + 14) m rs valid w around zl y2 r (exec c (code_of (returning setting.at 7 (failing_with_routine setting.at) (8 ∷ 7 ∷ []))) regs2 y2)) (sym unknown_is)
+      (returned setting k n fail m 7 (failing_with_routine setting.at) (8 ∷ 7 ∷ []) (undefined_function_class ∷ symbol_word setting.at g.name.0 ∷ []) [] rs valid w around zl y2 regs2 unknown (refl, (refl, tt))
+      (omega arith) (up h2)
+      (lifted (none_there none) (parts.failing_with n rs valid w z (mid_charged 52 y2) few undefined_function_class (symbol (named (text setting.names g.name.0))) (symbol_word setting.at g.name.0)
+      (record { low = omega arith; high = omega arith; slots = refl }) (h.call.things.symbols g.name.0 named_so) (here_cost 52 h2).site (fewer_begins failing_words (omega arith) (here_cost 52 h2).call)))))))
+  found_comes (Some d) some taken a offset credit found chain_paid none_paid r7 r8 y h =
+      let chain_low = chain_paid d refl in
       let start : ℕ = found.0 in
       let there = constants_law setting w z y h.call.things (a + offset) start found.1 in
       let small = there.1 in
@@ -223,16 +252,17 @@ module _ (setting : Setting) (placed : IsPlaced setting) (k n spare : ℕ) (few 
       let regs : Registers = file (Some 0) (Some start) (Some offset) (Some 0) r7 r8 in
       let runs : FlatEvaluated = apply_chain (context_at setting k) (signal (context_at setting k)) g (Some d) vs around z in
       let runs_is : meant ≡ runs = first_of _ _ taken ∙ ap (λ o. apply_chain (context_at setting k) (signal (context_at setting k)) g o vs around z) some in
-      straight setting k n m rs valid w around z meant 32 (chain (length vs) + 58 + 14) (omega (arith, chain_low)) h.call.things
+      straight setting k n m rs valid w around zl meant 32 (chain (length vs) + 58 + 14) (omega (arith, chain_low)) (up h)
       ((and_then (compute_known refl refl (sum_fits a offset (omega (arith, small))))
       (and_then (load_falls refl (address_above (a + offset) 0 (a + offset) (omega arith) (omega (arith, small))) there.0)
       (and_then (choose_second_falls refl refl (ne_eqb start 0 (λ e. omega (arith, e, low_start))) none_left) (record { same = refl })))).same
       ∙ ap (λ x. exec c (code_of chain_steps) regs (record y { cost = x })) (omega arith))
-      (subst (λ r. CallEnds setting (chain (length vs) + 58 + 14) m rs valid w around z y1 r (exec c (code_of chain_steps) regs y1)) (sym runs_is)
-      (returned setting k n (chain (length vs)) m 7 (chain_routine setting.at) (4 ∷ 1 ∷ 2 ∷ []) (start ∷ length vs ∷ address ∷ []) [] rs valid w around z y1 regs runs (refl, (refl, (refl, tt))) (omega arith)
-      h1.call.things
+      (subst (λ r. CallEnds setting (chain (length vs) + 58 + 14) m rs valid w around zl y1 r (exec c (code_of chain_steps) regs y1)) (sym runs_is)
+      (returned setting k n (chain (length vs)) m 7 (chain_routine setting.at) (4 ∷ 1 ∷ 2 ∷ []) (start ∷ length vs ∷ address ∷ []) [] rs valid w around zl y1 regs runs (refl, (refl, (refl, tt))) (omega arith)
+      (up h1)
+      (calls_recounted setting {c1 = chain (length vs)} {m1 = m} z (z.state.units + over_left (length vs)) (z.state.units + left) (omega (arith, few_left)) (omega (arith, few_left))
       (parts.chains n rs valid w z (mid_charged 58 y1) few g d vs start address at_chain (found.3 (length vs) taken) (some_primary (tables setting.program) g class_list d some) (here_cost 58 h1).lent
-      (here_cost 58 h1).site (here_cost 58 h1).call)))
+      (here_cost 58 h1).site (here_cost 58 h1).call))))
 
   -- ---- it is sought
 
@@ -240,13 +270,16 @@ module _ (setting : Setting) (placed : IsPlaced setting) (k n spare : ℕ) (few 
   sought_steps = chain_sought setting.at (compute 7 which.Add 7 2 ∷ load 7 7 0 ∷ []) ++ chain_steps
 
   abbrev class_loop : MidStep
-  class_loop = loop setting placed k m rs valid w around z vs generic address g.required meant meant_grows
+  class_loop = loop setting placed k m rs valid w around z vs generic address g.required left meant meant_grows
 
   sought_comes :
-      takes g.required g.rest (length vs) ≡ true → (credit : ℕ) → chain (length vs) + 456 * many + 152 ≤ credit → 608 + 456 * many ≤ credit → (r3 r4 r5 r6 r7 r8 : Option ℕ) (y : MidState) → Here y
+      takes g.required g.rest (length vs) ≡ true → (credit : ℕ) → Paid 152 credit → (r3 r4 r5 r6 r7 r8 : Option ℕ) (y : MidState) → Here y
       → Comes credit y (exec c (code_of sought_steps) (file r3 r4 r5 r6 r7 r8) y)
-  sought_comes taken credit chain_low low r3 r4 r5 r6 r7 r8 y h = by (cases_lt n many)
+  sought_comes taken credit paid r3 r4 r5 r6 r7 r8 y h = walk many_turns
     where
+      low : 456 * many + 152 ≤ credit
+      low = paid.0
+
       required_few : g.required ≤ length vs
       required_few = enough_taken g.required (length vs) g.rest taken
 
@@ -275,26 +308,12 @@ module _ (setting : Setting) (placed : IsPlaced setting) (k n spare : ℕ) (few 
       count_there : (word_at y.arena (generic + generic_specialised) ≡ Some many) × (generic + generic_specialised + 8 ≤ 2 ^ 32)
       count_there = constants_law setting w z y h.call.things (generic + generic_specialised) many at.count
 
-      -- there are no more of them than words
-      few_there : n < many → m ≤ length y.arena.memory
-      few_there less =
-          let words_bound = bound at.specialised refl in
-          let memory = some_words setting h.call.things in
-          omega (arith, less, words_bound, memory, over)
-        where
-          bound : (xs : List Specialised) → at.specialised ≡ xs → 2 * length xs ≤ length y.arena.memory + 2
-          bound [] e = omega arith
-          bound (x ∷ xs) e =
-              let most = many_words setting placed k m rs valid w around z vs generic address g.required meant meant_grows x xs (generic + generic_groups) h
-              (subst (λ l. ConstantsAt setting (generic + generic_groups) (specialised_words l)) e at.arguments) in
-              omega (arith, most)
-
       begun : Registers
       begun = file (Some many) (Some (generic + generic_groups)) (Some 0) (Some 0) r7 r8
 
       walk : many ≤ n → Comes credit y (exec c (code_of sought_steps) (file r3 r4 r5 r6 r7 r8) y)
       walk enough =
-          straight setting k n m rs valid w around z meant 36 (credit - 36) (omega (arith, low)) h.call.things
+          straight setting k n m rs valid w around zl meant 36 (credit - 36) (omega (arith, low)) (up h)
           ((and_then (load_falls refl (address_above generic generic_specialised (generic + generic_specialised) refl (let small = count_there.1 in omega (arith, small))) count_there.0)
           (and_then constant_falls
           (and_then (compute_known refl refl (sum_fits generic_groups generic (omega (arith, below)) ∙ plus_turned))
@@ -302,23 +321,19 @@ module _ (setting : Setting) (placed : IsPlaced setting) (k n spare : ℕ) (few 
           (and_then constant_falls
           (record { same = step_then c class_loop found_steps begun _ })))))).same
           ∙ ap (λ x. mid_go_on (exec_step c class_loop begun (record y { cost = x })) (λ q s. exec c (code_of found_steps) q s)) (omega arith))
-          (seeks setting placed k m rs valid w around z vs generic address g.required meant meant_grows at.specialised n (generic + generic_groups) 0 offset (credit - 36 - 456 * many - 12) (credit - 36) r7 r8 (mid_charged 36 y)
+          (seeks setting placed k m rs valid w around z vs generic address g.required left meant meant_grows at.specialised n (generic + generic_groups) 0 offset (credit - 36 - 456 * many - 12) (credit - 36) r7 r8 (mid_charged 36 y)
           (λ q s. exec c (code_of found_steps) q s) enough at.arguments (all_below g.required (length vs) required_few at.specialised at.required) chains_at.1 (omega (arith, below)) (omega (arith, low)) (here_cost 36 h)
           (λ q s. steps_grown setting k n found_steps q s)
           (λ y' v7 v8 h'.
           subst (λ o. Comes (credit - 36 - 456 * many - 12) y' (exec c (code_of found_steps) (file (Some 0) (Some (generic + generic_groups + 8 * many)) (Some o) (Some 0) v7 v8) y')) whole_offset
-          (found_comes (classes.chain (tables setting.program) g class_list) refl taken (generic + generic_groups + 8 * many) offset (credit - 36 - 456 * many - 12) chains_at.2 (omega (arith, chain_low))
-          (omega (arith, low)) v7 v8 y' h')))
+          (found_comes (classes.chain (tables setting.program) g class_list) refl taken (generic + generic_groups + 8 * many) offset (credit - 36 - 456 * many - 12) chains_at.2
+          (λ d e. let some = paid.1 d e in omega (arith, some)) (λ e. let none = paid.2 e in omega (arith, none)) v7 v8 y' h')))
         where
           whole_offset : offset ≡ 0 + offset
           whole_offset = omega arith
 
           plus_turned : generic_groups + generic ≡ generic + generic_groups
           plus_turned = omega arith
-
-      by : (n < many) ⊎ (many ≤ n) → Comes credit y (exec c (code_of sought_steps) (file r3 r4 r5 r6 r7 r8) y)
-      by (inl less) = let fit = few_there less in let up = meant_grows.units in few_turns (omega (arith, fit, up))
-      by (inr enough) = walk enough
 
   -- ---- whether so many are taken
 
@@ -328,52 +343,49 @@ module _ (setting : Setting) (placed : IsPlaced setting) (k n spare : ℕ) (few 
   abbrev test_steps : Steps
   test_steps = if_equal 5 4 (where_so LessUnsigned 1 6 wrong [] ∷ []) (where_so Different 1 6 wrong [] ∷ []) ∷ []
 
-  module _ (odd_word credit : ℕ) (wrong_low : 540 ≤ credit)
-      (paid : takes g.required g.rest (length vs) ≡ true → (chain (length vs) + 456 * many + 180 ≤ credit) × (636 + 456 * many ≤ credit)) where
+  module _ (odd_word credit : ℕ) (wrong_low : fail + 90 ≤ credit)
+      (paid : takes g.required g.rest (length vs) ≡ true → Paid 180 credit) where
     abbrev told : Registers
     told = file (Some arity) (Some 1) (Some odd_word) (Some g.required) None None
 
     goes_on : takes g.required g.rest (length vs) ≡ true → (y : MidState) → Here y → Comes (credit - 28) (mid_charged 28 y) (exec c (code_of sought_steps) told (mid_charged 28 y))
     goes_on taken y h =
-        let enough = paid taken in
-        let one = enough.0 in
-        let other = enough.1 in
-        sought_comes taken (credit - 28) (omega (arith, one)) (omega (arith, other)) (Some arity) (Some 1) (Some odd_word) (Some g.required) None None (mid_charged 28 y) (here_cost 28 h)
+        sought_comes taken (credit - 28) (paid_less 28 152 credit (paid taken)) (Some arity) (Some 1) (Some odd_word) (Some g.required) None None (mid_charged 28 y) (here_cost 28 h)
 
     tested_comes : (t : Bool) → g.rest ≡ t → (odd_word == 1) ≡ t → (b : Bool) → takes g.required t (length vs) ≡ b → (y : MidState) → Here y
         → Comes credit y (exec c (code_of (test_steps ++ sought_steps)) told y)
     tested_comes true rest odd true taken y h =
-        straight setting k n m rs valid w around z meant 28 (credit - 28) (omega (arith, wrong_low)) h.call.things
+        straight setting k n m rs valid w around zl meant 28 (credit - 28) (omega (arith, wrong_low)) (up h)
         ((and_then (choose_first_falls refl refl odd (and_then (choose_second_falls refl refl (some_more g.required (length vs) taken) none_left) none_left)) (record { same = refl })).same
         ∙ ap (λ x. exec c (code_of sought_steps) told (record y { cost = x })) (omega arith))
         (goes_on (ap (λ t. takes g.required t (length vs)) rest ∙ taken) y h)
     tested_comes false rest odd true taken y h =
-        straight setting k n m rs valid w around z meant 28 (credit - 28) (omega (arith, wrong_low)) h.call.things
+        straight setting k n m rs valid w around zl meant 28 (credit - 28) (omega (arith, wrong_low)) (up h)
         ((and_then (choose_second_falls refl refl odd (and_then (choose_second_falls refl refl (so_many g.required (length vs) taken) none_left) none_left)) (record { same = refl })).same
         ∙ ap (λ x. exec c (code_of sought_steps) told (record y { cost = x })) (omega arith))
         (goes_on (ap (λ t. takes g.required t (length vs)) rest ∙ taken) y h)
     tested_comes true rest odd false taken y h =
-        first_branch setting k n m rs valid w around z meant 528 (test_of Equal 5 4) (where_so LessUnsigned 1 6 wrong [] ∷ []) (where_so Different 1 6 wrong [] ∷ []) sought_steps told y (omega (arith, wrong_low))
-        h.call.things refl refl odd
-        (first_branch setting k n m rs valid w around z meant 516 (test_of LessUnsigned 1 6) wrong [] [] told (mid_charged 12 y) (omega arith) (here_cost 12 h).call.things refl refl
+        first_branch setting k n m rs valid w around zl meant (fail + 78) (test_of Equal 5 4) (where_so LessUnsigned 1 6 wrong [] ∷ []) (where_so Different 1 6 wrong [] ∷ []) sought_steps told y (omega (arith, wrong_low))
+        (up h) refl refl odd
+        (first_branch setting k n m rs valid w around zl meant (fail + 66) (test_of LessUnsigned 1 6) wrong [] [] told (mid_charged 12 y) (omega arith) (up (here_cost 12 h)) refl refl
         (too_few g.required (length vs) taken)
         (fails_comes (ap (λ t. takes g.required t (length vs)) rest ∙ taken) (Some arity) (Some 1) (Some odd_word) (Some g.required) None None (mid_charged 12 (mid_charged 12 y)) (here_cost 12 (here_cost 12 h))))
     tested_comes false rest odd false taken y h =
-        second_branch setting k n m rs valid w around z meant 528 (test_of Equal 5 4) (where_so LessUnsigned 1 6 wrong [] ∷ []) (where_so Different 1 6 wrong [] ∷ []) sought_steps told y (omega (arith, wrong_low))
-        h.call.things refl refl odd
-        (first_branch setting k n m rs valid w around z meant 516 (test_of Different 1 6) wrong [] [] told (mid_charged 12 y) (omega arith) (here_cost 12 h).call.things refl refl
+        second_branch setting k n m rs valid w around zl meant (fail + 78) (test_of Equal 5 4) (where_so LessUnsigned 1 6 wrong [] ∷ []) (where_so Different 1 6 wrong [] ∷ []) sought_steps told y (omega (arith, wrong_low))
+        (up h) refl refl odd
+        (first_branch setting k n m rs valid w around zl meant (fail + 66) (test_of Different 1 6) wrong [] [] told (mid_charged 12 y) (omega arith) (up (here_cost 12 h)) refl refl
         (others_many g.required (length vs) taken)
         (fails_comes (ap (λ t. takes g.required t (length vs)) rest ∙ taken) (Some arity) (Some 1) (Some odd_word) (Some g.required) None None (mid_charged 12 (mid_charged 12 y)) (here_cost 12 (here_cost 12 h))))
 
   -- **what the body comes to**
   generic_comes :
-      (credit : ℕ) → 574 ≤ credit → (takes g.required g.rest (length vs) ≡ true → (chain (length vs) + 456 * many + 214 ≤ credit) × (670 + 456 * many ≤ credit)) → (y : MidState) → Here y
+      (credit : ℕ) → fail + 124 ≤ credit → (takes g.required g.rest (length vs) ≡ true → Paid 214 credit) → (y : MidState) → Here y
       → Comes credit y (exec c (code_of (generic_code setting.at)) (file None None None None None None) y)
   unfolding generic_code
   generic_comes credit low paid y h =
       let there = constants_law setting w z y h.call.things (generic + generic_arity) arity at.arity in
       let small = there.1 in
-      straight setting k n m rs valid w around z meant 34 (credit - 34) (omega (arith, low)) h.call.things
+      straight setting k n m rs valid w around zl meant 34 (credit - 34) (omega (arith, low)) (up h)
       ((and_then (load_falls refl (address_above generic generic_arity (generic + generic_arity) refl (omega (arith, small))) there.0)
       (and_then constant_falls
       (and_then (compute_known refl refl (and_mask arity 1))
@@ -381,7 +393,7 @@ module _ (setting : Setting) (placed : IsPlaced setting) (k n spare : ℕ) (few 
       (record { same = refl }))))).same
       ∙ ap (λ x. exec c (code_of (test_steps ++ sought_steps)) (file (Some arity) (Some 1) (Some (arity % 2)) (Some g.required) None None) (record y { cost = x })) (omega arith))
       (tested_comes (arity % 2) (credit - 34) (omega (arith, low))
-      (λ taken. let enough = paid taken in let one = enough.0 in let other = enough.1 in (omega (arith, one), omega (arith, other))) g.rest refl (odd_tells g.required g.rest) (takes g.required g.rest (length vs)) refl
+      (λ taken. paid_less 34 180 credit (paid taken)) g.rest refl (odd_tells g.required g.rest) (takes g.required g.rest (length vs)) refl
       (mid_charged 34 y) (here_cost 34 h))
 
 abbrev given : Setting → MidProcedure
@@ -390,14 +402,12 @@ given setting = framed generic_frame (procedure_with Turn 3 (generic_code settin
 -- **the application of a generic function**
 pub generics_law : LawOfGenerics
 unfolding generic_code
-generics_law setting k turns spare credit chain rs valid w around z y g vs generic address at placed few over parts named_so lent low paid site begins =
+generics_law setting k turns spare fail credit chain left rs valid w around z y g vs generic address at placed few over parts named_so lent low paid site begins =
     calls_recounted setting {c1 = inner + entry_cost 3} {m1 = turns + spare} z z.state.units z.state.units (omega (arith, low)) (omega arith)
     (turns_law setting k turns (generic_routine setting.at) (turns + spare) generic_words entry_words inner (given setting) (generic ∷ length vs ∷ address ∷ []) rs valid w around z y meant_here
     ((numbers_law setting).routine 12 (given setting) placed refl) refl refl (omega arith) (omega (arith, over)) grown begins
     (λ n e y' here.
-    let same : n + suc spare ≡ turns + spare = omega (arith, e) in
-    subst (λ t. CallEnds setting inner t rs valid w around z y' meant_here (exec (code_at setting k n) (code_of (generic_code setting.at)) regs y')) same
-    (generic_comes setting placed k n spare (omega (arith, few, e)) over chain rs valid around parts w z g vs generic address at named_so inner (omega (arith, low)) inner_paid y'
+    inside n e y'
     (record {
       call = here.call;
       site = (site.0, here.words site_address ∙ site.1, site.2);
@@ -406,18 +416,13 @@ generics_law setting k turns spare credit chain rs valid w around z y g vs gener
         values = λ i few_values. let at = lent.values i few_values in record { word = at.word; of_value = at.of_value; stands = here.words (address + 4 * i) ∙ at.stands };
         plain = lent.plain;
       };
-    }))))
+    })))
   where
     lent_low : stack_from y.arena ≤ address
     lent_low = lent.low
 
     inner : ℕ
     inner = credit - 38
-
-    inner_paid :
-        takes g.required g.rest (length vs) ≡ true
-        → (chain (length vs) + 456 * length at.specialised + 214 ≤ inner) × (670 + 456 * length at.specialised ≤ inner)
-    inner_paid taken = let enough = paid taken in let one = enough.0 in let other = enough.1 in (omega (arith, one), omega (arith, other))
 
     regs : Registers
     regs = Some generic ∷ Some (length vs) ∷ Some address ∷ None ∷ None ∷ None ∷ None ∷ None ∷ None ∷ []
@@ -431,11 +436,67 @@ generics_law setting k turns spare credit chain rs valid w around z y g vs gener
         (generic_row_applies {R = FlatLater} {k = later_kept} (context_at setting k) (tasks_below setting k) (signal (context_at setting k))
         (signals {R = FlatLater} {k = later_kept} (context_at setting k) (tasks_below setting k)) (Some g) vs around z).grows
 
+    found : Option Chain
+    found = classes.chain (tables setting.program) g (map (class_of z.state) (take g.required vs))
+
+    many : ℕ
+    many = length at.specialised
+
+    inside : (n : ℕ) → turns ≡ suc n → (y' : MidState) → Point setting placed k (n + suc spare) rs valid w around z vs generic address g.required 0 meant_here grown y'
+        → CallEnds setting inner (turns + spare) rs valid w around z y' meant_here (exec (code_at setting k n) (code_of (generic_code setting.at)) regs y')
+    inside n e y' h = split (cases_lt n many)
+      where
+        -- there are no more of them than words
+        bound : (xs : List Specialised) → at.specialised ≡ xs → 2 * length xs ≤ length y'.arena.memory + 2
+        bound [] same = omega arith
+        bound (x ∷ xs) same =
+            let most = many_words setting placed k (n + suc spare) rs valid w around z vs generic address g.required 0 meant_here grown x xs (generic + generic_groups) h
+            (subst (λ l. ConstantsAt setting (generic + generic_groups) (specialised_words l)) same at.arguments) in
+            omega (arith, most)
+
+        -- with so many units left over
+        with_left :
+            many ≤ n → (l : ℕ) → l ≤ left (length vs) → (takes g.required g.rest (length vs) ≡ false → l ≡ 0) → (found ≡ None → l ≡ 0)
+            → (takes g.required g.rest (length vs) ≡ true
+            → (456 * many + 252 ≤ unit_cost * l + credit) × ((d : Chain) → found ≡ Some d → chain (length vs) + 456 * many + 252 ≤ unit_cost * l + credit)
+            × (found ≡ None → fail + 456 * many + 258 ≤ unit_cost * l + credit))
+            → CallEnds setting inner (turns + spare) rs valid w around z y' meant_here (exec (code_at setting k n) (code_of (generic_code setting.at)) regs y')
+        with_left enough l few_left wrong_left none_there all_paid =
+            calls_recounted setting {c1 = inner + unit_cost * l} {m1 = n + suc spare} z (z.state.units + l) z.state.units (omega arith) (omega (arith, e))
+            (generic_comes setting placed k n spare fail (omega (arith, few, e)) over chain left rs valid around parts w z g vs generic address at named_so l few_left enough wrong_left none_there
+            (inner + unit_cost * l) (omega (arith, low))
+            (λ taken.
+            let all = all_paid taken in
+            let base = all.0 in
+            (omega (arith, base, low), (λ d f. let some = all.1 d f in omega (arith, some, low)), (λ f. let none = all.2 f in omega (arith, none, low)))) y'
+            (record { call = h.call; site = h.site; lent = h.lent }))
+
+        by_chain : many ≤ n → (o : Option Chain) → found ≡ o → (b : Bool) → takes g.required g.rest (length vs) ≡ b
+            → CallEnds setting inner (turns + spare) rs valid w around z y' meant_here (exec (code_at setting k n) (code_of (generic_code setting.at)) regs y')
+        by_chain enough o same false wrong = with_left enough 0 (omega arith) (λ x. refl) (λ x. refl) (λ taken. absurd (cc (wrong, taken)))
+        by_chain enough None same true taken =
+            let all = paid taken in
+            let other = all.1 in
+            with_left enough 0 (omega arith) (λ x. refl) (λ x. refl) (λ x. (omega (arith, other), (λ d f. absurd (cc (same, f))), (λ f. omega (arith, other))))
+        by_chain enough (Some d) same true taken =
+            let all = paid taken in
+            let one = all.0 in
+            with_left enough (left (length vs)) (omega arith) (λ wrong. absurd (cc (wrong, taken))) (λ f. absurd (cc (same, f)))
+            (λ x. (omega (arith, one), (λ c f. omega (arith, one)), (λ f. absurd (cc (same, f)))))
+
+        split : (n < many) ⊎ (many ≤ n) → CallEnds setting inner (turns + spare) rs valid w around z y' meant_here (exec (code_at setting k n) (code_of (generic_code setting.at)) regs y')
+        split (inl less) =
+            let words_bound = bound at.specialised refl in
+            let memory = some_words setting h.call.things in
+            let up = grown.units in
+            few_turns (omega (arith, less, words_bound, memory, over, up, e))
+        split (inr enough) = by_chain enough found refl (takes g.required g.rest (length vs)) refl
+
 -- the same by the number of arguments
 pub generics_over_law : LawOfGenericsOver
-generics_over_law setting k turns spare chain credit rs valid w around z y placed few over parts few_there chain_low other_low g vs generic address at named_so lent =
+generics_over_law setting k turns spare fail chain left credit rs valid w around z y placed few over parts few_there chain_low other_low g vs generic address at named_so lent =
     let low = other_low (length vs) in
-    generics_law setting k turns spare (credit (length vs)) chain rs valid w around z y g vs generic address at placed few over parts named_so lent (omega (arith, low))
+    generics_law setting k turns spare fail (credit (length vs)) chain left rs valid w around z y g vs generic address at placed few over parts named_so lent (omega (arith, low))
     (λ taken.
     let required = enough_taken g.required (length vs) g.rest taken in
     let many = few_there generic g at in

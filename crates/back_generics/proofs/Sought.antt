@@ -7,7 +7,7 @@ use Rattle.base.specs.Arithmetic.{difference32}
 use Rattle.lang_meaning.specs.Classes.{class_of}
 use Rattle.lang_meaning.specs.State.{DynamicContext}
 use Rattle.lang_meaning.specs.Values.{Value, nil}
-use Rattle.flat_language.specs.FlatState.{FlatState, FlatEvaluated, gives}
+use Rattle.flat_language.specs.FlatState.{FlatState, FlatEvaluated, gives, charged}
 use Rattle.mid_code.specs.declared.operation.Arithmetic.TheVariants as which
 use Rattle.mid_code.specs.declared.operation.Comparison.TheVariants.{Different}
 use Rattle.mid_code.specs.declared.operation.Counted.TheVariants.{Turn}
@@ -34,9 +34,10 @@ use Rattle.back_relation.specs.Forms.{code_at}
 use Rattle.back_relation.specs.Procedures.{called, ArgumentsLent}
 use Rattle.back_combining.specs.Starts.{FlatGrown}
 use Rattle.back_combining.proofs.Starts.{room_after}
-use Rattle.back_combining.proofs.Straight.{world_cost, around_cost}
+use Rattle.back_combining.proofs.Straight.{world_cost, around_cost, things_units}
 use Rattle.back_combining.proofs.Then.{call_then, from_same}
 use Rattle.back_calling.proofs.Inner.{going_on_law, looked, nothing_because}
+use Rattle.back_calling.proofs.Units.{world_both, around_both}
 use Rattle.back_chains.proofs.Constants.{constants_law}
 use Rattle.back_function_entries.proofs.Loading.{word_below}
 use Rattle.back_generics.proofs.Classes.{ClassThere, class_called}
@@ -53,7 +54,7 @@ class_there f (suc n) (v ∷ vs) (suc i) c e few = class_there f n vs i c e (ome
 subtracted : (n : ℕ) → n < 2 ^ 30 → difference32 (suc n) 1 ≡ n
 subtracted n h = omega (arith, h)
 
-module _ (setting : Setting) (placed : IsPlaced setting) (k m : ℕ) (rs valid : List Standing) (w : World) (around : DynamicContext) (z : FlatState) (vs : List Value) (generic address required : ℕ)
+module _ (setting : Setting) (placed : IsPlaced setting) (k m : ℕ) (rs valid : List Standing) (w : World) (around : DynamicContext) (z : FlatState) (vs : List Value) (generic address required left : ℕ)
     (r : FlatEvaluated) (grows : FlatGrown z r.state) where
   -- what is known at each point
   pub record Point (y : MidState) : Type 0 where
@@ -102,8 +103,12 @@ module _ (setting : Setting) (placed : IsPlaced setting) (k m : ℕ) (rs valid :
   abbrev pub loop : MidStep
   loop = turns_while [] 3 6 (pre ++ asks ∷ post)
 
+  -- the chain leaves so many units
+  abbrev zl : FlatState
+  zl = charged left z
+
   abbrev Comes : ℕ → MidState → MidOutcome → Type 0
-  Comes credit y q = CallEnds setting credit m rs valid w around z y r q
+  Comes credit y q = CallEnds setting credit m rs valid w around zl y r q
 
   -- how many there are is bounded by the memory
   pub many_words : (x : Specialised) (xs : List Specialised) (a : ℕ) {y : MidState} → Point y → ConstantsAt setting a (specialised_words (x ∷ xs)) → a + 8 * length (x ∷ xs) ≤ 4 * length y.arena.memory + 8
@@ -164,22 +169,22 @@ module _ (setting : Setting) (placed : IsPlaced setting) (k m : ℕ) (rs valid :
       let same_address : a + 8 * 0 ≡ a = omega arith in
       let same_total : total + offset ≡ total = omega (arith, is) in
       subst (λ q. Comes credit y (mid_go_on q next)) (sym (repeat_falls none_left refl refl refl).same)
-      (going_on_law setting 12 credit_behind credit m m rs valid w w around z z y (mid_charged 12 y) r (next (file 0 a total r7 r8) (mid_charged 12 y)) (world_cost setting 12 h.call.things)
-      (around_cost setting {credit = 12} z y 12 (omega arith)) (omega (arith, paid)) (omega arith) refl
+      (going_on_law setting 12 credit_behind credit m m rs valid w w around zl zl y (mid_charged 12 y) r (next (file 0 a total r7 r8) (mid_charged 12 y)) (world_cost setting 12 (things_units setting left h.call.things))
+      (around_cost setting {credit = 12} zl y 12 (omega arith)) (omega (arith, paid)) (omega arith) refl
       (subst (λ b. Comes credit_behind (mid_charged 12 y) (next (file 0 b total r7 r8) (mid_charged 12 y))) same_address
       (subst (λ b. Comes credit_behind (mid_charged 12 y) (next (file 0 (a + 8 * 0) b r7 r8) (mid_charged 12 y))) same_total (behind (mid_charged 12 y) r7 r8 (point_cost 12 h)))))
   seeks (x ∷ xs) zero a total offset credit_behind credit r7 r8 y next enough at few is small paid h grown behind = absurd (omega (arith, enough))
   seeks (x ∷ xs) (suc t) a total offset credit_behind credit r7 r8 y next enough at few is small paid h grown behind =
       subst (λ q. Comes credit y q) (sym code_comes)
-      (going_on_law setting 38 (credit_behind + 456 * length xs + 12 + 418) credit m m rs valid w w around z z y y1 r (mid_go_on (exec_step (code_at setting k (suc t)) asks regs1 y1) behind_it)
-      (world_cost setting 38 h.call.things) (around_cost setting {credit = 38} z y 38 (omega arith)) (omega (arith, paid)) (omega arith) refl
-      (looked setting (λ q. Returned setting inner w z y1 r q) (λ q. LeftCall setting inner rs valid w around z y1 r q)
-      (ClassThere setting placed k t m rs valid w around z (mid_charged 46 y1) answer class_end) (λ c. answer) (code_at setting k (suc t)) m m 7 (class_routine setting.at) (7 ∷ []) (argument.word ∷ []) z y1 regs1
+      (going_on_law setting 38 (credit_behind + 456 * length xs + 12 + 418) credit m m rs valid w w around zl zl y y1 r (mid_go_on (exec_step (code_at setting k (suc t)) asks regs1 y1) behind_it)
+      (world_cost setting 38 (things_units setting left h.call.things)) (around_cost setting {credit = 38} zl y 38 (omega arith)) (omega (arith, paid)) (omega arith) refl
+      (looked setting (λ q. Returned setting inner w zl y1 r q) (λ q. LeftCall setting inner rs valid w around zl y1 r q)
+      (ClassThere setting placed k t m rs valid w around z zl (mid_charged 46 y1) answer class_end) (λ c. answer) (code_at setting k (suc t)) m m 7 (class_routine setting.at) (7 ∷ []) (argument.word ∷ []) zl y1 regs1
       (gives nil z) r behind_it (refl, tt) (omega arith) grows
       (λ g c.
       go_on_grown (behind_call (code_at setting k (suc t)) Turn [] pre asks post (test_of Different 3 6) g c) next c (behind_call_grows setting k (suc t) [] pre asks post (test_of Different 3 6) g c) grown)
       (nothing_because setting r h.call.things grows) (λ asked left_then e. absurd (cc e)) (λ c. c.end)
-      (class_called setting placed k t m rs valid w around z (mid_charged 46 y1) entry_words v argument.word argument.of_value (omega arith) (point_cost 46 h1).call)
+      (class_called setting placed k t m rs valid w around z zl (mid_charged 46 y1) entry_words v argument.word argument.of_value (omega arith) (point_cost 46 h1).call)
       (behind_class (seeks xs t))))
     where
       v : Value
@@ -238,21 +243,21 @@ module _ (setting : Setting) (placed : IsPlaced setting) (k m : ℕ) (rs valid :
           ∙ go_on_twice (exec_step (code_at setting k (suc t)) asks regs1 (record y { cost = y.cost + 12 + 8 + 10 + 8 })) (behind_call (code_at setting k (suc t)) Turn [] pre asks post (test_of Different 3 6)) next
           ∙ ap (λ c. mid_go_on (exec_step (code_at setting k (suc t)) asks regs1 (record y { cost = c })) behind_it) (omega arith)
 
-      behind_class : Seeks xs t → ClassThere setting placed k t m rs valid w around z (mid_charged 46 y1) answer class_end
-          → CallEnds setting inner m rs valid w around z y1 r (behind_it (file (suc (length xs)) a total (Some answer) r8) class_end.state)
+      behind_class : Seeks xs t → ClassThere setting placed k t m rs valid w around z zl (mid_charged 46 y1) answer class_end
+          → CallEnds setting inner m rs valid w around zl y1 r (behind_it (file (suc (length xs)) a total (Some answer) r8) class_end.state)
       behind_class more c =
           let y2 : MidState = class_end.state in
           let h2 : Point y2 = point_then c.world c.back (c.site (point_cost 46 h1).site) (point_cost 46 h1) in
           let same_address : a + 4 + 4 ≡ a + 8 = omega arith in
           let same_end : a + 8 + 8 * length xs ≡ a + 8 * suc (length xs) = omega arith in
           let low_sum : total + one < 2 ^ 32 = omega (arith, small, sum_is) in
-          going_on_law setting 46 (inner - 46) inner m m rs valid w w around z z y1 (mid_charged 46 y1) r (behind_it (file (suc (length xs)) a total (Some answer) r8) y2) (world_cost setting 46 h1.call.things)
-          (around_cost setting {credit = 46} z y1 46 (omega arith)) (omega arith) (omega arith) refl
-          (going_on_law setting 302 (inner - 348) (inner - 46) m m rs valid w w around z z (mid_charged 46 y1) y2 r (behind_it (file (suc (length xs)) a total (Some answer) r8) y2) c.world c.back (omega arith) (omega arith) refl
+          going_on_law setting 46 (inner - 46) inner m m rs valid w w around zl zl y1 (mid_charged 46 y1) r (behind_it (file (suc (length xs)) a total (Some answer) r8) y2) (world_cost setting 46 (things_units setting left h1.call.things))
+          (around_cost setting {credit = 46} zl y1 46 (omega arith)) (omega arith) (omega arith) refl
+          (going_on_law setting 302 (inner - 348) (inner - 46) m m rs valid w w around zl zl (mid_charged 46 y1) y2 r (behind_it (file (suc (length xs)) a total (Some answer) r8) y2) (world_both setting left c.world) (around_both setting left c.back) (omega arith) (omega arith) refl
           (subst (λ q. Comes (inner - 348) y2 (mid_go_on q next)) (sym (goes_on t x xs a total one v y2 h2 r8 at map_is low_sum))
-          (going_on_law setting 70 (inner - 418) (inner - 348) m m rs valid w w around z z y2 (mid_charged 70 y2) r
-          (mid_go_on (exec_step (code_at setting k t) loop (file (length xs) (a + 8) (total + one) (Some 1) (Some x.map_address)) (mid_charged 70 y2)) next) (world_cost setting 70 h2.call.things)
-          (around_cost setting {credit = 70} z y2 70 (omega arith)) (omega arith) (omega arith) refl
+          (going_on_law setting 70 (inner - 418) (inner - 348) m m rs valid w w around zl zl y2 (mid_charged 70 y2) r
+          (mid_go_on (exec_step (code_at setting k t) loop (file (length xs) (a + 8) (total + one) (Some 1) (Some x.map_address)) (mid_charged 70 y2)) next) (world_cost setting 70 (things_units setting left h2.call.things))
+          (around_cost setting {credit = 70} zl y2 70 (omega arith)) (omega arith) (omega arith) refl
           (more (a + 8) (total + one) others credit_behind (inner - 418) (Some 1) (Some x.map_address) (mid_charged 70 y2) next (omega (arith, enough))
           (subst (λ b. ConstantsAt setting b (specialised_words xs)) same_address at.1.1) few.1 is.5 (omega (arith, small, sum_is)) (omega arith) (point_cost 70 h2) grown
           (λ y3 v7 v8 h3.

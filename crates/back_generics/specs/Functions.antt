@@ -60,7 +60,7 @@ module _ (setting : Setting) (k turns spare : ℕ) (rs valid : List Standing) (w
       (apply_value (context_at setting k) (signal (context_at setting k)) f vs around z)
 
 -- what a new condition is paid, and the application of a generic function by its number of arguments; and how many turns are over, of a level's
-module _ (setting : Setting) (k spare : ℕ) (around : DynamicContext) (generic : ℕ → ℕ) where
+module _ (setting : Setting) (k spare fail : ℕ) (around : DynamicContext) (generic : ℕ → ℕ) where
   -- what is to be known of what the routine calls, at its level
   pub record FunctionParts : Type 0 where
     pub entries : (turns number : ℕ) (extra : Extra) (q : FlatProcedure) → turns ≤ setting.turns_each → EntryDoesFitting setting k turns number extra q
@@ -69,28 +69,29 @@ module _ (setting : Setting) (k spare : ℕ) (around : DynamicContext) (generic 
         → GenericOver setting k turns (suc spare) rs valid w around z y generic
     pub failing :
         (turns : ℕ) (rs valid : List Standing) (w : World) (z : FlatState) (y : MidState) → turns ≤ setting.turns_each
-        → FailingOver setting k turns (suc spare) rs valid w around z y routine_credit
+        → FailingOver setting k turns (suc spare) rs valid w around z y fail
     pub domain :
         (turns : ℕ) (rs valid : List Standing) (w : World) (z : FlatState) (y : MidState) → turns ≤ setting.turns_each
-        → DomainOver setting k turns (suc spare) rs valid w around z y routine_credit
+        → DomainOver setting k turns (suc spare) rs valid w around z y fail
 
--- what it costs to find that a value is a generic function, and to hand on what that one comes to; and what all else costs at most
+-- what it costs to find that a value is a generic function, and to hand on what that one comes to; and what all else costs at most beside what is
+-- paid for a new condition
 abbrev pub function_cost : ℕ
-function_cost = 230
+function_cost = 220
 
 abbrev pub other_cost : ℕ
-other_cost = 800
+other_cost = 350
 
 -- **the application of a value**: a function is entered, a generic function is applied, and what is none is a domain error
 abbrev pub LawOfFunctions : Type 0
 LawOfFunctions =
-    (setting : Setting) (k turns spare : ℕ) (generic credit : ℕ → ℕ) (rs valid : List Standing) (w : World) (around : DynamicContext) (z : FlatState) (y : MidState)
-    → IsPlaced setting → turns ≤ setting.turns_each → spare ≤ 14 → ((n : ℕ) → generic n + function_cost ≤ credit n) → ((n : ℕ) → other_cost ≤ credit n)
-    → FunctionParts setting k spare around generic → FunctionOver setting k turns spare rs valid w around z y credit
+    (setting : Setting) (k turns spare fail : ℕ) (generic credit : ℕ → ℕ) (rs valid : List Standing) (w : World) (around : DynamicContext) (z : FlatState) (y : MidState)
+    → IsPlaced setting → turns ≤ setting.turns_each → spare ≤ 14 → ((n : ℕ) → generic n + function_cost ≤ credit n) → ((n : ℕ) → fail + other_cost ≤ credit n)
+    → FunctionParts setting k spare fail around generic → FunctionOver setting k turns spare rs valid w around z y credit
 
 -- the same as it is claimed
 abbrev pub LawOfFunctionClaims : Type 0
 LawOfFunctionClaims =
-    (setting : Setting) (k turns : ℕ) (generic : ℕ → ℕ) (rs valid : List Standing) (w : World) (around : DynamicContext) (z : FlatState) (y : MidState)
-    → IsPlaced setting → turns ≤ setting.turns_each → ((n : ℕ) → generic n + function_cost ≤ applying_credit n)
-    → FunctionParts setting k 0 around generic → FunctionDoes setting k turns rs valid w around z y
+    (setting : Setting) (k turns fail : ℕ) (generic : ℕ → ℕ) (rs valid : List Standing) (w : World) (around : DynamicContext) (z : FlatState) (y : MidState)
+    → IsPlaced setting → turns ≤ setting.turns_each → fail ≤ routine_credit → ((n : ℕ) → generic n + function_cost ≤ applying_credit n)
+    → FunctionParts setting k 0 fail around generic → FunctionDoes setting k turns rs valid w around z y
