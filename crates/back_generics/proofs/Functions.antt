@@ -81,7 +81,7 @@ fewer_room : (l : Limit) (m m' : ℕ) (z : FlatState) (y : MidState) → m' ≤ 
 fewer_room unlimited m m' z y few h = tt
 fewer_room (words n) m m' z y few h = omega (arith, h, few)
 
-module _ (setting : Setting) (placed : IsPlaced setting) (k n spare fail : ℕ) (few : n ≤ setting.turns_each) (over : spare ≤ 14) (generic : ℕ → ℕ) (rs valid : List Standing) (around : DynamicContext)
+module _ (setting : Setting) (placed : IsPlaced setting) (k n spare fail : ℕ) (few : n + suc spare ≤ suc setting.turns_each) (over : spare ≤ 14) (generic : ℕ → ℕ) (rs valid : List Standing) (around : DynamicContext)
     (parts : FunctionParts setting k spare fail around generic) (w : World) (z : FlatState) (f : Value) (vs : List Value) (word address : ℕ) (is : WordIs setting w word f) where
   abbrev c : Context
   c = code_at setting k n
@@ -194,7 +194,7 @@ module _ (setting : Setting) (placed : IsPlaced setting) (k n spare fail : ℕ) 
         })).same)
         (returned setting k n 0 m 6 number (0 ∷ 3 ∷ 1 ∷ 2 ∷ []) given [] rs valid w around z y1 regs (entered cs q) words_there (omega arith) h1.call.things
         (calls_recounted setting {c1 = entry_credit (length vs)} {m1 = n} z (z.state.units + 1) z.state.units (omega arith) (omega (arith, over))
-        (parts.entries n number extra q few rs valid generic_words (signal (context_at setting k)) cs None vs word 0 address w around z (mid_charged 64 y1) is_one fits as_extra
+        (parts.entries n number extra q (omega (arith, few)) rs valid generic_words (signal (context_at setting k)) cs None vs word 0 address w around z (mid_charged 64 y1) is_one fits as_extra
         (record {
           call = h2.call;
           enough = omega arith;
@@ -613,4 +613,4 @@ function_claims_law setting k turns fail generic rs valid w around z y placed fe
     CallEnds setting (applying_credit (length vs)) t rs valid w around z y (apply_value (context_at setting k) (signal (context_at setting k)) f vs around z)
     (called (code_at setting k turns) (function_routine setting.at) (word ∷ length vs ∷ address ∷ []) y))
     same
-    (functions_law setting k turns 0 fail generic applying_credit rs valid w around z y placed few (omega arith) generic_low (λ n. omega (arith, fail_low)) parts f vs word address is lent site begins)
+    (functions_law setting k turns 0 fail generic applying_credit rs valid w around z y placed (omega (arith, few)) (omega arith) generic_low (λ n. omega (arith, fail_low)) parts f vs word address is lent site begins)

@@ -111,7 +111,7 @@ fewer_room : (l : Limit) (m m' : ℕ) (z : FlatState) (y : MidState) → m' ≤ 
 fewer_room unlimited m m' z y few h = tt
 fewer_room (words n) m m' z y few h = omega (arith, h, few)
 
-module _ (setting : Setting) (placed : IsPlaced setting) (k n spare fail : ℕ) (few : n ≤ setting.turns_each) (over : spare ≤ 14) (chain over_left : ℕ → ℕ) (rs valid : List Standing) (around : DynamicContext)
+module _ (setting : Setting) (placed : IsPlaced setting) (k n spare fail : ℕ) (few : n + suc spare ≤ suc setting.turns_each) (over : spare ≤ 14) (chain over_left : ℕ → ℕ) (rs valid : List Standing) (around : DynamicContext)
     (parts : GenericParts setting k spare fail around chain over_left) (w : World) (z : FlatState) (g : GenericRow) (vs : List Value) (generic address : ℕ) (at : GenericAt setting generic g)
     (named_so : HasSymbol setting g.name.0) (left : ℕ) (few_left : left ≤ over_left (length vs)) (many_turns : length at.specialised ≤ n)
     (wrong_left : takes g.required g.rest (length vs) ≡ false → left ≡ 0)

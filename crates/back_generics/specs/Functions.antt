@@ -59,19 +59,20 @@ module _ (setting : Setting) (k turns spare : ℕ) (rs valid : List Standing) (w
       → DoesOver applying_words (credit (length vs)) (function_routine setting.at) (word ∷ length vs ∷ address ∷ [])
       (apply_value (context_at setting k) (signal (context_at setting k)) f vs around z)
 
--- what a new condition is paid, and the application of a generic function by its number of arguments; and how many turns are over, of a level's
+-- what a new condition is paid, and the application of a generic function by its number of arguments; and how many turns are left over, which with
+-- those of the call are no more than one above those of a level
 module _ (setting : Setting) (k spare fail : ℕ) (around : DynamicContext) (generic : ℕ → ℕ) where
   -- what is to be known of what the routine calls, at its level
   pub record FunctionParts : Type 0 where
     pub entries : (turns number : ℕ) (extra : Extra) (q : FlatProcedure) → turns ≤ setting.turns_each → EntryDoesFitting setting k turns number extra q
     pub generics :
-        (turns : ℕ) (rs valid : List Standing) (w : World) (z : FlatState) (y : MidState) → turns ≤ setting.turns_each
+        (turns : ℕ) (rs valid : List Standing) (w : World) (z : FlatState) (y : MidState) → turns + suc spare ≤ suc setting.turns_each
         → GenericOver setting k turns (suc spare) rs valid w around z y generic
     pub failing :
-        (turns : ℕ) (rs valid : List Standing) (w : World) (z : FlatState) (y : MidState) → turns ≤ setting.turns_each
+        (turns : ℕ) (rs valid : List Standing) (w : World) (z : FlatState) (y : MidState) → turns + suc spare ≤ suc setting.turns_each
         → FailingOver setting k turns (suc spare) rs valid w around z y fail
     pub domain :
-        (turns : ℕ) (rs valid : List Standing) (w : World) (z : FlatState) (y : MidState) → turns ≤ setting.turns_each
+        (turns : ℕ) (rs valid : List Standing) (w : World) (z : FlatState) (y : MidState) → turns + suc spare ≤ suc setting.turns_each
         → DomainOver setting k turns (suc spare) rs valid w around z y fail
 
 -- what it costs to find that a value is a generic function, and to hand on what that one comes to; and what all else costs at most beside what is
@@ -86,7 +87,7 @@ other_cost = 350
 abbrev pub LawOfFunctions : Type 0
 LawOfFunctions =
     (setting : Setting) (k turns spare fail : ℕ) (generic credit : ℕ → ℕ) (rs valid : List Standing) (w : World) (around : DynamicContext) (z : FlatState) (y : MidState)
-    → IsPlaced setting → turns ≤ setting.turns_each → spare ≤ 14 → ((n : ℕ) → generic n + function_cost ≤ credit n) → ((n : ℕ) → fail + other_cost ≤ credit n)
+    → IsPlaced setting → turns + spare ≤ suc setting.turns_each → spare ≤ 14 → ((n : ℕ) → generic n + function_cost ≤ credit n) → ((n : ℕ) → fail + other_cost ≤ credit n)
     → FunctionParts setting k spare fail around generic → FunctionOver setting k turns spare rs valid w around z y credit
 
 -- the same as it is claimed

@@ -35,13 +35,13 @@ module _ (setting : Setting) (k spare fail : ℕ) (around : DynamicContext) (cha
   -- what is to be known of what the routine calls, at its level
   pub record GenericParts : Type 0 where
     pub chains :
-        (turns : ℕ) (rs valid : List Standing) (w : World) (z : FlatState) (y : MidState) → turns ≤ setting.turns_each
+        (turns : ℕ) (rs valid : List Standing) (w : World) (z : FlatState) (y : MidState) → turns + suc spare ≤ suc setting.turns_each
         → ChainOver setting k turns (suc spare) rs valid w around z y chain left
     pub failing :
-        (turns : ℕ) (rs valid : List Standing) (w : World) (z : FlatState) (y : MidState) → turns ≤ setting.turns_each
+        (turns : ℕ) (rs valid : List Standing) (w : World) (z : FlatState) (y : MidState) → turns + suc spare ≤ suc setting.turns_each
         → FailingOver setting k turns (suc spare) rs valid w around z y fail
     pub failing_with :
-        (turns : ℕ) (rs valid : List Standing) (w : World) (z : FlatState) (y : MidState) → turns ≤ setting.turns_each
+        (turns : ℕ) (rs valid : List Standing) (w : World) (z : FlatState) (y : MidState) → turns + suc spare ≤ suc setting.turns_each
         → FailingWithOver setting k turns (suc spare) rs valid w around z y fail
 
 -- what each specialised argument costs, and what is around the chain, and around the conditions of a function that is not defined and of a wrong
@@ -63,7 +63,7 @@ abbrev pub LawOfGenerics : Type 0
 LawOfGenerics =
     (setting : Setting) (k turns spare fail credit : ℕ) (chain left : ℕ → ℕ) (rs valid : List Standing) (w : World) (around : DynamicContext) (z : FlatState) (y : MidState)
     (g : GenericRow) (vs : List Value) (generic address : ℕ) (at : GenericAt setting generic g)
-    → IsPlaced setting → turns ≤ setting.turns_each → spare ≤ 14 → GenericParts setting k spare fail around chain left → HasSymbol setting g.name.0
+    → IsPlaced setting → turns + spare ≤ suc setting.turns_each → spare ≤ 14 → GenericParts setting k spare fail around chain left → HasSymbol setting g.name.0
     → ArgumentsLent setting w y.arena address vs → fail + wrong_cost ≤ credit
     → (takes g.required g.rest (length vs) ≡ true
     → (chain_around + specialised_cost * length at.specialised + chain (length vs) ≤ unit_cost * left (length vs) + credit) × (fail + undefined_cost + specialised_cost * length at.specialised ≤ credit))
@@ -78,6 +78,6 @@ FewSpecialised setting = (generic : ℕ) (g : GenericRow) (at : GenericAt settin
 abbrev pub LawOfGenericsOver : Type 0
 LawOfGenericsOver =
     (setting : Setting) (k turns spare fail : ℕ) (chain left credit : ℕ → ℕ) (rs valid : List Standing) (w : World) (around : DynamicContext) (z : FlatState) (y : MidState)
-    → IsPlaced setting → turns ≤ setting.turns_each → spare ≤ 14 → GenericParts setting k spare fail around chain left → FewSpecialised setting
+    → IsPlaced setting → turns + spare ≤ suc setting.turns_each → spare ≤ 14 → GenericParts setting k spare fail around chain left → FewSpecialised setting
     → ((n : ℕ) → chain_around + specialised_cost * n + chain n ≤ unit_cost * left n + credit n) → ((n : ℕ) → fail + undefined_cost + specialised_cost * n ≤ credit n)
     → GenericOver setting k turns spare rs valid w around z y credit

@@ -54,7 +54,7 @@ abbrev pub chain_credit : ℕ → ℕ
 chain_credit n = 450 + 20 * n
 
 abbrev pub generic_credit : ℕ → ℕ
-generic_credit n = 1050 + 20 * n
+generic_credit n = 930 + 20 * n
 
 abbrev pub applying_credit : ℕ → ℕ
 applying_credit n = 1150 + 20 * n
