@@ -1,0 +1,7 @@
+// The laws of forms that call what is known only when they run, each as the contract of a function that does nothing.
+ghost use Rattle.back_value_calls.specs.NextForms.{LawOfNextForms};
+
+/// The form of the next method.
+pub fn law_next_forms()
+    ensures { LawOfNextForms }
+{}
