@@ -1,1 +1,4 @@
 pub mod NextForms
+pub mod Blocks
+pub mod Words
+pub mod ValueCalls

@@ -1,15 +1,13 @@
 -- The next method: its call comes in three registers, and the routine is called with them.
-use Rattle.std.proofs.Common.{◌≡◌, inl, inr, ℕ, ◌+◌, ◌<◌, ◌≤◌, true, false, List, [], ◌∷◌, ◌++◌, length, Option, Some, None, refl, sym, ap, ◌∙◌, subst, arith}
+use Rattle.std.proofs.Common.{◌≡◌, ℕ, ◌+◌, ◌<◌, ◌≤◌, true, false, List, [], ◌∷◌, ◌++◌, length, Option, Some, None, refl, sym, ap, ◌∙◌, subst, arith}
 use Rattle.lang_meaning.specs.Objects.{Chain, Called}
-use Rattle.lang_meaning.specs.State.{DynamicContext}
-use Rattle.flat_language.specs.declared.place.MethodPlace.{MethodPlace}
 use Rattle.flat_language.specs.FlatMeaning.{mean, mean_next}
-use Rattle.flat_language.specs.FlatState.{FlatState, FlatEvaluated, method_of, charged}
+use Rattle.flat_language.specs.FlatState.{method_of, charged}
 use Rattle.flat_laws.specs.FlatLater.{FlatLater}
 use Rattle.flat_laws.proofs.Forms.{nexts}
 use Rattle.flat_laws.proofs.Later.{later_kept}
 use Rattle.mid_code.specs.Arena.{word_in}
-use Rattle.mid_code.specs.Meaning.{Context, exec}
+use Rattle.mid_code.specs.Meaning.{Context}
 use Rattle.mid_code.specs.MidCode.{code_of}
 use Rattle.mid_code.specs.State.{Registers, register, MidState}
 use Rattle.mid_arena.proofs.Running.{none_left, costing, parts_then}
@@ -45,7 +43,7 @@ use Rattle.back_methods.specs.Methods.{rest_of}
 use Rattle.back_value_forms.specs.Wholes.{PointsKnown}
 use Rattle.back_value_forms.proofs.MethodPlaces.{method_places_law}
 use Rattle.back_value_forms.proofs.Wholes.{point, points_known}
-use Rattle.back_value_calls.specs.NextForms.{next_cost, PaysNext, NextWithin, LawOfNextForms}
+use Rattle.back_value_calls.specs.NextForms.{next_cost, PaysNext, LawOfNextForms}
 
 never_kept : false ≡ true → ⊥
 never_kept e = absurd (cc e)

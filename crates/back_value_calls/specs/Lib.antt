@@ -1,1 +1,2 @@
 pub mod NextForms
+pub mod ValueCalls

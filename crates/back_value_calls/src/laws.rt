@@ -1,7 +1,13 @@
 // The laws of forms that call what is known only when they run, each as the contract of a function that does nothing.
 ghost use Rattle.back_value_calls.specs.NextForms.{LawOfNextForms};
+ghost use Rattle.back_value_calls.specs.ValueCalls.{LawOfValueCalls};
 
 /// The form of the next method.
 pub fn law_next_forms()
     ensures { LawOfNextForms }
+{}
+
+/// A call of a value.
+pub fn law_value_calls()
+    ensures { LawOfValueCalls }
 {}
