@@ -54,12 +54,12 @@ use Rattle.back_known_calls.proofs.KnownCalls.{site_names}
 use Rattle.back_value_calls.specs.ValueCalls.{AppliesValues, LawOfValueCalls}
 use Rattle.back_value_calls.proofs.Words.{Inside, words_lent_to}
 
-words_from : (d : ℕ) (ws : List ℕ) (regs : Registers) → WordsIn d ws regs → WordsFrom d ws regs
+pub words_from : (d : ℕ) (ws : List ℕ) (regs : Registers) → WordsIn d ws regs → WordsFrom d ws regs
 words_from d [] regs h = tt
 words_from d (w ∷ ws) regs h = (h.0, words_from (d + 1) ws regs h.1)
 
 -- words that were lent go on standing
-lent_later :
+pub lent_later :
     (setting : Setting) {w w' : World} {z z' : FlatState} {y y' : MidState} (address : ℕ) (vs : List Value) → WorldKept setting w w' z z' y y' → stack_from y'.arena ≡ stack_from y.arena
     → ArgumentsLent setting w y.arena address vs → ArgumentsLent setting w' y'.arena address vs
 lent_later setting address vs k same h = record {

@@ -1,2 +1,3 @@
 pub mod NextForms
 pub mod ValueCalls
+pub mod GenericCalls
