@@ -1,5 +1,5 @@
 -- How a machine goes on after a row.
-use Rattle.std.proofs.Common.{◌≡◌, ℕ, ◌+◌, ◌*◌, ◌/◌, ◌%◌, ◌^◌, ◌<◌, Bool, true, false, Some, None, refl, sym, ap, subst, ◌∙◌, arith}
+use Rattle.std.proofs.Common.{◌≡◌, ℕ, ◌+◌, ◌/◌, ◌%◌, ◌<◌, Bool, true, false, Some, None, refl, sym, ap, subst, ◌∙◌, arith}
 use Rattle.std.specs.Prelude.{Option, IfSome}
 use Rattle.rv_machine.specs.declared.machine.rows.Row.{Row}
 use Rattle.rv_machine.specs.declared.machine.carrying.Flow.{Flow}
@@ -7,7 +7,6 @@ use Rattle.rv_machine.specs.declared.machine.carrying.Flow.TheVariants.{On, Bran
 use Rattle.base.specs.Arithmetic.{sum32}
 use Rattle.rv_machine.specs.Arithmetic.{even}
 use Rattle.rv_machine.specs.Memory.{stored_at}
-use Rattle.rv_machine.specs.State.{State}
 use Rattle.rv_machine.specs.Step.{Result, next, behind, go_to, store, step_of}
 use Rattle.rv_machine.specs.Rows.{address_of, does}
 use Rattle.rv_machine.specs.Held.{Held, Flows, Goes, StoredIn, standing}

@@ -1,11 +1,9 @@
 -- An image's words in an arena, place by place.
-use Rattle.std.proofs.Common.{◌≡◌, ℕ, ◌*◌, ◌-◌, ◌<◌, ◌≤◌, List, ◌++◌, length, take, drop, get_or, ap, arith, ◌∙◌, sym, inl, inr, refl, append-nil}
-use Rattle.std.specs.Prelude.{replicate, slice_set}
+use Rattle.std.proofs.Common.{◌≡◌, ℕ, ◌-◌, ◌<◌, ◌≤◌, List, ◌++◌, length, take, drop, get_or, ap, arith, ◌∙◌, sym, inl, inr, refl, append-nil}
 use Rattle.std.proofs.lemmas.List.{take_all, drop_all, get_or-replicate, get_or_append_left, get_or-append_right, get_or_past}
 use Rattle.std.proofs.lemmas.Bool.{cases_lt}
 use Rattle.std.proofs.lemmas.Grind.{same_number_lists, common_steps}
-use Rattle.rv_machine.specs.State.{State, start, laid}
-use Rattle.rv_machine.specs.Memory.{bytes_of}
+use Rattle.rv_machine.specs.State.{laid}
 
 pub length-laid : (words : List ℕ) (n : ℕ) → length words ≤ n → length (laid words n) ≡ n
 length-laid words n h = grind (arith, common_steps)

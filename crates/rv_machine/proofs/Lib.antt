@@ -6,3 +6,4 @@ pub mod Runs
 pub mod Turns
 pub mod Rows
 pub mod Flows
+pub mod Tables

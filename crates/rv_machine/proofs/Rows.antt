@@ -1,5 +1,5 @@
 -- The row of an instruction does what the instruction does, at its place; so do the rows that are kept of an arena.
-use Rattle.std.proofs.Common.{◌≡◌, ℕ, ◌+◌, ◌-◌, ◌*◌, ◌/◌, ◌%◌, ◌^◌, ◌<◌, ◌≤◌, Bool, true, false, List, [], ◌∷◌, ◌++◌, length, get_or, take, drop, Some, None, append-nil, refl, sym, ap, subst, ◌∙◌, arith, inl, inr}
+use Rattle.std.proofs.Common.{◌≡◌, ℕ, ◌*◌, ◌%◌, ◌<◌, ◌≤◌, Bool, true, false, List, [], ◌∷◌, ◌++◌, length, get_or, take, drop, Some, None, append-nil, refl, sym, ap, subst, ◌∙◌, arith, inl, inr}
 use Rattle.std.specs.Prelude.{Option, IfSome, if◌then◌else◌, ◌==◌, nat_lt, not, slice_set}
 use Rattle.std.proofs.lemmas.Bool.{cases_lt}
 use Rattle.std.proofs.lemmas.Bool.Decides.{nat_tests}
@@ -12,13 +12,13 @@ use Rattle.rv_encode.specs.declared.instruction.Instr.{Instr}
 use Rattle.rv_encode.specs.declared.instruction.Instr.TheVariants as instr
 use Rattle.rv_encode.specs.Decode.{decode_of}
 use Rattle.rv_machine.specs.declared.machine.rows.Row.{Row}
-use Rattle.rv_machine.specs.declared.machine.rows.Row.TheVariants.{Add, Sub, Sll, Slt, Sltu, Xor, Srl, Sra, Or, And, Mul, Mulh, Mulhsu, Mulhu, Div, Divu, Rem, Remu, Addi, Slti, Sltiu, Xori, Ori, Andi, Slli, Srli, Srai, Beq, Bne, Blt, Bge, Bltu, Bgeu, Lb, Lh, Lw, Lbu, Lhu, Sb, Sh, Sw, Set, Jump, JumpAndLink, JumpTo, JumpToAndLink, Nothing, Leave}
+use Rattle.rv_machine.specs.declared.machine.rows.Row.TheVariants.{Add, Sub, Sll, Slt, Sltu, Xor, Srl, Sra, Or, And, Mul, Mulh, Mulhsu, Mulhu, Div, Divu, Rem, Remu, Addi, Slti, Sltiu, Xori, Ori, Andi, Slli, Srli, Srai, Lb, Lh, Lw, Lbu, Lhu, Set, Jump, JumpAndLink, JumpTo, JumpToAndLink, Nothing, Leave}
 use Rattle.rv_machine.specs.Arithmetic.{sign_extended}
 use Rattle.rv_machine.specs.Memory.{number_at, bytes_of}
 use Rattle.rv_machine.specs.Words.{OneWord, word_there}
 use Rattle.rv_machine.specs.State.{State, register}
 use Rattle.rv_machine.specs.Step.{Result, next, behind, gives, link, branch, go_to, execute, decoded, fetched, step_of}
-use Rattle.rv_machine.specs.Rows.{address_of, does, jumped, to_word, unless_zero, row_of, read_row, Means, Kept, given_up}
+use Rattle.rv_machine.specs.Rows.{address_of, destination, does, jumped, to_word, unless_zero, row_of, read_row, Means, Kept, given_up}
 
 -- what a row does, where it does anything, is this
 abbrev pub DoesSo : Row → State → Result → Type 0
@@ -27,22 +27,23 @@ DoesSo row s r = IfSome (does row s) (λ x. x ≡ r)
 -- Rows of instructions whose result goes nowhere where the register is 0.
 
 by-register :
-    (test : Bool) (rd : ℕ) (zero row : Row) (s : State) (r : Result) → (rd == 0) ≡ test
-    → ((rd == 0) ≡ true → DoesSo zero s r) → DoesSo row s r → DoesSo (if test then zero else row) s r
+    (test : Bool) (rd : ℕ) (zero : Row) (row : ℕ → Row) (s : State) (r : Result) → (rd == 0) ≡ test
+    → ((rd == 0) ≡ true → DoesSo zero s r) → DoesSo (row rd) s r
+    → DoesSo (if test then zero else row (if test then 1 else rd)) s r
 by-register true rd zero row s r e none some = none e
 by-register false rd zero row s r e none some = some
 
 zero-or :
-    (rd : ℕ) (zero row : Row) (s : State) (r : Result) → ((rd == 0) ≡ true → DoesSo zero s r) → DoesSo row s r
-    → DoesSo (unless_zero rd zero row) s r
+    (rd : ℕ) (zero : Row) (row : ℕ → Row) (s : State) (r : Result) → ((rd == 0) ≡ true → DoesSo zero s r)
+    → DoesSo (row rd) s r → DoesSo (unless_zero rd zero (row (destination rd))) s r
 zero-or rd zero row s r none some = by-register (rd == 0) rd zero row s r refl none some
 
 lost : (rd value : ℕ) (s : State) → (rd == 0) ≡ true → DoesSo Nothing s (gives rd value s)
 lost rd value s e = rw e refl
 
 valued :
-    (rd value : ℕ) (row : Row) (s : State) → DoesSo row s (gives rd value s)
-    → DoesSo (unless_zero rd Nothing row) s (gives rd value s)
+    (rd value : ℕ) (row : ℕ → Row) (s : State) → DoesSo (row rd) s (gives rd value s)
+    → DoesSo (unless_zero rd Nothing (row (destination rd))) s (gives rd value s)
 valued rd value row s some = zero-or rd Nothing row s (gives rd value s) (lost rd value s) some
 
 -- Jumps to words.
@@ -77,61 +78,62 @@ branched false place offset s at whole = refl
 
 jal :
     (rd place offset : ℕ) (s : State) → s.pc ≡ 4 * place → offset % 4 ≡ 0
-    → DoesSo (unless_zero rd (Jump (jumped 21 place offset)) (JumpAndLink rd (jumped 21 place offset))) s
+    → DoesSo (unless_zero rd (Jump (jumped 21 place offset)) (JumpAndLink (destination rd) (jumped 21 place offset))) s
     (link rd (sum32 s.pc (sign_extended 21 offset)) s)
 jal rd place offset s at whole =
     let lands = lands21 place offset s.pc at whole in
-    zero-or rd (Jump (jumped 21 place offset)) (JumpAndLink rd (jumped 21 place offset)) s (link rd (sum32 s.pc (sign_extended 21 offset)) s)
+    zero-or rd (Jump (jumped 21 place offset)) (λ d. JumpAndLink d (jumped 21 place offset)) s (link rd (sum32 s.pc (sign_extended 21 offset)) s)
     (λ e. rw (e, lands) refl) (ap (λ a. link rd a s) lands)
 
 -- the row of an instruction does what it does
 pub row_does : (i : Instr) (place : ℕ) (s : State) → s.pc ≡ 4 * place → DoesSo (row_of i place) s (execute i s)
-row_does (instr.Lui rd imm) place s at = valued rd _ _ s refl
+row_does (instr.Lui rd imm) place s at = valued rd _ (λ d. Set d (imm * 4096)) s refl
 row_does (instr.Auipc rd imm) place s at =
-    valued rd _ _ s (ap (λ v. gives rd v s) (let e : sum32 (address_of place) (imm * 4096) ≡ sum32 s.pc (imm * 4096) = omega arith in e))
+    valued rd _ (λ d. Set d (sum32 (address_of place) (imm * 4096))) s (ap (λ v. gives rd v s) (let e : sum32 (address_of place) (imm * 4096) ≡ sum32 s.pc (imm * 4096) = omega arith in e))
 row_does (instr.Jal rd offset) place s at = word-only offset _ s _ (jal rd place offset s at)
-row_does (instr.Jalr rd rs1 offset) place s at = zero-or rd _ _ s _ (λ e. rw e refl) refl
+row_does (instr.Jalr rd rs1 offset) place s at =
+    zero-or rd (JumpTo rs1 (sign_extended 12 offset)) (λ d. JumpToAndLink d rs1 (sign_extended 12 offset)) s _ (λ e. rw e refl) refl
 row_does (instr.Beq rs1 rs2 offset) place s at = word-only offset _ s _ (branched (register s rs1 == register s rs2) place offset s at)
 row_does (instr.Bne rs1 rs2 offset) place s at = word-only offset _ s _ (branched (not (register s rs1 == register s rs2)) place offset s at)
 row_does (instr.Blt rs1 rs2 offset) place s at = word-only offset _ s _ (branched (less_signed (register s rs1) (register s rs2)) place offset s at)
 row_does (instr.Bge rs1 rs2 offset) place s at = word-only offset _ s _ (branched (not (less_signed (register s rs1) (register s rs2))) place offset s at)
 row_does (instr.Bltu rs1 rs2 offset) place s at = word-only offset _ s _ (branched (nat_lt (register s rs1) (register s rs2)) place offset s at)
 row_does (instr.Bgeu rs1 rs2 offset) place s at = word-only offset _ s _ (branched (not (nat_lt (register s rs1) (register s rs2))) place offset s at)
-row_does (instr.Lb rd rs1 offset) place s at = zero-or rd _ _ s _ (λ e. tt) refl
-row_does (instr.Lh rd rs1 offset) place s at = zero-or rd _ _ s _ (λ e. tt) refl
-row_does (instr.Lw rd rs1 offset) place s at = zero-or rd _ _ s _ (λ e. tt) refl
-row_does (instr.Lbu rd rs1 offset) place s at = zero-or rd _ _ s _ (λ e. tt) refl
-row_does (instr.Lhu rd rs1 offset) place s at = zero-or rd _ _ s _ (λ e. tt) refl
+row_does (instr.Lb rd rs1 offset) place s at = zero-or rd Leave (λ d. Lb d rs1 (sign_extended 12 offset)) s _ (λ e. tt) refl
+row_does (instr.Lh rd rs1 offset) place s at = zero-or rd Leave (λ d. Lh d rs1 (sign_extended 12 offset)) s _ (λ e. tt) refl
+row_does (instr.Lw rd rs1 offset) place s at = zero-or rd Leave (λ d. Lw d rs1 (sign_extended 12 offset)) s _ (λ e. tt) refl
+row_does (instr.Lbu rd rs1 offset) place s at = zero-or rd Leave (λ d. Lbu d rs1 (sign_extended 12 offset)) s _ (λ e. tt) refl
+row_does (instr.Lhu rd rs1 offset) place s at = zero-or rd Leave (λ d. Lhu d rs1 (sign_extended 12 offset)) s _ (λ e. tt) refl
 row_does (instr.Sb rs2 rs1 offset) place s at = refl
 row_does (instr.Sh rs2 rs1 offset) place s at = refl
 row_does (instr.Sw rs2 rs1 offset) place s at = refl
-row_does (instr.Addi rd rs1 imm) place s at = valued rd _ _ s refl
-row_does (instr.Slti rd rs1 imm) place s at = valued rd _ _ s refl
-row_does (instr.Sltiu rd rs1 imm) place s at = valued rd _ _ s refl
-row_does (instr.Xori rd rs1 imm) place s at = valued rd _ _ s refl
-row_does (instr.Ori rd rs1 imm) place s at = valued rd _ _ s refl
-row_does (instr.Andi rd rs1 imm) place s at = valued rd _ _ s refl
-row_does (instr.Slli rd rs1 shift) place s at = valued rd _ _ s refl
-row_does (instr.Srli rd rs1 shift) place s at = valued rd _ _ s refl
-row_does (instr.Srai rd rs1 shift) place s at = valued rd _ _ s refl
-row_does (instr.Add rd rs1 rs2) place s at = valued rd _ _ s refl
-row_does (instr.Sub rd rs1 rs2) place s at = valued rd _ _ s refl
-row_does (instr.Sll rd rs1 rs2) place s at = valued rd _ _ s refl
-row_does (instr.Slt rd rs1 rs2) place s at = valued rd _ _ s refl
-row_does (instr.Sltu rd rs1 rs2) place s at = valued rd _ _ s refl
-row_does (instr.Xor rd rs1 rs2) place s at = valued rd _ _ s refl
-row_does (instr.Srl rd rs1 rs2) place s at = valued rd _ _ s refl
-row_does (instr.Sra rd rs1 rs2) place s at = valued rd _ _ s refl
-row_does (instr.Or rd rs1 rs2) place s at = valued rd _ _ s refl
-row_does (instr.And rd rs1 rs2) place s at = valued rd _ _ s refl
-row_does (instr.Mul rd rs1 rs2) place s at = valued rd _ _ s refl
-row_does (instr.Mulh rd rs1 rs2) place s at = valued rd _ _ s refl
-row_does (instr.Mulhsu rd rs1 rs2) place s at = valued rd _ _ s refl
-row_does (instr.Mulhu rd rs1 rs2) place s at = valued rd _ _ s refl
-row_does (instr.Div rd rs1 rs2) place s at = valued rd _ _ s refl
-row_does (instr.Divu rd rs1 rs2) place s at = valued rd _ _ s refl
-row_does (instr.Rem rd rs1 rs2) place s at = valued rd _ _ s refl
-row_does (instr.Remu rd rs1 rs2) place s at = valued rd _ _ s refl
+row_does (instr.Addi rd rs1 imm) place s at = valued rd _ (λ d. Addi d rs1 (sign_extended 12 imm)) s refl
+row_does (instr.Slti rd rs1 imm) place s at = valued rd _ (λ d. Slti d rs1 (sign_extended 12 imm)) s refl
+row_does (instr.Sltiu rd rs1 imm) place s at = valued rd _ (λ d. Sltiu d rs1 (sign_extended 12 imm)) s refl
+row_does (instr.Xori rd rs1 imm) place s at = valued rd _ (λ d. Xori d rs1 (sign_extended 12 imm)) s refl
+row_does (instr.Ori rd rs1 imm) place s at = valued rd _ (λ d. Ori d rs1 (sign_extended 12 imm)) s refl
+row_does (instr.Andi rd rs1 imm) place s at = valued rd _ (λ d. Andi d rs1 (sign_extended 12 imm)) s refl
+row_does (instr.Slli rd rs1 shift) place s at = valued rd _ (λ d. Slli d rs1 shift) s refl
+row_does (instr.Srli rd rs1 shift) place s at = valued rd _ (λ d. Srli d rs1 shift) s refl
+row_does (instr.Srai rd rs1 shift) place s at = valued rd _ (λ d. Srai d rs1 shift) s refl
+row_does (instr.Add rd rs1 rs2) place s at = valued rd _ (λ d. Add d rs1 rs2) s refl
+row_does (instr.Sub rd rs1 rs2) place s at = valued rd _ (λ d. Sub d rs1 rs2) s refl
+row_does (instr.Sll rd rs1 rs2) place s at = valued rd _ (λ d. Sll d rs1 rs2) s refl
+row_does (instr.Slt rd rs1 rs2) place s at = valued rd _ (λ d. Slt d rs1 rs2) s refl
+row_does (instr.Sltu rd rs1 rs2) place s at = valued rd _ (λ d. Sltu d rs1 rs2) s refl
+row_does (instr.Xor rd rs1 rs2) place s at = valued rd _ (λ d. Xor d rs1 rs2) s refl
+row_does (instr.Srl rd rs1 rs2) place s at = valued rd _ (λ d. Srl d rs1 rs2) s refl
+row_does (instr.Sra rd rs1 rs2) place s at = valued rd _ (λ d. Sra d rs1 rs2) s refl
+row_does (instr.Or rd rs1 rs2) place s at = valued rd _ (λ d. Or d rs1 rs2) s refl
+row_does (instr.And rd rs1 rs2) place s at = valued rd _ (λ d. And d rs1 rs2) s refl
+row_does (instr.Mul rd rs1 rs2) place s at = valued rd _ (λ d. Mul d rs1 rs2) s refl
+row_does (instr.Mulh rd rs1 rs2) place s at = valued rd _ (λ d. Mulh d rs1 rs2) s refl
+row_does (instr.Mulhsu rd rs1 rs2) place s at = valued rd _ (λ d. Mulhsu d rs1 rs2) s refl
+row_does (instr.Mulhu rd rs1 rs2) place s at = valued rd _ (λ d. Mulhu d rs1 rs2) s refl
+row_does (instr.Div rd rs1 rs2) place s at = valued rd _ (λ d. Div d rs1 rs2) s refl
+row_does (instr.Divu rd rs1 rs2) place s at = valued rd _ (λ d. Divu d rs1 rs2) s refl
+row_does (instr.Rem rd rs1 rs2) place s at = valued rd _ (λ d. Rem d rs1 rs2) s refl
+row_does (instr.Remu rd rs1 rs2) place s at = valued rd _ (λ d. Remu d rs1 rs2) s refl
 row_does (instr.Fence rd rs1 mode predecessor successor) place s at = refl
 row_does instr.Ecall place s at = tt
 row_does instr.Ebreak place s at = tt

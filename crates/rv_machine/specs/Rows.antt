@@ -1,6 +1,6 @@
 -- What is kept of a word once it is decoded: a row, whose immediate is a word and whose jump says the place that it
 -- leads to. A place counts words from address 0 on.
-use Rattle.std.specs.Prelude.{◌≡◌, ℕ, ◌+◌, ◌-◌, ◌*◌, ◌%◌, ◌/◌, ◌^◌, ◌≤◌, List, length, Option, Some, None, IfSome, option_map, Bool, not, if◌then◌else◌, ◌==◌, nat_lt, bit_and, bit_or, bit_xor, slice_set, slice_index, slice_index_or}
+use Rattle.std.specs.Prelude.{◌≡◌, ℕ, ◌-◌, ◌*◌, ◌%◌, ◌/◌, ◌^◌, ◌≤◌, List, length, Option, Some, None, IfSome, option_map, Bool, not, if◌then◌else◌, ◌==◌, nat_lt, bit_and, bit_or, bit_xor, slice_set, slice_index, slice_index_or}
 use Rattle.base.specs.Arithmetic.{sum32, difference32, less_signed, one_if_less_signed, one_if_less, shift_left, shift_right, shift_right_signed, product32, high_signed, quotient_signed, remainder_signed}
 use Rattle.rv_encode.specs.declared.instruction.Instr.{Instr}
 use Rattle.rv_encode.specs.declared.instruction.Instr.TheVariants as instr
@@ -87,58 +87,75 @@ to_word offset row = if offset % 4 == 0 then row else Leave
 abbrev pub unless_zero : ℕ → Row → Row → Row
 unless_zero rd zero row = if rd == 0 then zero else row
 
--- the row that is kept of an instruction at a place
+-- the register that a row writes; rows of register 0 are not kept
+abbrev pub destination : ℕ → ℕ
+destination rd = if rd == 0 then 1 else rd
+
+-- The row that is kept of an instruction at a place, in four tables, each of which goes on with the next one.
+
+-- branches, jumps, and nothing at all
+abbrev pub jump_row : Instr → ℕ → Row
+jump_row (instr.Jal rd offset) place =
+    to_word offset (unless_zero rd (Jump (jumped 21 place offset)) (JumpAndLink (destination rd) (jumped 21 place offset)))
+jump_row (instr.Jalr rd rs1 offset) place =
+    unless_zero rd (JumpTo rs1 (sign_extended 12 offset)) (JumpToAndLink (destination rd) rs1 (sign_extended 12 offset))
+jump_row (instr.Beq rs1 rs2 offset) place = to_word offset (Beq rs1 rs2 (jumped 13 place offset))
+jump_row (instr.Bne rs1 rs2 offset) place = to_word offset (Bne rs1 rs2 (jumped 13 place offset))
+jump_row (instr.Blt rs1 rs2 offset) place = to_word offset (Blt rs1 rs2 (jumped 13 place offset))
+jump_row (instr.Bge rs1 rs2 offset) place = to_word offset (Bge rs1 rs2 (jumped 13 place offset))
+jump_row (instr.Bltu rs1 rs2 offset) place = to_word offset (Bltu rs1 rs2 (jumped 13 place offset))
+jump_row (instr.Bgeu rs1 rs2 offset) place = to_word offset (Bgeu rs1 rs2 (jumped 13 place offset))
+jump_row (instr.Fence rd rs1 mode predecessor successor) place = Nothing
+jump_row other place = Leave
+
+-- loads and stores
+abbrev pub transfer_row : Instr → ℕ → Row
+transfer_row (instr.Lb rd rs1 offset) place = unless_zero rd Leave (Lb (destination rd) rs1 (sign_extended 12 offset))
+transfer_row (instr.Lh rd rs1 offset) place = unless_zero rd Leave (Lh (destination rd) rs1 (sign_extended 12 offset))
+transfer_row (instr.Lw rd rs1 offset) place = unless_zero rd Leave (Lw (destination rd) rs1 (sign_extended 12 offset))
+transfer_row (instr.Lbu rd rs1 offset) place = unless_zero rd Leave (Lbu (destination rd) rs1 (sign_extended 12 offset))
+transfer_row (instr.Lhu rd rs1 offset) place = unless_zero rd Leave (Lhu (destination rd) rs1 (sign_extended 12 offset))
+transfer_row (instr.Sb rs2 rs1 offset) place = Sb rs1 rs2 (sign_extended 12 offset)
+transfer_row (instr.Sh rs2 rs1 offset) place = Sh rs1 rs2 (sign_extended 12 offset)
+transfer_row (instr.Sw rs2 rs1 offset) place = Sw rs1 rs2 (sign_extended 12 offset)
+transfer_row other place = jump_row other place
+
+-- operations with an immediate
+abbrev pub immediate_row : Instr → ℕ → Row
+immediate_row (instr.Lui rd imm) place = unless_zero rd Nothing (Set (destination rd) (imm * 4096))
+immediate_row (instr.Auipc rd imm) place = unless_zero rd Nothing (Set (destination rd) (sum32 (address_of place) (imm * 4096)))
+immediate_row (instr.Addi rd rs1 imm) place = unless_zero rd Nothing (Addi (destination rd) rs1 (sign_extended 12 imm))
+immediate_row (instr.Slti rd rs1 imm) place = unless_zero rd Nothing (Slti (destination rd) rs1 (sign_extended 12 imm))
+immediate_row (instr.Sltiu rd rs1 imm) place = unless_zero rd Nothing (Sltiu (destination rd) rs1 (sign_extended 12 imm))
+immediate_row (instr.Xori rd rs1 imm) place = unless_zero rd Nothing (Xori (destination rd) rs1 (sign_extended 12 imm))
+immediate_row (instr.Ori rd rs1 imm) place = unless_zero rd Nothing (Ori (destination rd) rs1 (sign_extended 12 imm))
+immediate_row (instr.Andi rd rs1 imm) place = unless_zero rd Nothing (Andi (destination rd) rs1 (sign_extended 12 imm))
+immediate_row (instr.Slli rd rs1 shift) place = unless_zero rd Nothing (Slli (destination rd) rs1 shift)
+immediate_row (instr.Srli rd rs1 shift) place = unless_zero rd Nothing (Srli (destination rd) rs1 shift)
+immediate_row (instr.Srai rd rs1 shift) place = unless_zero rd Nothing (Srai (destination rd) rs1 shift)
+immediate_row other place = transfer_row other place
+
+-- operations on registers
 abbrev pub row_of : Instr → ℕ → Row
-row_of (instr.Lui rd imm) place = unless_zero rd Nothing (Set rd (imm * 4096))
-row_of (instr.Auipc rd imm) place = unless_zero rd Nothing (Set rd (sum32 (address_of place) (imm * 4096)))
-row_of (instr.Jal rd offset) place =
-    to_word offset (unless_zero rd (Jump (jumped 21 place offset)) (JumpAndLink rd (jumped 21 place offset)))
-row_of (instr.Jalr rd rs1 offset) place =
-    unless_zero rd (JumpTo rs1 (sign_extended 12 offset)) (JumpToAndLink rd rs1 (sign_extended 12 offset))
-row_of (instr.Beq rs1 rs2 offset) place = to_word offset (Beq rs1 rs2 (jumped 13 place offset))
-row_of (instr.Bne rs1 rs2 offset) place = to_word offset (Bne rs1 rs2 (jumped 13 place offset))
-row_of (instr.Blt rs1 rs2 offset) place = to_word offset (Blt rs1 rs2 (jumped 13 place offset))
-row_of (instr.Bge rs1 rs2 offset) place = to_word offset (Bge rs1 rs2 (jumped 13 place offset))
-row_of (instr.Bltu rs1 rs2 offset) place = to_word offset (Bltu rs1 rs2 (jumped 13 place offset))
-row_of (instr.Bgeu rs1 rs2 offset) place = to_word offset (Bgeu rs1 rs2 (jumped 13 place offset))
-row_of (instr.Lb rd rs1 offset) place = unless_zero rd Leave (Lb rd rs1 (sign_extended 12 offset))
-row_of (instr.Lh rd rs1 offset) place = unless_zero rd Leave (Lh rd rs1 (sign_extended 12 offset))
-row_of (instr.Lw rd rs1 offset) place = unless_zero rd Leave (Lw rd rs1 (sign_extended 12 offset))
-row_of (instr.Lbu rd rs1 offset) place = unless_zero rd Leave (Lbu rd rs1 (sign_extended 12 offset))
-row_of (instr.Lhu rd rs1 offset) place = unless_zero rd Leave (Lhu rd rs1 (sign_extended 12 offset))
-row_of (instr.Sb rs2 rs1 offset) place = Sb rs1 rs2 (sign_extended 12 offset)
-row_of (instr.Sh rs2 rs1 offset) place = Sh rs1 rs2 (sign_extended 12 offset)
-row_of (instr.Sw rs2 rs1 offset) place = Sw rs1 rs2 (sign_extended 12 offset)
-row_of (instr.Addi rd rs1 imm) place = unless_zero rd Nothing (Addi rd rs1 (sign_extended 12 imm))
-row_of (instr.Slti rd rs1 imm) place = unless_zero rd Nothing (Slti rd rs1 (sign_extended 12 imm))
-row_of (instr.Sltiu rd rs1 imm) place = unless_zero rd Nothing (Sltiu rd rs1 (sign_extended 12 imm))
-row_of (instr.Xori rd rs1 imm) place = unless_zero rd Nothing (Xori rd rs1 (sign_extended 12 imm))
-row_of (instr.Ori rd rs1 imm) place = unless_zero rd Nothing (Ori rd rs1 (sign_extended 12 imm))
-row_of (instr.Andi rd rs1 imm) place = unless_zero rd Nothing (Andi rd rs1 (sign_extended 12 imm))
-row_of (instr.Slli rd rs1 shift) place = unless_zero rd Nothing (Slli rd rs1 shift)
-row_of (instr.Srli rd rs1 shift) place = unless_zero rd Nothing (Srli rd rs1 shift)
-row_of (instr.Srai rd rs1 shift) place = unless_zero rd Nothing (Srai rd rs1 shift)
-row_of (instr.Add rd rs1 rs2) place = unless_zero rd Nothing (Add rd rs1 rs2)
-row_of (instr.Sub rd rs1 rs2) place = unless_zero rd Nothing (Sub rd rs1 rs2)
-row_of (instr.Sll rd rs1 rs2) place = unless_zero rd Nothing (Sll rd rs1 rs2)
-row_of (instr.Slt rd rs1 rs2) place = unless_zero rd Nothing (Slt rd rs1 rs2)
-row_of (instr.Sltu rd rs1 rs2) place = unless_zero rd Nothing (Sltu rd rs1 rs2)
-row_of (instr.Xor rd rs1 rs2) place = unless_zero rd Nothing (Xor rd rs1 rs2)
-row_of (instr.Srl rd rs1 rs2) place = unless_zero rd Nothing (Srl rd rs1 rs2)
-row_of (instr.Sra rd rs1 rs2) place = unless_zero rd Nothing (Sra rd rs1 rs2)
-row_of (instr.Or rd rs1 rs2) place = unless_zero rd Nothing (Or rd rs1 rs2)
-row_of (instr.And rd rs1 rs2) place = unless_zero rd Nothing (And rd rs1 rs2)
-row_of (instr.Mul rd rs1 rs2) place = unless_zero rd Nothing (Mul rd rs1 rs2)
-row_of (instr.Mulh rd rs1 rs2) place = unless_zero rd Nothing (Mulh rd rs1 rs2)
-row_of (instr.Mulhsu rd rs1 rs2) place = unless_zero rd Nothing (Mulhsu rd rs1 rs2)
-row_of (instr.Mulhu rd rs1 rs2) place = unless_zero rd Nothing (Mulhu rd rs1 rs2)
-row_of (instr.Div rd rs1 rs2) place = unless_zero rd Nothing (Div rd rs1 rs2)
-row_of (instr.Divu rd rs1 rs2) place = unless_zero rd Nothing (Divu rd rs1 rs2)
-row_of (instr.Rem rd rs1 rs2) place = unless_zero rd Nothing (Rem rd rs1 rs2)
-row_of (instr.Remu rd rs1 rs2) place = unless_zero rd Nothing (Remu rd rs1 rs2)
-row_of (instr.Fence rd rs1 mode predecessor successor) place = Nothing
-row_of instr.Ecall place = Leave
-row_of instr.Ebreak place = Leave
+row_of (instr.Add rd rs1 rs2) place = unless_zero rd Nothing (Add (destination rd) rs1 rs2)
+row_of (instr.Sub rd rs1 rs2) place = unless_zero rd Nothing (Sub (destination rd) rs1 rs2)
+row_of (instr.Sll rd rs1 rs2) place = unless_zero rd Nothing (Sll (destination rd) rs1 rs2)
+row_of (instr.Slt rd rs1 rs2) place = unless_zero rd Nothing (Slt (destination rd) rs1 rs2)
+row_of (instr.Sltu rd rs1 rs2) place = unless_zero rd Nothing (Sltu (destination rd) rs1 rs2)
+row_of (instr.Xor rd rs1 rs2) place = unless_zero rd Nothing (Xor (destination rd) rs1 rs2)
+row_of (instr.Srl rd rs1 rs2) place = unless_zero rd Nothing (Srl (destination rd) rs1 rs2)
+row_of (instr.Sra rd rs1 rs2) place = unless_zero rd Nothing (Sra (destination rd) rs1 rs2)
+row_of (instr.Or rd rs1 rs2) place = unless_zero rd Nothing (Or (destination rd) rs1 rs2)
+row_of (instr.And rd rs1 rs2) place = unless_zero rd Nothing (And (destination rd) rs1 rs2)
+row_of (instr.Mul rd rs1 rs2) place = unless_zero rd Nothing (Mul (destination rd) rs1 rs2)
+row_of (instr.Mulh rd rs1 rs2) place = unless_zero rd Nothing (Mulh (destination rd) rs1 rs2)
+row_of (instr.Mulhsu rd rs1 rs2) place = unless_zero rd Nothing (Mulhsu (destination rd) rs1 rs2)
+row_of (instr.Mulhu rd rs1 rs2) place = unless_zero rd Nothing (Mulhu (destination rd) rs1 rs2)
+row_of (instr.Div rd rs1 rs2) place = unless_zero rd Nothing (Div (destination rd) rs1 rs2)
+row_of (instr.Divu rd rs1 rs2) place = unless_zero rd Nothing (Divu (destination rd) rs1 rs2)
+row_of (instr.Rem rd rs1 rs2) place = unless_zero rd Nothing (Rem (destination rd) rs1 rs2)
+row_of (instr.Remu rd rs1 rs2) place = unless_zero rd Nothing (Remu (destination rd) rs1 rs2)
+row_of other place = immediate_row other place
 
 -- the row that is kept of a word at a place
 abbrev pub read_row : Option Instr → ℕ → Row

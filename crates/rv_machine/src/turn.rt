@@ -49,11 +49,52 @@ impl Machine {
         match self.step() {
             StepEnd::Went => None,
             StepEnd::Trap(kind, address) => Some(Ending::Trap(kind, address)),
-            StepEnd::Call(0) => {
+            StepEnd::Call(which) => self.call_outside(which, source, sink),
+        }
+    }
+
+    // An environment call: none where the run goes on. After a fault the machine stands before that call.
+    fn call_outside<S: Source, K: Sink>(
+        &mut self,
+        which: u32,
+        source: &mut S,
+        sink: &mut K,
+    ) -> Option<Ending>
+        requires room { self.old.count + 1 < 2 ^ 64 }
+        requires known { which < 5 }
+        ensures turned { IsFaultless result → Turned (environment_call which) result self.old self.new
+            (outside (S.left source.old) (K.given sink.old) (K.writes sink.old))
+            (outside (S.left source.new) (K.given sink.new) (K.writes sink.new))
+            (sink.new ≡ sink.old) }
+        ensures unread { IsFaultless result → (input : List ℕ) →
+            (acted (environment_call which) self.old input).at.gets ≡ 0 → source.new ≡ source.old }
+        ensures count { Counts result self.old.count self.new.count }
+
+        ensures read_call { result ≡ Some Ending.ReadFault →
+            StandsBefore 2 (environment_call which) self.old self.new }
+        ensures read_left { result ≡ Some Ending.ReadFault →
+            IfSome (S.left source.old) (λ all. S.left source.new ≡ Some all) }
+        ensures read_sink { result ≡ Some Ending.ReadFault → sink.new ≡ sink.old }
+        ensures read_rose { result ≡ Some Ending.ReadFault →
+            Rose (S.faults source.old) (S.faults source.new) }
+
+        ensures write_call { result ≡ Some Ending.WriteFault →
+            StandsBefore 1 (environment_call which) self.old self.new }
+        ensures write_given { result ≡ Some Ending.WriteFault → K.given sink.new ≡ K.given sink.old }
+        ensures writes { result ≡ Some Ending.WriteFault → K.writes sink.new ≡ K.writes sink.old }
+        ensures write_source { result ≡ Some Ending.WriteFault → source.new ≡ source.old }
+        ensures write_rose { result ≡ Some Ending.WriteFault →
+            Rose (K.faults sink.old) (K.faults sink.new) }
+
+        ensures source_faults { S.faults source.old ≤ S.faults source.new }
+        ensures sink_faults { K.faults sink.old ≤ K.faults sink.new }
+    {
+        match which {
+            0 => {
                 self.count_one();
                 Some(Ending::Halt(self.register(10)))
             }
-            StepEnd::Call(1) => {
+            1 => {
                 let byte = (self.register(10) % 256) as u8;
                 let Ok(()) = put_byte(sink, byte) else {
                     return Some(Ending::WriteFault);
@@ -61,7 +102,7 @@ impl Machine {
                 self.go_behind();
                 None
             }
-            StepEnd::Call(2) => {
+            2 => {
                 let Ok(word) = get_byte(source) else {
                     return Some(Ending::ReadFault);
                 };
@@ -69,11 +110,11 @@ impl Machine {
                 self.go_behind();
                 None
             }
-            StepEnd::Call(3) => {
+            3 => {
                 self.count_one();
                 Some(Ending::Unhandled(self.register(10)))
             }
-            StepEnd::Call(_) => {
+            _ => {
                 self.count_one();
                 let asked = self.register(10);
                 let left = self.register(11);

@@ -30,7 +30,7 @@ pub(crate) enum Flow {
 }
 
 impl Contents {
-    // One row an instruction, at the place of its word.
+    // What a row does, at the place of its word: first the operations on registers.
     #[inline(always)]
     pub(crate) fn carry_out(&mut self, row: Row, place: u32) -> Flow
         requires { place < 16777216 }
@@ -109,6 +109,17 @@ impl Contents {
                 let value = remainder(self.read(rs1), self.read(rs2));
                 self.gives(rd, value)
             }
+            _ => self.carry_out_immediate(row, place),
+        }
+    }
+
+    // Operations with an immediate.
+    #[inline(always)]
+    fn carry_out_immediate(&mut self, row: Row, place: u32) -> Flow
+        requires { place < 16777216 }
+        ensures { Flows (does row (standing place self.old)) place result self.old self.new }
+    {
+        match row {
             Row::Addi { rd, rs1, value } => {
                 let value = self.read(rs1).wrapping_add(value);
                 self.gives(rd, value)
@@ -145,30 +156,18 @@ impl Contents {
                 let value = shift_right_signed(self.read(rs1), value);
                 self.gives(rd, value)
             }
-            Row::Beq { rs1, rs2, target } => {
-                let taken = self.read(rs1) == self.read(rs2);
-                Flow::Branch { taken, target }
-            }
-            Row::Bne { rs1, rs2, target } => {
-                let taken = self.read(rs1) != self.read(rs2);
-                Flow::Branch { taken, target }
-            }
-            Row::Blt { rs1, rs2, target } => {
-                let taken = is_less_signed(self.read(rs1), self.read(rs2));
-                Flow::Branch { taken, target }
-            }
-            Row::Bge { rs1, rs2, target } => {
-                let taken = !is_less_signed(self.read(rs1), self.read(rs2));
-                Flow::Branch { taken, target }
-            }
-            Row::Bltu { rs1, rs2, target } => {
-                let taken = self.read(rs1) < self.read(rs2);
-                Flow::Branch { taken, target }
-            }
-            Row::Bgeu { rs1, rs2, target } => {
-                let taken = !(self.read(rs1) < self.read(rs2));
-                Flow::Branch { taken, target }
-            }
+            Row::Set { rd, value } => self.gives(rd, value),
+            _ => self.carry_out_transfer(row, place),
+        }
+    }
+
+    // Loads and stores.
+    #[inline(always)]
+    fn carry_out_transfer(&mut self, row: Row, place: u32) -> Flow
+        requires { place < 16777216 }
+        ensures { Flows (does row (standing place self.old)) place result self.old self.new }
+    {
+        match row {
             Row::Lb { rd, rs1, offset } => {
                 let found = signed_byte_at(self.arena(), self.reached(rs1, offset));
                 self.loads(rd, found)
@@ -216,7 +215,41 @@ impl Contents {
                     Flow::Leave
                 }
             }
-            Row::Set { rd, value } => self.gives(rd, value),
+            _ => self.carry_out_jump(row, place),
+        }
+    }
+
+    // Branches, jumps, and nothing at all.
+    #[inline(always)]
+    fn carry_out_jump(&mut self, row: Row, place: u32) -> Flow
+        requires { place < 16777216 }
+        ensures { Flows (does row (standing place self.old)) place result self.old self.new }
+    {
+        match row {
+            Row::Beq { rs1, rs2, target } => {
+                let taken = self.read(rs1) == self.read(rs2);
+                Flow::Branch { taken, target }
+            }
+            Row::Bne { rs1, rs2, target } => {
+                let taken = self.read(rs1) != self.read(rs2);
+                Flow::Branch { taken, target }
+            }
+            Row::Blt { rs1, rs2, target } => {
+                let taken = is_less_signed(self.read(rs1), self.read(rs2));
+                Flow::Branch { taken, target }
+            }
+            Row::Bge { rs1, rs2, target } => {
+                let taken = !is_less_signed(self.read(rs1), self.read(rs2));
+                Flow::Branch { taken, target }
+            }
+            Row::Bltu { rs1, rs2, target } => {
+                let taken = self.read(rs1) < self.read(rs2);
+                Flow::Branch { taken, target }
+            }
+            Row::Bgeu { rs1, rs2, target } => {
+                let taken = !(self.read(rs1) < self.read(rs2));
+                Flow::Branch { taken, target }
+            }
             Row::Jump { target } => Flow::Branch {
                 taken: true,
                 target,
@@ -235,7 +268,7 @@ impl Contents {
                 }
             }
             Row::Nothing => Flow::On,
-            Row::Leave => Flow::Leave,
+            _ => Flow::Leave,
         }
     }
 

@@ -2,7 +2,7 @@
 
 ghost use Rattle.std.specs.Prelude.{◌≡◌, ◌+◌, ◌*◌, ◌/◌, ◌%◌, ◌<◌, ◌≤◌, ◌^◌};
 ghost use Rattle.rv_encode.specs.declared.instruction.Instr.TheVariants.{Jal};
-ghost use Rattle.rv_machine.specs.Rows.{read_row as read_row_of, row_of as row_of_instruction, jumped};
+ghost use Rattle.rv_machine.specs.Rows.{read_row as read_row_of, row_of as row_of_instruction, immediate_row as immediate_row_of, transfer_row as transfer_row_of, jump_row as jump_row_of, jumped, to_word as to_word_of, unless_zero as unless_zero_of};
 
 use super::arithmetic::{extended, extended12};
 use super::registers::{SourceRegister, TargetRegister};
@@ -20,167 +20,403 @@ pub(crate) fn read_row(instruction: Option<Instr>, place: u32) -> Row
     }
 }
 
-// One row an instruction.
+// The row of an instruction: first the operations on registers.
 fn row_of(instruction: Instr, place: u32) -> Row
     requires { place < 16777216 }
     ensures { result ≡ row_of_instruction instruction place }
 {
     match instruction {
+        Instr::Add { rd, rs1, rs2 } => {
+            unless_zero(
+                rd,
+                Row::Nothing,
+                Row::Add {
+                    rd: TargetRegister::of(rd),
+                    rs1: SourceRegister::of(rs1),
+                    rs2: SourceRegister::of(rs2),
+                },
+            )
+        }
+        Instr::Sub { rd, rs1, rs2 } => {
+            unless_zero(
+                rd,
+                Row::Nothing,
+                Row::Sub {
+                    rd: TargetRegister::of(rd),
+                    rs1: SourceRegister::of(rs1),
+                    rs2: SourceRegister::of(rs2),
+                },
+            )
+        }
+        Instr::Sll { rd, rs1, rs2 } => {
+            unless_zero(
+                rd,
+                Row::Nothing,
+                Row::Sll {
+                    rd: TargetRegister::of(rd),
+                    rs1: SourceRegister::of(rs1),
+                    rs2: SourceRegister::of(rs2),
+                },
+            )
+        }
+        Instr::Slt { rd, rs1, rs2 } => {
+            unless_zero(
+                rd,
+                Row::Nothing,
+                Row::Slt {
+                    rd: TargetRegister::of(rd),
+                    rs1: SourceRegister::of(rs1),
+                    rs2: SourceRegister::of(rs2),
+                },
+            )
+        }
+        Instr::Sltu { rd, rs1, rs2 } => {
+            unless_zero(
+                rd,
+                Row::Nothing,
+                Row::Sltu {
+                    rd: TargetRegister::of(rd),
+                    rs1: SourceRegister::of(rs1),
+                    rs2: SourceRegister::of(rs2),
+                },
+            )
+        }
+        Instr::Xor { rd, rs1, rs2 } => {
+            unless_zero(
+                rd,
+                Row::Nothing,
+                Row::Xor {
+                    rd: TargetRegister::of(rd),
+                    rs1: SourceRegister::of(rs1),
+                    rs2: SourceRegister::of(rs2),
+                },
+            )
+        }
+        Instr::Srl { rd, rs1, rs2 } => {
+            unless_zero(
+                rd,
+                Row::Nothing,
+                Row::Srl {
+                    rd: TargetRegister::of(rd),
+                    rs1: SourceRegister::of(rs1),
+                    rs2: SourceRegister::of(rs2),
+                },
+            )
+        }
+        Instr::Sra { rd, rs1, rs2 } => {
+            unless_zero(
+                rd,
+                Row::Nothing,
+                Row::Sra {
+                    rd: TargetRegister::of(rd),
+                    rs1: SourceRegister::of(rs1),
+                    rs2: SourceRegister::of(rs2),
+                },
+            )
+        }
+        Instr::Or { rd, rs1, rs2 } => {
+            unless_zero(
+                rd,
+                Row::Nothing,
+                Row::Or {
+                    rd: TargetRegister::of(rd),
+                    rs1: SourceRegister::of(rs1),
+                    rs2: SourceRegister::of(rs2),
+                },
+            )
+        }
+        Instr::And { rd, rs1, rs2 } => {
+            unless_zero(
+                rd,
+                Row::Nothing,
+                Row::And {
+                    rd: TargetRegister::of(rd),
+                    rs1: SourceRegister::of(rs1),
+                    rs2: SourceRegister::of(rs2),
+                },
+            )
+        }
+        Instr::Mul { rd, rs1, rs2 } => {
+            unless_zero(
+                rd,
+                Row::Nothing,
+                Row::Mul {
+                    rd: TargetRegister::of(rd),
+                    rs1: SourceRegister::of(rs1),
+                    rs2: SourceRegister::of(rs2),
+                },
+            )
+        }
+        Instr::Mulh { rd, rs1, rs2 } => {
+            unless_zero(
+                rd,
+                Row::Nothing,
+                Row::Mulh {
+                    rd: TargetRegister::of(rd),
+                    rs1: SourceRegister::of(rs1),
+                    rs2: SourceRegister::of(rs2),
+                },
+            )
+        }
+        Instr::Mulhsu { rd, rs1, rs2 } => {
+            unless_zero(
+                rd,
+                Row::Nothing,
+                Row::Mulhsu {
+                    rd: TargetRegister::of(rd),
+                    rs1: SourceRegister::of(rs1),
+                    rs2: SourceRegister::of(rs2),
+                },
+            )
+        }
+        Instr::Mulhu { rd, rs1, rs2 } => {
+            unless_zero(
+                rd,
+                Row::Nothing,
+                Row::Mulhu {
+                    rd: TargetRegister::of(rd),
+                    rs1: SourceRegister::of(rs1),
+                    rs2: SourceRegister::of(rs2),
+                },
+            )
+        }
+        Instr::Div { rd, rs1, rs2 } => {
+            unless_zero(
+                rd,
+                Row::Nothing,
+                Row::Div {
+                    rd: TargetRegister::of(rd),
+                    rs1: SourceRegister::of(rs1),
+                    rs2: SourceRegister::of(rs2),
+                },
+            )
+        }
+        Instr::Divu { rd, rs1, rs2 } => {
+            unless_zero(
+                rd,
+                Row::Nothing,
+                Row::Divu {
+                    rd: TargetRegister::of(rd),
+                    rs1: SourceRegister::of(rs1),
+                    rs2: SourceRegister::of(rs2),
+                },
+            )
+        }
+        Instr::Rem { rd, rs1, rs2 } => {
+            unless_zero(
+                rd,
+                Row::Nothing,
+                Row::Rem {
+                    rd: TargetRegister::of(rd),
+                    rs1: SourceRegister::of(rs1),
+                    rs2: SourceRegister::of(rs2),
+                },
+            )
+        }
+        Instr::Remu { rd, rs1, rs2 } => {
+            unless_zero(
+                rd,
+                Row::Nothing,
+                Row::Remu {
+                    rd: TargetRegister::of(rd),
+                    rs1: SourceRegister::of(rs1),
+                    rs2: SourceRegister::of(rs2),
+                },
+            )
+        }
+        _ => immediate_row(instruction, place),
+    }
+}
+
+// Operations with an immediate.
+fn immediate_row(instruction: Instr, place: u32) -> Row
+    requires { place < 16777216 }
+    ensures { result ≡ immediate_row_of instruction place }
+{
+    match instruction {
         Instr::Lui { rd, immediate } => {
-            if rd.value() == 0 {
-                Row::Nothing
-            } else {
+            unless_zero(
+                rd,
+                Row::Nothing,
                 Row::Set {
                     rd: TargetRegister::of(rd),
                     value: immediate.value() * 4096,
-                }
-            }
+                },
+            )
         }
         Instr::Auipc { rd, immediate } => {
-            if rd.value() == 0 {
-                Row::Nothing
-            } else {
+            unless_zero(
+                rd,
+                Row::Nothing,
                 Row::Set {
                     rd: TargetRegister::of(rd),
                     value: (4 * place).wrapping_add(immediate.value() * 4096),
-                }
-            }
+                },
+            )
         }
-        Instr::Jal { rd, offset } => jump(rd, offset, place),
-        Instr::Jalr { rd, rs1, offset } => {
-            if rd.value() == 0 {
-                Row::JumpTo {
-                    rs1: SourceRegister::of(rs1),
-                    offset: extended12(offset),
-                }
-            } else {
-                Row::JumpToAndLink {
+        Instr::Addi { rd, rs1, immediate } => {
+            unless_zero(
+                rd,
+                Row::Nothing,
+                Row::Addi {
                     rd: TargetRegister::of(rd),
                     rs1: SourceRegister::of(rs1),
-                    offset: extended12(offset),
-                }
-            }
+                    value: extended12(immediate),
+                },
+            )
         }
-        Instr::Beq { rs1, rs2, offset } => {
-            if offset.value() % 4 == 0 {
-                Row::Beq {
+        Instr::Slti { rd, rs1, immediate } => {
+            unless_zero(
+                rd,
+                Row::Nothing,
+                Row::Slti {
+                    rd: TargetRegister::of(rd),
                     rs1: SourceRegister::of(rs1),
-                    rs2: SourceRegister::of(rs2),
-                    target: branch_target(place, offset),
-                }
-            } else {
-                Row::Leave
-            }
+                    value: extended12(immediate),
+                },
+            )
         }
-        Instr::Bne { rs1, rs2, offset } => {
-            if offset.value() % 4 == 0 {
-                Row::Bne {
+        Instr::Sltiu { rd, rs1, immediate } => {
+            unless_zero(
+                rd,
+                Row::Nothing,
+                Row::Sltiu {
+                    rd: TargetRegister::of(rd),
                     rs1: SourceRegister::of(rs1),
-                    rs2: SourceRegister::of(rs2),
-                    target: branch_target(place, offset),
-                }
-            } else {
-                Row::Leave
-            }
+                    value: extended12(immediate),
+                },
+            )
         }
-        Instr::Blt { rs1, rs2, offset } => {
-            if offset.value() % 4 == 0 {
-                Row::Blt {
+        Instr::Xori { rd, rs1, immediate } => {
+            unless_zero(
+                rd,
+                Row::Nothing,
+                Row::Xori {
+                    rd: TargetRegister::of(rd),
                     rs1: SourceRegister::of(rs1),
-                    rs2: SourceRegister::of(rs2),
-                    target: branch_target(place, offset),
-                }
-            } else {
-                Row::Leave
-            }
+                    value: extended12(immediate),
+                },
+            )
         }
-        Instr::Bge { rs1, rs2, offset } => {
-            if offset.value() % 4 == 0 {
-                Row::Bge {
+        Instr::Ori { rd, rs1, immediate } => {
+            unless_zero(
+                rd,
+                Row::Nothing,
+                Row::Ori {
+                    rd: TargetRegister::of(rd),
                     rs1: SourceRegister::of(rs1),
-                    rs2: SourceRegister::of(rs2),
-                    target: branch_target(place, offset),
-                }
-            } else {
-                Row::Leave
-            }
+                    value: extended12(immediate),
+                },
+            )
         }
-        Instr::Bltu { rs1, rs2, offset } => {
-            if offset.value() % 4 == 0 {
-                Row::Bltu {
+        Instr::Andi { rd, rs1, immediate } => {
+            unless_zero(
+                rd,
+                Row::Nothing,
+                Row::Andi {
+                    rd: TargetRegister::of(rd),
                     rs1: SourceRegister::of(rs1),
-                    rs2: SourceRegister::of(rs2),
-                    target: branch_target(place, offset),
-                }
-            } else {
-                Row::Leave
-            }
+                    value: extended12(immediate),
+                },
+            )
         }
-        Instr::Bgeu { rs1, rs2, offset } => {
-            if offset.value() % 4 == 0 {
-                Row::Bgeu {
+        Instr::Slli { rd, rs1, shift } => {
+            unless_zero(
+                rd,
+                Row::Nothing,
+                Row::Slli {
+                    rd: TargetRegister::of(rd),
                     rs1: SourceRegister::of(rs1),
-                    rs2: SourceRegister::of(rs2),
-                    target: branch_target(place, offset),
-                }
-            } else {
-                Row::Leave
-            }
+                    value: shift.value(),
+                },
+            )
         }
+        Instr::Srli { rd, rs1, shift } => {
+            unless_zero(
+                rd,
+                Row::Nothing,
+                Row::Srli {
+                    rd: TargetRegister::of(rd),
+                    rs1: SourceRegister::of(rs1),
+                    value: shift.value(),
+                },
+            )
+        }
+        Instr::Srai { rd, rs1, shift } => {
+            unless_zero(
+                rd,
+                Row::Nothing,
+                Row::Srai {
+                    rd: TargetRegister::of(rd),
+                    rs1: SourceRegister::of(rs1),
+                    value: shift.value(),
+                },
+            )
+        }
+        _ => transfer_row(instruction, place),
+    }
+}
+
+// Loads and stores.
+fn transfer_row(instruction: Instr, place: u32) -> Row
+    requires { place < 16777216 }
+    ensures { result ≡ transfer_row_of instruction place }
+{
+    match instruction {
         Instr::Lb { rd, rs1, offset } => {
-            if rd.value() == 0 {
-                Row::Leave
-            } else {
+            unless_zero(
+                rd,
+                Row::Leave,
                 Row::Lb {
                     rd: TargetRegister::of(rd),
                     rs1: SourceRegister::of(rs1),
                     offset: extended12(offset),
-                }
-            }
+                },
+            )
         }
         Instr::Lh { rd, rs1, offset } => {
-            if rd.value() == 0 {
-                Row::Leave
-            } else {
+            unless_zero(
+                rd,
+                Row::Leave,
                 Row::Lh {
                     rd: TargetRegister::of(rd),
                     rs1: SourceRegister::of(rs1),
                     offset: extended12(offset),
-                }
-            }
+                },
+            )
         }
         Instr::Lw { rd, rs1, offset } => {
-            if rd.value() == 0 {
-                Row::Leave
-            } else {
+            unless_zero(
+                rd,
+                Row::Leave,
                 Row::Lw {
                     rd: TargetRegister::of(rd),
                     rs1: SourceRegister::of(rs1),
                     offset: extended12(offset),
-                }
-            }
+                },
+            )
         }
         Instr::Lbu { rd, rs1, offset } => {
-            if rd.value() == 0 {
-                Row::Leave
-            } else {
+            unless_zero(
+                rd,
+                Row::Leave,
                 Row::Lbu {
                     rd: TargetRegister::of(rd),
                     rs1: SourceRegister::of(rs1),
                     offset: extended12(offset),
-                }
-            }
+                },
+            )
         }
         Instr::Lhu { rd, rs1, offset } => {
-            if rd.value() == 0 {
-                Row::Leave
-            } else {
+            unless_zero(
+                rd,
+                Row::Leave,
                 Row::Lhu {
                     rd: TargetRegister::of(rd),
                     rs1: SourceRegister::of(rs1),
                     offset: extended12(offset),
-                }
-            }
+                },
+            )
         }
         Instr::Sb { rs2, rs1, offset } => Row::Sb {
             rs1: SourceRegister::of(rs1),
@@ -197,325 +433,123 @@ fn row_of(instruction: Instr, place: u32) -> Row
             rs2: SourceRegister::of(rs2),
             offset: extended12(offset),
         },
-        Instr::Addi { rd, rs1, immediate } => {
-            if rd.value() == 0 {
-                Row::Nothing
-            } else {
-                Row::Addi {
+        _ => jump_row(instruction, place),
+    }
+}
+
+// Branches, jumps, and nothing at all.
+fn jump_row(instruction: Instr, place: u32) -> Row
+    requires { place < 16777216 }
+    ensures { result ≡ jump_row_of instruction place }
+{
+    match instruction {
+        Instr::Jal { rd, offset } => jump(rd, offset, place),
+        Instr::Jalr { rd, rs1, offset } => {
+            unless_zero(
+                rd,
+                Row::JumpTo {
+                    rs1: SourceRegister::of(rs1),
+                    offset: extended12(offset),
+                },
+                Row::JumpToAndLink {
                     rd: TargetRegister::of(rd),
                     rs1: SourceRegister::of(rs1),
-                    value: extended12(immediate),
-                }
-            }
+                    offset: extended12(offset),
+                },
+            )
         }
-        Instr::Slti { rd, rs1, immediate } => {
-            if rd.value() == 0 {
-                Row::Nothing
-            } else {
-                Row::Slti {
-                    rd: TargetRegister::of(rd),
-                    rs1: SourceRegister::of(rs1),
-                    value: extended12(immediate),
-                }
-            }
-        }
-        Instr::Sltiu { rd, rs1, immediate } => {
-            if rd.value() == 0 {
-                Row::Nothing
-            } else {
-                Row::Sltiu {
-                    rd: TargetRegister::of(rd),
-                    rs1: SourceRegister::of(rs1),
-                    value: extended12(immediate),
-                }
-            }
-        }
-        Instr::Xori { rd, rs1, immediate } => {
-            if rd.value() == 0 {
-                Row::Nothing
-            } else {
-                Row::Xori {
-                    rd: TargetRegister::of(rd),
-                    rs1: SourceRegister::of(rs1),
-                    value: extended12(immediate),
-                }
-            }
-        }
-        Instr::Ori { rd, rs1, immediate } => {
-            if rd.value() == 0 {
-                Row::Nothing
-            } else {
-                Row::Ori {
-                    rd: TargetRegister::of(rd),
-                    rs1: SourceRegister::of(rs1),
-                    value: extended12(immediate),
-                }
-            }
-        }
-        Instr::Andi { rd, rs1, immediate } => {
-            if rd.value() == 0 {
-                Row::Nothing
-            } else {
-                Row::Andi {
-                    rd: TargetRegister::of(rd),
-                    rs1: SourceRegister::of(rs1),
-                    value: extended12(immediate),
-                }
-            }
-        }
-        Instr::Slli { rd, rs1, shift } => {
-            if rd.value() == 0 {
-                Row::Nothing
-            } else {
-                Row::Slli {
-                    rd: TargetRegister::of(rd),
-                    rs1: SourceRegister::of(rs1),
-                    value: shift.value(),
-                }
-            }
-        }
-        Instr::Srli { rd, rs1, shift } => {
-            if rd.value() == 0 {
-                Row::Nothing
-            } else {
-                Row::Srli {
-                    rd: TargetRegister::of(rd),
-                    rs1: SourceRegister::of(rs1),
-                    value: shift.value(),
-                }
-            }
-        }
-        Instr::Srai { rd, rs1, shift } => {
-            if rd.value() == 0 {
-                Row::Nothing
-            } else {
-                Row::Srai {
-                    rd: TargetRegister::of(rd),
-                    rs1: SourceRegister::of(rs1),
-                    value: shift.value(),
-                }
-            }
-        }
-        Instr::Add { rd, rs1, rs2 } => {
-            if rd.value() == 0 {
-                Row::Nothing
-            } else {
-                Row::Add {
-                    rd: TargetRegister::of(rd),
+        Instr::Beq { rs1, rs2, offset } => {
+            to_word(
+                offset.value(),
+                Row::Beq {
                     rs1: SourceRegister::of(rs1),
                     rs2: SourceRegister::of(rs2),
-                }
-            }
+                    target: branch_target(place, offset),
+                },
+            )
         }
-        Instr::Sub { rd, rs1, rs2 } => {
-            if rd.value() == 0 {
-                Row::Nothing
-            } else {
-                Row::Sub {
-                    rd: TargetRegister::of(rd),
+        Instr::Bne { rs1, rs2, offset } => {
+            to_word(
+                offset.value(),
+                Row::Bne {
                     rs1: SourceRegister::of(rs1),
                     rs2: SourceRegister::of(rs2),
-                }
-            }
+                    target: branch_target(place, offset),
+                },
+            )
         }
-        Instr::Sll { rd, rs1, rs2 } => {
-            if rd.value() == 0 {
-                Row::Nothing
-            } else {
-                Row::Sll {
-                    rd: TargetRegister::of(rd),
+        Instr::Blt { rs1, rs2, offset } => {
+            to_word(
+                offset.value(),
+                Row::Blt {
                     rs1: SourceRegister::of(rs1),
                     rs2: SourceRegister::of(rs2),
-                }
-            }
+                    target: branch_target(place, offset),
+                },
+            )
         }
-        Instr::Slt { rd, rs1, rs2 } => {
-            if rd.value() == 0 {
-                Row::Nothing
-            } else {
-                Row::Slt {
-                    rd: TargetRegister::of(rd),
+        Instr::Bge { rs1, rs2, offset } => {
+            to_word(
+                offset.value(),
+                Row::Bge {
                     rs1: SourceRegister::of(rs1),
                     rs2: SourceRegister::of(rs2),
-                }
-            }
+                    target: branch_target(place, offset),
+                },
+            )
         }
-        Instr::Sltu { rd, rs1, rs2 } => {
-            if rd.value() == 0 {
-                Row::Nothing
-            } else {
-                Row::Sltu {
-                    rd: TargetRegister::of(rd),
+        Instr::Bltu { rs1, rs2, offset } => {
+            to_word(
+                offset.value(),
+                Row::Bltu {
                     rs1: SourceRegister::of(rs1),
                     rs2: SourceRegister::of(rs2),
-                }
-            }
+                    target: branch_target(place, offset),
+                },
+            )
         }
-        Instr::Xor { rd, rs1, rs2 } => {
-            if rd.value() == 0 {
-                Row::Nothing
-            } else {
-                Row::Xor {
-                    rd: TargetRegister::of(rd),
+        Instr::Bgeu { rs1, rs2, offset } => {
+            to_word(
+                offset.value(),
+                Row::Bgeu {
                     rs1: SourceRegister::of(rs1),
                     rs2: SourceRegister::of(rs2),
-                }
-            }
-        }
-        Instr::Srl { rd, rs1, rs2 } => {
-            if rd.value() == 0 {
-                Row::Nothing
-            } else {
-                Row::Srl {
-                    rd: TargetRegister::of(rd),
-                    rs1: SourceRegister::of(rs1),
-                    rs2: SourceRegister::of(rs2),
-                }
-            }
-        }
-        Instr::Sra { rd, rs1, rs2 } => {
-            if rd.value() == 0 {
-                Row::Nothing
-            } else {
-                Row::Sra {
-                    rd: TargetRegister::of(rd),
-                    rs1: SourceRegister::of(rs1),
-                    rs2: SourceRegister::of(rs2),
-                }
-            }
-        }
-        Instr::Or { rd, rs1, rs2 } => {
-            if rd.value() == 0 {
-                Row::Nothing
-            } else {
-                Row::Or {
-                    rd: TargetRegister::of(rd),
-                    rs1: SourceRegister::of(rs1),
-                    rs2: SourceRegister::of(rs2),
-                }
-            }
-        }
-        Instr::And { rd, rs1, rs2 } => {
-            if rd.value() == 0 {
-                Row::Nothing
-            } else {
-                Row::And {
-                    rd: TargetRegister::of(rd),
-                    rs1: SourceRegister::of(rs1),
-                    rs2: SourceRegister::of(rs2),
-                }
-            }
-        }
-        Instr::Mul { rd, rs1, rs2 } => {
-            if rd.value() == 0 {
-                Row::Nothing
-            } else {
-                Row::Mul {
-                    rd: TargetRegister::of(rd),
-                    rs1: SourceRegister::of(rs1),
-                    rs2: SourceRegister::of(rs2),
-                }
-            }
-        }
-        Instr::Mulh { rd, rs1, rs2 } => {
-            if rd.value() == 0 {
-                Row::Nothing
-            } else {
-                Row::Mulh {
-                    rd: TargetRegister::of(rd),
-                    rs1: SourceRegister::of(rs1),
-                    rs2: SourceRegister::of(rs2),
-                }
-            }
-        }
-        Instr::Mulhsu { rd, rs1, rs2 } => {
-            if rd.value() == 0 {
-                Row::Nothing
-            } else {
-                Row::Mulhsu {
-                    rd: TargetRegister::of(rd),
-                    rs1: SourceRegister::of(rs1),
-                    rs2: SourceRegister::of(rs2),
-                }
-            }
-        }
-        Instr::Mulhu { rd, rs1, rs2 } => {
-            if rd.value() == 0 {
-                Row::Nothing
-            } else {
-                Row::Mulhu {
-                    rd: TargetRegister::of(rd),
-                    rs1: SourceRegister::of(rs1),
-                    rs2: SourceRegister::of(rs2),
-                }
-            }
-        }
-        Instr::Div { rd, rs1, rs2 } => {
-            if rd.value() == 0 {
-                Row::Nothing
-            } else {
-                Row::Div {
-                    rd: TargetRegister::of(rd),
-                    rs1: SourceRegister::of(rs1),
-                    rs2: SourceRegister::of(rs2),
-                }
-            }
-        }
-        Instr::Divu { rd, rs1, rs2 } => {
-            if rd.value() == 0 {
-                Row::Nothing
-            } else {
-                Row::Divu {
-                    rd: TargetRegister::of(rd),
-                    rs1: SourceRegister::of(rs1),
-                    rs2: SourceRegister::of(rs2),
-                }
-            }
-        }
-        Instr::Rem { rd, rs1, rs2 } => {
-            if rd.value() == 0 {
-                Row::Nothing
-            } else {
-                Row::Rem {
-                    rd: TargetRegister::of(rd),
-                    rs1: SourceRegister::of(rs1),
-                    rs2: SourceRegister::of(rs2),
-                }
-            }
-        }
-        Instr::Remu { rd, rs1, rs2 } => {
-            if rd.value() == 0 {
-                Row::Nothing
-            } else {
-                Row::Remu {
-                    rd: TargetRegister::of(rd),
-                    rs1: SourceRegister::of(rs1),
-                    rs2: SourceRegister::of(rs2),
-                }
-            }
+                    target: branch_target(place, offset),
+                },
+            )
         }
         Instr::Fence { .. } => Row::Nothing,
-        Instr::Ecall => Row::Leave,
-        Instr::Ebreak => Row::Leave,
+        _ => Row::Leave,
     }
 }
 
 // JAL: the jump alone where the address to come back to is lost.
 fn jump(rd: Register, offset: Offset21, place: u32) -> Row
-    ensures { result ≡ row_of_instruction (Jal rd offset) place }
+    ensures { result ≡ jump_row_of (Jal rd offset) place }
 {
-    if offset.value() % 4 != 0 {
-        return Row::Leave;
-    }
     let target = jump_target(place, offset);
-    if rd.value() == 0 {
-        Row::Jump { target }
-    } else {
-        Row::JumpAndLink {
-            rd: TargetRegister::of(rd),
-            target,
-        }
-    }
+    let linked = Row::JumpAndLink {
+        rd: TargetRegister::of(rd),
+        target,
+    };
+    to_word(
+        offset.value(),
+        unless_zero(rd, Row::Jump { target }, linked),
+    )
+}
+
+// The first row where that is register 0, whose writes are lost, else the second.
+fn unless_zero(rd: Register, zero: Row, row: Row) -> Row
+    ensures { result ≡ unless_zero_of rd zero row }
+{
+    if rd.value() == 0 { zero } else { row }
+}
+
+// A jump, unless its offset leads to no word.
+fn to_word(offset: u32, row: Row) -> Row
+    ensures { result ≡ to_word_of offset row }
+{
+    if offset % 4 == 0 { row } else { Row::Leave }
 }
 
 // The place that a branch leads to.

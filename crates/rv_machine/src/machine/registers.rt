@@ -1,6 +1,7 @@
 // The registers that a row names, as bytes.
 
 ghost use Rattle.std.specs.Prelude.{◌≡◌, ◌<◌, ◌≤◌};
+ghost use Rattle.rv_machine.specs.Rows.{destination};
 
 use rv_encode::Register;
 use std::marker::Model;
@@ -59,12 +60,13 @@ impl Model for TargetRegister {
 }
 
 impl TargetRegister {
+    // The register that an instruction writes. Of register 0, which no row writes, it is register 1.
     pub fn of(register: Register) -> Self
-        requires { 1 ≤ register }
-        ensures { result ≡ register }
+        ensures { result ≡ destination register }
     {
+        let number = register.value() as u8;
         TargetRegister {
-            number: register.value() as u8,
+            number: if number == 0 { 1 } else { number },
         }
     }
 

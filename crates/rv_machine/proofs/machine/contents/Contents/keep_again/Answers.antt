@@ -1,4 +1,4 @@
-use Rattle.std.proofs.Common.{sym, ◌∙◌, arith}
+use Rattle.std.proofs.Common.{◌∙◌, arith}
 use Rattle.std.proofs.lemmas.Grind.{get_or_default_zero}
 use Rattle.rv_machine.proofs.Rows.{kept-set, same_words, row_means}
 use Rattle.rv_machine.proofs.machine.contents.Contents.keep_again.Goals as goal

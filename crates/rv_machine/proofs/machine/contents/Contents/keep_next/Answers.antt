@@ -1,6 +1,5 @@
-use Rattle.std.proofs.Common.{sym, ap, subst, ◌∙◌, arith, get_or}
+use Rattle.std.proofs.Common.{◌∙◌, arith}
 use Rattle.std.proofs.lemmas.Grind.{get_or_default_zero}
-use Rattle.rv_machine.specs.Rows.{Means}
 use Rattle.rv_machine.proofs.Rows.{kept-pushed, row_means}
 use Rattle.rv_machine.proofs.machine.contents.Contents.keep_next.Goals as goal
 

@@ -1,4 +1,4 @@
-use Rattle.std.proofs.Common.{◌+◌, ◌-◌, true, false, arith}
+use Rattle.std.proofs.Common.{true, false, arith}
 use Rattle.rv_machine.specs.Held.{standing}
 use Rattle.rv_machine.proofs.Flows.{goes_so}
 use Rattle.rv_machine.proofs.Turns.{walks-none, walks-on, walks-as}

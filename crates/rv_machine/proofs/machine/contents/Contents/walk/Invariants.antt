@@ -1,5 +1,5 @@
 -- So many rows were followed, and the machine stands at the place of the next one.
-use Rattle.std.proofs.Common.{◌≡◌, ℕ, ◌+◌, ◌-◌, ◌<◌, ◌≤◌}
+use Rattle.std.proofs.Common.{◌+◌, ◌-◌, ◌≤◌}
 use Rattle.rv_machine.specs.Held.{standing}
 use Rattle.rv_machine.specs.Turn.{Walks}
 use Rattle.rv_machine.proofs.machine.contents.Contents.walk.Given as goal

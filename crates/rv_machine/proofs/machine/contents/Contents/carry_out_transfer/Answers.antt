@@ -1,6 +1,6 @@
 use Rattle.std.proofs.Common.{refl, sym}
-use Rattle.rv_machine.proofs.Flows.{flows_as, lands, stored_row}
-use Rattle.rv_machine.proofs.machine.contents.Contents.carry_out.Goals as goal
+use Rattle.rv_machine.proofs.Flows.{flows_as, stored_row}
+use Rattle.rv_machine.proofs.machine.contents.Contents.carry_out_transfer.Goals as goal
 
 pub returns-in-Lb : goal.returns-in-Lb
 returns-in-Lb c =
@@ -26,16 +26,6 @@ pub returns-in-Lhu : goal.returns-in-Lhu
 returns-in-Lhu c =
     flows_as _ _ _ _ _ _ (rw (c.in-Lhu.is, c.half_at-found.ensures.exact, c.reached-in-Lhu.ensures c.args.place, c.arena-in-Lhu.ensures.exact) refl)
     (c.loads-in-Lhu.ensures c.args.place)
-
-pub returns-in-JumpTo : goal.returns-in-JumpTo
-returns-in-JumpTo c =
-    flows_as _ _ _ _ _ _ (rw (c.in-JumpTo.is, c.reached-address-in-JumpTo.ensures c.args.place) refl) (c.jump.ensures c.args.place)
-
-pub returns-then-address-lt2 : goal.returns-then-address-lt2
-returns-then-address-lt2 c =
-    let landing = lands c.reached-address-in-JumpToAndLink.result c.reached-address-in-JumpToAndLink.type_inv c.if-address-lt2.true in
-    flows_as _ _ _ _ _ _ (rw (c.in-JumpToAndLink.is, landing, c.reached-address-in-JumpToAndLink.ensures c.args.place) refl)
-    c.links-then-address-lt2.ensures
 
 pub returns-then-store_byte : goal.returns-then-store_byte
 returns-then-store_byte c =
