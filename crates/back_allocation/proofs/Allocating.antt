@@ -19,7 +19,7 @@ use Rattle.back_allocation.specs.LineSteps.{line_gives}
 use Rattle.back_allocation.specs.Allocated.{Choice, is_chosen, place_given, target_at, IsAllocated, LawOfAllocated}
 use Rattle.back_allocation.proofs.Facts.{told, at_line}
 use Rattle.back_allocation.proofs.GoodLines.{good_line}
-use Rattle.back_allocation.proofs.Parameters.{more_frame, nowhere_placed, own_somewhere, place, count_of, place_at, place_there, place_alive, each_place, parameters_placed, all_apart}
+use Rattle.back_allocation.proofs.Parameters.{more_frame, nowhere_placed, own_somewhere, place, count_of, place_at, place_there, place_entered, each_place, parameters_placed, all_apart}
 
 module _ (program : LineProgram) (l : Located) (c : Choice) (t : IsAllocated program l c) where
   abbrev Fact : (number line register : ℕ) → Place → Type 0
@@ -65,7 +65,7 @@ module _ (program : LineProgram) (l : Located) (c : Choice) (t : IsAllocated pro
   good_entry number p h =
       let is = t.parameters number p h in
       let spot = c.spot number in
-      let alive : ℕ → Bool = λ v. c.alive number v 0 in
+      let alive : ℕ → Bool = c.enters number in
       let s = t.stand number p h in
       record {
         as_many = ap length is ∙ count_of spot alive 0 p.parameters;
@@ -76,7 +76,7 @@ module _ (program : LineProgram) (l : Located) (c : Choice) (t : IsAllocated pro
         in_frame = λ i q e.
             let a = place_at spot alive 0 p.parameters i q (sym (ap (λ ps. slice_get ps i) is) ∙ e) in
             subst (IsPlace p.frame) (sym a.0) (each_place spot alive (IsPlace p.frame) (0 + i) (nowhere_placed p.frame) (λ k. in_frame number (0 + i) p h));
-        apart = subst (λ ps. EachApart l Fact ps) (sym is) (all_apart spot alive l Fact (λ u w. s.well.apart u w 0) 0 p.parameters);
+        apart = subst (λ ps. EachApart l Fact ps) (sym is) (all_apart spot alive l Fact s.apart 0 p.parameters);
         facts = λ v q f. put v q f (nat_le p.parameters v) refl;
         no_records = t.first number;
       }
@@ -88,11 +88,11 @@ module _ (program : LineProgram) (l : Located) (c : Choice) (t : IsAllocated pro
           let below : v < p.parameters = leb-false p.parameters v e in
           let s = told program c number 0 v q f in
           let z : 0 + v ≡ v = omega arith in
-          let a = place_there (c.spot number) (λ u. c.alive number u 0) 0 p.parameters v below in
-          let b = ap (place (c.spot number) (λ u. c.alive number u 0)) z ∙ place_alive (c.spot number) (λ u. c.alive number u 0) v s.alive in
+          let a = place_there (c.spot number) (c.enters number) 0 p.parameters v below in
+          let b = ap (place (c.spot number) (c.enters number)) z ∙ place_entered (c.spot number) (c.enters number) v ((t.stand number p h).entered v below s.alive) in
           inr (inr (
             ap (λ ps. slice_get ps v) (t.parameters number p h) ∙ (a ∙ ap Some (b ∙ sym s.place_is)),
-            subst IsSomewhere (sym s.place_is) (own_somewhere v (c.spot number v) ((t.stand number p h).passed v below s.alive)),
+            subst IsSomewhere (sym s.place_is) (own_somewhere v (c.spot number v) ((t.stand number p h).passed v below ((t.stand number p h).entered v below s.alive))),
           ))
 
   pub placed_well : IsPlacedWell program l Fact

@@ -1,5 +1,5 @@
 -- The scan over live intervals chooses places by which all registers of lines stand well.
-use Rattle.std.proofs.Common.{◌≡◌, ◌≢◌, ℕ, zero, suc, ◌+◌, ◌<◌, ◌≤◌, Bool, true, false, List, [], ◌∷◌, length, get_or, Option, None, Some, refl, sym, ap, subst, ◌∙◌, arith, inl, inr}
+use Rattle.std.proofs.Common.{◌≡◌, ◌≢◌, ℕ, zero, suc, ◌+◌, ◌<◌, ◌≤◌, Bool, true, false, List, [], ◌∷◌, length, get_or, Option, None, Some, refl, sym, ap, subst, ◌∙◌, arith, inl, inr, eqb-true, eq-eqb}
 use Rattle.std.specs.Prelude.{◌⊎◌, ◌==◌, slice_get, nat_lt, if◌then◌else◌}
 use borrow.Author.Tests.{ltb-true, ltb-false}
 use Rattle.mid_code.specs.declared.operation.Operation.TheVariants as operation
@@ -22,7 +22,7 @@ use Rattle.back_allocation.specs.LineSteps.{line_gives, step_of, steps_from}
 use Rattle.back_allocation.specs.Barriers.{may_cut, Crosses, barrier_at, AreBarriers}
 use Rattle.back_allocation.specs.Wishes.{IsOwnWish, wish_at, WishesHold}
 use Rattle.back_allocation.specs.Standing.{MayCut, IsOwnPlace}
-use Rattle.back_allocation.specs.Places.{place_of, place_in, ChosenWell}
+use Rattle.back_allocation.specs.Places.{place_of, place_in, is_entered, enters_in, ChosenWell}
 use Rattle.back_allocation.proofs.Facts.{step_there}
 
 -- the fourteen value registers are registers of values, and different ones
@@ -127,6 +127,14 @@ beyond_none [] v h = refl
 beyond_none (x ∷ xs) zero h = absurd (omega (arith, h))
 beyond_none (x ∷ xs) (suc v) h = beyond_none xs v (omega (arith, h))
 
+entered_within : (o : Option Interval) → is_entered o ≡ true → IsWithin o 0
+entered_within None h = absurd (cc h)
+entered_within (Some i) h = let e = eqb-true i.from 0 h in (omega (arith, e), omega arith)
+
+within_entered : (o : Option Interval) → IsWithin o 0 → is_entered o ≡ true
+within_entered None h = absurd h
+within_entered (Some i) h = eq-eqb i.from 0 (omega (arith, h.0))
+
 module _
     (lines : List Line) (parameters : ℕ) (landings : ℕ → List ℕ) (registers : ℕ) (found : List (Option Interval)) (barriers : List Barrier)
     (wishes : List Wish) (spots : List (Option Spot)) (slots : ℕ) (count : length found ≡ registers)
@@ -191,10 +199,16 @@ module _
             subst (λ o. Outlasts (place_of o)) (sym p.1) (slot_outlasts p.0 (wish_at wishes v) (s.allowed v p.0 p.1) (w.crossed v line low i k)))
       ]
 
-  passed : (v : ℕ) → parameters ≤ registers → v < parameters → covers.test v 0 ≡ true → IsOwnPlace v (place_in spots v)
+  entered : (v : ℕ) → parameters ≤ registers → v < parameters → covers.test v 0 ≡ true → enters_in found v ≡ true
+  entered v few low h = within_entered (interval_of found v) (covers.within v 0 (omega (arith, few, low, count)) h)
+
+  entered_apart : (v u : ℕ) → enters_in found v ≡ true → enters_in found u ≡ true → v ≢ u → Apart (place_in spots v) (place_in spots u)
+  entered_apart v u h k ne = two_apart v u 0 (entered_within (interval_of found v) h) (entered_within (interval_of found u) k) ne
+
+  passed : (v : ℕ) → parameters ≤ registers → v < parameters → enters_in found v ≡ true → IsOwnPlace v (place_in spots v)
   passed v few low h =
       let there : v < length found = omega (arith, few, low, count) in
-      let i = covers.within v 0 there h in
+      let i = entered_within (interval_of found v) h in
       let p = spot_at v 0 i in
       subst (λ o. IsOwnPlace v (place_of o)) (sym p.1) (own_place v p.0 (wish_at wishes v) (s.allowed v p.0 p.1) (w.passed v there low i))
 
@@ -203,7 +217,7 @@ module _
   placed v (Some (Held r)) e = value_place (slots + 1) r (allowed_low (wish_at wishes v) r (s.allowed v (Held r) e))
   placed v (Some (Slot k)) e = let below = s.within v k e in (omega arith, omega (arith, below))
 
-  pub chosen_well : parameters ≤ registers → ChosenWell lines parameters landings (place_in spots) slots
+  pub chosen_well : parameters ≤ registers → ChosenWell lines parameters landings (place_in spots) (enters_in found) slots
   chosen_well few = record {
     alive = covers.test;
     stand = record {
@@ -217,6 +231,8 @@ module _
         landed = λ line landing v x e may a h.
             outlasts v landing h (b.landed line landing v x (there_below lines line x e) e (cut_told x may) a);
       };
+      entered = λ v low h. entered v few low h;
+      apart = entered_apart;
       passed = λ v low h. passed v few low h;
       places = λ v. placed v (spot_of spots v) refl;
     };

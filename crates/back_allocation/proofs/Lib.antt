@@ -3,5 +3,7 @@ pub mod GoodLines
 pub mod Parameters
 pub mod Allocating
 pub mod Stepping
+pub mod ToldLandings
 pub mod Choosing
 pub mod TreePlaces
+pub mod PlacesOfSpots

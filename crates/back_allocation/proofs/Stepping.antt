@@ -10,7 +10,7 @@ there_is [] k h = absurd (omega (arith, h))
 there_is (x ∷ xs) zero h = (x, refl)
 there_is (x ∷ xs) (suc k) h = there_is xs k (omega (arith, h))
 
-drop_there : {X : Type 0} (xs : List X) (k : ℕ) (x : X) → slice_get xs k ≡ Some x → drop k xs ≡ x ∷ drop (suc k) xs
+pub drop_there : {X : Type 0} (xs : List X) (k : ℕ) (x : X) → slice_get xs k ≡ Some x → drop k xs ≡ x ∷ drop (suc k) xs
 drop_there [] k x h = absurd (cc h)
 drop_there (y ∷ xs) zero x h = let q : y ≡ x = cc h in ap (λ z. z ∷ xs) q
 drop_there (y ∷ xs) (suc k) x h = drop_there xs k x h

@@ -13,10 +13,12 @@ use Rattle.back_trivial.specs.OwnSlots.{no_target, is_there, IsPlacedWell}
 use Rattle.back_allocation.specs.LineSteps.{landings_of, line_gives}
 use Rattle.back_allocation.specs.Standing.{AllStand}
 
--- What is chosen for a program: the place of each register of a procedure, where registers may be alive, and how many slots it has.
+-- What is chosen for a program: the place of each register of a procedure, where registers may be alive, which of them the entry brings to their places, and
+-- how many slots it has.
 pub record Choice : Type 0 where
   pub spot : (number register : ℕ) → Place
   pub alive : (number register line : ℕ) → Bool
+  pub enters : (number register : ℕ) → Bool
   pub slots : (number : ℕ) → ℕ
 
 abbrev pub is_same_place : Place → Place → Bool
@@ -38,10 +40,10 @@ abbrev pub target_at : (spot : (register : ℕ) → Place) → Option Line → P
 target_at spot None = no_target
 target_at spot (Some x) = place_given spot (line_gives x)
 
--- so many parameters from one on; those that are not alive go nowhere
-abbrev pub parameter_places : (spot : (register : ℕ) → Place) → (is_alive : (register : ℕ) → Bool) → (from count : ℕ) → List Place
-parameter_places spot is_alive v zero = []
-parameter_places spot is_alive v (suc count) = (if is_alive v then spot v else no_target) ∷ parameter_places spot is_alive (v + 1) count
+-- so many parameters from one on; those that the entry does not bring to their places go nowhere
+abbrev pub parameter_places : (spot : (register : ℕ) → Place) → (enters : (register : ℕ) → Bool) → (from count : ℕ) → List Place
+parameter_places spot enters v zero = []
+parameter_places spot enters v (suc count) = (if enters v then spot v else no_target) ∷ parameter_places spot enters (v + 1) count
 
 -- Each register is read from its place, and given to it; the return address is always taken from the frame; the records that stand follow the
 -- lines; and the frame has a word for each slot and one for the return address, all within reach at each line.
@@ -50,7 +52,7 @@ pub record IsAllocated (program : LineProgram) (l : Located) (c : Choice) : Type
   pub targets : (number line : ℕ) → l.target number line ≡ target_at (c.spot number) (line_of program number line)
   pub parameters :
       (number : ℕ) (p : LineProcedure) → slice_get program.procedures number ≡ Some p
-      → l.parameters number ≡ parameter_places (c.spot number) (λ v. c.alive number v 0) 0 p.parameters
+      → l.parameters number ≡ parameter_places (c.spot number) (c.enters number) 0 p.parameters
   pub unlinked : (number line : ℕ) → l.linked number line ≡ false
   pub saves : (number : ℕ) → l.saves number ≡ is_there (slice_get program.procedures number)
   pub records : (number line : ℕ) (x : Line) → line_of program number line ≡ Some x → RecordsFollow l number line x
@@ -60,7 +62,7 @@ pub record IsAllocated (program : LineProgram) (l : Located) (c : Choice) : Type
   pub few : (number : ℕ) (p : LineProcedure) → slice_get program.procedures number ≡ Some p → p.parameters ≤ l.argument_words
   pub stand :
       (number : ℕ) (p : LineProcedure) → slice_get program.procedures number ≡ Some p
-      → AllStand p.lines p.parameters (λ line. landings_of (l.records number line)) (c.spot number) (c.alive number) (c.slots number)
+      → AllStand p.lines p.parameters (λ line. landings_of (l.records number line)) (c.spot number) (c.alive number) (c.enters number) (c.slots number)
   pub frames : (number : ℕ) (p : LineProcedure) → slice_get program.procedures number ≡ Some p → c.slots number < p.frame
   pub reach : (number line : ℕ) (p : LineProcedure) → slice_get program.procedures number ≡ Some p → c.slots number < reachable (way_at l number line) p.frame
 

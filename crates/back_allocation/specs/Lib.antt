@@ -1,7 +1,9 @@
 pub mod LineSteps
+pub mod StandingLandings
 pub mod Barriers
 pub mod Wishes
 pub mod Standing
 pub mod Places
 pub mod Allocated
+pub mod RegistersPlaced
 pub mod TreePlaces

@@ -41,10 +41,14 @@ IsOwnPlace i (InRegister r) = (i < 14) × (r ≡ argument_register i)
 IsOwnPlace i (InSlot k) = Unit {0}
 IsOwnPlace i (AsConstant w) = ⊥
 
--- So it is with the registers of a procedure that has so many parameters, and all places are value registers and the first slots.
+-- So it is with the registers of a procedure that has so many parameters, and all places are value registers and the first slots. The entry brings
+-- the words of some registers to their places, which are apart from each other, and among them are those of the parameters that are alive.
 pub record AllStand
-    (lines : List Line) (parameters : ℕ) (landings : ℕ → List ℕ) (spot : (register : ℕ) → Place) (alive : (register line : ℕ) → Bool) (slots : ℕ)
+    (lines : List Line) (parameters : ℕ) (landings : ℕ → List ℕ) (spot : (register : ℕ) → Place) (alive : (register line : ℕ) → Bool)
+    (enters : (register : ℕ) → Bool) (slots : ℕ)
     : Type 0 where
   pub well : StandsWell lines landings spot alive
-  pub passed : (v : ℕ) → v < parameters → alive v 0 ≡ true → IsOwnPlace v (spot v)
+  pub entered : (v : ℕ) → v < parameters → alive v 0 ≡ true → enters v ≡ true
+  pub apart : (v u : ℕ) → enters v ≡ true → enters u ≡ true → v ≢ u → Apart (spot v) (spot u)
+  pub passed : (v : ℕ) → v < parameters → enters v ≡ true → IsOwnPlace v (spot v)
   pub places : (v : ℕ) → IsPlace (slots + 1) (spot v)

@@ -18,7 +18,7 @@ use Rattle.back_allocation.specs.Allocated.{Choice, is_chosen, target_at, parame
 
 abbrev pub parameters_in : Choice → (number : ℕ) → Option LineProcedure → List Place
 parameters_in c number None = []
-parameters_in c number (Some p) = parameter_places (c.spot number) (λ v. c.alive number v 0) 0 p.parameters
+parameters_in c number (Some p) = parameter_places (c.spot number) (c.enters number) 0 p.parameters
 
 -- The decisions for the lines of a tree: registers are read from their places and given to them, the records are those of the tree, and each
 -- procedure keeps its return address in its frame, and takes it from there. Positions are as in other decisions.
@@ -37,7 +37,7 @@ with_places program c l = record l {
 pub record FitsTree (program : MidProgram) (c : Choice) : Type 0 where
   pub stand :
       (number : ℕ) (p : LineProcedure) → slice_get (program_lines program).procedures number ≡ Some p
-      → AllStand p.lines p.parameters (λ line. landings_of (tree_records program number line)) (c.spot number) (c.alive number) (c.slots number)
+      → AllStand p.lines p.parameters (λ line. landings_of (tree_records program number line)) (c.spot number) (c.alive number) (c.enters number) (c.slots number)
   pub finds :
       (number : ℕ) (p : MidProcedure) → slice_get program.procedures number ≡ Some p → procedure_finds (record p { registers = c.slots number }) ≡ true
 

@@ -1,6 +1,7 @@
 // The laws of allocations, as the contracts of functions that do nothing.
 
 ghost use Rattle.back_allocation.specs.Allocated.{LawOfAllocated};
+ghost use Rattle.back_allocation.specs.StandingLandings.{LawOfLandings};
 ghost use Rattle.back_allocation.specs.TreePlaces.{LawOfPlaces, LawOfGoodPlaces};
 
 /// Decisions by which each register has one place, apart from those of others that are alive at the same line, and outside of value
@@ -18,4 +19,9 @@ pub fn law_places()
 /// With good positions, such decisions are good.
 pub fn law_good_places()
     ensures { LawOfGoodPlaces }
+{}
+
+/// The landings that the lines of a tree tell are those of the records of the tree, at each line.
+pub fn law_landings()
+    ensures { LawOfLandings }
 {}

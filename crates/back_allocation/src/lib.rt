@@ -3,10 +3,13 @@
 
 pub mod allocation;
 pub mod barriers;
+pub mod landings;
 pub mod laws;
+pub mod placing;
 pub mod steps;
 pub mod wishes;
 
 pub use allocation::allocate;
-pub use laws::{law_allocated, law_good_places, law_places};
+pub use laws::{law_allocated, law_good_places, law_landings, law_places};
+pub use placing::{PlaceList, RegisterPlaces, place_at, place_registers};
 pub use steps::LandingsList;

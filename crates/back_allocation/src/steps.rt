@@ -78,7 +78,8 @@ fn step_of(alloc: Global, line: &Line, landings: &TargetList) -> Result<Step, No
     })
 }
 
-fn copied(alloc: Global, numbers: &[usize]) -> Result<ItemList<usize>, NoMemory>
+/// The numbers of a slice, as a list.
+pub fn copied(alloc: Global, numbers: &[usize]) -> Result<ItemList<usize>, NoMemory>
     ensures { IfOk result (λ list. list ≡ numbers.now) }
 {
     let mut list = ItemList::new(alloc);

@@ -2,13 +2,12 @@
 use Rattle.std.specs.Prelude.{ℕ, ◌+◌, [], ◌∷◌, ◌++◌}
 use Rattle.lang_meaning.specs.Objects.{control_error_class, program_error_class, undefined_function_class}
 use Rattle.mid_code.specs.declared.operation.Arithmetic.TheVariants as which
-use Rattle.mid_code.specs.declared.operation.Comparison.{Comparison}
 use Rattle.mid_code.specs.declared.operation.Comparison.TheVariants.{Equal, Different, LessUnsigned}
 use Rattle.mid_code.specs.declared.operation.Counted.TheVariants.{Turn}
 use Rattle.mid_code.specs.MidCode.{MidStep, repeat, lend, return_word, code_of}
 use Rattle.mid_arena.specs.Tags.{nil_word, cons_tag, object_tag, function_header, generic_header}
 use Rattle.back_lowering.specs.declared.placement.Placement.{Placement}
-use Rattle.back_lowering.specs.ControlWords.{site_address, around_method, before_method, after_method, primary_method, chain_end, generic_arity, generic_name}
+use Rattle.back_lowering.specs.ControlWords.{site_address, around_method, before_method, after_method, chain_end, primary_behind, generic_arity, generic_name}
 use Rattle.back_lowering.specs.Routines.{failing_with_routine, generic_routine, chain_routine, level_routine, class_routine}
 use Rattle.back_lowering.specs.Steps.{Steps, move, constant, compute, load, load_header, store, call, call_number, test_of, where_so, if_equal}
 use Rattle.back_lowering.specs.Primitives.{where_tag, car_into}
@@ -61,7 +60,7 @@ list_copied =
 
 abbrev pub element_into : Steps
 element_into =
-    move 10 1 ∷ constant 8 0 ∷ turns_while [] 7 8 (load 10 10 3 ∷ constant 8 4 ∷ compute 7 which.Subtract 7 8 ∷ constant 8 0 ∷ [])
+    turns_while [] 11 7 (load 10 10 3 ∷ constant 8 4 ∷ compute 11 which.Add 11 8 ∷ [])
     ∷ car_into 7 10
 
 -- one specialised argument of a call
@@ -95,7 +94,7 @@ abbrev pub generic_spread : Placement → Steps
 generic_spread at =
     generic_into at 11 4 0
     ++ (move 0 11 ∷ load 3 0 generic_arity
-    ∷ (where_takes 3 2 4 (signals at 4 program_error_class) ++ (chain_sought at element_into ++ chain_spread at)))
+    ∷ (where_takes 3 2 4 (signals at 4 program_error_class) ++ (move 10 1 ∷ constant 11 0 ∷ (chain_sought at element_into ++ chain_spread at))))
 
 -- ---- chains
 
@@ -105,11 +104,6 @@ kind_into to word address = load word address 0 ∷ constant to 7 ∷ compute to
 abbrev pub number_into : (to word t : ℕ) → Steps
 number_into to word t = constant t 3 ∷ compute to which.ShiftRight word t ∷ []
 
--- as long as the kind of the method at an address compares so with another
-abbrev pub kinds_while : (address kind : ℕ) → Comparison → (body : Steps) → MidStep
-kinds_while address kind how body =
-    repeat Turn (code_of (kind_into 4 3 address ++ (constant 5 kind ∷ []))) (test_of how 4 5) (code_of body)
-
 -- one method of a kind is called
 abbrev pub method_called : Steps
 method_called =
@@ -117,14 +111,15 @@ method_called =
     ++ (constant 5 0 ∷ store 9 5 site_address ∷ call_number 6 3 (5 ∷ 5 ∷ 1 ∷ 2 ∷ []) ∷ add_to 7 4 4)
 
 abbrev pub methods_called : (kind : ℕ) → Steps
-methods_called kind = kinds_while 7 kind Equal method_called ∷ []
+methods_called kind = repeat Turn (code_of (kind_into 4 3 7 ++ (constant 5 kind ∷ []))) (test_of Equal 4 5) (code_of method_called) ∷ []
 
 abbrev pub around_called : Steps
 around_called =
     number_into 3 3 4 ++ (constant 4 4 ∷ compute 4 which.Add 0 4 ∷ constant 5 0 ∷ call_number 6 3 (5 ∷ 4 ∷ 1 ∷ 2 ∷ []) ∷ return_word 6 ∷ [])
 
-abbrev pub primary_sought : MidStep
-primary_sought = kinds_while 8 primary_method LessUnsigned (add_to 8 4 4)
+-- the first word says where the first primary method is
+abbrev pub primary_ahead : Steps
+primary_ahead = number_into 3 3 5 ++ (compute 8 which.Add 0 3 ∷ add_to 7 5 4)
 
 abbrev pub primary_called : Steps
 primary_called =
@@ -138,7 +133,7 @@ chain_run =
     constant 5 0 ∷ load 9 5 site_address
     ∷ (kind_into 4 3 0
     ++ (constant 5 around_method ∷ if_equal 4 5 around_called []
-    ∷ move 8 0 ∷ primary_sought ∷ move 7 0 ∷ (methods_called before_method ++ primary_called)))
+    ∷ move 7 0 ∷ move 8 0 ∷ constant 5 primary_behind ∷ if_equal 4 5 primary_ahead [] ∷ (methods_called before_method ++ primary_called)))
 
 -- the chain is at its end
 abbrev pub end_judged : Placement → Steps

@@ -269,7 +269,7 @@ fn list_copied(alloc: Global) -> Result<Code, NoMemory>
     Ok(code)
 }
 
-// The element of the list in 1 whose offset is in 7 comes to 7.
+// The element of the list whose offset is in 7 comes to 7, on from the cons in 10, whose offset is in 11.
 fn element_into(alloc: Global) -> Result<Code, NoMemory>
     ensures { IfOk result (λ code. code ≡ parts.element_into) }
 {
@@ -277,12 +277,9 @@ fn element_into(alloc: Global) -> Result<Code, NoMemory>
     let mut body = Code::new(alloc);
     body.push(load(10, 10, 3))?;
     body.push(constant(8, 4))?;
-    body.push(compute(7, Arithmetic::Subtract, 7, 8))?;
-    body.push(constant(8, 0))?;
+    body.push(compute(11, Arithmetic::Add, 11, 8))?;
     let mut code = Code::new(alloc);
-    code.push(move_word(10, 1))?;
-    code.push(constant(8, 0))?;
-    code.push(turns_while(Code::new(alloc), 7, 8, body))?;
+    code.push(turns_while(Code::new(alloc), 11, 7, body))?;
     code.append_list(element)?;
     Ok(code)
 }
@@ -426,6 +423,8 @@ fn generic_spread(alloc: Global, at: &Placement) -> Result<Code, NoMemory>
     code.push(move_word(0, 11))?;
     code.push(load(3, 0, ARITY))?;
     where_takes(&mut code, alloc, 3, 2, 4, few, other)?;
+    code.push(move_word(10, 1))?;
+    code.push(constant(11, 0))?;
     code.append_list(sought)?;
     code.append_list(run)?;
     Ok(code)

@@ -20,7 +20,8 @@ const BEFORE: u32 = 1;
 
 const AFTER: u32 = 2;
 
-const PRIMARY: u32 = 3;
+/// What the word in front of methods that run before or after the first primary one is.
+const PRIMARY_BEHIND: u32 = 5;
 
 // The kind of the method whose word is at an address.
 fn kind_into(
@@ -44,27 +45,6 @@ fn number_into(code: &mut Code, to: Register, word: Register, t: Register) -> Re
     code.push(compute(to, Arithmetic::ShiftRight, word, t))
 }
 
-// A loop of this routine, as long as the kind at an address compares so with another.
-fn kinds_while(
-    alloc: Global,
-    address: Register,
-    kind: u32,
-    how: Comparison,
-    body: Code,
-) -> Result<CodeStep, NoMemory>
-    ensures { IfOk result (λ step. step ≡ parts.kinds_while address kind how body) }
-{
-    let mut head = Code::new(alloc);
-    kind_into(&mut head, 4, 3, address)?;
-    head.push(constant(5, kind))?;
-    Ok(CodeStep::new(StepKind::Repeat {
-        counted: Counted::Turn,
-        head,
-        test: comparing(how, 4, 5),
-        body,
-    }))
-}
-
 // One method is called.
 fn method_called(alloc: Global) -> Result<Code, NoMemory>
     ensures { IfOk result (λ code. code ≡ parts.method_called) }
@@ -83,8 +63,16 @@ fn methods_called(alloc: Global, kind: u32) -> Result<Code, NoMemory>
     ensures { IfOk result (λ code. code ≡ parts.methods_called kind) }
 {
     let body = method_called(alloc)?;
+    let mut head = Code::new(alloc);
+    kind_into(&mut head, 4, 3, 7)?;
+    head.push(constant(5, kind))?;
     let mut code = Code::new(alloc);
-    code.push(kinds_while(alloc, 7, kind, Comparison::Equal, body)?)?;
+    code.push(CodeStep::new(StepKind::Repeat {
+        counted: Counted::Turn,
+        head,
+        test: comparing(Comparison::Equal, 4, 5),
+        body,
+    }))?;
     Ok(code)
 }
 
@@ -102,16 +90,18 @@ fn around_called(alloc: Global) -> Result<Code, NoMemory>
     Ok(code)
 }
 
-// The first primary method is sought.
-fn primary_sought(alloc: Global) -> Result<CodeStep, NoMemory>
-    ensures { IfOk result (λ step. step ≡ parts.primary_sought) }
+// The first word says how many bytes behind it the first primary method is, and the methods before stand behind it.
+fn primary_ahead(alloc: Global) -> Result<Code, NoMemory>
+    ensures { IfOk result (λ code. code ≡ parts.primary_ahead) }
 {
-    let mut body = Code::new(alloc);
-    add_to(&mut body, 8, 4, 4)?;
-    kinds_while(alloc, 8, PRIMARY, Comparison::LessUnsigned, body)
+    let mut code = Code::new(alloc);
+    number_into(&mut code, 3, 3, 5)?;
+    code.push(compute(8, Arithmetic::Add, 0, 3))?;
+    add_to(&mut code, 7, 5, 4)?;
+    Ok(code)
 }
 
-// It is called with the rest behind it, and then the after methods.
+// The first primary method is called with the rest behind it, and then the after methods.
 fn primary_called(alloc: Global) -> Result<Code, NoMemory>
     ensures { IfOk result (λ code. code ≡ parts.primary_called) }
 {
@@ -134,7 +124,7 @@ fn chain_run(alloc: Global) -> Result<Code, NoMemory>
     ensures { IfOk result (λ code. code ≡ parts.chain_run) }
 {
     let around = around_called(alloc)?;
-    let sought = primary_sought(alloc)?;
+    let ahead = primary_ahead(alloc)?;
     let before = methods_called(alloc, BEFORE)?;
     let primary = primary_called(alloc)?;
     let mut code = Code::new(alloc);
@@ -143,9 +133,10 @@ fn chain_run(alloc: Global) -> Result<Code, NoMemory>
     kind_into(&mut code, 4, 3, 0)?;
     code.push(constant(5, AROUND))?;
     code.push(if_equal(4, 5, around, Code::new(alloc)))?;
-    code.push(move_word(8, 0))?;
-    code.push(sought)?;
     code.push(move_word(7, 0))?;
+    code.push(move_word(8, 0))?;
+    code.push(constant(5, PRIMARY_BEHIND))?;
+    code.push(if_equal(4, 5, ahead, Code::new(alloc)))?;
     code.append_list(before)?;
     code.append_list(primary)?;
     Ok(code)

@@ -257,11 +257,11 @@ module _ (setting : Setting) (placed : IsPlaced setting) (a : Start setting) whe
           (t.0, e ∙ t.1, record { number = t.2.number; captured = t.2.captured; spot = t.2.spot; there = t.2.there; here = t.2.here })
 
       arguments_inside : (address : ℕ) (c : Called) → ArgumentsThere a.w a.y.arena address c → ArgumentsHeld a.w a.y.arena address c → ArgumentsHeld w1 y1.arena address c
-      arguments_inside address c (inl k) held = in_heap k.0 k.1 k.2
-      arguments_inside address c (inr low) (in_heap start e k) = in_heap start e k
+      arguments_inside address c (inl k) held = in_heap k
+      arguments_inside address c (inr low) (in_heap k) = in_heap k
       arguments_inside address c (inr low) (arguments_on_stack values plain) =
-          arguments_on_stack (λ high i few. value_inside (address + 4 * i) _ (omega (arith, low)) (values low i few))
-          (λ k few. plain_inside (address + k) (omega (arith, low)) (plain k few))
+          arguments_on_stack (λ high i few. value_inside (address + 4 * i) _ (omega (arith, low.0)) (values low.0 i few))
+          (λ k few. plain_inside (address + k) (omega (arith, low.0)) (plain k few))
 
       -- registers in front of the first one are as they were
       module _ (regs : Registers) (same : (i : ℕ) → i < a.d → register i regs ≡ register i a.regs) where
@@ -270,7 +270,7 @@ module _ (setting : Setting) (placed : IsPlaced setting) (a : Start setting) whe
           where
             by : (address : ℕ) → ArgumentsThere a.w a.y.arena address c → ArgumentsThere w1 y1.arena address c
             by address (inl k) = inl k
-            by address (inr low) = inr (omega (arith, low, from_less))
+            by address (inr low) = inr (omega (arith, low.0, from_less), low.1)
         there_inside (Some m) None kept t = tt
         there_inside None (Some c) kept t = tt
         there_inside None None kept t = tt

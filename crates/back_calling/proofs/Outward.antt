@@ -16,7 +16,7 @@ use Rattle.back_relation.specs.Worlds.{World, Later, Standing}
 use Rattle.back_relation.specs.StackWords.{StackKept}
 use Rattle.back_relation.specs.Things.{Things}
 use Rattle.back_relation.specs.Activation.{FormScope, SlotHas, SlotIs, SelfHeld, ArgumentsHeld, in_heap, on_stack, MethodHeld, ActivationStands}
-use Rattle.back_combining.proofs.Activations.{made_by_later}
+use Rattle.back_combining.proofs.Activations.{made_by_later, kept_later}
 use Rattle.back_combining.proofs.Worlds.{word_later, plain_later}
 
 -- the stack begins no further in, and what stands of it is kept
@@ -54,7 +54,7 @@ self_out made made' word l kept (c ∷ cs) h = (
 
 module _ (setting : Setting) {w w' : World} {y y' : MidState} (l : Later w w') (h : Outward w w' y y') where
   arguments_out : (address : ℕ) (called : Called) → ArgumentsHeld w y.arena address called → ArgumentsHeld w' y'.arena address called
-  arguments_out address called (in_heap start same k) = in_heap start same (k.0, l.methods k.0 (start, called) k.1)
+  arguments_out address called (in_heap k) = in_heap (kept_later l k)
   arguments_out address called (on_stack values plain) =
       on_stack (λ low i few. value i few low (values (omega (arith, low, h.from)) i few)) (λ k few. plain_later (address + k) l (plain k few))
     where

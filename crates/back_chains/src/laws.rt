@@ -1,4 +1,4 @@
-// The laws of walks along chains, each as the contract of a function that does nothing.
+// The laws of the words of chains, each as the contract of a function that does nothing.
 ghost use Rattle.back_chains.specs.Chains.{LawOfConstants, LawOfPrimaries};
 
 /// Constants are there.
@@ -6,7 +6,7 @@ pub fn law_constants()
     ensures { LawOfConstants }
 {}
 
-/// The first primary method of a chain is found.
+/// The first primary method of a chain is found, whatever methods run before and after it.
 pub fn law_primaries()
     ensures { LawOfPrimaries }
 {}

@@ -16,7 +16,7 @@ use Rattle.back_lowering.specs.declared.scope.SitePlace.TheVariants.{Known, Held
 use Rattle.back_relation.specs.Setting.{Setting}
 use Rattle.back_relation.specs.Worlds.{World, Later, Standing}
 use Rattle.back_relation.specs.Things.{MadeBy, AreMadeBy}
-use Rattle.back_relation.specs.Activation.{FormScope, ScopeStands, SlotHas, SlotIs, ExitReached, SelfHeld, ArgumentsHeld, in_heap, on_stack, CallHeld, MethodHeld, SiteHeld, ActivationStands}
+use Rattle.back_relation.specs.Activation.{FormScope, ScopeStands, SlotHas, SlotIs, ExitReached, SelfHeld, ArgumentsKept, ArgumentsHeld, in_heap, on_stack, CallHeld, MethodHeld, SiteHeld, ActivationStands}
 use Rattle.back_combining.proofs.Worlds.{word_later, plain_later, Same, stack_same}
 
 -- registers below the first one that code may use are as they were
@@ -57,9 +57,21 @@ self_later made made' word word' l kept same (c ∷ cs) h = (
   },
 )
 
+-- what was kept is kept
+pub kept_later : {w w' : World} → Later w w' → {address : ℕ} {vs : List Value} → ArgumentsKept w address vs → ArgumentsKept w' address vs
+kept_later l k = record {
+  number = k.number;
+  start = k.start;
+  call = k.call;
+  is_kept = l.methods k.number (k.start, k.call) k.is_kept;
+  before = k.before;
+  arguments = k.arguments;
+  here = k.here;
+}
+
 module _ (setting : Setting) {w w' : World} {y y' : MidState} (l : Later w w') (h : Same w w' y y') where
   pub arguments_later : (address : ℕ) (called : Called) → ArgumentsHeld w y.arena address called → ArgumentsHeld w' y'.arena address called
-  arguments_later address called (in_heap start same k) = in_heap start same (k.0, l.methods k.0 (start, called) k.1)
+  arguments_later address called (in_heap k) = in_heap (kept_later l k)
   arguments_later address called (on_stack values plain) =
       on_stack (λ low i few. value i few low (values (omega (arith, low, stack_same h)) i few)) (λ k few. plain_later (address + k) l (plain k few))
     where

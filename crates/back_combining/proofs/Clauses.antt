@@ -60,7 +60,7 @@ clauses_grow setting k (clause_and test body cs) env around z =
     (λ v x. unless_nil v (mean_body (context_at setting k) v body env around x) (mean_clauses (context_at setting k) cs env around x))
     (λ v x. picked_grows setting k v body cs env around x (clauses_grow setting k cs env around x)))
 
-module _ (setting : Setting) (s : FormScope) (d m size k n : ℕ) (there : d + 1 < size) where
+module _ (setting : Setting) (s : FormScope) (d m size k n : ℕ) where
   abbrev start : Point setting s d m size → Start setting
   start p = start_at setting s d m size n p
 
@@ -141,10 +141,10 @@ module _ (setting : Setting) (s : FormScope) (d m size k n : ℕ) (there : d + 1
 
     -- nil's word comes behind the value
     no_body_judged :
-        (p : Point setting s d m size) (v : Value) (word : ℕ) → register d p.regs ≡ Some word → word_of p.w.places v ≡ Some word
+        (there : d + 1 < size) (p : Point setting s d m size) (v : Value) (word : ℕ) → register d p.regs ≡ Some word → word_of p.w.places v ≡ Some word
         → EndsAt setting (clauses_credit cs + 20) (start p) (picked v no_body cs p.env p.around p.z)
         (running (constant (d + 1) nil_word ∷ choose (test_of Different d (d + 1)) no_step otherwise ∷ []) p.regs p.y)
-    no_body_judged p v word here is =
+    no_body_judged there p v word here is =
         let x : ReachedFrom setting 6 (start p) d p.w p.z (slice_set p.regs (d + 1) (Some nil_word)) (mid_charged 6 p.y) =
         reached_set setting (start p) d (d + 1) nil_word 6 (omega arith) (omega arith) (omega arith) in
         let runs : RunsTo (code_at setting k n) (code_of (constant (d + 1) nil_word ∷ choose (test_of Different d (d + 1)) no_step otherwise ∷ [])) p.regs p.y
@@ -177,10 +177,10 @@ module _ (setting : Setting) (s : FormScope) (d m size k n : ℕ) (there : d + 1
       (choose (test_of Different d (d + 1)) no_step (code_of (clauses_steps cs)) ∷ []))
       ∙ in_two_parts (code_at setting k n) (value_steps setting s d m size k n test) rest p.regs p.y))
       (two setting {c1 = 0} {c2 = clauses_credit cs + 20} (start p) d (λ v z. picked v no_body cs p.env p.around z) (λ g y. running rest g y)
-      (omega arith) (omega arith) (form_grows setting k test p.env p.around p.z).units (ends_spared setting (start p) (h.0 p))
+      (omega arith) (omega arith) (form_grows setting k test p.env p.around p.z).units (ends_spared setting (start p) (h.1 p))
       (λ v z. picked_grows setting k v no_body cs p.env p.around z (clauses_grow setting k cs p.env p.around z))
       (λ g y. code_grows setting s d m size k n rest g y)
-      (λ x. no_body_judged cs (clauses_sim cs h.1) (point_after setting s d m size n p x.reached) x.result x.word x.in_register x.of_value))
+      (λ x. no_body_judged cs (clauses_sim cs h.2) h.0 (point_after setting s d m size n p x.reached) x.result x.word x.in_register x.of_value))
 
   -- **clauses**
   pub clauses_here : (cs : FlatClauses) → ClausesHere setting s d m size k n cs → Here setting s d m size k n (clauses cs)
@@ -201,4 +201,4 @@ module _ (setting : Setting) (s : FormScope) (d m size k n : ℕ) (there : d + 1
       }))
 
 pub clauses_law : LawOfClauses
-clauses_law setting s d m size k turns cs there here = clauses_here setting s d m size k turns there cs here
+clauses_law setting s d m size k turns cs here = clauses_here setting s d m size k turns cs here

@@ -15,6 +15,7 @@ pub mod Judging
 pub mod Clauses
 pub mod Sequences
 pub mod Wholes
+pub mod Branches
 pub mod Reaches
 pub mod Cuts
 pub mod Walks

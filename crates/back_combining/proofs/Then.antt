@@ -19,6 +19,7 @@ use Rattle.back_relation.specs.Ends.{WorldKept, Around, Reached, Transfers, IsFu
 use Rattle.back_relation.specs.Forms.{Begins, FormEnds, FellJudged, TestEnds}
 use Rattle.back_relation.specs.Room.{words_for_handler}
 use Rattle.back_combining.specs.Starts.{FlatGrown}
+use Rattle.back_combining.proofs.Activations.{kept_later}
 use Rattle.back_combining.proofs.Growth.{both_prefix, then_value, then_other, then_grown, IsNoValue}
 use Rattle.back_combining.proofs.Parts.{IsLast, go_on_falls, go_on_last}
 use Rattle.back_combining.proofs.Worlds.{later_then, plain_later, Same, stack_same, around_again}
@@ -38,8 +39,8 @@ pub method_there_again :
 method_there_again setting {w} {w'} a a' regs regs' (Some m) (Some c) l from same h = λ address e. by address (h address (sym (same m refl) ∙ e))
   where
     by : (address : ℕ) → ArgumentsThere w a address c → ArgumentsThere w' a' address c
-    by address (inl k) = inl (k.0, k.1, (k.2.0, l.methods k.2.0 (k.0, c) k.2.1))
-    by address (inr k) = inr (omega (arith, k, from))
+    by address (inl k) = inl (kept_later l k)
+    by address (inr k) = inr (omega (arith, k.0, from), k.1)
 method_there_again setting a a' regs regs' (Some m) None l from same h = tt
 method_there_again setting a a' regs regs' None (Some c) l from same h = tt
 method_there_again setting a a' regs regs' None None l from same h = tt

@@ -12,7 +12,7 @@ use Rattle.back_lowering.specs.Codes.{lower, by_value}
 use Rattle.back_lowering.specs.Steps.{Steps}
 use Rattle.back_relation.specs.Setting.{Setting}
 use Rattle.back_relation.specs.Activation.{FormScope}
-use Rattle.back_relation.specs.Forms.{DoesForm, context_at, code_at}
+use Rattle.back_relation.specs.Forms.{DoesForm, JudgesForm, context_at, code_at}
 use Rattle.back_combining.specs.Points.{Here, AllHere, JudgedHere, LoopHere}
 
 -- a literal that is data, a class, or the function of a name that has one
@@ -63,18 +63,18 @@ LawOfJudging =
     → lower setting.names setting.at setting.program s.code d f ≡ by_value d steps → Here setting s d m size k turns f
     → JudgedHere setting s d m size k turns f
 
--- a clause's test is judged, or its value is there where the clause has no body; and each body does what it means
+-- a clause's test is judged, or its value is there where the clause has no body, with a register more; and each body does what it means
 abbrev pub ClausesHere : (setting : Setting) (s : FormScope) (d m size k turns : ℕ) → FlatClauses → Type 0
 ClausesHere setting s d m size k turns no_clause = ⊤
 ClausesHere setting s d m size k turns (clause_and test no_body cs) =
-    Here setting s d m size k turns test × ClausesHere setting s d m size k turns cs
+    (d + 1 < size) × Here setting s d m size k turns test × ClausesHere setting s d m size k turns cs
 ClausesHere setting s d m size k turns (clause_and test (with_body f) cs) =
     JudgedHere setting s d m size k turns test × Here setting s d m size k turns f × ClausesHere setting s d m size k turns cs
 
 -- the first clause whose test is true
 abbrev pub LawOfClauses : Type 0
 LawOfClauses =
-    (setting : Setting) (s : FormScope) (d m size k turns : ℕ) (cs : FlatClauses) → d + 1 < size → ClausesHere setting s d m size k turns cs
+    (setting : Setting) (s : FormScope) (d m size k turns : ℕ) (cs : FlatClauses) → ClausesHere setting s d m size k turns cs
     → Here setting s d m size k turns (clauses cs)
 
 -- and so does the form of the loop
@@ -84,3 +84,25 @@ LawOfWhiles =
     → JudgedHere setting s d m size k turns t → Here setting s d m size k turns body
     → ((j : ℕ) → k ≡ suc j → LoopHere setting s d m size j setting.turns_each t body)
     → Here setting s d m size k turns (while_form t body)
+
+-- the test of each clause is judged, or does what it means where the clause has no body, and so does each body, wherever they stand
+abbrev pub ClausesDo : Setting → (k turns : ℕ) → FlatClauses → Type 0
+ClausesDo setting k turns no_clause = ⊤
+ClausesDo setting k turns (clause_and test no_body cs) = DoesForm setting turns (context_at setting k) (code_at setting k turns) test × ClausesDo setting k turns cs
+ClausesDo setting k turns (clause_and test (with_body f) cs) =
+    JudgesForm setting turns (context_at setting k) (code_at setting k turns) test
+    × DoesForm setting turns (context_at setting k) (code_at setting k turns) f × ClausesDo setting k turns cs
+
+-- then so do the clauses
+abbrev pub LawOfWholeClauses : Type 0
+LawOfWholeClauses =
+    (setting : Setting) (k turns : ℕ) (cs : FlatClauses) → ClausesDo setting k turns cs
+    → DoesForm setting turns (context_at setting k) (code_at setting k turns) (clauses cs)
+
+-- and a loop, whose test is judged and whose body does what it means at all levels down to the last one
+abbrev pub LawOfWholeWhiles : Type 0
+LawOfWholeWhiles =
+    (setting : Setting) (k turns : ℕ) (t body : FlatForm) → turns ≤ setting.turns_each
+    → ((j n : ℕ) → j ≤ k → n ≤ setting.turns_each
+    → JudgesForm setting n (context_at setting j) (code_at setting j n) t × DoesForm setting n (context_at setting j) (code_at setting j n) body)
+    → DoesForm setting turns (context_at setting k) (code_at setting k turns) (while_form t body)

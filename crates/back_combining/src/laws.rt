@@ -1,6 +1,6 @@
 // The laws of combining, each as the contract of a function that does nothing.
 ghost use Rattle.back_combining.specs.Cuts.{LawOfCuts};
-ghost use Rattle.back_combining.specs.Forms.{LawOfLiterals, LawOfSlots, LawOfSequences, LawOfWholeSequences, LawOfLoops, LawOfWhiles, LawOfJudging, LawOfClauses};
+ghost use Rattle.back_combining.specs.Forms.{LawOfLiterals, LawOfSlots, LawOfSequences, LawOfWholeSequences, LawOfLoops, LawOfWhiles, LawOfJudging, LawOfClauses, LawOfWholeClauses, LawOfWholeWhiles};
 ghost use Rattle.back_combining.specs.Law.{LawOfParts, LawOfAround, LawOfTwoParts, LawOfChoices};
 ghost use Rattle.back_combining.specs.Reaches.{LawOfReaches};
 ghost use Rattle.back_combining.specs.Stores.{LawOfStores};
@@ -84,4 +84,14 @@ pub fn law_whiles()
 /// How an exit of the activation may be left, under one more record.
 pub fn law_reaches()
     ensures { LawOfReaches }
+{}
+
+/// Clauses, wherever they stand.
+pub fn law_whole_clauses()
+    ensures { LawOfWholeClauses }
+{}
+
+/// Loops, wherever they stand.
+pub fn law_whole_whiles()
+    ensures { LawOfWholeWhiles }
 {}

@@ -70,10 +70,10 @@ module _ (setting : Setting) (w : World) (y y' : MidState) where
   }
     where
       by : ArgumentsThere w y.arena h.arguments c → ArgumentsHeld w y.arena h.arguments c → ArgumentsHeld w y'.arena h.arguments c
-      by (inl k) held = in_heap k.0 k.1 k.2
-      by (inr low) (in_heap start e k) = in_heap start e k
+      by (inl k) held = in_heap k
+      by (inr low) (in_heap k) = in_heap k
       by (inr low) (arguments_on_stack values plain) =
-          arguments_on_stack (λ high i few. value_moves (h.arguments + 4 * i) _ (same (h.arguments + 4 * i) (omega (arith, low))) (values low i few)) plain
+          arguments_on_stack (λ high i few. value_moves (h.arguments + 4 * i) _ (same (h.arguments + 4 * i) (omega (arith, low.0))) (values low.0 i few)) plain
 
   -- outside
   pub method_shallower :
@@ -96,7 +96,7 @@ module _ (setting : Setting) (w : World) (y y' : MidState) where
   }
     where
       by : ArgumentsHeld w y.arena h.arguments c → ArgumentsHeld w y'.arena h.arguments c
-      by (in_heap start e k) = in_heap start e k
+      by (in_heap k) = in_heap k
       by (arguments_on_stack values plain) =
           arguments_on_stack
           (λ high i few.

@@ -1,6 +1,6 @@
 -- The entry of any function: from its body upwards, and then to the level that is judged first.
 use Rattle.std.specs.Prelude.{◌-◌, take, drop, slice_get, slice_set, slice_index_or, is_some, option_to_list, if◌then◌else◌}
-use Rattle.std.proofs.Common.{◌≡◌, inl, ℕ, zero, suc, ◌+◌, ◌*◌, ◌^◌, ◌<◌, ◌≤◌, Bool, true, false, List, [], ◌∷◌, ◌++◌, length, Option, Some, None, refl, sym, ap, ◌∙◌, subst, append_assoc, arith}
+use Rattle.std.proofs.Common.{◌≡◌, inl, inr, ℕ, zero, suc, ◌+◌, ◌*◌, ◌^◌, ◌<◌, ◌≤◌, Bool, true, false, List, [], ◌∷◌, ◌++◌, length, Option, Some, None, refl, sym, ap, ◌∙◌, subst, append_assoc, take-append-drop, arith}
 use Rattle.std.proofs.Math.ListN.{length-set}
 use Rattle.std.proofs.lemmas.List.{length-append}
 use Rattle.std.proofs.lemmas.Bool.{eq-eqb, ne_eqb}
@@ -41,18 +41,17 @@ use Rattle.back_relation.specs.Setting.{Setting}
 use Rattle.back_relation.specs.Room.{routine_words, words_for_handler, level_words}
 use Rattle.back_relation.specs.Worlds.{World, Later, Standing, Plain}
 use Rattle.back_relation.specs.Around.{CallBegins, SiteStored, RoomFor}
-use Rattle.back_relation.specs.Activation.{SelfHeld, MethodHeld, MethodThere, in_heap, CallHeld}
+use Rattle.back_relation.specs.Activation.{SelfHeld, ArgumentsKept, MethodHeld, MethodThere, in_heap, CallHeld}
 use Rattle.back_relation.specs.Ends.{WorldKept, Around, SparingCall}
 use Rattle.back_relation.specs.Forms.{context_at, code_at}
-use Rattle.back_relation.specs.Procedures.{called, as_registers, mean_inside, body_words, body_credit, IsFunction, CapturedFits, ExtraGiven, BodyDoes, ArgumentsLent}
+use Rattle.back_relation.specs.Procedures.{called, as_registers, mean_inside, body_words, body_credit, IsFunction, CapturedFits, ExtraGiven, BodyDoes, ArgumentsGiven, CalledFits}
 use Rattle.back_relation.specs.Chains.{ChainAt, ChainTakes}
-use Rattle.back_relation.specs.RoutineClaims.{list_credit, argument_credit, level_credit, LevelThere}
+use Rattle.back_relation.specs.RoutineClaims.{list_credit, argument_credit, level_credit, entry_spare, LevelThere, ListThere, MethodKept}
 use Rattle.back_relation.specs.Placed.{IsPlaced}
 use Rattle.back_combining.proofs.Activations.{made_by_later}
 use Rattle.back_combining.proofs.Starts.{room_after}
 use Rattle.back_combining.proofs.Straight.{things_cost, things_units, world_cost, around_cost}
 use Rattle.back_combining.proofs.Then.{call_then, from_same, world_then, back_then}
-use Rattle.back_combining.proofs.Worlds.{word_later, plain_later}
 use Rattle.back_combining.proofs.Growth.{grown_later}
 use Rattle.back_combining.proofs.Parts.{go_on_falls, single_step, step_then}
 use Rattle.back_arguments.proofs.WordLists.{of_values_later}
@@ -63,11 +62,10 @@ use Rattle.back_calling.proofs.Outward.{captured_later, self_out, method_out}
 use Rattle.back_calling.proofs.Numbers.{behind_front}
 use Rattle.back_calling.proofs.Units.{world_both, around_both, calls_spared, calls_recounted}
 use Rattle.back_calling.proofs.Growing.{tasks_below}
-use Rattle.back_bodies.proofs.Held.{extra_below}
+use Rattle.back_bodies.proofs.Held.{extra_below, given_values, given_then}
 use Rattle.back_applications.proofs.Applied.{called_grows}
 use Rattle.back_applications.proofs.Levels.{levels_there_at}
-use Rattle.back_function_entries.specs.FunctionEntries.{CalledFits}
-use Rattle.back_function_entries.specs.AllEntries.{entry_spare, KeptThere, CallsKept, ListThere, ListsMade}
+use Rattle.back_function_entries.specs.Entries.{ListDoesAnywhere, MethodDoesAnywhere}
 use Rattle.back_function_entries.proofs.FunctionEntries.{extras, extra_words, extras_in, few_extras, count_from, fewer_turns, room_cost, meant_later, method_there}
 use Rattle.back_function_entries.proofs.Made.{record_in_parts, made_after, made_then, list_in_parts}
 use Rattle.back_function_entries.proofs.Loading.{word_below, loads_run}
@@ -155,7 +153,7 @@ module _ (setting : Setting) (number : ℕ) (extra : Extra) (q : FlatProcedure) 
   abbrev inside_words : ℕ
   inside_words = body_words q + routine_words
 
-  -- ---- where the arguments are lent, and what an entry is given is there
+  -- ---- where the arguments are given, and what else an entry is given is there
 
   pub record Given (w : World) (x : FlatState) (y : MidState) (regs : Registers) : Type 0 where
     pub call : CallBegins setting rs valid inside_words w around x y
@@ -164,7 +162,8 @@ module _ (setting : Setting) (number : ℕ) (extra : Extra) (q : FlatProcedure) 
     pub chain_there : register 1 regs ≡ Some chain
     pub count_there : register 2 regs ≡ Some (length vs)
     pub at_there : register 3 regs ≡ Some address
-    pub lent : ArgumentsLent setting w y.arena address vs
+    pub arguments : ArgumentsGiven setting w y.arena address vs
+    pub method_arguments : (c : Called) → called_as ≡ Some c → c.arguments ≡ vs
     pub held : SelfHeld w x.captured (Some self) cs
     pub method : MethodHeld setting w y.arena false (as_registers (chain ∷ length vs ∷ address ∷ [])) (Some 0) called_as
     pub site : SiteStored setting around y
@@ -182,7 +181,6 @@ module _ (setting : Setting) (number : ℕ) (extra : Extra) (q : FlatProcedure) 
       → Given w' x' y' regs'
   given_on {w = w} {w' = w'} {x = x} {x' = x'} {y = y} {y' = y'} regs' g k a later site count same =
       let from : stack_from y'.arena ≡ stack_from y.arena = from_same setting k a in
-      let low = g.lent.low in
       record {
         call = call_then setting k a inside_words g.call (room_after setting.limit _ _ x x' y y' (omega arith) a.charged g.call.room);
         count = count ∙ g.count;
@@ -190,17 +188,8 @@ module _ (setting : Setting) (number : ℕ) (extra : Extra) (q : FlatProcedure) 
         chain_there = same 1 (omega arith) ∙ g.chain_there;
         count_there = same 2 (omega arith) ∙ g.count_there;
         at_there = same 3 (omega arith) ∙ g.at_there;
-        lent = record {
-          low = omega (arith, low, from);
-          values = λ i few.
-              let at = g.lent.values i few in
-              record {
-                word = at.word;
-                of_value = word_later k.later (slice_index_or vs i nil) at.word at.of_value;
-                stands = k.stack.words (address + 4 * i) (omega (arith, low)) (omega (arith, low, from)) (g.lent.plain (4 * i) (omega (arith, few))) ∙ at.stands;
-              };
-          plain = λ i few. plain_later (address + i) k.later (g.lent.plain i few);
-        };
+        arguments = given_then setting address vs k from g.arguments;
+        method_arguments = g.method_arguments;
         held = self_out x.captured x'.captured (Some self) k.later (captured_later setting g.call.things later) cs g.held;
         method =
             method_out setting k.later (record { from = omega (arith, from); stack = k.stack }) false (as_registers (chain ∷ length vs ∷ address ∷ [])) (Some 0) called_as g.method;
@@ -245,7 +234,7 @@ module _ (setting : Setting) (number : ℕ) (extra : Extra) (q : FlatProcedure) 
       fewer (words k) h = omega (arith, h, enough)
 
   module _ (j n m : ℕ) (does : BodyDoes setting j number extra q) (function : IsFunction setting number extra q) (few_turns_left : m ≤ setting.turns_each) (enough : req ≤ length vs)
-      (rv : List Value) (rw : List ℕ) (rest_many : length rv ≡ length (option_to_list q.rest)) (as_extra : CalledFits extra called_as) where
+      (rv : List Value) (rw : List ℕ) (rest_many : length rv ≡ length (option_to_list q.rest)) (as_extra : CalledFits setting extra called_as) where
     abbrev c : Context
     c = code_at setting (suc j) n
 
@@ -316,7 +305,7 @@ module _ (setting : Setting) (number : ℕ) (extra : Extra) (q : FlatProcedure) 
     keep_call = call 3 (method_routine setting.at) (1 ∷ 2 ∷ 3 ∷ [])
 
     extras_held :
-        (w : World) (x : FlatState) (y : MidState) (at : ℕ) (e : Extra) → CalledFits e called_as → SelfHeld w x.captured (Some self) cs
+        (w : World) (x : FlatState) (y : MidState) (at : ℕ) (e : Extra) → CalledFits setting e called_as → SelfHeld w x.captured (Some self) cs
         → MethodHeld setting w y.arena q.keeps_method (as_registers (chain ∷ length vs ∷ at ∷ [])) (Some 0) called_as
         → MethodThere setting w y.arena (as_registers (chain ∷ length vs ∷ at ∷ [])) (Some 0) called_as
         → ExtraGiven setting w x y e q cs called_as (extra_words e self chain (length vs) at)
@@ -332,8 +321,9 @@ module _ (setting : Setting) (number : ℕ) (extra : Extra) (q : FlatProcedure) 
         → SparingCall setting loaded_paid m rs valid w around x (mid_charged paid y) (meant x) (loaded regs' (mid_charged paid y))
     unkept_ends {w} {x} {y} paid regs regs' g count same method of_rest rest_there =
         loaded_ends address regs' (cost_begins paid g.call) (count ∙ g.count) (same 0 (omega arith) ∙ g.self_there) (same 1 (omega arith) ∙ g.chain_there) (same 2 (omega arith) ∙ g.count_there)
-        (same 3 (omega arith) ∙ g.at_there) (λ i few. g.lent.values i (omega (arith, few, enough)))
-        (extras_held w x (mid_charged paid y) address extra as_extra g.held method (method_there setting w y chain (length vs) address called_as g.lent.low)) g.site g.fits of_rest rest_there
+        (same 3 (omega arith) ∙ g.at_there) (λ i few. given_values setting g.call.things address vs g.arguments i (omega (arith, few, enough)))
+        (extras_held w x (mid_charged paid y) address extra as_extra g.held method (method_there setting w y chain (length vs) address vs called_as g.method_arguments g.arguments)) g.site g.fits
+        of_rest rest_there
 
     abbrev kept_paid : ℕ
     kept_paid = 20 + loaded_paid
@@ -371,7 +361,7 @@ module _ (setting : Setting) (number : ℕ) (extra : Extra) (q : FlatProcedure) 
         no_chain (Some k) e h = absurd (cc e)
 
     -- a method was called: its arguments are kept behind its chain
-    module _ (keeps : CallsKept setting (suc j) n) (left_over : m + 16 ≤ n + entry_spare) (called_there : Called) (is_called : called_as ≡ Some called_there) (same_arguments : called_there.arguments ≡ vs)
+    module _ (keeps : MethodDoesAnywhere setting (suc j) n) (left_over : m + 16 ≤ n + entry_spare) (called_there : Called) (is_called : called_as ≡ Some called_there) (same_arguments : called_there.arguments ≡ vs)
         (w : World) (x : FlatState) (y : MidState) (regs : Registers) (g : Given w x y regs) (of_rest : WordsOf w.places rv rw) (rest_there : WordsIn regs rest_registers rw) where
       abbrev regs5 : Registers
       regs5 = slice_set regs 5 (Some 0)
@@ -401,7 +391,7 @@ module _ (setting : Setting) (number : ℕ) (extra : Extra) (q : FlatProcedure) 
       kept_outcome = called c (method_routine setting.at) keep_words y7
 
       abbrev Kept : Type 0
-      Kept = KeptThere setting (suc j) n rs valid w around x y7 called_there (argument_credit (length called_there.arguments)) kept_record kept_outcome
+      Kept = MethodKept setting (suc j) n rs valid w around x y7 called_there (argument_credit (length called_there.arguments)) kept_record kept_outcome
 
       held : CallHeld setting w y.arena false (as_registers (chain ∷ length vs ∷ address ∷ [])) 0 called_there
       held = subst (λ o. MethodHeld setting w y.arena false (as_registers (chain ∷ length vs ∷ address ∷ [])) (Some 0) o) is_called g.method
@@ -443,40 +433,42 @@ module _ (setting : Setting) (number : ℕ) (extra : Extra) (q : FlatProcedure) 
       kept_behind = 58 + (loaded_paid - 700)
 
       kept_on :
-          (t : Kept) → SparingCall setting kept_behind m rs valid w around x y6 (meant kept_record.state) (jumping (slice_set regs5 3 (Some (t.kept.start + 8))) kept_outcome.state)
+          (t : Kept) → SparingCall setting kept_behind m rs valid w around x y6 (meant kept_record.state) (jumping (slice_set regs5 3 (Some (t.start + 8))) kept_outcome.state)
       kept_on t =
           let b6 : CallBegins setting rs valid inside_words w around x y6 = cost_begins test_cost (cost_begins 6 g.call) in
-          let world : WorldKept setting w t.kept.w' x kept_record.state y6 kept_outcome.state =
-          world_then setting (world_cost setting 58 b6.things) (around_cost setting {credit = 58} x y6 58 (omega arith)) t.kept.world in
+          let world : WorldKept setting w t.w' x kept_record.state y6 kept_outcome.state =
+          world_then setting (world_cost setting 58 b6.things) (around_cost setting {credit = 58} x y6 58 (omega arith)) t.world in
           let back : Around setting (58 + argument_credit (length called_there.arguments)) x kept_record.state y6 kept_outcome.state =
-          back_then setting (world_cost setting 58 b6.things) (around_cost setting {credit = 58} x y6 58 (omega arith)) (omega arith) t.kept.back in
-          let regs' : Registers = slice_set regs5 3 (Some (t.kept.start + 8)) in
-          let w2 : World = t.kept.w' in
+          back_then setting (world_cost setting 58 b6.things) (around_cost setting {credit = 58} x y6 58 (omega arith)) (omega arith) t.back in
+          let regs' : Registers = slice_set regs5 3 (Some (t.start + 8)) in
+          let w2 : World = t.w' in
           let x2 : FlatState = kept_record.state in
           let y8 : MidState = kept_outcome.state in
           let size = g.count in
           let size5 : length regs5 ≡ length regs = length-set regs 5 (Some 0) in
-          let place : slice_get w2.methods (length w.methods) ≡ Some (t.kept.start, called_there) =
-          ap (λ (u : World). slice_get u.methods (length w.methods)) t.kept.added ∙ behind_front w.methods ((t.kept.start, called_there) ∷ []) 0 (length w.methods) (t.kept.start, called_there) (omega arith) refl in
-          let stands = t.kept.world.things.methods (length w.methods) t.kept.start called_there place in
+          let place : slice_get w2.methods (length w.methods) ≡ Some (t.start, called_there) =
+          ap (λ (u : World). slice_get u.methods (length w.methods)) t.added ∙ behind_front w.methods ((t.start, called_there) ∷ []) 0 (length w.methods) (t.start, called_there) (omega arith) refl in
+          let stands = t.world.things.methods (length w.methods) t.start called_there place in
           let beside : (r : ℕ) → r < 5 → (r ≡ 3 → ⊥) → register r regs' ≡ register r regs =
-          λ r few other. register_beside regs5 3 r (Some (t.kept.start + 8)) (λ e. other (sym e)) ∙ five_below r few in
-          let method : MethodHeld setting w2 y8.arena q.keeps_method (as_registers (chain ∷ length vs ∷ (t.kept.start + 8) ∷ [])) (Some 0) called_as =
-          subst (λ o. MethodHeld setting w2 y8.arena q.keeps_method (as_registers (chain ∷ length vs ∷ (t.kept.start + 8) ∷ [])) (Some 0) o) (sym is_called)
+          λ r few other. register_beside regs5 3 r (Some (t.start + 8)) (λ e. other (sym e)) ∙ five_below r few in
+          let kept_there : ArgumentsKept w2 (t.start + 8) called_there.arguments =
+          record { number = length w.methods; start = t.start; call = called_there; is_kept = place; before = []; arguments = refl; here = omega arith } in
+          let method : MethodHeld setting w2 y8.arena q.keeps_method (as_registers (chain ∷ length vs ∷ (t.start + 8) ∷ [])) (Some 0) called_as =
+          subst (λ o. MethodHeld setting w2 y8.arena q.keeps_method (as_registers (chain ∷ length vs ∷ (t.start + 8) ∷ [])) (Some 0) o) (sym is_called)
           (record {
             chain = chain;
-            arguments = t.kept.start + 8;
+            arguments = t.start + 8;
             chain_word = refl;
             count_word = ap (λ k. Some k) (sym counted);
             arguments_word = refl;
             chain_stands = chain_at;
             takes = takes_them;
-            held = in_heap t.kept.start refl (length w.methods, place);
-            kept = λ keep. (t.kept.start, refl, (length w.methods, place));
+            held = in_heap kept_there;
+            kept = λ keep. (t.start, refl, (length w.methods, place));
           }) in
-          let method_is_there : MethodThere setting w2 y8.arena (as_registers (chain ∷ length vs ∷ (t.kept.start + 8) ∷ [])) (Some 0) called_as =
-          subst (λ o. MethodThere setting w2 y8.arena (as_registers (chain ∷ length vs ∷ (t.kept.start + 8) ∷ [])) (Some 0) o) (sym is_called)
-          (λ a e. inl (t.kept.start, sym (cc e), (length w.methods, place))) in
+          let method_is_there : MethodThere setting w2 y8.arena (as_registers (chain ∷ length vs ∷ (t.start + 8) ∷ [])) (Some 0) called_as =
+          subst (λ o. MethodThere setting w2 y8.arena (as_registers (chain ∷ length vs ∷ (t.start + 8) ∷ [])) (Some 0) o) (sym is_called)
+          (λ a e. let same : t.start + 8 ≡ a = cc e in inl (subst (λ x. ArgumentsKept w2 x called_there.arguments) same kept_there)) in
           let call8 : CallBegins setting rs valid inside_words w2 around x2 y8 =
           call_then setting world back inside_words (cost_begins test_cost (cost_begins 6 g.call)) (room_after setting.limit _ _ x x2 y6 y8 (omega arith) back.charged (cost_begins test_cost (cost_begins 6 g.call)).room) in
           let y9 : MidState = mid_charged jump_cost y8 in
@@ -484,12 +476,12 @@ module _ (setting : Setting) (number : ℕ) (extra : Extra) (q : FlatProcedure) 
           subst (λ o. SparingCall setting (2 + loaded_paid) m rs valid w2 around x2 y8 (meant x2) o) (sym (go_on_falls (ends falls regs' y9) (λ g2 x3. loaded g2 x3) refl))
           (going_on_law setting jump_cost loaded_paid (2 + loaded_paid) m m rs valid w2 w2 around (charged 1 x2) (charged 1 x2) y8 y9 (meant x2) (loaded regs' y9)
           (world_cost setting jump_cost (things_units setting 1 call8.things)) (around_cost setting (charged 1 x2) y8 jump_cost (omega arith)) (omega arith) (omega arith) refl
-          (loaded_ends (t.kept.start + 8) regs' (cost_begins jump_cost call8) (length-set regs5 3 (Some (t.kept.start + 8)) ∙ size5 ∙ g.count) (beside 0 (omega arith) (λ e. omega (arith, e)) ∙ g.self_there)
+          (loaded_ends (t.start + 8) regs' (cost_begins jump_cost call8) (length-set regs5 3 (Some (t.start + 8)) ∙ size5 ∙ g.count) (beside 0 (omega arith) (λ e. omega (arith, e)) ∙ g.self_there)
           (beside 1 (omega arith) (λ e. omega (arith, e)) ∙ g.chain_there) (beside 2 (omega arith) (λ e. omega (arith, e)) ∙ g.count_there)
-          (register_here regs5 3 (t.kept.start + 8) (omega (arith, size5, size)))
+          (register_here regs5 3 (t.start + 8) (omega (arith, size5, size)))
           (λ i few.
-          subst (λ us. ValueAt w2.places y9.arena (t.kept.start + 8 + 4 * i) (slice_index_or us i nil)) same_arguments (stands.arguments i (omega (arith, few, enough, counted))))
-          (extras_held w2 x2 y9 (t.kept.start + 8) extra as_extra
+          subst (λ us. ValueAt w2.places y9.arena (t.start + 8 + 4 * i) (slice_index_or us i nil)) same_arguments (stands.arguments i (omega (arith, few, enough, counted))))
+          (extras_held w2 x2 y9 (t.start + 8) extra as_extra
           (self_out x.captured x2.captured (Some self) world.later (captured_later setting g.call.things later) cs g.held) method method_is_there)
           (t.site g.site) (fits_later extra world.later g.fits) (of_values_later world.later rv rw of_rest)
           (rest_beside (is_some q.rest) rw regs' regs (beside 4 (omega arith) (λ e. omega (arith, e))) rest_there))) in
@@ -497,7 +489,7 @@ module _ (setting : Setting) (number : ℕ) (extra : Extra) (q : FlatProcedure) 
           let costs = (called_grows setting (suc j) n (method_routine setting.at) keep_words y7).cost in
           going_on_law setting 58 (loaded_paid - 700) kept_behind m m rs valid w w2 around (charged 1 x) x2 y6 y8 (meant x2) (jumping regs' y8)
           (record { later = world.later; things = world.things; stack = world.stack; end = world.end; more_exits = world.more_exits; same_size = world.same_size })
-          (record { control = back.control; blocks = back.blocks; charged = back.charged; paid = omega (arith, spared) }) (omega arith) (omega (arith, spared, costs)) t.kept.frame
+          (record { control = back.control; blocks = back.blocks; charged = back.charged; paid = omega (arith, spared) }) (omega arith) (omega (arith, spared, costs)) t.frame
           (calls_spared setting {credit = 2 + loaded_paid} {c = loaded_paid - 700} (omega arith) behind_ends)
 
       one_kept :
@@ -521,10 +513,10 @@ module _ (setting : Setting) (number : ℕ) (extra : Extra) (q : FlatProcedure) 
           (subst (λ p. SparingCall setting kept_paid m rs valid w around x y (go_on kept_record (λ v a. meant a)) p) (sym run)
           (going_on_law setting 18 kept_behind kept_paid m m rs valid w w around (charged 1 x) (charged 1 x) y y6 (go_on kept_record (λ v a. meant a))
           (mid_go_on (exec_step c keep_call regs5 y6) jumping) (world_both setting 1 twice_world) (around_both setting 1 twice_around) (omega arith) (omega arith) refl
-          (made_after setting Kept (λ t. nil) (λ t. t.kept.start + 8) c kept_behind (n + entry_spare) m 3 (method_routine setting.at) (1 ∷ 2 ∷ 3 ∷ []) keep_words rs valid w around x y6 regs5
+          (made_after setting Kept (λ t. nil) (λ t. t.start + 8) c kept_behind (n + entry_spare) m 3 (method_routine setting.at) (1 ∷ 2 ∷ 3 ∷ []) keep_words rs valid w around x y6 regs5
           kept_record (λ v a. meant a) jumping words_there left_over (λ v a. grown_later (meant_later setting j q cs called_as variables around a)) (λ g1 x1. jumping_grows g1 x1)
-          (λ t. ap (λ (e : FlatEvaluated). e.outcome) t.kept.outcome) (λ t. t.kept.end)
-          (keeps rs valid w around x y7 called_there chain address chain_at takes_them (subst (λ us. ArgumentsLent setting w y7.arena address us) (sym same_arguments) g.lent)
+          (λ t. ap (λ (e : FlatEvaluated). e.outcome) t.outcome) (λ t. t.end)
+          (keeps rs valid w around x y7 called_there chain address chain_at takes_them (subst (λ us. ArgumentsGiven setting w y7.arena address us) (sym same_arguments) g.arguments)
           (fewer_begins routine_words (omega arith) begins7))
           (λ t. kept_on t))))
         where
@@ -549,20 +541,19 @@ module _ (setting : Setting) (number : ℕ) (extra : Extra) (q : FlatProcedure) 
         (subst (λ b. MethodHeld setting w y.arena b (as_registers (chain ∷ length vs ∷ address ∷ [])) (Some 0) called_as) (sym keeps_none) g.method) of_rest rest_there))
 
     method_ends :
-        CallsKept setting (suc j) n → m + 16 ≤ n + entry_spare → ((k : Called) → called_as ≡ Some k → k.arguments ≡ vs) → (b : Bool) → q.keeps_method ≡ b → (o : Option Called)
+        MethodDoesAnywhere setting (suc j) n → m + 16 ≤ n + entry_spare → (b : Bool) → q.keeps_method ≡ b → (o : Option Called)
         → called_as ≡ o → {w : World} {x : FlatState} {y : MidState} (regs : Registers) → Given w x y regs → WordsOf w.places rv rw → WordsIn regs rest_registers rw
         → SparingCall setting kept_paid m rs valid w around x y (with_record setting.limit o b x (λ recorded. meant recorded)) (exec c (code_of (kept_code b)) regs y)
-    method_ends keeps left_over of_method false same None e regs g of_rest rest_there = not_kept regs same g of_rest rest_there
-    method_ends keeps left_over of_method false same (Some k) e regs g of_rest rest_there = not_kept regs same g of_rest rest_there
-    method_ends keeps left_over of_method true same None e regs g of_rest rest_there = none_kept regs e g of_rest rest_there
-    method_ends keeps left_over of_method true same (Some k) e {w} {x} {y} regs g of_rest rest_there =
-        one_kept keeps left_over k e (of_method k e) w x y regs g of_rest rest_there
+    method_ends keeps left_over false same None e regs g of_rest rest_there = not_kept regs same g of_rest rest_there
+    method_ends keeps left_over false same (Some k) e regs g of_rest rest_there = not_kept regs same g of_rest rest_there
+    method_ends keeps left_over true same None e regs g of_rest rest_there = none_kept regs e g of_rest rest_there
+    method_ends keeps left_over true same (Some k) e {w} {x} {y} regs g of_rest rest_there =
+        one_kept keeps left_over k e (g.method_arguments k e) w x y regs g of_rest rest_there
 
   -- ---- further arguments become a list
 
   module _ (j n m : ℕ) (does : BodyDoes setting j number extra q) (function : IsFunction setting number extra q) (few_turns_left : m ≤ setting.turns_each) (enough : req ≤ length vs)
-      (as_extra : CalledFits extra called_as) (lists_made : ListsMade setting (suc j) n) (keeps : CallsKept setting (suc j) n) (left_over : m + 16 ≤ n + entry_spare)
-      (of_method : (k : Called) → called_as ≡ Some k → k.arguments ≡ vs) where
+      (as_extra : CalledFits setting extra called_as) (lists_made : ListDoesAnywhere setting (suc j) n) (keeps : MethodDoesAnywhere setting (suc j) n) (left_over : m + 16 ≤ n + entry_spare) where
     abbrev code_here : Context
     code_here = code_at setting (suc j) n
 
@@ -607,7 +598,7 @@ module _ (setting : Setting) (number : ℕ) (extra : Extra) (q : FlatProcedure) 
     without_rest {w} {x} {y} regs none many g =
         calls_recounted setting {c1 = all_kept_paid} {m1 = m} x (x.state.units + 1) (x.state.units + 1) (omega arith) (omega arith)
         (subst (λ us. SparingCall setting all_kept_paid m rs valid w around x y (recorded_body us x) (exec code_here (code_of kept_steps) regs y)) (all_taken req vs many)
-        (method_ends j n m does function few_turns_left enough [] [] (no_rest_many q.rest none) as_extra keeps left_over of_method q.keeps_method refl called_as refl regs g tt
+        (method_ends j n m does function few_turns_left enough [] [] (no_rest_many q.rest none) as_extra keeps left_over q.keeps_method refl called_as refl regs g tt
         (no_list (is_some q.rest) regs none)))
 
     module _ (w : World) (x : FlatState) (y : MidState) (regs : Registers) (g : Given w x y regs) (more : is_some q.rest ≡ true) where
@@ -653,7 +644,7 @@ module _ (setting : Setting) (number : ℕ) (extra : Extra) (q : FlatProcedure) 
       memory_small = g.call.things.represents.arena.size
 
       few_values : length vs < 2 ^ 32
-      few_values = values_fit vs w.places y.arena address memory_small g.lent.values
+      few_values = values_fit vs w.places y.arena address memory_small (given_values setting g.call.things address vs g.arguments)
 
       front_runs : RunsTo code_here (code_of front) regs y (ends falls r4 y32)
       front_runs =
@@ -700,24 +691,50 @@ module _ (setting : Setting) (number : ℕ) (extra : Extra) (q : FlatProcedure) 
       begins32 : CallBegins setting rs valid inside_words w around x y32
       begins32 = cost_begins 32 g.call
 
-      tail_lent : (v : Value) (others : List Value) → tail_values ≡ v ∷ others → ArgumentsLent setting w y84.arena at tail_values
-      tail_lent v others e =
-          let counted = tail_count in
-          let some : length tail_values ≡ suc (length others) = ap length e in
-          let first = g.lent.values req (omega (arith, counted, some)) in
-          let limit = word_below y.arena (address + 4 * req) first.word first.stands in
-          let small = memory_small in
-          let low = g.lent.low in
-          let at_is : at ≡ address + 4 * req = sum_fits address (4 * req) (omega (arith, limit, small)) in
-          record {
-            low = omega (arith, low, at_is);
-            values = λ i few.
-                let here : address + 4 * (req + i) ≡ at + 4 * i = omega (arith, at_is) in
-                subst (λ a. ValueAt w.places y.arena a (slice_index_or tail_values i nil)) here
-                (subst (λ u. ValueAt w.places y.arena (address + 4 * (req + i)) u) (sym (dropped_same req vs i)) (g.lent.values (req + i) (omega (arith, few, counted))));
-            plain = λ i few.
-                let here : address + (4 * req + i) ≡ at + i = omega (arith, at_is) in subst (λ a. Plain w a) here (g.lent.plain (4 * req + i) (omega (arith, few, counted)));
-          }
+      -- the further arguments are given too
+      tail_given : (v : Value) (others : List Value) → tail_values ≡ v ∷ others → ArgumentsGiven setting w y84.arena at tail_values
+      tail_given v others e = by g.arguments
+        where
+          counted : length tail_values + req ≡ length vs
+          counted = tail_count
+
+          in_memory : address + 4 * req < 4 * length y.arena.memory
+          in_memory =
+              let some : length tail_values ≡ suc (length others) = ap length e in
+              let first = given_values setting g.call.things address vs g.arguments req (omega (arith, counted, some)) in
+              word_below y.arena (address + 4 * req) first.word first.stands
+
+          at_is : at ≡ address + 4 * req
+          at_is = let limit = in_memory in let small = memory_small in sum_fits address (4 * req) (omega (arith, limit, small))
+
+          by : ArgumentsGiven setting w y.arena address vs → ArgumentsGiven setting w y84.arena at tail_values
+          by (inl lent) =
+              let low = lent.low in
+              let limit = in_memory in
+              let small = memory_small in
+              inl (record {
+                low = omega (arith, low, at_is);
+                is_word = omega (arith, limit, small, at_is);
+                values = λ i few.
+                    let here : address + 4 * (req + i) ≡ at + 4 * i = omega (arith, at_is) in
+                    subst (λ a. ValueAt w.places y.arena a (slice_index_or tail_values i nil)) here
+                    (subst (λ u. ValueAt w.places y.arena (address + 4 * (req + i)) u) (sym (dropped_same req vs i)) (lent.values (req + i) (omega (arith, few, counted))));
+                plain = λ i few.
+                    let here : address + (4 * req + i) ≡ at + i = omega (arith, at_is) in subst (λ a. Plain w a) here (lent.plain (4 * req + i) (omega (arith, few, counted)));
+              })
+          by (inr kept) =
+              let here = kept.here in
+              let more = length-append kept.before (take req vs) in
+              let taken = taken_count req vs enough in
+              inr (record {
+                number = kept.number;
+                start = kept.start;
+                call = kept.call;
+                is_kept = kept.is_kept;
+                before = kept.before ++ take req vs;
+                arguments = kept.arguments ∙ ap (λ us. kept.before ++ us) (sym (take-append-drop req vs)) ∙ sym (append_assoc kept.before (take req vs) tail_values);
+                here = omega (arith, at_is, here, more, taken);
+              })
 
       -- behind the list
       listed_on :
@@ -732,7 +749,7 @@ module _ (setting : Setting) (number : ℕ) (extra : Extra) (q : FlatProcedure) 
           let regs' : Registers = slice_set r4 4 (Some t.returned.word) in
           let g2 : Given t.returned.w' listed.state list_outcome.state regs' =
           given_on regs' g32 world back listed_later (t.site g.site) (length-set r4 4 (Some t.returned.word)) (λ r few. register_beside r4 4 r (Some t.returned.word) (λ e. omega (arith, e, few))) in
-          method_ends j n m does function few_turns_left enough (t.returned.result ∷ []) (t.returned.word ∷ []) (one_rest_many t.returned.result q.rest more) as_extra keeps left_over of_method q.keeps_method refl called_as
+          method_ends j n m does function few_turns_left enough (t.returned.result ∷ []) (t.returned.word ∷ []) (one_rest_many t.returned.result q.rest more) as_extra keeps left_over q.keeps_method refl called_as
           refl regs' g2 (t.returned.of_value, tt) (one_list (is_some q.rest) t.returned.word regs' more (register_here r4 4 t.returned.word (omega (arith, size, size4))))
 
       with_rest :
@@ -755,7 +772,7 @@ module _ (setting : Setting) (number : ℕ) (extra : Extra) (q : FlatProcedure) 
           (λ tail after. recorded_body (take req vs ++ tail ∷ []) after) (λ g1 x1. exec code_here (code_of kept_steps) g1 x1) list_there begins32.things (omega (arith, counted)) left_over
           (grown_later listed_later).units (λ tail after. grown_later (recorded_later (take req vs ++ tail ∷ []) after)) (λ g1 x1. steps_grow setting (suc j) n kept_steps g1 x1)
           (λ t. record { outcome = t.returned.outcome; end = t.returned.end; world = t.returned.world; back = t.returned.back; frame = t.returned.frame })
-          (lists_made rs valid w around x y84 tail_values at tail_lent (fewer_begins routine_words (omega arith) (cost_begins 52 begins32)))
+          (lists_made rs valid w around x y84 tail_values at tail_given (fewer_begins routine_words (omega arith) (cost_begins 52 begins32)))
           (λ t world back. listed_on t world back))))
 
     -- ---- a level is judged

@@ -1,4 +1,4 @@
--- The entry of a function: its arguments are loaded, its body is called, and its word returned.
+-- The entry of a function without further arguments, which keeps no call: its arguments are loaded, its body is called, and its word returned.
 use Rattle.std.proofs.Common.{◌≡◌, inl, inr, ℕ, zero, suc, ◌+◌, ◌*◌, ◌==◌, ◌<◌, ◌≤◌, Bool, true, false, List, [], ◌∷◌, ◌++◌, length, Option, Some, None, refl, sym, ap, ◌∙◌, subst, arith}
 use Rattle.std.specs.Prelude.{◌||◌, slice_get, slice_index_or, is_some, option_to_list, if◌then◌else◌}
 use Rattle.std.proofs.lemmas.Bool.Decides.{nat_tests}
@@ -18,14 +18,14 @@ use Rattle.flat_laws.proofs.Applied.{boxes}
 use Rattle.flat_laws.proofs.Combined.{own_slots_left}
 use Rattle.flat_laws.proofs.Later.{later_kept}
 use Rattle.mid_code.specs.declared.program.MidProcedure.{MidProcedure}
-use Rattle.mid_code.specs.Arena.{stack_from, word_at}
+use Rattle.mid_code.specs.Arena.{word_at}
 use Rattle.mid_code.specs.Costs.{entry_cost, return_cost}
 use Rattle.mid_code.specs.Meaning.{exec}
 use Rattle.mid_code.specs.MidCode.{return_word, code_of}
 use Rattle.mid_code.specs.State.{Registers, register, first_registers, MidState, MidOutcome}
 use Rattle.mid_code.specs.State.{charged as mid_charged}
 use Rattle.mid_arena.specs.Places.{WordsOf}
-use Rattle.mid_arena.specs.Standing.{ValueAt}
+use Rattle.mid_arena.specs.Standing.{ValueAt, ValuesAt}
 use Rattle.mid_arena.proofs.Running.{parts_then}
 use Rattle.back_lowering.specs.ControlWords.{site_address}
 use Rattle.back_lowering.specs.Placement.{entry_of_lambda, body_of_procedure}
@@ -40,10 +40,11 @@ use Rattle.back_relation.specs.Room.{routine_words, entry_words, words_for_handl
 use Rattle.back_relation.specs.Worlds.{World, Standing}
 use Rattle.back_relation.specs.Things.{Things}
 use Rattle.back_relation.specs.Around.{RoomFor, AroundStands, CallBegins}
-use Rattle.back_relation.specs.Activation.{SelfHeld, MethodHeld, MethodThere}
+use Rattle.back_relation.specs.Activation.{SelfHeld, ArgumentsThere, MethodHeld, MethodThere}
 use Rattle.back_relation.specs.Ends.{done, left_by, full_there, stopped, few_turns, CallEnds, SparingCall}
 use Rattle.back_relation.specs.Forms.{below_at, context_at, code_at}
-use Rattle.back_relation.specs.Procedures.{called, as_registers, mean_inside, body_words, body_credit, entry_credit, IsFunction, CapturedFits, ExtraGiven, BodyDoes, ArgumentsLent, EntryBegins}
+use Rattle.back_relation.specs.Procedures.{called, as_registers, mean_inside, body_words, body_credit, entry_credit, IsFunction, CapturedFits, ExtraGiven, BodyDoes, ArgumentsGiven, CalledFits}
+use Rattle.back_function_entries.proofs.Ready.{EntryReady, EntryReserve}
 use Rattle.back_combining.proofs.Growth.{same_flat, grown_later}
 use Rattle.back_combining.proofs.Worlds.{later_same, around_again}
 use Rattle.back_combining.proofs.Straight.{same_here, things_units, things_cost, world_cost, around_cost}
@@ -53,12 +54,11 @@ use Rattle.back_calling.proofs.Growing.{tasks_below}
 use Rattle.back_calling.proofs.Inner.{going_on_law, returned}
 use Rattle.back_calling.proofs.Numbers.{numbers_law}
 use Rattle.back_calling.proofs.Units.{begins_recounted, calls_recounted}
-use Rattle.back_bodies.proofs.Held.{extra_below}
+use Rattle.back_bodies.proofs.Held.{extra_below, values_below, given_values, given_there}
 use Rattle.back_bodies.proofs.Scopes.{first_count}
 use Rattle.back_applications.proofs.Applied.{called_grows}
 use Rattle.back_applications.proofs.Levels.{level_there}
 use Rattle.back_applications.proofs.Charging.{asked, things_charged, around_charged, framed_ends, within_asked}
-use Rattle.back_function_entries.specs.FunctionEntries.{CalledFits, LawOfFunctionEntries, LawOfMethodEntries}
 use Rattle.back_function_entries.proofs.Loading.{loads_run}
 
 same_numbers : (a b : ℕ) → (a == b) ≡ true → a ≡ b
@@ -249,51 +249,34 @@ module _ (setting : Setting) where
 
   -- ---- what the body takes
 
-  pub method_there : (w : World) (y : MidState) (chain count address : ℕ) (called_as : Option Called) → stack_from y.arena ≤ address
-      → MethodThere setting w y.arena (as_registers (chain ∷ count ∷ address ∷ [])) (Some 0) called_as
-  method_there w y chain count address None low = tt
-  method_there w y chain count address (Some c) low = λ x e. let same : address ≡ x = cc e in inr (omega (arith, low, same))
+  pub method_there :
+      (w : World) (y : MidState) (chain count address : ℕ) (vs : List Value) (called_as : Option Called) → ((c : Called) → called_as ≡ Some c → c.arguments ≡ vs)
+      → ArgumentsGiven setting w y.arena address vs → MethodThere setting w y.arena (as_registers (chain ∷ count ∷ address ∷ [])) (Some 0) called_as
+  method_there w y chain count address vs None of_method arguments = tt
+  method_there w y chain count address vs (Some c) of_method arguments =
+      λ x e.
+      let same : address ≡ x = cc e in
+      subst (λ a. ArgumentsThere w y.arena a c) same (given_there setting w y.arena address vs c (of_method c refl) arguments)
 
   extras_given :
       (extra : Extra) (q : FlatProcedure) (cs : List Captured) (called_as : Option Called) (self chain count address : ℕ) (w : World) (z : FlatState) (y : MidState) → q.keeps_method ≡ false
-      → CalledFits extra called_as → SelfHeld w z.captured (Some self) cs
-      → MethodHeld setting w y.arena false (as_registers (chain ∷ count ∷ address ∷ [])) (Some 0) called_as → stack_from y.arena ≤ address
+      → CalledFits setting extra called_as → SelfHeld w z.captured (Some self) cs
+      → MethodHeld setting w y.arena false (as_registers (chain ∷ count ∷ address ∷ [])) (Some 0) called_as
+      → MethodThere setting w y.arena (as_registers (chain ∷ count ∷ address ∷ [])) (Some 0) called_as
       → ExtraGiven setting w z y extra q cs called_as (extra_words extra self chain count address)
   unfolding extra_words
-  extras_given nothing q cs called_as self chain count address w z y none fits held method low = (fits, refl)
-  extras_given itself q cs called_as self chain count address w z y none fits held method low = (fits, refl, held)
-  extras_given its_method q cs called_as self chain count address w z y none fits held method low = (
+  extras_given nothing q cs called_as self chain count address w z y none fits held method there = (fits, refl)
+  extras_given itself q cs called_as self chain count address w z y none fits held method there = (fits, refl, held)
+  extras_given its_method q cs called_as self chain count address w z y none fits held method there = (
     refl,
     subst (λ b. MethodHeld setting w y.arena b (as_registers (chain ∷ count ∷ address ∷ [])) (Some 0) called_as) (sym none) method,
-    method_there w y chain count address called_as low,
+    there,
   )
-
-  -- where the entry begins, with the words of the application charged
-  begun :
-      (q : FlatProcedure) (vs : List Value) {rs valid : List Standing} {n : ℕ} {w : World} {around : DynamicContext} {z : FlatState} {y : MidState}
-      → has_room setting.limit (z.state.heap + z.state.stack + 0 + size_of q vs) ≡ true → q.rest ≡ None → entry_words ≤ n → length vs ≡ length q.required
-      → CallBegins setting rs valid n w around z y
-      → CallBegins setting rs valid (entry_words + body_words q) w around (charged (length vs) (asked (size_of q vs) z)) y
-  begun q vs {n = n} {around = around} {z = z} {y = y} room none reserve same b = record {
-    things = things_units setting (length vs) (things_charged setting (asked (size_of q vs) z) b.things refl refl refl refl refl (within_asked setting (size_of q vs) z room));
-    around_stands = around_charged setting (charged (length vs) (asked (size_of q vs) z)) refl b.around_stands;
-    room = room_by setting.limit b.room;
-  }
-    where
-      room_by : (l : Limit) → RoomFor l (n + words_for_handler * length around.handlers) z.state y
-          → RoomFor l (entry_words + body_words q + words_for_handler * length around.handlers) (charged (length vs) (asked (size_of q vs) z)).state y
-      room_by unlimited h = tt
-      room_by (words k) h = omega (arith, h, same, homes_count q none, reserve)
 
   -- a cost takes no room
   pub room_cost : (l : Limit) (m paid : ℕ) (z : FlatState) (y : MidState) → RoomFor l m z.state y → RoomFor l m z.state (mid_charged paid y)
   room_cost unlimited m paid z y h = tt
   room_cost (words n) m paid z y h = h
-
-  values_inside :
-      (w : World) (y y' : MidState) (address : ℕ) (vs : List Value) → ((x : ℕ) → word_at y'.arena x ≡ word_at y.arena x) → ArgumentsLent setting w y.arena address vs → (i : ℕ) → i < length vs
-      → ValueAt w.places y'.arena (address + 4 * i) (slice_index_or vs i nil)
-  values_inside w y y' address vs same lent i few = let at = lent.values i few in record { word = at.word; of_value = at.of_value; stands = same (address + 4 * i) ∙ at.stands }
 
   -- a cost is nothing around
   cost_around : {rs valid : List Standing} {w : World} {around : DynamicContext} {z : FlatState} {y : MidState} (paid : ℕ) → AroundStands setting w rs valid around z y
@@ -305,11 +288,15 @@ module _ (setting : Setting) where
   -- ---- the law
 
   module _ (turns number : ℕ) (extra : Extra) (q : FlatProcedure) (placed : IsPlaced setting) (few : turns ≤ setting.turns_each) (no_rest : q.rest ≡ None) (keeps_none : q.keeps_method ≡ false)
-      (rs valid : List Standing) (n : ℕ) (cs : List Captured) (called_as : Option Called) (vs : List Value) (self chain address : ℕ) (w : World) (around : DynamicContext) (z : FlatState) (y : MidState)
-      (function : IsFunction setting number extra q) (fits : CapturedFits setting w number extra q cs) (as_extra : CalledFits extra called_as)
-      (b : EntryBegins setting rs valid n q cs called_as vs self chain address w around z y) where
+      (rs valid : List Standing) (cs : List Captured) (called_as : Option Called) (vs : List Value) (self chain address : ℕ) (w : World) (around : DynamicContext) (z : FlatState) (y : MidState)
+      (function : IsFunction setting number extra q) (fits : CapturedFits setting w number extra q cs) (as_extra : CalledFits setting extra called_as)
+      (b : EntryReady setting rs valid q cs called_as vs self chain address w around z y) where
     many : length vs ≡ length q.required
     many = taken q.rest (length q.required) (length vs) no_rest b.takes_so_many
+
+    -- the words of the arguments stand below the frame too
+    values_inside : (y' : MidState) → ((x : ℕ) → word_at y'.arena x ≡ word_at y.arena x) → ValuesAt w.places y'.arena address vs
+    values_inside y' same = values_below w y y' address vs same (given_values setting b.things address vs b.arguments)
 
     abbrev entry_given : List ℕ
     entry_given = self ∷ chain ∷ length vs ∷ address ∷ []
@@ -327,7 +314,7 @@ module _ (setting : Setting) where
         (meant j q cs called_as vs around z1) (found number extra q placed function) refl refl (omega arith) (omega (arith, grown.units)) grown.printed (begins_recounted setting (z1.state.units + 1) begins)
         (λ i e y' here.
         inside_ends number extra q no_rest keeps_none rs valid vs self chain address w around many (suc j) i turns (body_credit q) (charged 1 z1) y' (meant j q cs called_as vs around z1) here.call.things
-        (values_inside w y y' address vs here.words b.arguments)
+        (values_inside y' here.words)
         (λ ws paid of_values.
         let inner : CallBegins setting rs valid (body_words q + routine_words) w around z1 y' = begins_recounted setting z1.state.units here.call in
         fewer_turns setting.turns_each turns few
@@ -345,7 +332,8 @@ module _ (setting : Setting) where
               extra_below setting extra q cs called_as (given number extra q no_rest keeps_none rs valid vs self chain address w around many) w z1 y
               (mid_charged (call_paid number extra q no_rest keeps_none rs valid vs self chain address w around many) (mid_charged paid y')) here.words here.from
               (extras_given extra q cs called_as self chain (length vs) address w z1 y keeps_none as_extra
-              (subst (λ kept. SelfHeld w kept (Some self) cs) (sym captured) b.function_word) b.method b.arguments.low);
+              (subst (λ kept. SelfHeld w kept (Some self) cs) (sym captured) b.function_word) b.method
+              (method_there w y chain (length vs) address vs called_as b.method_arguments b.arguments));
           site = λ asks. (b.site.0, here.words site_address ∙ b.site.1, b.site.2);
         }))))
 
@@ -355,17 +343,18 @@ module _ (setting : Setting) where
         let h = homes_count q no_rest in
         omega (arith, l, h, many)
 
-    entry_ends : (k : ℕ) (wrong : FlatSignals) → ((j : ℕ) → k ≡ suc j → BodyDoes setting j number extra q)
+    entry_ends : (k : ℕ) (wrong : FlatSignals) → ((j : ℕ) → k ≡ suc j → BodyDoes setting j number extra q) → (k ≡ zero → EntryReserve setting rs valid w around z y)
         → SparingCall setting (entry_credit (length vs)) turns rs valid w around z y
         (descend (below_at setting k) (λ entered. enter (context_at setting k) wrong q cs called_as vs around entered) around z) (called (code_at setting k turns) number entry_given y)
-    entry_ends zero wrong does =
+    entry_ends zero wrong does none =
         let r : FlatEvaluated = descend (below_at setting zero) (λ entered. enter (context_at setting zero) wrong q cs called_as vs around entered) around z in
-        let enough = b.enough in
+        let reserve = none refl in
+        let enough = reserve.enough in
         without_level (credit_inside 0 + entry_cost 4) (entry_credit (length vs)) refl
-        (turns_entered setting zero turns number turns n routine_words (credit_inside 0) (made number extra q) entry_given rs valid w around (charged 1 z) y r (found number extra q placed function) refl refl
-        (omega (arith, enough)) (omega arith) (same_flat z).printed (begins_recounted setting (z.state.units + 1) b.call)
+        (turns_entered setting zero turns number turns reserve.count routine_words (credit_inside 0) (made number extra q) entry_given rs valid w around (charged 1 z) y r (found number extra q placed function) refl refl
+        (omega (arith, enough)) (omega arith) (same_flat z).printed (begins_recounted setting (z.state.units + 1) reserve.call)
         (λ i e y' here.
-        inside_ends number extra q no_rest keeps_none rs valid vs self chain address w around many zero i turns 0 (charged 1 z) y' r here.call.things (values_inside w y y' address vs here.words b.arguments)
+        inside_ends number extra q no_rest keeps_none rs valid vs self chain address w around many zero i turns 0 (charged 1 z) y' r here.call.things (values_inside y' here.words)
         (λ ws paid of_values.
         no_level_at setting i (body_of_procedure setting.at number) turns (body_made extra q) (ws ++ given number extra q no_rest keeps_none rs valid vs self chain address w around many) w z
         (mid_charged (call_paid number extra q no_rest keeps_none rs valid vs self chain address w around many) (mid_charged paid y'))
@@ -373,23 +362,27 @@ module _ (setting : Setting) where
         (same_flat z)
         (things_cost setting (call_paid number extra q no_rest keeps_none rs valid vs self chain address w around many)
         (things_cost setting paid (begins_recounted setting z.state.units here.call).things)))))
-    entry_ends (suc j) wrong does =
+    entry_ends (suc j) wrong does none =
         let z1 : FlatState = charged (length vs) (asked (size_of q vs) z) in
         subst (λ r. SparingCall setting (entry_credit (length vs)) turns rs valid w around z y r (called (code_at setting (suc j) turns) number entry_given y))
         (sym (level_there setting j (λ entered. enter (context_at setting (suc j)) wrong q cs called_as vs around entered) around z
         ∙ entered_is j q cs called_as vs around wrong z no_rest keeps_none b.takes_so_many))
-        (framed_ends setting 1 (size_of q vs) (λ entered. meant j q cs called_as vs around (charged (length vs) entered)) b.call.things.represents.printed
+        (framed_ends setting 1 (size_of q vs) (λ entered. meant j q cs called_as vs around (charged (length vs) entered)) b.things.represents.printed
         (called_grows setting (suc j) turns number entry_given y)
         (λ room. (
           (meant_later j q cs called_as vs around z1).stack,
           calls_recounted setting {c1 = credit_inside (body_credit q) + entry_cost 4} {m1 = turns} (asked (size_of q vs) z) (z1.state.units + 1) (z.state.units + 1) (omega (arith, cost_all)) (omega arith)
-              (entered_ends j (does j refl) z1 refl (begun q vs room no_rest b.enough many b.call)),
+              (entered_ends j (does j refl) z1 refl (b.begun room)),
         )))
 
-pub function_entries_law : LawOfFunctionEntries
-function_entries_law setting k turns number extra q placed few no_rest keeps_none does rs valid n wrong cs called_as vs self chain address w around z y function fits as_extra b =
-    entry_ends setting turns number extra q placed few no_rest keeps_none rs valid n cs called_as vs self chain address w around z y function fits as_extra b k wrong does
-
-pub method_entries_law : LawOfMethodEntries
-method_entries_law setting k turns number q placed few no_rest keeps_none does rs valid n wrong cs called_as vs self chain address w around z y function fits b =
-    function_entries_law setting k turns number its_method q placed few no_rest keeps_none does rs valid n wrong cs called_as vs self chain address w around z y function fits tt b
+pub function_entries :
+    (setting : Setting) (k turns number : ℕ) (extra : Extra) (q : FlatProcedure) → IsPlaced setting → turns ≤ setting.turns_each → q.rest ≡ None → q.keeps_method ≡ false
+    → ((j : ℕ) → k ≡ suc j → BodyDoes setting j number extra q)
+    → (rs valid : List Standing) (wrong : FlatSignals) (cs : List Captured) (called_as : Option Called) (vs : List Value) (self chain address : ℕ) (w : World) (around : DynamicContext) (z : FlatState) (y : MidState)
+    → IsFunction setting number extra q → CapturedFits setting w number extra q cs → CalledFits setting extra called_as
+    → EntryReady setting rs valid q cs called_as vs self chain address w around z y → (k ≡ zero → EntryReserve setting rs valid w around z y)
+    → SparingCall setting (entry_credit (length vs)) turns rs valid w around z y
+    (descend (below_at setting k) (λ entered. enter (context_at setting k) wrong q cs called_as vs around entered) around z)
+    (called (code_at setting k turns) number (self ∷ chain ∷ length vs ∷ address ∷ []) y)
+function_entries setting k turns number extra q placed few no_rest keeps_none does rs valid wrong cs called_as vs self chain address w around z y function fits as_extra b none =
+    entry_ends setting turns number extra q placed few no_rest keeps_none rs valid cs called_as vs self chain address w around z y function fits as_extra b k wrong does none

@@ -1,6 +1,6 @@
 -- The entry of a function that makes a list or keeps a call: it is entered, and its arguments are given.
 use Rattle.std.specs.Prelude.{◌||◌, is_some, option_to_list, if◌then◌else◌}
-use Rattle.std.proofs.Common.{◌≡◌, ℕ, zero, suc, ◌+◌, ◌*◌, ◌≤◌, Bool, true, false, List, [], ◌∷◌, ◌++◌, length, Option, Some, None, refl, sym, ap, ◌∙◌, subst, arith}
+use Rattle.std.proofs.Common.{◌≡◌, inl, ℕ, zero, suc, ◌+◌, ◌*◌, ◌≤◌, Bool, true, false, List, [], ◌∷◌, ◌++◌, length, Option, Some, None, refl, sym, ap, ◌∙◌, subst, arith}
 use Rattle.std.proofs.lemmas.Bool.Decides.{nat_tests}
 use Rattle.std.proofs.lemmas.List.{length-append}
 use Rattle.lang_meaning.specs.Counts.{application_words, unit_cost}
@@ -10,7 +10,7 @@ use Rattle.lang_meaning.specs.State.{DynamicContext, Limit, words, unlimited, ha
 use Rattle.lang_meaning.specs.Values.{Value}
 use Rattle.flat_language.specs.declared.program.FlatProcedure.{FlatProcedure}
 use Rattle.flat_language.specs.FlatNodes.{homes, nodes}
-use Rattle.flat_language.specs.FlatSignals.{FlatSignals, descend, enter, gathered, form, with_record}
+use Rattle.flat_language.specs.FlatSignals.{FlatSignals, signal, descend, enter, gathered, form, with_record}
 use Rattle.flat_language.specs.FlatState.{Captured, FlatState, FlatEvaluated, charged, in_frame, no_environment}
 use Rattle.flat_laws.specs.FlatLater.{FlatLater}
 use Rattle.flat_laws.proofs.Applied.{gathers, records, boxes}
@@ -31,12 +31,13 @@ use Rattle.back_lowering.specs.RoutineCodes.{level_code}
 use Rattle.back_lowering.specs.Routines.{level_routine, list_routine, method_routine}
 use Rattle.back_lowering.specs.Steps.{Steps, call, constant, compute, if_equal, words_loaded}
 use Rattle.back_lowering.specs.Scope.{registers_from}
-use Rattle.back_relation.specs.Procedures.{mean_inside, called, body_words, body_credit, entry_credit, IsFunction, CapturedFits, BodyDoes, EntryBegins}
+use Rattle.back_relation.specs.Procedures.{mean_inside, called, body_words, body_credit, entry_credit, IsFunction, CapturedFits, BodyDoes, EntryBegins, CalledFits}
 use Rattle.back_relation.specs.Setting.{Setting}
 use Rattle.back_relation.specs.Placed.{IsPlaced}
 use Rattle.back_relation.specs.Room.{routine_words, entry_words, words_for_handler}
+use Rattle.back_relation.specs.Things.{Things}
 use Rattle.back_relation.specs.Worlds.{World, Standing}
-use Rattle.back_relation.specs.Around.{RoomFor, CallBegins}
+use Rattle.back_relation.specs.Around.{RoomFor, AroundStands, CallBegins}
 use Rattle.back_relation.specs.Ends.{Returned, LeftCall, CallEnds, SparingCall}
 use Rattle.back_relation.specs.Forms.{below_at, context_at, code_at}
 use Rattle.back_relation.specs.RoutineClaims.{list_credit}
@@ -51,15 +52,17 @@ use Rattle.back_calling.proofs.Entered.{turns_entered, no_level_at}
 use Rattle.back_calling.proofs.Inner.{looked}
 use Rattle.back_calling.proofs.Numbers.{numbers_law}
 use Rattle.back_calling.proofs.Units.{begins_recounted, calls_recounted}
-use Rattle.back_bodies.proofs.Held.{extra_below}
+use Rattle.back_bodies.proofs.Held.{extra_below, given_below}
 use Rattle.back_bodies.proofs.Scopes.{first_count}
 use Rattle.back_applications.proofs.Applied.{called_grows}
 use Rattle.back_applications.proofs.Charging.{asked, things_charged, around_charged, framed_ends, within_asked}
 use Rattle.back_applications.proofs.Levels.{level_there}
-use Rattle.back_function_entries.specs.AllEntries.{ListsMade, CallsKept, LawOfEntries, LawOfMethods}
-use Rattle.back_function_entries.specs.FunctionEntries.{CalledFits}
+use Rattle.back_function_entries.specs.Entries.{ListDoesAnywhere, MethodDoesAnywhere, LawOfEntries}
+use Rattle.back_applications.specs.Lending.{with_lent}
+use Rattle.back_function_entries.specs.Lending.{LawOfLentEntries}
 use Rattle.back_function_entries.proofs.AllEntries.{Given, few_args, level_ends}
-use Rattle.back_function_entries.proofs.FunctionEntries.{extras, found, method_there, without_level, function_entries_law}
+use Rattle.back_function_entries.proofs.Ready.{EntryReady, EntryReserve}
+use Rattle.back_function_entries.proofs.FunctionEntries.{extras, found, method_there, without_level, function_entries}
 
 takes_enough : (a b : ℕ) (r : Bool) → takes a r b ≡ true → a ≤ b
 takes_enough a b true e = grind (arith, nat_tests)
@@ -74,9 +77,9 @@ few_more None = omega arith
 few_more (Some x) = omega arith
 
 module _ (setting : Setting) (turns number : ℕ) (extra : Extra) (q : FlatProcedure) (placed : IsPlaced setting) (few : turns ≤ setting.turns_each) (some : (is_some q.rest || q.keeps_method) ≡ true)
-    (rs valid : List Standing) (n : ℕ) (cs : List Captured) (called_as : Option Called) (vs : List Value) (self chain address : ℕ) (w : World) (around : DynamicContext) (z : FlatState) (y : MidState)
-    (function : IsFunction setting number extra q) (fits : CapturedFits setting w number extra q cs) (as_extra : CalledFits extra called_as)
-    (b : EntryBegins setting rs valid n q cs called_as vs self chain address w around z y) where
+    (rs valid : List Standing) (cs : List Captured) (called_as : Option Called) (vs : List Value) (self chain address : ℕ) (w : World) (around : DynamicContext) (z : FlatState) (y : MidState)
+    (function : IsFunction setting number extra q) (fits : CapturedFits setting w number extra q cs) (as_extra : CalledFits setting extra called_as)
+    (b : EntryReady setting rs valid q cs called_as vs self chain address w around z y) where
   abbrev made_entry : MidProcedure
   made_entry = entry setting.names setting.at setting.program (body_of_procedure setting.at number) extra q
 
@@ -104,8 +107,6 @@ module _ (setting : Setting) (turns number : ℕ) (extra : Extra) (q : FlatProce
       {y' : MidState} → Inside setting rs valid (body_words q + routine_words) (entry_cost 4) w around (charged 1 z1) y y'
       → Given setting number extra q rs valid cs called_as vs self chain address around w z1 y' regs0
   given_inside {y'} here =
-      let low = b.arguments.low in
-      let from = here.from in
       record {
         call = begins_recounted setting z1.state.units here.call;
         count = first_count (7 + length q.required) entry_given (omega arith);
@@ -113,33 +114,19 @@ module _ (setting : Setting) (turns number : ℕ) (extra : Extra) (q : FlatProce
         chain_there = refl;
         count_there = refl;
         at_there = refl;
-        lent = record {
-          low = omega (arith, low, from);
-          values = λ i few_values. let at = b.arguments.values i few_values in record { word = at.word; of_value = at.of_value; stands = here.words (address + 4 * i) ∙ at.stands };
-          plain = b.arguments.plain;
-        };
+        arguments = given_below setting w y y' address vs here.words here.from b.arguments;
+        method_arguments = b.method_arguments;
         held = b.function_word;
         method =
             (extra_below setting its_method (record q { keeps_method = false }) cs called_as (chain ∷ length vs ∷ address ∷ []) w z y y' here.words here.from
-            (refl, b.method, method_there setting w y chain (length vs) address called_as low)).1;
+            (refl, b.method, method_there setting w y chain (length vs) address vs called_as b.method_arguments b.arguments)).1;
         site = (b.site.0, here.words site_address ∙ b.site.1, b.site.2);
         fits = fits;
       }
 
-  begun : has_room setting.limit (z.state.heap + z.state.stack + 0 + size) ≡ true → CallBegins setting rs valid (entry_words + body_words q) w around z1 y
-  begun room = record {
-    things = things_units setting (length vs) (things_charged setting (asked size z) b.call.things refl refl refl refl refl (within_asked setting size z room));
-    around_stands = around_charged setting z1 refl b.call.around_stands;
-    room = room_by setting.limit b.call.room;
-  }
-    where
-      room_by : (l : Limit) → RoomFor l (n + words_for_handler * length around.handlers) z.state y → RoomFor l (entry_words + body_words q + words_for_handler * length around.handlers) z1.state y
-      room_by unlimited h = tt
-      room_by (words k) h = let reserve = b.enough in omega (arith, h, reserve)
-
   -- ---- with a level
 
-  module _ (j : ℕ) (does : BodyDoes setting j number extra q) (made : (i : ℕ) → turns ≡ suc i → ListsMade setting (suc j) i × CallsKept setting (suc j) i) where
+  module _ (j : ℕ) (does : BodyDoes setting j number extra q) (made : (i : ℕ) → turns ≡ suc i → ListDoesAnywhere setting (suc j) i × MethodDoesAnywhere setting (suc j) i) where
     abbrev body_of_all : List Value → FlatState → FlatEvaluated
     body_of_all us gone = with_record setting.limit called_as q.keeps_method gone (λ recorded. mean_inside (context_at setting (suc j)) q cs called_as us around recorded)
 
@@ -179,11 +166,11 @@ module _ (setting : Setting) (turns number : ℕ) (extra : Extra) (q : FlatProce
     entered_ends room =
         let grown = grown_later (meant_all_later z1) in
         turns_entered setting (suc j) turns number turns (entry_words + body_words q) (body_words q + routine_words) inside_paid made_entry entry_given rs valid w around (charged 1 z1) y (meant_all z1)
-        (found setting number extra q placed function) refl refl (omega arith) (omega (arith, grown.units)) grown.printed (begins_recounted setting (z1.state.units + 1) (begun room))
+        (found setting number extra q placed function) refl refl (omega arith) (omega (arith, grown.units)) grown.printed (begins_recounted setting (z1.state.units + 1) (b.begun room))
         (λ i e y' here.
         let all_made = made i e in
         subst (λ ss. CallEnds setting inside_paid turns rs valid w around (charged 1 z1) y' (meant_all z1) (exec (code_at setting (suc j) i) (code_of ss) regs0 y')) (sym code_is)
-        (level_ends setting number extra q rs valid cs called_as vs self chain address around j i turns does function few enough as_extra all_made.0 all_made.1 (omega (arith, e)) b.method_arguments placed
+        (level_ends setting number extra q rs valid cs called_as vs self chain address around j i turns does function few enough as_extra all_made.0 all_made.1 (omega (arith, e)) placed
         exactly regs0 (given_inside here)))
 
     entered_is :
@@ -206,7 +193,7 @@ module _ (setting : Setting) (turns number : ℕ) (extra : Extra) (q : FlatProce
     level_there_ends wrong =
         subst (λ r. SparingCall setting (entry_credit (length vs)) turns rs valid w around z y r (called (code_at setting (suc j) turns) number entry_given y))
         (sym (level_there setting j (λ entered. enter (context_at setting (suc j)) wrong q cs called_as vs around entered) around z ∙ entered_is wrong))
-        (framed_ends setting 1 size (λ entered. meant_all (charged (length vs) entered)) b.call.things.represents.printed (called_grows setting (suc j) turns number entry_given y)
+        (framed_ends setting 1 size (λ entered. meant_all (charged (length vs) entered)) b.things.represents.printed (called_grows setting (suc j) turns number entry_given y)
         (λ room. (
           (meant_all_later z1).stack,
           calls_recounted setting {c1 = inside_paid + entry_cost 4} {m1 = turns} (asked size z) (z1.state.units + 1) (z.state.units + 1) (omega (arith, cost_fits)) (omega arith) (entered_ends room),
@@ -215,14 +202,14 @@ module _ (setting : Setting) (turns number : ℕ) (extra : Extra) (q : FlatProce
   -- ---- without one
 
   none_there_ends :
-      (credit : ℕ) (r : FlatEvaluated) → r ≡ record { outcome = more; state = z } → SparingCall setting credit turns rs valid w around z y r (called (code_at setting zero turns) number entry_given y)
-  none_there_ends credit r is_none =
+      EntryReserve setting rs valid w around z y → (credit : ℕ) (r : FlatEvaluated) → r ≡ record { outcome = more; state = z } → SparingCall setting credit turns rs valid w around z y r (called (code_at setting zero turns) number entry_given y)
+  none_there_ends reserve credit r is_none =
       let none : FlatEvaluated = record { outcome = more; state = z } in
-      let reserve = b.enough in
+      let enough_words = reserve.enough in
       subst (λ p. SparingCall setting credit turns rs valid w around z y p (called (code_at setting zero turns) number entry_given y)) (sym is_none)
       (without_level setting (0 + entry_cost 4) credit refl
-      (turns_entered setting zero turns number turns n routine_words 0 made_entry entry_given rs valid w around (charged 1 z) y none (found setting number extra q placed function) refl refl
-      (omega (arith, reserve)) (omega arith) (same_flat z).printed (begins_recounted setting (z.state.units + 1) b.call)
+      (turns_entered setting zero turns number turns reserve.count routine_words 0 made_entry entry_given rs valid w around (charged 1 z) y none (found setting number extra q placed function) refl refl
+      (omega (arith, enough_words)) (omega arith) (same_flat z).printed (begins_recounted setting (z.state.units + 1) reserve.call)
       (λ i e y' here.
       let behind : Steps = behind_level in
       subst (λ ss. CallEnds setting 0 turns rs valid w around (charged 1 z) y' none (exec (code_at setting zero i) (code_of ss) regs0 y')) (sym behind_is)
@@ -247,8 +234,6 @@ module _ (setting : Setting) (turns number : ℕ) (extra : Extra) (q : FlatProce
       behind_is : made_entry.body ≡ call 4 (level_routine setting.at) [] ∷ behind_level
       behind_is = ap (λ t. (if t then call 4 (level_routine setting.at) [] ∷ [] else []) ++ behind_level) some
 
--- ---- all functions
-
 none_there : {X : Type 0} (o : Option X) → is_some o ≡ false → o ≡ None
 none_there None e = refl
 none_there (Some x) e = absurd (cc e)
@@ -257,41 +242,96 @@ neither : (a b : Bool) → (a || b) ≡ false → (a ≡ false) × (b ≡ false)
 neither true b e = absurd (cc e)
 neither false b e = (refl, e)
 
+-- ---- what an entry is given, with all words of its own or with those of a block among the ones that are charged
+
+module _ (setting : Setting) (rs valid : List Standing) (q : FlatProcedure) (vs : List Value) (w : World) (around : DynamicContext) (z : FlatState) (y : MidState) where
+  abbrev size_of : ℕ
+  size_of = application_words (nodes q.body) + length vs
+
+  -- the words of the application were charged
+  charged_begins :
+      Things setting w z y → AroundStands setting w rs valid around z y
+      → RoomFor setting.limit (entry_words + body_words q + words_for_handler * length around.handlers) (charged (length vs) (asked size_of z)).state y
+      → has_room setting.limit (z.state.heap + z.state.stack + 0 + size_of) ≡ true
+      → CallBegins setting rs valid (entry_words + body_words q) w around (charged (length vs) (asked size_of z)) y
+  charged_begins things stands left room = record {
+    things = things_units setting (length vs) (things_charged setting (asked size_of z) things refl refl refl refl refl (within_asked setting size_of z room));
+    around_stands = around_charged setting (charged (length vs) (asked size_of z)) refl stands;
+    room = left;
+  }
+
+  room_of_call : (l : Limit) (n : ℕ) → entry_words ≤ n → RoomFor l (n + words_for_handler * length around.handlers) z.state y
+      → RoomFor l (entry_words + body_words q + words_for_handler * length around.handlers) (charged (length vs) (asked size_of z)).state y
+  room_of_call unlimited n enough h = tt
+  room_of_call (words k) n enough h = omega (arith, h, enough)
+
+  room_of_lent : (l : Limit) → RoomFor l (entry_words + words_for_handler * length around.handlers) (with_lent (length vs) z.state) y
+      → RoomFor l (entry_words + body_words q + words_for_handler * length around.handlers) (charged (length vs) (asked size_of z)).state y
+  room_of_lent unlimited h = tt
+  room_of_lent (words k) h = omega (arith, h)
+
+ready_of :
+    (setting : Setting) (rs valid : List Standing) (n : ℕ) (q : FlatProcedure) (cs : List Captured) (called_as : Option Called) (vs : List Value) (self chain address : ℕ) (w : World) (around : DynamicContext)
+    (z : FlatState) (y : MidState) → EntryBegins setting rs valid n q cs called_as vs self chain address w around z y → EntryReady setting rs valid q cs called_as vs self chain address w around z y
+ready_of setting rs valid n q cs called_as vs self chain address w around z y b = record {
+  things = b.call.things;
+  begun = charged_begins setting rs valid q vs w around z y b.call.things b.call.around_stands (room_of_call setting rs valid q vs w around z y setting.limit n b.enough b.call.room);
+  site = b.site;
+  arguments = b.arguments;
+  takes_so_many = b.takes_so_many;
+  function_word = b.function_word;
+  method = b.method;
+  method_arguments = b.method_arguments;
+}
+
+-- ---- all functions
+
+module _ (setting : Setting) (k turns number : ℕ) (extra : Extra) (q : FlatProcedure) (placed : IsPlaced setting) (few : turns ≤ setting.turns_each)
+    (made : (n : ℕ) → turns ≡ suc n → ListDoesAnywhere setting k n × MethodDoesAnywhere setting k n) (does : (j : ℕ) → k ≡ suc j → BodyDoes setting j number extra q)
+    (rs valid : List Standing) (wrong : FlatSignals) (cs : List Captured) (called_as : Option Called) (vs : List Value) (self chain address : ℕ) (w : World) (around : DynamicContext) (z : FlatState) (y : MidState)
+    (function : IsFunction setting number extra q) (fits : CapturedFits setting w number extra q cs) (as_extra : CalledFits setting extra called_as)
+    (b : EntryReady setting rs valid q cs called_as vs self chain address w around z y) (none : k ≡ zero → EntryReserve setting rs valid w around z y) where
+  abbrev Comes : ℕ → Type 0
+  Comes l =
+      SparingCall setting (entry_credit (length vs)) turns rs valid w around z y
+      (descend (below_at setting l) (λ entered. enter (context_at setting l) wrong q cs called_as vs around entered) around z)
+      (called (code_at setting l turns) number (self ∷ chain ∷ length vs ∷ address ∷ []) y)
+
+  at_level : (l : ℕ) → k ≡ l → (is_some q.rest || q.keeps_method) ≡ true → Comes k
+  at_level zero e some =
+      subst Comes (sym e)
+      (none_there_ends setting turns number extra q placed few some rs valid cs called_as vs self chain address w around z y function fits as_extra b (none e) (entry_credit (length vs)) _ refl)
+  at_level (suc j) e some =
+      subst Comes (sym e)
+      (level_there_ends setting turns number extra q placed few some rs valid cs called_as vs self chain address w around z y function fits as_extra b j (does j e)
+      (λ i same. subst (λ l. ListDoesAnywhere setting l i × MethodDoesAnywhere setting l i) e (made i same)) wrong)
+
+  by_extras : (t : Bool) → (is_some q.rest || q.keeps_method) ≡ t → Comes k
+  by_extras true some = at_level k refl some
+  by_extras false nothing_more =
+      let no = neither (is_some q.rest) q.keeps_method nothing_more in
+      function_entries setting k turns number extra q placed few (none_there q.rest no.0) no.1 does rs valid wrong cs called_as vs self chain address w around z y function fits as_extra b none
+
+  pub any_entry_ends : Comes k
+  any_entry_ends = by_extras (is_some q.rest || q.keeps_method) refl
+
 pub entries_law : LawOfEntries
 entries_law setting k turns number extra q placed few made does rs valid n wrong cs called_as vs self chain address w around z y function fits as_extra b =
-    by (is_some q.rest || q.keeps_method) refl
-  where
-    at_level : (l : ℕ) → k ≡ l → (is_some q.rest || q.keeps_method) ≡ true
-        → SparingCall setting (entry_credit (length vs)) turns rs valid w around z y
-        (descend (below_at setting k) (λ entered. enter (context_at setting k) wrong q cs called_as vs around entered) around z)
-        (called (code_at setting k turns) number (self ∷ chain ∷ length vs ∷ address ∷ []) y)
-    at_level zero e some =
-        subst
-        (λ l.
-        SparingCall setting (entry_credit (length vs)) turns rs valid w around z y
-        (descend (below_at setting l) (λ entered. enter (context_at setting l) wrong q cs called_as vs around entered) around z)
-        (called (code_at setting l turns) number (self ∷ chain ∷ length vs ∷ address ∷ []) y))
-        (sym e)
-        (none_there_ends setting turns number extra q placed few some rs valid n cs called_as vs self chain address w around z y function fits as_extra b (entry_credit (length vs)) _ refl)
-    at_level (suc j) e some =
-        subst
-        (λ l.
-        SparingCall setting (entry_credit (length vs)) turns rs valid w around z y
-        (descend (below_at setting l) (λ entered. enter (context_at setting l) wrong q cs called_as vs around entered) around z)
-        (called (code_at setting l turns) number (self ∷ chain ∷ length vs ∷ address ∷ []) y))
-        (sym e)
-        (level_there_ends setting turns number extra q placed few some rs valid n cs called_as vs self chain address w around z y function fits as_extra b j (does j e)
-        (λ i same. subst (λ l. ListsMade setting l i × CallsKept setting l i) e (made i same)) wrong)
+    any_entry_ends setting k turns number extra q placed few made does rs valid wrong cs called_as vs self chain address w around z y function fits as_extra
+    (ready_of setting rs valid n q cs called_as vs self chain address w around z y b) (λ e. record { count = n; enough = b.enough; call = b.call })
 
-    by : (t : Bool) → (is_some q.rest || q.keeps_method) ≡ t
-        → SparingCall setting (entry_credit (length vs)) turns rs valid w around z y
-        (descend (below_at setting k) (λ entered. enter (context_at setting k) wrong q cs called_as vs around entered) around z)
-        (called (code_at setting k turns) number (self ∷ chain ∷ length vs ∷ address ∷ []) y)
-    by true some = at_level k refl some
-    by false none =
-        let no = neither (is_some q.rest) q.keeps_method none in
-        function_entries_law setting k turns number extra q placed few (none_there q.rest no.0) no.1 does rs valid n wrong cs called_as vs self chain address w around z y function fits as_extra b
-
-pub methods_law : LawOfMethods
-methods_law setting k turns number q placed few made does rs valid n wrong cs called_as vs self chain address w around z y function fits b =
-    entries_law setting k turns number its_method q placed few made does rs valid n wrong cs called_as vs self chain address w around z y function fits tt b
+-- **entries whose arguments are lent in words that the application pays**
+pub lent_entries_law : LawOfLentEntries
+lent_entries_law setting k turns number extra q placed few made does rs valid cs vs self address w around z y function fits as_extra lent site arguments takes_many held =
+    any_entry_ends setting (suc k) turns number extra q placed few made (λ j e. let same : k ≡ j = omega (arith, e) in subst (λ l. BodyDoes setting l number extra q) same does) rs valid
+    (signal (context_at setting (suc k))) cs None vs self 0 address w around z y function fits as_extra
+    (record {
+      things = lent.things;
+      begun = charged_begins setting rs valid q vs w around z y lent.things lent.around_stands (room_of_lent setting rs valid q vs w around z y setting.limit lent.room);
+      site = site;
+      arguments = inl arguments;
+      takes_so_many = takes_many;
+      function_word = held;
+      method = (length vs, address, refl, refl, refl);
+      method_arguments = λ c e. absurd (cc e);
+    }) (λ e. absurd (omega (arith, e)))

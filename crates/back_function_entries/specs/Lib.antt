@@ -1,2 +1,2 @@
-pub mod FunctionEntries
-pub mod AllEntries
+pub mod Entries
+pub mod Lending

@@ -1,23 +1,13 @@
-// The laws of entries, each as the contract of a function that does nothing.
-ghost use Rattle.back_function_entries.specs.AllEntries.{LawOfEntries, LawOfMethods};
-ghost use Rattle.back_function_entries.specs.FunctionEntries.{LawOfFunctionEntries, LawOfMethodEntries};
+// The law of entries, as the contract of a function that does nothing.
+ghost use Rattle.back_function_entries.specs.Lending.{LawOfLentEntries};
+ghost use Rattle.back_function_entries.specs.Entries.{LawOfEntries};
 
-/// The entry of a function without further arguments, which keeps no method.
-pub fn law_function_entries()
-    ensures { LawOfFunctionEntries }
-{}
-
-/// The entry of such a method, whatever it is called as.
-pub fn law_method_entries()
-    ensures { LawOfMethodEntries }
-{}
-
-/// The entry of any function.
+/// The entry of any function, whatever it is called as.
 pub fn law_entries()
     ensures { LawOfEntries }
 {}
 
-/// The entry of any method, whatever it is called as.
-pub fn law_methods()
-    ensures { LawOfMethods }
+/// The entry of any function, where there is a level, with its arguments in words that the application pays.
+pub fn law_lent_entries()
+    ensures { LawOfLentEntries }
 {}

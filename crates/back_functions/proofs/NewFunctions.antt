@@ -17,7 +17,7 @@ use Rattle.flat_language.specs.FlatState.{Captured, FlatState, on_state, under}
 use Rattle.mid_code.specs.Arena.{begin_of, stack_from, left, word_at}
 use Rattle.mid_code.specs.State.{MidState}
 use Rattle.mid_arena.specs.Growing.{Grows}
-use Rattle.mid_arena.specs.Places.{Spot, Owner, of_object, spot_of, pointer_to, with_object, word_of}
+use Rattle.mid_arena.specs.Places.{Spot, Owner, of_object, spot_in, spot_of, pointer_to, with_object, word_of}
 use Rattle.mid_arena.specs.Standing.{SameWords}
 use Rattle.mid_arena.proofs.Growing.{words_grown}
 use Rattle.mid_arena.proofs.Keeping.{old_spot}
@@ -175,15 +175,25 @@ module _ (setting : Setting) (placed : IsPlaced setting) {w : World} {z : FlatSt
       by (inl f) = f
       by (inr f) = absurd (cc f.1)
 
-  captured_all :
-      (i : ℕ) (ds : List Captured) → under i ((length store, cs) ∷ z.captured) ≡ Some ds → (q : ℕ) × (slice_get (store ++ function p ∷ []) i ≡ Some (function q))
+  new_there : (i : ℕ) → i ≡ length store → spot_of function_world.places (of_object i) ≡ Some new_spot
+  new_there i at =
+      let number : i ≡ length w.places.objects = omega (arith, at, t.represents.count) in
+      ap (λ n. spot_of function_world.places (of_object n)) number ∙ ap spot_in (slice_get-behind w.places.objects (Some new_spot))
+
+  -- a function that captured something has a spot
+  abbrev FunctionThere : ℕ → Type 0
+  FunctionThere i = (q : ℕ) × (slice_get (store ++ function p ∷ []) i ≡ Some (function q)) × (s : Spot) × (spot_of function_world.places (of_object i) ≡ Some s)
+
+  captured_all : (i : ℕ) (ds : List Captured) → under i ((length store, cs) ∷ z.captured) ≡ Some ds → FunctionThere i
   captured_all i ds e = by (i == length store) refl e
     where
-      by : (b : Bool) → (i == length store) ≡ b → (if b then Some cs else under i z.captured) ≡ Some ds → (q : ℕ) × (slice_get (store ++ function p ∷ []) i ≡ Some (function q))
+      by : (b : Bool) → (i == length store) ≡ b → (if b then Some cs else under i z.captured) ≡ Some ds → FunctionThere i
       by true g h =
           let at : i ≡ length store = grind (arith, nat_tests) in
-          (p, ap (slice_get (store ++ function p ∷ [])) at ∙ slice_get-behind store (function p))
-      by false g h = let old = t.captured i ds h in (old.0, slice_get-front store (function p ∷ []) i (function old.0) old.1)
+          (p, ap (slice_get (store ++ function p ∷ [])) at ∙ slice_get-behind store (function p), new_spot, new_there i at)
+      by false g h =
+          let old = t.captured i ds h in
+          (old.0, slice_get-front store (function p ∷ []) i (function old.0) old.1, old.2, later.spots (of_object i) old.2 old.3)
 
   pub things_made : Things setting function_world (function_meant p cs z) made_state
   things_made = record {

@@ -9,7 +9,7 @@ use Rattle.lang_meaning.specs.Classes.{fetch}
 use Rattle.lang_meaning.specs.Objects.{Object, function, closure, generic_function, program_error_class, function_class}
 use Rattle.lang_meaning.specs.Primitives.{is_function}
 use Rattle.lang_meaning.specs.Signals.{takes}
-use Rattle.lang_meaning.specs.State.{DynamicContext, Limit, words, unlimited}
+use Rattle.lang_meaning.specs.State.{DynamicContext}
 use Rattle.lang_meaning.specs.Values.{Value, nil}
 use Rattle.flat_language.specs.declared.program.FlatProcedure.{FlatProcedure}
 use Rattle.flat_language.specs.FlatNodes.{tables}
@@ -21,7 +21,7 @@ use Rattle.flat_laws.proofs.Later.{later_kept}
 use Rattle.mid_code.specs.declared.operation.Comparison.TheVariants.{Equal, Different, LessUnsigned}
 use Rattle.mid_code.specs.declared.operation.Counted.TheVariants.{Turn}
 use Rattle.mid_code.specs.declared.program.MidProcedure.{MidProcedure}
-use Rattle.mid_code.specs.Arena.{stack_from, word_at}
+use Rattle.mid_code.specs.Arena.{word_at}
 use Rattle.mid_code.specs.Costs.{entry_cost}
 use Rattle.mid_code.specs.Meaning.{Context, exec}
 use Rattle.mid_code.specs.MidCode.{return_word, code_of}
@@ -49,17 +49,15 @@ use Rattle.back_relation.specs.Placed.{IsPlaced, ArityStands, HasSymbol}
 use Rattle.back_relation.specs.Worlds.{World, Standing}
 use Rattle.back_relation.specs.Things.{AreMadeBy, FunctionStands}
 use Rattle.back_relation.specs.Activation.{SelfHeld}
-use Rattle.back_relation.specs.Around.{RoomFor, CallBegins, SiteStored}
+use Rattle.back_relation.specs.Around.{CallBegins, SiteStored}
 use Rattle.back_relation.specs.Ends.{WorldKept, Around, CallEnds}
 use Rattle.back_relation.specs.Forms.{below_at, context_at, code_at}
-use Rattle.back_relation.specs.Procedures.{called, IsFunction, CapturedFits, ArgumentsLent, entry_credit}
-use Rattle.back_relation.specs.RoutineClaims.{WordIs, applying_credit}
+use Rattle.back_relation.specs.Procedures.{IsFunction, CapturedFits, CalledFits, ArgumentsLent, entry_credit}
+use Rattle.back_relation.specs.RoutineClaims.{WordIs, generic_credit, applying_credit}
 use Rattle.back_combining.specs.Starts.{FlatGrown}
 use Rattle.back_combining.proofs.Growth.{grown_later}
 use Rattle.back_combining.proofs.Parts.{step_then}
-use Rattle.back_combining.proofs.Starts.{room_after}
 use Rattle.back_combining.proofs.Straight.{world_cost, around_cost}
-use Rattle.back_combining.proofs.Then.{call_then, from_same}
 use Rattle.back_calling.specs.Calling.{WordsIn}
 use Rattle.back_calling.proofs.Entered.{turns_law}
 use Rattle.back_calling.proofs.Formed.{call_comes, call_number_comes}
@@ -68,26 +66,32 @@ use Rattle.back_calling.proofs.Inner.{returned}
 use Rattle.back_calling.proofs.Numbers.{numbers_law}
 use Rattle.back_calling.proofs.Units.{calls_recounted}
 use Rattle.back_chains.proofs.Constants.{constants_law}
-use Rattle.back_function_entries.specs.FunctionEntries.{CalledFits}
-use Rattle.back_function_entries.proofs.FunctionEntries.{room_cost}
-use Rattle.back_generics.specs.Functions.{FunctionParts, LawOfFunctions, LawOfFunctionClaims, function_cost, other_cost}
+use Rattle.back_transfers.proofs.Points.{point_begins}
+use Rattle.back_transfers.proofs.Within.{call_less}
+use Rattle.back_signals.specs.Law.{ConditionsDo}
+use Rattle.back_signals.specs.Within.{making_credit}
+use Rattle.back_methods.specs.Methods.{EntriesDo, EntriesBelow}
+use Rattle.back_methods.proofs.Given.{lent_then, lent_inside}
+use Rattle.back_generics.specs.Functions.{LawOfFunctions, LawOfFunctionClaims}
+use Rattle.back_generics.proofs.Generics.{generics_law}
 use Rattle.back_generics.proofs.Judging.{odd_tells, half_is, some_more, too_few, so_many, others_many, judged_over}
-use Rattle.back_generics.proofs.Points.{steps_grown, straight, first_branch, second_branch}
+use Rattle.back_generics.proofs.Points.{second_of, fewer_room, steps_grown, straight, first_branch, second_branch}
 
-second_of : {X : Type 0} (x y : X) {b : Bool} → b ≡ false → (if b then x else y) ≡ y
-second_of x y e = ap (λ b. if b then x else y) e
-
-fewer_room : (l : Limit) (m m' : ℕ) (z : FlatState) (y : MidState) → m' ≤ m → RoomFor l m z.state y → RoomFor l m' z.state y
-fewer_room unlimited m m' z y few h = tt
-fewer_room (words n) m m' z y few h = omega (arith, h, few)
-
-module _ (setting : Setting) (placed : IsPlaced setting) (k n spare fail : ℕ) (few : n + suc spare ≤ suc setting.turns_each) (over : spare ≤ 14) (generic : ℕ → ℕ) (rs valid : List Standing) (around : DynamicContext)
-    (parts : FunctionParts setting k spare fail around generic) (w : World) (z : FlatState) (f : Value) (vs : List Value) (word address : ℕ) (is : WordIs setting w word f) where
+module _ (setting : Setting) (placed : IsPlaced setting) (k n spare : ℕ) (few : n + suc spare ≤ suc setting.turns_each) (over : spare ≤ 14) (rs valid : List Standing) (around : DynamicContext)
+    (entries : EntriesDo setting k) (chains : EntriesBelow setting k) (conditions : ConditionsDo setting k (suc (suc spare)) around) (w : World) (z : FlatState) (f : Value) (vs : List Value) (word address : ℕ) (is : WordIs setting w word f) where
   abbrev c : Context
   c = code_at setting k n
 
   abbrev m : ℕ
   m = n + suc spare
+
+  -- what is paid for a condition
+  abbrev fail : ℕ
+  fail = making_credit
+
+  -- conditions leave more turns over than that
+  fewer : {credit : ℕ} {y : MidState} {r : FlatEvaluated} {q : MidOutcome} → CallEnds setting credit (n + suc (suc spare)) rs valid w around z y r q → CallEnds setting credit m rs valid w around z y r q
+  fewer e = call_less setting (omega arith) (omega arith) e
 
   -- what is known at each point
   pub record Here (y : MidState) : Type 0 where
@@ -95,32 +99,11 @@ module _ (setting : Setting) (placed : IsPlaced setting) (k n spare fail : ℕ) 
     pub site : SiteStored setting around y
     pub lent : ArgumentsLent setting w y.arena address vs
 
-  here_cost : {y : MidState} (p : ℕ) → Here y → Here (mid_charged p y)
-  here_cost {y} p h = record {
-    call = call_then setting (world_cost setting p h.call.things) (around_cost setting {credit = p} z y p (omega arith)) generic_words h.call (room_cost setting setting.limit _ p z y h.call.room);
-    site = h.site;
-    lent = record { low = h.lent.low; values = h.lent.values; plain = h.lent.plain };
-  }
-
   here_then : {credit : ℕ} {y y' : MidState} → WorldKept setting w w z z y y' → Around setting credit z z y y' → SiteStored setting around y' → Here y → Here y'
-  here_then {y = y} {y' = y'} kept back site h =
-      let from : stack_from y'.arena ≡ stack_from y.arena = from_same setting kept back in
-      let low = h.lent.low in
-      record {
-        call = call_then setting kept back generic_words h.call (room_after setting.limit _ _ z z y y' (omega arith) back.charged h.call.room);
-        site = site;
-        lent = record {
-          low = omega (arith, low, from);
-          values = λ i few.
-              let at = h.lent.values i few in
-              record {
-                word = at.word;
-                of_value = at.of_value;
-                stands = kept.stack.words (address + 4 * i) (omega (arith, low)) (omega (arith, low, from)) (h.lent.plain (4 * i) (omega (arith, few))) ∙ at.stands;
-              };
-          plain = h.lent.plain;
-        };
-      }
+  here_then kept back site h = record { call = point_begins setting kept back h.call; site = site; lent = lent_then setting kept back h.lent }
+
+  here_cost : {y : MidState} (p : ℕ) → Here y → Here (mid_charged p y)
+  here_cost {y} p h = here_then {credit = p} (world_cost setting p h.call.things) (around_cost setting z y p (omega arith)) h.site h
 
   fewer_begins : {y : MidState} (words_here : ℕ) → words_here ≤ generic_words → CallBegins setting rs valid generic_words w around z y → CallBegins setting rs valid words_here w around z y
   fewer_begins {y} words_here enough b = record { things = b.things; around_stands = b.around_stands; room = fewer_room setting.limit _ _ z y (omega (arith, enough)) b.room }
@@ -142,8 +125,8 @@ module _ (setting : Setting) (placed : IsPlaced setting) (k n spare fail : ℕ) 
       ((and_then constant_falls (record { same = refl })).same)
       (returned setting k n fail m 3 (domain_routine setting.at) (0 ∷ 3 ∷ []) (word ∷ function_class ∷ []) [] rs valid w around z (mid_charged 6 y) (file (Some function_class) r4 r5 r6 r7 r8) wrong_kind
       (refl, (refl, tt)) (omega arith) (here_cost 6 h).call.things
-      (parts.domain n rs valid w z (mid_charged 52 (mid_charged 6 y)) few f function_class word (omega arith) is (here_cost 52 (here_cost 6 h)).site
-      (fewer_begins failing_words (omega arith) (here_cost 52 (here_cost 6 h)).call)))
+      (fewer ((conditions n rs valid w z (mid_charged 52 (mid_charged 6 y)) (omega (arith, few))).domain f function_class word (omega arith) is (here_cost 52 (here_cost 6 h)).site
+      (fewer_begins failing_words (omega arith) (here_cost 52 (here_cost 6 h)).call))))
 
   -- ---- a wrong number of arguments
 
@@ -156,8 +139,8 @@ module _ (setting : Setting) (placed : IsPlaced setting) (k n spare fail : ℕ) 
       ((and_then constant_falls (record { same = refl })).same)
       (returned setting k n fail m 6 (failing_routine setting.at) (6 ∷ []) (program_error_class ∷ []) [] rs valid w around z (mid_charged 6 y) (file r3 r4 r5 (Some program_error_class) r7 r8)
       wrong_many (refl, tt) (omega arith) (here_cost 6 h).call.things
-      (parts.failing n rs valid w z (mid_charged 46 (mid_charged 6 y)) few program_error_class (record { low = omega arith; high = omega arith; slots = refl }) (here_cost 46 (here_cost 6 h)).site
-      (fewer_begins failing_words (omega arith) (here_cost 46 (here_cost 6 h)).call)))
+      (fewer ((conditions n rs valid w z (mid_charged 46 (mid_charged 6 y)) (omega (arith, few))).class_alone program_error_class (record { low = omega arith; high = omega arith; slots = refl })
+      (here_cost 46 (here_cost 6 h)).site (fewer_begins failing_words (omega arith) (here_cost 46 (here_cost 6 h)).call))))
 
   -- ---- a function
 
@@ -171,7 +154,7 @@ module _ (setting : Setting) (placed : IsPlaced setting) (k n spare fail : ℕ) 
   function_steps = arity_into setting.at 3 5 0 ++ (where_takes setting.at 3 1 6 (wrong_number setting.at 6) ++ last_steps)
 
   module _ (number : ℕ) (extra : Extra) (q : FlatProcedure) (cs : List Captured) (is_one : IsFunction setting number extra q) (fits : CapturedFits setting w number extra q cs)
-      (held : SelfHeld w z.captured (Some word) cs) (as_extra : CalledFits extra None) where
+      (held : SelfHeld w z.captured (Some word) cs) (as_extra : CalledFits setting extra None) where
     abbrev req : ℕ
     req = length q.required
 
@@ -194,12 +177,12 @@ module _ (setting : Setting) (placed : IsPlaced setting) (k n spare fail : ℕ) 
         })).same)
         (returned setting k n 0 m 6 number (0 ∷ 3 ∷ 1 ∷ 2 ∷ []) given [] rs valid w around z y1 regs (entered cs q) words_there (omega arith) h1.call.things
         (calls_recounted setting {c1 = entry_credit (length vs)} {m1 = n} z (z.state.units + 1) z.state.units (omega arith) (omega (arith, over))
-        (parts.entries n number extra q (omega (arith, few)) rs valid generic_words (signal (context_at setting k)) cs None vs word 0 address w around z (mid_charged 64 y1) is_one fits as_extra
+        (entries n number extra q (omega (arith, few)) rs valid generic_words (signal (context_at setting k)) cs None vs word 0 address w around z (mid_charged 64 y1) is_one fits as_extra
         (record {
           call = h2.call;
           enough = omega arith;
           site = h2.site;
-          arguments = h2.lent;
+          arguments = inl h2.lent;
           takes_so_many = taken;
           function_word = held;
           method = (length vs, address, refl, refl, refl);
@@ -233,7 +216,7 @@ module _ (setting : Setting) (placed : IsPlaced setting) (k n spare fail : ℕ) 
         (λ g x. exec c (code_of (signals_steps setting.at 6 program_error_class)) g x) (fewer_begins level_words (omega arith) h.call) (omega arith)
         (subst (λ (r : FlatEvaluated). FlatGrown z r.state) (sym (wrong_is z)) (grown_later (signal_later setting k program_error_class [] around z)))
         (λ g x. steps_grown setting k n (signals_steps setting.at 6 program_error_class) g x)
-        (λ level y' world back site.
+        (λ some level y' world back site.
         subst (λ r. CallEnds setting (fail + 66) m rs valid w around z y' r (exec c (code_of (signals_steps setting.at 6 program_error_class)) (file r3 r4 r5 (Some level) r7 r8) y')) (sym (wrong_is z))
         (fails_comes r3 r4 r5 (Some level) r7 r8 y' (here_then world back (site h.site) h))))
       where
@@ -310,21 +293,21 @@ module _ (setting : Setting) (placed : IsPlaced setting) (k n spare fail : ℕ) 
   generic_comes :
       (g : ℕ) (row : GenericRow) (start : ℕ) → ConstantAt setting (setting.at.generics + 4 * g) start → GenericAt setting start row → HasSymbol setting row.name.0
       → (r3 r4 r5 r6 r7 r8 : Option ℕ) (y : MidState) → Here y → word_at y.arena (word + 2) ≡ Some (4 * g) → word + 2 < 2 ^ 32
-      → Comes (generic (length vs) + 104) y (apply_generic_row (context_at setting k) (signal (context_at setting k)) (Some row) vs around z) (exec c (code_of generic_steps) (file r3 r4 r5 r6 r7 r8) y)
+      → Comes (generic_credit (length vs) + 104) y (apply_generic_row (context_at setting k) (signal (context_at setting k)) (Some row) vs around z) (exec c (code_of generic_steps) (file r3 r4 r5 r6 r7 r8) y)
   generic_comes g row start at stands named r3 r4 r5 r6 r7 r8 y h there low =
       let here = constants_law setting w z y h.call.things (setting.at.generics + 4 * g) start at in
       let below = here.1 in
       let sum : setting.at.generics + 4 * g < 2 ^ 32 = omega (arith, below) in
-      straight setting k n m rs valid w around z meant 32 (generic (length vs) + 58 + 14) (omega arith) h.call.things
+      straight setting k n m rs valid w around z meant 32 (generic_credit (length vs) + 58 + 14) (omega arith) h.call.things
       ((and_then (load_falls refl (address_above word 2 (word + 2) (omega arith) low) there)
       (and_then constant_falls
       (and_then (compute_known refl refl (sum_fits (4 * g) setting.at.generics (omega (arith, below))))
       (and_then (load_falls refl (address_above (4 * g + setting.at.generics) 0 (setting.at.generics + 4 * g) (omega arith) sum) here.0)
       (record { same = refl }))))).same
       ∙ ap (λ x. exec c (code_of (returning setting.at 6 (generic_routine setting.at) (3 ∷ 1 ∷ 2 ∷ []))) regs (record y { cost = x })) (omega arith))
-      (returned setting k n (generic (length vs)) m 6 (generic_routine setting.at) (3 ∷ 1 ∷ 2 ∷ []) (start ∷ length vs ∷ address ∷ []) [] rs valid w around z (mid_charged 32 y) regs meant
+      (returned setting k n (generic_credit (length vs)) m 6 (generic_routine setting.at) (3 ∷ 1 ∷ 2 ∷ []) (start ∷ length vs ∷ address ∷ []) [] rs valid w around z (mid_charged 32 y) regs meant
       (refl, (refl, (refl, tt))) (omega arith) (here_cost 32 h).call.things
-      (parts.generics n rs valid w z (mid_charged 58 (mid_charged 32 y)) few row vs start address stands named (here_cost 58 (here_cost 32 h)).lent (here_cost 58 (here_cost 32 h)).site
+      (generics_law setting k n (suc spare) rs valid w around z (mid_charged 58 (mid_charged 32 y)) placed few (omega (arith, over)) chains conditions row vs start address stands named (here_cost 58 (here_cost 32 h)).lent (here_cost 58 (here_cost 32 h)).site
       (here_cost 58 (here_cost 32 h)).call))
     where
       regs : Registers
@@ -376,7 +359,7 @@ module _ (setting : Setting) (placed : IsPlaced setting) (k n spare fail : ℕ) 
 
   function_path :
       (number : ℕ) (extra : Extra) (q : FlatProcedure) (cs : List Captured) → IsFunction setting number extra q → CapturedFits setting w number extra q cs → SelfHeld w z.captured (Some word) cs
-      → CalledFits extra None → ArityStands setting number q → meant ≡ entered cs q → (y : MidState) → Here y → (word % 4 == object_tag) ≡ true → word_at y.arena (word - 2) ≡ Some function_header
+      → CalledFits setting extra None → ArityStands setting number q → meant ≡ entered cs q → (y : MidState) → Here y → (word % 4 == object_tag) ≡ true → word_at y.arena (word - 2) ≡ Some function_header
       → word_at y.arena (word + 2) ≡ Some number → word + 2 < 2 ^ 32 → Comes (fail + 304) y meant (exec c (code_of (function_code setting.at)) begun y)
   function_path number extra q cs is_one fits held as_extra arity same y h tag header there low =
       tag_comes (fail + 256) (fail + 304) function_header y (omega arith) h tag header
@@ -389,7 +372,7 @@ module _ (setting : Setting) (placed : IsPlaced setting) (k n spare fail : ℕ) 
       (g : ℕ) (row : GenericRow) (start : ℕ) → ConstantAt setting (setting.at.generics + 4 * g) start → GenericAt setting start row → HasSymbol setting row.name.0
       → meant ≡ apply_generic_row (context_at setting k) (signal (context_at setting k)) (Some row) vs around z → (y : MidState) → Here y → (word % 4 == object_tag) ≡ true
       → word_at y.arena (word - 2) ≡ Some generic_header → word_at y.arena (word + 2) ≡ Some (4 * g) → word + 2 < 2 ^ 32
-      → Comes (generic (length vs) + 182) y meant (exec c (code_of (function_code setting.at)) begun y)
+      → Comes (generic_credit (length vs) + 182) y meant (exec c (code_of (function_code setting.at)) begun y)
   generic_path g row start at stands named same y h tag header there low =
       let regs : Registers = file (Some generic_header) (Some function_header) None None None None in
       let regs' : Registers = file (Some generic_header) (Some generic_header) None None None None in
@@ -397,13 +380,13 @@ module _ (setting : Setting) (placed : IsPlaced setting) (k n spare fail : ℕ) 
       let h1 : Here y1 = here_cost 12 (here_cost 48 h) in
       let y2 : MidState = mid_charged 12 (mid_charged 6 y1) in
       let h2 : Here y2 = here_cost 12 (here_cost 6 h1) in
-      tag_comes (generic (length vs) + 134) (generic (length vs) + 182) generic_header y (omega arith) h tag header
-      (second_branch setting k n m rs valid w around z meant (generic (length vs) + 122) (test_of Equal 3 4) function_steps generic_test [] regs (mid_charged 48 y) (omega arith)
+      tag_comes (generic_credit (length vs) + 134) (generic_credit (length vs) + 182) generic_header y (omega arith) h tag header
+      (second_branch setting k n m rs valid w around z meant (generic_credit (length vs) + 122) (test_of Equal 3 4) function_steps generic_test [] regs (mid_charged 48 y) (omega arith)
       (here_cost 48 h).call.things refl refl refl
-      (straight setting k n m rs valid w around z meant 6 (generic (length vs) + 116) (omega arith) h1.call.things
+      (straight setting k n m rs valid w around z meant 6 (generic_credit (length vs) + 116) (omega arith) h1.call.things
       ((and_then constant_falls (record { same = refl })).same)
-      (first_branch setting k n m rs valid w around z meant (generic (length vs) + 104) (test_of Equal 3 4) generic_steps [] [] regs' (mid_charged 6 y1) (omega arith) (here_cost 6 h1).call.things refl refl refl
-      (subst (λ r. Comes (generic (length vs) + 104) y2 r (exec c (code_of generic_steps) regs' y2)) (sym same)
+      (first_branch setting k n m rs valid w around z meant (generic_credit (length vs) + 104) (test_of Equal 3 4) generic_steps [] [] regs' (mid_charged 6 y1) (omega arith) (here_cost 6 h1).call.things refl refl refl
+      (subst (λ r. Comes (generic_credit (length vs) + 104) y2 r (exec c (code_of generic_steps) regs' y2)) (sym same)
       (generic_comes g row start at stands named (Some generic_header) (Some generic_header) None None None None y2 h2 there low)))))
 
   -- what is no function, by its tag or by its header
@@ -474,7 +457,7 @@ module _ (setting : Setting) (placed : IsPlaced setting) (k n spare fail : ℕ) 
   defined_fits true p q = refl
   defined_fits false p q = refl
 
-  defined_called : (b : Bool) → CalledFits (if b then its_method else nothing) None
+  defined_called : (b : Bool) → CalledFits setting (if b then its_method else nothing) None
   defined_called true = tt
   defined_called false = refl
 
@@ -519,7 +502,7 @@ module _ (setting : Setting) (placed : IsPlaced setting) (k n spare fail : ℕ) 
           ∙ ap (λ o. descend (below_at setting k) (λ x. with_some o (λ a y. gives nil y) (λ q. enter (context_at setting k) (signal (context_at setting k)) q cs None vs) around x) around z) d.there)
           y h tag_is header_is (ap (word_at y.arena) behind ∙ d.number) low
 
-  generic_found : (g : ℕ) → fetch z.state f ≡ Some (generic_function g) → (y : MidState) → Here y → Comes (generic (length vs) + 182) y meant (exec c (code_of (function_code setting.at)) begun y)
+  generic_found : (g : ℕ) → fetch z.state f ≡ Some (generic_function g) → (y : MidState) → Here y → Comes (generic_credit (length vs) + 182) y meant (exec c (code_of (function_code setting.at)) begun y)
   generic_found g e y h =
       let it = object_found setting.names (tables setting.program) w.places z.state y h.call.things.represents f word (generic_function g) is e in
       let row = h.call.things.generics it.number g it.stored in
@@ -536,7 +519,7 @@ module _ (setting : Setting) (placed : IsPlaced setting) (k n spare fail : ℕ) 
       y h tag_is (ap (word_at y.arena) front ∙ it.stands.header) (ap (word_at y.arena) behind ∙ it.stands.word) (omega (arith, behind, many, below))
 
   -- **what the body comes to**
-  value_comes : (credit : ℕ) → generic (length vs) + 182 ≤ credit → fail + 304 ≤ credit → (y : MidState) → Here y → Comes credit y meant (exec c (code_of (function_code setting.at)) begun y)
+  value_comes : (credit : ℕ) → generic_credit (length vs) + 182 ≤ credit → fail + 304 ≤ credit → (y : MidState) → Here y → Comes credit y meant (exec c (code_of (function_code setting.at)) begun y)
   value_comes credit generic_low low y h = by (fetch z.state f) refl
     where
       code_end : MidOutcome
@@ -562,35 +545,22 @@ given setting = framed passing_frame (procedure_with Turn 3 (function_code setti
 -- **the application of a value**
 pub functions_law : LawOfFunctions
 unfolding function_code
-functions_law setting k turns spare fail generic credit rs valid w around z y placed few over generic_low other_low parts f vs word address is lent site begins =
-    calls_recounted setting {c1 = inner + entry_cost 3} {m1 = turns + spare} z z.state.units z.state.units (omega (arith, low)) (omega arith)
+functions_law setting k turns spare rs valid w around z y placed few over entries chains conditions f vs word address is lent site begins =
+    calls_recounted setting {c1 = inner + entry_cost 3} {m1 = turns + spare} z z.state.units z.state.units (omega arith) (omega arith)
     (turns_law setting k turns (function_routine setting.at) (turns + spare) applying_words generic_words inner (given setting) (word ∷ length vs ∷ address ∷ []) rs valid w around z y meant_here
     ((numbers_law setting).routine 10 (given setting) placed refl) refl refl (omega arith) (omega (arith, over)) grown begins
     (λ n e y' here.
     let same : n + suc spare ≡ turns + spare = omega (arith, e) in
     subst (λ t. CallEnds setting inner t rs valid w around z y' meant_here (exec (code_at setting k n) (code_of (function_code setting.at)) regs y')) same
-    (value_comes setting placed k n spare fail (omega (arith, few, e)) over generic rs valid around parts w z f vs word address is inner (omega (arith, generic_fits)) (omega (arith, low)) y'
+    (value_comes setting placed k n spare (omega (arith, few, e)) over rs valid around entries chains conditions w z f vs word address is inner (omega arith) (omega arith) y'
     (record {
       call = here.call;
       site = (site.0, here.words site_address ∙ site.1, site.2);
-      lent = record {
-        low = let from = here.from in omega (arith, lent_low, from);
-        values = λ i few_values. let at = lent.values i few_values in record { word = at.word; of_value = at.of_value; stands = here.words (address + 4 * i) ∙ at.stands };
-        plain = lent.plain;
-      };
+      lent = lent_inside setting here.words here.from lent;
     }))))
   where
-    low : fail + other_cost ≤ credit (length vs)
-    low = other_low (length vs)
-
-    generic_fits : generic (length vs) + function_cost ≤ credit (length vs)
-    generic_fits = generic_low (length vs)
-
-    lent_low : stack_from y.arena ≤ address
-    lent_low = lent.low
-
     inner : ℕ
-    inner = credit (length vs) - 38
+    inner = applying_credit (length vs) - 38
 
     regs : Registers
     regs = Some word ∷ Some (length vs) ∷ Some address ∷ None ∷ None ∷ None ∷ None ∷ None ∷ None ∷ []
@@ -606,11 +576,5 @@ functions_law setting k turns spare fail generic credit rs valid w around z y pl
 
 -- the same as it is claimed
 pub function_claims_law : LawOfFunctionClaims
-function_claims_law setting k turns fail generic rs valid w around z y placed few fail_low generic_low parts f vs word address is lent site begins =
-    let same : turns + 0 ≡ turns = omega arith in
-    subst
-    (λ t.
-    CallEnds setting (applying_credit (length vs)) t rs valid w around z y (apply_value (context_at setting k) (signal (context_at setting k)) f vs around z)
-    (called (code_at setting k turns) (function_routine setting.at) (word ∷ length vs ∷ address ∷ []) y))
-    same
-    (functions_law setting k turns 0 fail generic applying_credit rs valid w around z y placed (omega (arith, few)) (omega arith) generic_low (λ n. omega (arith, fail_low)) parts f vs word address is lent site begins)
+function_claims_law setting k turns rs valid w around z y placed few entries chains conditions f vs word address is lent site begins =
+    call_less setting (omega arith) (omega arith) (functions_law setting k turns 0 rs valid w around z y placed (omega (arith, few)) (omega arith) entries chains conditions f vs word address is lent site begins)

@@ -29,13 +29,13 @@ use Rattle.back_relation.specs.Procedures.{called}
 use Rattle.back_combining.specs.Starts.{FlatGrown}
 use Rattle.back_combining.proofs.Growth.{same_flat}
 use Rattle.back_combining.proofs.Straight.{world_cost, around_cost}
-use Rattle.back_combining.proofs.Then.{call_then, world_then, back_then}
+use Rattle.back_combining.proofs.Then.{world_then, back_then}
 use Rattle.back_calling.proofs.Entered.{no_level_at}
 use Rattle.back_calling.proofs.Inner.{going_on_law, looked, nothing_because}
 use Rattle.back_calling.proofs.Numbers.{numbers_law}
 use Rattle.back_applications.specs.Applying.{judging_cost}
 use Rattle.back_applications.proofs.Levels.{level_there, levels_there_at}
-use Rattle.back_function_entries.proofs.FunctionEntries.{room_cost}
+use Rattle.back_transfers.proofs.Points.{point_begins}
 
 -- ---- numbers of arguments
 
@@ -65,7 +65,7 @@ module _ (setting : Setting) (placed : IsPlaced setting) where
   pub judged_over :
       (k n m t c2 credit : ℕ) (rs valid : List Standing) (w : World) (around : DynamicContext) (z : FlatState) (y : MidState) (regs : Registers) (f : FlatState → FlatEvaluated) (next : Next)
       → CallBegins setting rs valid level_words w around z y → judging_cost + c2 ≤ credit → FlatGrown z (f z).state → ((g : Registers) (x : MidState) → Grown x (next g x).state)
-      → ((word : ℕ) (y' : MidState) → WorldKept setting w w z z y y' → Around setting judging_cost z z y y' → (SiteStored setting around y → SiteStored setting around y')
+      → (1 ≤ k → (word : ℕ) (y' : MidState) → WorldKept setting w w z z y y' → Around setting judging_cost z z y y' → (SiteStored setting around y → SiteStored setting around y')
       → CallEnds setting c2 m rs valid w around z y' (f z) (next (slice_set regs t (Some word)) y'))
       → CallEnds setting credit m rs valid w around z y (descend (below_at setting k) f around z)
       (mid_go_on (exec_step (code_at setting k n) (call t (level_routine setting.at) []) regs y) next)
@@ -78,7 +78,7 @@ module _ (setting : Setting) (placed : IsPlaced setting) where
       (λ x. absurd x)
   judged_over (suc j) n m t c2 credit rs valid w around z y regs f next b enough flat_grown grown h =
       let b1 : CallBegins setting rs valid level_words w around z (mid_charged 40 y) =
-      call_then setting (world_cost setting 40 b.things) (around_cost setting {credit = 40} z y 40 (omega arith)) level_words b (room_cost setting setting.limit _ 40 z y b.room) in
+      point_begins setting (world_cost setting 40 b.things) (around_cost setting {credit = 40} z y 40 (omega arith)) b in
       subst (λ r. CallEnds setting credit m rs valid w around z y r (mid_go_on (exec_step (code_at setting (suc j) n) (call t (level_routine setting.at) []) regs y) next)) (sym (level_there setting j f around z))
       (looked setting (λ q. Returned setting credit w z y (f z) q) (λ q. LeftCall setting credit rs valid w around z y (f z) q)
       (LevelThere setting (suc j) n rs valid w around z (mid_charged 40 y) (called (code_at setting (suc j) n) (level_routine setting.at) [] (mid_charged 40 y))) (λ x. x.word) (code_at setting (suc j) n) m m t
@@ -90,4 +90,4 @@ module _ (setting : Setting) (placed : IsPlaced setting) where
       back_then setting (world_cost setting 40 b.things) (around_cost setting {credit = 40} z y 40 (omega arith)) (omega arith) x.back in
       going_on_law setting judging_cost c2 credit m m rs valid w w around z z y (called (code_at setting (suc j) n) (level_routine setting.at) [] (mid_charged 40 y)).state (f z)
       (next (slice_set regs t (Some x.word)) (called (code_at setting (suc j) n) (level_routine setting.at) [] (mid_charged 40 y)).state) world back enough (omega arith) refl
-      (h x.word (called (code_at setting (suc j) n) (level_routine setting.at) [] (mid_charged 40 y)).state world back (λ stored. x.site stored))))
+      (h (omega arith) x.word (called (code_at setting (suc j) n) (level_routine setting.at) [] (mid_charged 40 y)).state world back (λ stored. x.site stored))))

@@ -1,7 +1,6 @@
-mod Points
-mod Judging
-mod Functions
-mod Classes
-mod Loops
-mod Sought
-mod Generics
+pub mod Points
+pub mod Judging
+pub mod Functions
+pub mod Looking
+pub mod Sought
+pub mod Generics

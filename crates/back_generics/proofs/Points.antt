@@ -1,6 +1,7 @@
 -- From one point of a routine's body to another: straight steps, and branches that the rest of the body is in.
-use Rattle.std.proofs.Common.{◌≡◌, ℕ, ◌+◌, ◌≤◌, List, ◌∷◌, true, false, Some, refl, sym, ap, ◌∙◌, subst, arith}
-use Rattle.lang_meaning.specs.State.{DynamicContext}
+use Rattle.std.proofs.Common.{◌≡◌, ℕ, ◌+◌, ◌≤◌, List, ◌∷◌, Bool, true, false, Some, refl, sym, ap, ◌∙◌, subst, arith}
+use Rattle.std.specs.Prelude.{if◌then◌else◌}
+use Rattle.lang_meaning.specs.State.{DynamicContext, Limit, words, unlimited}
 use Rattle.flat_language.specs.FlatState.{FlatState, FlatEvaluated}
 use Rattle.mid_code.specs.declared.operation.Test.{Test}
 use Rattle.mid_code.specs.Law.{Grown}
@@ -15,11 +16,24 @@ use Rattle.back_lowering.specs.Steps.{Steps}
 use Rattle.back_relation.specs.Setting.{Setting}
 use Rattle.back_relation.specs.Worlds.{World, Standing}
 use Rattle.back_relation.specs.Things.{Things}
+use Rattle.back_relation.specs.Around.{RoomFor}
 use Rattle.back_relation.specs.Ends.{CallEnds}
 use Rattle.back_relation.specs.Forms.{code_at}
 use Rattle.back_combining.proofs.Parts.{step_then}
 use Rattle.back_combining.proofs.Straight.{world_cost, around_cost}
 use Rattle.back_calling.proofs.Inner.{going_on_law, passing_law}
+
+-- one of two that a test tells
+pub second_of : {X : Type 0} (x y : X) {b : Bool} → b ≡ false → (if b then x else y) ≡ y
+second_of x y e = ap (λ b. if b then x else y) e
+
+pub first_one : {X : Type 0} (x y : X) {b : Bool} → b ≡ true → (if b then x else y) ≡ x
+first_one x y e = ap (λ b. if b then x else y) e
+
+-- where there is room for more words, there is for fewer
+pub fewer_room : (l : Limit) (m m' : ℕ) (z : FlatState) (y : MidState) → m' ≤ m → RoomFor l m z.state y → RoomFor l m' z.state y
+fewer_room unlimited m m' z y few h = tt
+fewer_room (words n) m m' z y few h = omega (arith, h, few)
 
 pub steps_grown : (setting : Setting) (k n : ℕ) (ss : Steps) (g : Registers) (x : MidState) → Grown x (exec (code_at setting k n) (code_of ss) g x).state
 steps_grown setting k n ss g x =

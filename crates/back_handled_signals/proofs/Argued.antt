@@ -164,6 +164,7 @@ module _ (setting : Setting) (placed : IsPlaced setting) (k t : ℕ) (rs valid :
   pub arguments : ArgumentsLent setting w_argued y_argued.arena at (c ∷ [])
   arguments = record {
     low = let from = at_from setting opened in omega (arith, from);
+    is_word = let size = stands.size in let t = to in omega (arith, size, t);
     values = λ i few. value i few;
     plain = λ i few j e. let low = stack_above (stack_from y.arena) j (at + i) w.boxes e in let t = to in omega (arith, low, t, few);
   }

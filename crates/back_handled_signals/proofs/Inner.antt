@@ -36,7 +36,7 @@ use Rattle.back_relation.specs.Around.{AroundStands, CallBegins, SiteStored}
 use Rattle.back_relation.specs.Ends.{WorldKept, Around, Transfers, Returned, LeftCall, Because, ControlBack, Ends, CallEnds, done, left_by, full_there, stopped, few_turns, walk_cost, landing_cost}
 use Rattle.back_relation.specs.Forms.{context_at, code_at}
 use Rattle.back_relation.specs.Procedures.{called}
-use Rattle.back_relation.specs.RoutineClaims.{WordIs, FunctionDoes}
+use Rattle.back_relation.specs.RoutineClaims.{WordIs, FunctionDoes, applying_credit}
 use Rattle.back_combining.specs.Starts.{FlatGrown}
 use Rattle.back_combining.specs.Stores.{stores}
 use Rattle.back_combining.proofs.Growth.{grown_later, both_prefix, both_flat, then_value, then_other, then_grown}
@@ -58,7 +58,8 @@ use Rattle.back_transfers.proofs.Points.{point_begins}
 use Rattle.back_transfers.proofs.Returning.{call_steps}
 use Rattle.back_transfers.proofs.Within.{begins_less}
 use Rattle.back_signals.specs.Within.{making_credit}
-use Rattle.back_handled_signals.specs.Handled.{LeavesSo, FailsPaid}
+use Rattle.back_leaving.specs.Leaving.{LeavesSo}
+use Rattle.back_handled_signals.specs.Handled.{FailsPaid}
 use Rattle.back_handled_signals.proofs.Blocks.{Opened, transfer_out, state_back, world_back, world_given, charged_given}
 use Rattle.back_handled_signals.proofs.Argued.{at as argument_at, control, steps, opened, y_argued, w_argued, begins_argued, site_argued, arguments, argued}
 
@@ -131,8 +132,12 @@ regs_inside c_word mark_word r2 cell site at current link bindings drawn r5 r6 r
     Some c_word ∷ Some mark_word ∷ Some r2 ∷ Some 0 ∷ Some cell ∷ r5 ∷ r6 ∷ Some site ∷ Some at ∷ Some current ∷ Some link ∷ Some cell ∷ Some bindings ∷ Some drawn ∷ Some 0 ∷ Some 3 ∷ r16
     ∷ r17 ∷ []
 
+-- what the application of a handler to its condition is paid
+abbrev pub handler_credit : ℕ
+handler_credit = applying_credit 1
+
 abbrev pub inside_credit : ℕ
-inside_credit = 1170 + 108
+inside_credit = handler_credit + 108
 
 -- **a transfer leaves it**: what registers hold, and what is paid where it goes to the exit of the signal
 pub record LeftInside (setting : Setting) (rs valid : List Standing) (w : World) (around : DynamicContext) (z : FlatState) (y : MidState) (regs : Option ℕ → Option ℕ → Option ℕ → Option ℕ → Registers) (number : ℕ)
@@ -252,7 +257,7 @@ module _ (setting : Setting) (placed : IsPlaced setting) (k t : ℕ) (rs valid :
 
   -- ---- the handler returned
 
-  module _ (x : Returned setting 1170 w2 z y2 ra came) where
+  module _ (x : Returned setting handler_credit w2 z y2 ra came) where
     abbrev o : Opened setting 1 w w2 z z y y2
     o = opened setting placed k t rs valid w around z y things ar c c_word of_condition room
 
@@ -413,10 +418,10 @@ module _ (setting : Setting) (placed : IsPlaced setting) (k t : ℕ) (rs valid :
   -- ---- **in all cases**
 
   module _ (fails : FailsPaid setting k t around) (so : LeavesSo (context_at setting k) h (c ∷ []) around z) where
-    left_case : LeftCall setting 1170 rs valid w2 around z y2 ra came → InsideEnds r1 q1
+    left_case : LeftCall setting handler_credit rs valid w2 around z y2 ra came → InsideEnds r1 q1
     unfolding transfer_out
     left_case l =
-        let x : Transfers setting 1170 rs valid w2 around z y2 ra came = l.transfer in
+        let x : Transfers setting handler_credit rs valid w2 around z y2 ra came = l.transfer in
         let o = opened setting placed k t rs valid w around z y things ar c c_word of_condition room in
         let among : IsIn x.to rs = first_stop_in x.target.address rs x.to x.outer x.stop in
         let there = ar.records x.to among in
@@ -439,7 +444,7 @@ module _ (setting : Setting) (placed : IsPlaced setting) (k t : ℕ) (rs valid :
           landing_paid = λ e. landing_paid_so l e;
         })))
       where
-        landing_paid_so : (l : LeftCall setting 1170 rs valid w2 around z y2 ra came) → l.transfer.exit_number ≡ number
+        landing_paid_so : (l : LeftCall setting handler_credit rs valid w2 around z y2 ra came) → l.transfer.exit_number ≡ number
             → came.state.cost + 62 + walk_cost * length (l.transfer.to ∷ l.transfer.outer) + unit_cost * z.state.units ≤ y.cost + walk_cost * length rs + unit_cost * ra.state.state.units + inside_credit
         landing_paid_so l e = by l.transfer.landing refl
           where
@@ -459,7 +464,7 @@ module _ (setting : Setting) (placed : IsPlaced setting) (k t : ℕ) (rs valid :
         (site_argued setting placed k t rs valid w around z y things ar c c_word of_condition room site)
         (begins_argued setting placed k t rs valid w around z y things ar c c_word of_condition room applying_words begins.room))
       where
-        by : CallEnds setting 1170 t rs valid w2 around z y2 ra came → InsideEnds r1 q1
+        by : CallEnds setting handler_credit t rs valid w2 around z y2 ra came → InsideEnds r1 q1
         by (done x) =
             subst (λ p. InsideEnds p q1) (sym (then_value ra goes x.result x.outcome))
             (subst (λ q. InsideEnds (rf x) q) (sym (code_is ∙ code_returned x)) (failed x fails so))

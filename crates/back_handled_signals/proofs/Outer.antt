@@ -47,10 +47,11 @@ use Rattle.back_exits.proofs.Leaving.{AreControls}
 use Rattle.back_exits.proofs.Puts.{Put, of_control, or_before, last_control}
 use Rattle.back_exits.proofs.Steps.{record_runs, record_wanting, gives_back, closes}
 use Rattle.back_exits.proofs.Words.{control_lent, control_of}
-use Rattle.back_handled_signals.specs.Handled.{FunctionsDo, FunctionsLeave, FailsPaid}
+use Rattle.back_leaving.proofs.Leaving.{functions_leave_law}
+use Rattle.back_handled_signals.specs.Handled.{FunctionsDo, FailsPaid}
 use Rattle.back_handled_signals.proofs.Blocks.{Opened, words_left, found_new, at_to, transfer_out, state_back, world_back, world_given, charged_back}
 use Rattle.back_handled_signals.proofs.Laid.{at, lays, lays_none, regs_before, block_laid, y_laid, w_laid, new, around_laid, site_laid, opened}
-use Rattle.back_handled_signals.proofs.Inner.{meant_inside, inside_grows, LeftInside, inside_ends, regs_inside}
+use Rattle.back_handled_signals.proofs.Inner.{inside_credit, meant_inside, inside_grows, LeftInside, inside_ends, regs_inside}
 
 landed_controls : (current link handlers bindings : ℕ) → AreControls (landed_stores current link handlers bindings)
 landed_controls current link handlers bindings = (
@@ -224,7 +225,7 @@ module _ (setting : Setting) (placed : IsPlaced setting) (k t : ℕ) (rs valid :
       -- ---- a transfer leaves the inside
 
       module _ (q : MidOutcome) (l : LeftInside setting (record_new ∷ rs) (record_new ∷ valid) wl inner_around inner_state yl regs z.state.exits r1 q) where
-        abbrev x : Transfers setting 1278 (record_new ∷ rs) (record_new ∷ valid) wl inner_around inner_state yl r1 q
+        abbrev x : Transfers setting inside_credit (record_new ∷ rs) (record_new ∷ valid) wl inner_around inner_state yl r1 q
         x = l.transfer
 
         low_record : (s : Standing) → IsIn s rs → stack_from y.arena ≤ s.address
@@ -421,7 +422,7 @@ module _ (setting : Setting) (placed : IsPlaced setting) (k t : ℕ) (rs valid :
             printed = subst (λ ps. IsPrefix ps r1.state.state.printed) (sym things.represents.printed) r1_grown.printed;
           }))
 
-      module _ (applies : FunctionsDo setting k t inner_around) (leaves_so : FunctionsLeave setting k inner_around) (fails : FailsPaid setting k t inner_around) where
+      module _ (applies : FunctionsDo setting k t inner_around) (fails : FailsPaid setting k t inner_around) where
         inside_so : Inside r1 inside_q
         inside_so = by (nat_le 3 (left yl.arena)) refl
           where
@@ -433,13 +434,13 @@ module _ (setting : Setting) (placed : IsPlaced setting) (k t : ℕ) (rs valid :
                 (word_later o.world.later h handlers.0.word handlers.0.of_value) (word_later o.world.later c c_word of_condition) mark_word r2 ar.handlers_cell
                 (at setting placed k t rs valid w around z y things ar c mark h hs c_word mark_word of_condition of_mark handlers room) ar.current ar.link ar.bindings_cell (things.serials.0 + 1) z.state.exits
                 (let count = things.serials.2 in omega (arith, count)) (leb-true 3 (left yl.arena) e) fails
-                (leaves_so (applying_words + 3) (record_new ∷ rs) (record_new ∷ valid) wl inner_state yl begins_laid h (c ∷ []))
+                (functions_leave_law setting k inner_around (applying_words + 3) (record_new ∷ rs) (record_new ∷ valid) wl inner_state yl begins_laid h (c ∷ []))
                 (applies (record_new ∷ rs) (record_new ∷ valid) _ inner_state _)
 
         laid_ends : Whole r (exec cx (code_of whole) regs0 y)
         laid_ends = subst (λ q. Whole r q) (sym whole_is) (ends_so inside_so)
 
-  module _ (applies : FunctionsDo setting k t inner_around) (leaves_so : FunctionsLeave setting k inner_around) (fails : FailsPaid setting k t inner_around) where
+  module _ (applies : FunctionsDo setting k t inner_around) (fails : FailsPaid setting k t inner_around) where
     -- **in all cases**
     pub outer_ends : Whole r (exec cx (code_of whole) regs0 y)
     unfolding mid_go_on
@@ -453,7 +454,7 @@ module _ (setting : Setting) (placed : IsPlaced setting) (k t : ℕ) (rs valid :
 
             drawn_or_not : (b : Bool) → (things.serials.0 == 2 ^ 32 - 1) ≡ b → Whole r (exec cx (code_of whole) regs0 y)
             drawn_or_not true last = none_ends room last
-            drawn_or_not false fewer = laid_ends room fewer applies leaves_so fails
+            drawn_or_not false fewer = laid_ends room fewer applies fails
         by false e =
             let wants = leb-false 8 (left y.arena) e in
             subst (λ q. Whole r q)

@@ -34,7 +34,7 @@ use Rattle.back_transfers.proofs.Frames.{memory_holds}
 use Rattle.back_transfers.proofs.Leaving.{tasks_below, control_error_is}
 use Rattle.back_transfers.proofs.Points.{point_begins}
 use Rattle.back_transfers.proofs.Within.{begins_less}
-use Rattle.back_signals.specs.Within.{RaisesWithin, making_credit}
+use Rattle.back_signals.specs.Within.{RaisesWithin, making_credit, making_spare}
 use Rattle.back_signals.proofs.Failing.{failing_does, failing_comes}
 use Rattle.back_signals.proofs.Making.{meant, with_size}
 use Rattle.back_handled_signals.specs.Handled.{FailsPaid}
@@ -69,7 +69,7 @@ module _ (setting : Setting) (placed : IsPlaced setting) (k raise_credit : ℕ) 
       outcome : r.outcome ≡ full (3 + 0) (room_left setting.limit (z.state.heap + z.state.stack))
       outcome = ap (λ (p : FlatEvaluated). p.outcome) (means ∙ ap size_so e)
 
-      by : CallEnds setting making_credit (turns + 1) rs valid w around z y r q → Paid
+      by : CallEnds setting making_credit (turns + making_spare) rs valid w around z y r q → Paid
       by (done x) =
           let no : full (3 + 0) (room_left setting.limit (z.state.heap + z.state.stack)) ≡ value x.result = sym outcome ∙ x.outcome in absurd (cc no)
       by (left_by x) =
@@ -101,22 +101,22 @@ module _ (setting : Setting) (placed : IsPlaced setting) (k raise_credit : ℕ) 
       used = routine_used setting placed 7 (framed passing_frame (procedure_with Turn 1 (failing_code setting.at))) refl
 
       entered : (t : ℕ) → turns ≡ suc t → used.frame ≤ left y.arena
-          → CallEnds setting making_credit (turns + 1) rs valid w around (charged 1 z) y r
+          → CallEnds setting making_credit (turns + making_spare) rs valid w around (charged 1 z) y r
           (leaves y.arena.blocks (exec (code_at setting k t) (code_of (failing_code setting.at)) (routine_registers setting 1 (failing_code setting.at) (control_error_class ∷ [])) (laid_frame setting used.frame 1 y)))
       entered t same room =
-          subst (λ n. CallEnds setting making_credit (n + 1) rs valid w around (charged 1 z) y r
+          subst (λ n. CallEnds setting making_credit (n + making_spare) rs valid w around (charged 1 z) y r
           (leaves y.arena.blocks (exec (code_at setting k t) (code_of (failing_code setting.at)) (routine_registers setting 1 (failing_code setting.at) (control_error_class ∷ [])) (laid_frame setting used.frame 1 y)))) (sym same)
           (body_leaves setting placed begins1.things used.frame 1 room (omega arith)
           (failing_comes setting placed k t raise_credit low rs valid (world_of setting placed w y) around (raises t (omega (arith, same))) z (laid_frame setting used.frame 1 y)
           (body_begins setting placed begins.things used.frame 1 room raise_words (let few = used.fewer in omega (arith, few)) begins)
           (laid_site setting placed begins.things used.frame 1 room around site) control_error_class control_error_is))
 
-      comes : CallEnds setting making_credit (turns + 1) rs valid w around (charged 1 z) y r q
+      comes : CallEnds setting making_credit (turns + making_spare) rs valid w around (charged 1 z) y r q
       comes =
           routine_enters setting k (failing_routine setting.at) passing_frame 1 (failing_code setting.at) used (control_error_class ∷ []) refl y turns begins1.things.represents.printed grown
           (let all = memory_holds setting begins1.things in omega (arith, all)) begins1.room begins1.things.within_limit (omega arith) entered
 
-      by : CallEnds setting making_credit (turns + 1) rs valid w around (charged 1 z) y r q → Paid
+      by : CallEnds setting making_credit (turns + making_spare) rs valid w around (charged 1 z) y r q → Paid
       by (done x) = done x
       by (left_by x) = left_by x
       by (full_there x) = full_there x

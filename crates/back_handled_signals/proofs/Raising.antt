@@ -51,7 +51,7 @@ use Rattle.back_signals.specs.Within.{RaisesWithin, raise_credit, unhandled_word
 use Rattle.back_signals.proofs.Combined.{errors_law}
 use Rattle.back_signals.proofs.Marking.{ConditionIs, condition_of, z_marked, marked_is, marked_state, marked_behind, mark_runs, count, control_kept}
 use Rattle.back_signals.proofs.Unhandled.{unhandled_law}
-use Rattle.back_handled_signals.specs.Handled.{FunctionsDo, FunctionsLeave, FailsPaid}
+use Rattle.back_handled_signals.specs.Handled.{FunctionsDo, FailsPaid}
 use Rattle.back_handled_signals.specs.Law.{UnderFewer, LawOfRaising, LawOfHandledErrors}
 use Rattle.back_handled_signals.proofs.Inner.{meant_inside}
 use Rattle.back_handled_signals.proofs.Outer.{outer_ends, whole}
@@ -207,7 +207,7 @@ module _ (setting : Setting) (placed : IsPlaced setting) (k t : ℕ) (rs valid :
             ∙ handler_runs;
       }))).same)
 
-  module _ (applies : FunctionsDo setting k t (inner around z c mark hs)) (leave : FunctionsLeave setting k (inner around z c mark hs)) (fails : FailsPaid setting k t (inner around z c mark hs)) where
+  module _ (applies : FunctionsDo setting k t (inner around z c mark hs)) (fails : FailsPaid setting k t (inner around z c mark hs)) where
     abbrev r : FlatEvaluated
     r = caught z.state.exits (meant_inside (context_at setting k) h c (inner around z c mark hs) (flat_charged 1 (exit_made z1)))
 
@@ -215,7 +215,7 @@ module _ (setting : Setting) (placed : IsPlaced setting) (k t : ℕ) (rs valid :
     body_comes =
         subst (λ q. CallEnds setting 312 (suc t + 1) rs valid w around z y r q) (sym runs)
         (call_behind setting kept1 around1 {c2 = 220} (omega arith) refl (omega arith)
-        (outer_ends setting placed k t rs valid w1 around z1 y1 begins1 c mark h hs room1 c_word mark_word (word_later kept1.later c c_word of_condition) (word_later kept1.later mark mark_word of_mark) handlers1 site1 r2 applies leave fails))
+        (outer_ends setting placed k t rs valid w1 around z1 y1 begins1 c mark h hs room1 c_word mark_word (word_later kept1.later c c_word of_condition) (word_later kept1.later mark mark_word of_mark) handlers1 site1 r2 applies fails))
 
 -- ---- **by induction on the handlers**
 
@@ -255,7 +255,7 @@ module _ (setting : Setting) (placed : IsPlaced setting) (k most : ℕ) where
           (exec (code_at setting k t) (code_of (raise_code setting.at)) (routine_registers setting 2 (raise_code setting.at) (c_word ∷ mark_word ∷ [])) (laid_frame setting used.frame 2 y)))
           (sym (meant setting k around.handlers h hs c mark around z (z_marked setting inside.things c mark c_word mark_word it of_condition of_mark) is (marked_is setting inside.things c mark c_word mark_word it of_condition of_mark)))
           (body_comes setting placed k t rs valid (world_of setting placed w y) around z (laid_frame setting used.frame 2 y) inside (laid_site setting placed begins.things used.frame 2 room around site) h hs is c mark c_word mark_word it
-          of_condition of_mark (fewer.apply t (omega (arith, same, most_turns)) (inner around z c mark hs) fewer_handlers) (fewer.leave (inner around z c mark hs) fewer_handlers)
+          of_condition of_mark (fewer.apply t (omega (arith, same, most_turns)) (inner around z c mark hs) fewer_handlers)
           (fails_paid setting placed k raise_credit (omega arith) (inner around z c mark hs) t
           (λ s few. fewer_over setting k most raise_credit (inner around z c mark hs) (inside_raises (inner around z c mark hs) refl) s (omega (arith, few, same, most_turns)))))))
         where
@@ -273,7 +273,6 @@ module _ (setting : Setting) (placed : IsPlaced setting) (k most : ℕ) where
       handled h hs around is
       (λ within e. raises hs within e (record {
         apply = λ t low a few. fewer.apply t low a (let more : length around.handlers ≡ suc (length hs) = ap length is in let so : length within.handlers ≡ length hs = ap length e in omega (arith, more, few, so));
-        leave = λ a few. fewer.leave a (let more : length around.handlers ≡ suc (length hs) = ap length is in let so : length within.handlers ≡ length hs = ap length e in omega (arith, more, few, so));
       }))
       fewer
 

@@ -1,10 +1,8 @@
--- What is asked where a handler is applied: how the application ends, and what a control error leaves over.
-use Rattle.std.specs.Prelude.{◌≡◌, ℕ, List, [], ◌∷◌}
-use Rattle.base.specs.declared.place.Place.{Place}
+-- What is asked where a handler is applied, and what a control error behind it leaves over.
+use Rattle.std.specs.Prelude.{ℕ, List, [], ◌∷◌}
 use Rattle.lang_meaning.specs.Objects.{control_error_class}
-use Rattle.lang_meaning.specs.State.{DynamicContext, at_site, value, exit}
-use Rattle.lang_meaning.specs.Values.{Value}
-use Rattle.flat_language.specs.FlatSignals.{FlatContext, signal, apply_value}
+use Rattle.lang_meaning.specs.State.{DynamicContext}
+use Rattle.flat_language.specs.FlatSignals.{signal}
 use Rattle.flat_language.specs.FlatState.{FlatState, charged}
 use Rattle.mid_code.specs.State.{MidState}
 use Rattle.back_lowering.specs.Routines.{failing_routine}
@@ -17,19 +15,6 @@ use Rattle.back_relation.specs.Forms.{context_at, code_at}
 use Rattle.back_relation.specs.Procedures.{called}
 use Rattle.back_relation.specs.RoutineClaims.{FunctionDoes}
 use Rattle.back_signals.specs.Within.{making_credit}
-
--- how an application ends: a transfer at a site goes to the end of the program; and where it has a value, the control error behind it has none
-pub record LeavesSo (context : FlatContext) (f : Value) (vs : List Value) (around : DynamicContext) (z : FlatState) : Type 0 where
-  pub sites : (e : ℕ) (v : Value) (place : Place) → (apply_value context (signal context) f vs around z).outcome ≡ exit e v (at_site place) → e ≡ 0
-  pub never :
-      (v : Value) → (apply_value context (signal context) f vs around z).outcome ≡ value v → (u : Value)
-      → (signal context control_error_class [] around (apply_value context (signal context) f vs around z).state).outcome ≡ value u → ⊥
-
--- how an application ends where all stands
-abbrev pub FunctionsLeave : Setting → (k : ℕ) → DynamicContext → Type 0
-FunctionsLeave setting k around =
-    (n : ℕ) (rs valid : List Standing) (w : World) (z : FlatState) (y : MidState) → CallBegins setting rs valid n w around z y
-    → (f : Value) (vs : List Value) → LeavesSo (context_at setting k) f vs around z
 
 module _ (setting : Setting) (k turns : ℕ) (around : DynamicContext) where
   -- the application of a function, wherever it is with that around, and with so many turns

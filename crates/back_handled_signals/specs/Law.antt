@@ -10,7 +10,7 @@ use Rattle.back_relation.specs.Placed.{IsPlaced}
 use Rattle.back_relation.specs.Worlds.{World, Standing}
 use Rattle.back_signals.specs.Law.{Errors}
 use Rattle.back_signals.specs.Within.{RaisesWithin, raise_credit}
-use Rattle.back_handled_signals.specs.Handled.{FunctionsDo, FunctionsLeave}
+use Rattle.back_handled_signals.specs.Handled.{FunctionsDo}
 
 -- what signals what goes wrong in an application matters only under what is around it
 abbrev pub LawOfWrong : Type 0
@@ -22,7 +22,6 @@ LawOfWrong =
 -- functions are applied under fewer handlers than are around, and with fewer turns
 pub record UnderFewer (setting : Setting) (k turns : ℕ) (around : DynamicContext) : Type 0 where
   pub apply : (t : ℕ) → t < turns → (inner : DynamicContext) → length inner.handlers < length around.handlers → FunctionsDo setting k t inner
-  pub leave : (inner : DynamicContext) → length inner.handlers < length around.handlers → FunctionsLeave setting k inner
 
 -- **a condition is raised**, whatever handlers are around: the innermost one is applied under those outside it
 abbrev pub LawOfRaising : Type 0

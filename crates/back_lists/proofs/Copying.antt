@@ -1,5 +1,5 @@
 -- The code that keeps the call of a method: words are requested, the chain and the number are stored, and the words of the arguments are copied.
-use Rattle.std.proofs.Common.{◌≡◌, ℕ, zero, suc, ◌+◌, ◌*◌, ◌^◌, ◌%◌, ◌<◌, ◌≤◌, List, [], ◌∷◌, ◌++◌, length, Option, Some, None, refl, sym, ap, ◌∙◌, subst, arith}
+use Rattle.std.proofs.Common.{◌≡◌, ◌⊎◌, inl, inr, ℕ, zero, suc, ◌+◌, ◌*◌, ◌^◌, ◌%◌, ◌<◌, ◌≤◌, List, [], ◌∷◌, ◌++◌, length, Option, Some, None, refl, sym, ap, ◌∙◌, subst, arith}
 use Rattle.std.specs.Prelude.{not, slice_index_or}
 use Rattle.std.proofs.lemmas.Bool.{eq-eqb, ne_eqb}
 use Rattle.base.specs.Arithmetic.{sum32}
@@ -19,6 +19,7 @@ use Rattle.mid_arena.proofs.Running.{RunsTo, StepsTo, turning, and_then, and_end
 use Rattle.mid_arena.proofs.WordFacts.{sum_fits, four_times_count}
 use Rattle.back_lowering.specs.RoutineCodes.{add_to, turns_while}
 use Rattle.back_lowering.specs.Steps.{Steps, move, constant, compute, load, store, request}
+use Rattle.back_lists.proofs.Lying.{Lies, behind_lie, lying_stays}
 
 -- words one after another
 abbrev pub WordsAt : Arena → ℕ → List ℕ → Type 0
@@ -42,10 +43,22 @@ lent_words places a x (v ∷ vs) values =
     subst (λ p. ValueAt places a p (slice_index_or vs i nil)) there (values (suc i) (omega (arith, few)))) in
     record { words = first.word ∷ rest.words; are = (first.of_value, rest.are); at = (first.stands, rest.at); count = ap (λ n. suc n) rest.count }
 
--- words elsewhere stay
-words_stay : (a : Arena) (to w : ℕ) (x : ℕ) (ws : List ℕ) → to % 4 ≡ 0 → to < x → WordsAt a x ws → WordsAt (with_word to w a) x ws
-words_stay a to w x [] e low h = tt
-words_stay a to w x (v ∷ ws) e low h = (word_elsewhere a to w x e (ne_eqb to x (λ same. omega (arith, same, low))) ∙ h.0, words_stay a to w (x + 4) ws e (omega (arith, low)) h.1)
+-- words before or behind another one stay where it is stored
+abbrev Elsewhere : (to x count : ℕ) → Type 0
+Elsewhere to x n = (to < x) ⊎ (x + 4 * n ≤ to)
+
+not_here : (to x n : ℕ) → Elsewhere to x (suc n) → to ≡ x → ⊥
+not_here to x n (inl low) same = omega (arith, same, low)
+not_here to x n (inr high) same = omega (arith, same, high)
+
+next_elsewhere : (to x n : ℕ) → Elsewhere to x (suc n) → Elsewhere to (x + 4) n
+next_elsewhere to x n (inl low) = inl (omega (arith, low))
+next_elsewhere to x n (inr high) = inr (omega (arith, high))
+
+words_stay : (a : Arena) (to w : ℕ) (x : ℕ) (ws : List ℕ) → to % 4 ≡ 0 → Elsewhere to x (length ws) → WordsAt a x ws → WordsAt (with_word to w a) x ws
+words_stay a to w x [] e other h = tt
+words_stay a to w x (v ∷ ws) e other h =
+    (word_elsewhere a to w x e (ne_eqb to x (not_here to x (length ws) other)) ∙ h.0, words_stay a to w (x + 4) ws e (next_elsewhere to x (length ws) other) h.1)
 
 -- ---- the loop
 
@@ -57,6 +70,18 @@ copy_loop = turns_while [] 2 5 copy_steps
 
 abbrev pub copying : (chain n from kept end to : ℕ) → Option ℕ → Registers
 copying chain n from kept end to last = Some chain ∷ Some n ∷ Some from ∷ Some 2 ∷ Some kept ∷ Some end ∷ Some to ∷ last ∷ []
+
+-- as many words as are copied are behind those that they come to, or in front of them
+abbrev Beside : (from to count : ℕ) → Type 0
+Beside from to n = (to + 4 * n ≤ from) ⊎ (from + 4 * n ≤ to)
+
+stored_beside : (from to n : ℕ) → Beside from to (suc n) → Elsewhere to (from + 4) n
+stored_beside from to n (inl behind) = inl (omega (arith, behind))
+stored_beside from to n (inr front) = inr (omega (arith, front))
+
+next_beside : (from to n : ℕ) → Beside from to (suc n) → Beside (from + 4) (to + 4) n
+next_beside from to n (inl behind) = inl (omega (arith, behind))
+next_beside from to n (inr front) = inr (omega (arith, front))
 
 module _ (procedures : List MidProcedure) (below : Task → MidState → MidOutcome) (chain n kept end : ℕ) (low : end < 2 ^ 32) where
   pub record Copied (t : ℕ) (ws : List ℕ) (from to : ℕ) (last : Option ℕ) (y : MidState) : Type 0 where
@@ -71,8 +96,8 @@ module _ (procedures : List MidProcedure) (below : Task → MidState → MidOutc
 
   pub copies :
       (ws : List ℕ) (t from to : ℕ) (last : Option ℕ) (y : MidState) → WordsAt y.arena from ws → from + 4 * length ws ≡ end → to % 4 ≡ 0 → y.arena.heap_from ≤ to
-      → to + 4 * length ws ≤ y.arena.heap_to → y.arena.heap_to ≤ from → length ws ≤ t → Copied t ws from to last y
-  copies [] t from to last y at last_word aligned above inside behind enough = record {
+      → to + 4 * length ws ≤ y.arena.heap_to → y.arena.heap_to < 2 ^ 32 → Beside from to (length ws) → length ws ≤ t → Copied t ws from to last y
+  copies [] t from to last y at last_word aligned above inside under beside enough = record {
     from_then = from;
     to_then = to;
     last_then = last;
@@ -80,13 +105,13 @@ module _ (procedures : List MidProcedure) (below : Task → MidState → MidOutc
     runs = repeat_falls none_left refl refl (ap not (eq-eqb from end (omega (arith, last_word))));
     is = omega arith;
   }
-  copies (w ∷ ws) zero from to last y at last_word aligned above inside behind enough = absurd (omega (arith, enough))
-  copies (w ∷ ws) (suc t) from to last y at last_word aligned above inside behind enough =
+  copies (w ∷ ws) zero from to last y at last_word aligned above inside under beside enough = absurd (omega (arith, enough))
+  copies (w ∷ ws) (suc t) from to last y at last_word aligned above inside under beside enough =
       let more : end ≡ from → ⊥ = λ e. omega (arith, e, last_word) in
       let rest =
       copies ws t (from + 4) (to + 4) (Some 4) (mid_charged 2 (record y { arena = with_word to w y.arena; cost = y.cost + 60 }))
-      (words_stay y.arena to w (from + 4) ws aligned (omega (arith, inside, behind)) at.1) (omega (arith, last_word)) (omega (arith, aligned)) (omega (arith, above)) (omega (arith, inside)) (omega (arith, behind))
-      (omega (arith, enough)) in
+      (words_stay y.arena to w (from + 4) ws aligned (stored_beside from to (length ws) beside) at.1) (omega (arith, last_word)) (omega (arith, aligned)) (omega (arith, above)) (omega (arith, inside)) under
+      (next_beside from to (length ws) beside) (omega (arith, enough)) in
       record {
         from_then = rest.from_then;
         to_then = rest.to_then;
@@ -105,11 +130,11 @@ module _ (procedures : List MidProcedure) (below : Task → MidState → MidOutc
       turned =
           costing {n = y.cost + 60}
           (and_then (load_falls refl (address_here from (omega (arith, low, last_word))) at.0)
-          (and_then (store_in_heap refl refl (address_here to (omega (arith, inside, behind, low, last_word))) aligned above (omega (arith, inside)))
+          (and_then (store_in_heap refl refl (address_here to (omega (arith, inside, under))) aligned above (omega (arith, inside)))
           (and_then constant_falls
           (and_then (compute_known refl refl (sum_fits from 4 (omega (arith, low, last_word))))
           (and_then constant_falls
-          (and_then (compute_known refl refl (sum_fits to 4 (omega (arith, inside, behind, low, last_word)))) none_left))))))
+          (and_then (compute_known refl refl (sum_fits to 4 (omega (arith, inside, under)))) none_left))))))
           (omega arith)
 
 -- ---- the code
@@ -153,7 +178,7 @@ module _ (procedures : List MidProcedure) (below : Task → MidState → MidOutc
       → RunsTo (turning procedures below t) (code_of keep_steps) (at_first None None) y (ends (no_room (2 + n) (left y.arena)) asked (record y { cost = y.cost + 36 }))
   keeping_wanting wants = parts_then asking_steps (storing_steps ++ (setting_steps ++ ending_steps)) asking_run (wanting_run wants)
 
-  module _ (room : 2 + n ≤ left y.arena) (ws : List ℕ) (count : length ws ≡ n) (at : WordsAt y.arena address ws) (from : stack_from y.arena ≤ address) (low : address + 4 * n < 2 ^ 32)
+  module _ (room : 2 + n ≤ left y.arena) (ws : List ℕ) (count : length ws ≡ n) (at : WordsAt y.arena address ws) (lies : Lies y.arena address n) (low : address + 4 * n < 2 ^ 32)
       (enough : n ≤ t) where
     abbrev heap : ℕ
     heap = y.arena.heap_to
@@ -196,22 +221,33 @@ module _ (procedures : List MidProcedure) (below : Task → MidState → MidOutc
     pub copied : Copied procedures below chain n kept (address + 4 * n) low t ws address kept None (record y { arena = with_two; cost = y.cost + 94 })
     copied =
         let grows = begun_grows (2 + n) (chain ∷ n ∷ []) arena room (omega arith) in
-        let same : stack_from with_two ≡ stack_from y.arena =
-        ap (λ m. begin_of m with_two.blocks) grows.heap.size ∙ ap (begin_of (length y.arena.memory)) (begun_blocks (2 + n) (chain ∷ n ∷ []) y.arena) in
         let to = begun_heap (2 + n) (chain ∷ n ∷ []) y.arena in
         let stands = grows.heap.stands in
-        let room_then = stands.room in
         copies procedures below chain n kept (address + 4 * n) low ws t address kept None (record y { arena = with_two; cost = y.cost + 94 })
-        (words_then address ws from at) (omega (arith, count)) (let aligned = arena.aligned in omega (arith, aligned)) (let heap_from = arena.heap in omega (arith, heap_from)) (omega (arith, to, count))
-        (omega (arith, room_then, same, from)) (omega (arith, count, enough))
+        (words_then address ws (subst (λ m. Lies y.arena address m) (sym count) lies) at) (omega (arith, count)) (let aligned = arena.aligned in omega (arith, aligned)) (let heap_from = arena.heap in omega (arith, heap_from)) (omega (arith, to, count))
+        (let under = heap_below stands in omega (arith, under)) (beside lies) (omega (arith, count, enough))
       where
-        words_then : (x : ℕ) (vs : List ℕ) → stack_from y.arena ≤ x → WordsAt y.arena x vs → WordsAt with_two x vs
-        words_then x [] above h = tt
-        words_then x (v ∷ vs) above h =
+        same : stack_from with_two ≡ stack_from y.arena
+        same =
             let grows = begun_grows (2 + n) (chain ∷ n ∷ []) arena room (omega arith) in
-            let same : stack_from with_two ≡ stack_from y.arena =
-            ap (λ m. begin_of m with_two.blocks) grows.heap.size ∙ ap (begin_of (length y.arena.memory)) (begun_blocks (2 + n) (chain ∷ n ∷ []) y.arena) in
-            (grows.stack x above (omega (arith, above, same)) ∙ h.0, words_then (x + 4) vs (omega (arith, above)) h.1)
+            ap (λ m. begin_of m with_two.blocks) grows.heap.size ∙ ap (begin_of (length y.arena.memory)) (begun_blocks (2 + n) (chain ∷ n ∷ []) y.arena)
+
+        words_then : (x : ℕ) (vs : List ℕ) → Lies y.arena x (length vs) → WordsAt y.arena x vs → WordsAt with_two x vs
+        words_then x [] lie h = tt
+        words_then x (v ∷ vs) lie h =
+            let grows = begun_grows (2 + n) (chain ∷ n ∷ []) arena room (omega arith) in
+            let here : x + 4 * 0 ≡ x = omega arith in (
+              subst (λ p. word_at with_two p ≡ word_at y.arena p) here (lying_stays grows same x (suc (length vs)) 0 (omega arith) lie) ∙ h.0,
+              words_then (x + 4) vs (behind_lie y.arena x (suc (length vs)) (length vs) (omega arith) lie) h.1,
+            )
+
+        beside : Lies y.arena address n → Beside address kept (length ws)
+        beside (inl low_stack) =
+            let grows = begun_grows (2 + n) (chain ∷ n ∷ []) arena room (omega arith) in
+            let to = begun_heap (2 + n) (chain ∷ n ∷ []) y.arena in
+            let room_then = grows.heap.stands.room in
+            inl (omega (arith, low_stack, to, room_then, same, count))
+        beside (inr end_heap) = inr (omega (arith, end_heap, count))
 
     -- **all words are kept**, and the address behind the first two is returned
     abbrev pub behind_code : Registers

@@ -1,3 +1,4 @@
+pub mod Lying
 pub mod Entering
 pub mod Onto
 pub mod Conses

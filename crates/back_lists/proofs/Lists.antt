@@ -36,10 +36,10 @@ use Rattle.back_relation.specs.Room.{routine_words, words_for_handler}
 use Rattle.back_relation.specs.Worlds.{World, Standing}
 use Rattle.back_relation.specs.Things.{Things}
 use Rattle.back_relation.specs.Around.{RoomFor}
-use Rattle.back_relation.specs.Ends.{WorldKept, Around, Ends, done, left_by, full_there, stopped, few_turns, CallEnds}
+use Rattle.back_relation.specs.Ends.{WorldKept, Around, Ends, done, left_by, full_there, stopped, few_turns}
 use Rattle.back_relation.specs.Forms.{code_at}
-use Rattle.back_relation.specs.Procedures.{ArgumentsLent}
-use Rattle.back_relation.specs.RoutineClaims.{list_credit}
+use Rattle.back_relation.specs.Procedures.{ArgumentsGiven}
+use Rattle.back_relation.specs.RoutineClaims.{list_credit, entry_spare, ListThere, ListDoes}
 use Rattle.back_combining.specs.Starts.{FlatGrown}
 use Rattle.back_combining.proofs.Growth.{same_flat}
 use Rattle.back_combining.proofs.Parts.{go_on_last}
@@ -48,17 +48,18 @@ use Rattle.back_combining.proofs.Straight.{world_cost, around_cost}
 use Rattle.back_combining.proofs.Then.{from_same, world_then}
 use Rattle.back_combining.proofs.Worlds.{word_later}
 use Rattle.back_argument_lists.proofs.Conses.{with_cons}
+use Rattle.back_bodies.proofs.Held.{given_values, given_below}
 use Rattle.back_calling.proofs.Numbers.{numbers_law}
 use Rattle.back_calling.proofs.Storing.{some_words, control_below}
-use Rattle.back_function_entries.specs.AllEntries.{entry_spare, ListThere, ListMakes}
 use Rattle.back_looking.proofs.Frames.{word_there}
 use Rattle.back_primitives.proofs.Answered.{room_ended}
 use Rattle.back_primitives.proofs.Behind.{request_granted, request_refused}
 use Rattle.back_values.proofs.BoxesMade.{full_printed, steps_grow}
 use Rattle.back_lists.specs.Making.{Makes}
-use Rattle.back_lists.specs.Lists.{conses, ListSays, LawOfListsMade, LawOfListClaims}
+use Rattle.back_lists.specs.Lists.{conses, ListSays, LawOfLists}
 use Rattle.back_lists.proofs.Conses.{loop, at_turn, loop_grows, world_made, state_made, made_grows, made_is, made_world, made_around, turn_wanting, turn_goes_on}
 use Rattle.back_lists.proofs.Entering.{BodyMakes, makes_with_turn}
+use Rattle.back_lists.proofs.Lying.{lies_later, lying_stays, given_lie}
 use Rattle.back_lists.proofs.Onto.{backwards, as_many_back, list_backwards, conses_grow, BackwardsAt, values_backwards}
 
 -- ---- one thing after another
@@ -147,7 +148,7 @@ module _ (setting : Setting) (placed : IsPlaced setting) (k n room : ℕ) where
         said = record { result = tail; outcome = refl; of_value = of_tail; frame = refl; units = omega arith };
       }))
 
-  -- words that stand on the stack stand in a later world
+  -- words that lie there stand in a later world
   later_words :
       {c1 : ℕ} {w w1 : World} {z z1 : FlatState} {y y1 : MidState} (low : ℕ) (vs : List Value) → WorldKept setting w w1 z z1 y y1 → Around setting c1 z z1 y y1 → Grows y.arena y1.arena
       → BackwardsAt w.places y.arena low vs → BackwardsAt w1.places y1.arena low vs
@@ -157,9 +158,9 @@ module _ (setting : Setting) (placed : IsPlaced setting) (k n room : ℕ) where
         record {
           word = at.0.word;
           of_value = word_later kept.later v at.0.word at.0.of_value;
-          stands = grows.stack (low + 4 * length vs) (omega (arith, at.1)) (omega (arith, at.1, same)) ∙ at.0.stands;
+          stands = lying_stays grows same low (suc (length vs)) (length vs) (omega arith) at.1 ∙ at.0.stands;
         },
-        omega (arith, at.1, same),
+        lies_later grows same low (suc (length vs)) at.1,
         later_words low vs kept a grows at.2,
       )
 
@@ -266,19 +267,18 @@ record WordsEnd (places : Places) (a : Arena) (address : ℕ) (vs : List Value) 
 
 words_end :
     (setting : Setting) (w : World) (z : FlatState) (y y' : MidState) (address : ℕ) (vs : List Value) → Things setting w z y' → ((x : ℕ) → word_at y'.arena x ≡ word_at y.arena x)
-    → stack_from y'.arena ≤ stack_from y.arena → ((v : Value) (others : List Value) → vs ≡ v ∷ others → ArgumentsLent setting w y.arena address vs) → WordsEnd w.places y'.arena address vs
-words_end setting w z y y' address [] t same lower lent = record { low = sum32 address (shift_left 0 2); sum = omega arith; at = tt; few = omega arith }
-words_end setting w z y y' address (v ∷ others) t same lower lent =
-    let l = lent v others refl in
-    let values : ValuesAt w.places y'.arena address (v ∷ others) =
-    λ i few. record { word = (l.values i few).word; of_value = (l.values i few).of_value; stands = same (address + 4 * i) ∙ (l.values i few).stands } in
+    → stack_from y'.arena ≤ stack_from y.arena → ((v : Value) (others : List Value) → vs ≡ v ∷ others → ArgumentsGiven setting w y.arena address vs) → WordsEnd w.places y'.arena address vs
+words_end setting w z y y' address [] t same lower given = record { low = sum32 address (shift_left 0 2); sum = omega arith; at = tt; few = omega arith }
+words_end setting w z y y' address (v ∷ others) t same lower given =
+    let g : ArgumentsGiven setting w y'.arena address (v ∷ others) = given_below setting w y y' address (v ∷ others) same lower (given v others refl) in
+    let values : ValuesAt w.places y'.arena address (v ∷ others) = given_values setting t address (v ∷ others) g in
     let last = values (length others) (omega arith) in
     let there = word_there y'.arena (address + 4 * length others) last.word t.represents.arena last.stands in
     let size = t.represents.arena.size in
     record {
       low = address;
       sum = ap (λ n. sum32 address n) (four_times_count (suc (length others)) (omega (arith, there.below, size))) ∙ sum_fits address (4 * suc (length others)) (omega (arith, there.below, size));
-      at = values_backwards w.places y'.arena address (v ∷ others) (let low = l.low in omega (arith, low, lower)) values;
+      at = values_backwards w.places y'.arena address (v ∷ others) (given_lie setting t address (v ∷ others) g) values;
       few = omega (arith, there.below, size);
     }
 
@@ -322,11 +322,11 @@ module _ (setting : Setting) (k turns : ℕ) (placed : IsPlaced setting) (rs val
   says vs word w' = ListSays z (r_of vs) (length vs) word w'
 
   body_makes :
-      (n address : ℕ) (vs : List Value) → ((v : Value) (others : List Value) → vs ≡ v ∷ others → ArgumentsLent setting w y.arena address vs) → turns ≡ suc n
+      (n address : ℕ) (vs : List Value) → ((v : Value) (others : List Value) → vs ≡ v ∷ others → ArgumentsGiven setting w y.arena address vs) → turns ≡ suc n
       → BodyMakes setting routine_words 0 (64 + 112 * length vs) spare (given setting) (address ∷ length vs ∷ []) rs valid w around z y (r_of vs) (says vs) k n
-  body_makes n address vs lent left_turns y' i =
+  body_makes n address vs given_there left_turns y' i =
       let t = i.call.things in
-      let end = words_end setting w z y y' address vs t i.words i.from lent in
+      let end = words_end setting w z y y' address vs t i.words i.from given_there in
       let room : ℕ = 0 + words_for_handler * length around.handlers in
       let y1 : MidState = mid_charged 38 y' in
       let world = world_cost setting 38 t in
@@ -342,15 +342,15 @@ module _ (setting : Setting) (k turns : ℕ) (placed : IsPlaced setting) (rs val
       Comes : List Value → MidState → FlatEvaluated → MidOutcome → Type 0
       Comes vs y' r q = ComesTo setting (64 + 112 * length vs) (length vs) spare w z y' r q
 
-  -- **what entries ask of the routine**
-  pub lists_make : ListMakes setting k turns rs valid w around z y
-  lists_make vs address lent b =
+  -- **the routine of lists**
+  pub lists_make : ListDoes setting k turns rs valid w around z y
+  lists_make vs address given_there b =
       let grown : FlatGrown z (r_of vs).state =
       subst (λ (r : FlatEvaluated). FlatGrown z r.state) (sym (meant_is vs)) (conses_grow setting.limit (backwards vs) nil z (λ v after. gives v after) (λ v after. same_flat after)) in
       there vs
       (makes_with_turn setting routine_words 0 (64 + 112 * length vs) spare (given setting) (address ∷ length vs ∷ []) rs valid w around z y (r_of vs) (says vs) k turns (list_routine setting.at)
       ((numbers_law setting).routine 16 _ placed refl) refl refl (let small = given_small setting in omega (arith, small)) (let units = grown.units in omega (arith, units)) grown.printed b
-      (λ n e. body_makes n address vs lent e))
+      (λ n e. body_makes n address vs given_there e))
     where
       there :
           {q : MidOutcome} (vs : List Value) → ComesTo setting (64 + 112 * length vs + 32) (length vs) spare w z y (r_of vs) q
@@ -376,19 +376,5 @@ module _ (setting : Setting) (k turns : ℕ) (placed : IsPlaced setting) (rs val
       there vs (few_turns x) = few_turns x
 
 -- **lists are made**
-pub lists_law : LawOfListsMade
-lists_law setting k turns placed rs valid w around z y = lists_make setting k turns placed rs valid w around z y
-
--- as it is claimed
-pub list_claims_law : LawOfListClaims
-list_claims_law setting k turns rs valid w around z y placed vs address lent b =
-    claimed (lists_make setting k turns placed rs valid w around z y vs address (λ v others e. lent) b)
-  where
-    claimed :
-        {q : MidOutcome} {r : FlatEvaluated} → Ends setting (ListThere setting k turns rs valid w around z y (list_credit (length vs)) r q) ⊥ (turns + entry_spare) z y r q
-        → CallEnds setting (list_credit (length vs)) turns rs valid w around z y r q
-    claimed (done x) = done x.returned
-    claimed (left_by x) = absurd x
-    claimed (full_there x) = full_there x
-    claimed (stopped x) = stopped x
-    claimed (few_turns x) = few_turns (omega (arith, x))
+pub lists_law : LawOfLists
+lists_law setting k turns rs valid w around z y placed = lists_make setting k turns placed rs valid w around z y

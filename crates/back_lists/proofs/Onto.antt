@@ -1,5 +1,5 @@
 -- A list of values is made in front of the empty one, from the last value to the first.
-use Rattle.std.proofs.Common.{◌≡◌, ℕ, suc, ◌+◌, ◌*◌, ◌≤◌, List, [], ◌∷◌, ◌++◌, length, refl, sym, ap, ◌∙◌, subst, arith}
+use Rattle.std.proofs.Common.{◌≡◌, ℕ, suc, ◌+◌, ◌*◌, List, [], ◌∷◌, ◌++◌, length, refl, sym, ap, ◌∙◌, subst, arith}
 use Rattle.std.specs.Prelude.{slice_index_or, if◌then◌else◌}
 use Rattle.std.proofs.Math.ListN.{length-append}
 use Rattle.lang_meaning.specs.Objects.{cons}
@@ -7,12 +7,13 @@ use Rattle.lang_meaning.specs.State.{Limit, full, has_room, room_left}
 use Rattle.lang_meaning.specs.Values.{Value, nil, object}
 use Rattle.flat_language.specs.FlatSignals.{make_list}
 use Rattle.flat_language.specs.FlatState.{FlatState, FlatEvaluated, make}
-use Rattle.mid_code.specs.Arena.{Arena, stack_from}
+use Rattle.mid_code.specs.Arena.{Arena}
 use Rattle.mid_arena.specs.Places.{Places}
 use Rattle.mid_arena.specs.Standing.{ValueAt, ValuesAt}
 use Rattle.back_combining.specs.Starts.{FlatGrown}
 use Rattle.back_argument_lists.proofs.Conses.{with_cons, cons_grows}
 use Rattle.back_lists.specs.Lists.{conses}
+use Rattle.back_lists.proofs.Lying.{Lies, fewer_lie, behind_lie}
 
 -- the last value first
 abbrev pub backwards : List Value → List Value
@@ -54,25 +55,27 @@ module _ (places : Places) (a : Arena) where
   -- the words of values one after another from an address on, of which the first one is the last
   abbrev pub BackwardsAt : ℕ → List Value → Type 0
   BackwardsAt x [] = Unit {0}
-  BackwardsAt x (v ∷ vs) = ValueAt places a (x + 4 * length vs) v × (stack_from a ≤ x) × BackwardsAt x vs
+  BackwardsAt x (v ∷ vs) = ValueAt places a (x + 4 * length vs) v × Lies a x (suc (length vs)) × BackwardsAt x vs
 
   one_in_front :
-      (x : ℕ) (vs : List Value) (v : Value) → stack_from a ≤ x → ValueAt places a x v → BackwardsAt (x + 4) vs → BackwardsAt x (vs ++ v ∷ [])
-  one_in_front x [] v low first rest = (let here : x ≡ x + 4 * 0 = omega arith in subst (λ p. ValueAt places a p v) here first, low, tt)
-  one_in_front x (u ∷ vs) v low first rest = (
+      (x : ℕ) (vs : List Value) (v : Value) → Lies a x (suc (length vs)) → ValueAt places a x v → BackwardsAt (x + 4) vs → BackwardsAt x (vs ++ v ∷ [])
+  one_in_front x [] v lies first rest = (let here : x ≡ x + 4 * 0 = omega arith in subst (λ p. ValueAt places a p v) here first, lies, tt)
+  one_in_front x (u ∷ vs) v lies first rest = (
     let more = length-append vs (v ∷ []) in
         let there : x + 4 + 4 * length vs ≡ x + 4 * length (vs ++ v ∷ []) = omega (arith, more) in
         subst (λ p. ValueAt places a p u) there rest.0,
-    low,
-    one_in_front x vs v low first rest.2,
+    let more = length-append vs (v ∷ []) in fewer_lie a x (suc (suc (length vs))) (suc (length (vs ++ v ∷ []))) (omega (arith, more)) lies,
+    one_in_front x vs v (fewer_lie a x (suc (suc (length vs))) (suc (length vs)) (omega arith) lies) first rest.2,
   )
 
   -- **the words of values, from the last one on**
-  pub values_backwards : (x : ℕ) (vs : List Value) → stack_from a ≤ x → ValuesAt places a x vs → BackwardsAt x (backwards vs)
-  values_backwards x [] low values = tt
-  values_backwards x (v ∷ vs) low values =
-      one_in_front x (backwards vs) v low (let here : x + 4 * 0 ≡ x = omega arith in subst (λ p. ValueAt places a p v) here (values 0 (omega arith)))
-      (values_backwards (x + 4) vs (omega (arith, low))
+  pub values_backwards : (x : ℕ) (vs : List Value) → Lies a x (length vs) → ValuesAt places a x vs → BackwardsAt x (backwards vs)
+  values_backwards x [] lies values = tt
+  values_backwards x (v ∷ vs) lies values =
+      let many = as_many_back vs in
+      one_in_front x (backwards vs) v (fewer_lie a x (suc (length vs)) (suc (length (backwards vs))) (omega (arith, many)) lies)
+      (let here : x + 4 * 0 ≡ x = omega arith in subst (λ p. ValueAt places a p v) here (values 0 (omega arith)))
+      (values_backwards (x + 4) vs (behind_lie a x (suc (length vs)) (length vs) (omega arith) lies)
       (λ i few.
       let there : x + 4 * suc i ≡ x + 4 + 4 * i = omega arith in
       subst (λ p. ValueAt places a p (slice_index_or vs i nil)) there (values (suc i) (omega (arith, few)))))

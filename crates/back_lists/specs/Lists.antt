@@ -1,4 +1,4 @@
--- **The law of the routine of lists**: as entries ask it, and as the relation of lowered code claims it.
+-- **The law of the routine of lists.**
 use Rattle.std.specs.Prelude.{◌≡◌, ℕ, ◌+◌, ◌*◌, ◌≤◌, List, [], ◌∷◌, Some}
 use Rattle.lang_meaning.specs.Objects.{cons}
 use Rattle.lang_meaning.specs.State.{DynamicContext, Limit, value}
@@ -10,7 +10,6 @@ use Rattle.back_relation.specs.Setting.{Setting}
 use Rattle.back_relation.specs.Placed.{IsPlaced}
 use Rattle.back_relation.specs.Worlds.{World, Standing}
 use Rattle.back_relation.specs.RoutineClaims.{ListDoes}
-use Rattle.back_function_entries.specs.AllEntries.{ListsMade}
 
 -- values in front of a list, the first of them next to it, which comes from the last one to the first
 abbrev pub conses : Limit → List Value → Value → FlatState → (Value → FlatState → FlatEvaluated) → FlatEvaluated
@@ -25,12 +24,8 @@ pub record ListSays (z : FlatState) (r : FlatEvaluated) (count word : ℕ) (w : 
   pub frame : r.state.frame ≡ z.frame
   pub units : z.state.units + 2 * count ≤ r.state.state.units
 
--- as entries ask it: the site stays, and turns are left over
-abbrev pub LawOfListsMade : Type 0
-LawOfListsMade = (setting : Setting) (k turns : ℕ) → IsPlaced setting → ListsMade setting k turns
-
--- as it is claimed
-abbrev pub LawOfListClaims : Type 0
-LawOfListClaims =
+-- it does what is claimed of it
+abbrev pub LawOfLists : Type 0
+LawOfLists =
     (setting : Setting) (k turns : ℕ) (rs valid : List Standing) (w : World) (around : DynamicContext) (z : FlatState) (y : MidState) → IsPlaced setting
     → ListDoes setting k turns rs valid w around z y

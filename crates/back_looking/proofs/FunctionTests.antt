@@ -37,7 +37,7 @@ use Rattle.back_looking.proofs.Finding.{routine_used}
 abbrev is_kind : ℕ → Bool
 is_kind h = h == function_header || h == generic_header
 
-abbrev told_word : Bool → ℕ
+abbrev pub told_word : Bool → ℕ
 told_word answer = if answer then 1 else 0
 
 -- code returns a word, for at most so much
@@ -145,15 +145,15 @@ kind_told setting c y w answer low (of_kind h some tag at kind) = by (h == funct
       within = omega arith;
     }
 
-abbrev given : Setting → MidProcedure
+abbrev pub given : Setting → MidProcedure
 given setting = procedure_with Turn 1 (is_function_code setting.at)
 
-given_small : (setting : Setting) → (given setting).frame ≤ 8
+pub given_small : (setting : Setting) → (given setting).frame ≤ 8
 unfolding is_function_code
 given_small setting = omega arith
 
 -- the body, where its frame is laid
-body_says :
+pub body_says :
     (setting : Setting) (k n frame : ℕ) (w : World) (z : FlatState) (y : MidState) (v : Value) (word : ℕ) → Things setting w z y → word_of w.places v ≡ Some word
     → frame ≤ left y.arena → BodyLooks setting k n (with_frame_of frame (given setting)) (word ∷ []) (told_word (is_function (fetch z.state v))) is_function_cost y
 unfolding is_function_code

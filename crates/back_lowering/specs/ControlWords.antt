@@ -116,7 +116,8 @@ binding_outer = 8
 abbrev pub binding_words : ℕ
 binding_words = 3
 
--- chains of methods: a word for each method, eight times its function's number and what it is; then one more that says it is the end
+-- chains of methods: a word for each method, eight times its function's number and what it is; where methods run before or after the first
+-- primary one, a word in front of them, eight times how many bytes behind it that one's word is; and one more at last that says it is the end
 
 abbrev pub around_method : ℕ
 around_method = 0
@@ -132,6 +133,9 @@ primary_method = 3
 
 abbrev pub chain_end : ℕ
 chain_end = 4
+
+abbrev pub primary_behind : ℕ
+primary_behind = 5
 
 -- the words of a generic function: twice how many arguments it requires, and one more where it takes further ones; the symbol of its
 -- name; how many arguments are specialised; behind them two words for each of these, the offset of the argument among arguments and the

@@ -12,7 +12,7 @@ use Rattle.mid_arena.specs.FixedWords.{class_address, pending_address}
 use Rattle.mid_arena.specs.Steps.{class_word}
 use Rattle.back_lowering.specs.ControlWords.{current_address, link_address, serials_address, target_address, landing_address, handlers_address, bindings_address, site_address, end_address}
 use Rattle.back_lowering.specs.ControlWords.{record_serial, record_kind, record_outer, record_link, record_tag, record_mark, record_words, catch_kind, cleanup_kind, signal_kind, end_kind}
-use Rattle.back_lowering.specs.ControlWords.{handler_function, handler_outer, binding_variable, binding_value, binding_outer, around_method, before_method, after_method, primary_method, chain_end, generic_arity, generic_name, generic_specialised, generic_groups, function_number}
+use Rattle.back_lowering.specs.ControlWords.{handler_function, handler_outer, binding_variable, binding_value, binding_outer, around_method, before_method, after_method, chain_end, primary_behind, generic_arity, generic_name, generic_specialised, generic_groups, function_number}
 use Rattle.back_lowering.specs.declared.placement.Placement.{Placement}
 use Rattle.back_lowering.specs.Routines.{transfer_routine, raise_routine, failing_routine, failing_with_routine, domain_routine, function_routine, generic_routine, chain_routine, level_routine, is_function_routine, class_routine}
 use Rattle.back_lowering.specs.Steps.{Steps, move, constant, compute, load, store, load_header, request, call, call_number, test_of, where_so, if_equal, if_different}
@@ -265,7 +265,7 @@ module _ (at : Placement) where
       ∷ []
 
   -- The chain at the address in 0 runs on as many words as 1 says, at the address in 2: the first around method; else the before methods, the
-  -- first primary method, which 8 is at, and the after methods.
+  -- first primary method, whose word 8 is at, and the after methods.
   abbrev pub chain_run : Steps
   chain_run =
       constant 5 0 ∷ load 9 5 site_address
@@ -274,9 +274,8 @@ module _ (at : Placement) where
       ∷ if_equal 4 5
       (number_into 3 3 4 ++ (constant 4 4 ∷ compute 4 which.Add 0 4 ∷ constant 5 0 ∷ call_number 6 3 (5 ∷ 4 ∷ 1 ∷ 2 ∷ []) ∷ return_word 6 ∷ []))
       []
-      ∷ move 8 0
-      ∷ repeat Turn (code_of (kind_into 4 3 8 ++ (constant 5 primary_method ∷ []))) (test_of LessUnsigned 4 5) (code_of (add_to 8 4 4))
-      ∷ move 7 0
+      ∷ move 7 0 ∷ move 8 0 ∷ constant 5 primary_behind
+      ∷ if_equal 4 5 (number_into 3 3 5 ++ (compute 8 which.Add 0 3 ∷ add_to 7 5 4)) []
       ∷ (methods_called before_method
       ++ (load 3 8 0
       ∷ (number_into 3 3 4
@@ -294,10 +293,11 @@ module _ (at : Placement) where
   unfoldable pub chain_code : Steps
   chain_code = chain_run
 
-  -- the element of the list in 1 whose offset is in 7 comes to 7; 8 and 10 are used
+  -- The element of the list whose offset is in 7 comes to 7, on from the cons in 10, whose offset is in 11: the specialised arguments are in order, so
+  -- each cons is passed once. 8 is used.
   abbrev pub element_into : Steps
   element_into =
-      move 10 1 ∷ constant 8 0 ∷ turns_while [] 7 8 (load 10 10 3 ∷ constant 8 4 ∷ compute 7 which.Subtract 7 8 ∷ constant 8 0 ∷ [])
+      turns_while [] 11 7 (load 10 10 3 ∷ constant 8 4 ∷ compute 11 which.Add 11 8 ∷ [])
       ∷ car_into 7 10
 
   -- The value in 0 is applied to the elements of the list in 1: the function is judged first, then the list, then how many there are. A
@@ -315,9 +315,9 @@ module _ (at : Placement) where
       (generic_into 11 4 0
       ++ (move 0 11 ∷ load 3 0 generic_arity
       ∷ (where_takes 3 2 4 (signals 4 program_error_class)
-      ++ (chain_sought element_into
+      ++ (move 10 1 ∷ constant 11 0 ∷ (chain_sought element_into
       ++ (move 11 4 ∷ call 10 (level_routine at) []
-      ∷ lend 9 2 (code_of (list_copied ++ (call 10 (chain_routine at) (11 ∷ 2 ∷ 9 ∷ []) ∷ []))) ∷ return_word 10 ∷ [])))))
+      ∷ lend 9 2 (code_of (list_copied ++ (call 10 (chain_routine at) (11 ∷ 2 ∷ 9 ∷ []) ∷ []))) ∷ return_word 10 ∷ []))))))
       ++ signals_domain 0 3 function_class)))
 
   unfoldable pub level_code : Steps

@@ -5,4 +5,4 @@ pub mod MainEnds
 pub mod Numbers
 mod Kept
 mod Classes
-mod Mains
+pub mod Mains

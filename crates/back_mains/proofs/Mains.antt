@@ -135,7 +135,7 @@ at_level setting zero f z = refl
 at_level setting (suc k) f z = refl
 
 module _ (setting : Setting) (right : ProgramIsRight setting) (k number n : ℕ) (f : FlatForm) (there : slice_get setting.program.main number ≡ Some f) (reserve : main_reserve ≤ n) (w : World) (z : FlatState) (y : MidState)
-    (b : MainBegins setting n w z y) (does : (t : ℕ) → DoesForm setting t (context_at setting k) (code_at setting k t) f) where
+    (b : MainBegins setting n w z y) (most : ℕ) (does : (t : ℕ) → t ≤ most → DoesForm setting t (context_at setting k) (code_at setting k t) f) where
   placed : IsPlaced setting
   placed = right.placed.placed
 
@@ -250,7 +250,7 @@ module _ (setting : Setting) (right : ProgramIsRight setting) (k number n : ℕ)
 
   -- ---- inside the frame
 
-  module _ (fr : ℕ) (within : fr ≤ p.frame) (some : fr ≤ left y.arena) (e : fits ≡ true) (t : ℕ) where
+  module _ (fr : ℕ) (within : fr ≤ p.frame) (some : fr ≤ left y.arena) (e : fits ≡ true) (t : ℕ) (fewer_turns : t ≤ most) where
     abbrev pf : MidProcedure
     pf = framed p fr
 
@@ -352,7 +352,7 @@ module _ (setting : Setting) (right : ProgramIsRight setting) (k number n : ℕ)
     inner_ends room =
         subst (λ g. Inner (exec_step c (main_step steps) g yi)) (sym win.parts)
         (main_ends_law setting k t current link (words_for setting.names setting.program f) 0 f w zi yi win.tail win.r0 win.r1 win.r2 win.r3 win.r4 win.r5 win.r6 win.r7 win.r8 placed (nothing room)
-        (room_inside setting.limit b.room) refl form_stands (subst (λ g. enough_for (of_code (code_of steps)) ≤ length g) win.parts form_fits) (omega arith) (does t))
+        (room_inside setting.limit b.room) refl form_stands (subst (λ g. enough_for (of_code (code_of steps)) ≤ length g) win.parts form_fits) (omega arith) (does t fewer_turns))
 
     -- ---- it is left
 
@@ -563,10 +563,10 @@ module _ (setting : Setting) (right : ProgramIsRight setting) (k number n : ℕ)
   number_at : UsedAt setting.procedures (mains_from setting.names setting.at setting.program + number) p
   number_at = used_at _ setting.procedures (mains_from setting.names setting.at setting.program + number) p setting.frames ((main_numbers_law setting).main number f placed there)
 
-  entered_ends : (m : ℕ) → fits ≡ true → E m ((code_at setting k m).further (enter (framed p number_at.frame) []) y)
+  entered_ends : (m : ℕ) → m ≤ most → fits ≡ true → E m ((code_at setting k m).further (enter (framed p number_at.frame) []) y)
   unfolding turns
-  entered_ends zero e = let g = grown e in few_turns (omega (arith, g.units, some_words setting b.things))
-  entered_ends (suc t) e = by (cases_lt (left y.arena) number_at.frame)
+  entered_ends zero low e = let g = grown e in few_turns (omega (arith, g.units, some_words setting b.things))
+  entered_ends (suc t) low e = by (cases_lt (left y.arena) number_at.frame)
     where
       by : (left y.arena < number_at.frame) ⊎ (number_at.frame ≤ left y.arena) → E (suc t) (run_procedure (code_at setting k t) (framed p number_at.frame) [] y)
       by (inl few) =
@@ -576,19 +576,19 @@ module _ (setting : Setting) (right : ProgramIsRight setting) (k number n : ℕ)
             printed = printed_before e;
           }))
       by (inr some) =
-          subst (λ o. E (suc t) o) (sym (with_room (code_at setting k t) (framed p number_at.frame) [] y refl some)) (body_ends number_at.frame number_at.within some e t)
+          subst (λ o. E (suc t) o) (sym (with_room (code_at setting k t) (framed p number_at.frame) [] y refl some)) (body_ends number_at.frame number_at.within some e t (omega (arith, low)))
 
-  main_does : (m : ℕ) → E m (called (code_at setting k m) (mains_from setting.names setting.at setting.program + number) [] y)
-  main_does m =
+  main_does : (m : ℕ) → m ≤ most → E m (called (code_at setting k m) (mains_from setting.names setting.at setting.program + number) [] y)
+  main_does m low =
       subst (λ q. E m q) (sym (called_by setting k m (mains_from setting.names setting.at setting.program + number) p [] y Turn refl number_at))
       (by fits refl)
     where
       by : (t : Bool) → fits ≡ t → E m ((code_at setting k m).further (enter (framed p number_at.frame) []) y)
-      by true e = entered_ends m e
+      by true e = entered_ends m low e
       by false e =
           full_ends e m ((code_at setting k m).further (enter (framed p number_at.frame) []) y)
           ((turns_grow setting.procedures _ (levels_grow setting.procedures setting.turns_each k) m).at (enter (framed p number_at.frame) []) y)
 
 -- **main forms do what they mean**
 pub mains_law : LawOfMains
-mains_law setting k m number f right does n w z y there reserve b = main_does setting right k number n f there reserve w z y b does m
+mains_law setting k m number f right does n w z y there reserve b = main_does setting right k number n f there reserve w z y b m does m (omega arith)

@@ -32,6 +32,7 @@ use Rattle.back_relation.specs.Worlds.{World, Later, Standing}
 use Rattle.back_relation.specs.Things.{SiteIs}
 use Rattle.back_relation.specs.Ends.{CallEnds}
 use Rattle.back_relation.specs.Forms.{context_at, code_at}
+use Rattle.back_relation.specs.Procedures.{entry_credit}
 use Rattle.back_combining.specs.Starts.{FlatGrown}
 use Rattle.back_combining.proofs.Cuts.{later_cut}
 use Rattle.back_combining.proofs.Growth.{grown_later, then_grown, both_flat}
@@ -43,9 +44,9 @@ use Rattle.back_calling.proofs.Inner.{going_on_law}
 use Rattle.back_calling.proofs.Storing.{control_lent, word_stored, world_stored, around_stored}
 use Rattle.back_calling.proofs.Units.{calls_recounted}
 use Rattle.back_chains.proofs.Constants.{constants_law}
-use Rattle.back_methods.specs.Methods.{Arguments, MethodsDo, most_credit}
+use Rattle.back_chains.proofs.Words.{kind_of, procedure_of}
+use Rattle.back_methods.specs.Methods.{EntriesDo}
 use Rattle.back_methods.proofs.Calling.{Here, here_then, method_then}
-use Rattle.back_methods.proofs.Given.{Stays}
 use Rattle.back_methods.proofs.Loops.{behind_call, loop_calls, again_runs, behind_call_grows}
 
 -- the meaning goes on twice
@@ -58,20 +59,12 @@ goes_twice r f g = by r.outcome
     by (full asked left_then) = refl
     by more = refl
 
--- the kind of a method's word, and its procedure
-pub kind_of : (p kind : ℕ) → kind < 8 → (8 * p + kind) % 8 ≡ kind
-kind_of p kind few = omega (arith, few)
-
-pub procedure_of : (p kind : ℕ) → kind < 8 → (8 * p + kind) / 2 ^ (3 % 32) ≡ p
-procedure_of p kind few = omega (arith, few)
-
 pub site_control : IsControl site_address
 site_control = record { low = omega arith; high = omega arith; no_serial = λ same. omega (arith, same) }
 
-module _ (setting : Setting) (Given : Arguments) (stays : Stays setting Given) (k : ℕ) (credit : ℕ → ℕ) (does : MethodsDo setting Given k credit) (rs valid : List Standing) (around : DynamicContext)
-    (vs : List Value) (address : ℕ) (low : credit (length vs) ≤ most_credit) (site : ℕ) (site_is : SiteIs setting site around.site) (o0 : Option ℕ) (rest : Registers) where
+module _ (setting : Setting) (k : ℕ) (does : EntriesDo setting k) (rs valid : List Standing) (around : DynamicContext) (vs : List Value) (address : ℕ) (site : ℕ) (site_is : SiteIs setting site around.site) (o0 : Option ℕ) (rest : Registers) where
   abbrev pub IsHere : World → FlatState → MidState → Type 0
-  IsHere w z y = Here setting Given stays k credit does rs valid around vs address low w z y
+  IsHere w z y = Here setting k does rs valid around vs address w z y
 
   abbrev pub file : (r3 r4 r5 r6 : Option ℕ) (a : ℕ) (r8 : Option ℕ) → Registers
   file r3 r4 r5 r6 a r8 = o0 ∷ Some (length vs) ∷ Some address ∷ r3 ∷ r4 ∷ r5 ∷ r6 ∷ Some a ∷ r8 ∷ Some site ∷ rest
@@ -182,20 +175,20 @@ module _ (setting : Setting) (Given : Arguments) (stays : Stays setting Given) (
         (world_cost setting 42 h.call.things) (around_cost setting {credit = 42} z y 42 (omega arith)) (omega arith) (omega arith) refl
         (subst (λ x. CallEnds setting credit_behind m rs valid w around z (mid_charged 42 y) (f nil z) (next (file (Some last) (Some (last % 8)) (Some kind) r6 x r8) (mid_charged 42 y))) same
         (behind w z (mid_charged 42 y) m (Some last) (Some (last % 8)) (Some kind) r6 (later_same w)
-        (here_then setting Given stays k credit does rs valid around vs address low (world_cost setting 42 h.call.things) (around_cost setting {credit = 42} z y 42 (omega arith)) h) turns)))
+        (here_then setting k does rs valid around vs address (world_cost setting 42 h.call.things) (around_cost setting {credit = 42} z y 42 (omega arith)) h) turns)))
     methods_run (p ∷ ms) zero last more_words a m credit_behind r3 r4 r5 r6 r8 w z y f next few other takes at enough fewer turns h f_grown grown behind = absurd (omega (arith, enough))
     methods_run (p ∷ ms) (suc n) last more_words a m credit_behind r3 r4 r5 r6 r8 w z y f next few other takes at enough fewer turns h f_grown grown behind =
         subst (λ r. CallEnds setting (credit_behind + 42) m rs valid w around z y r (mid_go_on (exec_step (code_at setting k (suc n)) loop (file r3 r4 r5 r6 a r8) y) next))
         (sym (goes_twice (apply_procedure (context_at setting k) (signal (context_at setting k)) p None vs around z) (λ v x. each ms x) f))
         (subst (λ q. CallEnds setting (credit_behind + 42) m rs valid w around z y meant q) (sym code_comes)
         (calls_recounted setting {c1 = credit_behind + 42 + 1300} {m1 = suc n} z (z.state.units + 1) z.state.units (omega arith) (omega (arith, turns))
-        (going_on_law setting 72 (credit (length vs) + 64 + (credit_behind + 60)) (credit_behind + 42 + 1300) (suc n) (suc n) rs valid w (standing_world w y) around (charged 1 z) (charged 1 z) y stored meant
+        (going_on_law setting 72 (entry_credit (length vs) + 64 + (credit_behind + 60)) (credit_behind + 42 + 1300) (suc n) (suc n) rs valid w (standing_world w y) around (charged 1 z) (charged 1 z) y stored meant
         (mid_go_on (exec_step (code_at setting k (suc n)) calls (file (Some p) (Some (word % 8)) (Some 0) r6 a r8) stored) behind_it)
         (world_stored setting (things_units setting 1 h.call.things) site_address site cost site_control refl (λ same. omega (arith, same)))
         (around_stored setting (things_units setting 1 h.call.things) site_address site cost site_control refl 72 (omega arith) (λ same. omega (arith, same)) (λ same. omega (arith, same))
         (λ same. omega (arith, same)) (λ same. omega (arith, same)))
-        (omega (arith, low)) (omega arith) refl
-        (method_then setting Given stays k credit does rs valid around vs address low (suc n) p 0 6 3 5 5 1 2 (credit_behind + 60) None (standing_world w y) z stored
+        (omega arith) (omega arith) refl
+        (method_then setting k does rs valid around vs address (suc n) p 0 6 3 5 5 1 2 (credit_behind + 60) None (standing_world w y) z stored
         (file (Some p) (Some (word % 8)) (Some 0) r6 a r8) (λ v x. go_on (each ms x) f) behind_it fewer takes.0 refl h1 (site, word_stored setting h.call.things site_address site cost site_control refl, site_is)
         refl (refl, (refl, (refl, (refl, tt)))) (λ v x. both_flat (each_grows ms x) (then_grown (each ms x) f f_grown))
         (λ g x.
@@ -227,7 +220,7 @@ module _ (setting : Setting) (Given : Arguments) (stays : Stays setting Given) (
 
         h1 : IsHere (standing_world w y) z stored
         h1 =
-            here_then setting Given stays k credit does rs valid around vs address low
+            here_then setting k does rs valid around vs address
             (world_stored setting h.call.things site_address site cost site_control refl (λ same. omega (arith, same)))
             (around_stored setting h.call.things site_address site cost site_control refl 72 (omega arith) (λ same. omega (arith, same)) (λ same. omega (arith, same)) (λ same. omega (arith, same))
             (λ same. omega (arith, same)))
@@ -249,7 +242,7 @@ module _ (setting : Setting) (Given : Arguments) (stays : Stays setting Given) (
             (world_cost setting 18 h'.call.things) (around_cost setting {credit = 18} z' y' 18 (omega arith)) (omega arith) (omega arith) refl
             (run last more_words (a + 4) (suc n) credit_behind (Some p) (Some 4) (Some 0) (Some result) r8 w' z' (mid_charged 18 y') f next few other takes.1 at.1 (omega (arith, enough))
             (omega (arith, fewer)) (omega arith)
-            (here_then setting Given stays k credit does rs valid around vs address low (world_cost setting 18 h'.call.things) (around_cost setting {credit = 18} z' y' 18 (omega arith)) h') f_grown grown
+            (here_then setting k does rs valid around vs address (world_cost setting 18 h'.call.things) (around_cost setting {credit = 18} z' y' 18 (omega arith)) h') f_grown grown
             (λ w'' z'' y'' m'' v3 v4 v5 v6 later' h'' more_turns.
             subst (λ x. CallEnds setting credit_behind m'' rs valid w'' around z'' y'' (f nil z'') (next (file v3 v4 v5 v6 x r8) y'')) (sym same_end)
             (behind w'' z'' y'' m'' v3 v4 v5 v6 (later_then (later_then (later_cut (stack_from y.arena) w) later) later') h'' (omega (arith, more_turns))))))

@@ -5,4 +5,3 @@ pub mod Each
 pub mod Running
 pub mod Chains
 pub mod Next
-pub mod Claims

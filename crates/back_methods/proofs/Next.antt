@@ -1,9 +1,9 @@
 -- **The routine of the next method**: without a chain, or at its end, there is none; else the chain runs, at the same level.
-use Rattle.std.proofs.Common.{◌≡◌, inl, inr, ℕ, suc, ◌+◌, ◌*◌, ◌%◌, ◌^◌, ◌<◌, ◌≤◌, false, List, [], ◌∷◌, ◌++◌, length, Option, Some, None, refl, sym, ap, ◌∙◌, subst, arith}
+use Rattle.std.proofs.Common.{◌≡◌, inl, inr, ℕ, suc, ◌+◌, ◌%◌, ◌^◌, ◌<◌, ◌≤◌, false, List, [], ◌∷◌, ◌++◌, length, Option, Some, None, refl, sym, ap, ◌∙◌, subst, arith}
 use Rattle.std.specs.Prelude.{slice_get}
 use Rattle.std.proofs.lemmas.Bool.{eq-eqb, ne_eqb}
 use Rattle.std.proofs.lemmas.Nat.{and_mask}
-use Rattle.lang_meaning.specs.Objects.{Chain, Called, control_error_class}
+use Rattle.lang_meaning.specs.Objects.{Called, control_error_class}
 use Rattle.lang_meaning.specs.State.{DynamicContext}
 use Rattle.lang_meaning.specs.Values.{Value}
 use Rattle.flat_language.specs.FlatMeaning.{mean_next}
@@ -26,14 +26,15 @@ use Rattle.back_lowering.specs.Routines.{failing_routine, next_routine}
 use Rattle.back_lowering.specs.Steps.{Steps, constant, call, if_equal}
 use Rattle.back_relation.specs.Setting.{Setting, ConstantsAt}
 use Rattle.back_relation.specs.Placed.{IsPlaced}
-use Rattle.back_relation.specs.Chains.{ChainTakes, ChainAt, chain_words}
+use Rattle.back_relation.specs.Chains.{ChainTakes, ChainAt}
 use Rattle.back_relation.specs.Room.{entry_words, failing_words, next_words}
 use Rattle.back_relation.specs.Worlds.{World, Standing}
 use Rattle.back_relation.specs.Around.{CallBegins, SiteStored}
 use Rattle.back_relation.specs.Activation.{ArgumentsHeld, in_heap, on_stack, ArgumentsThere, MethodHeld, MethodThere}
 use Rattle.back_relation.specs.Ends.{CallEnds}
 use Rattle.back_relation.specs.Forms.{context_at, code_at}
-use Rattle.back_relation.specs.Procedures.{called, as_registers}
+use Rattle.back_relation.specs.Procedures.{called, as_registers, ArgumentsGiven}
+use Rattle.back_relation.specs.RoutineClaims.{next_credit}
 use Rattle.back_combining.specs.Starts.{FlatGrown}
 use Rattle.back_combining.proofs.Growth.{grown_later}
 use Rattle.back_combining.proofs.Parts.{step_then}
@@ -45,27 +46,14 @@ use Rattle.back_calling.proofs.Inner.{going_on_law, passing_law, returned}
 use Rattle.back_calling.proofs.Numbers.{numbers_law}
 use Rattle.back_transfers.proofs.Points.{point_begins}
 use Rattle.back_transfers.proofs.Within.{call_less, begins_less}
-use Rattle.back_signals.specs.Within.{FailingWithin}
+use Rattle.back_signals.specs.Law.{ConditionsDo}
 use Rattle.back_chains.proofs.Constants.{constants_law}
-use Rattle.back_methods.specs.Methods.{ArgumentsGiven, lent, kept, MethodsDo, chain_cost, most_credit, rest_of, LawOfNext}
-use Rattle.back_methods.proofs.Given.{given_stays}
+use Rattle.back_chains.proofs.Words.{has_first}
+use Rattle.back_methods.specs.Methods.{EntriesDo, LawOfNext}
+use Rattle.back_methods.proofs.Given.{given_inside}
 use Rattle.back_methods.proofs.Running.{chain_comes, runs_grow}
 
--- the first word of a chain that has methods is none of its end
-record FirstKind (words : List ℕ) : Type 0 where
-  first : ℕ
-  others : List ℕ
-  is : words ≡ first ∷ others
-  kind : first % 8 < 4
-
-first_kind : (ar be pr af : List ℕ) → (pr ≡ [] → ⊥) → FirstKind (chain_words (record { around = ar; before = be; primary = pr; after = af }))
-first_kind (p ∷ ps) be pr af some = record { first = 8 * p + 0; others = _; is = refl; kind = omega arith }
-first_kind [] (p ∷ ps) pr af some = record { first = 8 * p + 1; others = _; is = refl; kind = omega arith }
-first_kind [] [] pr (p ∷ ps) some = record { first = 8 * p + 2; others = _; is = refl; kind = omega arith }
-first_kind [] [] (p ∷ ps) [] some = record { first = 8 * p + 3; others = _; is = refl; kind = omega arith }
-first_kind [] [] [] [] some = absurd (some refl)
-
-module _ (setting : Setting) (k : ℕ) (around : DynamicContext) (fails : (t : ℕ) (rs valid : List Standing) (w : World) (z : FlatState) (y : MidState) → FailingWithin setting k t rs valid w around z y) where
+module _ (setting : Setting) (k : ℕ) (around : DynamicContext) (fails : ConditionsDo setting k 1 around) where
   abbrev meant_failing : FlatState → FlatEvaluated
   meant_failing z = signal (context_at setting k) control_error_class [] around z
 
@@ -79,11 +67,11 @@ module _ (setting : Setting) (k : ℕ) (around : DynamicContext) (fails : (t : �
 
   -- there is no next method
   fails_here :
-      (t : ℕ) (rs valid : List Standing) (w : World) (z : FlatState) (y : MidState) (o0 o1 o2 o3 o4 : Option ℕ) (rest : Registers) → CallBegins setting rs valid entry_words w around z y
+      (t : ℕ) → t ≤ setting.turns_each → (rs valid : List Standing) (w : World) (z : FlatState) (y : MidState) (o0 o1 o2 o3 o4 : Option ℕ) (rest : Registers) → CallBegins setting rs valid entry_words w around z y
       → SiteStored setting around y
       → CallEnds setting 116 (suc t) rs valid w around z y (meant_failing z)
       (exec (code_at setting k t) (code_of (signals setting.at 4 control_error_class)) (o0 ∷ o1 ∷ o2 ∷ o3 ∷ o4 ∷ rest) y)
-  fails_here t rs valid w z y o0 o1 o2 o3 o4 rest begins site =
+  fails_here t few rs valid w z y o0 o1 o2 o3 o4 rest begins site =
       subst (λ q. CallEnds setting 116 (suc t) rs valid w around z y (meant_failing z) q) (sym (and_then constant_falls (record { same = refl })).same)
       (going_on_law setting 6 110 116 (suc t) (suc t) rs valid w w around z z y (mid_charged 6 y) (meant_failing z)
       (exec (code_at setting k t) (code_of (call 4 (failing_routine setting.at) (4 ∷ []) ∷ return_word 4 ∷ [])) (o0 ∷ o1 ∷ o2 ∷ o3 ∷ Some control_error_class ∷ rest) (mid_charged 6 y))
@@ -91,17 +79,19 @@ module _ (setting : Setting) (k : ℕ) (around : DynamicContext) (fails : (t : �
       (returned setting k t 50 (suc t) 4 (failing_routine setting.at) (4 ∷ []) (control_error_class ∷ []) [] rs valid w around z (mid_charged 6 y) (o0 ∷ o1 ∷ o2 ∷ o3 ∷ Some control_error_class ∷ rest)
       (meant_failing z) (refl, tt) (omega arith) (begins_at 6 begins).things
       (call_less setting (omega arith) (omega arith)
-      (fails t rs valid w z (mid_charged 46 (mid_charged 6 y)) control_error_class (record { low = omega arith; high = omega arith; slots = refl }) site
+      ((fails t rs valid w z (mid_charged 46 (mid_charged 6 y)) few).class_alone control_error_class (record { low = omega arith; high = omega arith; slots = refl }) site
       (begins_less setting failing_words (omega arith) (begins_at 46 (begins_at 6 begins)))))))
 
 -- the arguments of a call
-given_of : (setting : Setting) (w : World) (y : MidState) (address : ℕ) (c : Called) → ArgumentsHeld w y.arena address c → ArgumentsThere w y.arena address c → ArgumentsGiven setting w y.arena address c.arguments
-given_of setting w y address c (in_heap start e is) there = kept c start refl e is
-given_of setting w y address c (on_stack values plain) (inl h) = kept c h.0 refl h.1 h.2
-given_of setting w y address c (on_stack values plain) (inr low) = lent (record { low = low; values = values low; plain = plain })
+given_of :
+    (setting : Setting) (w : World) (y : MidState) (address : ℕ) (c : Called) → ArgumentsHeld w y.arena address c → ArgumentsThere w y.arena address c
+    → ArgumentsGiven setting w y.arena address c.arguments
+given_of setting w y address c (in_heap kept) there = inr kept
+given_of setting w y address c (on_stack values plain) (inl kept) = inr kept
+given_of setting w y address c (on_stack values plain) (inr low) = inl (record { low = low.0; is_word = low.1; values = values low.0; plain = plain })
 
-module _ (setting : Setting) (k : ℕ) (around : DynamicContext) (fails : (t : ℕ) (rs valid : List Standing) (w : World) (z : FlatState) (y : MidState) → FailingWithin setting k t rs valid w around z y)
-    (credit : ℕ → ℕ) (does : MethodsDo setting (ArgumentsGiven setting) k credit) (rs valid : List Standing) where
+module _ (setting : Setting) (k : ℕ) (around : DynamicContext) (fails : ConditionsDo setting k 1 around)
+    (does : EntriesDo setting k) (rs valid : List Standing) where
   abbrev failing : Steps
   failing = signals setting.at 4 control_error_class
 
@@ -138,10 +128,10 @@ module _ (setting : Setting) (k : ℕ) (around : DynamicContext) (fails : (t : �
       (and_then constant_falls (record { same = refl })).same ∙ step_then (code_at setting k t) first_choice run_steps (Some chain ∷ Some count ∷ Some address ∷ Some 0 ∷ None ∷ nothing_yet) (mid_charged 6 y)
 
   without_chain :
-      (t count address : ℕ) (w : World) (z : FlatState) (y : MidState) → CallBegins setting rs valid entry_words w around z y → SiteStored setting around y
+      (t count address : ℕ) → t ≤ setting.turns_each → (w : World) (z : FlatState) (y : MidState) → CallBegins setting rs valid entry_words w around z y → SiteStored setting around y
       → CallEnds setting 134 (suc t) rs valid w around z y (meant_failing setting k around fails z)
       (exec (code_at setting k t) (code_of (next_code setting.at)) (Some 0 ∷ Some count ∷ Some address ∷ None ∷ None ∷ nothing_yet) y)
-  without_chain t count address w z y begins site =
+  without_chain t count address few w z y begins site =
       let regs : Registers = Some 0 ∷ Some count ∷ Some address ∷ Some 0 ∷ None ∷ nothing_yet in
       let inner : MidOutcome = exec (code_at setting k t) (code_of failing) regs (mid_charged 18 y) in
       let chosen : exec_step (code_at setting k t) first_choice regs (mid_charged 6 y) ≡ jumped inner =
@@ -151,10 +141,10 @@ module _ (setting : Setting) (k : ℕ) (around : DynamicContext) (fails : (t : �
       (passes t 134 w z y (meant_failing setting k around fails z) inner
       (going_on_law setting 18 116 134 (suc t) (suc t) rs valid w w around z z y (mid_charged 18 y) (meant_failing setting k around fails z) inner (world_cost setting 18 begins.things)
       (around_cost setting {credit = 18} z y 18 (omega arith)) (omega arith) (omega arith) refl
-      (fails_here setting k around fails t rs valid w z (mid_charged 18 y) (Some 0) (Some count) (Some address) (Some 0) None nothing_yet (begins_at setting k around fails 18 begins) site)))
+      (fails_here setting k around fails t few rs valid w z (mid_charged 18 y) (Some 0) (Some count) (Some address) (Some 0) None nothing_yet (begins_at setting k around fails 18 begins) site)))
 
   -- the first word of the chain says whether it is its end
-  module _ (t chain count address word : ℕ) (w : World) (z : FlatState) (y : MidState) (begins : CallBegins setting rs valid entry_words w around z y) (some : 1 ≤ chain)
+  module _ (t chain count address word : ℕ) (few : t ≤ setting.turns_each) (w : World) (z : FlatState) (y : MidState) (begins : CallBegins setting rs valid entry_words w around z y) (some : 1 ≤ chain)
       (at : ConstantsAt setting chain (word ∷ [])) where
     abbrev seen : Registers
     seen = Some chain ∷ Some count ∷ Some address ∷ Some word ∷ Some (word % 8) ∷ Some 4 ∷ None ∷ None ∷ None ∷ None ∷ []
@@ -194,7 +184,7 @@ module _ (setting : Setting) (k : ℕ) (around : DynamicContext) (fails : (t : �
         (choose_first refl refl (eq-eqb _ _ is) (record { same = refl })).same ∙ ap (λ n. jumped (exec (code_at setting k t) (code_of failing) seen (record y { cost = n }))) (omega arith) in
         let last : MidOutcome = exec (code_at setting k t) (code_of (last_choice ∷ [])) seen (mid_charged 48 y) in
         let ended : CallEnds setting 116 (suc t) rs valid w around z (mid_charged 60 y) (meant_failing setting k around fails z) inner =
-        fails_here setting k around fails t rs valid w z (mid_charged 60 y) (Some chain) (Some count) (Some address) (Some word) (Some (word % 8)) (Some 4 ∷ None ∷ None ∷ None ∷ None ∷ [])
+        fails_here setting k around fails t few rs valid w z (mid_charged 60 y) (Some chain) (Some count) (Some address) (Some word) (Some (word % 8)) (Some 4 ∷ None ∷ None ∷ None ∷ None ∷ [])
         (begins_at setting k around fails 60 begins) site in
         let here : CallEnds setting 176 (suc t) rs valid w around z y (meant_failing setting k around fails z) inner =
         going_on_law setting 60 116 176 (suc t) (suc t) rs valid w w around z z y (mid_charged 60 y) (meant_failing setting k around fails z) inner (world_cost setting 60 begins.things)
@@ -211,39 +201,38 @@ module _ (setting : Setting) (k : ℕ) (around : DynamicContext) (fails : (t : �
   -- ---- the call of a method
 
   chain_of :
-      (t : ℕ) (c : Called) (chain address : ℕ) (w : World) (z : FlatState) (y : MidState) → t ≤ setting.turns_each → credit (length c.arguments) ≤ most_credit → ChainAt setting chain c.rest
+      (t : ℕ) (c : Called) (chain address : ℕ) (w : World) (z : FlatState) (y : MidState) → t ≤ setting.turns_each → ChainAt setting chain c.rest
       → ChainTakes setting (length c.arguments) c.rest → ArgumentsGiven setting w y.arena address c.arguments → CallBegins setting rs valid entry_words w around z y → SiteStored setting around y
-      → CallEnds setting (218 + 60 * (length c.rest.before + length c.rest.after)) (suc t) rs valid w around z y
+      → CallEnds setting 238 (suc t) rs valid w around z y
       (run_chain (context_at setting k) (signal (context_at setting k)) c.rest c.arguments around z)
       (exec (code_at setting k t) (code_of (next_code setting.at)) (Some chain ∷ Some (length c.arguments) ∷ Some address ∷ None ∷ None ∷ nothing_yet) y)
-  chain_of t c chain address w z y few low at takes given begins site = by c.rest.around c.rest.before c.rest.primary c.rest.after at takes
+  chain_of t c chain address w z y few at takes given begins site = by c.rest.around c.rest.before c.rest.primary c.rest.after at takes
     where
       vs : List Value
       vs = c.arguments
 
       by : (ar be pr af : List ℕ) → ChainAt setting chain (record { around = ar; before = be; primary = pr; after = af })
           → ChainTakes setting (length vs) (record { around = ar; before = be; primary = pr; after = af })
-          → CallEnds setting (218 + 60 * (length be + length af)) (suc t) rs valid w around z y
+          → CallEnds setting 238 (suc t) rs valid w around z y
           (run_chain (context_at setting k) (signal (context_at setting k)) (record { around = ar; before = be; primary = pr; after = af }) vs around z)
           (exec (code_at setting k t) (code_of (next_code setting.at)) (Some chain ∷ Some (length vs) ∷ Some address ∷ None ∷ None ∷ nothing_yet) y)
-      by [] [] [] [] at takes = call_less setting (omega arith) (omega arith) (at_its_end t chain (length vs) address chain_end w z y begins at.some (at.words.0, tt) refl site)
+      by [] [] [] [] at takes = call_less setting (omega arith) (omega arith) (at_its_end t chain (length vs) address chain_end few w z y begins at.some (at.words.0, tt) refl site)
       by (p ∷ ps) be [] af at takes = absurd (cc ((at.no_other refl).0))
       by [] (p ∷ ps) [] af at takes = absurd (cc ((at.no_other refl).1))
       by [] [] [] (p ∷ ps) at takes = absurd (cc ((at.no_other refl).2))
       by ar be (p ∷ ps) af at takes =
-          let first = first_kind ar be (p ∷ ps) af (λ e. absurd (cc e)) in
-          let kind = first.kind in
+          let first = has_first (record { around = ar; before = be; primary = p ∷ ps; after = af }) (λ e. absurd (cc e)) in
           let all : ConstantsAt setting chain (first.first ∷ first.others) = subst (λ l. ConstantsAt setting chain l) first.is at.words in
           subst
           (λ q.
-          CallEnds setting (218 + 60 * (length be + length af)) (suc t) rs valid w around z y
+          CallEnds setting 238 (suc t) rs valid w around z y
           (run_chain (context_at setting k) (signal (context_at setting k)) (record { around = ar; before = be; primary = p ∷ ps; after = af }) vs around z) q)
-          (sym (goes_to_chain t chain (length vs) address first.first w z y begins at.some (all.0, tt) (λ e. omega (arith, e, kind))))
-          (going_on_law setting 64 (154 + 60 * (length be + length af)) (218 + 60 * (length be + length af)) (suc t) (suc t) rs valid w w around z z y (mid_charged 64 y)
+          (sym (goes_to_chain t chain (length vs) address first.first few w z y begins at.some (all.0, tt) first.no_end))
+          (going_on_law setting 64 174 238 (suc t) (suc t) rs valid w w around z z y (mid_charged 64 y)
           (run_chain (context_at setting k) (signal (context_at setting k)) (record { around = ar; before = be; primary = p ∷ ps; after = af }) vs around z)
-          (exec (code_at setting k t) (code_of run_steps) (seen t chain (length vs) address first.first w z y begins at.some (all.0, tt)) (mid_charged 64 y)) (world_cost setting 64 begins.things)
+          (exec (code_at setting k t) (code_of run_steps) (seen t chain (length vs) address first.first few w z y begins at.some (all.0, tt)) (mid_charged 64 y)) (world_cost setting 64 begins.things)
           (around_cost setting {credit = 64} z y 64 (omega arith)) (omega arith) (omega arith) refl
-          (chain_comes setting (ArgumentsGiven setting) (given_stays setting) k credit does rs valid around vs address low t chain (suc t) (record { around = ar; before = be; primary = p ∷ ps; after = af })
+          (chain_comes setting k does rs valid around vs address t chain (suc t) (record { around = ar; before = be; primary = p ∷ ps; after = af })
           (Some first.first) (Some (first.first % 8)) (Some 4) None None None None [] w z (mid_charged 64 y) few (omega arith) (λ e. absurd (cc e)) at takes
           (record { call = begins_at setting k around fails 64 begins; given = given }) site))
 
@@ -269,35 +258,31 @@ module _ (setting : Setting) (k : ℕ) (around : DynamicContext) (fails : (t : �
       (λ t e y' here. subst (λ m. CallEnds setting cost m rs valid w around z y' r (exec (code_at setting k t) (code_of (next_code setting.at)) (Some chain ∷ Some count ∷ Some address ∷ None ∷ None ∷ nothing_yet) y')) (sym e) (body t e y' here))
 
   next_does :
-      (turns : ℕ) (paid : Chain → ℕ) (called_as : Option Called) (chain count address : ℕ) (w : World) (z : FlatState) (y : MidState) → IsPlaced setting → turns ≤ suc setting.turns_each
-      → ((n : ℕ) → credit n ≤ most_credit) → ((c : Chain) → chain_cost c ≤ paid c)
+      (turns : ℕ) (called_as : Option Called) (chain count address : ℕ) (w : World) (z : FlatState) (y : MidState) → IsPlaced setting → turns ≤ suc setting.turns_each
       → MethodHeld setting w y.arena false (as_registers (chain ∷ count ∷ address ∷ [])) (Some 0) called_as
       → MethodThere setting w y.arena (as_registers (chain ∷ count ∷ address ∷ [])) (Some 0) called_as → SiteStored setting around y → CallBegins setting rs valid next_words w around z y
-      → CallEnds setting (paid (rest_of called_as)) turns rs valid w around z y (mean_next (context_at setting k) called_as around z)
+      → CallEnds setting next_credit turns rs valid w around z y (mean_next (context_at setting k) called_as around z)
       (called (code_at setting k turns) (next_routine setting.at) (chain ∷ count ∷ address ∷ []) y)
-  next_does turns paid None chain count address w z y placed few low enough held there site begins =
+  next_does turns None chain count address w z y placed few held there site begins =
       let none : chain ≡ 0 = cc held.2 in
-      let most = enough (rest_of None) in
-      call_less setting (omega (arith, most)) (omega arith)
+      call_less setting (omega arith) (omega arith)
       (entered turns 134 chain count address w z y (meant_failing setting k around fails z) placed (grown_later (signal_later setting k control_error_class [] around z)) begins
       (λ t e y' here.
       subst (λ x. CallEnds setting 134 (suc t) rs valid w around z y' (meant_failing setting k around fails z) (exec (code_at setting k t) (code_of (next_code setting.at)) (Some x ∷ Some count ∷ Some address ∷ None ∷ None ∷ nothing_yet) y')) (sym none)
-      (without_chain t count address w z y' here.call (site.0, here.words site_address ∙ site.1, site.2))))
-  next_does turns paid (Some c) chain count address w z y placed few low enough held there site begins =
-      let most = enough c.rest in
-      subst (λ n. CallEnds setting (paid c.rest) turns rs valid w around z y meant (called (code_at setting k turns) (next_routine setting.at) (chain ∷ n ∷ address ∷ []) y)) (sym same_count)
-      (call_less setting (omega (arith, most)) (omega arith)
-      (entered turns (218 + 60 * (length c.rest.before + length c.rest.after)) chain (length c.arguments) address w z y meant placed grows begins
+      (without_chain t count address (omega (arith, e, few)) w z y' here.call (site.0, here.words site_address ∙ site.1, site.2))))
+  next_does turns (Some c) chain count address w z y placed few held there site begins =
+      subst (λ n. CallEnds setting next_credit turns rs valid w around z y meant (called (code_at setting k turns) (next_routine setting.at) (chain ∷ n ∷ address ∷ []) y)) (sym same_count)
+      (call_less setting (omega arith) (omega arith)
+      (entered turns 238 chain (length c.arguments) address w z y meant placed grows begins
       (λ t e y' here.
-      chain_of t c chain address w z y' (omega (arith, e, few)) (low (length c.arguments)) chain_stands held.takes
-      ((given_stays setting).inside w y.arena y'.arena address c.arguments here.words here.from (given_of setting w y address c arguments_held (there address refl))) here.call
+      chain_of t c chain address w z y' (omega (arith, e, few)) chain_stands held.takes (given_inside setting here.words here.from (given_of setting w y address c arguments_held (there address refl))) here.call
       (site.0, here.words site_address ∙ site.1, site.2))))
     where
       meant : FlatEvaluated
       meant = run_chain (context_at setting k) (signal (context_at setting k)) c.rest c.arguments around z
 
       grows : FlatGrown z meant.state
-      grows = runs_grow setting (ArgumentsGiven setting) (given_stays setting) k credit does rs valid around c.arguments address (low (length c.arguments)) c.rest z
+      grows = runs_grow setting k does rs valid around c.arguments address c.rest z
 
       same_count : count ≡ length c.arguments
       same_count = cc held.count_word
@@ -309,5 +294,5 @@ module _ (setting : Setting) (k : ℕ) (around : DynamicContext) (fails : (t : �
       arguments_held = let same : held.arguments ≡ address = cc (sym held.arguments_word) in subst (λ x. ArgumentsHeld w y.arena x c) same held.held
 
 pub next_law : LawOfNext
-next_law setting k turns credit paid rs valid w around z y placed few low enough does fails called_as chain count address held there site begins =
-    next_does setting k around fails credit does rs valid turns (paid count) called_as chain count address w z y placed few low (enough count) held there site begins
+next_law setting k turns rs valid w around z y placed few does fails called_as chain count address held there site begins =
+    next_does setting k around fails does rs valid turns called_as chain count address w z y placed few held there site begins

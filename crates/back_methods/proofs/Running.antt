@@ -1,5 +1,5 @@
 -- **A chain of methods runs**: the first around method; else the methods before, the first primary one, and the methods after.
-use Rattle.std.proofs.Common.{◌≡◌, ◌⊎◌, inl, inr, ℕ, suc, ◌+◌, ◌-◌, ◌*◌, ◌%◌, ◌^◌, ◌<◌, ◌≤◌, List, [], ◌∷◌, ◌++◌, length, Option, Some, refl, sym, ap, ◌∙◌, subst, arith}
+use Rattle.std.proofs.Common.{◌≡◌, ◌⊎◌, inl, inr, ℕ, suc, ◌+◌, ◌*◌, ◌%◌, ◌^◌, ◌<◌, ◌≤◌, List, [], ◌∷◌, ◌++◌, length, Option, Some, refl, sym, ap, ◌∙◌, subst, arith}
 use Rattle.std.proofs.lemmas.Bool.{cases_lt, eq-eqb, ne_eqb}
 use Rattle.std.proofs.lemmas.Nat.{and_mask}
 use Rattle.std.proofs.lemmas.Option.{slice_get_within}
@@ -21,19 +21,20 @@ use Rattle.mid_code.specs.State.{charged as mid_charged, go_on as mid_go_on}
 use Rattle.mid_code.proofs.Growth.{exec_grown, charged_grown, levels_grow, turns_grow}
 use Rattle.mid_arena.specs.Places.{of_other, word_of}
 use Rattle.mid_arena.proofs.Growing.{spot_below}
-use Rattle.mid_arena.proofs.Running.{and_then, none_left, move_falls, constant_falls, compute_known, load_falls, store_falls, choose_first, choose_second_falls, address_above}
+use Rattle.mid_arena.proofs.Running.{and_then, none_left, parts_then, constant_falls, compute_known, load_falls, store_falls, choose_first, choose_second_falls, address_above}
 use Rattle.mid_arena.proofs.WordFacts.{sum_fits}
-use Rattle.back_lowering.specs.ControlWords.{site_address, around_method, before_method, after_method, primary_method, chain_end}
+use Rattle.back_lowering.specs.ControlWords.{site_address, around_method, before_method, after_method, primary_method}
 use Rattle.back_lowering.specs.RoutineCodes.{number_into, methods_called, chain_run}
-use Rattle.back_lowering.specs.Steps.{Steps, move, if_equal, constant, compute, load, store, call_number}
+use Rattle.back_lowering.specs.Steps.{Steps, if_equal, constant, compute, load, store, call_number}
 use Rattle.back_relation.specs.Setting.{Setting, ConstantAt, ConstantsAt}
-use Rattle.back_relation.specs.Chains.{MethodTakes, ChainTakes, ChainAt, method_words}
+use Rattle.back_relation.specs.Chains.{MethodTakes, ChainTakes, ChainAt, method_words, chain_words}
 use Rattle.back_relation.specs.Worlds.{World, Standing}
 use Rattle.back_relation.specs.Things.{Things, SiteIs}
 use Rattle.back_relation.specs.StackWords.{HasWordAt}
 use Rattle.back_relation.specs.Around.{SiteStored}
 use Rattle.back_relation.specs.Ends.{few_turns, CallEnds}
 use Rattle.back_relation.specs.Forms.{context_at, code_at}
+use Rattle.back_relation.specs.Procedures.{entry_credit}
 use Rattle.back_combining.specs.Starts.{FlatGrown}
 use Rattle.back_combining.proofs.Choices.{go_gives}
 use Rattle.back_combining.proofs.Growth.{grown_later, same_flat, then_grown, both_flat}
@@ -45,57 +46,18 @@ use Rattle.back_calling.proofs.Growing.{tasks_below}
 use Rattle.back_calling.proofs.Inner.{going_on_law, passing_law, returns_law}
 use Rattle.back_calling.proofs.Storing.{control_lent, word_stored, world_stored, around_stored}
 use Rattle.back_calling.proofs.Units.{calls_recounted}
-use Rattle.back_chains.specs.Chains.{Walked, seeks_primary, walking}
+use Rattle.back_chains.specs.Chains.{before_at, after_at, primary_at, finds_primary, Found}
 use Rattle.back_chains.proofs.Constants.{constants_law}
 use Rattle.back_chains.proofs.Primaries.{primaries_law}
+use Rattle.back_chains.proofs.Words.{kind_of, procedure_of, words_from_after, before_words, after_words, primary_words, LaterFirst, primary_first, after_first, chain_first}
 use Rattle.back_transfers.proofs.Within.{call_less}
-use Rattle.back_methods.specs.Methods.{Arguments, CalledBy, MethodsDo, most_credit}
-use Rattle.back_methods.proofs.Calling.{Here, here_then, method_then}
-use Rattle.back_methods.proofs.Each.{kind_of, procedure_of, site_control, each, each_grows, loop, methods_run}
-use Rattle.back_methods.proofs.Given.{Stays}
+use Rattle.back_methods.specs.Methods.{EntriesDo}
+use Rattle.back_methods.proofs.Calling.{CalledBy, Here, here_then, method_then}
+use Rattle.back_methods.proofs.Each.{site_control, each, each_grows, loop, methods_run}
 
--- ---- the words of a chain
-
--- the words behind others
-pub constants_behind : (setting : Setting) (xs ys : List ℕ) (a : ℕ) → ConstantsAt setting a (xs ++ ys) → ConstantsAt setting (a + 4 * length xs) ys
-constants_behind setting [] ys a h = let same : a ≡ a + 4 * 0 = omega arith in subst (λ x. ConstantsAt setting x ys) same h
-constants_behind setting (x ∷ xs) ys a h =
-    let same : a + 4 + 4 * length xs ≡ a + 4 * suc (length xs) = omega arith in subst (λ x. ConstantsAt setting x ys) same (constants_behind setting xs ys (a + 4) h.1)
-
-words_count : (kind : ℕ) (ps : List ℕ) → length (method_words kind ps) ≡ length ps
-words_count kind [] = refl
-words_count kind (p ∷ ps) = ap suc (words_count kind ps)
-
--- the first word of a list whose words are all of later kinds
-record LaterFirst (kind : ℕ) (words : List ℕ) : Type 0 where
-  first : ℕ
-  others : List ℕ
-  is : words ≡ first ∷ others
-  later : kind < first % 8
-
-primary_first : (ps : List ℕ) → LaterFirst after_method (method_words primary_method ps ++ chain_end ∷ [])
-primary_first [] = record { first = 4; others = []; is = refl; later = omega arith }
-primary_first (p ∷ ps) = record { first = 8 * p + 3; others = method_words primary_method ps ++ chain_end ∷ []; is = refl; later = omega arith }
-
-after_first : (qs ps : List ℕ) → LaterFirst before_method (method_words after_method qs ++ (method_words primary_method ps ++ chain_end ∷ []))
-after_first [] ps = let h = primary_first ps in record { first = h.first; others = h.others; is = h.is; later = let later = h.later in omega (arith, later) }
-after_first (q ∷ qs) ps =
-    record { first = 8 * q + 2; others = method_words after_method qs ++ (method_words primary_method ps ++ chain_end ∷ []); is = refl; later = omega arith }
-
-before_first : (bs qs ps : List ℕ) → LaterFirst around_method (method_words before_method bs ++ (method_words after_method qs ++ (method_words primary_method ps ++ chain_end ∷ [])))
-before_first [] qs ps = let h = after_first qs ps in record { first = h.first; others = h.others; is = h.is; later = let later = h.later in omega (arith, later) }
-before_first (b ∷ bs) qs ps =
-    record {
-      first = 8 * b + 1;
-      others = method_words before_method bs ++ (method_words after_method qs ++ (method_words primary_method ps ++ chain_end ∷ []));
-      is = refl;
-      later = omega arith;
-    }
-
-module _ (setting : Setting) (Given : Arguments) (stays : Stays setting Given) (k : ℕ) (credit : ℕ → ℕ) (does : MethodsDo setting Given k credit) (rs valid : List Standing) (around : DynamicContext)
-    (vs : List Value) (address : ℕ) (low : credit (length vs) ≤ most_credit) where
+module _ (setting : Setting) (k : ℕ) (does : EntriesDo setting k) (rs valid : List Standing) (around : DynamicContext) (vs : List Value) (address : ℕ) where
   abbrev IsHere : World → FlatState → MidState → Type 0
-  IsHere w z y = Here setting Given stays k credit does rs valid around vs address low w z y
+  IsHere w z y = Here setting k does rs valid around vs address w z y
 
   abbrev pub runs : Chain → FlatState → FlatEvaluated
   runs c z = run_chain (context_at setting k) (signal (context_at setting k)) c vs around z
@@ -113,7 +75,7 @@ module _ (setting : Setting) (Given : Arguments) (stays : Stays setting Given) (
 
   here_cost : {w : World} {z : FlatState} {y : MidState} (n : ℕ) → IsHere w z y → IsHere w z (mid_charged n y)
   here_cost {z = z} {y = y} n h =
-      here_then setting Given stays k credit does rs valid around vs address low (world_cost setting n h.call.things) (around_cost setting {credit = n} z y n (omega arith)) h
+      here_then setting k does rs valid around vs address (world_cost setting n h.call.things) (around_cost setting {credit = n} z y n (omega arith)) h
 
   -- ---- an around method
 
@@ -132,7 +94,7 @@ module _ (setting : Setting) (Given : Arguments) (stays : Stays setting Given) (
       load 3 8 0 ∷ (number_into setting.at 3 3 4 ++ (constant 4 4 ∷ compute 4 which.Add 8 4 ∷ constant 5 0 ∷ store 9 5 site_address ∷ primary_call ∷ last_steps))
 
   abbrev chain_tail : Steps
-  chain_tail = move 8 0 ∷ seeks_primary setting.at ∷ move 7 0 ∷ (methods_called setting.at before_method ++ primary_steps)
+  chain_tail = finds_primary setting.at ++ (methods_called setting.at before_method ++ primary_steps)
 
   module _ (t chain site : ℕ) (few : t ≤ setting.turns_each) (rest : Registers) where
     abbrev around_call : MidStep
@@ -147,15 +109,15 @@ module _ (setting : Setting) (Given : Arguments) (stays : Stays setting Given) (
     around_comes m p r5 r6 r7 r8 r9 c w z y turns takes by small h stored =
         subst (λ q. CallEnds setting 0 m rs valid w around z y meant q) (sym code_comes)
         (calls_recounted setting {c1 = 1300} {m1 = t} z (z.state.units + 1) z.state.units (omega arith) (omega (arith, turns))
-        (going_on_law setting 38 (credit (length vs) + 64 + 14) 1300 t t rs valid w w around (charged 1 z) (charged 1 z) y (mid_charged 38 y) meant
+        (going_on_law setting 38 (entry_credit (length vs) + 64 + 14) 1300 t t rs valid w w around (charged 1 z) (charged 1 z) y (mid_charged 38 y) meant
         (exec (code_at setting k t) (code_of (around_call ∷ return_word 6 ∷ [])) regs' (mid_charged 38 y)) (world_cost setting 38 (things_units setting 1 h.call.things))
-        (around_cost setting {credit = 38} (charged 1 z) y 38 (omega arith)) (omega (arith, low)) (omega arith) refl
-        (subst (λ q. CallEnds setting (credit (length vs) + 64 + 14) t rs valid w around (charged 1 z) (mid_charged 38 y) meant q)
+        (around_cost setting {credit = 38} (charged 1 z) y 38 (omega arith)) (omega arith) (omega arith) refl
+        (subst (λ q. CallEnds setting (entry_credit (length vs) + 64 + 14) t rs valid w around (charged 1 z) (mid_charged 38 y) meant q)
         (sym (step_then (code_at setting k t) around_call (return_word 6 ∷ []) regs' (mid_charged 38 y)))
         (subst
-        (λ r. CallEnds setting (credit (length vs) + 64 + 14) t rs valid w around (charged 1 z) (mid_charged 38 y) r (mid_go_on (exec_step (code_at setting k t) around_call regs' (mid_charged 38 y)) returned_then))
+        (λ r. CallEnds setting (entry_credit (length vs) + 64 + 14) t rs valid w around (charged 1 z) (mid_charged 38 y) r (mid_go_on (exec_step (code_at setting k t) around_call regs' (mid_charged 38 y)) returned_then))
         (go_gives meant)
-        (method_then setting Given stays k credit does rs valid around vs address low t p (chain + 4) 6 3 5 4 1 2 14 (Some (record { arguments = vs; rest = c })) w z (mid_charged 38 y) regs' (λ v x. gives v x)
+        (method_then setting k does rs valid around vs address t p (chain + 4) 6 3 5 4 1 2 14 (Some (record { arguments = vs; rest = c })) w z (mid_charged 38 y) regs' (λ v x. gives v x)
         returned_then few takes by (here_cost 38 h) stored refl (refl, (refl, (refl, (refl, tt)))) (λ v x. same_flat x) (λ g x. behind_grows t (return_word 6 ∷ []) g x)
         (λ w' z' y' v word later h' of_value.
         returns_law setting (code_at setting k t) 14 t 6 word [] rs valid w' around z' y' (regs_with (Some word)) v h'.call.things refl of_value (omega arith)))))))
@@ -234,30 +196,24 @@ module _ (setting : Setting) (Given : Arguments) (stays : Stays setting Given) (
 
     module _ (p : ℕ) (be ps af : List ℕ) (takes : ChainTakes setting (length vs) (record { around = []; before = be; primary = p ∷ ps; after = af }))
         (at : ChainAt setting chain (record { around = []; before = be; primary = p ∷ ps; after = af })) (site_is : SiteIs setting site around.site) (enough : length be + length af ≤ t) where
-      abbrev primary_at : ℕ
-      primary_at = chain + 4 * (length be + length af)
+      abbrev whole : Chain
+      whole = record { around = []; before = be; primary = p ∷ ps; after = af }
 
-      abbrev after_at : ℕ
-      after_at = chain + 4 * length be
+      abbrev start_at : ℕ
+      start_at = before_at chain whole
+
+      abbrev behind_at : ℕ
+      behind_at = after_at chain whole
+
+      abbrev first_at : ℕ
+      first_at = primary_at chain whole
 
       abbrev next_call : Called
       next_call = record { arguments = vs; rest = record { around = []; before = []; primary = ps; after = [] } }
 
-      after_words : ConstantsAt setting after_at (method_words after_method af ++ (method_words primary_method (p ∷ ps) ++ chain_end ∷ []))
-      after_words =
-          let same : chain + 4 * length (method_words before_method be) ≡ after_at = ap (λ n. chain + 4 * n) (words_count before_method be) in
-          subst (λ x. ConstantsAt setting x (method_words after_method af ++ (method_words primary_method (p ∷ ps) ++ chain_end ∷ []))) same
-          (constants_behind setting (method_words before_method be) (method_words after_method af ++ (method_words primary_method (p ∷ ps) ++ chain_end ∷ [])) chain at.words)
-
-      primary_words : ConstantsAt setting primary_at (method_words primary_method (p ∷ ps) ++ chain_end ∷ [])
-      primary_words =
-          let same : after_at + 4 * length (method_words after_method af) ≡ primary_at = let many = words_count after_method af in omega (arith, many) in
-          subst (λ x. ConstantsAt setting x (method_words primary_method (p ∷ ps) ++ chain_end ∷ [])) same
-          (constants_behind setting (method_words after_method af) (method_words primary_method (p ∷ ps) ++ chain_end ∷ []) after_at after_words)
-
-      next_by : CalledBy setting (primary_at + 4) vs (Some next_call)
+      next_by : CalledBy setting (first_at + 4) vs (Some next_call)
       next_by = (
-        record { some = omega arith; no_other = λ e. (refl, refl, refl); words = primary_words.1 },
+        record { some = omega arith; no_other = λ e. (refl, refl, refl); words = (primary_words setting chain whole at refl).1 },
         record { around = tt; before = tt; primary = takes.primary.1; after = tt },
         refl,
       )
@@ -266,28 +222,28 @@ module _ (setting : Setting) (Given : Arguments) (stays : Stays setting Given) (
       set_file r3 r4 r5 r6 a r8 = Some chain ∷ Some (length vs) ∷ Some address ∷ r3 ∷ r4 ∷ r5 ∷ r6 ∷ Some a ∷ r8 ∷ Some site ∷ rest
 
       abbrev all_of : List ℕ → FlatState → FlatEvaluated
-      all_of ms z = each setting Given stays k credit does rs valid around vs address low site site_is (Some chain) rest ms z
+      all_of ms z = each setting k does rs valid around vs address site site_is (Some chain) rest ms z
 
       each_grow : (ms : List ℕ) (z : FlatState) → FlatGrown z (all_of ms z).state
-      each_grow ms z = each_grows setting Given stays k credit does rs valid around vs address low site site_is (Some chain) rest ms z
+      each_grow ms z = each_grows setting k does rs valid around vs address site site_is (Some chain) rest ms z
 
       -- the value of the primary method is returned, behind the methods after it
       last_comes :
           (m : ℕ) (r3 r4 r5 r6 : Option ℕ) (v : Value) (word : ℕ) (w : World) (z : FlatState) (y : MidState) → m ≤ t + 16 → IsHere w z y → word_of w.places v ≡ Some word
-          → CallEnds setting 56 m rs valid w around z y (go_on (all_of af z) (λ ignored x. gives v x)) (exec (code_at setting k t) (code_of last_steps) (set_file r3 r4 r5 r6 after_at (Some word)) y)
+          → CallEnds setting 56 m rs valid w around z y (go_on (all_of af z) (λ ignored x. gives v x)) (exec (code_at setting k t) (code_of last_steps) (set_file r3 r4 r5 r6 behind_at (Some word)) y)
       last_comes m r3 r4 r5 r6 v word w z y turns h of_value =
-          let words = primary_first (p ∷ ps) in
+          let words = primary_first whole in
           let later = words.later in
           subst (λ q. CallEnds setting 56 m rs valid w around z y (go_on (all_of af z) (λ ignored x. gives v x)) q)
           (sym
-          (step_then (code_at setting k t) (loop setting Given stays k credit does rs valid around vs address low site site_is (Some chain) rest after_method) (return_word 8 ∷ [])
-          (set_file r3 r4 r5 r6 after_at (Some word)) y))
-          (methods_run setting Given stays k credit does rs valid around vs address low site site_is (Some chain) rest after_method af t words.first words.others after_at m 14 r3 r4 r5 r6 (Some word) w z y
+          (step_then (code_at setting k t) (loop setting k does rs valid around vs address site site_is (Some chain) rest after_method) (return_word 8 ∷ [])
+          (set_file r3 r4 r5 r6 behind_at (Some word)) y))
+          (methods_run setting k does rs valid around vs address site site_is (Some chain) rest after_method af t words.first words.others behind_at m 14 r3 r4 r5 r6 (Some word) w z y
           (λ ignored x. gives v x) (λ g x. exec (code_at setting k t) (code_of (return_word 8 ∷ [])) g x) (omega arith) (λ e. omega (arith, e, later)) takes.after
-          (subst (λ l. ConstantsAt setting after_at (method_words after_method af ++ l)) words.is after_words) (omega (arith, enough)) few turns h (λ ignored x. same_flat x)
+          (subst (λ l. ConstantsAt setting behind_at (method_words after_method af ++ l)) words.is (after_words setting chain whole at refl)) (omega (arith, enough)) few turns h (λ ignored x. same_flat x)
           (λ g x. behind_grows t (return_word 8 ∷ []) g x)
           (λ w' z' y' m' q3 q4 q5 q6 grew h' more_turns.
-          returns_law setting (code_at setting k t) 14 m' 8 word [] rs valid w' around z' y' (set_file q3 q4 q5 q6 (after_at + 4 * length af) (Some word)) v h'.call.things refl
+          returns_law setting (code_at setting k t) 14 m' 8 word [] rs valid w' around z' y' (set_file q3 q4 q5 q6 (behind_at + 4 * length af) (Some word)) v h'.call.things refl
           (word_later grew v word of_value) (omega arith)))
 
       abbrev primary_meant : FlatState → FlatEvaluated
@@ -295,26 +251,26 @@ module _ (setting : Setting) (Given : Arguments) (stays : Stays setting Given) (
 
       primary_comes :
           (m : ℕ) (r3 r4 r5 r6 : Option ℕ) (w : World) (z : FlatState) (y : MidState) → m ≤ t + 16 → IsHere w z y
-          → CallEnds setting 0 m rs valid w around z y (primary_meant z) (exec (code_at setting k t) (code_of primary_steps) (set_file r3 r4 r5 r6 after_at (Some primary_at)) y)
+          → CallEnds setting 0 m rs valid w around z y (primary_meant z) (exec (code_at setting k t) (code_of primary_steps) (set_file r3 r4 r5 r6 behind_at (Some first_at)) y)
       primary_comes m r3 r4 r5 r6 w z y turns h =
           subst (λ q. CallEnds setting 0 m rs valid w around z y (primary_meant z) q) (sym code_comes)
           (calls_recounted setting {c1 = 1300} {m1 = t} z (z.state.units + 1) z.state.units (omega arith) (omega (arith, turns))
-          (going_on_law setting 54 (credit (length vs) + 64 + 56) 1300 t t rs valid w (standing_world w y) around (charged 1 z) (charged 1 z) y stored (primary_meant z)
+          (going_on_law setting 54 (entry_credit (length vs) + 64 + 56) 1300 t t rs valid w (standing_world w y) around (charged 1 z) (charged 1 z) y stored (primary_meant z)
           (mid_go_on (exec_step (code_at setting k t) primary_call regs' stored) last_then)
           (world_stored setting (things_units setting 1 h.call.things) site_address site cost site_control refl (λ same. omega (arith, same)))
           (around_stored setting (things_units setting 1 h.call.things) site_address site cost site_control refl 54 (omega arith) (λ same. omega (arith, same)) (λ same. omega (arith, same))
           (λ same. omega (arith, same)) (λ same. omega (arith, same)))
-          (omega (arith, low)) (omega arith) refl
-          (method_then setting Given stays k credit does rs valid around vs address low t p (primary_at + 4) 8 3 5 4 1 2 56 (Some next_call) (standing_world w y) z stored regs'
+          (omega arith) (omega arith) refl
+          (method_then setting k does rs valid around vs address t p (first_at + 4) 8 3 5 4 1 2 56 (Some next_call) (standing_world w y) z stored regs'
           (λ v x. go_on (all_of af x) (λ ignored x'. gives v x')) last_then few takes.primary.0 next_by h1 (site, word_stored setting h.call.things site_address site cost site_control refl, site_is)
           refl (refl, (refl, (refl, (refl, tt)))) (λ v x. both_flat (each_grow af x) (then_grown (all_of af x) (λ ignored x'. gives v x') (λ ignored x'. same_flat x'))) (λ g x. behind_grows t last_steps g x)
-          (λ w' z' y' v result later h' of_value. last_comes t (Some p) (Some (primary_at + 4)) (Some 0) r6 v result w' z' y' (omega arith) h' of_value))))
+          (λ w' z' y' v result later h' of_value. last_comes t (Some p) (Some (first_at + 4)) (Some 0) r6 v result w' z' y' (omega arith) h' of_value))))
         where
           word : ℕ
           word = 8 * p + primary_method
 
           regs' : Registers
-          regs' = set_file (Some p) (Some (primary_at + 4)) (Some 0) r6 after_at (Some primary_at)
+          regs' = set_file (Some p) (Some (first_at + 4)) (Some 0) r6 behind_at (Some first_at)
 
           cost : ℕ
           cost = y.cost + 8 + 6 + 10 + 6 + 10 + 6 + 8
@@ -327,21 +283,21 @@ module _ (setting : Setting) (Given : Arguments) (stays : Stays setting Given) (
 
           h1 : IsHere (standing_world w y) z stored
           h1 =
-              here_then setting Given stays k credit does rs valid around vs address low
+              here_then setting k does rs valid around vs address
               (world_stored setting h.call.things site_address site cost site_control refl (λ same. omega (arith, same)))
               (around_stored setting h.call.things site_address site cost site_control refl 54 (omega arith) (λ same. omega (arith, same)) (λ same. omega (arith, same)) (λ same. omega (arith, same))
               (λ same. omega (arith, same)))
               h
 
-          there : (word_at y.arena primary_at ≡ Some word) × (primary_at + 8 ≤ 2 ^ 32)
-          there = constants_law setting w z y h.call.things primary_at word primary_words.0
+          there : (word_at y.arena first_at ≡ Some word) × (first_at + 8 ≤ 2 ^ 32)
+          there = constants_law setting w z y h.call.things first_at word (primary_words setting chain whole at refl).0
 
-          code_comes : exec (code_at setting k t) (code_of primary_steps) (set_file r3 r4 r5 r6 after_at (Some primary_at)) y ≡ mid_go_on (exec_step (code_at setting k t) primary_call regs' stored) last_then
+          code_comes : exec (code_at setting k t) (code_of primary_steps) (set_file r3 r4 r5 r6 behind_at (Some first_at)) y ≡ mid_go_on (exec_step (code_at setting k t) primary_call regs' stored) last_then
           code_comes =
               let small = there.1 in
-              (and_then (load_falls refl (address_above primary_at 0 primary_at (omega arith) (omega (arith, small))) there.0)
+              (and_then (load_falls refl (address_above first_at 0 first_at (omega arith) (omega (arith, small))) there.0)
               (and_then constant_falls (and_then (compute_known refl refl (procedure_of p primary_method (omega arith)))
-              (and_then constant_falls (and_then (compute_known refl refl (sum_fits primary_at 4 (omega (arith, small)))) (and_then constant_falls
+              (and_then constant_falls (and_then (compute_known refl refl (sum_fits first_at 4 (omega (arith, small)))) (and_then constant_falls
               (and_then (store_falls refl refl (address_above 0 site_address site_address (omega arith) (omega arith)) (control_lent setting h.call.things site_address (omega arith) (omega arith) refl))
               (record { same = refl })))))))).same
               ∙ step_then (code_at setting k t) primary_call last_steps regs' stored
@@ -349,21 +305,21 @@ module _ (setting : Setting) (Given : Arguments) (stays : Stays setting Given) (
       -- **the whole chain**, behind the first kind
       all_comes :
           (m : ℕ) (r3 r4 r5 r6 r7 r8 r9 : Option ℕ) (w : World) (z : FlatState) (y : MidState) → m ≤ suc t → IsHere w z y → HasWordAt y site_address site
-          → CallEnds setting (154 + 60 * (length be + length af)) m rs valid w around z y (go_on (all_of be z) (λ ignored x. primary_meant x))
+          → CallEnds setting 174 m rs valid w around z y (go_on (all_of be z) (λ ignored x. primary_meant x))
           (exec (code_at setting k t) (code_of (chain_run setting.at)) (Some chain ∷ Some (length vs) ∷ Some address ∷ r3 ∷ r4 ∷ r5 ∷ r6 ∷ r7 ∷ r8 ∷ r9 ∷ rest) y)
       all_comes m r3 r4 r5 r6 r7 r8 r9 w z y turns h site_word =
-          subst (λ q. CallEnds setting (154 + 60 * (length be + length af)) m rs valid w around z y meant q) (sym code_comes)
-          (going_on_law setting (112 + 60 * (length be + length af)) 42 (154 + 60 * (length be + length af)) m m rs valid w w around z z y (mid_charged paid y) meant
-          (mid_go_on (exec_step (code_at setting k t) before_loop (set_file walked.third walked.fourth walked.fifth r6 chain (Some primary_at)) (mid_charged paid y)) primary_then)
-          (world_cost setting paid h.call.things) (around_cost setting {credit = 112 + 60 * (length be + length af)} z y paid paid_most) (omega arith) (omega arith) refl
-          (methods_run setting Given stays k credit does rs valid around vs address low site site_is (Some chain) rest before_method be t words.first words.others chain m 0 walked.third walked.fourth walked.fifth
-          r6 (Some primary_at) w z (mid_charged paid y) (λ ignored x. primary_meant x) primary_then (omega arith) (λ e. omega (arith, e, later)) takes.before
-          (subst (λ l. ConstantsAt setting chain (method_words before_method be ++ l)) words.is at.words) (omega (arith, enough)) few (omega (arith, turns)) (here_cost paid h)
+          subst (λ q. CallEnds setting 174 m rs valid w around z y meant q) (sym code_comes)
+          (going_on_law setting 132 42 174 m m rs valid w w around z z y (mid_charged paid y) meant
+          (mid_go_on (exec_step (code_at setting k t) before_loop found_file (mid_charged paid y)) primary_then)
+          (world_cost setting paid h.call.things) (around_cost setting {credit = 132} z y paid (omega (arith, within))) (omega arith) (omega arith) refl
+          (methods_run setting k does rs valid around vs address site site_is (Some chain) rest before_method be t words.first words.others start_at m 0 found.third (Some (word % 8)) found.fifth
+          r6 (Some first_at) w z (mid_charged paid y) (λ ignored x. primary_meant x) primary_then (omega arith) (λ e. omega (arith, e, later)) takes.before
+          (subst (λ l. ConstantsAt setting start_at (method_words before_method be ++ l)) words.is (before_words setting chain whole at refl)) (omega (arith, enough)) few (omega (arith, turns)) (here_cost paid h)
           (λ ignored x. primary_grows x) (λ g x. behind_grows t primary_steps g x)
           (λ w' z' y' m' q3 q4 q5 q6 grew h' more_turns. primary_comes m' q3 q4 q5 q6 w' z' y' more_turns h')))
         where
-          words : LaterFirst before_method (method_words after_method af ++ (method_words primary_method (p ∷ ps) ++ chain_end ∷ []))
-          words = after_first af (p ∷ ps)
+          words : LaterFirst before_method (words_from_after whole)
+          words = after_first whole
 
           later : before_method < words.first % 8
           later = words.later
@@ -372,16 +328,13 @@ module _ (setting : Setting) (Given : Arguments) (stays : Stays setting Given) (
           meant = go_on (all_of be z) (λ ignored x. primary_meant x)
 
           before_loop : MidStep
-          before_loop = loop setting Given stays k credit does rs valid around vs address low site site_is (Some chain) rest before_method
+          before_loop = loop setting k does rs valid around vs address site site_is (Some chain) rest before_method
 
           primary_then : Next
           primary_then g x = exec (code_at setting k t) (code_of primary_steps) g x
 
-          seen : MidState
-          seen = record y { cost = y.cost + 6 + 8 + 8 + 6 + 10 + 6 + 12 + 2 + 6 }
-
-          start : LaterFirst around_method (method_words before_method be ++ (method_words after_method af ++ (method_words primary_method (p ∷ ps) ++ chain_end ∷ [])))
-          start = before_first be af (p ∷ ps)
+          start : LaterFirst around_method (chain_words whole)
+          start = chain_first whole
 
           word : ℕ
           word = start.first
@@ -393,37 +346,36 @@ module _ (setting : Setting) (Given : Arguments) (stays : Stays setting Given) (
           there =
               let all : ConstantsAt setting chain (word ∷ start.others) = subst (λ l. ConstantsAt setting chain l) start.is at.words in constants_law setting w z y h.call.things chain word all.0
 
-          walked : Walked setting k t seen (Some chain) (Some (length vs)) (Some address) (Some word) (Some (word % 8)) (Some 0) r6 r7 (Some site ∷ rest) chain primary_at (length be + length af)
-          walked =
-              primaries_law setting k t seen (record { around = []; before = be; primary = p ∷ ps; after = af }) chain (Some chain) (Some (length vs)) (Some address) (Some word) (Some (word % 8)) (Some 0) r6 r7
-              (Some site ∷ rest) (constants_law setting w z y h.call.things) at refl enough
+          seen : MidState
+          seen = record y { cost = y.cost + 6 + 8 + 8 + 6 + 10 + 6 + 12 + 2 }
 
-          total_grew : seen.cost ≤ walked.total
-          total_grew =
-              subst (λ (q : MidOutcome). seen.cost ≤ q.state.cost) (and_then (record { same = walked.runs }) none_left).same
-              (behind_grows t (seeks_primary setting.at ∷ []) (walking (Some chain) (Some (length vs)) (Some address) (Some word) (Some (word % 8)) (Some 0) r6 r7 chain (Some site ∷ rest)) seen).cost
+          found : Found setting k t seen (Some (length vs)) (Some address) (Some around_method) r6 r7 r8 (Some site ∷ rest) word chain whole
+          found =
+              primaries_law setting k t seen whole word start.others chain (Some (length vs)) (Some address) (Some around_method) r6 r7 r8 (Some site ∷ rest) (constants_law setting w z y h.call.things) at refl start.is
+
+          found_file : Registers
+          found_file = set_file found.third (Some (word % 8)) found.fifth r6 start_at (Some first_at)
 
           paid : ℕ
-          paid = walked.total + 6 - y.cost
+          paid = 58 + found.total
 
-          paid_most : paid ≤ 112 + 60 * (length be + length af)
-          paid_most = let within = walked.within in omega (arith, within, total_grew)
+          within : found.total ≤ 74
+          within = found.within
 
           primary_grows : (x : FlatState) → FlatGrown x (primary_meant x).state
           primary_grows x = runs_grow (record { around = []; before = []; primary = p ∷ ps; after = af }) x
 
           code_comes : exec (code_at setting k t) (code_of (chain_run setting.at)) (Some chain ∷ Some (length vs) ∷ Some address ∷ r3 ∷ r4 ∷ r5 ∷ r6 ∷ r7 ∷ r8 ∷ r9 ∷ rest) y
-              ≡ mid_go_on (exec_step (code_at setting k t) before_loop (set_file walked.third walked.fourth walked.fifth r6 chain (Some primary_at)) (mid_charged paid y)) primary_then
+              ≡ mid_go_on (exec_step (code_at setting k t) before_loop found_file (mid_charged paid y)) primary_then
           code_comes =
               let small = there.1 in
-              let sum : walked.total + 6 ≡ y.cost + paid = omega (arith, total_grew) in
               (and_then constant_falls (and_then (load_falls refl (address_above 0 site_address site_address (omega arith) (omega arith)) site_word)
               (and_then (load_falls refl (address_above chain 0 chain (omega arith) (omega (arith, small))) there.0)
               (and_then constant_falls (and_then (compute_known refl refl (and_mask word 3)) (and_then constant_falls
-              (and_then (choose_second_falls refl refl (ne_eqb _ _ other_kind) none_left)
-              (and_then (move_falls refl) (and_then (record { same = walked.runs }) (and_then (move_falls refl) (record { same = refl }))))))))))).same
-              ∙ ap (λ n. exec (code_at setting k t) (code_of (before_loop ∷ primary_steps)) (set_file walked.third walked.fourth walked.fifth r6 chain (Some primary_at)) (record y { cost = n })) sum
-              ∙ step_then (code_at setting k t) before_loop primary_steps (set_file walked.third walked.fourth walked.fifth r6 chain (Some primary_at)) (mid_charged paid y)
+              (and_then (choose_second_falls refl refl (ne_eqb _ _ other_kind) none_left) (record { same = refl })))))))).same
+              ∙ (parts_then (finds_primary setting.at) (methods_called setting.at before_method ++ primary_steps) (record { same = found.runs }) (record { same = refl })).same
+              ∙ ap (λ n. exec (code_at setting k t) (code_of (before_loop ∷ primary_steps)) found_file (record y { cost = n })) (omega arith)
+              ∙ step_then (code_at setting k t) before_loop primary_steps found_file (mid_charged paid y)
 
   -- ---- few turns
 
@@ -440,27 +392,22 @@ module _ (setting : Setting) (Given : Arguments) (stays : Stays setting Given) (
       {w : World} {z : FlatState} {y : MidState} (chain p : ℕ) (be ps af : List ℕ) → Things setting w z y → ChainAt setting chain (record { around = []; before = be; primary = p ∷ ps; after = af })
       → length be + length af + 1 ≤ length y.arena.memory
   chain_within {w} {z} {y} chain p be ps af things at =
-      let many_before = words_count before_method be in
-      let many_after = words_count after_method af in
-      let behind = constants_behind setting (method_words before_method be) (method_words after_method af ++ (method_words primary_method (p ∷ ps) ++ chain_end ∷ [])) chain at.words in
-      let primary =
-      constants_behind setting (method_words after_method af) (method_words primary_method (p ∷ ps) ++ chain_end ∷ []) (chain + 4 * length (method_words before_method be)) behind in
-      let here =
-      constant_within {w = w} {z = z} {y = y} (chain + 4 * length (method_words before_method be) + 4 * length (method_words after_method af)) (8 * p + primary_method) things primary.0 in
-      omega (arith, here, many_before, many_after)
+      let whole : Chain = record { around = []; before = be; primary = p ∷ ps; after = af } in
+      let here = constant_within {w = w} {z = z} {y = y} (primary_at chain whole) (8 * p + primary_method) things (primary_words setting chain whole at refl).0 in
+      omega (arith, here)
 
   -- **a chain runs**, with registers of its own and where its site is stored
   pub chain_comes :
       (t chain m : ℕ) (c : Chain) (r3 r4 r5 r6 r7 r8 r9 : Option ℕ) (rest : Registers) (w : World) (z : FlatState) (y : MidState) → t ≤ setting.turns_each → m ≤ suc t → (c.primary ≡ [] → ⊥)
       → ChainAt setting chain c → ChainTakes setting (length vs) c → IsHere w z y → SiteStored setting around y
-      → CallEnds setting (154 + 60 * (length c.before + length c.after)) m rs valid w around z y (runs c z)
+      → CallEnds setting 174 m rs valid w around z y (runs c z)
       (exec (code_at setting k t) (code_of (chain_run setting.at)) (Some chain ∷ Some (length vs) ∷ Some address ∷ r3 ∷ r4 ∷ r5 ∷ r6 ∷ r7 ∷ r8 ∷ r9 ∷ rest) y)
   chain_comes t chain m c r3 r4 r5 r6 r7 r8 r9 rest w z y few turns some at takes h site =
       by c.around c.before c.primary c.after some at takes
     where
       by : (ar be pr af : List ℕ) → (pr ≡ [] → ⊥) → ChainAt setting chain (record { around = ar; before = be; primary = pr; after = af })
           → ChainTakes setting (length vs) (record { around = ar; before = be; primary = pr; after = af })
-          → CallEnds setting (154 + 60 * (length be + length af)) m rs valid w around z y (runs (record { around = ar; before = be; primary = pr; after = af }) z)
+          → CallEnds setting 174 m rs valid w around z y (runs (record { around = ar; before = be; primary = pr; after = af }) z)
           (exec (code_at setting k t) (code_of (chain_run setting.at)) (Some chain ∷ Some (length vs) ∷ Some address ∷ r3 ∷ r4 ∷ r5 ∷ r6 ∷ r7 ∷ r8 ∷ r9 ∷ rest) y)
       by (p ∷ ms) be pr af some at takes =
           call_less setting (omega arith) (omega arith) (around_runs t chain site.0 few rest m p ms be pr af r3 r4 r5 r6 r7 r8 r9 w z y turns at takes h site.1 site.2)
@@ -468,7 +415,7 @@ module _ (setting : Setting) (Given : Arguments) (stays : Stays setting Given) (
       by [] be (p ∷ ps) af some at takes = turn (cases_lt t (length be + length af))
         where
           turn : (t < length be + length af) ⊎ (length be + length af ≤ t)
-              → CallEnds setting (154 + 60 * (length be + length af)) m rs valid w around z y (runs (record { around = []; before = be; primary = p ∷ ps; after = af }) z)
+              → CallEnds setting 174 m rs valid w around z y (runs (record { around = []; before = be; primary = p ∷ ps; after = af }) z)
               (exec (code_at setting k t) (code_of (chain_run setting.at)) (Some chain ∷ Some (length vs) ∷ Some address ∷ r3 ∷ r4 ∷ r5 ∷ r6 ∷ r7 ∷ r8 ∷ r9 ∷ rest) y)
           turn (inl short) =
               let grown = (runs_grow (record { around = []; before = be; primary = p ∷ ps; after = af }) z).units in

@@ -220,7 +220,7 @@ module _ (setting : Setting) (placed : IsPlaced setting) {w : World} {z : FlatSt
         let old = b.functions i p s e f in
         let size = (t.represents.objects i (function p) s old.0 old.1).words in
         function_behind s p (under i z.captured) (b.kept.functions i p s old.0 old.1) size (t.functions i p s old.0 old.1);
-    captured = λ i cs e. let old = t.captured i cs e in (old.0, b.still i old.0 old.1);
+    captured = λ i cs e. let old = t.captured i cs e in (old.0, b.still i old.0 old.1, old.2, b.spots (of_object i) old.2 old.3);
     generics = λ i g e. t.generics i g (b.generics i g e);
   }
 

@@ -131,7 +131,7 @@ module _ (setting : Setting) (k turns : ℕ) (which : Primitive) (fs : FlatForms
       applies : Applies setting k there which vs x.words
       applies = record {
         placed = has.placed;
-        there = primitive_there setting which has.placed (has.does which);
+        there = primitive_there setting which has.placed;
         pending = has.pending rs valid around;
         room = omega (arith, words);
         of_values = x.of_values;

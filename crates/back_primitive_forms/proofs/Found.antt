@@ -10,7 +10,6 @@ use Rattle.lang_meaning.specs.declared.primitive.Primitive.TheVariants.{Add}
 use Rattle.lang_meaning.specs.model.ShapeCode.{primitive_at, primitive_number, primitive_back}
 use Rattle.flat_language.specs.declared.program.FlatProcedure.{FlatProcedure}
 use Rattle.mid_code.specs.declared.program.MidProcedure.{MidProcedure}
-use Rattle.mid_arena.specs.Answers.{IsPrimitive}
 use Rattle.mid_arena.specs.Codes.{procedure_of}
 use Rattle.back_lowering.specs.Placement.{primitive_count, primitives_from}
 use Rattle.back_lowering.specs.Program.{main_form, start, routines, primitives, numbers_below, entries_from, lambda_entries_from, bodies_from, lambda_bodies, lowered}
@@ -118,10 +117,9 @@ module _ (setting : Setting) where
       (behind_front the_lambda_bodies _ i j (procedure_of which) (omega (arith, four))
       (slice_get-front (primitives setting.names setting.at setting.program) the_rest i (procedure_of which) there))))
 
-  -- so it is there where it does what the primitive does in every frame that is used
-  pub primitive_there :
-      (which : Primitive) → IsPlaced setting → ((p : MidProcedure) → WithinFrame (procedure_of which) p → IsPrimitive which p) → PrimitiveThere setting which
-  primitive_there which placed does =
+  -- so it is there, with the frame that is used
+  pub primitive_there : (which : Primitive) → IsPlaced setting → PrimitiveThere setting which
+  primitive_there which placed =
       let used =
       used_for (lowered setting.names setting.at setting.program) setting.procedures (primitives_from setting.at + primitive_number which) (procedure_of which) setting.frames
       (primitive_found which placed) in
@@ -129,5 +127,4 @@ module _ (setting : Setting) where
         procedure = used.procedure;
         there = used.there;
         within = used.within;
-        does = does used.procedure used.within;
       }

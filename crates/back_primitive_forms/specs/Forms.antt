@@ -3,20 +3,16 @@ use Rattle.std.specs.Prelude.{ℕ, List}
 use Rattle.lang_meaning.specs.declared.primitive.Primitive.{Primitive}
 use Rattle.lang_meaning.specs.State.{DynamicContext}
 use Rattle.flat_language.specs.FlatForm.{prim, FlatForms}
-use Rattle.mid_code.specs.declared.program.MidProcedure.{MidProcedure}
-use Rattle.mid_arena.specs.Answers.{IsPrimitive}
-use Rattle.mid_arena.specs.Codes.{procedure_of}
-use Rattle.back_relation.specs.Setting.{Setting, WithinFrame}
+use Rattle.back_relation.specs.Setting.{Setting}
 use Rattle.back_relation.specs.Worlds.{Standing}
 use Rattle.back_relation.specs.Placed.{IsPlaced}
 use Rattle.back_relation.specs.Forms.{FormDoes}
 use Rattle.back_combining.specs.Forms.{AllDo}
 use Rattle.back_primitives.specs.Calling.{PendingDoesAnywhere}
 
--- what a setting has for primitives: their procedures do what they do in every frame that is used, and the routine signals what they could not do
+-- what a setting has for primitives: words are placed, and the routine signals what they could not do
 pub record HasPrimitives (setting : Setting) (k turns : ℕ) : Type 0 where
   pub placed : IsPlaced setting
-  pub does : (which : Primitive) (p : MidProcedure) → WithinFrame (procedure_of which) p → IsPrimitive which p
   pub pending : (rs valid : List Standing) (around : DynamicContext) → PendingDoesAnywhere setting k turns rs valid around
 
 -- **the form of a primitive**, whose arguments do what they mean

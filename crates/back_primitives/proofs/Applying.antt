@@ -1,14 +1,12 @@
 -- **A primitive is applied**, in line where that is quick: one case a primitive.
-use Rattle.std.proofs.Common.{◌≡◌, true, ℕ, ◌+◌, ◌*◌, ◌≤◌, List, [], ◌∷◌, length, refl, sym, ◌∙◌, subst, arith}
+use Rattle.std.proofs.Common.{◌≡◌, true, ℕ, ◌+◌, List, [], ◌∷◌, length, refl, sym, ◌∙◌, subst, arith}
 use Rattle.std.specs.Prelude.{not, int_lt, int_le}
 use Rattle.lang_meaning.specs.Arity.{arity}
 use Rattle.lang_meaning.specs.declared.primitive.Primitive.{Primitive}
 use Rattle.lang_meaning.specs.declared.primitive.Primitive.TheVariants.{Add, Subtract, NumberEqual, NumberNotEqual, NumberLess, NumberAtMost, NumberGreater, NumberAtLeast, Same, IsNull, IsCons, IsInteger, Cons, Car, Cdr, VectorRef}
-use Rattle.lang_meaning.specs.Primitives.{primitive}
-use Rattle.lang_meaning.specs.State as meaning
 use Rattle.lang_meaning.specs.Values.{Value, int_equal}
 use Rattle.flat_language.specs.FlatForm.{FlatForm, FlatForms, no_form, form_and}
-use Rattle.flat_language.specs.FlatNodes.{tables, count_forms}
+use Rattle.flat_language.specs.FlatNodes.{count_forms}
 use Rattle.mid_code.specs.declared.operation.Comparison.TheVariants.{Equal, Different, Less, AtLeast}
 use Rattle.mid_code.specs.MidCode.{code_of}
 use Rattle.mid_arena.proofs.Keeping.{as_many_words}

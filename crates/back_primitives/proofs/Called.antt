@@ -18,12 +18,12 @@ use Rattle.mid_code.specs.Meaning as mid
 use Rattle.mid_code.specs.MidCode.{code_of}
 use Rattle.mid_code.specs.State.{Registers, MidState, MidOutcome, Next, falls, returns, no_room, ends, with_some, with_registers}
 use Rattle.mid_code.specs.State.{charged as mid_charged}
-use Rattle.mid_arena.specs.Answers.{Done, Comes, done, no_words, units_after, IsWithin}
+use Rattle.mid_arena.specs.Answers.{Done, Comes, done, no_words, units_after, IsWithin, IsPrimitive}
 use Rattle.mid_arena.specs.CodeCosts.{procedure_cost, cost_of}
 use Rattle.mid_arena.specs.Codes.{code_of_primitive}
 use Rattle.mid_arena.specs.Places.{Places, WordsOf}
 use Rattle.mid_arena.specs.Represents.{Represents}
-use Rattle.mid_arena.proofs.EachPrimitive.{each_costs}
+use Rattle.mid_arena.proofs.EachPrimitive.{each_costs, each_in_frames}
 use Rattle.back_lowering.specs.Placement.{primitives_from}
 use Rattle.back_lowering.specs.Scope.{registers_from}
 use Rattle.back_lowering.specs.Steps.{call}
@@ -123,6 +123,10 @@ module _ (setting : Setting) (k n : ℕ) (which : Primitive) (there : PrimitiveT
         q.state.cost
         ≤ y.cost + cost_of which + repeated (units_after setting.names (tables setting.program) answer - z.units) (loop_costs which)
 
+  -- it does what the primitive does, whatever its frame is
+  in_its_frame : IsPrimitive which there.procedure
+  in_its_frame = subst (IsPrimitive which) (sym there.within.same) (each_in_frames which there.procedure.frame)
+
   came :
       Represents setting.names (tables setting.program) places z y → WordsOf places vs ws → length vs ≡ arity which → units_behind - z.units < n
       → CameTo the_answer the_call
@@ -130,7 +134,7 @@ module _ (setting : Setting) (k n : ℕ) (which : Primitive) (there : PrimitiveT
       let p = there.procedure in
       let below = levels setting.procedures setting.turns_each k in
       let du : ℕ = units_behind - z.units in
-      let did = there.does setting.names (tables setting.program) setting.procedures below du places z y vs ws r are many (omega arith) in
+      let did = in_its_frame setting.names (tables setting.program) setting.procedures below du places z y vs ws r are many (omega arith) in
       let same_body : code_of p.body ≡ code_of (code_of_primitive which) = ap (λ (p : MidProcedure). code_of p.body) there.within.same in
       let same_cost : procedure_cost p ≡ cost_of which = ap procedure_cost there.within.same ∙ each_costs which in
       let plain_body : is_plain (code_of p.body) ≡ true = ap is_plain same_body ∙ each_plain which in

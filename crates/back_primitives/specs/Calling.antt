@@ -5,7 +5,6 @@ use Rattle.lang_meaning.specs.State.{DynamicContext}
 use Rattle.lang_meaning.specs.model.ShapeCode.{primitive_number}
 use Rattle.mid_code.specs.declared.program.MidProcedure.{MidProcedure}
 use Rattle.mid_code.specs.State.{Registers, register}
-use Rattle.mid_arena.specs.Answers.{IsPrimitive}
 use Rattle.mid_arena.specs.Codes.{procedure_of}
 use Rattle.back_lowering.specs.declared.placement.Placement.{Placement}
 use Rattle.back_lowering.specs.Placement.{primitives_from}
@@ -23,12 +22,11 @@ abbrev pub WordsIn : ℕ → List ℕ → Registers → Type 0
 WordsIn d [] regs = ⊤
 WordsIn d (w ∷ ws) regs = (register d regs ≡ Some w) × WordsIn (d + 1) ws regs
 
--- the procedure of a primitive, whose frame is at most the one that was given, does what the primitive does
+-- the procedure of a primitive, whose frame is at most the one that was given
 pub record PrimitiveThere (setting : Setting) (which : Primitive) : Type 0 where
   pub procedure : MidProcedure
   pub there : slice_get setting.procedures (primitives_from setting.at + primitive_number which) ≡ Some procedure
   pub within : WithinFrame (procedure_of which) procedure
-  pub does : IsPrimitive which procedure
 
 -- the routine that signals a condition that a primitive made does so, whatever words say and the meaning has come to
 abbrev pub PendingDoesAnywhere : Setting → (k turns : ℕ) → (rs valid : List Standing) → DynamicContext → Type 0

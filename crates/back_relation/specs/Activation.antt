@@ -1,5 +1,5 @@
 -- **What the registers of an activation hold.**
-use Rattle.std.specs.Prelude.{◌≡◌, ◌⊎◌, ⊤, ℕ, ◌+◌, ◌*◌, ◌<◌, ◌≤◌, Bool, true, List, [], ◌∷◌, Option, Some, None, length, slice_get}
+use Rattle.std.specs.Prelude.{◌≡◌, ◌⊎◌, ⊤, ℕ, ◌+◌, ◌*◌, ◌^◌, ◌<◌, ◌≤◌, Bool, true, List, [], ◌∷◌, ◌++◌, Option, Some, None, length, slice_get}
 use Rattle.base.specs.declared.place.Place.{Place}
 use Rattle.lang_meaning.specs.Values.{Value}
 use Rattle.lang_meaning.specs.Objects.{Called}
@@ -103,17 +103,30 @@ abbrev pub SelfHeld : World → List (ℕ × List Captured) → (self_word : Opt
 SelfHeld w made word [] = ⊤
 SelfHeld w made word (c ∷ cs) = (pointer : ℕ) × (word ≡ Some pointer) × SelfStands w made pointer (c ∷ cs)
 
--- the arguments of a method at an address: kept in the heap behind the chain and their number, or lent in a block of the stack, as long as it
--- stands
+-- values are the last arguments of a call that is kept in the heap, where its arguments stand behind its chain and their number
+pub record KeptAmong (methods : List (ℕ × Called)) (address : ℕ) (vs : List Value) : Type 0 where
+  pub number : ℕ
+  pub start : ℕ
+  pub call : Called
+  pub is_kept : slice_get methods number ≡ Some (start, call)
+  pub before : List Value
+  pub arguments : call.arguments ≡ before ++ vs
+  pub here : address ≡ start + 8 + 4 * length before
+
+abbrev pub ArgumentsKept : World → (address : ℕ) → List Value → Type 0
+ArgumentsKept w address vs = KeptAmong w.methods address vs
+
+-- the arguments of a method at an address: kept in the heap, for this call or for one before it in the chain, or lent in a block of the stack,
+-- as long as it stands
 pub data ArgumentsHeld (w : World) (a : Arena) (address : ℕ) (called : Called) : Type 0 where
-  in_heap : (start : ℕ) → address ≡ start + 8 → MethodIs w start called → ArgumentsHeld w a address called
+  in_heap : ArgumentsKept w address called.arguments → ArgumentsHeld w a address called
   on_stack :
       (stack_from a ≤ address → ValuesAt w.places a address called.arguments)
       → ((k : ℕ) → k < 4 * length called.arguments → Plain w (address + k)) → ArgumentsHeld w a address called
 
--- they are in the heap, or their block stands
+-- they are in the heap, or their block stands, at a word
 abbrev pub ArgumentsThere : World → Arena → (address : ℕ) → Called → Type 0
-ArgumentsThere w a address called = ((start : ℕ) × (address ≡ start + 8) × MethodIs w start called) ⊎ (stack_from a ≤ address)
+ArgumentsThere w a address called = ArgumentsKept w address called.arguments ⊎ ((stack_from a ≤ address) × (address < 2 ^ 32))
 
 module _ (setting : Setting) where
   -- the call of a method in three registers: its chain, or 0, how many arguments there are, and where they are

@@ -1,5 +1,5 @@
 -- The words of generic functions: chains of methods, and from which classes of arguments a chain is found.
-use Rattle.std.specs.Prelude.{◌≡◌, ℕ, ◌+◌, ◌*◌, ◌<◌, ◌≤◌, Bool, true, List, [], ◌∷◌, ◌++◌, Option, Some, None, length, map, slice_get, is_some, if◌then◌else◌}
+use Rattle.std.specs.Prelude.{◌≡◌, ⊤, ℕ, zero, suc, ◌+◌, ◌*◌, ◌<◌, ◌≤◌, Bool, true, List, [], ◌∷◌, ◌++◌, Option, Some, None, length, map, slice_get, is_some, if◌then◌else◌}
 use Rattle.base.specs.AllOf.{AllOf}
 use Rattle.lang_meaning.specs.declared.program.GenericRow.{GenericRow}
 use Rattle.lang_meaning.specs.Classes.{chain}
@@ -8,13 +8,18 @@ use Rattle.lang_meaning.specs.Signals.{takes}
 use Rattle.flat_language.specs.declared.program.FlatProcedure.{FlatProcedure}
 use Rattle.flat_language.specs.FlatNodes.{tables}
 use Rattle.back_lowering.specs.Calls.{is_method}
-use Rattle.back_lowering.specs.ControlWords.{around_method, before_method, after_method, primary_method, chain_end, generic_arity, generic_name, generic_specialised, generic_groups}
+use Rattle.back_lowering.specs.ControlWords.{around_method, before_method, after_method, primary_method, chain_end, primary_behind, generic_arity, generic_name, generic_specialised, generic_groups}
 use Rattle.back_lowering.specs.Placement.{symbol_word}
 use Rattle.back_relation.specs.Setting.{Setting, ConstantAt, ConstantsAt}
 
 -- how many arguments a function takes, as a word: twice how many it requires, and one more where it takes further ones
 abbrev pub arity_word : (required : ℕ) → (rest : Bool) → ℕ
 arity_word required rest = 2 * required + (if rest then 1 else 0)
+
+-- where so many methods run before or after the first primary one, a word in front of them says how many bytes behind it that one's word is
+abbrev pub ahead_words : (methods : ℕ) → List ℕ
+ahead_words zero = []
+ahead_words (suc n) = (8 * (4 * (2 + n)) + primary_behind) ∷ []
 
 -- the words of a chain: one for each method, by its kind and its procedure, in the order in which they run, and the end
 abbrev pub method_words : (kind : ℕ) → List ℕ → List ℕ
@@ -23,9 +28,10 @@ method_words kind procedures = map (λ p. 8 * p + kind) procedures
 abbrev pub chain_words : Chain → List ℕ
 chain_words c =
     method_words around_method c.around
+    ++ (ahead_words (length c.before + length c.after)
     ++ (method_words before_method c.before
     ++ (method_words after_method c.after
-    ++ (method_words primary_method c.primary ++ chain_end ∷ [])))
+    ++ (method_words primary_method c.primary ++ chain_end ∷ []))))
 
 -- an argument that is specialised: its number, and where its map is, which has a word for each class
 pub record Specialised : Type 0 where
@@ -35,6 +41,11 @@ pub record Specialised : Type 0 where
 abbrev pub specialised_words : List Specialised → List ℕ
 specialised_words [] = []
 specialised_words (x ∷ xs) = 4 * x.argument ∷ x.map_address ∷ specialised_words xs
+
+-- arguments from a number on, each behind the one before
+abbrev pub InOrder : ℕ → List Specialised → Type 0
+InOrder n [] = ⊤
+InOrder n (x ∷ xs) = (n ≤ x.argument) × InOrder (x.argument + 1) xs
 
 module _ (setting : Setting) where
   -- a method of the program, which takes so many arguments
@@ -79,6 +90,9 @@ module _ (setting : Setting) where
     pub count : ConstantAt setting (address + generic_specialised) (length specialised)
     pub arguments : ConstantsAt setting (address + generic_groups) (specialised_words specialised)
     pub required : AllOf (λ (x : Specialised). x.argument < g.required) specialised
+    pub few : length specialised ≤ g.required
+    -- they are in order
+    pub in_order : InOrder 0 specialised
     pub chains :
         (classes : List ℕ) → length classes ≡ g.required → AllOf (λ c. c < length setting.program.classes) classes
         → (offset : ℕ) × OffsetIs specialised classes offset

@@ -1,6 +1,8 @@
 -- What code rests on where words are laid and numbers given: that constants stand, and that what a form names has its word.
 use Rattle.std.specs.Prelude.{◌≡◌, ◌≢◌, ⊤, ℕ, ◌+◌, ◌*◌, ◌^◌, ◌<◌, ◌≤◌, Bool, true, Option, Some, None, length, slice_get, is_some}
 use Rattle.base.specs.AllOf.{AllOf}
+use Rattle.lang_meaning.specs.declared.program.Callee.{Callee}
+use Rattle.lang_meaning.specs.declared.program.Callee.TheVariants as callee
 use Rattle.lang_meaning.specs.declared.program.FunctionRow.{FunctionRow}
 use Rattle.lang_meaning.specs.declared.program.GenericRow.{GenericRow}
 use Rattle.lang_meaning.specs.declared.program.LiteralRow.{LiteralRow}
@@ -14,6 +16,7 @@ use Rattle.flat_language.specs.declared.program.FlatProcedure.{FlatProcedure}
 use Rattle.flat_language.specs.FlatForm.{FlatForm, literal, local, set_local, global, set_global, def_global, clauses, sequence, let_form, make_function, call, call_value, apply, prim, while_form, block, return_from, tagbody, go, catch_form, throw, unwind, dynamic_let, dynamic, set_dynamic, def_dynamic, with_handler, signal_form, continue_form, next_method, has_next, sited}
 use Rattle.flat_language.specs.FlatForm.{FlatForms, no_form, form_and, FlatClauses, no_clause, clause_and, FlatBody, no_body, with_body}
 use Rattle.flat_language.specs.FlatForm.{FlatBindings, no_binding, binding_and, FlatDynamics, no_dynamic, dynamic_and}
+use Rattle.flat_language.specs.FlatNodes.{count_forms}
 use Rattle.mid_arena.specs.Tags.{nil_word}
 use Rattle.back_lowering.specs.ControlWords.{control_address, control_words, variables_address}
 use Rattle.back_lowering.specs.Placement.{entry_of_lambda, symbol_word, global_address, dynamic_address}
@@ -78,9 +81,13 @@ module _ (setting : Setting) where
   LiteralPlaced (Some other) = ⊤
 
   -- a function that is called by its name is there, or its name has a symbol
+  abbrev pub CalleeThere : Callee → Type 0
+  CalleeThere (callee.Procedure p) = p < length setting.program.procedures
+  CalleeThere (callee.Generic g) = g < length setting.program.generics
+
   abbrev pub CallPlaced : ℕ → Option FunctionRow → Type 0
   CallPlaced name None = HasSymbol name
-  CallPlaced name (Some f) = ⊤
+  CallPlaced name (Some f) = CalleeThere f.callee
 
   abbrev pub PartPlaced : (keeps_method : Bool) → FlatCapture → Type 0
   PartPlaced keeps (part.Variable p) = ⊤
@@ -108,7 +115,8 @@ module _ (setting : Setting) where
       Placed (while_form test body) = Placed test × Placed body
       Placed (block body) = Placed body
       Placed (return_from x f) = Placed f
-      Placed (tagbody segments) = PlacedForms segments
+      -- a word counts the segments
+      Placed (tagbody segments) = (count_forms segments < 2 ^ 32) × PlacedForms segments
       Placed (go x segment) = ⊤
       Placed (catch_form tag body) = Placed tag × Placed body
       Placed (throw tag f) = Placed tag × Placed f

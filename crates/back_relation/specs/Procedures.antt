@@ -1,5 +1,5 @@
 -- **What is to be shown of the bodies and the entries of functions.**
-use Rattle.std.specs.Prelude.{◌≡◌, ◌⊎◌, ℕ, suc, ◌+◌, ◌*◌, ◌<◌, ◌≤◌, true, false, List, [], ◌∷◌, ◌++◌, Option, Some, None, length, map, slice_get, is_some}
+use Rattle.std.specs.Prelude.{◌≡◌, ◌⊎◌, ⊤, ℕ, suc, ◌+◌, ◌*◌, ◌^◌, ◌<◌, ◌≤◌, true, false, List, [], ◌∷◌, ◌++◌, Option, Some, None, length, map, slice_get, is_some}
 use Rattle.lang_meaning.specs.declared.scope.ExitForm.{ExitForm}
 use Rattle.lang_meaning.specs.Objects.{Called}
 use Rattle.lang_meaning.specs.Signals.{takes}
@@ -22,7 +22,7 @@ use Rattle.back_relation.specs.Setting.{Setting}
 use Rattle.back_relation.specs.Worlds.{World, Plain, Standing}
 use Rattle.back_relation.specs.Things.{AreOfKinds, AreMadeBy}
 use Rattle.back_relation.specs.Around.{CallBegins, SiteStored}
-use Rattle.back_relation.specs.Activation.{SelfHeld, MethodHeld, MethodThere}
+use Rattle.back_relation.specs.Activation.{ArgumentsKept, SelfHeld, MethodHeld, MethodThere}
 use Rattle.back_relation.specs.Ends.{SparingCall, form_credit}
 use Rattle.back_relation.specs.Room.{routine_words, entry_words, words_for}
 use Rattle.back_relation.specs.Forms.{context_at, code_at, below_at}
@@ -104,26 +104,38 @@ module _ (setting : Setting) where
   -- the words of values that were lent in a block of the stack
   pub record ArgumentsLent (w : World) (a : Arena) (address : ℕ) (vs : List Value) : Type 0 where
     pub low : stack_from a ≤ address
+    pub is_word : address < 2 ^ 32
     pub values : ValuesAt w.places a address vs
     pub plain : (k : ℕ) → k < 4 * length vs → Plain w (address + k)
+
+  -- or they were kept in the heap for a call of a method
+  abbrev pub ArgumentsGiven : World → Arena → (address : ℕ) → List Value → Type 0
+  ArgumentsGiven w a address vs = ArgumentsLent w a address vs ⊎ ArgumentsKept w address vs
 
   -- what an entry is given: the function itself, the chain of a method, or 0, how many arguments there are, and where they are
   pub record EntryBegins (rs valid : List Standing) (n : ℕ) (q : FlatProcedure) (cs : List Captured) (called_as : Option Called) (vs : List Value) (self chain address : ℕ) (w : World) (around : DynamicContext) (z : FlatState) (y : MidState) : Type 0 where
     pub call : CallBegins setting rs valid n w around z y
     pub enough : entry_words ≤ n
     pub site : SiteStored setting around y
-    pub arguments : ArgumentsLent w y.arena address vs
+    pub arguments : ArgumentsGiven w y.arena address vs
     pub takes_so_many : takes (length q.required) (is_some q.rest) (length vs) ≡ true
     pub function_word : SelfHeld w z.captured (Some self) cs
     -- the call of a method is not kept yet
     pub method : MethodHeld setting w y.arena false (as_registers (chain ∷ length vs ∷ address ∷ [])) (Some 0) called_as
     pub method_arguments : (c : Called) → called_as ≡ Some c → c.arguments ≡ vs
 
+  -- only methods are called as methods
+  abbrev pub CalledFits : Extra → Option Called → Type 0
+  CalledFits nothing m = m ≡ None
+  CalledFits its_method m = ⊤
+  CalledFits itself m = m ≡ None
+
   -- **the entry of a function** with k levels and a turn for it: the number of arguments was judged
   abbrev pub EntryDoes : (k turns entry : ℕ) → Extra → FlatProcedure → Type 0
   EntryDoes k turns entry extra q =
       (rs valid : List Standing) (n : ℕ) (wrong : FlatSignals) (cs : List Captured) (called_as : Option Called) (vs : List Value) (self chain address : ℕ) (w : World) (around : DynamicContext) (z : FlatState) (y : MidState)
-      → IsFunction entry extra q → CapturedFits w entry extra q cs → EntryBegins rs valid n q cs called_as vs self chain address w around z y
+      → IsFunction entry extra q → CapturedFits w entry extra q cs → CalledFits extra called_as
+      → EntryBegins rs valid n q cs called_as vs self chain address w around z y
       → SparingCall setting (entry_credit (length vs)) turns rs valid w around z y
       (descend (below_at setting k) (λ entered. enter (context_at setting k) wrong q cs called_as vs around entered) around z)
       (called (code_at setting k turns) entry (self ∷ chain ∷ length vs ∷ address ∷ []) y)

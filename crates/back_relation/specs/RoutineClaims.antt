@@ -12,7 +12,7 @@ use Rattle.lang_meaning.specs.Values.{Value, nil}
 use Rattle.flat_language.specs.FlatMeaning.{mean_apply, mean_signal, mean_next}
 use Rattle.flat_language.specs.FlatNodes.{tables}
 use Rattle.flat_language.specs.FlatSignals.{FlatContext, signal, signal_under, signal_domain_error, apply_value, apply_generic_row, apply_chain, transfer, throw_to, continue_with, descend, make_list, with_record}
-use Rattle.flat_language.specs.FlatState.{FlatState, FlatEvaluated, gives, leaves}
+use Rattle.flat_language.specs.FlatState.{FlatState, FlatEvaluated, gives, leaves, charged}
 use Rattle.mid_code.specs.State.{returns, MidState, MidOutcome}
 use Rattle.mid_arena.specs.FixedWords.{pending_address}
 use Rattle.mid_arena.specs.Places.{word_of}
@@ -23,18 +23,18 @@ use Rattle.back_lowering.specs.Routines.{transfer_routine, leave_routine, throw_
 use Rattle.back_relation.specs.Setting.{Setting}
 use Rattle.back_relation.specs.Room.{routine_words, failing_words, raise_words, entry_words, generic_words, applying_words, next_words, apply_words, looking_words, level_words}
 use Rattle.back_relation.specs.Chains.{ChainAt, ChainTakes, GenericAt}
-use Rattle.back_relation.specs.Placed.{HasDynamic}
+use Rattle.back_relation.specs.Placed.{HasDynamic, HasSymbol}
 use Rattle.back_relation.specs.Worlds.{World, on_stack, LandsIn, Standing, record_of_exit}
 use Rattle.back_relation.specs.StackWords.{HasWordAt}
 use Rattle.back_relation.specs.Around.{CallBegins, SiteStored}
 use Rattle.back_relation.specs.Activation.{MethodHeld, MethodThere}
-use Rattle.back_relation.specs.Ends.{WorldKept, Around, LandingIs, Ends, CallEnds}
+use Rattle.back_relation.specs.Ends.{PaidFrom, WorldKept, Around, LandingIs, Ends, Returned, CallEnds}
 use Rattle.back_relation.specs.Forms.{context_at, code_at, below_at}
-use Rattle.back_relation.specs.Procedures.{called, as_registers, ArgumentsLent}
+use Rattle.back_relation.specs.Procedures.{called, as_registers, ArgumentsLent, ArgumentsGiven}
 
 -- What is paid of the cost of a call before: of a routine that signals a new condition or transfers, of one that signals what may be no
--- condition, of a level, of what makes a list or words of arguments, of a chain, and of the application of a generic function, of a value and to a
--- list.
+-- condition, of a level, of what makes a list or words of arguments, of a chain, of the next method, and of the application of a generic function, of
+-- a value and to a list. The application of a value to one argument is paid 1,170, which is what a signal has for a handler.
 abbrev pub routine_credit : ℕ
 routine_credit = 450
 
@@ -50,17 +50,25 @@ list_credit n = 100 + 20 * n
 abbrev pub argument_credit : ℕ → ℕ
 argument_credit n = 300 + 20 * n
 
-abbrev pub chain_credit : ℕ → ℕ
-chain_credit n = 450 + 20 * n
+abbrev pub chain_credit : ℕ
+chain_credit = 220
+
+abbrev pub next_credit : ℕ
+next_credit = 300
 
 abbrev pub generic_credit : ℕ → ℕ
-generic_credit n = 930 + 20 * n
+generic_credit n = 490 + 460 * n
 
 abbrev pub applying_credit : ℕ → ℕ
-applying_credit n = 1150 + 20 * n
+applying_credit n = 710 + 460 * n
 
 abbrev pub apply_credit : ℕ
 apply_credit = 1500
+
+-- So many turns what makes a list or keeps a call for an entry leaves over: the one of the entry, and those that a unit pays, of which the body leaves
+-- something.
+abbrev pub entry_spare : ℕ
+entry_spare = 17
 
 -- what routines that only look cost
 abbrev pub is_function_cost : ℕ
@@ -172,7 +180,7 @@ module _ (setting : Setting) where
 
     abbrev pub GenericDoes : Type 0
     GenericDoes =
-        (g : GenericRow) (vs : List Value) (generic address : ℕ) → GenericAt setting generic g → ArgumentsLent setting w y.arena address vs
+        (g : GenericRow) (vs : List Value) (generic address : ℕ) → GenericAt setting generic g → HasSymbol setting g.name.0 → ArgumentsLent setting w y.arena address vs
         → Does generic_words (generic_credit (length vs)) (generic_routine setting.at) (generic ∷ length vs ∷ address ∷ [])
         (apply_generic_row context (signal context) (Some g) vs around z)
 
@@ -181,7 +189,7 @@ module _ (setting : Setting) where
     ChainDoes =
         (g : GenericRow) (c : Chain) (vs : List Value) (chain address : ℕ) → ChainAt setting chain c → ChainTakes setting (length vs) c → (c.primary ≡ [] → ⊥)
         → ArgumentsLent setting w y.arena address vs
-        → Does entry_words (chain_credit (length vs)) (chain_routine setting.at) (chain ∷ length vs ∷ address ∷ [])
+        → Does entry_words chain_credit (chain_routine setting.at) (chain ∷ length vs ∷ address ∷ [])
         (apply_chain context (signal context) g (Some c) vs around z)
 
     -- the rest of the chain of a method's call, which is none where the method was called by its name
@@ -190,7 +198,7 @@ module _ (setting : Setting) where
         (called_as : Option Called) (chain count address : ℕ)
         → MethodHeld setting w y.arena false (as_registers (chain ∷ count ∷ address ∷ [])) (Some 0) called_as
         → MethodThere setting w y.arena (as_registers (chain ∷ count ∷ address ∷ [])) (Some 0) called_as
-        → Does next_words (chain_credit count) (next_routine setting.at) (chain ∷ count ∷ address ∷ []) (mean_next context called_as around z)
+        → Does next_words next_credit (next_routine setting.at) (chain ∷ count ∷ address ∷ []) (mean_next context called_as around z)
 
     -- a level is judged: whatever it returns, there is one, and the site is as it was stored
     pub record LevelThere (q : MidOutcome) : Type 0 where
@@ -208,14 +216,24 @@ module _ (setting : Setting) where
 
     -- ---- lists, calls of methods, bindings, kinds
 
-    -- a list of values whose words stand at an address
+    -- a list was made, and the site is as it was stored
+    pub record ListThere (credit : ℕ) (r : FlatEvaluated) (q : MidOutcome) : Type 0 where
+      pub returned : Returned setting credit w z y r q
+      pub site : SiteStored setting around y → SiteStored setting around q.state
+
+    -- a list of values whose words stand at an address, where there are any; turns are left over for the entry that calls this
     abbrev pub ListDoes : Type 0
     ListDoes =
-        (vs : List Value) (address : ℕ) → ArgumentsLent setting w y.arena address vs
-        → DoesAnywhere routine_words (list_credit (length vs)) (list_routine setting.at) (address ∷ length vs ∷ [])
-        (make_list setting.limit vs z (λ v after. gives v after))
+        (vs : List Value) (address : ℕ) → ((v : Value) (others : List Value) → vs ≡ v ∷ others → ArgumentsGiven setting w y.arena address vs)
+        → CallBegins setting rs valid routine_words w around z y
+        → Ends setting
+        (ListThere (list_credit (length vs)) (make_list setting.limit vs z (λ v after. gives v after))
+        (called (code_at setting k turns) (list_routine setting.at) (address ∷ length vs ∷ []) y))
+        ⊥ (turns + entry_spare) z y (make_list setting.limit vs z (λ v after. gives v after))
+        (called (code_at setting k turns) (list_routine setting.at) (address ∷ length vs ∷ []) y)
 
-    -- the call of a method is kept: the address of its arguments in the heap is returned
+    -- The call of a method is kept: the address of its arguments in the heap is returned. Of the units that its words are charged one is left over, and the
+    -- site is as it was stored.
     pub record MethodKept (called_as : Called) (credit : ℕ) (r : FlatEvaluated) (q : MidOutcome) : Type 0 where
       pub outcome : r ≡ gives nil r.state
       pub start : ℕ
@@ -225,16 +243,18 @@ module _ (setting : Setting) where
       pub added : w' ≡ record places { methods = w.methods ++ (start, called_as) ∷ [] }
       pub world : WorldKept setting w w' z r.state y q.state
       pub back : Around setting credit z r.state y q.state
+      pub spared : PaidFrom 0 (charged 1 z) y r.state q.state
+      pub site : SiteStored setting around y → SiteStored setting around q.state
       pub frame : r.state.frame ≡ z.frame
 
     abbrev pub MethodDoes : Type 0
     MethodDoes =
         (c : Called) (chain address : ℕ) → ChainAt setting chain c.rest → ChainTakes setting (length c.arguments) c.rest
-        → ArgumentsLent setting w y.arena address c.arguments → CallBegins setting rs valid routine_words w around z y
+        → ArgumentsGiven setting w y.arena address c.arguments → CallBegins setting rs valid routine_words w around z y
         → Ends setting
         (MethodKept c (argument_credit (length c.arguments)) (with_record setting.limit (Some c) true z (λ after. gives nil after))
         (called (code_at setting k turns) (method_routine setting.at) (chain ∷ length c.arguments ∷ address ∷ []) y))
-        ⊥ turns z y (with_record setting.limit (Some c) true z (λ after. gives nil after))
+        ⊥ (turns + entry_spare) z y (with_record setting.limit (Some c) true z (λ after. gives nil after))
         (called (code_at setting k turns) (method_routine setting.at) (chain ∷ length c.arguments ∷ address ∷ []) y)
 
     -- A routine that only looks: it returns a word, and all but the cost is as before. It costs no more than so much.

@@ -159,8 +159,10 @@ module _ (setting : Setting) where
     pub functions :
         (i p : ℕ) (s : Spot) → slice_get z.state.store i ≡ Some (function p) → spot_of w.places (of_object i) ≡ Some s
         → FunctionStands w y.arena s p (under i z.captured)
-    -- captured parts stand under the numbers of functions
-    pub captured : (i : ℕ) (cs : List Captured) → under i z.captured ≡ Some cs → (p : ℕ) × (slice_get z.state.store i ≡ Some (function p))
+    -- captured parts stand under the numbers of functions, which have spots
+    pub captured :
+        (i : ℕ) (cs : List Captured) → under i z.captured ≡ Some cs
+        → (p : ℕ) × (slice_get z.state.store i ≡ Some (function p)) × (s : Spot) × (spot_of w.places (of_object i) ≡ Some s)
     pub generics :
         (i g : ℕ) → slice_get z.state.store i ≡ Some (generic_function g)
         → (row : GenericRow) × (slice_get setting.program.generics g ≡ Some row)

@@ -14,10 +14,13 @@ use Rattle.back_signals.proofs.Pending.{pending_does}
 use Rattle.back_signals.proofs.Signalling.{signal_does}
 
 pub conditions_law : LawOfNewConditions
-conditions_law setting k credit turns rs valid w around z y placed low raises = record {
-  class_alone = failing_does setting placed k credit low turns rs valid w around raises z y;
-  with_word = failing_with_does setting placed k credit low turns rs valid w around raises z y;
-  domain = domain_does setting placed k credit low turns rs valid w around raises z y;
+conditions_law setting k credit turns spare rs valid w around z y placed low few raises = record {
+  class_alone = λ class is site begins.
+      call_less setting (omega arith) (omega (arith, few)) (failing_does setting placed k credit low turns rs valid w around raises z y class is site begins);
+  with_word = λ class v word of_value is site begins.
+      call_less setting (omega arith) (omega (arith, few)) (failing_with_does setting placed k credit low turns rs valid w around raises z y class v word of_value is site begins);
+  domain = λ v expected word known of_value site begins.
+      call_less setting (omega arith) (omega (arith, few)) (domain_does setting placed k credit low turns rs valid w around raises z y v expected word known of_value site begins);
 }
 
 pub pending_law : LawOfPending

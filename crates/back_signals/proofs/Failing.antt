@@ -41,7 +41,7 @@ use Rattle.back_transfers.proofs.Frames.{memory_holds}
 use Rattle.back_transfers.proofs.Entries.{UsedAt, routine_used, routine_registers, laid_frame, routine_enters}
 use Rattle.back_transfers.proofs.Bodies.{world_of, body_begins, body_leaves, laid_site}
 use Rattle.back_transfers.proofs.Leaving.{signal_later}
-use Rattle.back_signals.specs.Within.{RaisesAt, RaisesWithin, making_credit, FailingWithin, FailingWithWithin, DomainWithin}
+use Rattle.back_signals.specs.Within.{RaisesAt, RaisesWithin, making_credit, making_spare, FailingWithin, FailingWithWithin, DomainWithin}
 use Rattle.back_signals.proofs.Storing.{with_runs, domain_runs}
 use Rattle.back_signals.proofs.Making.{class_there, class_word, condition_comes, printed_more}
 
@@ -109,7 +109,7 @@ module _ (setting : Setting) (placed : IsPlaced setting) (k t raise_credit : ℕ
         (and_then constant_falls
         (and_ends tt (request_wanting refl wants))))).same
 
-    pub failing_comes : CallEnds setting 0 (suc t + 1) rs valid w around (charged 1 z) y (signal (context_at setting k) class [] around z) q
+    pub failing_comes : CallEnds setting 0 (suc t + making_spare) rs valid w around (charged 1 z) y (signal (context_at setting k) class [] around z) q
     failing_comes =
         condition_comes setting placed k t raise_credit 0 rs valid w around raises z y begins site class [] [] is tt q
         (printed_more setting k t (code_of (failing_code setting.at)) (Some class ∷ None ∷ None ∷ None ∷ None ∷ []) y)
@@ -152,7 +152,7 @@ module _ (setting : Setting) (placed : IsPlaced setting) (k t raise_credit : ℕ
         (and_then constant_falls
         (and_ends tt (request_wanting refl wants))))).same
 
-    pub with_comes : CallEnds setting 0 (suc t + 1) rs valid w around (charged 1 z) y (signal (context_at setting k) class (v ∷ []) around z) with_q
+    pub with_comes : CallEnds setting 0 (suc t + making_spare) rs valid w around (charged 1 z) y (signal (context_at setting k) class (v ∷ []) around z) with_q
     with_comes =
         condition_comes setting placed k t raise_credit 0 rs valid w around raises z y begins site class (v ∷ []) (v_word ∷ []) is (of_value, tt) with_q
         (printed_more setting k t (code_of (failing_with_code setting.at)) (Some class ∷ Some v_word ∷ None ∷ None ∷ None ∷ []) y)
@@ -199,7 +199,7 @@ module _ (setting : Setting) (placed : IsPlaced setting) (k t raise_credit : ℕ
     unfolding domain_code
     domain_wants wants = (and_then constant_falls (and_then constant_falls (and_ends tt (request_wanting refl wants)))).same
 
-    pub domain_comes : CallEnds setting 0 (suc t + 1) rs valid w around (charged 1 z) y (signal (context_at setting k) domain_error_class (v ∷ expected_class ∷ []) around z) domain_q
+    pub domain_comes : CallEnds setting 0 (suc t + making_spare) rs valid w around (charged 1 z) y (signal (context_at setting k) domain_error_class (v ∷ expected_class ∷ []) around z) domain_q
     domain_comes =
         condition_comes setting placed k t raise_credit 0 rs valid w around raises z y begins site domain_error_class (v ∷ expected_class ∷ []) (v_word ∷ expected_there.word ∷ []) error_is
         (of_value, (expected_there.of_value, tt)) domain_q
@@ -216,7 +216,7 @@ from_unit setting {z = z} {y = y} t e = call_behind setting (world_units setting
 -- **a condition of a class without slots is signalled**
 pub failing_does :
     (setting : Setting) → IsPlaced setting → (k raise_credit : ℕ) → raise_credit ≤ 1000 → (turns : ℕ) (rs valid : List Standing) (w : World) (around : DynamicContext) → RaisesWithin setting k turns around 0 raise_credit → (z : FlatState)
-    (y : MidState) → FailingWithin setting k turns rs valid w around z y
+    (y : MidState) → FailingWithin setting k turns rs valid w around z y making_spare
 unfolding failing_code
 failing_does setting placed k raise_credit low turns rs valid w around raises z y class is site begins =
     routine_enters setting k (failing_routine setting.at) passing_frame 1 (failing_code setting.at) used (class ∷ []) refl y turns begins.things.represents.printed
@@ -226,10 +226,10 @@ failing_does setting placed k raise_credit low turns rs valid w around raises z 
     used = routine_used setting placed 7 (framed passing_frame (procedure_with Turn 1 (failing_code setting.at))) refl
 
     by : (t : ℕ) → turns ≡ suc t → used.frame ≤ left y.arena
-        → CallEnds setting making_credit (turns + 1) rs valid w around z y (signal (context_at setting k) class [] around z)
+        → CallEnds setting making_credit (turns + making_spare) rs valid w around z y (signal (context_at setting k) class [] around z)
         (leaves y.arena.blocks (exec (code_at setting k t) (code_of (failing_code setting.at)) (routine_registers setting 1 (failing_code setting.at) (class ∷ [])) (laid_frame setting used.frame 1 y)))
     by t same room =
-        subst (λ n. CallEnds setting making_credit (n + 1) rs valid w around z y (signal (context_at setting k) class [] around z)
+        subst (λ n. CallEnds setting making_credit (n + making_spare) rs valid w around z y (signal (context_at setting k) class [] around z)
         (leaves y.arena.blocks (exec (code_at setting k t) (code_of (failing_code setting.at)) (routine_registers setting 1 (failing_code setting.at) (class ∷ [])) (laid_frame setting used.frame 1 y)))) (sym same)
         (body_leaves setting placed begins.things used.frame 1 room (omega arith)
         (from_unit setting (body_begins setting placed begins.things used.frame 1 room raise_words (let few = used.fewer in omega (arith, few)) begins).things
@@ -240,7 +240,7 @@ failing_does setting placed k raise_credit low turns rs valid w around raises z 
 -- **and one of a class with one slot**
 pub failing_with_does :
     (setting : Setting) → IsPlaced setting → (k raise_credit : ℕ) → raise_credit ≤ 1000 → (turns : ℕ) (rs valid : List Standing) (w : World) (around : DynamicContext) → RaisesWithin setting k turns around 0 raise_credit → (z : FlatState)
-    (y : MidState) → FailingWithWithin setting k turns rs valid w around z y
+    (y : MidState) → FailingWithWithin setting k turns rs valid w around z y making_spare
 unfolding failing_with_code
 failing_with_does setting placed k raise_credit low turns rs valid w around raises z y class v word of_value is site begins =
     routine_enters setting k (failing_with_routine setting.at) passing_frame 2 (failing_with_code setting.at) used (class ∷ word ∷ []) refl y turns begins.things.represents.printed
@@ -250,10 +250,10 @@ failing_with_does setting placed k raise_credit low turns rs valid w around rais
     used = routine_used setting placed 8 (framed passing_frame (procedure_with Turn 2 (failing_with_code setting.at))) refl
 
     by : (t : ℕ) → turns ≡ suc t → used.frame ≤ left y.arena
-        → CallEnds setting making_credit (turns + 1) rs valid w around z y (signal (context_at setting k) class (v ∷ []) around z)
+        → CallEnds setting making_credit (turns + making_spare) rs valid w around z y (signal (context_at setting k) class (v ∷ []) around z)
         (leaves y.arena.blocks (exec (code_at setting k t) (code_of (failing_with_code setting.at)) (routine_registers setting 2 (failing_with_code setting.at) (class ∷ word ∷ [])) (laid_frame setting used.frame 2 y)))
     by t same room =
-        subst (λ n. CallEnds setting making_credit (n + 1) rs valid w around z y (signal (context_at setting k) class (v ∷ []) around z)
+        subst (λ n. CallEnds setting making_credit (n + making_spare) rs valid w around z y (signal (context_at setting k) class (v ∷ []) around z)
         (leaves y.arena.blocks (exec (code_at setting k t) (code_of (failing_with_code setting.at)) (routine_registers setting 2 (failing_with_code setting.at) (class ∷ word ∷ [])) (laid_frame setting used.frame 2 y)))) (sym same)
         (body_leaves setting placed begins.things used.frame 2 room (omega arith)
         (from_unit setting (body_begins setting placed begins.things used.frame 2 room raise_words (let few = used.fewer in omega (arith, few)) begins).things
@@ -264,7 +264,7 @@ failing_with_does setting placed k raise_credit low turns rs valid w around rais
 -- **a domain error is signalled**
 pub domain_does :
     (setting : Setting) → IsPlaced setting → (k raise_credit : ℕ) → raise_credit ≤ 1000 → (turns : ℕ) (rs valid : List Standing) (w : World) (around : DynamicContext) → RaisesWithin setting k turns around 0 raise_credit → (z : FlatState)
-    (y : MidState) → DomainWithin setting k turns rs valid w around z y
+    (y : MidState) → DomainWithin setting k turns rs valid w around z y making_spare
 unfolding domain_code
 domain_does setting placed k raise_credit low turns rs valid w around raises z y v expected word known of_value site begins =
     routine_enters setting k (domain_routine setting.at) passing_frame 2 (domain_code setting.at) used (word ∷ expected ∷ []) refl y turns begins.things.represents.printed
@@ -275,10 +275,10 @@ domain_does setting placed k raise_credit low turns rs valid w around raises z y
     used = routine_used setting placed 9 (framed passing_frame (procedure_with Turn 2 (domain_code setting.at))) refl
 
     by : (t : ℕ) → turns ≡ suc t → used.frame ≤ left y.arena
-        → CallEnds setting making_credit (turns + 1) rs valid w around z y (signal (context_at setting k) domain_error_class (v ∷ class_value setting.names (tables setting.program) expected ∷ []) around z)
+        → CallEnds setting making_credit (turns + making_spare) rs valid w around z y (signal (context_at setting k) domain_error_class (v ∷ class_value setting.names (tables setting.program) expected ∷ []) around z)
         (leaves y.arena.blocks (exec (code_at setting k t) (code_of (domain_code setting.at)) (routine_registers setting 2 (domain_code setting.at) (word ∷ expected ∷ [])) (laid_frame setting used.frame 2 y)))
     by t same room =
-        subst (λ n. CallEnds setting making_credit (n + 1) rs valid w around z y (signal (context_at setting k) domain_error_class (v ∷ class_value setting.names (tables setting.program) expected ∷ []) around z)
+        subst (λ n. CallEnds setting making_credit (n + making_spare) rs valid w around z y (signal (context_at setting k) domain_error_class (v ∷ class_value setting.names (tables setting.program) expected ∷ []) around z)
         (leaves y.arena.blocks (exec (code_at setting k t) (code_of (domain_code setting.at)) (routine_registers setting 2 (domain_code setting.at) (word ∷ expected ∷ [])) (laid_frame setting used.frame 2 y)))) (sym same)
         (body_leaves setting placed begins.things used.frame 2 room (omega arith)
         (from_unit setting (body_begins setting placed begins.things used.frame 2 room raise_words (let few = used.fewer in omega (arith, few)) begins).things

@@ -48,7 +48,7 @@ use Rattle.back_transfers.proofs.Entries.{UsedAt, routine_used}
 use Rattle.back_transfers.proofs.Leaving.{signal_later, begins_charged}
 use Rattle.back_transfers.proofs.Points.{point_begins}
 use Rattle.back_transfers.proofs.Returning.{HoldAll, call_behind, returning_comes}
-use Rattle.back_signals.specs.Within.{RaisesAt}
+use Rattle.back_signals.specs.Within.{RaisesAt, making_spare}
 use Rattle.back_signals.proofs.Conditions.{is_class, state_made, places_made, meaning_made, made_behind, pointer_is, made_charged, word_made_before}
 
 pub raise_used : (setting : Setting) → IsPlaced setting → UsedAt setting.procedures (raise_routine setting.at) (framed raise_frame (procedure_with Turn 2 (raise_code setting.at)))
@@ -77,7 +77,7 @@ module _ (setting : Setting) (placed : IsPlaced setting) (k t raise_credit credi
   class_word = class_there.word
 
   abbrev Comes : MidOutcome → Type 0
-  Comes q = CallEnds setting credit (suc t + 1) rs valid w around (flat_charged 1 z) y r q
+  Comes q = CallEnds setting credit (suc t + making_spare) rs valid w around (flat_charged 1 z) y r q
 
   -- the meaning, where the words of the condition are known
   abbrev pub with_size : (size : ℕ) → Bool → FlatEvaluated
@@ -137,7 +137,7 @@ module _ (setting : Setting) (placed : IsPlaced setting) (k t raise_credit credi
         (regs : Registers) → HoldAll (3 ∷ 4 ∷ []) regs ((y.arena.heap_to + 2) ∷ nil_word ∷ []) → 3 < length regs → cost + 66 + raise_credit + unit_cost ≤ y.cost + unit_cost * (3 + length vs) + credit
         → Comes (exec cx (code_of (returning setting.at 3 (raise_routine setting.at) (3 ∷ 4 ∷ []))) regs y2)
     raised regs held low few =
-        subst (λ p. CallEnds setting credit (suc t + 1) rs valid w around (flat_charged 1 z) y p (exec cx (code_of (returning setting.at 3 (raise_routine setting.at) (3 ∷ 4 ∷ []))) regs y2))
+        subst (λ p. CallEnds setting credit (suc t + making_spare) rs valid w around (flat_charged 1 z) y p (exec cx (code_of (returning setting.at 3 (raise_routine setting.at) (3 ∷ 4 ∷ []))) regs y2))
         (sym (meant ∙ ap (with_size (3 + length vs)) fits))
         (call_behind setting kept_paid around_paid {c2 = 66 + raise_credit} (omega (arith, few)) refl (omega arith)
         (returning_comes setting setting.at cx 3 (raise_routine setting.at) (3 ∷ 4 ∷ []) ((y.arena.heap_to + 2) ∷ nil_word ∷ []) regs y2 (raise_used setting placed).there held low (omega arith) begins2.things
@@ -163,7 +163,7 @@ module _ (setting : Setting) (placed : IsPlaced setting) (k t raise_credit credi
   -- there is none in the meaning
   full_so : (q : MidOutcome) → Grown y q.state → has_room setting.limit (z.state.heap + z.state.stack + (3 + length vs) + 0) ≡ false → Comes q
   full_so q grown none =
-      subst (λ p. CallEnds setting credit (suc t + 1) rs valid w around (flat_charged 1 z) y p q) (sym (meant ∙ ap (with_size (3 + length vs)) none))
+      subst (λ p. CallEnds setting credit (suc t + making_spare) rs valid w around (flat_charged 1 z) y p q) (sym (meant ∙ ap (with_size (3 + length vs)) none))
       (full_there (record {
         asked = 3 + length vs + 0;
         left_then = room_left setting.limit (z.state.heap + z.state.stack);

@@ -59,7 +59,7 @@ use Rattle.back_transfers.proofs.Leaving.{tasks_below, begins_charged, returning
 use Rattle.back_transfers.proofs.Returning.{call_behind, returning_comes}
 use Rattle.back_transfers.proofs.Within.{begins_less, call_less}
 use Rattle.back_signals.proofs.Failing.{domain_does}
-use Rattle.back_signals.specs.Within.{RaisesAt, RaisesWithin, DomainWithin, SignalWithin}
+use Rattle.back_signals.specs.Within.{RaisesAt, RaisesWithin, making_spare, DomainWithin, SignalWithin}
 use Rattle.back_signals.proofs.Making.{raise_used}
 use Rattle.back_signals.proofs.Marking.{condition_of}
 
@@ -79,7 +79,7 @@ low_bits : (w : ℕ) → bit_and w 3 ≡ w % 4
 low_bits w = and_mask w 2
 
 module _ (setting : Setting) (placed : IsPlaced setting) (k t credit : ℕ) (some : 100 ≤ credit) (rs valid : List Standing) (w : World) (around : DynamicContext) (raises : RaisesAt setting k t around 1 credit) (z : FlatState)
-    (domains : (rs valid : List Standing) (w : World) (z : FlatState) (y : MidState) → DomainWithin setting k t rs valid w around z y)
+    (domains : (rs valid : List Standing) (w : World) (z : FlatState) (y : MidState) → DomainWithin setting k t rs valid w around z y making_spare)
     (y : MidState) (begins : CallBegins setting rs valid failing_words w around z y) (site : SiteStored setting around y) (c mark : Value) (c_word mark_word : ℕ) (of_condition : WordIs setting w c_word c)
     (of_mark : WordIs setting w mark_word mark) where
   open begins use {things}
@@ -103,7 +103,7 @@ module _ (setting : Setting) (placed : IsPlaced setting) (k t credit : ℕ) (som
       subst (λ m. CallEnds setting (credit + 176) (suc t + 0) rs valid w around z y wrong (exec cx (code_of domain_steps) (regs_with r2 r3) (record y { cost = m }))) same
       (subst (λ q. CallEnds setting (credit + 176) (suc t + 0) rs valid w around z y wrong q) (sym steps)
       (call_behind setting {c1 = n} (world_cost setting n things) (around_cost setting z y n (omega arith)) {c2 = 122} (omega (arith, some)) {t = suc t + 0} {t' = suc t + 0} refl (omega arith)
-      (call_behind setting {c1 = 6} (world_cost setting 6 (begins_charged setting n begins).things) (around_cost setting z (charged n y) 6 (omega arith)) {c2 = 116} {c = 122} (omega arith) {t = suc t + 0} {t' = t + 1} refl (omega arith)
+      (call_behind setting {c1 = 6} (world_cost setting 6 (begins_charged setting n begins).things) (around_cost setting z (charged n y) 6 (omega arith)) {c2 = 116} {c = 122} (omega arith) {t = suc t + 0} {t' = t + making_spare} refl (omega arith)
       (returning_comes setting setting.at cx 2 (domain_routine setting.at) (0 ∷ 2 ∷ []) (c_word ∷ serious_condition_class ∷ []) (regs_with (Some serious_condition_class) r3) (charged 6 (charged n y)) (domain_used setting placed).there
       (refl, (refl, tt)) (omega arith) (omega arith) (begins_charged setting 6 (begins_charged setting n begins)).things
       (domains rs valid w z (charged 52 (charged 6 (charged n y))) c serious_condition_class c_word (omega arith) of_condition site
@@ -243,7 +243,7 @@ module _ (setting : Setting) (placed : IsPlaced setting) (k t credit : ℕ) (som
           (raise_ends condition)
 
 -- a word that is there stands in the memory
-word_within : (a : Arena) (x n : ℕ) → word_at a x ≡ Some n → x / 4 < length a.memory
+pub word_within : (a : Arena) (x n : ℕ) → word_at a x ≡ Some n → x / 4 < length a.memory
 word_within a x n h = by (is_lent a x) (slice_get a.memory (x / 4)) refl h
   where
     by : (l : Bool) (o : Option (Option ℕ)) → slice_get a.memory (x / 4) ≡ o → (if l then word_in o else None) ≡ Some n → x / 4 < length a.memory
@@ -252,7 +252,7 @@ word_within a x n h = by (is_lent a x) (slice_get a.memory (x / 4)) refl h
     by true (Some o) e h = slice_get_within a.memory (x / 4) o e
 
 module _ (setting : Setting) (placed : IsPlaced setting) (k t credit : ℕ) (some : 100 ≤ credit) (rs valid : List Standing) (w : World) (around : DynamicContext) (raises : RaisesAt setting k t around 1 credit) (z : FlatState)
-    (domains : (rs valid : List Standing) (w : World) (z : FlatState) (y : MidState) → DomainWithin setting k t rs valid w around z y)
+    (domains : (rs valid : List Standing) (w : World) (z : FlatState) (y : MidState) → DomainWithin setting k t rs valid w around z y making_spare)
     (y : MidState) (begins : CallBegins setting rs valid failing_words w around z y) (site : SiteStored setting around y) (c mark : Value) (c_word mark_word : ℕ) (of_condition : WordIs setting w c_word c)
     (of_mark : WordIs setting w mark_word mark) where
   open begins use {things}
@@ -376,7 +376,7 @@ signal_does setting placed k credit some low around turns raises rs valid w z y 
     used : UsedAt setting.procedures (signal_routine setting.at) (framed passing_frame (procedure_with Turn 2 (signal_code setting.at)))
     used = routine_used setting placed 5 (framed passing_frame (procedure_with Turn 2 (signal_code setting.at))) refl
 
-    domains : (t : ℕ) → t ≤ turns → (rs valid : List Standing) (w : World) (z : FlatState) (y : MidState) → DomainWithin setting k t rs valid w around z y
+    domains : (t : ℕ) → t ≤ turns → (rs valid : List Standing) (w : World) (z : FlatState) (y : MidState) → DomainWithin setting k t rs valid w around z y making_spare
     domains t few rs valid w z y =
         domain_does setting placed k credit low t rs valid w around
         (λ s fewer rs valid w z y c mark c_word mark_word condition of_condition of_mark site begins.

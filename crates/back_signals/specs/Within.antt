@@ -38,6 +38,10 @@ unhandled_words = raise_frame + transfer_words
 abbrev pub making_credit : ℕ
 making_credit = 50
 
+-- and the turns that it leaves over at most: it has three words or more, whose units take 16 each, of which one unit and one turn are its own
+abbrev pub making_spare : ℕ
+making_spare = 31
+
 module _ (setting : Setting) (k turns : ℕ) (rs valid : List Standing) (w : World) (around : DynamicContext) (z : FlatState) (y : MidState) where
   -- a condition is signalled under the handlers around
   abbrev pub RaiseWithin : (room spare credit : ℕ) → Type 0
@@ -57,23 +61,23 @@ abbrev pub RaisesWithin : Setting → (k turns : ℕ) → DynamicContext → (sp
 RaisesWithin setting k turns around spare credit = (t : ℕ) → t ≤ turns → RaisesAt setting k t around spare credit
 
 module _ (setting : Setting) (k turns : ℕ) (rs valid : List Standing) (w : World) (around : DynamicContext) (z : FlatState) (y : MidState) where
-  -- a condition of a class without slots, one of a class with one slot, and a domain error
-  abbrev pub FailingWithin : Type 0
-  FailingWithin =
+  -- a condition of a class without slots, one of a class with one slot, and a domain error, with so many turns left over
+  abbrev pub FailingWithin : (spare : ℕ) → Type 0
+  FailingWithin spare =
       (class : ℕ) → IsBuiltInCondition class 0 → SiteStored setting around y
-      → DoesWithin setting k turns rs valid w around z y failing_words 1 making_credit (failing_routine setting.at) (class ∷ [])
+      → DoesWithin setting k turns rs valid w around z y failing_words spare making_credit (failing_routine setting.at) (class ∷ [])
       (signal (context_at setting k) class [] around z)
 
-  abbrev pub FailingWithWithin : Type 0
-  FailingWithWithin =
+  abbrev pub FailingWithWithin : (spare : ℕ) → Type 0
+  FailingWithWithin spare =
       (class : ℕ) (v : Value) (word : ℕ) → WordIs setting w word v → IsBuiltInCondition class 1 → SiteStored setting around y
-      → DoesWithin setting k turns rs valid w around z y failing_words 1 making_credit (failing_with_routine setting.at) (class ∷ word ∷ [])
+      → DoesWithin setting k turns rs valid w around z y failing_words spare making_credit (failing_with_routine setting.at) (class ∷ word ∷ [])
       (signal (context_at setting k) class (v ∷ []) around z)
 
-  abbrev pub DomainWithin : Type 0
-  DomainWithin =
+  abbrev pub DomainWithin : (spare : ℕ) → Type 0
+  DomainWithin spare =
       (v : Value) (expected word : ℕ) → expected < built_in_classes → WordIs setting w word v → SiteStored setting around y
-      → DoesWithin setting k turns rs valid w around z y failing_words 1 making_credit (domain_routine setting.at) (word ∷ expected ∷ [])
+      → DoesWithin setting k turns rs valid w around z y failing_words spare making_credit (domain_routine setting.at) (word ∷ expected ∷ [])
       (signal_domain_error (context_at setting k) (signal (context_at setting k)) v expected around z)
 
   -- the condition that a primitive made

@@ -46,7 +46,7 @@ use Rattle.back_calling.specs.Storing.{stored_at, standing_world}
 use Rattle.back_calling.proofs.Growing.{tasks_below}
 use Rattle.back_calling.proofs.Sited.{sited_calls_law}
 use Rattle.back_exits.proofs.Charging.{next_start, whole_then}
-use Rattle.back_values.proofs.CapturedWords.{of_kind, is_exit, part_there}
+use Rattle.back_values.proofs.CapturedWords.{of_kind, is_exit, by_functions, part_there}
 use Rattle.back_values.proofs.Far.{load_far_runs}
 use Rattle.back_sought_exits.specs.Sought.{LeavingDoes}
 
@@ -152,10 +152,10 @@ module _ (setting : Setting) (k : ℕ) (a : Start setting) (there : a.d + 4 ≤ 
       by : (o : Option ℕ) → slice_get a.env.captured i ≡ Some (of_exit o) → Comes total (place.Captured i)
       by None found =
           absurd
-          (part_there setting a.begins.call.things a.begins.call.things.captured (register a.s.code.function a.regs) a.env.captured a.begins.activation.self i (of_exit None) found).at.is
+          (part_there setting a.begins.call.things (by_functions setting a.begins.call.things) (register a.s.code.function a.regs) a.env.captured a.begins.activation.self i (of_exit None) found).at.is
       by (Some e) found =
           let part =
-          part_there setting a.begins.call.things a.begins.call.things.captured (register a.s.code.function a.regs) a.env.captured a.begins.activation.self i (of_exit (Some e)) found in
+          part_there setting a.begins.call.things (by_functions setting a.begins.call.things) (register a.s.code.function a.regs) a.env.captured a.begins.activation.self i (of_exit (Some e)) found in
           let own = a.begins.scope.self.0 in
           let loaded =
           load_far_runs c a.regs a.y (a.d + 1) a.s.code.function (captured_offset i) part.pointer part.at.word (omega (arith, there)) (λ f. omega (arith, own, f)) part.held part.low part.at.stands in

@@ -1,8 +1,6 @@
 -- A tagbody whose segments do what they mean at all levels down to the last one: so do its turns, from the last level on.
-use Rattle.std.proofs.Common.{◌≡◌, ℕ, zero, suc, ◌<◌, ◌≤◌, subst, arith}
-use Rattle.std.specs.Prelude.{◌^◌}
+use Rattle.std.proofs.Common.{◌≡◌, ℕ, zero, suc, ◌≤◌, subst, arith}
 use Rattle.flat_language.specs.FlatForm.{FlatForms}
-use Rattle.flat_language.specs.FlatNodes.{count_forms}
 use Rattle.back_relation.specs.Setting.{Setting}
 use Rattle.back_relation.specs.Placed.{IsPlaced}
 use Rattle.back_combining.specs.Forms.{AllDo}
@@ -10,7 +8,7 @@ use Rattle.back_tagbodies.specs.Tagbodies.{LawOfTagbodiesAtLevels}
 use Rattle.back_tagbodies.specs.Turns.{TurnsDo}
 use Rattle.back_tagbodies.proofs.Whole.{whole_turns_law, whole_tagbodies_law}
 
-module _ (setting : Setting) (all : FlatForms) (placed : IsPlaced setting) (small : count_forms all < 2 ^ 32) where
+module _ (setting : Setting) (all : FlatForms) (placed : IsPlaced setting) where
   abbrev DoAt : ℕ → Type 0
   DoAt k = (j t : ℕ) → j ≤ k → t ≤ setting.turns_each → AllDo setting j t all
 
@@ -19,14 +17,14 @@ module _ (setting : Setting) (all : FlatForms) (placed : IsPlaced setting) (smal
 
   turns_do : (k : ℕ) → DoAt k → TurnsDo setting k setting.turns_each all
   turns_do zero does =
-      whole_turns_law setting zero setting.turns_each all placed small (omega arith) (λ t h. does zero t (omega arith) h) (λ j same. absurd (omega (arith, same)))
+      whole_turns_law setting zero setting.turns_each all placed (omega arith) (λ t h. does zero t (omega arith) h) (λ j same. absurd (omega (arith, same)))
   turns_do (suc k) does =
-      whole_turns_law setting (suc k) setting.turns_each all placed small (omega arith) (λ t h. does (suc k) t (omega arith) h)
+      whole_turns_law setting (suc k) setting.turns_each all placed (omega arith) (λ t h. does (suc k) t (omega arith) h)
       (λ j same. same_level k j setting.turns_each same (turns_do k (λ i t low h. does i t (omega (arith, low)) h)))
 
   below : (k : ℕ) → DoAt k → (j : ℕ) → k ≡ suc j → TurnsDo setting j setting.turns_each all
   below k does j same = turns_do j (λ i t low h. does i t (omega (arith, same, low)) h)
 
 pub tagbodies_at_levels_law : LawOfTagbodiesAtLevels
-tagbodies_at_levels_law setting k turns all placed small fewer does =
-    whole_tagbodies_law setting k turns all placed small fewer (λ t h. does k t (omega arith) (omega (arith, h, fewer))) (below setting all placed small k does)
+tagbodies_at_levels_law setting k turns all placed fewer does =
+    whole_tagbodies_law setting k turns all placed fewer (λ t h. does k t (omega arith) (omega (arith, h, fewer))) (below setting all placed k does)

@@ -101,7 +101,7 @@ module _ (setting : Setting) (k : ℕ) where
 
     segments_here : (t : ℕ) → ((u : ℕ) → u ≤ t → AllDo setting k u all) → SegmentsHere setting s d (words_for_forms setting.names setting.program all) size k t all
     segments_here t does u h =
-        all_here u (inside_scope setting s d all) (d + 7) (words_for_forms setting.names setting.program all) size first all (does u h) stands.stands stands.fits.1 stands.leads stands.placed
+        all_here u (inside_scope setting s d all) (d + 7) (words_for_forms setting.names setting.program all) size first all (does u h) stands.stands stands.fits.1 stands.leads stands.placed.1
         (length-append s.exits.own (Tagbody (count_forms all) ∷ []) ∙ ap (λ n. n + 1) stands.forms_known) codes (omega arith)
 
 -- the turns one level below
@@ -113,16 +113,16 @@ below_here setting j all s d n size first stands registers words does p e i begi
     (subst (λ n. enough_for (of_code (value_code setting s d (tagbody all))) ≤ n) (sym p.count) registers) words e i begins
 
 pub whole_turns_law : LawOfWholeTurns
-whole_turns_law setting k turns all placed small fewer does below rs valid s d n first w env around z regs y stands begins registers words e i turn =
+whole_turns_law setting k turns all placed fewer does below rs valid s d n first w env around z regs y stands begins registers words e i turn =
     turn_sim setting placed s d (words_for_forms setting.names setting.program all) n (length regs) k turns all stands.forms_known (wide setting k all s d (length regs) first stands registers)
-    (omega (arith, words)) small fewer (segments_here setting k all s d (length regs) first stands registers turns does)
+    (omega (arith, words)) stands.placed.0 fewer (segments_here setting k all s d (length regs) first stands registers turns does)
     (λ j same. below_here setting j all s d n (length regs) first stands registers words (below j same))
     (record { rs = rs; valid = valid; w = w; env = env; around = around; z = z; regs = regs; y = y; begins = begins; count = refl }) e i turn
 
 pub whole_tagbodies_law : LawOfWholeTagbodies
 unfolding mean lower
-whole_tagbodies_law setting k turns all placed small fewer does below rs valid s d n first w env around z regs y stands begins registers words =
+whole_tagbodies_law setting k turns all placed fewer does below rs valid s d n first w env around z regs y stands begins registers words =
     tagbody_sim setting placed s d (words_for_forms setting.names setting.program all) n (length regs) k turns all stands.forms_known (wide setting k all s d (length regs) first stands registers)
-    (omega (arith, words)) stands.fits.0 small fewer (segments_here setting k all s d (length regs) first stands registers turns does)
+    (omega (arith, words)) stands.fits.0 stands.placed.0 fewer (segments_here setting k all s d (length regs) first stands registers turns does)
     (λ j same. below_here setting j all s d n (length regs) first stands registers words (below j same))
     (record { rs = rs; valid = valid; w = w; env = env; around = around; z = z; regs = regs; y = y; begins = begins; count = refl })

@@ -1,5 +1,5 @@
 -- The laws of tagbodies, from what is shown of their segments at this level, with all turns that may be left of it, and of their turns one
--- level below. A number of 32 bits counts the segments.
+-- level below. A word counts the segments.
 use Rattle.std.specs.Prelude.{◌≡◌, ℕ, suc, ◌+◌, ◌^◌, ◌<◌, ◌≤◌}
 use Rattle.flat_language.specs.FlatForm.{FlatForms, tagbody}
 use Rattle.flat_language.specs.FlatNodes.{count_forms}
@@ -34,19 +34,19 @@ LawOfTagbodies =
 -- the turns of a tagbody, wherever it stands
 abbrev pub LawOfWholeTurns : Type 0
 LawOfWholeTurns =
-    (setting : Setting) (k turns : ℕ) (all : FlatForms) → IsPlaced setting → count_forms all < 2 ^ 32 → turns ≤ setting.turns_each
+    (setting : Setting) (k turns : ℕ) (all : FlatForms) → IsPlaced setting → turns ≤ setting.turns_each
     → ((t : ℕ) → t ≤ turns → AllDo setting k t all) → ((j : ℕ) → k ≡ suc j → TurnsDo setting j setting.turns_each all) → TurnsDo setting k turns all
 
 -- **a tagbody**, wherever it stands
 abbrev pub LawOfWholeTagbodies : Type 0
 LawOfWholeTagbodies =
-    (setting : Setting) (k turns : ℕ) (all : FlatForms) → IsPlaced setting → count_forms all < 2 ^ 32 → turns ≤ setting.turns_each
+    (setting : Setting) (k turns : ℕ) (all : FlatForms) → IsPlaced setting → turns ≤ setting.turns_each
     → ((t : ℕ) → t ≤ turns → AllDo setting k t all) → ((j : ℕ) → k ≡ suc j → TurnsDo setting j setting.turns_each all)
     → DoesForm setting turns (context_at setting k) (code_at setting k turns) (tagbody all)
 
 -- and from what is shown of their segments at all levels down to the last one
 abbrev pub LawOfTagbodiesAtLevels : Type 0
 LawOfTagbodiesAtLevels =
-    (setting : Setting) (k turns : ℕ) (all : FlatForms) → IsPlaced setting → count_forms all < 2 ^ 32 → turns ≤ setting.turns_each
+    (setting : Setting) (k turns : ℕ) (all : FlatForms) → IsPlaced setting → turns ≤ setting.turns_each
     → ((j t : ℕ) → j ≤ k → t ≤ setting.turns_each → AllDo setting j t all)
     → DoesForm setting turns (context_at setting k) (code_at setting k turns) (tagbody all)

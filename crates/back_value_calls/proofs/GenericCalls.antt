@@ -57,8 +57,6 @@ use Rattle.back_combining.proofs.Fitting.{registers_front, registers_behind}
 use Rattle.back_combining.proofs.Growth.{grown_later}
 use Rattle.back_combining.proofs.Parts.{single_step}
 use Rattle.back_combining.proofs.Starts.{start_after, start_charged, reached_same, behind, ends_sparing}
-use Rattle.back_combining.proofs.Then.{same_world}
-use Rattle.back_combining.proofs.Worlds.{stack_same}
 use Rattle.back_arguments.specs.Arguments.{WordsIn}
 use Rattle.back_arguments.proofs.Arguments.{arguments_law}
 use Rattle.back_arguments.proofs.Lists.{argument_lists_law}
@@ -69,7 +67,8 @@ use Rattle.back_calling.proofs.Growing.{tasks_below}
 use Rattle.back_calling.proofs.Sited.{sited_calls_law, reached_sited}
 use Rattle.back_known_calls.proofs.KnownCalls.{site_names}
 use Rattle.back_value_calls.specs.GenericCalls.{AppliesGenerics, LawOfGenericCalls}
-use Rattle.back_value_calls.proofs.ValueCalls.{words_from, lent_later}
+use Rattle.back_methods.proofs.Given.{lent_then}
+use Rattle.back_value_calls.proofs.ValueCalls.{words_from}
 use Rattle.back_value_calls.proofs.Words.{Inside, words_lent_to}
 
 program_error_is : IsBuiltInCondition program_error_class 0
@@ -159,7 +158,7 @@ module _ (setting : Setting) (placed : IsPlaced setting) (k : ℕ) (a : Start se
         (λ number paid.
         let r = reached_sited setting b a.d number paid paid regs (omega arith) (omega arith) (λ i f. refl) refl in
         applies a.rs a.valid (standing_world w1 y) a.around a.z (stored_at site_address number paid y) row vs at.0 x.address at.2
-        (lent_later setting x.address vs r.kept.world (stack_same (same_world setting r.kept.world r.back)) x.lent))
+        (placed.generic_names g row found) (lent_then setting r.kept.world r.back x.lent))
 
     abbrev code : Steps
     code = with_words setting.at setting.program (length ws) a.d (site ++ the_call)
@@ -182,7 +181,7 @@ module _ (setting : Setting) (placed : IsPlaced setting) (k : ℕ) (a : Start se
 module _ (setting : Setting) (placed : IsPlaced setting) (k : ℕ) (a : Start setting) (applies : AppliesGenerics setting k a.turns) (fails : Fails setting k a.turns) (g : ℕ) (row : GenericRow)
     (found : slice_get setting.program.generics g ≡ Some row) (count : ℕ) where
   abbrev whole_credit : ℕ
-  whole_credit = 1076 + 44 * count
+  whole_credit = 636 + 484 * count
 
   abbrev means : List Value → FlatEvaluated
   means vs = apply_generic_row (context_at setting k) (signal (context_at setting k)) (Some row) vs a.around a.z
@@ -261,7 +260,7 @@ generic_calls_law setting k turns name fs placed known does applies fails rs val
     let lists =
     argument_lists_law setting s d n size k turns first fs does stands.stands stands.fits stands.leads stands.placed.1 stands.forms_known begins.first
     (registers_front front after_them size registers) (omega (arith, words)) in
-    let total : ℕ = 1076 + 44 * count in
+    let total : ℕ = 636 + 484 * count in
     ends_sparing setting {c1 = total} (start_at setting s d n size turns p0) units (omega arith) (omega arith)
     (arguments_law setting s d n size k turns total fs pc next after_them lists.0 lists.1 (λ vs x. grown_later (later vs x))
     (λ vs z' regs' y' x.

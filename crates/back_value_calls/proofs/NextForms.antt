@@ -1,6 +1,6 @@
 -- The next method: its call comes in three registers, and the routine is called with them.
 use Rattle.std.proofs.Common.{◌≡◌, ℕ, ◌+◌, ◌<◌, ◌≤◌, true, false, List, [], ◌∷◌, ◌++◌, length, Option, Some, None, refl, sym, ap, ◌∙◌, subst, arith}
-use Rattle.lang_meaning.specs.Objects.{Chain, Called}
+use Rattle.lang_meaning.specs.Objects.{Called}
 use Rattle.flat_language.specs.FlatMeaning.{mean, mean_next}
 use Rattle.flat_language.specs.FlatState.{method_of, charged}
 use Rattle.flat_laws.specs.FlatLater.{FlatLater}
@@ -25,6 +25,7 @@ use Rattle.back_relation.specs.Activation.{MethodHeld, MethodThere}
 use Rattle.back_relation.specs.Ends.{form_credit}
 use Rattle.back_relation.specs.Forms.{context_at, code_at}
 use Rattle.back_relation.specs.Procedures.{as_registers}
+use Rattle.back_relation.specs.RoutineClaims.{next_credit}
 use Rattle.back_combining.specs.Points.{Point, start_at}
 use Rattle.back_combining.specs.Starts.{Start, EndsAt}
 use Rattle.back_combining.proofs.Activations.{arguments_later}
@@ -39,11 +40,10 @@ use Rattle.back_calling.proofs.Growing.{tasks_below}
 use Rattle.back_calling.proofs.Sited.{sited_calls_law, reached_sited}
 use Rattle.back_globals.proofs.Globals.{reached_registers}
 use Rattle.back_known_calls.proofs.KnownCalls.{site_names}
-use Rattle.back_methods.specs.Methods.{rest_of}
 use Rattle.back_value_forms.specs.Wholes.{PointsKnown}
 use Rattle.back_value_forms.proofs.MethodPlaces.{method_places_law}
 use Rattle.back_value_forms.proofs.Wholes.{point, points_known}
-use Rattle.back_value_calls.specs.NextForms.{next_cost, PaysNext, LawOfNextForms}
+use Rattle.back_value_calls.specs.NextForms.{LawOfNextForms}
 
 never_kept : false ≡ true → ⊥
 never_kept e = absurd (cc e)
@@ -90,13 +90,6 @@ module _ (setting : Setting) (regs : Registers) (d : ℕ) where
     words_there (Some c) x t = λ address e.
         method_there_again setting y.arena y'.arena regs regs (Some d) (Some c) l (let from = stack_same same in omega (arith, from)) (λ r f. refl) t address (x.address_word ∙ e)
 
--- what is paid is there
-paid_there :
-    (setting : Setting) (paid : (count : ℕ) → Chain → ℕ) → PaysNext setting paid → (w : World) (y : MidState) (regs : Registers) (d : ℕ) (called : Option Called)
-    → MethodHeld setting w y.arena false regs (Some d) called → (count : ℕ) → paid count (rest_of called) + next_cost ≤ form_credit
-paid_there setting paid pays w y regs d None h count = pays.none count
-paid_there setting paid pays w y regs d (Some c) h count = pays.some count h.chain c.rest h.chain_stands
-
 -- nothing is between the storing of the site and the call
 nothing_between : (c : Context) (regs : Registers) (y : MidState) (d : ℕ) (arguments ws : List ℕ) → WordsIn regs arguments ws → Between c [] regs y d 0 arguments ws
 nothing_between c regs y d arguments ws there = record {
@@ -109,7 +102,7 @@ nothing_between c regs y d arguments ws there = record {
 
 pub next_forms_law : LawOfNextForms
 unfolding mean lower call_words
-next_forms_law setting k turns p paid pays runs rs valid s d n first w env around z regs y stands begins registers words =
+next_forms_law setting k turns p runs rs valid s d n first w env around z regs y stands begins registers words =
     let known : PointsKnown setting = points_known setting in
     let size : ℕ = length regs in
     let q : Point setting s d n size = point setting k turns rs valid s d n w env around z regs y begins in
@@ -128,14 +121,13 @@ next_forms_law setting k turns p paid pays runs rs valid s d n first w env aroun
     let r = reached_registers setting {credit = 100} (start_at setting s d n size turns b) l.after l.cost l.count l.below l.within in
     let e : Start setting = start_after setting (start_at setting s d n size turns b) d d n (omega arith) (omega arith) (omega arith) begins.first r in
     let x : CallWords l.after d = call_words setting l.after d w y called l.held in
-    let enough = paid_there setting paid pays w y l.after d called l.held x.count in
     let many = l.count in
     ends_sparing setting {c1 = form_credit} (start_at setting s d n size turns q) 1 (omega arith) (omega arith)
     (subst (λ o. EndsAt setting form_credit (start_at setting s d n size turns b) (mean_next (context_at setting k) called around (charged 1 z)) o)
     (sym (parts_then {c = code_at setting k turns} loaded tail (record { same = l.run }) (record { same = refl })).same)
     (behind setting {c1 = 100} {c2 = 500} {c = form_credit} (start_at setting s d n size turns b) d (omega arith) r (omega arith) (omega arith)
-    (sited_calls_law setting k e 500 next_words (paid x.count (rest_of called)) 0 d (d + 3) (d + 4) (next_routine setting.at) [] (d ∷ (d + 1) ∷ (d + 2) ∷ [])
-    (x.chain ∷ x.count ∷ x.address ∷ []) (mean_next (context_at setting k) called around (charged 1 z)) (omega (arith, enough)) (omega arith) (omega arith) (omega arith)
+    (sited_calls_law setting k e 500 next_words next_credit 0 d (d + 3) (d + 4) (next_routine setting.at) [] (d ∷ (d + 1) ∷ (d + 2) ∷ [])
+    (x.chain ∷ x.count ∷ x.address ∷ []) (mean_next (context_at setting k) called around (charged 1 z)) (omega arith) (omega arith) (omega arith) (omega arith)
     (omega (arith, there, many)) words ((nexts {R = FlatLater} {k = later_kept} (context_at setting k) (tasks_below setting k) called around (charged 1 z)).grows)
     (λ g number cost others.
     nothing_between (code_at setting k turns) g (stored_at site_address number cost e.y) d (d ∷ (d + 1) ∷ (d + 2) ∷ []) (x.chain ∷ x.count ∷ x.address ∷ []) (

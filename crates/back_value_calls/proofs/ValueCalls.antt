@@ -1,16 +1,16 @@
 -- A call of a value: its parts run, the words of the arguments are lent, and the routine that applies values is called.
 use Rattle.std.proofs.Common.{◌≡◌, ℕ, ◌+◌, ◌*◌, ◌<◌, ◌≤◌, List, [], ◌∷◌, ◌++◌, length, Some, refl, sym, ap, ◌∙◌, subst, append_assoc, arith}
-use Rattle.std.specs.Prelude.{slice_set, slice_index_or}
+use Rattle.std.specs.Prelude.{slice_set}
 use Rattle.std.proofs.Math.ListN.{length-set}
 use Rattle.lang_meaning.specs.Values.{Value, nil}
 use Rattle.flat_language.specs.FlatForm.{call_value, no_form, form_and}
 use Rattle.flat_language.specs.FlatMeaning.{mean, mean_call_value}
 use Rattle.flat_language.specs.FlatNodes.{count_forms}
-use Rattle.flat_language.specs.FlatState.{FlatState, FlatEvaluated, charged}
+use Rattle.flat_language.specs.FlatState.{FlatEvaluated, charged}
 use Rattle.flat_laws.specs.FlatLater.{FlatLater}
 use Rattle.flat_laws.proofs.Forms.{calls}
 use Rattle.flat_laws.proofs.Later.{later_kept}
-use Rattle.mid_code.specs.Arena.{stack_from, word_in}
+use Rattle.mid_code.specs.Arena.{word_in}
 use Rattle.mid_code.specs.Meaning.{exec}
 use Rattle.mid_code.specs.MidCode.{code_of}
 use Rattle.mid_code.specs.State.{Registers, register, MidState}
@@ -30,9 +30,7 @@ use Rattle.back_relation.specs.Setting.{Setting}
 use Rattle.back_relation.specs.Room.{applying_words}
 use Rattle.back_relation.specs.Placed.{IsPlaced}
 use Rattle.back_relation.specs.Worlds.{World}
-use Rattle.back_relation.specs.Ends.{WorldKept}
 use Rattle.back_relation.specs.Forms.{FormEnds, context_at, code_at}
-use Rattle.back_relation.specs.Procedures.{ArgumentsLent}
 use Rattle.back_relation.specs.RoutineClaims.{WordIs, applying_credit}
 use Rattle.back_combining.specs.Points.{Point, start_at}
 use Rattle.back_combining.specs.Starts.{Start, EndsAt}
@@ -40,8 +38,7 @@ use Rattle.back_combining.proofs.Fitting.{registers_front, registers_behind}
 use Rattle.back_combining.proofs.Growth.{grown_later}
 use Rattle.back_combining.proofs.Parts.{single_step}
 use Rattle.back_combining.proofs.Starts.{start_after, start_charged, ends_sparing, gives_run}
-use Rattle.back_combining.proofs.Then.{same_world}
-use Rattle.back_combining.proofs.Worlds.{word_later, plain_later, stack_same}
+use Rattle.back_combining.proofs.Worlds.{word_later}
 use Rattle.back_arguments.specs.Arguments.{WordsIn}
 use Rattle.back_arguments.proofs.Arguments.{arguments_law}
 use Rattle.back_arguments.proofs.Lists.{argument_lists_law}
@@ -52,27 +49,12 @@ use Rattle.back_calling.proofs.Growing.{tasks_below}
 use Rattle.back_calling.proofs.Sited.{sited_calls_law, reached_sited}
 use Rattle.back_known_calls.proofs.KnownCalls.{site_names}
 use Rattle.back_value_calls.specs.ValueCalls.{AppliesValues, LawOfValueCalls}
+use Rattle.back_methods.proofs.Given.{lent_then}
 use Rattle.back_value_calls.proofs.Words.{Inside, words_lent_to}
 
 pub words_from : (d : ℕ) (ws : List ℕ) (regs : Registers) → WordsIn d ws regs → WordsFrom d ws regs
 words_from d [] regs h = tt
 words_from d (w ∷ ws) regs h = (h.0, words_from (d + 1) ws regs h.1)
-
--- words that were lent go on standing
-pub lent_later :
-    (setting : Setting) {w w' : World} {z z' : FlatState} {y y' : MidState} (address : ℕ) (vs : List Value) → WorldKept setting w w' z z' y y' → stack_from y'.arena ≡ stack_from y.arena
-    → ArgumentsLent setting w y.arena address vs → ArgumentsLent setting w' y'.arena address vs
-lent_later setting address vs k same h = record {
-  low = omega (arith, h.low, same);
-  values = λ i few.
-      let at = h.values i few in
-      record {
-        word = at.word;
-        of_value = word_later k.later (slice_index_or vs i nil) at.word at.of_value;
-        stands = k.stack.words (address + 4 * i) (omega (arith, h.low)) (omega (arith, h.low, same)) (h.plain (4 * i) (omega (arith, few))) ∙ at.stands;
-      };
-  plain = λ n few. plain_later (address + n) k.later (h.plain n few);
-}
 
 module _ (setting : Setting) (placed : IsPlaced setting) (k : ℕ) (a : Start setting) (applies : AppliesValues setting k a.turns) (f : Value) (word : ℕ) (is : WordIs setting a.w word f)
     (held : register a.d a.regs ≡ Some word) (vs : List Value) (ws : List ℕ) (of_values : WordsOf a.w.places vs ws) (many : length vs ≡ length ws) (words_held : WordsFrom (a.d + 1) ws a.regs) where
@@ -128,7 +110,7 @@ module _ (setting : Setting) (placed : IsPlaced setting) (k : ℕ) (a : Start se
       let r = reached_sited setting b a.d number paid paid regs (omega arith) (omega arith) (λ i h. refl) refl in
       applies a.rs a.valid (standing_world w1 y) a.around a.z (stored_at site_address number paid y) f vs word x.address
       (word_later r.kept.world.later f word (ap (λ p. word_of p f) x.places ∙ is))
-      (lent_later setting x.address vs r.kept.world (stack_same (same_world setting r.kept.world r.back)) x.lent))
+      (lent_then setting r.kept.world r.back x.lent))
 
   pub value_applied :
       enough_for (of_code (code_of (call_value_code setting.at setting.program (length ws) a.d a.s.code.site))) ≤ length a.regs → applying_words + (length ws + 2) ≤ a.n
@@ -148,7 +130,7 @@ module _ (setting : Setting) (placed : IsPlaced setting) (k : ℕ) (a : Start se
 
 module _ (setting : Setting) (placed : IsPlaced setting) (k : ℕ) (a : Start setting) (applies : AppliesValues setting k a.turns) (count : ℕ) where
   abbrev whole_credit : ℕ
-  whole_credit = 1282 + 44 * count
+  whole_credit = 842 + 484 * count
 
   -- the words of the function and the arguments are in registers
   pub values_there :
@@ -203,7 +185,7 @@ value_calls_law setting k turns (form_and f fs) placed does applies rs valid s d
     let lists =
     argument_lists_law setting s d n size k turns first (form_and f fs) does stands.stands stands.fits.1 stands.leads stands.placed stands.forms_known begins.first
     (registers_front (one ++ others) after_them size names) (omega (arith, words)) in
-    let total : ℕ = 1282 + 44 * count_forms fs in
+    let total : ℕ = 842 + 484 * count_forms fs in
     ends_sparing setting {c1 = total} (start_at setting s d n size turns p0) units (omega arith) (omega arith)
     (subst
     (λ ss. EndsAt setting total (start_at setting s d n size turns pc) (mean (context_at setting k) (call_value (form_and f fs)) env around z) (exec (code_at setting k turns) (code_of ss) regs y))

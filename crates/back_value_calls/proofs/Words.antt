@@ -275,6 +275,7 @@ module _ (setting : Setting) (placed : IsPlaced setting) (a : Start setting) (k 
     words_lent : ArgumentsLent setting inside y1.arena address_there vs
     words_lent = record {
       low = from_inside;
+      is_word = let fits = small in omega (arith, fits);
       values = λ i few.
           let there = word_there a.w vs ws i of_values (omega (arith, few, many)) in
           record {

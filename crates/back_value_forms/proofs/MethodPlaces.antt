@@ -23,7 +23,8 @@ use Rattle.back_lowering.specs.Leaves.{captured_into, captured_offset}
 use Rattle.back_lowering.specs.Registers.{of_code, enough_for}
 use Rattle.back_lowering.specs.Steps.{Steps, constant, load, compute, if_equal}
 use Rattle.back_relation.specs.Setting.{Setting}
-use Rattle.back_relation.specs.Activation.{FormScope, MethodHeld, MethodThere, in_heap}
+use Rattle.back_relation.specs.Worlds.{World, MethodIs}
+use Rattle.back_relation.specs.Activation.{FormScope, ArgumentsKept, MethodHeld, MethodThere, in_heap}
 use Rattle.back_relation.specs.Forms.{code_at}
 use Rattle.back_combining.specs.Points.{Point}
 use Rattle.back_combining.proofs.Fitting.{registers_behind}
@@ -66,6 +67,10 @@ module _ (regs : Registers) (d a b c : ℕ) (there : d + 2 < length regs) where
   three_below i few =
       set_elsewhere (slice_set (slice_set regs d (Some a)) (d + 1) (Some b)) (d + 2) i (Some c) (λ e. omega (arith, e, few))
       ∙ set_elsewhere (slice_set regs d (Some a)) (d + 1) i (Some b) (λ e. omega (arith, e, few)) ∙ set_elsewhere regs d i (Some a) (λ e. omega (arith, e, few))
+
+-- all arguments of a call that is kept
+kept_whole : (w : World) (start : ℕ) (called : Called) → MethodIs w start called → ArgumentsKept w (start + 8) called.arguments
+kept_whole w start called k = record { number = k.0; start = start; call = called; is_kept = k.1; before = []; arguments = refl; here = omega arith }
 
 module _ (setting : Setting) (s : FormScope) (d m size k turns : ℕ) (q : Point setting s d m size) where
   abbrev con : Context
@@ -279,10 +284,10 @@ module _ (setting : Setting) (s : FormScope) (d m size k turns : ℕ) (q : Point
             arguments_word = arguments_there;
             chain_stands = stood.chain_stands;
             takes = stood.takes;
-            held = in_heap x refl kept;
+            held = in_heap (kept_whole q.w x called kept);
             kept = λ e. absurd (never_kept e);
           };
-          stands = λ y e. let same : x + 8 ≡ y = one_word (register (d + 2) regs6) (x + 8) y arguments_there e in inl (x, sym same, kept);
+          stands = λ y e. let same : x + 8 ≡ y = one_word (register (d + 2) regs6) (x + 8) y arguments_there e in inl (subst (λ a. ArgumentsKept q.w a called.arguments) same (kept_whole q.w x called kept));
           cost = total;
           within = omega (arith, few);
           run = run.same ∙ ap (λ c. ends falls regs6 (record q.y { cost = c })) cost;

@@ -1,5 +1,5 @@
 -- Whether a method is left: the first word of the rest of the chain tells.
-use Rattle.std.proofs.Common.{◌≡◌, ◌⊎◌, inl, inr, ℕ, ◌+◌, ◌*◌, ◌^◌, ◌<◌, ◌≤◌, false, List, [], ◌∷◌, ◌++◌, length, Option, Some, None, refl, sym, ap, ◌∙◌, subst, arith}
+use Rattle.std.proofs.Common.{◌≡◌, ◌⊎◌, inl, inr, ℕ, ◌+◌, ◌%◌, ◌^◌, ◌<◌, ◌≤◌, false, List, [], ◌∷◌, ◌++◌, length, Option, Some, None, refl, sym, ap, ◌∙◌, subst, arith}
 use Rattle.std.specs.Prelude.{slice_get, slice_set}
 use Rattle.std.proofs.lemmas.Bool.{eq-eqb, ne_eqb}
 use Rattle.std.proofs.lemmas.Option.{slice_get_within}
@@ -38,6 +38,7 @@ use Rattle.back_combining.specs.Points.{Point, start_at, Here}
 use Rattle.back_combining.specs.Starts.{Start, EndsAt, ReachedFrom}
 use Rattle.back_combining.proofs.Fitting.{registers_front, registers_behind}
 use Rattle.back_combining.proofs.Starts.{start_charged, ends_sparing}
+use Rattle.back_chains.proofs.Words.{has_first}
 use Rattle.back_globals.proofs.Globals.{reached_registers}
 use Rattle.back_values.specs.Variables.{CapturedByFunctions}
 use Rattle.back_values.proofs.Far.{load_from_runs}
@@ -62,14 +63,14 @@ no_list x xs e = absurd (cc e)
 first_word :
     (setting : Setting) (address : ℕ) (ar be af pr : List ℕ) → ConstantsAt setting address (chain_words (record { around = ar; before = be; primary = pr; after = af }))
     → (pr ≡ [] → (ar ≡ []) × (be ≡ []) × (af ≡ [])) → FirstWord setting address pr
+first_word setting address ar be af (p ∷ ps) h none =
+    let f = has_first (record { around = ar; before = be; primary = p ∷ ps; after = af }) (λ e. no_list p ps e) in
+    let words : ConstantsAt setting address (f.first ∷ f.others) = subst (λ l. ConstantsAt setting address l) f.is h in
+    record { word = f.first; stands = words.0; which = inr ((p, (ps, refl)), λ e. f.no_end (ap (λ w. w % 8) e)) }
 first_word setting address [] [] [] [] h none = record { word = chain_end; stands = h.0; which = inl (refl, refl) }
-first_word setting address [] [] [] (p ∷ ps) h none = record { word = 8 * p + 3; stands = h.0; which = inr ((p, (ps, refl)), λ e. omega (arith, e)) }
 first_word setting address (a ∷ ar) be af [] h none = absurd (no_list a ar (none refl).0)
-first_word setting address (a ∷ ar) be af (p ∷ ps) h none = record { word = 8 * a + 0; stands = h.0; which = inr ((p, (ps, refl)), λ e. omega (arith, e)) }
 first_word setting address [] (b ∷ be) af [] h none = absurd (no_list b be (none refl).1)
-first_word setting address [] (b ∷ be) af (p ∷ ps) h none = record { word = 8 * b + 1; stands = h.0; which = inr ((p, (ps, refl)), λ e. omega (arith, e)) }
 first_word setting address [] [] (x ∷ af) [] h none = absurd (no_list x af (none refl).2)
-first_word setting address [] [] (x ∷ af) (p ∷ ps) h none = record { word = 8 * x + 2; stands = h.0; which = inr ((p, (ps, refl)), λ e. omega (arith, e)) }
 
 next_is : (called : Called) (l : List ℕ) → called.rest.primary ≡ l → is_next (Some called) ≡ is_next (Some (record called { rest = record called.rest { primary = l } }))
 next_is called l e = ap (λ (x : List ℕ). is_next (Some (record called { rest = record called.rest { primary = x } }))) e

@@ -38,6 +38,7 @@ use Rattle.back_globals.proofs.Globals.{globals_law, setting_globals_law, defini
 use Rattle.back_values.specs.Bindings.{forms_of}
 use Rattle.back_values.specs.Variables.{KnownPlace}
 use Rattle.back_values.proofs.Bindings.{bindings_steps, bindings_law}
+use Rattle.back_values.proofs.CapturedWords.{by_functions}
 use Rattle.back_values.proofs.SetVariables.{setting_law}
 use Rattle.back_values.proofs.Variables.{variables_law}
 use Rattle.back_value_forms.specs.Wholes.{PointsKnown, LawOfWholeVariables, LawOfWholeSetting, LawOfWholeBindings, LawOfWholeFunctions, LawOfWholeGlobals, LawOfWholeSettingGlobals, LawOfWholeDefinitions, LawOfWholeJudging, LawOfJudgedForms, IsByValue}
@@ -86,7 +87,7 @@ module _ (setting : Setting) where
 -- all points are known
 pub points_known : (setting : Setting) → PointsKnown setting
 points_known setting = record {
-  functions = λ s d m size q. q.begins.call.things.captured;
+  functions = λ s d m size q. by_functions setting q.begins.call.things;
   homes = λ s d m size q. q.begins.activation.home_count ∙ sym q.begins.activation.slot_count;
 }
 

@@ -1,5 +1,5 @@
 -- The laws of variables, bindings, global variables and functions, wherever the forms stand.
-use Rattle.std.specs.Prelude.{◌≡◌, ⊤, ℕ, ◌+◌, ◌<◌, ◌≤◌, List}
+use Rattle.std.specs.Prelude.{◌≡◌, ⊤, ℕ, List}
 use Rattle.lang_meaning.specs.State.{DynamicContext}
 use Rattle.flat_language.specs.declared.place.FlatCapture.{FlatCapture}
 use Rattle.flat_language.specs.declared.place.VariablePlace.{VariablePlace}

@@ -75,6 +75,10 @@ pub record PartThere (w : World) (a : Arena) (self : Option ℕ) (n : ℕ) (c : 
   pub inside : pointer + captured_offset n < a.heap_to
   pub at : PartAt w a (pointer + captured_offset n) c
 
+-- captured parts stand under the numbers of functions
+pub by_functions : (setting : Setting) {w : World} {z : FlatState} {y : MidState} → Things setting w z y → CapturedByFunctions z
+by_functions setting t i cs e = let at = t.captured i cs e in (at.0, at.1)
+
 pub part_there :
     (setting : Setting) {w : World} {z : FlatState} {y : MidState} → Things setting w z y → CapturedByFunctions z → (self : Option ℕ) (cs : List Captured)
     → SelfHeld w z.captured self cs → (n : ℕ) (c : Captured) → slice_get cs n ≡ Some c → PartThere w y.arena self n c

@@ -1,5 +1,5 @@
 -- Worked programs with generic functions, and the words that stand for these.
-use Rattle.std.specs.Prelude.{ℕ, pos, ◌+◌, ◌*◌, false, List, [], ◌∷◌, ◌++◌, replicate}
+use Rattle.std.specs.Prelude.{ℕ, pos, ◌+◌, ◌*◌, false, List, [], ◌∷◌, ◌++◌, length, replicate}
 use Rattle.lang_meaning.specs.declared.capture.Capture.TheVariants.{Method}
 use Rattle.lang_meaning.specs.declared.program.LiteralRow.TheVariants as row
 use Rattle.lang_meaning.specs.declared.program.Callee.TheVariants as callee
@@ -21,7 +21,7 @@ use Rattle.back_worked.specs.Start.{symbol_word, rest_from, DoesWith}
 abbrev pub one_argument : (at symbol : ℕ) → (first second : List ℕ) → List ℕ
 one_argument at symbol first second =
     2 ∷ symbol ∷ 1 ∷ 0 ∷ (at + 32)
-    ∷ 0 ∷ (at + 176) ∷ (at + 176 + 16)
+    ∷ 0 ∷ (at + 176) ∷ (at + 176 + 4 * length first)
     ∷ (replicate 34 0 ++ (4 ∷ 8 ∷ (first ++ second)))
 
 abbrev pub here : List (List ℕ) → ProgramRows → ℕ
@@ -32,7 +32,7 @@ abbrev pub InOrder : Type 0
 InOrder =
     MethodsInOrder (DoesWith (here ((103 ∷ []) ∷ []) methods_in_order ∷ [])
     (one_argument (here ((103 ∷ []) ∷ []) methods_in_order) (symbol_word ((103 ∷ []) ∷ []) (flat_program methods_in_order) 0)
-    (17 ∷ 34 ∷ 3 ∷ 4 ∷ []) (48 ∷ 25 ∷ 17 ∷ 34 ∷ 42 ∷ 11 ∷ 3 ∷ 4 ∷ [])))
+    (101 ∷ 17 ∷ 34 ∷ 3 ∷ 4 ∷ []) (48 ∷ 165 ∷ 25 ∷ 17 ∷ 34 ∷ 42 ∷ 11 ∷ 3 ∷ 4 ∷ [])))
 
 abbrev pub g_names : List (List ℕ)
 g_names = (103 ∷ []) ∷ []

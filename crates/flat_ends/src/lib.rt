@@ -3,4 +3,7 @@
 
 pub mod laws;
 
-pub use laws::{law_ends, law_main_ends};
+pub use laws::{
+    law_ends, law_final_signals, law_made_exits, law_main_ends, law_signals_behind, law_sites,
+    law_unnamed_exits,
+};

@@ -25,8 +25,7 @@ use Rattle.mid_arena.specs.Standing.{SlotAt}
 use Rattle.mid_arena.specs.FixedWords.{class_address}
 use Rattle.mid_arena.specs.Layouts.{InstanceAt}
 use Rattle.mid_arena.specs.Represents.{Represents}
-use Rattle.mid_arena.specs.Answers.{IsPrimitive, units_after}
-use Rattle.mid_arena.specs.Codes.{procedure_of}
+use Rattle.mid_arena.specs.Answers.{units_after}
 use Rattle.mid_arena.specs.Steps as steps
 use Rattle.mid_arena.proofs.Keeping.{same_word}
 use Rattle.mid_arena.proofs.WordFacts.{truth_bit}
@@ -45,6 +44,7 @@ use Rattle.mid_arena.proofs.Lists.{replicated}
 use Rattle.mid_arena.proofs.Filling.{filling_code, filling_ends}
 use Rattle.mid_arena.proofs.Memory.{heap_below, stands_with_heap}
 use Rattle.mid_arena.proofs.Telling.{truth_told}
+use Rattle.mid_arena.proofs.Entering.{InEveryFrame}
 
 module _ (names : List (List ℕ)) (program : ProgramRows) (places : Places) (z : meaning.State) (y : MidState) (r : Represents names program places z y) where
   -- the bit of a condition
@@ -253,7 +253,7 @@ module _
             (second_answers names program places z y procedures below refl refl (tested ∙ e)
             (signal_run names program places z y r procedures below n budget _ program_error_class z _ refl of_program (alike_self z) (omega (arith, cost))))
 
-pub allocate_does : IsPrimitive Allocate (procedure_of Allocate)
+pub allocate_does : InEveryFrame Allocate
 allocate_does = does_one Allocate refl (λ v w names program places z y procedures below n r are units.
     class_needed names program places z y r procedures below n (y.cost + 130 + 244 * 1) y.cost 0 w v (λ c. allocation program c z) making (first_registers 8 (w ∷ []))
     (omega arith) refl refl are.0 (omega arith)

@@ -19,8 +19,6 @@ use Rattle.mid_arena.specs.Tags.{integer_word, character_word}
 use Rattle.mid_arena.specs.Places.{Places, word_of}
 use Rattle.mid_arena.specs.FixedWords.{class_address}
 use Rattle.mid_arena.specs.Represents.{Represents}
-use Rattle.mid_arena.specs.Answers.{IsPrimitive}
-use Rattle.mid_arena.specs.Codes.{procedure_of}
 use Rattle.mid_arena.specs.Steps as steps
 use Rattle.mid_arena.proofs.WordFacts.{in_range_is, byte_tested, byte_word, character_integer, character_of_integer}
 use Rattle.mid_arena.proofs.Running.{constant_falls, compute_falls}
@@ -30,6 +28,7 @@ use Rattle.mid_arena.proofs.Checking.{tag_registers, integer_needed, character_n
 use Rattle.mid_arena.proofs.Integers.{returns_integer}
 use Rattle.mid_arena.proofs.Taking.{one_register, does_one}
 use Rattle.mid_arena.proofs.Arguments.{character_word_there}
+use Rattle.mid_arena.proofs.Entering.{InEveryFrame}
 
 -- the lines behind the test of the argument
 abbrev coding : List MidStep
@@ -45,7 +44,7 @@ abbrev testing : List MidStep
 testing =
     steps.constant 6 1024 ∷ steps.either (steps.comparing comparison.LessUnsigned 0 6) [] (steps.domain_error 0 (pos (class_address integer_class))) ∷ decoding
 
-pub char_code_does : IsPrimitive CharCode (procedure_of CharCode)
+pub char_code_does : InEveryFrame CharCode
 char_code_does = does_one CharCode refl (λ v a names program places z y procedures below n r are units.
     character_needed names program places z y r procedures below n (y.cost + 130 + 244 * 1) y.cost 0 a v (λ c. result (integer (pos c)) z) coding (one_register a)
     (omega arith) refl refl are.0 (omega arith)
@@ -93,7 +92,7 @@ module _
             (returns_value names program places z y procedures below r (ap (λ x. Some x) found) (character_word_there places c is.1) (alike_self z)
             (omega (arith, cost)))))))))
 
-pub code_char_does : IsPrimitive CodeChar (procedure_of CodeChar)
+pub code_char_does : InEveryFrame CodeChar
 code_char_does = does_one CodeChar refl (λ v a names program places z y procedures below n r are units.
     integer_needed names program places z y r procedures below n (y.cost + 130 + 244 * 1) y.cost 0 a v
     (λ i. needs (byte_of i) (domain_error v integer_class z) (λ c. result (character c) z)) testing (one_register a)

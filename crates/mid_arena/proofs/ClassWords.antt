@@ -19,8 +19,6 @@ use Rattle.mid_arena.specs.Places.{Spot, Places, word_of}
 use Rattle.mid_arena.specs.Standing.{SpotStands}
 use Rattle.mid_arena.specs.Layouts.{ObjectAt}
 use Rattle.mid_arena.specs.FixedWords.{class_address}
-use Rattle.mid_arena.specs.Answers.{IsPrimitive}
-use Rattle.mid_arena.specs.Codes.{procedure_of}
 use Rattle.mid_arena.specs.Steps as steps
 use Rattle.mid_arena.specs.Steps.{class_of_object, class_word}
 use Rattle.mid_arena.proofs.Keeping.{header_of}
@@ -35,6 +33,7 @@ use Rattle.mid_arena.proofs.ClassHeaders.{finds_of_instance, finds_of_other}
 use Rattle.mid_arena.proofs.Telling.{character_not_nil}
 use Rattle.mid_arena.proofs.Registers.{register_beside, register_here, same_size}
 use Rattle.mid_arena.proofs.Memory.{spot_low}
+use Rattle.mid_arena.proofs.Entering.{InEveryFrame}
 
 module _ {names : List (List ℕ)} {program : ProgramRows} {places : Places} {z : meaning.State} {y : MidState} (here : Seeking names program places z y) where
   -- ---- by the tag
@@ -209,7 +208,7 @@ module _ {names : List (List ℕ)} {program : ProgramRows} {places : Places} {z 
 
 -- ---- the primitive that gives the class of a value
 
-pub class_of_does : IsPrimitive ClassOf (procedure_of ClassOf)
+pub class_of_does : InEveryFrame ClassOf
 class_of_does = does_one ClassOf refl (λ v w names program places z y procedures below n r are units.
     let here : Seeking names program places z y = seeking_first r procedures below n w (first_registers 8 (w ∷ [])) refl in
     let f = class_of_found here {k = y.cost} v are.0 refl in

@@ -22,8 +22,6 @@ use Rattle.mid_arena.specs.Standing.{ArenaStands, SpotStands, ValueAt}
 use Rattle.mid_arena.specs.FixedWords.{class_address}
 use Rattle.mid_arena.specs.Layouts.{ConsAt, ObjectAt}
 use Rattle.mid_arena.specs.Represents.{Represents}
-use Rattle.mid_arena.specs.Answers.{IsPrimitive}
-use Rattle.mid_arena.specs.Codes.{procedure_of}
 use Rattle.mid_arena.specs.Steps as steps
 use Rattle.mid_arena.proofs.Running.{constant_falls, compute_known, load_falls, store_in_heap, request_falls, request_wanting}
 use Rattle.mid_arena.proofs.Running.{and_then, and_ends, return_ends, address_here, address_up, address_above, address_below}
@@ -37,6 +35,7 @@ use Rattle.mid_arena.proofs.Checking.{tag_registers, cons_needed}
 use Rattle.mid_arena.proofs.Arrays.{stores_changed}
 use Rattle.mid_arena.proofs.Taking.{does_one, does_two}
 use Rattle.mid_arena.proofs.WordFacts.{sum_fits}
+use Rattle.mid_arena.proofs.Entering.{InEveryFrame}
 
 -- ---- the parts of a cons
 
@@ -103,11 +102,11 @@ module _
         goes_on names program places z y procedures below (load_falls refl (part_address part v w car cdr it) at.stands)
         (returns_value names program places z y procedures below r refl at.of_value (alike_self z) (omega arith)))
 
-pub car_does : IsPrimitive Car (procedure_of Car)
+pub car_does : InEveryFrame Car
 car_does = does_one Car refl (λ v w names program places z y procedures below n r are units.
     takes_part names program places z y r procedures below n w v first_part are.0)
 
-pub cdr_does : IsPrimitive Cdr (procedure_of Cdr)
+pub cdr_does : InEveryFrame Cdr
 cdr_does = does_one Cdr refl (λ v w names program places z y procedures below n r are units.
     takes_part names program places z y r procedures below n w v second_part are.0)
 
@@ -170,11 +169,11 @@ module _
         stores_part n (y.cost + 130 + 244 * 2) (y.cost + 6 + 10 + 6 + 12 + 2) a w v u car cdr part (tag_registers w (2 ^ 30) (first_registers 8 (a ∷ w ∷ [])))
         first second found refl refl (omega arith))
 
-pub set_car_does : IsPrimitive SetCar (procedure_of SetCar)
+pub set_car_does : InEveryFrame SetCar
 set_car_does = does_two SetCar refl (λ v u a w names program places z y procedures below n r are units.
     sets_part names program places z y r procedures below n a w v u first_part are.0 are.1.0)
 
-pub set_cdr_does : IsPrimitive SetCdr (procedure_of SetCdr)
+pub set_cdr_does : InEveryFrame SetCdr
 set_cdr_does = does_two SetCdr refl (λ v u a w names program places z y procedures below n r are units.
     sets_part names program places z y r procedures below n a w v u second_part are.0 are.1.0)
 
@@ -240,6 +239,6 @@ module _
                 (alike_self z) (begun_grows 2 (a ∷ b ∷ []) r.arena room (omega arith)) refl refl refl refl (omega arith) (cons_stands room) tt (omega arith);
           }
 
-pub cons_does : IsPrimitive Cons (procedure_of Cons)
+pub cons_does : InEveryFrame Cons
 cons_does = does_two Cons refl (λ v u a b names program places z y procedures below n r are units.
     makes_cons names program places z y r procedures below n a b v u are.0 are.1.0 (room_for 2 y.arena))

@@ -18,8 +18,6 @@ use Rattle.mid_arena.specs.Tags.{integer_word}
 use Rattle.mid_arena.specs.Places.{Places}
 use Rattle.mid_arena.specs.FixedWords.{class_address}
 use Rattle.mid_arena.specs.Represents.{Represents}
-use Rattle.mid_arena.specs.Answers.{IsPrimitive}
-use Rattle.mid_arena.specs.Codes.{procedure_of}
 use Rattle.mid_arena.specs.Steps as steps
 use Rattle.mid_arena.proofs.WordFacts.{integer_is_zero}
 use Rattle.mid_arena.proofs.ArithmeticDivision.{short_correction_word, quotient_number, correction_is, short_correction_is, quotient_in_range, quotient_is, modulo_is, floor_remainder_in_range}
@@ -28,6 +26,7 @@ use Rattle.mid_arena.proofs.Doing.{Run, goes_on}
 use Rattle.mid_arena.proofs.Conditions.{division_by_zero}
 use Rattle.mid_arena.proofs.Taking.{does_two}
 use Rattle.mid_arena.proofs.Integers.{integer_registers, integers_needed, signals_unless, unless_overflow, returns_integer}
+use Rattle.mid_arena.proofs.Entering.{InEveryFrame}
 
 -- the quotient and the remainder as the code has them
 module _ (i j : ℤ) (g : in_range i ≡ true) (h : in_range j ≡ true) (some : int_equal j (pos 0) ≡ false) where
@@ -89,7 +88,7 @@ module _
         by_false true e h = rw e refl
         by_false false e h = absurd (cc h)
 
-pub divide_does : IsPrimitive Divide (procedure_of Divide)
+pub divide_does : InEveryFrame Divide
 divide_does = does_two Divide refl (λ v w a b names program places z y procedures below n r are units.
     integers_needed names program places z y r procedures below n (y.cost + 130 + 244 * 2) y.cost a b v w (λ i j z'. division floor_quotient i j z') (need_divisor dividing)
     are.0 are.1.0 (omega arith)
@@ -109,7 +108,7 @@ divide_does = does_two Divide refl (λ v w a b names program places z y procedur
     (goes_on names program places z y procedures below (compute_falls refl refl)
     (returns_integer names program places z y r procedures below n _ _ 3 _ (floor_quotient i j) _ refl (quotient_is i j g h some) range (omega arith)))))))))))))
 
-pub modulo_does : IsPrimitive Modulo (procedure_of Modulo)
+pub modulo_does : InEveryFrame Modulo
 modulo_does = does_two Modulo refl (λ v w a b names program places z y procedures below n r are units.
     integers_needed names program places z y r procedures below n (y.cost + 130 + 244 * 2) y.cost a b v w (λ i j z'. division floor_remainder i j z') (need_divisor taking_remainder)
     are.0 are.1.0 (omega arith)

@@ -9,7 +9,7 @@ use Rattle.lang_meaning.specs.declared.primitive.Primitive.TheVariants.{SlotPlac
 use Rattle.lang_meaning.specs.declared.primitive.Primitive.TheVariants.{IsFreshLine, GetByte, PeekByte}
 use Rattle.mid_code.specs.Checked.{is_checked}
 use Rattle.mid_arena.specs.Answers.{IsPrimitive}
-use Rattle.mid_arena.specs.Codes.{procedure_of}
+use Rattle.mid_arena.specs.Codes.{frame_words, procedure_of}
 use Rattle.mid_arena.specs.CodeCosts.{procedure_cost, cost_of}
 use Rattle.mid_arena.specs.Steps.{hand_over, signal, domain_error, need_header, class_by_header, class_of_object, class_word}
 use Rattle.mid_arena.proofs.Allocating.{allocate_does}
@@ -23,6 +23,7 @@ use Rattle.mid_arena.proofs.Integers.{number_less_does, number_at_most_does, num
 use Rattle.mid_arena.proofs.MakeStrings.{make_string_does}
 use Rattle.mid_arena.proofs.MakeVectors.{make_vector_does}
 use Rattle.mid_arena.proofs.Predicates.{same_does, is_null_does, is_cons_does, is_integer_does, is_symbol_does, is_character_does, is_string_does, is_vector_does, is_function_does, is_generic_does}
+use Rattle.mid_arena.proofs.Entering.{InEveryFrame}
 use Rattle.mid_arena.proofs.Printing.{put_char_does}
 use Rattle.mid_arena.proofs.SlotPlaces.{slot_place_does}
 use Rattle.mid_arena.proofs.SlotRows.{slot_initargs_does, slot_initform_does, continuable_does}
@@ -35,65 +36,69 @@ use Rattle.mid_arena.proofs.SymbolNames.{symbol_name_does}
 use Rattle.mid_arena.proofs.SymbolSerials.{symbol_serial_does}
 use Rattle.mid_arena.proofs.VectorElements.{vector_length_does, vector_ref_does, set_vector_ref_does}
 
+pub each_in_frames : (which : Primitive) → InEveryFrame which
+each_in_frames Add = add_does
+each_in_frames Subtract = subtract_does
+each_in_frames Multiply = multiply_does
+each_in_frames Divide = divide_does
+each_in_frames Modulo = modulo_does
+each_in_frames NumberEqual = number_equal_does
+each_in_frames NumberNotEqual = number_not_equal_does
+each_in_frames NumberLess = number_less_does
+each_in_frames NumberAtMost = number_at_most_does
+each_in_frames NumberGreater = number_greater_does
+each_in_frames NumberAtLeast = number_at_least_does
+each_in_frames Same = same_does
+each_in_frames IsNull = is_null_does
+each_in_frames IsCons = is_cons_does
+each_in_frames IsInteger = is_integer_does
+each_in_frames IsSymbol = is_symbol_does
+each_in_frames IsCharacter = is_character_does
+each_in_frames IsString = is_string_does
+each_in_frames IsVector = is_vector_does
+each_in_frames IsFunction = is_function_does
+each_in_frames IsGeneric = is_generic_does
+each_in_frames Cons = cons_does
+each_in_frames Car = car_does
+each_in_frames Cdr = cdr_does
+each_in_frames SetCar = set_car_does
+each_in_frames SetCdr = set_cdr_does
+each_in_frames MakeString = make_string_does
+each_in_frames MakeVector = make_vector_does
+each_in_frames StringLength = string_length_does
+each_in_frames VectorLength = vector_length_does
+each_in_frames CharAt = char_at_does
+each_in_frames VectorRef = vector_ref_does
+each_in_frames SetCharAt = set_char_at_does
+each_in_frames SetVectorRef = set_vector_ref_does
+each_in_frames CharCode = char_code_does
+each_in_frames CodeChar = code_char_does
+each_in_frames SymbolName = symbol_name_does
+each_in_frames SymbolSerial = symbol_serial_does
+each_in_frames Gensym = gensym_does
+each_in_frames ClassOf = class_of_does
+each_in_frames ClassName = class_name_does
+each_in_frames IsSubclass = is_subclass_does
+each_in_frames IsInstance = is_instance_does
+each_in_frames Allocate = allocate_does
+each_in_frames SlotCount = slot_count_does
+each_in_frames SlotPlace = slot_place_does
+each_in_frames SlotRef = slot_ref_does
+each_in_frames SlotSet = slot_set_does
+each_in_frames SlotBound = slot_bound_does
+each_in_frames SlotInitargs = slot_initargs_does
+each_in_frames SlotInitform = slot_initform_does
+each_in_frames Continuable = continuable_does
+each_in_frames StandardInput = standard_input_does
+each_in_frames StandardOutput = standard_output_does
+each_in_frames PutChar = put_char_does
+each_in_frames IsFreshLine = is_fresh_line_does
+each_in_frames GetByte = get_byte_does
+each_in_frames PeekByte = peek_byte_does
+
+-- so does the one that is given
 pub each_does : (which : Primitive) → IsPrimitive which (procedure_of which)
-each_does Add = add_does
-each_does Subtract = subtract_does
-each_does Multiply = multiply_does
-each_does Divide = divide_does
-each_does Modulo = modulo_does
-each_does NumberEqual = number_equal_does
-each_does NumberNotEqual = number_not_equal_does
-each_does NumberLess = number_less_does
-each_does NumberAtMost = number_at_most_does
-each_does NumberGreater = number_greater_does
-each_does NumberAtLeast = number_at_least_does
-each_does Same = same_does
-each_does IsNull = is_null_does
-each_does IsCons = is_cons_does
-each_does IsInteger = is_integer_does
-each_does IsSymbol = is_symbol_does
-each_does IsCharacter = is_character_does
-each_does IsString = is_string_does
-each_does IsVector = is_vector_does
-each_does IsFunction = is_function_does
-each_does IsGeneric = is_generic_does
-each_does Cons = cons_does
-each_does Car = car_does
-each_does Cdr = cdr_does
-each_does SetCar = set_car_does
-each_does SetCdr = set_cdr_does
-each_does MakeString = make_string_does
-each_does MakeVector = make_vector_does
-each_does StringLength = string_length_does
-each_does VectorLength = vector_length_does
-each_does CharAt = char_at_does
-each_does VectorRef = vector_ref_does
-each_does SetCharAt = set_char_at_does
-each_does SetVectorRef = set_vector_ref_does
-each_does CharCode = char_code_does
-each_does CodeChar = code_char_does
-each_does SymbolName = symbol_name_does
-each_does SymbolSerial = symbol_serial_does
-each_does Gensym = gensym_does
-each_does ClassOf = class_of_does
-each_does ClassName = class_name_does
-each_does IsSubclass = is_subclass_does
-each_does IsInstance = is_instance_does
-each_does Allocate = allocate_does
-each_does SlotCount = slot_count_does
-each_does SlotPlace = slot_place_does
-each_does SlotRef = slot_ref_does
-each_does SlotSet = slot_set_does
-each_does SlotBound = slot_bound_does
-each_does SlotInitargs = slot_initargs_does
-each_does SlotInitform = slot_initform_does
-each_does Continuable = continuable_does
-each_does StandardInput = standard_input_does
-each_does StandardOutput = standard_output_does
-each_does PutChar = put_char_does
-each_does IsFreshLine = is_fresh_line_does
-each_does GetByte = get_byte_does
-each_does PeekByte = peek_byte_does
+each_does which = each_in_frames which frame_words
 
 -- the code of each is in form
 pub each_checked : (which : Primitive) → is_checked (procedure_of which) ≡ true

@@ -17,8 +17,8 @@ use Rattle.mid_arena.specs.Places.{Spot, Places, with_object}
 use Rattle.mid_arena.specs.FixedWords.{serial_address}
 use Rattle.mid_arena.specs.Layouts.{PairAt}
 use Rattle.mid_arena.specs.Represents.{Represents}
-use Rattle.mid_arena.specs.Answers.{Done, done, IsPrimitive}
-use Rattle.mid_arena.specs.Codes.{code_of_primitive, procedure_of}
+use Rattle.mid_arena.specs.Answers.{Done, done}
+use Rattle.mid_arena.specs.Codes.{code_of_primitive}
 use Rattle.mid_arena.proofs.Memory.{heap_below}
 use Rattle.mid_arena.specs.Growing.{Changes, Grows}
 use Rattle.mid_arena.proofs.WordFacts.{next_serial}
@@ -31,6 +31,7 @@ use Rattle.mid_arena.proofs.Making.{changes_stored, fixed_below, answers_wanting
 use Rattle.mid_arena.proofs.Making.{represents_new, pointer_made}
 use Rattle.mid_arena.proofs.Doing.{alike_self, Run, paid}
 use Rattle.mid_arena.proofs.Taking.{does_none}
+use Rattle.mid_arena.proofs.Entering.{InEveryFrame}
 
 -- the word of the serial that comes next, and that of the one behind it
 abbrev serial_word : meaning.State → ℕ
@@ -169,5 +170,5 @@ module _
           answers = record { comes = done (gensym_done names program places z y r room _ (y.cost + 154)); cost = omega arith };
         }
 
-pub gensym_does : IsPrimitive Gensym (procedure_of Gensym)
+pub gensym_does : InEveryFrame Gensym
 gensym_does = does_none Gensym refl (λ names program places z y procedures below n r are units. gensym_run names program places z y r procedures below n)

@@ -20,8 +20,6 @@ use Rattle.mid_arena.specs.Tags.{integer_word}
 use Rattle.mid_arena.specs.Places.{Places, word_of}
 use Rattle.mid_arena.specs.FixedWords.{class_address}
 use Rattle.mid_arena.specs.Represents.{Represents}
-use Rattle.mid_arena.specs.Answers.{IsPrimitive}
-use Rattle.mid_arena.specs.Codes.{procedure_of}
 use Rattle.mid_arena.specs.Steps as steps
 use Rattle.mid_arena.specs.declared.line.Line.TheVariants as line
 use Rattle.mid_arena.proofs.WordFacts.{integers_compare_equal, integers_compare_different, integers_compare_less, integers_compare_at_least, integers_compare_at_most, not_below}
@@ -35,6 +33,7 @@ use Rattle.mid_arena.proofs.Taking.{two_registers, does_two}
 use Rattle.mid_arena.proofs.Saying.{says_run}
 use Rattle.mid_arena.proofs.Arguments.{integer_word_there}
 use Rattle.mid_arena.specs.Steps.{steps_of}
+use Rattle.mid_arena.proofs.Entering.{InEveryFrame}
 
 -- the registers where both arguments are integers
 abbrev pub integer_registers : ℕ → ℕ → Registers
@@ -118,28 +117,28 @@ comparison_run names program places z y procedures below n v w a b t holds s r f
     s.first_other s.second_other (s.first_there (integer_word i) (integer_word j)) (s.second_there (integer_word i) (integer_word j)) (s.tells i j i_range j_range)
     (alike_self z) (omega arith))
 
-pub number_equal_does : IsPrimitive NumberEqual (procedure_of NumberEqual)
+pub number_equal_does : InEveryFrame NumberEqual
 number_equal_does = does_two NumberEqual refl (λ v w a b names program places z y procedures below n r are units.
     comparison_run names program places z y procedures below n v w a b _ int_equal (in_order comparison.Equal int_equal integers_compare_equal) r are.0 are.1.0)
 
-pub number_not_equal_does : IsPrimitive NumberNotEqual (procedure_of NumberNotEqual)
+pub number_not_equal_does : InEveryFrame NumberNotEqual
 number_not_equal_does = does_two NumberNotEqual refl (λ v w a b names program places z y procedures below n r are units.
     comparison_run names program places z y procedures below n v w a b _ (λ i j. not (int_equal i j)) (in_order comparison.Different _ integers_compare_different) r are.0 are.1.0)
 
-pub number_less_does : IsPrimitive NumberLess (procedure_of NumberLess)
+pub number_less_does : InEveryFrame NumberLess
 number_less_does = does_two NumberLess refl (λ v w a b names program places z y procedures below n r are units.
     comparison_run names program places z y procedures below n v w a b _ int_lt (in_order comparison.Less int_lt integers_compare_less) r are.0 are.1.0)
 
-pub number_at_most_does : IsPrimitive NumberAtMost (procedure_of NumberAtMost)
+pub number_at_most_does : InEveryFrame NumberAtMost
 number_at_most_does = does_two NumberAtMost refl (λ v w a b names program places z y procedures below n r are units.
     comparison_run names program places z y procedures below n v w a b _ int_le (turned comparison.AtLeast int_le integers_compare_at_most) r are.0 are.1.0)
 
-pub number_greater_does : IsPrimitive NumberGreater (procedure_of NumberGreater)
+pub number_greater_does : InEveryFrame NumberGreater
 number_greater_does = does_two NumberGreater refl (λ v w a b names program places z y procedures below n r are units.
     comparison_run names program places z y procedures below n v w a b _ (λ i j. int_lt j i)
     (turned comparison.Less (λ i j. int_lt j i) (λ i j g h. integers_compare_less j i h g)) r are.0 are.1.0)
 
-pub number_at_least_does : IsPrimitive NumberAtLeast (procedure_of NumberAtLeast)
+pub number_at_least_does : InEveryFrame NumberAtLeast
 number_at_least_does = does_two NumberAtLeast refl (λ v w a b names program places z y procedures below n r are units.
     comparison_run names program places z y procedures below n v w a b _ (λ i j. int_le j i)
     (in_order comparison.AtLeast (λ i j. int_le j i) (λ i j g h. integers_compare_at_least i j g h ∙ not_below i j)) r are.0 are.1.0)
@@ -211,7 +210,7 @@ multiplying =
     steps.constant 6 2 ∷ steps.compute 3 which.ShiftRightSigned 0 6 ∷ steps.compute 4 which.MultiplyHigh 3 1 ∷ steps.compute 3 which.Multiply 3 1
     ∷ steps.constant 6 31 ∷ steps.compute 5 which.ShiftRightSigned 3 6 ∷ ending
 
-pub add_does : IsPrimitive Add (procedure_of Add)
+pub add_does : InEveryFrame Add
 add_does = does_two Add refl (λ v w a b names program places z y procedures below n r are units.
     integers_needed names program places z y r procedures below n (y.cost + 130 + 244 * 2) y.cost a b v w (λ i j z'. integer_result (i +ℤ j) z') adding are.0 are.1.0 (omega arith)
     (λ i j i_range j_range.
@@ -221,7 +220,7 @@ add_does = does_two Add refl (λ v w a b names program places z y procedures bel
     (goes_on names program places z y procedures below (compute_falls refl refl)
     (ending_run names program places z y r procedures below n _ _ _ _ _ (i +ℤ j) _ refl refl refl refl (sum_is i j) (sum_in_range i j i_range j_range) (omega arith)))))))
 
-pub subtract_does : IsPrimitive Subtract (procedure_of Subtract)
+pub subtract_does : InEveryFrame Subtract
 subtract_does = does_two Subtract refl (λ v w a b names program places z y procedures below n r are units.
     integers_needed names program places z y r procedures below n (y.cost + 130 + 244 * 2) y.cost a b v w (λ i j z'. integer_result (i -ℤ j) z') subtracting are.0 are.1.0 (omega arith)
     (λ i j i_range j_range.
@@ -232,7 +231,7 @@ subtract_does = does_two Subtract refl (λ v w a b names program places z y proc
     (ending_run names program places z y r procedures below n _ _ _ _ _ (i -ℤ j) _ refl refl refl refl (difference_is i j) (difference_in_range i j i_range j_range)
     (omega arith)))))))
 
-pub multiply_does : IsPrimitive Multiply (procedure_of Multiply)
+pub multiply_does : InEveryFrame Multiply
 multiply_does = does_two Multiply refl (λ v w a b names program places z y procedures below n r are units.
     integers_needed names program places z y r procedures below n (y.cost + 130 + 244 * 2) y.cost a b v w (λ i j z'. integer_result (i *ℤ j) z') multiplying are.0 are.1.0 (omega arith)
     (λ i j i_range j_range.

@@ -23,8 +23,7 @@ use Rattle.mid_arena.specs.Places.{Places}
 use Rattle.mid_arena.specs.Standing.{ArenaStands}
 use Rattle.mid_arena.specs.Layouts.{byte_words, packed, TextAt}
 use Rattle.mid_arena.specs.Represents.{Represents}
-use Rattle.mid_arena.specs.Answers.{IsPrimitive, units_after}
-use Rattle.mid_arena.specs.Codes.{procedure_of}
+use Rattle.mid_arena.specs.Answers.{units_after}
 use Rattle.mid_arena.specs.Steps as steps
 use Rattle.mid_arena.specs.Steps.{steps_of}
 use Rattle.mid_arena.specs.declared.line.Line.TheVariants as line
@@ -41,6 +40,7 @@ use Rattle.mid_arena.proofs.Arrays.{length_test, length_needed}
 use Rattle.mid_arena.specs.Growing.{Grows}
 use Rattle.mid_arena.proofs.Taking.{does_two}
 use Rattle.mid_arena.proofs.Lists.{replicated}
+use Rattle.mid_arena.proofs.Entering.{InEveryFrame}
 
 -- ---- the arena
 
@@ -307,7 +307,7 @@ units_of_string :
     ≡ z.units + (2 + byte_words (length (replicate count c))) + length (replicate count c)
 units_of_string names program v w i count c z v_is w_is length_is = rw (v_is, w_is, length_is) refl
 
-pub make_string_does : IsPrimitive MakeString (procedure_of MakeString)
+pub make_string_does : InEveryFrame MakeString
 make_string_does = does_two MakeString refl (λ v w a b names program places z y procedures below n r are units.
     integer_needed names program places z y r procedures below n (y.cost + 130 + 244 * 2) y.cost 0 a v
     (λ i. a_character w z (λ c. needs (length_of i) (domain_error v integer_class z) (λ count. makes_string (replicate count c) z)))

@@ -21,8 +21,7 @@ use Rattle.mid_arena.specs.Places.{Spot, Places, with_object, word_of}
 use Rattle.mid_arena.specs.Standing.{ArenaStands}
 use Rattle.mid_arena.specs.Layouts.{VectorAt}
 use Rattle.mid_arena.specs.Represents.{Represents}
-use Rattle.mid_arena.specs.Answers.{IsPrimitive, units_after}
-use Rattle.mid_arena.specs.Codes.{procedure_of}
+use Rattle.mid_arena.specs.Answers.{units_after}
 use Rattle.mid_arena.specs.Steps as steps
 use Rattle.mid_arena.proofs.Keeping.{same_word}
 use Rattle.mid_arena.proofs.Memory.{heap_below, stands_with_heap}
@@ -35,6 +34,7 @@ use Rattle.mid_arena.proofs.Arrays.{length_test, length_needed}
 use Rattle.mid_arena.proofs.Taking.{does_two}
 use Rattle.mid_arena.proofs.Lists.{replicated}
 use Rattle.mid_arena.proofs.Filling.{filling_code, filling_ends}
+use Rattle.mid_arena.proofs.Entering.{InEveryFrame}
 
 -- the code behind the tests of the length, with four times the length in register 0 and the element in register 1: how many words are wanted
 abbrev asking_code : List MidStep
@@ -155,7 +155,7 @@ units_of_vector :
     → units_after names program (primitive names program MakeVector (v ∷ w ∷ []) z) ≡ z.units + (2 + length (replicate count w)) + 0
 units_of_vector names program v w i count z v_is length_is = rw (v_is, length_is) refl
 
-pub make_vector_does : IsPrimitive MakeVector (procedure_of MakeVector)
+pub make_vector_does : InEveryFrame MakeVector
 make_vector_does = does_two MakeVector refl (λ v w a b names program places z y procedures below n r are units.
     integer_needed names program places z y r procedures below n (y.cost + 130 + 244 * 2) y.cost 0 a v
     (λ i. needs (length_of i) (domain_error v integer_class z) (λ count. makes_vector (replicate count w) z))

@@ -21,8 +21,6 @@ use Rattle.mid_arena.specs.Tags.{nil_word, object_tag, string_header, vector_hea
 use Rattle.mid_arena.specs.Places.{Places, word_of}
 use Rattle.mid_arena.specs.FixedWords.{true_address}
 use Rattle.mid_arena.specs.Represents.{Represents}
-use Rattle.mid_arena.specs.Answers.{IsPrimitive}
-use Rattle.mid_arena.specs.Codes.{procedure_of}
 use Rattle.mid_arena.specs.Steps as steps
 use Rattle.mid_arena.proofs.WordFacts.{tag_tested, low_byte_tested, equal_bit, two_headers_tested}
 use Rattle.mid_arena.proofs.Running.{constant_falls, compute_falls, load_falls, address_up, address_below}
@@ -38,16 +36,17 @@ use Rattle.mid_arena.proofs.Checking.{header_bounded}
 use Rattle.mid_arena.proofs.Saying.{says_run}
 use Rattle.mid_arena.proofs.Taking.{does_one, does_two}
 use Rattle.std.proofs.lemmas.Bool.{or_from}
+use Rattle.mid_arena.proofs.Entering.{InEveryFrame}
 
 -- ---- words compared
 
-pub same_does : IsPrimitive Same (procedure_of Same)
+pub same_does : InEveryFrame Same
 same_does = does_two Same refl (λ v u w x names program places z y procedures below n r are units.
     says_run names program places z y r procedures below n (y.cost + 130 + 244 * 2) y.cost w x (same v u) (steps.comparing comparison.Equal 0 1) z
     (first_registers 8 (w ∷ x ∷ [])) refl (λ e. omega arith) (λ e. omega arith) refl refl
     (same_value_same_word names program places z y r v u w x are.0 are.1.0) (alike_self z) (omega arith))
 
-pub is_null_does : IsPrimitive IsNull (procedure_of IsNull)
+pub is_null_does : InEveryFrame IsNull
 is_null_does = does_one IsNull refl (λ v w names program places z y procedures below n r are units.
     goes_on names program places z y procedures below constant_falls
     (says_run names program places z y r procedures below n (y.cost + 130 + 244) (y.cost + 6) w nil_word (same v nil) (steps.comparing comparison.Equal 0 6) z
@@ -87,17 +86,17 @@ character_byte_says : (v : Value) (w : ℕ) → CharacterTold v w → (w % 256 =
 character_byte_says v w (character_found c is found small at byte) = rw found byte
 character_byte_says v w (no_character none byte) = rw none byte
 
-pub is_integer_does : IsPrimitive IsInteger (procedure_of IsInteger)
+pub is_integer_does : InEveryFrame IsInteger
 is_integer_does = does_one IsInteger refl (λ v w names program places z y procedures below n r are units.
     shifted_says names program places z y r procedures below n (y.cost + 130 + 244) y.cost w 30 0 (is_some (as_integer v))
     (tag_tested w 0 ∙ integer_tag_says v w (integer_told names program places z y r v w are.0)) (omega arith))
 
-pub is_cons_does : IsPrimitive IsCons (procedure_of IsCons)
+pub is_cons_does : InEveryFrame IsCons
 is_cons_does = does_one IsCons refl (λ v w names program places z y procedures below n r are units.
     shifted_says names program places z y r procedures below n (y.cost + 130 + 244) y.cost w 30 (2 ^ 30) (is_some (as_cons (fetch z v)))
     (tag_tested w 1 ∙ cons_tag_says (fetch z v) w (cons_told names program places z y r v w are.0)) (omega arith))
 
-pub is_character_does : IsPrimitive IsCharacter (procedure_of IsCharacter)
+pub is_character_does : InEveryFrame IsCharacter
 is_character_does = does_one IsCharacter refl (λ v w names program places z y procedures below n r are units.
     shifted_says names program places z y r procedures below n (y.cost + 130 + 244) y.cost w 24 (15 * 2 ^ 24) (is_some (as_character v))
     (low_byte_tested w 15 ∙ character_byte_says v w (character_told names program places z y r v w are.0)) (omega arith))
@@ -183,22 +182,22 @@ module _
         header_says n (y.cost + 130 + 244) y.cost w v word None None None None None None None header count is_kind (p (fetch z v)) tested
         (header_decides names program places z y r p is_kind kind v w word) (omega arith)
 
-pub is_string_does : IsPrimitive IsString (procedure_of IsString)
+pub is_string_does : InEveryFrame IsString
 is_string_does = does_one IsString refl (λ v w names program places z y procedures below n r are units.
     kind_says names program places z y r procedures below n w v string_header 1 (λ o. is_some (as_string o)) (λ h. h == string_header) string_kind
     (λ h low. equal_bit h string_header low (omega arith)) are.0)
 
-pub is_vector_does : IsPrimitive IsVector (procedure_of IsVector)
+pub is_vector_does : InEveryFrame IsVector
 is_vector_does = does_one IsVector refl (λ v w names program places z y procedures below n r are units.
     kind_says names program places z y r procedures below n w v vector_header 1 (λ o. is_some (as_vector o)) (λ h. h == vector_header) vector_kind
     (λ h low. equal_bit h vector_header low (omega arith)) are.0)
 
-pub is_function_does : IsPrimitive IsFunction (procedure_of IsFunction)
+pub is_function_does : InEveryFrame IsFunction
 is_function_does = does_one IsFunction refl (λ v w names program places z y procedures below n r are units.
     kind_says names program places z y r procedures below n w v function_header 2 is_function (λ h. h == function_header || h == generic_header) function_kind
     (λ h low. two_headers_tested h function_header low (omega arith)) are.0)
 
-pub is_generic_does : IsPrimitive IsGeneric (procedure_of IsGeneric)
+pub is_generic_does : InEveryFrame IsGeneric
 is_generic_does = does_one IsGeneric refl (λ v w names program places z y procedures below n r are units.
     kind_says names program places z y r procedures below n w v generic_header 1 is_generic (λ h. h == generic_header) generic_kind
     (λ h low. equal_bit h generic_header low (omega arith)) are.0)
@@ -252,6 +251,6 @@ module _
     symbol_says n w v word (no_symbol_tag none not_nil tag) =
         behind_nil n w v (is_some (as_symbol z v)) word not_nil (of_other_tag (rw none refl) tag)
 
-pub is_symbol_does : IsPrimitive IsSymbol (procedure_of IsSymbol)
+pub is_symbol_does : InEveryFrame IsSymbol
 is_symbol_does = does_one IsSymbol refl (λ v w names program places z y procedures below n r are units.
     symbol_says names program places z y r procedures below n w v are.0 (symbol_told names program places z y r v w are.0))

@@ -22,8 +22,6 @@ use Rattle.mid_arena.specs.Tags.{nil_word, character_word, input_header, output_
 use Rattle.mid_arena.specs.Places.{Places, word_of}
 use Rattle.mid_arena.specs.FixedWords.{class_address, true_address, line_address}
 use Rattle.mid_arena.specs.Represents.{Represents}
-use Rattle.mid_arena.specs.Answers.{IsPrimitive}
-use Rattle.mid_arena.specs.Codes.{procedure_of}
 use Rattle.mid_arena.specs.Steps as steps
 use Rattle.mid_arena.specs.Steps.{steps_of}
 use Rattle.mid_arena.proofs.WordFacts.{character_code, equal_bit, word_or_nil}
@@ -39,6 +37,7 @@ use Rattle.mid_arena.proofs.Checking.{header_registers, character_needed}
 use Rattle.mid_arena.proofs.Needing.{stream_needed}
 use Rattle.mid_arena.proofs.Taking.{does_two}
 use Rattle.mid_arena.proofs.Streams.{returns_stored}
+use Rattle.mid_arena.proofs.Entering.{InEveryFrame}
 
 -- ---- whether the output is at the start of a line
 
@@ -185,6 +184,6 @@ module _
         rw word
         (puts_on n (y.cost + 130 + 244 * 2) (y.cost + 6 + 10 + 6 + 12 + 2 + 8 + 6 + 10 + 6 + 12 + 2 + 6 + 10 + 6 + 12 + 2) w c v is_output _ _ first found at small (omega arith))))
 
-pub put_char_does : IsPrimitive PutChar (procedure_of PutChar)
+pub put_char_does : InEveryFrame PutChar
 put_char_does = does_two PutChar refl (λ v u w x names program places z y procedures below n r are units.
     puts_char names program places z y r procedures below n w x v u are.0 are.1.0)

@@ -22,8 +22,7 @@ use Rattle.mid_arena.specs.Tags.{instance_header}
 use Rattle.mid_arena.specs.Places.{Places, word_of}
 use Rattle.mid_arena.specs.FixedWords.{class_address}
 use Rattle.mid_arena.specs.Represents.{Represents}
-use Rattle.mid_arena.specs.Answers.{units_after, IsPrimitive}
-use Rattle.mid_arena.specs.Codes.{procedure_of}
+use Rattle.mid_arena.specs.Answers.{units_after}
 use Rattle.mid_arena.specs.Steps as steps
 use Rattle.mid_arena.specs.Steps.{steps_of}
 use Rattle.mid_arena.specs.declared.line.Line.TheVariants as line
@@ -41,6 +40,7 @@ use Rattle.mid_arena.proofs.SlotSearch.{search_slot, position_at_most, NameAt, S
 use Rattle.mid_arena.proofs.Taking.{does_two}
 use Rattle.mid_arena.proofs.Registers.{last_two}
 use Rattle.mid_arena.proofs.WordFacts.{sum_fits}
+use Rattle.mid_arena.proofs.Entering.{InEveryFrame}
 
 -- what the search is charged bounds its turns
 place_units :
@@ -138,7 +138,7 @@ module _
         (search procedures below y x (is_slot names s) (slots program c) n 0 _ rows_from (rows_from + 12 * count) (Some w) None (Some class_word) (Some 3)
         row_name refl (omega (arith, is_word, high)) (omega (arith, high)) turns)))))))))))
 
-pub slot_place_does : IsPrimitive SlotPlace (procedure_of SlotPlace)
+pub slot_place_does : InEveryFrame SlotPlace
 slot_place_does = does_two SlotPlace refl (λ v u w x names program places z y procedures below n r are units.
     instance_needed names program places z y r procedures below n 0 w standard_object_class v (first_registers 8 (w ∷ x ∷ [])) (omega arith) refl refl are.0 (omega arith)
     (y.cost + 130 + 244 * 2) y.cost (λ i. a_symbol u z (λ s. slot_place (slots program i.0) (is_slot names s) z)) (steps_of (line.NeedSymbol 1) ++ seeking sought) (omega arith)

@@ -23,8 +23,6 @@ use Rattle.mid_arena.specs.Standing.{ValueAt}
 use Rattle.mid_arena.specs.FixedWords.{class_address}
 use Rattle.mid_arena.specs.Layouts.{SlotRowAt}
 use Rattle.mid_arena.specs.Represents.{Represents}
-use Rattle.mid_arena.specs.Answers.{IsPrimitive}
-use Rattle.mid_arena.specs.Codes.{procedure_of}
 use Rattle.mid_arena.specs.Steps as steps
 use Rattle.mid_arena.proofs.Running.{load_falls, constant_falls, compute_known, address_above, address_below}
 use Rattle.mid_arena.proofs.Arguments.{ObjectFound, object_found, item_there}
@@ -39,6 +37,7 @@ use Rattle.mid_arena.proofs.Slots.{slot_registers, slot_needed, instance_low}
 use Rattle.mid_arena.proofs.Taking.{does_one, does_two}
 use Rattle.mid_arena.proofs.WordFacts.{header_without_kind, four_times_count}
 use Rattle.mid_arena.proofs.Memory.{spot_low}
+use Rattle.mid_arena.proofs.Entering.{InEveryFrame}
 
 module _ (names : List (List ℕ)) (program : ProgramRows) (places : Places) (z : meaning.State) (y : MidState) (r : Represents names program places z y) (classes : ClassesThere names program z) where
   -- the class of an instance
@@ -104,7 +103,7 @@ module _
         (address_above (class_word + above + 12 * j) (26 + extra) (row_address + extra) (omega (arith, is_word)) (omega (arith, is_word, high, inner, small))) at.stands)
         (returns_value names program places z y procedures below r refl at.of_value (alike_self z) (omega (arith, cost)))))))))
 
-pub slot_initargs_does : IsPrimitive SlotInitargs (procedure_of SlotInitargs)
+pub slot_initargs_does : InEveryFrame SlotInitargs
 slot_initargs_does = does_two SlotInitargs refl (λ v u w x names program places z y procedures below n r are units.
     slot_needed names program places z y r procedures below n (y.cost + 130 + 244 * 2) y.cost 0 1 w x v u (λ i at. result (initargs_value names program i.0 at) z)
     (steps.slot_word (pos 30)) (first_registers 8 (w ∷ x ∷ [])) (omega arith) (omega arith) refl refl refl are.0 are.1.0 (omega arith)
@@ -113,7 +112,7 @@ slot_initargs_does = does_two SlotInitargs refl (λ v u w x names program places
     procedures below n _ _ (omega arith)
     (row_stands names program places z y r r.classes w x c v values mark j it inside place).initargs (omega arith)))
 
-pub slot_initform_does : IsPrimitive SlotInitform (procedure_of SlotInitform)
+pub slot_initform_does : InEveryFrame SlotInitform
 slot_initform_does = does_two SlotInitform refl (λ v u w x names program places z y procedures below n r are units.
     slot_needed names program places z y r procedures below n (y.cost + 130 + 244 * 2) y.cost 0 1 w x v u (λ i at. result (initform_value names program i.0 at) z)
     (steps.slot_word (pos 34)) (first_registers 8 (w ∷ x ∷ [])) (omega arith) (omega arith) refl refl refl are.0 are.1.0 (omega arith)
@@ -257,7 +256,7 @@ module _
             (domain_error_run names program places z y r procedures below n budget _ 0 w serious_condition_class v z _ (omega arith) refl refl word (omega arith)
             (alike_self z) (omega (arith, cost)))))
 
-pub continuable_does : IsPrimitive Continuable (procedure_of Continuable)
+pub continuable_does : InEveryFrame Continuable
 continuable_does = does_one Continuable refl (λ v w names program places z y procedures below n r are units.
     rw (answer_by_instance names program places z y r v)
     (instance_needed names program places z y r procedures below n 0 w serious_condition_class v (first_registers 8 (w ∷ [])) (omega arith) refl refl are.0 (omega arith)

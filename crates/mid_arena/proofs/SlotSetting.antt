@@ -21,8 +21,6 @@ use Rattle.mid_arena.specs.Places.{Spot, end_of, Places, word_of}
 use Rattle.mid_arena.specs.Standing.{ArenaStands, SpotStands, ValueAt, SlotAt}
 use Rattle.mid_arena.specs.Layouts.{InstanceAt}
 use Rattle.mid_arena.specs.Represents.{Represents}
-use Rattle.mid_arena.specs.Answers.{IsPrimitive}
-use Rattle.mid_arena.specs.Codes.{procedure_of}
 use Rattle.mid_arena.specs.Steps as steps
 use Rattle.mid_arena.specs.Steps.{steps_of}
 use Rattle.mid_arena.proofs.Running.{compute_known, address_above}
@@ -33,6 +31,7 @@ use Rattle.mid_arena.proofs.Doing.{Run, goes_on}
 use Rattle.mid_arena.proofs.Slots.{slot_registers, instance_low, slot_needed, slot_sum}
 use Rattle.mid_arena.proofs.Taking.{does_three}
 use Rattle.mid_arena.proofs.Arrays.{stores_changed}
+use Rattle.mid_arena.proofs.Entering.{InEveryFrame}
 
 -- an instance in whose spot one slot was set
 pub instance_set :
@@ -120,7 +119,7 @@ module _
         (omega (arith, it.spot_stands.aligned)) (omega arith) (omega (arith, slot_within)) it.stored known known (λ p e. absurd (cc e)) it.found it.value
         (instance_set names program places y.arena it.spot c values mark j word u r.arena it.spot_stands inside of_value it.stands) (omega (arith, cost)))
 
-pub slot_set_does : IsPrimitive SlotSet (procedure_of SlotSet)
+pub slot_set_does : InEveryFrame SlotSet
 slot_set_does = does_three SlotSet refl (λ u v p word w x names program places z y procedures below n r are units.
     slot_needed names program places z y r procedures below n (y.cost + 130 + 244 * 3) y.cost 1 2 w x v p
     (λ i at. result u (change v (instance i.0 (slice_set i.1 at (Some u)) i.2) z))

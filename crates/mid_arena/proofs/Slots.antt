@@ -23,8 +23,6 @@ use Rattle.mid_arena.specs.Places.{Places, word_of}
 use Rattle.mid_arena.specs.Standing.{SlotAt}
 use Rattle.mid_arena.specs.FixedWords.{class_address}
 use Rattle.mid_arena.specs.Represents.{Represents}
-use Rattle.mid_arena.specs.Answers.{IsPrimitive}
-use Rattle.mid_arena.specs.Codes.{procedure_of}
 use Rattle.mid_arena.specs.Steps as steps
 use Rattle.mid_arena.specs.Steps.{steps_of}
 use Rattle.mid_arena.specs.declared.line.Line.TheVariants as line
@@ -42,6 +40,7 @@ use Rattle.mid_arena.proofs.Taking.{does_one, does_two}
 use Rattle.mid_arena.proofs.Registers.{Scratched, not_scratched, register_here, scratched_seven, scratched_six, seven_behind_six, six_here}
 use Rattle.mid_arena.proofs.WordFacts.{header_without_kind, four_times_count, sum_fits}
 use Rattle.mid_arena.proofs.Memory.{spot_low}
+use Rattle.mid_arena.proofs.Entering.{InEveryFrame}
 
 -- ---- registers
 
@@ -150,7 +149,7 @@ module _
 
 -- ---- slots one by one
 
-pub slot_count_does : IsPrimitive SlotCount (procedure_of SlotCount)
+pub slot_count_does : InEveryFrame SlotCount
 slot_count_does = does_one SlotCount refl (λ v w names program places z y procedures below n r are units.
     instance_needed names program places z y r procedures below n 0 w standard_object_class v (first_registers 8 (w ∷ [])) (omega arith) refl refl are.0 (omega arith)
     (y.cost + 130 + 244 * 1) y.cost (λ i. result (integer (pos (length i.1))) z)
@@ -251,7 +250,7 @@ module _
         (says_run names program places z y r procedures below n budget _ word unbound_word true (steps.comparing Different 4 6) z _ refl
         (λ e. omega arith) (λ e. omega arith) refl refl (ap not (no_value_unbound names program places z y r u word is)) (alike_self z) (omega (arith, cost)))))
 
-pub slot_ref_does : IsPrimitive SlotRef (procedure_of SlotRef)
+pub slot_ref_does : InEveryFrame SlotRef
 slot_ref_does = does_two SlotRef refl (λ v u w x names program places z y procedures below n r are units.
     slot_needed names program places z y r procedures below n (y.cost + 130 + 244 * 2) y.cost 0 1 w x v u (λ i at. slot_value (slice_get i.1 at) z)
     taking (first_registers 8 (w ∷ x ∷ [])) (omega arith) (omega arith) refl refl refl are.0 are.1.0 (omega arith)
@@ -260,7 +259,7 @@ slot_ref_does = does_two SlotRef refl (λ v u w x names program places z y proce
     (taken names program places z y r w x c v values mark j it inside place procedures below n _ _
     (slot_holds names program places z y r w x c v values mark j it inside place) (omega arith))))
 
-pub slot_bound_does : IsPrimitive SlotBound (procedure_of SlotBound)
+pub slot_bound_does : InEveryFrame SlotBound
 slot_bound_does = does_two SlotBound refl (λ v u w x names program places z y procedures below n r are units.
     slot_needed names program places z y r procedures below n (y.cost + 130 + 244 * 2) y.cost 0 1 w x v u (λ i at. says (has_value (slice_get i.1 at)) z)
     telling (first_registers 8 (w ∷ x ∷ [])) (omega arith) (omega arith) refl refl refl are.0 are.1.0 (omega arith)

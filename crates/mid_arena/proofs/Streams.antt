@@ -24,8 +24,7 @@ use Rattle.mid_arena.specs.Standing.{ValueAt}
 use Rattle.mid_arena.specs.FixedWords.{input_address, output_address, line_address, peeked_address, InputIs, untouched, looked_at}
 use Rattle.mid_arena.specs.Layouts.{AreBytes}
 use Rattle.mid_arena.specs.Represents.{Represents}
-use Rattle.mid_arena.specs.Answers.{done, IsPrimitive}
-use Rattle.mid_arena.specs.Codes.{procedure_of}
+use Rattle.mid_arena.specs.Answers.{done}
 use Rattle.mid_arena.specs.Steps as steps
 use Rattle.mid_arena.proofs.WordFacts.{integer_word_tag, integer_word_of_pos, integer_word_of_negsuc, byte_read, end_read, in_range_is}
 use Rattle.mid_arena.proofs.Running.{StepsTo, constant_falls, compute_known, load_falls, store_falls, get_falls, get_at_end}
@@ -37,6 +36,7 @@ use Rattle.mid_arena.proofs.Doing.{alike_self, Answers, Run, goes_on, returns_va
 use Rattle.mid_arena.proofs.Taking.{does_none}
 use Rattle.mid_arena.proofs.Telling.{not_nil}
 use Rattle.mid_arena.proofs.Arguments.{integer_word_there}
+use Rattle.mid_arena.proofs.Entering.{InEveryFrame}
 
 -- ---- values at fixed addresses
 
@@ -53,15 +53,15 @@ module _
         (goes_on names program places z y procedures below (load_falls refl (address_above 0 address address (omega arith) (omega arith)) at.stands)
         (returns_value names program places z y procedures below r refl at.of_value (alike_self z) (omega arith)))
 
-pub standard_input_does : IsPrimitive StandardInput (procedure_of StandardInput)
+pub standard_input_does : InEveryFrame StandardInput
 standard_input_does = does_none StandardInput refl (λ names program places z y procedures below n r are units.
     returns_fixed names program places z y r procedures below n input_address (standard_input names program) (omega arith) r.fixed.input_stream)
 
-pub standard_output_does : IsPrimitive StandardOutput (procedure_of StandardOutput)
+pub standard_output_does : InEveryFrame StandardOutput
 standard_output_does = does_none StandardOutput refl (λ names program places z y procedures below n r are units.
     returns_fixed names program places z y r procedures below n output_address (standard_output names program) (omega arith) r.fixed.output_stream)
 
-pub is_fresh_line_does : IsPrimitive IsFreshLine (procedure_of IsFreshLine)
+pub is_fresh_line_does : InEveryFrame IsFreshLine
 is_fresh_line_does = does_none IsFreshLine refl (λ names program places z y procedures below n r are units.
     returns_fixed names program places z y r procedures below n line_address (truth (is_fresh_line z.printed)) (omega arith) r.fixed.line)
 
@@ -210,7 +210,7 @@ module _
               (value_got places y.input bytes) (represents_got (other_bytes y.input) _ (other_are_bytes y.input bytes)) (omega arith);
         })
 
-pub get_byte_does : IsPrimitive GetByte (procedure_of GetByte)
+pub get_byte_does : InEveryFrame GetByte
 get_byte_does = does_none GetByte refl (λ names program places z y procedures below n r are units.
     gets_byte names program places z y r procedures below n z.input r.input (peeked y.arena y.input z.input r.fixed.input))
 
@@ -300,6 +300,6 @@ module _
         (first_answers names program places z y procedures below refl refl (ap not (integer_not_nil (pos byte)))
         (returns_value names program places z y procedures below r refl (byte_value places byte (are 0 (omega arith))) (alike_self z) (omega arith))))))
 
-pub peek_byte_does : IsPrimitive PeekByte (procedure_of PeekByte)
+pub peek_byte_does : InEveryFrame PeekByte
 peek_byte_does = does_none PeekByte refl (λ names program places z y procedures below n r are units.
     peeks_byte names program places z y r procedures below n z.input refl (peeked y.arena y.input z.input r.fixed.input))

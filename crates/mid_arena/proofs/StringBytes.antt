@@ -22,8 +22,6 @@ use Rattle.mid_arena.specs.Standing.{ArenaStands, SpotStands}
 use Rattle.mid_arena.specs.FixedWords.{class_address}
 use Rattle.mid_arena.specs.Layouts.{byte_words, byte_at, packed, TextAt}
 use Rattle.mid_arena.specs.Represents.{Represents}
-use Rattle.mid_arena.specs.Answers.{IsPrimitive}
-use Rattle.mid_arena.specs.Codes.{procedure_of}
 use Rattle.mid_arena.specs.Steps as steps
 use Rattle.mid_arena.specs.Steps.{steps_of}
 use Rattle.mid_arena.proofs.WordFacts.{character_code}
@@ -37,6 +35,7 @@ use Rattle.mid_arena.proofs.Checking.{integer_needed, character_needed}
 use Rattle.mid_arena.proofs.Needing.{string_needed}
 use Rattle.mid_arena.proofs.Arrays.{index_needed, stores_changed}
 use Rattle.mid_arena.proofs.Taking.{does_one, does_two, does_three}
+use Rattle.mid_arena.proofs.Entering.{InEveryFrame}
 
 -- a string in whose spot the word with a byte was changed
 pub string_set :
@@ -76,7 +75,7 @@ module _ (names : List (List ℕ)) (program : ProgramRows) (places : Places) (z 
       let high = spot_low r.arena it.spot_stands in
       omega (arith, it.word, it.stands.size.words, high)
 
-pub string_length_does : IsPrimitive StringLength (procedure_of StringLength)
+pub string_length_does : InEveryFrame StringLength
 string_length_does = does_one StringLength refl (λ v a names program places z y procedures below n r are units.
     string_needed names program places z y r procedures below n (y.cost + 130 + 244 * 1) y.cost 0 a v (λ bytes. result (integer (pos (length bytes))) z)
     (steps.load 5 0 (pos 2) ∷ return_word 5 ∷ []) (first_registers 8 (a ∷ [])) (omega arith) refl refl are.0 (omega arith)
@@ -202,7 +201,7 @@ module _
         refl word (omega (arith, it.spot_stands.aligned)) (omega arith) (omega (arith, it.stands.size.words, there)) it.stored tt tt (λ p e. cc e) it.found it.value
         (string_set y.arena it.spot bytes i x r.arena it.spot_stands inside small it.stands) (omega (arith, cost)))))))))
 
-pub char_at_does : IsPrimitive CharAt (procedure_of CharAt)
+pub char_at_does : InEveryFrame CharAt
 char_at_does = does_two CharAt refl (λ v w a b names program places z y procedures below n r are units.
     string_needed names program places z y r procedures below n (y.cost + 130 + 244 * 2) y.cost 0 a v
     (λ bytes. an_integer w z (λ m. an_index m (length bytes) z (λ i. result (character (slice_index_or bytes i 0)) z)))
@@ -222,7 +221,7 @@ char_at_does = does_two CharAt refl (λ v w a b names program places z y procedu
     (λ i inside i_word.
     character_run names program places z y r procedures below n (y.cost + 130 + 244 * 2) _ a b i v bytes _ _ _ _ _ _ it inside (m_word ∙ i_word) (omega arith))))))
 
-pub set_char_at_does : IsPrimitive SetCharAt (procedure_of SetCharAt)
+pub set_char_at_does : InEveryFrame SetCharAt
 set_char_at_does = does_three SetCharAt refl (λ v w u a b c names program places z y procedures below n r are units.
     character_needed names program places z y r procedures below n (y.cost + 130 + 244 * 3) y.cost 0 a v
     (λ x. a_string w z (λ bytes. an_integer u z (λ m. an_index m (length bytes) z (λ i. result v (change w (string (slice_set bytes i x)) z)))))

@@ -20,8 +20,8 @@ use Rattle.mid_arena.specs.Tags.{class_header}
 use Rattle.mid_arena.specs.Places.{Places, word_of}
 use Rattle.mid_arena.specs.FixedWords.{class_address}
 use Rattle.mid_arena.specs.Represents.{Represents}
-use Rattle.mid_arena.specs.Answers.{units_after, IsPrimitive}
-use Rattle.mid_arena.specs.Codes.{code_of_primitive, procedure_of}
+use Rattle.mid_arena.specs.Answers.{units_after}
+use Rattle.mid_arena.specs.Codes.{code_of_primitive}
 use Rattle.mid_arena.specs.Steps as steps
 use Rattle.mid_arena.specs.Steps.{class_word}
 use Rattle.mid_arena.proofs.Running.{load_falls, address_above}
@@ -36,8 +36,9 @@ use Rattle.mid_arena.proofs.ClassHeaders.{Seeking, Finds, seeking_first}
 use Rattle.mid_arena.proofs.ClassWords.{class_of_found}
 use Rattle.mid_arena.proofs.ClassSearch.{asking, asking_run}
 use Rattle.mid_arena.proofs.Memory.{spot_low}
+use Rattle.mid_arena.proofs.Entering.{InEveryFrame}
 
-pub class_name_does : IsPrimitive ClassName (procedure_of ClassName)
+pub class_name_does : InEveryFrame ClassName
 class_name_does = does_one ClassName refl (λ v w names program places z y procedures below n r are units.
     class_needed names program places z y r procedures below n (y.cost + 130 + 244) y.cost 0 w v
     (λ c. result (symbol (named (class_name names (slice_get program.classes c)))) z) (steps.load 5 0 (pos 6) ∷ return_word 5 ∷ [])
@@ -69,7 +70,7 @@ instance_turns :
 instance_turns names program z v u d n other units =
     let h : z.units + passed (λ e. d == e) (precedence program (class_of z v)) ≤ z.units + n = rw other at units in omega (arith, h)
 
-pub is_subclass_does : IsPrimitive IsSubclass (procedure_of IsSubclass)
+pub is_subclass_does : InEveryFrame IsSubclass
 is_subclass_does = does_two IsSubclass refl (λ v u w x names program places z y procedures below n r are units.
     class_needed names program places z y r procedures below n (y.cost + 130 + 244 * 2) y.cost 0 w v
     (λ c. a_class u z (λ d. says (is_below program c d) (meaning.charged (passed (λ e. d == e) (precedence program c)) z)))
@@ -129,6 +130,6 @@ is_instance_run names program places z y procedures below n w x v u r there word
     class : Finds here (class_of z v) (code_of (class_word 2 0)) here.start (class_tested y.cost) 254
     class = class_of_found here v word refl
 
-pub is_instance_does : IsPrimitive IsInstance (procedure_of IsInstance)
+pub is_instance_does : InEveryFrame IsInstance
 is_instance_does = does_two IsInstance refl (λ v u w x names program places z y procedures below n r are units.
     is_instance_run names program places z y procedures below n w x v u r r.classes are.0 are.1.0 units)

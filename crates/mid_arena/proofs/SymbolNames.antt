@@ -22,8 +22,7 @@ use Rattle.mid_arena.specs.Places.{Spot, end_of, Places, word_of}
 use Rattle.mid_arena.specs.FixedWords.{nil_text, nil_name_address, no_name_address}
 use Rattle.mid_arena.specs.Layouts.{byte_words, TextAt}
 use Rattle.mid_arena.specs.Represents.{Represents}
-use Rattle.mid_arena.specs.Answers.{units_after, IsPrimitive}
-use Rattle.mid_arena.specs.Codes.{procedure_of}
+use Rattle.mid_arena.specs.Answers.{units_after}
 use Rattle.mid_arena.specs.Steps as steps
 use Rattle.mid_arena.proofs.Memory.{heap_below}
 use Rattle.mid_arena.proofs.Arguments.{word_told, symbol_there}
@@ -40,6 +39,7 @@ use Rattle.mid_arena.proofs.Taking.{does_one}
 use Rattle.mid_arena.proofs.Registers.{last_two}
 use Rattle.mid_arena.proofs.WordFacts.{four_times_count}
 use Rattle.mid_arena.proofs.ArithmeticBytes.{byte_words_is}
+use Rattle.mid_arena.proofs.Entering.{InEveryFrame}
 
 -- ---- the code
 
@@ -235,7 +235,7 @@ module _
             (copy_run names program places z y r procedures below n 178 [] _ refl (omega (arith, fixed)) r.fixed.no_name budget _ (Some w) (Some fresh_header)
             (rw spelt at turns) (omega (arith, cost)))))))))
 
-pub symbol_name_does : IsPrimitive SymbolName (procedure_of SymbolName)
+pub symbol_name_does : InEveryFrame SymbolName
 symbol_name_does = does_one SymbolName refl (λ v w names program places z y procedures below n r are units.
     symbol_needed names program places z y r procedures below n (y.cost + 130 + 244) y.cost 0 w v (λ s. makes_string (name_of s) z) find_lines
     (first_registers 8 (w ∷ [])) (omega arith) refl refl are.0 (omega arith)

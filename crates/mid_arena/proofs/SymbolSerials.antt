@@ -14,8 +14,6 @@ use Rattle.mid_code.specs.Meaning.{Task}
 use Rattle.mid_arena.specs.Tags.{nil_word, fresh_header}
 use Rattle.mid_arena.specs.Places.{Places, word_of}
 use Rattle.mid_arena.specs.Represents.{Represents}
-use Rattle.mid_arena.specs.Answers.{IsPrimitive}
-use Rattle.mid_arena.specs.Codes.{procedure_of}
 use Rattle.mid_arena.specs.Steps as steps
 use Rattle.mid_arena.proofs.Arguments.{word_told, length_word_is}
 use Rattle.mid_arena.proofs.Running.{constant_falls, load_falls, address_up}
@@ -23,6 +21,7 @@ use Rattle.mid_arena.proofs.Doing.{alike_self, Run, goes_on, returns_value, test
 use Rattle.mid_arena.proofs.NeedingSymbols.{SymbolFound, is_nil, is_named, is_fresh, header_address, symbol_needed}
 use Rattle.mid_arena.proofs.Taking.{does_one}
 use Rattle.mid_arena.proofs.Registers.{last_two}
+use Rattle.mid_arena.proofs.Entering.{InEveryFrame}
 
 -- what the meaning gives for a symbol
 abbrev serial_of : Spelt → Value
@@ -76,7 +75,7 @@ module _
             (goes_on names program places z y procedures below (load_falls refl (address_up w 2 (omega (arith, low))) behind)
             (returns_value names program places z y procedures below r refl (length_word_is places (serial % 2 ^ 29) (omega arith)) (alike_self z) (omega (arith, cost)))))))))
 
-pub symbol_serial_does : IsPrimitive SymbolSerial (procedure_of SymbolSerial)
+pub symbol_serial_does : InEveryFrame SymbolSerial
 symbol_serial_does = does_one SymbolSerial refl (λ v w names program places z y procedures below n r are units.
     symbol_needed names program places z y r procedures below n (y.cost + 130 + 244) y.cost 0 w v (λ s. result (serial_of s) z) serial_lines
     (first_registers 8 (w ∷ [])) (omega arith) refl refl are.0 (omega arith)

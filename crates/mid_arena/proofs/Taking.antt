@@ -15,7 +15,7 @@ use Rattle.mid_arena.specs.Represents.{Represents}
 use Rattle.mid_arena.specs.Answers.{units_after, IsPrimitive}
 use Rattle.mid_arena.specs.Codes.{code_of_primitive, procedure_of}
 use Rattle.mid_arena.proofs.Doing.{Run}
-use Rattle.mid_arena.proofs.Entering.{does_by_code}
+use Rattle.mid_arena.proofs.Entering.{InEveryFrame, does_by_code}
 
 -- the registers at the start
 abbrev pub one_register : ℕ → Registers
@@ -35,12 +35,12 @@ CodeDoes which vs ws =
     (code_of (code_of_primitive which)) (first_registers 8 ws) y.cost
 
 -- it does so at any arguments, as many as the primitive has
-does_at_all : (which : Primitive) → ((vs : List Value) (ws : List ℕ) → length vs ≡ arity which → CodeDoes which vs ws) → IsPrimitive which (procedure_of which)
-does_at_all which code names program procedures below n places z y vs ws r are count units =
-    does_by_code names program places z y procedures below n which vs ws r are count (λ y' r'. code vs ws count names program places z y' procedures below n r' are units)
+does_at_all : (which : Primitive) → ((vs : List Value) (ws : List ℕ) → length vs ≡ arity which → CodeDoes which vs ws) → InEveryFrame which
+does_at_all which code frame names program procedures below n places z y vs ws r are count units =
+    does_by_code names program places z y procedures below n which frame vs ws r are count (λ y' r'. code vs ws count names program places z y' procedures below n r' are units)
 
 -- a primitive without arguments, with one, two or three
-pub does_none : (which : Primitive) → arity which ≡ 0 → CodeDoes which [] [] → IsPrimitive which (procedure_of which)
+pub does_none : (which : Primitive) → arity which ≡ 0 → CodeDoes which [] [] → InEveryFrame which
 does_none which none code = does_at_all which (λ vs ws count. by vs ws (count ∙ none))
   where
     by : (vs : List Value) (ws : List ℕ) → length vs ≡ 0 → CodeDoes which vs ws
@@ -48,7 +48,7 @@ does_none which none code = does_at_all which (λ vs ws count. by vs ws (count �
     by [] (w ∷ ws) count = λ names program places z y procedures below n r are units. absurd are
     by (v ∷ vs) ws count = absurd (omega (arith, count))
 
-pub does_one : (which : Primitive) → arity which ≡ 1 → ((v : Value) (a : ℕ) → CodeDoes which (v ∷ []) (a ∷ [])) → IsPrimitive which (procedure_of which)
+pub does_one : (which : Primitive) → arity which ≡ 1 → ((v : Value) (a : ℕ) → CodeDoes which (v ∷ []) (a ∷ [])) → InEveryFrame which
 does_one which one code = does_at_all which (λ vs ws count. by vs ws (count ∙ one))
   where
     by : (vs : List Value) (ws : List ℕ) → length vs ≡ 1 → CodeDoes which vs ws
@@ -58,7 +58,7 @@ does_one which one code = does_at_all which (λ vs ws count. by vs ws (count ∙
     by (v ∷ []) [] count = λ names program places z y procedures below n r are units. absurd are
     by (v ∷ []) (a ∷ b ∷ ws) count = λ names program places z y procedures below n r are units. absurd are.1
 
-pub does_two : (which : Primitive) → arity which ≡ 2 → ((v w : Value) (a b : ℕ) → CodeDoes which (v ∷ w ∷ []) (a ∷ b ∷ [])) → IsPrimitive which (procedure_of which)
+pub does_two : (which : Primitive) → arity which ≡ 2 → ((v w : Value) (a b : ℕ) → CodeDoes which (v ∷ w ∷ []) (a ∷ b ∷ [])) → InEveryFrame which
 does_two which two code = does_at_all which (λ vs ws count. by vs ws (count ∙ two))
   where
     by : (vs : List Value) (ws : List ℕ) → length vs ≡ 2 → CodeDoes which vs ws
@@ -72,7 +72,7 @@ does_two which two code = does_at_all which (λ vs ws count. by vs ws (count ∙
 
 pub does_three :
     (which : Primitive) → arity which ≡ 3 → ((v w u : Value) (a b c : ℕ) → CodeDoes which (v ∷ w ∷ u ∷ []) (a ∷ b ∷ c ∷ []))
-    → IsPrimitive which (procedure_of which)
+    → InEveryFrame which
 does_three which three code = does_at_all which (λ vs ws count. by vs ws (count ∙ three))
   where
     by : (vs : List Value) (ws : List ℕ) → length vs ≡ 3 → CodeDoes which vs ws

@@ -19,8 +19,6 @@ use Rattle.mid_arena.specs.Places.{Spot, Places, word_of}
 use Rattle.mid_arena.specs.Standing.{ArenaStands, SpotStands, ValueAt}
 use Rattle.mid_arena.specs.Layouts.{VectorAt}
 use Rattle.mid_arena.specs.Represents.{Represents}
-use Rattle.mid_arena.specs.Answers.{IsPrimitive}
-use Rattle.mid_arena.specs.Codes.{procedure_of}
 use Rattle.mid_arena.specs.Steps as steps
 use Rattle.mid_arena.proofs.Running.{load_falls, compute_known, address_above}
 use Rattle.mid_arena.proofs.Memory.{stored_in_spot, spot_low, others_in_spot}
@@ -30,6 +28,7 @@ use Rattle.mid_arena.proofs.Checking.{integer_needed}
 use Rattle.mid_arena.proofs.Needing.{vector_needed}
 use Rattle.mid_arena.proofs.Arrays.{index_needed, stores_changed}
 use Rattle.mid_arena.proofs.Taking.{does_one, does_two, does_three}
+use Rattle.mid_arena.proofs.Entering.{InEveryFrame}
 
 -- a vector in whose spot one element was set
 pub vector_set :
@@ -72,7 +71,7 @@ module _ (names : List (List ℕ)) (program : ProgramRows) (places : Places) (z 
       let high = spot_low r.arena it.spot_stands in
       omega (arith, it.word, it.stands.size.words, high)
 
-pub vector_length_does : IsPrimitive VectorLength (procedure_of VectorLength)
+pub vector_length_does : InEveryFrame VectorLength
 vector_length_does = does_one VectorLength refl (λ v a names program places z y procedures below n r are units.
     vector_needed names program places z y r procedures below n (y.cost + 130 + 244 * 1) y.cost 0 a v (λ vs. result (integer (pos (length vs))) z)
     (steps.load 5 0 (pos 2) ∷ return_word 5 ∷ []) (first_registers 8 (a ∷ [])) (omega arith) refl refl are.0 (omega arith)
@@ -87,7 +86,7 @@ vector_length_does = does_one VectorLength refl (λ v a names program places z y
 abbrev taking : List MidStep
 taking = steps.compute 5 which.Add 0 1 ∷ steps.load 5 5 (pos 6) ∷ return_word 5 ∷ []
 
-pub vector_ref_does : IsPrimitive VectorRef (procedure_of VectorRef)
+pub vector_ref_does : InEveryFrame VectorRef
 vector_ref_does = does_two VectorRef refl (λ v w a b names program places z y procedures below n r are units.
     vector_needed names program places z y r procedures below n (y.cost + 130 + 244 * 2) y.cost 0 a v
     (λ vs. an_integer w z (λ m. an_index m (length vs) z (λ i. result (slice_index_or vs i nil) z)))
@@ -116,7 +115,7 @@ vector_ref_does = does_two VectorRef refl (λ v w a b names program places z y p
 abbrev setting : List MidStep
 setting = steps.compute 5 which.Add 1 2 ∷ steps.store 0 5 (pos 6) ∷ return_word 0 ∷ []
 
-pub set_vector_ref_does : IsPrimitive SetVectorRef (procedure_of SetVectorRef)
+pub set_vector_ref_does : InEveryFrame SetVectorRef
 set_vector_ref_does = does_three SetVectorRef refl (λ v w u a b c names program places z y procedures below n r are units.
     vector_needed names program places z y r procedures below n (y.cost + 130 + 244 * 3) y.cost 1 b w
     (λ vs. an_integer u z (λ m. an_index m (length vs) z (λ i. result v (change w (vector (slice_set vs i v)) z))))

@@ -89,3 +89,7 @@ frame_words = 10
 abbrev pub procedure_of : Primitive → MidProcedure
 procedure_of which =
     record { counted = Turn; parameters = arity which; registers = registers; frame = frame_words; body = code_of_primitive which }
+
+-- the same with a frame of its own, which code may have that lends less of it
+abbrev pub procedure_in : Primitive → ℕ → MidProcedure
+procedure_in which frame = record (procedure_of which) { frame = frame }

@@ -1,6 +1,7 @@
 -- Laws for the code around primitives: what the word of a value is not; and how an arena goes on representing a state where code lays blocks and
--- stores words in them, changes or takes words of its own, or makes a function.
+-- stores words in them, changes or takes words of its own, or makes a function; and that procedures of primitives may have other frames.
 use Rattle.std.specs.Prelude.{◌≡◌, ℕ, suc, ◌<◌, ◌≤◌, ◌≢◌, false, List, length, Some, slice_get}
+use Rattle.lang_meaning.specs.declared.primitive.Primitive.{Primitive}
 use Rattle.lang_meaning.specs.declared.program.ProgramRows.{ProgramRows}
 use Rattle.lang_meaning.specs.Values.{Value, nil, object}
 use Rattle.lang_meaning.specs.Objects.{function}
@@ -14,6 +15,8 @@ use Rattle.mid_arena.specs.Standing.{SameWords}
 use Rattle.mid_arena.specs.Growing.{HeapGrows, Changes}
 use Rattle.mid_arena.specs.Layouts.{FunctionAt}
 use Rattle.mid_arena.specs.Represents.{Represents}
+use Rattle.mid_arena.specs.Answers.{IsPrimitive}
+use Rattle.mid_arena.specs.Codes.{procedure_in}
 
 -- a word that says neither that a condition is to be signalled nor that a slot has no value, and that is nil's only where the value is nil
 pub record TellsValue (v : Value) (word : ℕ) : Type 0 where
@@ -63,3 +66,7 @@ LawOfNewFunctions =
     → Represents names program places z y → HeapGrows y.arena y'.arena → SameStreams y y' → s.address ≡ y.arena.heap_to → end_of s ≤ y'.arena.heap_to
     → FunctionAt y'.arena s
     → Represents names program (with_object s places) (stored (function p) z) y' × (word_of (with_object s places) (object (length z.store)) ≡ Some (pointer_to s))
+
+-- the procedure of a primitive does what the primitive does, whatever the words of its frame are
+abbrev pub LawOfFrames : Type 0
+LawOfFrames = (which : Primitive) (frame : ℕ) → IsPrimitive which (procedure_in which frame)

@@ -1,6 +1,6 @@
 // Laws for the code around primitives, as the contracts of functions that do nothing.
 
-ghost use Rattle.mid_arena.specs.Law.{LawOfValueWords, LawOfGrowth, LawOfOwnWords, LawOfNewOwnWords, LawOfNewFunctions};
+ghost use Rattle.mid_arena.specs.Law.{LawOfValueWords, LawOfGrowth, LawOfOwnWords, LawOfNewOwnWords, LawOfNewFunctions, LawOfFrames};
 
 /// No value has the word that a primitive returns for a signal, or that of a slot without a value; only nil has nil's.
 pub fn law_value_words()
@@ -25,4 +25,9 @@ pub fn law_new_own_words()
 /// An arena in which code made a function at the heap's end represents the state with that function.
 pub fn law_new_functions()
     ensures { LawOfNewFunctions }
+{}
+
+/// The procedure of a primitive does what the primitive does, whatever the words of its frame are.
+pub fn law_frames()
+    ensures { LawOfFrames }
 {}

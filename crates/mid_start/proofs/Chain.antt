@@ -94,9 +94,9 @@ behind r os = ap (λ n. os ++ (r n).0) (zero-add (length os))
 
 module _
     (names : List (List ℕ)) (program : ProgramRows) (true_name : Name) (a b c d e f g h words : ArenaWords)
-    (fs ls cs : List ℕ) (ss : List (List SlotWords)) (truth input output low_count : ℕ)
+    (fs ls cs : List ℕ) (ss : List (List SlotWords)) (truth input output : ℕ) (low_words : List ℕ)
     (enough : 34 ≤ length program.classes) (true_text : slice_get names true_name.0 ≡ Some (116 ∷ [])) (no_nil : (i : ℕ) → slice_get names i ≡ Some nil_text → ⊥)
-    (from : a.first ≡ 184 + 4 * low_count) (none : a.symbols ≡ []) (same_from : h.first ≡ 184 + 4 * low_count)
+    (from : a.first ≡ 184 + 4 * length low_words) (none : a.symbols ≡ []) (same_from : h.first ≡ 184 + 4 * length low_words)
     (functions : Makes names (EachStandsFor IsWord) (in_turn function_recipe program.functions) a b fs)
     (literals : Makes names (EachStandsFor IsWord) (in_turn (literal_recipe names) program.literals) b c ls)
     (slots : Makes names (EachStandsFor (EachStandsFor IsSlot)) (in_turn (slots_recipe names) program.classes) c d ss) (counted : SlotsAreCounted program.classes ss)
@@ -104,7 +104,7 @@ module _
     (input_laid : Settles names program input_stream (λ places. Unit {0}) e f input)
     (output_laid : Settles names program output_stream (λ places. Unit {0}) f g output)
     (classes : ClassesSettle names program truth ss g h (length program.classes) cs)
-    (first : words.first ≡ 0) (all : words.words ≡ front_contents cs input output truth low_count ++ h.words) (symbols : words.symbols ≡ h.symbols)
+    (first : words.first ≡ 0) (all : words.words ≡ front_contents cs input output truth low_words ++ h.words) (symbols : words.symbols ≡ h.symbols)
   where
     abbrev at_first : List Object
     at_first = first_objects (length program.classes)
@@ -346,34 +346,34 @@ module _
     truth_there : word_of places t ≡ Some truth
     truth_there = settled.words.word t truth classes_wait.truth_stands
 
-    pub starts : IsStaticData names program low_count [] (record { arena = words; classes = cs; functions = fs; literals = ls })
+    pub starts : IsStaticData names program low_words [] (record { arena = words; classes = cs; functions = fs; literals = ls })
     starts = record {
-      places = with_front low_count places;
+      places = with_front (length low_words) places;
       first = first;
       further_at = end_address words;
       further_end = omega arith;
-      others = ap (λ ss. fixed_spot ∷ ss) (sym (append-nil (spot_for low_address low_count)));
+      others = ap (λ ss. fixed_spot ∷ ss) (sym (append-nil (spot_for low_address (length low_words))));
       own = record {
         low_words =
-            low_there names program places low_count h words cs input output truth enough_words same_from first all
+            low_there names program places low_words h words cs input output truth enough_words same_from first all
             (λ class w there low. of_classes class w there (omega arith)) input_there output_there truth_there;
         further_words = λ i w there. absurd (cc there);
       };
       no_nil = no_nil_there names no_nil h.symbols places.symbols settled.stands.listed;
       stands =
-          subst (λ os. LaidWell names program (with_front low_count places) os words) store_same
-          (front_laid names program places store low_count (front_contents cs input output truth low_count) h words (front_count cs input output truth low_count enough_words) same_from first all symbols
+          subst (λ os. LaidWell names program (with_front (length low_words) places) os words) store_same
+          (front_laid names program places store (length low_words) (front_contents cs input output truth low_words) h words (front_count cs input output truth low_words enough_words) same_from first all symbols
           settled.stands);
       fixed = λ left.
-          fixed_stand names program places low_count h words cs input output truth enough_words same_from first all
+          fixed_stand names program places low_words h words cs input output truth enough_words same_from first all
           (λ class w there low. of_classes class w there (omega arith)) input_there output_there truth_there left;
       all = λ i low.
           let within : i < length store = subst (λ (os : List Object). i < length os) (sym store_same) low in
           let old : HasWord places (object i) = subst (λ n. HasWord places (object n)) (zero-add i) (all_words.each i within) in
-          record { word = old.word; of_value = (same_values low_count places).word (object i) old.word old.of_value };
+          record { word = old.word; of_value = (same_values (length low_words) places).word (object i) old.word old.of_value };
       numbered =
-          subst (λ os. AreNumbered (with_front low_count places) os words) store_same
-          (front_numbered names program places store low_count (front_contents cs input output truth low_count) h words (front_count cs input output truth low_count enough_words) same_from first all symbols
+          subst (λ os. AreNumbered (with_front (length low_words) places) os words) store_same
+          (front_numbered names program places store (length low_words) (front_contents cs input output truth low_words) h words (front_count cs input output truth low_words enough_words) same_from first all symbols
           settled.stands all_numbered);
       class_count = settled.many;
       function_count =
@@ -384,13 +384,13 @@ module _
           ∙ turn_length (literal_recipe names) program.literals (length with_functions);
       class_words = λ class w there.
           let within = slice_get_within cs class w there in
-          (same_values low_count places).word (class_value names program class) w (of_classes class w there (omega (arith, settled.many)));
+          (same_values (length low_words) places).word (class_value names program class) w (of_classes class w there (omega (arith, settled.many)));
       function_words = λ name w there.
-          (same_values low_count places).word (function_value names program name) w
+          (same_values (length low_words) places).word (function_value names program name) w
           (ap (word_of places) (sym (function_whole names built_in_classes program name))
           ∙ function_found names places program.functions fs (at_functions names built_in_classes program) name w functions_words there);
       literal_words = λ literal w d here there.
-          (same_values low_count places).word (literal_value names program literal d) w
+          (same_values (length low_words) places).word (literal_value names program literal d) w
           (ap (word_of places) (sym (literal_found names program (at_literals names built_in_classes program) literal d here (literal_whole names built_in_classes program literal)))
           ∙ word_in places (in_turn (literal_recipe names) program.literals (at_literals names built_in_classes program)).1 ls literal w literals_words there);
     }

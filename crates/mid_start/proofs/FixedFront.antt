@@ -1,11 +1,11 @@
 -- The fixed words, and low words of a program's own, in front of those that were laid behind them.
 use Rattle.std.proofs.Common.{◌≡◌, ℕ, zero, suc, ◌+◌, ◌-◌, ◌*◌, ◌/◌, ◌%◌, ◌<◌, ◌≤◌, Bool, true, false, List, [], ◌∷◌, ◌++◌, length}
 use Rattle.std.proofs.Common.{take, Some, None, refl, sym, ◌∙◌, ap, length-append, lit<, lit≤, arith}
-use Rattle.std.specs.Prelude.{◌==◌, ◌&&◌, ◌||◌, replicate, slice_get, if◌then◌else◌}
+use Rattle.std.specs.Prelude.{◌==◌, ◌&&◌, ◌||◌, slice_get, if◌then◌else◌}
 use Rattle.std.specs.Str.{bytes_eq}
 use Rattle.std.proofs.lemmas.Slice.Eq.{bytes_eq-Decides}
 use Rattle.std.proofs.lemmas.Bool.Decides.{nat_tests}
-use Rattle.std.proofs.lemmas.List.{length-take-le, length-replicate}
+use Rattle.std.proofs.lemmas.List.{length-take-le}
 use Rattle.std.proofs.lemmas.Option.{slice_get-get_or}
 use Rattle.base.specs.Names.{slice_get-front}
 use Rattle.base.specs.DataMeasures.{SymbolBelow}
@@ -25,7 +25,6 @@ use Rattle.mid_arena.specs.FixedWords.{low_address, nil_text, FixedStand, untouc
 use Rattle.mid_arena.specs.Layouts.{AreBytes, byte_words, packed}
 use Rattle.mid_arena.proofs.Keeping.{PlacesExtend, symbol_kept, object_kept}
 use Rattle.mid_arena.proofs.Arguments.{item_there}
-use Rattle.mid_arena.proofs.Lists.{replicated}
 use Rattle.mid_start.specs.declared.symbol_words.SymbolWord.{SymbolWord}
 use Rattle.mid_start.specs.declared.words.ArenaWords.{ArenaWords}
 use Rattle.mid_start.specs.LaidArena.{end_address, arena_of}
@@ -208,13 +207,13 @@ fixed_count classes input output truth enough =
       length-append (take 34 classes) (input ∷ output ∷ truth ∷ 0 ∷ truth ∷ nil_word ∷ nil_word ∷ symbol_header ∷ 12 ∷ 7104878 ∷ symbol_header ∷ 0 ∷ []),
     )
 
-pub front_count : (classes : List ℕ) (input output truth low : ℕ) → 34 ≤ length classes → length (front_contents classes input output truth low) ≡ 46 + low
+pub front_count : (classes : List ℕ) (input output truth : ℕ) (low : List ℕ) → 34 ≤ length classes
+    → length (front_contents classes input output truth low) ≡ 46 + length low
 front_count classes input output truth low enough =
     omega (
       arith,
       fixed_count classes input output truth enough,
-      length-append (fixed_contents classes input output truth) (replicate low 0),
-      length-replicate {A = ℕ} low 0,
+      length-append (fixed_contents classes input output truth) low,
     )
 
 taken_at : {X : Type 0} (n : ℕ) (xs : List X) (i : ℕ) → i < n → slice_get (take n xs) i ≡ slice_get xs i
@@ -230,9 +229,9 @@ nil_bytes (suc (suc zero)) h = lit< tt
 nil_bytes (suc (suc (suc i))) h = absurd (omega arith)
 
 module _
-    (names : List (List ℕ)) (program : ProgramRows) (places : Places) (low_count : ℕ) (laid words : ArenaWords) (classes : List ℕ) (input output truth : ℕ)
-    (enough : 34 ≤ length classes) (from : laid.first ≡ 184 + 4 * low_count) (first : words.first ≡ 0)
-    (all : words.words ≡ front_contents classes input output truth low_count ++ laid.words)
+    (names : List (List ℕ)) (program : ProgramRows) (places : Places) (low : List ℕ) (laid words : ArenaWords) (classes : List ℕ) (input output truth : ℕ)
+    (enough : 34 ≤ length classes) (from : laid.first ≡ 184 + 4 * length low) (first : words.first ≡ 0)
+    (all : words.words ≡ front_contents classes input output truth low ++ laid.words)
     (of_classes : (class w : ℕ) → slice_get classes class ≡ Some w → class < 34 → word_of places (class_value names program class) ≡ Some w)
     (of_input : word_of places (standard_input names program) ≡ Some input)
     (of_output : word_of places (standard_output names program) ≡ Some output)
@@ -241,21 +240,20 @@ module _
     abbrev fixed : List ℕ
     fixed = fixed_contents classes input output truth
 
-    count : length (front_contents classes input output truth low_count) ≡ 46 + low_count
-    count = front_count classes input output truth low_count enough
+    count : length (front_contents classes input output truth low) ≡ 46 + length low
+    count = front_count classes input output truth low enough
 
     word_there : (i w : ℕ) → slice_get fixed i ≡ Some w → word_at (arena_of words) (4 * i) ≡ Some w
     word_there i w e =
-        fixed_word low_count (front_contents classes input output truth low_count) laid words count from first all i w (slice_get-front fixed (replicate low_count 0) i w e)
+        fixed_word (length low) (front_contents classes input output truth low) laid words count from first all i w (slice_get-front fixed low i w e)
 
-    -- the low words are clear
-    pub low_there : (i : ℕ) → i < low_count → word_at (arena_of words) (low_address + 4 * i) ≡ Some 0
-    low_there i h =
+    -- the low words stand behind them
+    pub low_there : (i w : ℕ) → slice_get low i ≡ Some w → word_at (arena_of words) (low_address + 4 * i) ≡ Some w
+    low_there i w e =
         let fixed_many : length fixed ≡ 46 = fixed_count classes input output truth enough in
         let address : low_address + 4 * i ≡ 4 * (length fixed + i) = omega (arith, fixed_many) in
         ap (word_at (arena_of words)) address
-        ∙ fixed_word low_count (front_contents classes input output truth low_count) laid words count from first all (length fixed + i) 0
-        (item_behind fixed (replicate low_count 0) i ∙ replicated low_count i 0 h)
+        ∙ fixed_word (length low) (front_contents classes input output truth low) laid words count from first all (length fixed + i) w (item_behind fixed low i ∙ e)
 
     -- behind the classes
     behind_classes : (i w : ℕ) → slice_get (input ∷ output ∷ truth ∷ 0 ∷ truth ∷ nil_word ∷ nil_word ∷ symbol_header ∷ 12 ∷ 7104878 ∷ symbol_header ∷ 0 ∷ []) i ≡ Some w
@@ -264,33 +262,33 @@ module _
         let place : 34 + i ≡ length (take 34 classes) + i = omega (arith, length-take-le 34 classes enough) in
         ap (slice_get fixed) place ∙ item_behind (take 34 classes) _ i ∙ e
 
-    pub fixed_stand : (left : List ℕ) → FixedStand names program (with_front low_count places) (arena_of words) 0 [] left left
+    pub fixed_stand : (left : List ℕ) → FixedStand names program (with_front (length low) places) (arena_of words) 0 [] left left
     fixed_stand left = record {
       spot = refl;
-      classes = λ class low.
+      classes = λ class small.
           let there = item_there classes class (omega (arith, enough)) in
           let w : ℕ = there.0 in
           record {
             word = w;
-            of_value = (same_values low_count places).word (class_value names program class) w (of_classes class w there.1 low);
+            of_value = (same_values (length low) places).word (class_value names program class) w (of_classes class w there.1 small);
             stands =
                 word_there class w
                 (slice_get-front (take 34 classes) (input ∷ output ∷ truth ∷ 0 ∷ truth ∷ nil_word ∷ nil_word ∷ symbol_header ∷ 12 ∷ 7104878 ∷ symbol_header ∷ 0 ∷ []) class w
-                (taken_at 34 classes class low ∙ there.1));
+                (taken_at 34 classes class small ∙ there.1));
           };
       input_stream = record {
         word = input;
-        of_value = (same_values low_count places).word (standard_input names program) input of_input;
+        of_value = (same_values (length low) places).word (standard_input names program) input of_input;
         stands = word_there 34 input (behind_classes 0 input refl);
       };
       output_stream = record {
         word = output;
-        of_value = (same_values low_count places).word (standard_output names program) output of_output;
+        of_value = (same_values (length low) places).word (standard_output names program) output of_output;
         stands = word_there 35 output (behind_classes 1 output refl);
       };
-      true_value = record { word = truth; of_value = (same_values low_count places).word t truth of_truth; stands = word_there 36 truth (behind_classes 2 truth refl) };
+      true_value = record { word = truth; of_value = (same_values (length low) places).word t truth of_truth; stands = word_there 36 truth (behind_classes 2 truth refl) };
       serial = word_there 37 0 (behind_classes 3 0 refl);
-      line = record { word = truth; of_value = (same_values low_count places).word t truth of_truth; stands = word_there 38 truth (behind_classes 4 truth refl) };
+      line = record { word = truth; of_value = (same_values (length low) places).word t truth of_truth; stands = word_there 38 truth (behind_classes 4 truth refl) };
       input = untouched (word_there 39 nil_word (behind_classes 5 nil_word refl));
       nil_name = record {
         size = record { words = refl; tag = refl };

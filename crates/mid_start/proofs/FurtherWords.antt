@@ -93,7 +93,7 @@ abbrev pub with_arena : ArenaWords → StaticData → StaticData
 with_arena words data_there = record data_there { arena = words }
 
 module _
-    (names : List (List ℕ)) (program : ProgramRows) (low : ℕ) (further : List ℕ) (start : StaticData) (after : ArenaWords)
+    (names : List (List ℕ)) (program : ProgramRows) (low further : List ℕ) (start : StaticData) (after : ArenaWords)
     (old : IsStaticData names program low [] start) (appended : Appended start.arena after further)
   where
     -- some words
@@ -134,8 +134,8 @@ module _
 
         others : old.places.others ++ spot ∷ [] ≡ own_spots low further (end_address start.arena)
         others =
-            ap (λ ss. ss ++ spot ∷ []) (old.others ∙ ap (λ ss. fixed_spot ∷ ss) (append-nil (spot_for low_address low)))
-            ∙ ap (λ ss. fixed_spot ∷ (spot_for low_address low ++ ss)) (sym (spot_for_some (end_address start.arena) (length further) some))
+            ap (λ ss. ss ++ spot ∷ []) (old.others ∙ ap (λ ss. fixed_spot ∷ ss) (append-nil (spot_for low_address (length low))))
+            ∙ ap (λ ss. fixed_spot ∷ (spot_for low_address (length low) ++ ss)) (sym (spot_for_some (end_address start.arena) (length further) some))
 
     -- or none
     none_more : further ≡ [] → IsStaticData names program low further (with_arena after start)

@@ -52,7 +52,7 @@ module _ (words : ArenaWords) (input : List ℕ) (y : MidState) (first : words.f
       let none : words.first / 4 ≡ 0 = omega (arith, first) in
       omega (arith, length-append empty (map (λ w. Some w) words.words), length-replicate {A = Option ℕ} (words.first / 4) None, length-map words.words (λ w. Some w), none)
 
-  same_words : (s : Spot) → SpotStands (arena_of words) s → SameWords (arena_of words) y.arena s
+  pub same_words : (s : Spot) → SpotStands (arena_of words) s → SameWords (arena_of words) y.arena s
   same_words s h x low high = by (x % 4 == 0) refl
     where
       by : (b : Bool) → (x % 4 == 0) ≡ b → word_at y.arena x ≡ word_at (arena_of words) x
@@ -90,7 +90,7 @@ module _ (words : ArenaWords) (input : List ℕ) (y : MidState) (first : words.f
 
 -- the state is represented
 start_represented :
-    (names : List (List ℕ)) (program : ProgramRows) (low : ℕ) (further : List ℕ) (words : StaticData) (input : List ℕ) (y : MidState)
+    (names : List (List ℕ)) (program : ProgramRows) (low further : List ℕ) (words : StaticData) (input : List ℕ) (y : MidState)
     → begins_with_built_in program.classes built_in_precedence built_in_slots ≡ true → (start : IsStaticData names program low further words) → AreBytes input
     → BeginsWithData words.arena input y → Represents names program start.places (first_state (objects_at_start names program) input) y
 start_represented names program low further words input y built_in start bytes begins = record {
@@ -117,7 +117,7 @@ start_represented names program low further words input y built_in start bytes b
 
 -- and the program's own words stand
 own_words_begin :
-    (names : List (List ℕ)) (program : ProgramRows) (low : ℕ) (further : List ℕ) (words : StaticData) (input : List ℕ) (y : MidState)
+    (names : List (List ℕ)) (program : ProgramRows) (low further : List ℕ) (words : StaticData) (input : List ℕ) (y : MidState)
     → (start : IsStaticData names program low further words) → BeginsWithData words.arena input y → OwnWordsAt low further start.further_at y.arena
 own_words_begin names program low further words input y start begins =
     own_words_kept low further start.further_at start.places (arena_of words.arena) y.arena start.others
@@ -139,7 +139,7 @@ none_some o w e f = cc
 
 -- no object is left without a spot
 pub no_gap :
-    (names : List (List ℕ)) (program : ProgramRows) (low : ℕ) (further : List ℕ) (words : StaticData) (start : IsStaticData names program low further words) (i : ℕ)
+    (names : List (List ℕ)) (program : ProgramRows) (low further : List ℕ) (words : StaticData) (start : IsStaticData names program low further words) (i : ℕ)
     → slice_get start.places.objects i ≡ Some None → ⊥
 no_gap names program low further words start i gap =
     let inside = slice_get_within start.places.objects i None gap in

@@ -24,6 +24,7 @@ pub mod SlotStanding
 pub mod FixedFront
 pub mod OwnSpots
 pub mod FurtherWords
+pub mod NamedSymbols
 pub mod Chain
 pub mod Law
 pub mod WholeRows

@@ -23,17 +23,18 @@ further_found low at (suc n) h = slice_get-behind (spot_for low_address low) (re
 
 -- where the words of these spots stay, the program's own words stand as they stood
 pub own_words_kept :
-    (low : ℕ) (further : List ℕ) (at : ℕ) (places : Places) (a b : Arena) → places.others ≡ own_spots low further at
+    (low further : List ℕ) (at : ℕ) (places : Places) (a b : Arena) → places.others ≡ own_spots low further at
     → ((n : ℕ) (s : Spot) → slice_get places.others n ≡ Some s → SameWords a b s) → OwnWordsAt low further at a → OwnWordsAt low further at b
 own_words_kept low further at places a b others same own = record {
-  low_words = λ i h.
-      same 1 (record { address = low_address; words = low; tag = 0 })
-      (ap (λ ss. slice_get ss 1) others ∙ low_found low (spot_for at (length further)) (omega arith)) (low_address + 4 * i) (omega arith) (omega arith)
-      ∙ own.low_words i h;
+  low_words = λ i w there.
+      let within = slice_get_within low i w there in
+      same 1 (record { address = low_address; words = length low; tag = 0 })
+      (ap (λ ss. slice_get ss 1) others ∙ low_found (length low) (spot_for at (length further)) (omega arith)) (low_address + 4 * i) (omega arith) (omega arith)
+      ∙ own.low_words i w there;
   further_words = λ i w there.
       let within = slice_get_within further i w there in
-      same (suc (length (spot_for low_address low))) (record { address = at; words = length further; tag = 0 })
-      (ap (λ ss. slice_get ss (suc (length (spot_for low_address low)))) others ∙ further_found low at (length further) (omega arith)) (at + 4 * i) (omega arith)
+      same (suc (length (spot_for low_address (length low)))) (record { address = at; words = length further; tag = 0 })
+      (ap (λ ss. slice_get ss (suc (length (spot_for low_address (length low))))) others ∙ further_found (length low) at (length further) (omega arith)) (at + 4 * i) (omega arith)
       (omega arith)
       ∙ own.further_words i w there;
 }

@@ -16,7 +16,7 @@ use Rattle.mid_start.specs.StaticData.{OwnWordsAt, IsStaticData, BeginsWithData}
 
 abbrev pub LawOfStaticData : Type 0
 LawOfStaticData =
-    (names : List (List ℕ)) (program : ProgramRows) (low : ℕ) (further : List ℕ) (words : StaticData) (input : List ℕ) (y : MidState)
+    (names : List (List ℕ)) (program : ProgramRows) (low further : List ℕ) (words : StaticData) (input : List ℕ) (y : MidState)
     → begins_with_built_in program.classes built_in_precedence built_in_slots ≡ true → (start : IsStaticData names program low further words)
     → AreBytes input → BeginsWithData words.arena input y
     → Represents names program start.places (first_state (objects_at_start names program) input) y × OwnWordsAt low further start.further_at y.arena

@@ -9,4 +9,5 @@ pub mod Making
 pub mod Rows
 pub mod Settling
 pub mod StaticData
+pub mod NamedSymbols
 pub mod Law

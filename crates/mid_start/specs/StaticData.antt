@@ -27,13 +27,13 @@ abbrev pub spot_for : (address words : ℕ) → List Spot
 spot_for address zero = []
 spot_for address (suc n) = record { address = address; words = suc n; tag = 0 } ∷ []
 
--- the spots that code has for itself: the fixed words, so many low words behind them, and further words from an address on
-abbrev pub own_spots : (low : ℕ) → (further : List ℕ) → (at : ℕ) → List Spot
-own_spots low further at = fixed_spot ∷ (spot_for low_address low ++ spot_for at (length further))
+-- the spots that code has for itself: the fixed words, low words behind them, and further words from an address on
+abbrev pub own_spots : (low further : List ℕ) → (at : ℕ) → List Spot
+own_spots low further at = fixed_spot ∷ (spot_for low_address (length low) ++ spot_for at (length further))
 
--- the low words are clear, and the further ones stand as they were given
-pub record OwnWordsAt (low : ℕ) (further : List ℕ) (at : ℕ) (a : Arena) : Type 0 where
-  pub low_words : (i : ℕ) → i < low → word_at a (low_address + 4 * i) ≡ Some 0
+-- the low words and the further ones stand as they were given
+pub record OwnWordsAt (low further : List ℕ) (at : ℕ) (a : Arena) : Type 0 where
+  pub low_words : (i w : ℕ) → slice_get low i ≡ Some w → word_at a (low_address + 4 * i) ≡ Some w
   pub further_words : (i w : ℕ) → slice_get further i ≡ Some w → word_at a (at + 4 * i) ≡ Some w
 
 -- The fixed words, from those of the classes, the streams and t: the built-in classes, the streams, t, no fresh symbol, a fresh line,
@@ -43,9 +43,9 @@ fixed_contents classes input output truth =
     take 34 classes
     ++ (input ∷ output ∷ truth ∷ 0 ∷ truth ∷ nil_word ∷ nil_word ∷ symbol_header ∷ 12 ∷ 7104878 ∷ symbol_header ∷ 0 ∷ [])
 
--- and so many low words behind them, which are clear
-abbrev pub front_contents : (classes : List ℕ) (input output truth low : ℕ) → List ℕ
-front_contents classes input output truth low = fixed_contents classes input output truth ++ replicate low 0
+-- and low words behind them
+abbrev pub front_contents : (classes : List ℕ) (input output truth : ℕ) → (low : List ℕ) → List ℕ
+front_contents classes input output truth low = fixed_contents classes input output truth ++ low
 
 -- the word of the first function whose name has that text, where each row has its word
 abbrev pub word_of_text : List (List ℕ) → List FunctionRow → List ℕ → List ℕ → Option ℕ
@@ -53,9 +53,9 @@ word_of_text names [] ws name = None
 word_of_text names (f ∷ fs) [] name = None
 word_of_text names (f ∷ fs) (w ∷ ws) name = if bytes_eq name (text names f.name.0) then Some w else word_of_text names fs ws name
 
--- The words represent the objects that are there before the first form, each in its spot, with the fixed words and so many low words in front,
+-- The words represent the objects that are there before the first form, each in its spot, with the fixed words and low words in front,
 -- and further words behind; and the words that are given are those of the classes, of the functions of names, and of the literals that are data.
-pub record IsStaticData (names : List (List ℕ)) (program : ProgramRows) (low : ℕ) (further : List ℕ) (start : StaticData) : Type 0 where
+pub record IsStaticData (names : List (List ℕ)) (program : ProgramRows) (low further : List ℕ) (start : StaticData) : Type 0 where
   pub places : Places
   pub first : start.arena.first ≡ 0
   pub further_at : ℕ

@@ -1,6 +1,6 @@
 // The words at fixed addresses.
 
-ghost use Rattle.std.specs.Prelude.{◌≡◌, ◌≤◌, ◌++◌, length, replicate, OnOk, IfOk};
+ghost use Rattle.std.specs.Prelude.{◌≡◌, ◌≤◌, ◌++◌, length, OnOk, IfOk};
 ghost use Rattle.mid_start.specs.StaticData.{fixed_contents};
 
 use base::{NoMemory, WordList};
@@ -38,16 +38,6 @@ fn push_all(words: &mut WordList, more: &[u32]) -> Result<(), NoMemory>
 {
     for word in more {
         words.push(*word)?;
-    }
-    Ok(())
-}
-
-/// So many clear words behind the others.
-pub fn push_clear(words: &mut WordList, count: u32) -> Result<(), NoMemory>
-    ensures { OnOk result (words.new ≡ words.old ++ replicate count 0) }
-{
-    for _at in 0..count {
-        words.push(0)?;
     }
     Ok(())
 }

@@ -11,8 +11,9 @@ use base::{NoMemory, WordList};
 /// The same words with further ones behind them, from the address on where they ended. `TooLarge`
 /// comes only where all together are more than 2^24.
 pub fn lay_further(laid: StaticData, further: WordList) -> Result<StaticData, StaticDataFault>
-    ensures start { IfOk result (λ s. (names : List (List ℕ)) → (program : ProgramRows) → (low : ℕ) → IsStaticData names program low [] laid
+    ensures start { IfOk result (λ s. (names : List (List ℕ)) → (program : ProgramRows) → (low : List ℕ) → IsStaticData names program low [] laid
         → IsStaticData names program low further s) }
+    ensures kept { IfOk result (λ s. s ≡ record laid { arena = record laid.arena { words = s.arena.words } }) }
     ensures behind { IfOk result (λ s. s.arena.words ≡ laid.arena.words ++ further) }
     ensures size { IfOk result (λ s. length s.arena.words ≤ 2 ^ 24) }
     ensures too_large { result ≡ Err StaticDataFault.TooLarge → 2 ^ 24 < length laid.arena.words + length further }

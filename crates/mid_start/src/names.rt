@@ -4,7 +4,7 @@ ghost use Rattle.std.specs.Prelude.{◌≡◌, ◌<◌, length, OnOk, IfOk};
 ghost use Rattle.base.specs.declared.datum.Symbol.TheVariants.{Named};
 ghost use Rattle.base.specs.Data as data_specs;
 ghost use Rattle.lang_meaning.specs.State.{no_place};
-ghost use Rattle.mid_start.specs.Laying.{HasRoom};
+ghost use Rattle.mid_start.specs.Laying.{HasRoom, Grown};
 ghost use Rattle.mid_start.specs.Recipes.{name_recipe};
 ghost use Rattle.mid_start.specs.Making.{IsWord, Makes, IsWithin};
 
@@ -24,6 +24,7 @@ pub fn lay_name(
 ) -> Result<u32, NoMemory>
     requires named { name.0 < length names.now }
     requires room { HasRoom words.old 160 }
+    ensures grown { OnOk result (Grown words.old words.new) }
     ensures within { OnOk result (IsWithin words.old words.new 160) }
     ensures made { IfOk result (λ w. Makes names.now IsWord (name_recipe names.now name) words.old words.new w) }
 {

@@ -1,13 +1,13 @@
 // The words of all objects before the first form, behind the fixed words and low words of the program's own.
 
-ghost use Rattle.std.specs.Prelude.{◌≡◌, ◌+◌, ◌*◌, ◌^◌, ◌<◌, ◌≤◌, [], ◌++◌, Err, length, min, replicate, IfOk};
+ghost use Rattle.std.specs.Prelude.{◌≡◌, ◌+◌, ◌*◌, ◌^◌, ◌<◌, ◌≤◌, [], ◌++◌, Err, length, min, IfOk};
 ghost use Rattle.lang_meaning.specs.declared.program.ProgramRows.{ProgramRows};
 ghost use Rattle.mid_start.specs.Rows.{RowsFit, static_size};
 ghost use Rattle.mid_start.specs.StaticData.{IsStaticData};
 
 use crate::ArenaWords;
 use crate::classes::{lay_classes, lay_input, lay_output};
-use crate::fixed::{fixed_words, push_clear};
+use crate::fixed::fixed_words;
 use crate::functions::lay_functions;
 use crate::literals::lay_literals;
 use crate::names::lay_name;
@@ -25,7 +25,7 @@ const FIXED_END: u32 = 184;
 pub const MOST_WORDS: usize = 16_777_216;
 
 // As many low words, and units of 160 words, end below the address 2^30.
-const MOST_LOW: u32 = 16_777_216;
+const MOST_LOW: usize = 16_777_216;
 
 const MOST_UNITS: u64 = 1_500_000;
 
@@ -47,20 +47,20 @@ pub enum StaticDataFault {
 }
 
 /// The words before the first form of a program, where t has that name: the fixed words, behind them
-/// so many low words of the program's own, which are clear, and behind these the objects that are
-/// there. `TooLarge` comes only where 46 words, the low words, and 160 for each unit of the rows'
-/// size, are more than 2^24.
+/// the low words of the program's own as they are given, and behind these the objects that are there.
+/// `TooLarge` comes only where 46 words, the low words, and 160 for each unit of the rows' size, are
+/// more than 2^24.
 pub fn lay_static_data(
     alloc: Global,
     names: &Names,
     true_name: Name,
     rows: &ProgramRows,
-    low: u32,
+    low: WordList,
 ) -> Result<StaticData, StaticDataFault>
     requires { RowsFit names.now true_name rows.now.classes rows.now.functions rows.now.literals }
     ensures start { IfOk result (λ s. IsStaticData names.now rows.now low [] s) }
     ensures size { IfOk result (λ s. length s.arena.words ≤ 2 ^ 24) }
-    ensures too_large { result ≡ Err StaticDataFault.TooLarge → 2 ^ 24 < 46 + low + 160 * static_size rows.now.classes rows.now.functions rows.now.literals }
+    ensures too_large { result ≡ Err StaticDataFault.TooLarge → 2 ^ 24 < 46 + length low + 160 * static_size rows.now.classes rows.now.functions rows.now.literals }
 {
     lay_rows(
         alloc,
@@ -81,15 +81,15 @@ pub fn lay_rows(
     classes: &ClassRows,
     functions: &FunctionRows,
     literals: &LiteralRows,
-    low: u32,
+    low: WordList,
 ) -> Result<StaticData, StaticDataFault>
     requires { RowsFit names.now true_name classes.now functions.now literals.now }
     ensures start { IfOk result (λ s. (program : ProgramRows) → program.classes ≡ classes.now → program.functions ≡ functions.now
         → program.literals ≡ literals.now → IsStaticData names.now program low [] s) }
     ensures size { IfOk result (λ s. length s.arena.words ≤ 2 ^ 24) }
-    ensures too_large { result ≡ Err StaticDataFault.TooLarge → 2 ^ 24 < 46 + low + 160 * static_size classes.now functions.now literals.now }
+    ensures too_large { result ≡ Err StaticDataFault.TooLarge → 2 ^ 24 < 46 + length low + 160 * static_size classes.now functions.now literals.now }
 {
-    if low > MOST_LOW {
+    if low.len() > MOST_LOW {
         return Err(StaticDataFault::TooLarge);
     }
     if size_of_rows(classes, functions, literals) > MOST_UNITS {
@@ -125,16 +125,16 @@ fn lay_all(
     classes: &ClassRows,
     functions: &FunctionRows,
     literals: &LiteralRows,
-    low: u32,
+    low: WordList,
 ) -> Result<StaticData, NoMemory>
     requires fits { RowsFit names.now true_name classes.now functions.now literals.now }
     requires size { static_size classes.now functions.now literals.now ≤ 1500000 }
-    requires low { low ≤ 2 ^ 24 }
+    requires low { length low ≤ 2 ^ 24 }
     ensures start { IfOk result (λ s. (program : ProgramRows) → program.classes ≡ classes.now → program.functions ≡ functions.now
         → program.literals ≡ literals.now → IsStaticData names.now program low [] s) }
-    ensures count { IfOk result (λ s. length s.arena.words ≤ 46 + low + 160 * static_size classes.now functions.now literals.now) }
+    ensures count { IfOk result (λ s. length s.arena.words ≤ 46 + length low + 160 * static_size classes.now functions.now literals.now) }
 {
-    let mut words = ArenaWords::new(alloc, FIXED_END + 4 * low);
+    let mut words = ArenaWords::new(alloc, FIXED_END + 4 * low.len() as u32);
     let function_words = lay_functions(alloc, functions, &mut words)?;
     let literal_words = lay_literals(alloc, literals, names, &mut words)?;
     let slots = lay_slots(alloc, classes, names, &mut words)?;
@@ -152,15 +152,15 @@ fn lay_all(
     })
 }
 
-// The words behind the fixed ones and so many low ones, from address 0 on.
-fn with_front(fixed: WordList, low: u32, laid: ArenaWords) -> Result<ArenaWords, NoMemory>
+// The words behind the fixed ones and the low ones, from address 0 on.
+fn with_front(fixed: WordList, low: WordList, laid: ArenaWords) -> Result<ArenaWords, NoMemory>
     ensures first { IfOk result (λ words. words.first ≡ 0) }
-    ensures words { IfOk result (λ words. words.words ≡ fixed ++ replicate low 0 ++ laid.words) }
+    ensures words { IfOk result (λ words. words.words ≡ fixed ++ low ++ laid.words) }
     ensures symbols { IfOk result (λ words. words.symbols ≡ laid.symbols) }
 {
     let ArenaWords { words, symbols, .. } = laid;
     let mut all = fixed;
-    push_clear(&mut all, low)?;
+    all.append_list(low)?;
     all.append_list(words)?;
     Ok(ArenaWords {
         first: 0,

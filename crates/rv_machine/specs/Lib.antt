@@ -6,6 +6,7 @@ pub mod State
 pub mod Step
 pub mod Effects
 pub mod Rows
+pub mod Operators
 pub mod Held
 pub mod Run
 pub mod Turn

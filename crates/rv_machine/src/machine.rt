@@ -11,6 +11,7 @@ mod control;
 mod effects;
 mod keeping;
 mod memory;
+mod operators;
 mod registers;
 mod rows;
 mod steps;

@@ -6,15 +6,12 @@ ghost use Rattle.rv_machine.specs.Memory.{stored_at};
 ghost use Rattle.rv_machine.specs.State.{register as register_of};
 ghost use Rattle.rv_machine.specs.Step.{go_to, next, link as link_of, load as load_of, store as store_of};
 ghost use Rattle.rv_machine.specs.Rows.{address_of, does, reached};
+ghost use Rattle.rv_machine.specs.Operators.{compared, operated};
 ghost use Rattle.rv_machine.specs.Held.{Flows, standing, written};
 
-use super::arithmetic::{
-    high_mixed, high_signed, high_unsigned, is_less_signed, one_if_less, one_if_less_signed,
-    quotient, quotient_signed, remainder, remainder_signed, shift_left, shift_right,
-    shift_right_signed,
-};
 use super::contents::Contents;
 use super::memory::{byte_at, half_at, signed_byte_at, signed_half_at, word_at};
+use super::operators::{Comparison, Operator};
 use super::registers::{SourceRegister, TargetRegister};
 use super::rows::Row;
 
@@ -30,152 +27,45 @@ pub(crate) enum Flow {
 }
 
 impl Contents {
-    // What a row does, at the place of its word: first the operations on registers.
+    // What a row does, at the place of its word: first the rows that programs have most of.
     #[inline(always)]
     pub(crate) fn carry_out(&mut self, row: Row, place: u32) -> Flow
         requires { place < 16777216 }
         ensures { Flows (does row (standing place self.old)) place result self.old self.new }
     {
         match row {
-            Row::Add { rd, rs1, rs2 } => {
-                let value = self.read(rs1).wrapping_add(self.read(rs2));
-                self.gives(rd, value)
-            }
-            Row::Sub { rd, rs1, rs2 } => {
-                let value = self.read(rs1).wrapping_sub(self.read(rs2));
-                self.gives(rd, value)
-            }
-            Row::Sll { rd, rs1, rs2 } => {
-                let value = shift_left(self.read(rs1), self.read(rs2));
-                self.gives(rd, value)
-            }
-            Row::Slt { rd, rs1, rs2 } => {
-                let value = one_if_less_signed(self.read(rs1), self.read(rs2));
-                self.gives(rd, value)
-            }
-            Row::Sltu { rd, rs1, rs2 } => {
-                let value = one_if_less(self.read(rs1), self.read(rs2));
-                self.gives(rd, value)
-            }
-            Row::Xor { rd, rs1, rs2 } => {
-                let value = self.read(rs1) ^ self.read(rs2);
-                self.gives(rd, value)
-            }
-            Row::Srl { rd, rs1, rs2 } => {
-                let value = shift_right(self.read(rs1), self.read(rs2));
-                self.gives(rd, value)
-            }
-            Row::Sra { rd, rs1, rs2 } => {
-                let value = shift_right_signed(self.read(rs1), self.read(rs2));
-                self.gives(rd, value)
-            }
-            Row::Or { rd, rs1, rs2 } => {
-                let value = self.read(rs1) | self.read(rs2);
-                self.gives(rd, value)
-            }
-            Row::And { rd, rs1, rs2 } => {
-                let value = self.read(rs1) & self.read(rs2);
-                self.gives(rd, value)
-            }
-            Row::Mul { rd, rs1, rs2 } => {
-                let value = self.read(rs1).wrapping_mul(self.read(rs2));
-                self.gives(rd, value)
-            }
-            Row::Mulh { rd, rs1, rs2 } => {
-                let value = high_signed(self.read(rs1), self.read(rs2));
-                self.gives(rd, value)
-            }
-            Row::Mulhsu { rd, rs1, rs2 } => {
-                let value = high_mixed(self.read(rs1), self.read(rs2));
-                self.gives(rd, value)
-            }
-            Row::Mulhu { rd, rs1, rs2 } => {
-                let value = high_unsigned(self.read(rs1), self.read(rs2));
-                self.gives(rd, value)
-            }
-            Row::Div { rd, rs1, rs2 } => {
-                let value = quotient_signed(self.read(rs1), self.read(rs2));
-                self.gives(rd, value)
-            }
-            Row::Divu { rd, rs1, rs2 } => {
-                let value = quotient(self.read(rs1), self.read(rs2));
-                self.gives(rd, value)
-            }
-            Row::Rem { rd, rs1, rs2 } => {
-                let value = remainder_signed(self.read(rs1), self.read(rs2));
-                self.gives(rd, value)
-            }
-            Row::Remu { rd, rs1, rs2 } => {
-                let value = remainder(self.read(rs1), self.read(rs2));
-                self.gives(rd, value)
-            }
-            _ => self.carry_out_immediate(row, place),
-        }
-    }
-
-    // Operations with an immediate.
-    #[inline(always)]
-    fn carry_out_immediate(&mut self, row: Row, place: u32) -> Flow
-        requires { place < 16777216 }
-        ensures { Flows (does row (standing place self.old)) place result self.old self.new }
-    {
-        match row {
-            Row::Addi { rd, rs1, value } => {
-                let value = self.read(rs1).wrapping_add(value);
-                self.gives(rd, value)
-            }
-            Row::Slti { rd, rs1, value } => {
-                let value = one_if_less_signed(self.read(rs1), value);
-                self.gives(rd, value)
-            }
-            Row::Sltiu { rd, rs1, value } => {
-                let value = one_if_less(self.read(rs1), value);
-                self.gives(rd, value)
-            }
-            Row::Xori { rd, rs1, value } => {
-                let value = self.read(rs1) ^ value;
-                self.gives(rd, value)
-            }
-            Row::Ori { rd, rs1, value } => {
-                let value = self.read(rs1) | value;
-                self.gives(rd, value)
-            }
-            Row::Andi { rd, rs1, value } => {
-                let value = self.read(rs1) & value;
-                self.gives(rd, value)
-            }
-            Row::Slli { rd, rs1, value } => {
-                let value = shift_left(self.read(rs1), value);
-                self.gives(rd, value)
-            }
-            Row::Srli { rd, rs1, value } => {
-                let value = shift_right(self.read(rs1), value);
-                self.gives(rd, value)
-            }
-            Row::Srai { rd, rs1, value } => {
-                let value = shift_right_signed(self.read(rs1), value);
-                self.gives(rd, value)
-            }
+            Row::Add { rd, rs1, rs2 } => self.operates(Operator::Add, rd, rs1, rs2),
+            Row::Sub { rd, rs1, rs2 } => self.operates(Operator::Subtract, rd, rs1, rs2),
+            Row::Xor { rd, rs1, rs2 } => self.operates(Operator::ExclusiveOr, rd, rs1, rs2),
+            Row::Or { rd, rs1, rs2 } => self.operates(Operator::Or, rd, rs1, rs2),
+            Row::And { rd, rs1, rs2 } => self.operates(Operator::And, rd, rs1, rs2),
+            Row::Addi { rd, rs1, value } => self.operates_on(Operator::Add, rd, rs1, value),
+            Row::Andi { rd, rs1, value } => self.operates_on(Operator::And, rd, rs1, value),
+            Row::Slli { rd, rs1, value } => self.operates_on(Operator::ShiftLeft, rd, rs1, value),
+            Row::Srli { rd, rs1, value } => self.operates_on(Operator::ShiftRight, rd, rs1, value),
+            Row::Srai { rd, rs1, value } => self.operates_on(
+                Operator::ShiftRightSigned,
+                rd,
+                rs1,
+                value,
+            ),
             Row::Set { rd, value } => self.gives(rd, value),
-            _ => self.carry_out_transfer(row, place),
-        }
-    }
-
-    // Loads and stores.
-    #[inline(always)]
-    fn carry_out_transfer(&mut self, row: Row, place: u32) -> Flow
-        requires { place < 16777216 }
-        ensures { Flows (does row (standing place self.old)) place result self.old self.new }
-    {
-        match row {
-            Row::Lb { rd, rs1, offset } => {
-                let found = signed_byte_at(self.arena(), self.reached(rs1, offset));
-                self.loads(rd, found)
-            }
-            Row::Lh { rd, rs1, offset } => {
-                let found = signed_half_at(self.arena(), self.reached(rs1, offset));
-                self.loads(rd, found)
-            }
+            Row::Beq { rs1, rs2, target } => self.branches(Comparison::Equal, rs1, rs2, target),
+            Row::Bne { rs1, rs2, target } => self.branches(Comparison::Different, rs1, rs2, target),
+            Row::Blt { rs1, rs2, target } => self.branches(
+                Comparison::LessSigned,
+                rs1,
+                rs2,
+                target,
+            ),
+            Row::Bge { rs1, rs2, target } => self.branches(
+                Comparison::NotLessSigned,
+                rs1,
+                rs2,
+                target,
+            ),
+            Row::Bltu { rs1, rs2, target } => self.branches(Comparison::Less, rs1, rs2, target),
+            Row::Bgeu { rs1, rs2, target } => self.branches(Comparison::NotLess, rs1, rs2, target),
             Row::Lw { rd, rs1, offset } => {
                 let found = word_at(self.arena(), self.reached(rs1, offset));
                 self.loads(rd, found)
@@ -183,28 +73,6 @@ impl Contents {
             Row::Lbu { rd, rs1, offset } => {
                 let found = byte_at(self.arena(), self.reached(rs1, offset));
                 self.loads(rd, found)
-            }
-            Row::Lhu { rd, rs1, offset } => {
-                let found = half_at(self.arena(), self.reached(rs1, offset));
-                self.loads(rd, found)
-            }
-            Row::Sb { rs1, rs2, offset } => {
-                let address = self.reached(rs1, offset);
-                let value = self.read(rs2);
-                if self.store_byte(address, value) {
-                    Flow::On
-                } else {
-                    Flow::Leave
-                }
-            }
-            Row::Sh { rs1, rs2, offset } => {
-                let address = self.reached(rs1, offset);
-                let value = self.read(rs2);
-                if self.store_half(address, value) {
-                    Flow::On
-                } else {
-                    Flow::Leave
-                }
             }
             Row::Sw { rs1, rs2, offset } => {
                 let address = self.reached(rs1, offset);
@@ -215,40 +83,14 @@ impl Contents {
                     Flow::Leave
                 }
             }
-            _ => self.carry_out_jump(row, place),
-        }
-    }
-
-    // Branches, jumps, and nothing at all.
-    #[inline(always)]
-    fn carry_out_jump(&mut self, row: Row, place: u32) -> Flow
-        requires { place < 16777216 }
-        ensures { Flows (does row (standing place self.old)) place result self.old self.new }
-    {
-        match row {
-            Row::Beq { rs1, rs2, target } => {
-                let taken = self.read(rs1) == self.read(rs2);
-                Flow::Branch { taken, target }
-            }
-            Row::Bne { rs1, rs2, target } => {
-                let taken = self.read(rs1) != self.read(rs2);
-                Flow::Branch { taken, target }
-            }
-            Row::Blt { rs1, rs2, target } => {
-                let taken = is_less_signed(self.read(rs1), self.read(rs2));
-                Flow::Branch { taken, target }
-            }
-            Row::Bge { rs1, rs2, target } => {
-                let taken = !is_less_signed(self.read(rs1), self.read(rs2));
-                Flow::Branch { taken, target }
-            }
-            Row::Bltu { rs1, rs2, target } => {
-                let taken = self.read(rs1) < self.read(rs2);
-                Flow::Branch { taken, target }
-            }
-            Row::Bgeu { rs1, rs2, target } => {
-                let taken = !(self.read(rs1) < self.read(rs2));
-                Flow::Branch { taken, target }
+            Row::Sb { rs1, rs2, offset } => {
+                let address = self.reached(rs1, offset);
+                let value = self.read(rs2);
+                if self.store_byte(address, value) {
+                    Flow::On
+                } else {
+                    Flow::Leave
+                }
             }
             Row::Jump { target } => Flow::Branch {
                 taken: true,
@@ -263,6 +105,60 @@ impl Contents {
                 let address = self.reached(rs1, offset);
                 if address % 4 < 2 {
                     self.links(rd, place, address / 4)
+                } else {
+                    Flow::Leave
+                }
+            }
+            _ => self.carry_out_rarer(row, place),
+        }
+    }
+
+    // The other rows, behind a jump of their own.
+    #[inline(always)]
+    fn carry_out_rarer(&mut self, row: Row, place: u32) -> Flow
+        requires { place < 16777216 }
+        ensures { Flows (does row (standing place self.old)) place result self.old self.new }
+    {
+        match row {
+            Row::Sll { rd, rs1, rs2 } => self.operates(Operator::ShiftLeft, rd, rs1, rs2),
+            Row::Slt { rd, rs1, rs2 } => self.operates(Operator::SetLessSigned, rd, rs1, rs2),
+            Row::Sltu { rd, rs1, rs2 } => self.operates(Operator::SetLess, rd, rs1, rs2),
+            Row::Srl { rd, rs1, rs2 } => self.operates(Operator::ShiftRight, rd, rs1, rs2),
+            Row::Sra { rd, rs1, rs2 } => self.operates(Operator::ShiftRightSigned, rd, rs1, rs2),
+            Row::Mul { rd, rs1, rs2 } => self.operates(Operator::Multiply, rd, rs1, rs2),
+            Row::Mulh { rd, rs1, rs2 } => self.operates(Operator::HighSigned, rd, rs1, rs2),
+            Row::Mulhsu { rd, rs1, rs2 } => self.operates(Operator::HighMixed, rd, rs1, rs2),
+            Row::Mulhu { rd, rs1, rs2 } => self.operates(Operator::High, rd, rs1, rs2),
+            Row::Div { rd, rs1, rs2 } => self.operates(Operator::DivideSigned, rd, rs1, rs2),
+            Row::Divu { rd, rs1, rs2 } => self.operates(Operator::Divide, rd, rs1, rs2),
+            Row::Rem { rd, rs1, rs2 } => self.operates(Operator::RemainderSigned, rd, rs1, rs2),
+            Row::Remu { rd, rs1, rs2 } => self.operates(Operator::Remainder, rd, rs1, rs2),
+            Row::Slti { rd, rs1, value } => self.operates_on(
+                Operator::SetLessSigned,
+                rd,
+                rs1,
+                value,
+            ),
+            Row::Sltiu { rd, rs1, value } => self.operates_on(Operator::SetLess, rd, rs1, value),
+            Row::Xori { rd, rs1, value } => self.operates_on(Operator::ExclusiveOr, rd, rs1, value),
+            Row::Ori { rd, rs1, value } => self.operates_on(Operator::Or, rd, rs1, value),
+            Row::Lb { rd, rs1, offset } => {
+                let found = signed_byte_at(self.arena(), self.reached(rs1, offset));
+                self.loads(rd, found)
+            }
+            Row::Lh { rd, rs1, offset } => {
+                let found = signed_half_at(self.arena(), self.reached(rs1, offset));
+                self.loads(rd, found)
+            }
+            Row::Lhu { rd, rs1, offset } => {
+                let found = half_at(self.arena(), self.reached(rs1, offset));
+                self.loads(rd, found)
+            }
+            Row::Sh { rs1, rs2, offset } => {
+                let address = self.reached(rs1, offset);
+                let value = self.read(rs2);
+                if self.store_half(address, value) {
+                    Flow::On
                 } else {
                     Flow::Leave
                 }
@@ -293,6 +189,55 @@ impl Contents {
     {
         self.registers[rd.index()] = value;
         Flow::On
+    }
+
+    // An operation on two registers.
+    #[inline(always)]
+    fn operates(
+        &mut self,
+        operator: Operator,
+        rd: TargetRegister,
+        rs1: SourceRegister,
+        rs2: SourceRegister,
+    ) -> Flow
+        ensures flow { result ≡ Flow.On }
+        ensures held { let value = operated operator (slice_index self.old.registers rs1)
+            (slice_index self.old.registers rs2) in self.new ≡ written rd value self.old }
+    {
+        let value = operator.of(self.read(rs1), self.read(rs2));
+        self.gives(rd, value)
+    }
+
+    // An operation on a register and a word.
+    #[inline(always)]
+    fn operates_on(
+        &mut self,
+        operator: Operator,
+        rd: TargetRegister,
+        rs1: SourceRegister,
+        word: u32,
+    ) -> Flow
+        ensures flow { result ≡ Flow.On }
+        ensures held { self.new ≡ written rd (operated operator (slice_index self.old.registers rs1) word) self.old }
+    {
+        let value = operator.of(self.read(rs1), word);
+        self.gives(rd, value)
+    }
+
+    // To another place, where two registers compare so.
+    #[inline(always)]
+    fn branches(
+        &self,
+        comparison: Comparison,
+        rs1: SourceRegister,
+        rs2: SourceRegister,
+        target: u32,
+    ) -> Flow
+        ensures { let taken = compared comparison (slice_index self.now.registers rs1)
+            (slice_index self.now.registers rs2) in result ≡ Flow.Branch taken target }
+    {
+        let taken = comparison.holds(self.read(rs1), self.read(rs2));
+        Flow::Branch { taken, target }
     }
 
     // What a load found in a register; a load that found nothing is left to a step.

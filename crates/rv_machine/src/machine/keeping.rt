@@ -10,6 +10,7 @@ use super::rows::Row;
 use rv_encode::{Instr, Offset13, Offset21, Register};
 
 // The row of what a word was read as, at its place.
+#[inline(always)]
 pub(crate) fn read_row(instruction: Option<Instr>, place: u32) -> Row
     requires { place < 16777216 }
     ensures { result ≡ read_row_of instruction place }
@@ -21,6 +22,7 @@ pub(crate) fn read_row(instruction: Option<Instr>, place: u32) -> Row
 }
 
 // The row of an instruction: first the operations on registers.
+#[inline(always)]
 fn row_of(instruction: Instr, place: u32) -> Row
     requires { place < 16777216 }
     ensures { result ≡ row_of_instruction instruction place }
@@ -229,6 +231,7 @@ fn row_of(instruction: Instr, place: u32) -> Row
 }
 
 // Operations with an immediate.
+#[inline(always)]
 fn immediate_row(instruction: Instr, place: u32) -> Row
     requires { place < 16777216 }
     ensures { result ≡ immediate_row_of instruction place }
@@ -358,6 +361,7 @@ fn immediate_row(instruction: Instr, place: u32) -> Row
 }
 
 // Loads and stores.
+#[inline(always)]
 fn transfer_row(instruction: Instr, place: u32) -> Row
     requires { place < 16777216 }
     ensures { result ≡ transfer_row_of instruction place }
@@ -438,6 +442,7 @@ fn transfer_row(instruction: Instr, place: u32) -> Row
 }
 
 // Branches, jumps, and nothing at all.
+#[inline(always)]
 fn jump_row(instruction: Instr, place: u32) -> Row
     requires { place < 16777216 }
     ensures { result ≡ jump_row_of instruction place }

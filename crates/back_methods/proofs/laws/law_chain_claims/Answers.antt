@@ -1,4 +1,4 @@
-use Rattle.back_methods.proofs.Claims.{chain_claims_law}
+use Rattle.back_methods.proofs.Chains.{chain_claims_law}
 use Rattle.back_methods.proofs.laws.law_chain_claims.Goals as goal
 
 pub returns : goal.returns

@@ -1,7 +1,5 @@
 -- Part by part.
-use Rattle.std.proofs.Common.{◌≡◌, ℕ, ◌≤◌, ◌++◌, length, sym, ◌∙◌, ap, subst, length-append, arith}
-use Rattle.std.specs.Prelude.{replicate}
-use Rattle.std.proofs.lemmas.List.{length-replicate}
+use Rattle.std.proofs.Common.{◌≡◌, ℕ, ◌+◌, ◌*◌, ◌≤◌, ◌++◌, length, sym, ◌∙◌, ap, subst, length-append, arith}
 use Rattle.std.proofs.lemmas.Option.{slice_get_within}
 use Rattle.lang_meaning.specs.Recipes.{in_turn, function_recipe, literal_recipe}
 use Rattle.mid_start.specs.Recipes.{slots_recipe}
@@ -144,13 +142,15 @@ fixed_words-requires c =
 
 pub returns-clause-start : goal.returns-clause-start
 returns-clause-start c program same_classes same_functions same_literals =
+    let low_count = ap (λ n. 184 + 4 * n) c.len.ensures in
     starts c.args.names.now program c.args.true_name c.new-words.result c.lay_functions.new.words c.lay_literals.new.words c.lay_slots.new.words c.lay_name.new.words
     c.lay_input.new.words c.lay_output.new.words c.lay_classes.new.words c.in_ok-arena.arena
     c.in_ok-function_words.function_words c.in_ok-literal_words.literal_words c.in_ok-class_words.class_words c.in_ok-slots.slots c.in_ok-truth.truth c.in_ok-input.input c.in_ok-output.output c.args.low
     (subst (λ xs. 34 ≤ length xs) (sym same_classes) (enough_classes c.args.classes.now c.requires.fits.built_in)) c.requires.fits.true_text c.requires.fits.no_nil
-    c.new-words.ensures.first c.new-words.ensures.symbols
+    (c.new-words.ensures.first ∙ low_count) c.new-words.ensures.symbols
     (c.in_ok-class_words.ensures.within.first ∙ c.in_ok-output.ensures.within.first ∙ c.in_ok-input.ensures.within.first ∙ c.in_ok-truth.ensures.within.first
-    ∙ c.in_ok-slots.ensures.within.first ∙ c.in_ok-literal_words.ensures.within.first ∙ c.in_ok-function_words.ensures.within.first ∙ c.new-words.ensures.first)
+    ∙ c.in_ok-slots.ensures.within.first ∙ c.in_ok-literal_words.ensures.within.first ∙ c.in_ok-function_words.ensures.within.first ∙ c.new-words.ensures.first
+    ∙ low_count)
     (subst (λ xs. Makes c.args.names.now (EachStandsFor IsWord) (in_turn function_recipe xs) c.new-words.result c.lay_functions.new.words c.in_ok-function_words.function_words) (sym same_functions)
     (c.in_ok-function_words.ensures.made c.args.names.now))
     (subst (λ xs. Makes c.args.names.now (EachStandsFor IsWord) (in_turn (literal_recipe c.args.names.now) xs) c.lay_functions.new.words c.lay_literals.new.words c.in_ok-literal_words.literal_words)
@@ -164,7 +164,7 @@ returns-clause-start c program same_classes same_functions same_literals =
     (sym same_classes)
     (c.in_ok-class_words.ensures.settle program same_classes))
     c.in_ok-arena.ensures.first
-    (c.in_ok-arena.ensures.words ∙ ap (λ ws. ws ++ replicate c.args.low 0 ++ c.lay_classes.new.words.words) c.in_ok-fixed.ensures)
+    (c.in_ok-arena.ensures.words ∙ ap (λ ws. ws ++ c.args.low ++ c.lay_classes.new.words.words) c.in_ok-fixed.ensures)
     c.in_ok-arena.ensures.symbols
 
 pub returns-clause-count : goal.returns-clause-count
@@ -178,9 +178,8 @@ returns-clause-count c =
       literals_within c.args.literals.now,
       all_classes_within c.args.classes.now,
       ap (λ xs. length xs) c.in_ok-arena.ensures.words,
-      length-append (c.in_ok-fixed.fixed ++ replicate c.args.low 0) c.lay_classes.new.words.words,
-      length-append c.in_ok-fixed.fixed (replicate c.args.low 0),
-      length-replicate {A = ℕ} c.args.low 0,
+      length-append (c.in_ok-fixed.fixed ++ c.args.low) c.lay_classes.new.words.words,
+      length-append c.in_ok-fixed.fixed c.args.low,
       fixed,
       ap (λ xs. length xs) c.new-words.ensures.words,
       c.in_ok-function_words.ensures.within.count,

@@ -1,0 +1,4 @@
+// How applications leave where all stands.
+#![tactic(auto)]
+
+pub mod laws;

@@ -1,0 +1,4 @@
+// Values that are applied to the elements of lists.
+#![tactic(auto)]
+
+pub mod laws;

@@ -1,0 +1,5 @@
+pub mod StartSteps
+pub mod MainsLeft
+pub mod Runs
+pub mod RunsMeant
+pub mod Programs

@@ -1,0 +1,4 @@
+pub mod StartSteps
+pub mod MainsLeft
+pub mod Runs
+pub mod Programs

@@ -1,0 +1,4 @@
+// Whole lowered programs, from what their main forms do.
+#![tactic(auto)]
+
+pub mod laws;

@@ -1,0 +1,14 @@
+pub mod Constants
+pub mod Firsts
+pub mod Variables
+pub mod Uses
+pub mod Methods
+pub mod Tuples
+pub mod Generics
+pub mod Law
+pub mod Programs
+pub mod Objects
+pub mod Start
+pub mod Symbols
+pub mod Whole
+pub mod Keeping
