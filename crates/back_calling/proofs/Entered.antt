@@ -31,9 +31,9 @@ use Rattle.back_relation.specs.Around.{RoomFor, AroundStands, CallBegins}
 use Rattle.back_relation.specs.Ends.{WorldKept, Around, Ends, RoomEnded, Because, done, left_by, full_there, stopped, few_turns, Returned, LeftCall, CallEnds}
 use Rattle.back_relation.specs.Forms.{code_at}
 use Rattle.back_relation.specs.Procedures.{called}
-use Rattle.back_combining.specs.Starts.{FlatGrown}
-use Rattle.back_combining.proofs.Worlds.{later_same, Deeper, record_stays, handlers_stay, bindings_stay, chain_lower}
-use Rattle.back_objects.proofs.Moving.{BoxWas}
+use Rattle.back_relation.specs.Starts.{FlatGrown}
+use Rattle.back_relation.proofs.Worlds.{later_same, Deeper, record_stays, handlers_stay, bindings_stay, chain_lower}
+use Rattle.back_relation.proofs.Moving.{BoxWas}
 use Rattle.back_calling.specs.Storing.{IsControl}
 use Rattle.back_calling.specs.Entering.{Inside, InsideFrame, LawOfPaidTurns, BodyComes, LawOfTurns, LawOfEnteredLevels}
 use Rattle.back_calling.proofs.Framing.{frame_word, frame_back}

@@ -16,12 +16,12 @@ use Rattle.back_lowering.specs.Steps.{call, call_number}
 use Rattle.back_relation.specs.Setting.{Setting}
 use Rattle.back_relation.specs.Ends.{WorldKept, Around, Because, done, left_by, full_there, stopped, few_turns, Returned, LeftCall, CallEnds}
 use Rattle.back_relation.specs.Procedures.{called}
-use Rattle.back_combining.specs.Starts.{Start, EndsFrom}
-use Rattle.back_combining.proofs.Activations.{activation_later}
-use Rattle.back_combining.proofs.Cuts.{words_fewer}
-use Rattle.back_combining.proofs.Straight.{same_here, set_beside, registers_set, world_cost, around_cost}
-use Rattle.back_combining.proofs.Then.{same_world, world_then, back_then}
-use Rattle.back_combining.proofs.Worlds.{later_same, stack_same}
+use Rattle.back_relation.specs.Starts.{Start, EndsFrom}
+use Rattle.back_relation.proofs.Activations.{activation_later}
+use Rattle.back_relation.proofs.Cuts.{words_fewer}
+use Rattle.back_relation.proofs.Straight.{same_here, set_beside, registers_set, world_cost, around_cost}
+use Rattle.back_relation.proofs.Then.{same_world, world_then, back_then}
+use Rattle.back_relation.proofs.Worlds.{later_same, stack_same}
 use Rattle.back_calling.specs.Calling.{WordsIn, call_cost, LawOfFormCalls}
 use Rattle.back_calling.proofs.Transferring.{transfers_behind, transfers_as}
 use Rattle.back_calling.proofs.Outward.{Outward, captured_later, activation_out}

@@ -24,13 +24,13 @@ use Rattle.back_relation.specs.Ends.{WorldKept, Around, RoomEnded, Because, Ends
 use Rattle.back_relation.specs.Forms.{code_at}
 use Rattle.back_relation.specs.Procedures.{called}
 use Rattle.back_relation.specs.RoutineClaims.{Looks}
-use Rattle.back_combining.specs.Starts.{FlatGrown, ReachedFrom}
-use Rattle.back_combining.proofs.Activations.{activation_later}
-use Rattle.back_combining.proofs.Growth.{both_prefix, then_value, then_other, then_grown, same_flat}
-use Rattle.back_combining.proofs.Parts.{go_on_falls, go_on_last, step_then}
-use Rattle.back_combining.proofs.Straight.{set_beside, registers_set, world_cost, around_cost}
-use Rattle.back_combining.proofs.Then.{same_world, world_then, back_then, stopped_last, because_then}
-use Rattle.back_combining.proofs.Choices.{go_gives}
+use Rattle.back_relation.specs.Starts.{FlatGrown, ReachedFrom}
+use Rattle.back_relation.proofs.Activations.{activation_later}
+use Rattle.back_relation.proofs.Growth.{both_prefix, then_value, then_other, then_grown, same_flat}
+use Rattle.back_relation.proofs.Parts.{go_on_falls, go_on_last, step_then}
+use Rattle.back_relation.proofs.Straight.{set_beside, registers_set, world_cost, around_cost}
+use Rattle.back_relation.proofs.Then.{same_world, world_then, back_then, stopped_last, because_then}
+use Rattle.back_relation.proofs.Choices.{go_gives}
 use Rattle.back_calling.specs.Calling.{WordsIn, call_cost}
 use Rattle.back_calling.specs.Inner.{LawOfGoingOn, LawOfPassing, LawOfReturns, LawOfReturning, LawOfCallsThen, LawOfLooking, LawOfFormLooking}
 use Rattle.back_calling.proofs.Formed.{called_state, called_returned, called_cut, called_because, call_comes}

@@ -13,7 +13,7 @@ use Rattle.back_lowering.specs.ControlWords.{variables_address, serials_address}
 use Rattle.back_relation.specs.Setting.{Setting, control_spot}
 use Rattle.back_relation.specs.Worlds.{World, BoxPlace, on_heap}
 use Rattle.back_relation.specs.Things.{Things}
-use Rattle.back_objects.proofs.Moving.{BoxWas, Goes, things_go_on}
+use Rattle.back_relation.proofs.Moving.{BoxWas, Goes, things_go_on}
 use Rattle.back_calling.specs.Storing.{IsControl}
 
 -- all words but one are as they were, and no variable stands there

@@ -16,8 +16,8 @@ use Rattle.back_relation.specs.Worlds.{World, Later, Standing}
 use Rattle.back_relation.specs.StackWords.{StackKept}
 use Rattle.back_relation.specs.Things.{Things}
 use Rattle.back_relation.specs.Activation.{FormScope, SlotHas, SlotIs, SelfHeld, ArgumentsHeld, in_heap, on_stack, MethodHeld, ActivationStands}
-use Rattle.back_combining.proofs.Activations.{made_by_later, kept_later}
-use Rattle.back_combining.proofs.Worlds.{word_later, plain_later}
+use Rattle.back_relation.proofs.Activations.{made_by_later, kept_later}
+use Rattle.back_relation.proofs.Worlds.{word_later, plain_later}
 
 -- the stack begins no further in, and what stands of it is kept
 pub record Outward (w w' : World) (y y' : MidState) : Type 0 where

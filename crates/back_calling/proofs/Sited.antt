@@ -24,11 +24,11 @@ use Rattle.back_relation.specs.Activation.{SiteHeld}
 use Rattle.back_relation.specs.Ends.{WorldKept}
 use Rattle.back_relation.specs.Forms.{code_at}
 use Rattle.back_relation.specs.RoutineClaims.{Does}
-use Rattle.back_combining.specs.Starts.{Start, EndsFrom, ReachedFrom}
-use Rattle.back_combining.proofs.Activations.{activation_later}
-use Rattle.back_combining.proofs.Parts.{single_step}
-use Rattle.back_combining.proofs.Starts.{start_after}
-use Rattle.back_combining.proofs.Then.{ends_then}
+use Rattle.back_relation.specs.Starts.{Start, EndsFrom, ReachedFrom}
+use Rattle.back_relation.proofs.Activations.{activation_later}
+use Rattle.back_relation.proofs.Parts.{single_step}
+use Rattle.back_relation.proofs.Starts.{start_after}
+use Rattle.back_relation.proofs.Then.{ends_then}
 use Rattle.back_calling.specs.Calling.{WordsIn, call_cost, Between, AllButTwo, LawOfSitedCalls, LawOfFailing}
 use Rattle.back_calling.specs.Storing.{IsControl, stored_at, standing_world}
 use Rattle.back_calling.proofs.Formed.{form_calls_law}

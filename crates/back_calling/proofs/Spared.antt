@@ -9,11 +9,11 @@ use Rattle.mid_code.specs.State.{go_on as mid_go_on}
 use Rattle.back_relation.specs.Setting.{Setting}
 use Rattle.back_relation.specs.Ends.{form_credit}
 use Rattle.back_relation.specs.Forms.{FormEnds, SparingForm}
-use Rattle.back_combining.specs.Starts.{FlatGrown, Start, EndsAt, FellFrom}
-use Rattle.back_combining.proofs.Growth.{then_value}
-use Rattle.back_combining.proofs.Parts.{go_on_falls}
-use Rattle.back_combining.proofs.Starts.{start_charged, ends_charged}
-use Rattle.back_combining.proofs.Then.{ends_go_on, ends_then}
+use Rattle.back_relation.specs.Starts.{FlatGrown, Start, EndsAt, FellFrom}
+use Rattle.back_relation.proofs.Growth.{then_value}
+use Rattle.back_relation.proofs.Parts.{go_on_falls}
+use Rattle.back_relation.proofs.Starts.{start_charged, ends_charged}
+use Rattle.back_relation.proofs.Then.{ends_go_on, ends_then}
 
 module _ (setting : Setting) where
   -- **a part that leaves something of its first unit, and the rest**, with the part's value in a register at or behind the first one

@@ -19,10 +19,10 @@ use Rattle.back_relation.specs.Worlds.{World, BoxPlace, on_heap, on_stack, gone}
 use Rattle.back_relation.specs.StackWords.{HasWordAt}
 use Rattle.back_relation.specs.Things.{Things}
 use Rattle.back_relation.specs.Ends.{WorldKept, Around}
-use Rattle.back_combining.specs.Cuts.{boxes_cut}
-use Rattle.back_combining.proofs.Cuts.{later_cut}
-use Rattle.back_objects.proofs.Boxes.{cut_count, heap_was, stack_above, stack_stays}
-use Rattle.back_objects.proofs.Moving.{BoxWas}
+use Rattle.back_relation.specs.Cuts.{boxes_cut}
+use Rattle.back_relation.proofs.Cuts.{later_cut}
+use Rattle.back_relation.proofs.Boxes.{cut_count, heap_was, stack_above, stack_stays}
+use Rattle.back_relation.proofs.Moving.{BoxWas}
 use Rattle.back_calling.specs.Storing.{IsControl, stored_at, standing_world, LawOfStoring}
 use Rattle.back_calling.proofs.Moving.{Moves, things_moved}
 

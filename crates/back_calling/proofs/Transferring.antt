@@ -7,7 +7,7 @@ use Rattle.mid_code.specs.State.{Registers, MidState, MidOutcome, ends}
 use Rattle.back_relation.specs.Setting.{Setting}
 use Rattle.back_relation.specs.Worlds.{World, Standing}
 use Rattle.back_relation.specs.Ends.{WorldKept, Around, Transfers}
-use Rattle.back_combining.proofs.Then.{from_same, world_then}
+use Rattle.back_relation.proofs.Then.{from_same, world_then}
 
 module _ (setting : Setting) {c1 : ℕ} {w w1 : World} {z z1 : FlatState} {y y1 : MidState} (k1 : WorldKept setting w w1 z z1 y y1) (a1 : Around setting c1 z z1 y y1) where
   -- its fields compute

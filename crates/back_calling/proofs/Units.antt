@@ -12,9 +12,9 @@ use Rattle.back_relation.specs.Things.{Things, WithinLimit}
 use Rattle.back_relation.specs.Room.{words_for_handler}
 use Rattle.back_relation.specs.Around.{RoomFor, CallBegins}
 use Rattle.back_relation.specs.Ends.{WorldKept, Around, Transfers, done, left_by, full_there, stopped, few_turns, Returned, LeftCall, CallEnds, SparingCall}
-use Rattle.back_combining.proofs.Straight.{same_here, things_units}
-use Rattle.back_combining.proofs.Then.{call_then}
-use Rattle.back_combining.proofs.Worlds.{later_same}
+use Rattle.back_relation.proofs.Straight.{same_here, things_units}
+use Rattle.back_relation.proofs.Then.{call_then}
+use Rattle.back_relation.proofs.Worlds.{later_same}
 
 -- the same state with so many units
 abbrev pub with_units : ℕ → FlatState → FlatState

@@ -19,7 +19,7 @@ use Rattle.back_relation.specs.Ends.{CallEnds}
 use Rattle.back_relation.specs.Forms.{context_at, code_at}
 use Rattle.back_relation.specs.Procedures.{called}
 use Rattle.back_relation.specs.RoutineClaims.{Does}
-use Rattle.back_combining.specs.Starts.{Start, EndsFrom}
+use Rattle.back_relation.specs.Starts.{Start, EndsFrom}
 use Rattle.back_calling.specs.Storing.{stored_at, standing_world}
 
 -- these words are in these registers

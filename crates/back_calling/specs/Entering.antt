@@ -22,7 +22,7 @@ use Rattle.back_relation.specs.Around.{AroundStands, CallBegins}
 use Rattle.back_relation.specs.Ends.{RoomEnded, CallEnds}
 use Rattle.back_relation.specs.Forms.{code_at}
 use Rattle.back_relation.specs.Procedures.{called}
-use Rattle.back_combining.specs.Starts.{FlatGrown}
+use Rattle.back_relation.specs.Starts.{FlatGrown}
 
 -- where the body of a procedure begins behind y: so many words of the stack are left for it, all words are as they were, and the entry was paid
 pub record Inside (setting : Setting) (rs valid : List Standing) (room paid : ℕ) (w : World) (around : DynamicContext) (z : FlatState) (y y' : MidState) : Type 0 where

@@ -19,7 +19,7 @@ use Rattle.back_relation.specs.Ends.{WorldKept, Around, Ends, Returned, CallEnds
 use Rattle.back_relation.specs.Forms.{code_at}
 use Rattle.back_relation.specs.Procedures.{called}
 use Rattle.back_relation.specs.RoutineClaims.{Looks}
-use Rattle.back_combining.specs.Starts.{FlatGrown, Start, EndsFrom, ReachedFrom}
+use Rattle.back_relation.specs.Starts.{FlatGrown, Start, EndsFrom, ReachedFrom}
 use Rattle.back_calling.specs.Calling.{WordsIn, call_cost}
 
 module _ (setting : Setting) where

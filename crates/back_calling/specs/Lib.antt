@@ -1,4 +1,6 @@
-pub mod Storing
+pub mod Applying
 pub mod Calling
 pub mod Entering
 pub mod Inner
+pub mod Lending
+pub mod Storing

@@ -9,7 +9,7 @@ use Rattle.back_relation.specs.Worlds.{World}
 use Rattle.back_relation.specs.StackWords.{HasWordAt}
 use Rattle.back_relation.specs.Things.{Things}
 use Rattle.back_relation.specs.Ends.{WorldKept}
-use Rattle.back_combining.specs.Cuts.{world_cut}
+use Rattle.back_relation.specs.Cuts.{world_cut}
 
 -- a control word, but not the one of serial numbers
 pub record IsControl (address : ℕ) : Type 0 where

@@ -1,9 +1,10 @@
-// The laws of calling, each as the contract of a function that does nothing.
+// The laws, each as the contract of a function that does nothing.
 ghost use Rattle.back_relation.specs.Setting.{Setting};
 ghost use Rattle.back_calling.specs.Calling.{LawOfFormCalls, LawOfSitedCalls, LawOfFailing};
 ghost use Rattle.back_calling.specs.Entering.{LawOfTurns, LawOfPaidTurns, LawOfEnteredLevels, LawOfNumbers};
 ghost use Rattle.back_calling.specs.Inner.{LawOfGoingOn, LawOfPassing, LawOfReturns, LawOfReturning, LawOfCallsThen, LawOfLooking, LawOfFormLooking};
 ghost use Rattle.back_calling.specs.Storing.{LawOfStoring};
+ghost use Rattle.back_calling.specs.Applying.{LawOfApplyingBodies, LawOfLevelsThere, LawOfJudgedLevels, LawOfFormLevels};
 
 /// A control word is stored.
 pub fn law_storing()
@@ -78,4 +79,24 @@ pub fn law_form_looking()
 /// A procedure that is entered with a turn, whose frame the meaning pays inside.
 pub fn law_paid_turns()
     ensures { (setting : Setting) → LawOfPaidTurns setting }
+{}
+
+/// A function without further arguments is entered at its body.
+pub fn law_applying_bodies()
+    ensures { (setting : Setting) → LawOfApplyingBodies setting }
+{}
+
+/// There is a level, or there is none.
+pub fn law_levels_there()
+    ensures { (setting : Setting) → LawOfLevelsThere setting }
+{}
+
+/// A level is judged by a procedure.
+pub fn law_judged_levels()
+    ensures { (setting : Setting) → LawOfJudgedLevels setting }
+{}
+
+/// A level is judged by a form.
+pub fn law_form_levels()
+    ensures { (setting : Setting) → LawOfFormLevels setting }
 {}

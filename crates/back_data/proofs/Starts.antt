@@ -7,7 +7,7 @@ use Rattle.std.proofs.lemmas.List.{get_or_past}
 use Rattle.mid_arena.specs.Layouts.{AreBytes}
 use Rattle.mid_start.specs.declared.words.ArenaWords.{ArenaWords}
 use Rattle.mid_start.specs.LaidArena.{memory_of}
-use Rattle.back_start.proofs.Padding.{in_front}
+use Rattle.back_runs.proofs.Padding.{in_front}
 use Rattle.back_data.specs.Laws.{LawOfStartsFromData, LawOfBeginningsWithData}
 
 -- from address 0 on there is nothing in front of the words

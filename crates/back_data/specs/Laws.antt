@@ -6,7 +6,7 @@ use Rattle.mid_lines.specs.declared.line.LineProgram.{LineProgram}
 use Rattle.mid_start.specs.declared.words.ArenaWords.{ArenaWords}
 use Rattle.mid_start.specs.StaticData.{BeginsWithData}
 use Rattle.back_places.specs.Places.{Located}
-use Rattle.back_start.specs.Images.{HasStart, IsFirst, first_state}
+use Rattle.back_runs.specs.Images.{HasStart, IsFirst, first_state}
 
 -- words from address 0 on are the front of an image, in front of those of arguments
 pub record AreInFront (l : Located) (words : ArenaWords) (image : List ℕ) : Type 0 where

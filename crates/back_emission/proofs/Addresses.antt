@@ -11,7 +11,7 @@ use Rattle.mid_code.specs.Words.{address}
 use Rattle.mid_lines.proofs.Conjunctions.{front_true, back_true}
 use Rattle.back_places.specs.Selection.{low_12}
 use Rattle.back_places.specs.Relation.{HasArena}
-use Rattle.back_stepping.proofs.Parts.{small_extended, high_extended}
+use Rattle.back_emission.proofs.Parts.{small_extended, high_extended}
 
 -- the low word of a sum with a negative number
 negative_sum : (base n : ℕ) (z : ℤ) → pos base +ℤ negsuc n ≡ z → base < 2 ^ 32 → n ≤ 2047 → (base + (2 ^ 32 - 1 - n)) % 2 ^ 32 ≡ low_word z

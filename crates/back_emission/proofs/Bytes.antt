@@ -26,11 +26,11 @@ use Rattle.back_places.specs.Facts.{IsPlace}
 use Rattle.back_places.specs.Good.{IsGood}
 use Rattle.back_places.specs.Relation.{HasCode, IsAt, Machine, Runs, Relates}
 use Rattle.back_places.specs.StepLaw.{Comes, Follows, weight}
-use Rattle.back_stepping.specs.Moments.{state_at, Beside, later, moment, beside, AreSmall, Sets, Ready}
-use Rattle.back_stepping.proofs.Coming.{next_place, and_on, sets_on, step_at, has_front, has_back, same_moment}
-use Rattle.back_stepping.proofs.Operands.{prepared_one}
-use Rattle.back_stepping.proofs.Lengths.{load_length}
-use Rattle.back_stepping.proofs.Going.{all_kept, point_of, stands_at}
+use Rattle.back_emission.specs.Moments.{state_at, Beside, later, moment, beside, AreSmall, Sets, Ready}
+use Rattle.back_emission.proofs.Coming.{next_place, and_on, sets_on, step_at, has_front, has_back, same_moment}
+use Rattle.back_emission.proofs.Operands.{prepared_one}
+use Rattle.back_emission.proofs.Lengths.{load_length}
+use Rattle.back_emission.proofs.Going.{all_kept, point_of, stands_at}
 use Rattle.back_emission.proofs.Ends.{call_is, into}
 use Rattle.back_emission.proofs.Steps.{nothing, at_line, weighs, next_line}
 

@@ -27,7 +27,7 @@ use Rattle.back_places.specs.Good.{IsGood}
 use Rattle.back_places.specs.Relation.{EntersIn, Relates}
 use Rattle.back_places.specs.StepLaw.{Comes, Follows, weight}
 use Rattle.back_places.proofs.LinesInForm.{all_at, line_is}
-use Rattle.back_stepping.proofs.Lengths.{either_length, load_length, read_length}
+use Rattle.back_emission.proofs.Lengths.{either_length, load_length, read_length}
 use Rattle.back_emission.proofs.Calls.{call_by_number, call_by_word, call_of_none}
 use Rattle.back_emission.proofs.Steps.{nothing, at_line, weighs}
 

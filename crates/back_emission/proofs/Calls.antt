@@ -31,13 +31,13 @@ use Rattle.back_places.specs.Facts.{ToLandings, Reads}
 use Rattle.back_places.specs.Good.{IsGood}
 use Rattle.back_places.specs.Relation.{HasCode, base_of, HasProgram, AreThere, LandingHolds, LandingsHold, Runs, CallersWait, Enters, ArePassed, static_of, statics}
 use Rattle.back_places.specs.StepLaw.{Comes}
-use Rattle.back_stepping.specs.Moments.{state_at, Beside, later, moment, beside, AreSmall, Ready}
-use Rattle.back_stepping.proofs.Coming.{same_moment, sets_none, one_step, step_at, and_on, and_one, has_front, has_back, next_place}
-use Rattle.back_stepping.proofs.Operands.{set_small, loaded, prepared_one, frame_still}
-use Rattle.back_stepping.proofs.Jumps.{jump_reaches, jumped_to}
-use Rattle.back_stepping.proofs.Private.{SamePrivate, private_low, lent_where, outer_words, callers_stay, program_kept}
-use Rattle.back_stepping.proofs.Going.{point_of}
-use Rattle.back_stepping.proofs.Moving.{place_small, frame_is}
+use Rattle.back_emission.specs.Moments.{state_at, Beside, later, moment, beside, AreSmall, Ready}
+use Rattle.back_emission.proofs.Coming.{same_moment, sets_none, one_step, step_at, and_on, and_one, has_front, has_back, next_place}
+use Rattle.back_emission.proofs.Operands.{set_small, loaded, prepared_one, frame_still}
+use Rattle.back_emission.proofs.JumpSteps.{jump_reaches, jumped_to}
+use Rattle.back_emission.proofs.Private.{SamePrivate, private_low, lent_where, outer_words, callers_stay, program_kept}
+use Rattle.back_emission.proofs.Going.{point_of}
+use Rattle.back_emission.proofs.Moving.{place_small, frame_is}
 use Rattle.back_emission.proofs.Scratch.{far_jumps, table_prepared}
 use Rattle.back_emission.proofs.Passing.{AreAt, Before, passes, is_value_register, at_still_low}
 use Rattle.back_emission.proofs.Returns.{outlasting}

@@ -25,12 +25,12 @@ use Rattle.back_places.specs.Facts.{IsPlace}
 use Rattle.back_places.specs.Good.{IsGood}
 use Rattle.back_places.specs.Relation.{Stands, IsAt, base_of, HasArena, Machine, Runs, Calls, Relates}
 use Rattle.back_places.specs.StepLaw.{Comes, Follows, weight}
-use Rattle.back_stepping.specs.Moments.{state_at, later, moment, beside, Sets, Ready, Prepared}
-use Rattle.back_stepping.proofs.Coming.{has_front, has_back, sets_on, step_at, same_moment}
-use Rattle.back_stepping.proofs.Operands.{prepared_one, loaded, frame_still}
-use Rattle.back_stepping.proofs.Lengths.{load_length}
-use Rattle.back_stepping.proofs.Going.{point_of}
-use Rattle.back_stepping.proofs.Moving.{place_small, frame_is}
+use Rattle.back_emission.specs.Moments.{state_at, later, moment, beside, Sets, Ready, Prepared}
+use Rattle.back_emission.proofs.Coming.{has_front, has_back, sets_on, step_at, same_moment}
+use Rattle.back_emission.proofs.Operands.{prepared_one, loaded, frame_still}
+use Rattle.back_emission.proofs.Lengths.{load_length}
+use Rattle.back_emission.proofs.Going.{point_of}
+use Rattle.back_emission.proofs.Moving.{place_small, frame_is}
 use Rattle.back_emission.proofs.Steps.{nothing, at_line, weighs}
 
 -- the call that register 17 says

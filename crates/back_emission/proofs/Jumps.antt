@@ -30,15 +30,15 @@ use Rattle.back_places.specs.Facts.{Keeps, KeepsEach, Apart}
 use Rattle.back_places.specs.Good.{IsGood}
 use Rattle.back_places.specs.Relation.{Stands, Runs, Relates}
 use Rattle.back_places.specs.StepLaw.{Follows, weight}
-use Rattle.back_stepping.specs.Moments.{state_at, Ready}
-use Rattle.back_stepping.specs.Arriving.{Given}
-use Rattle.back_stepping.proofs.Operands.{BothRead, both_read, read}
-use Rattle.back_stepping.proofs.Arithmetic.{branch_unless_same, branch_where_same}
-use Rattle.back_stepping.proofs.Jumps.{branch_reaches, jumped_to}
-use Rattle.back_stepping.proofs.Lengths.{read_length}
-use Rattle.back_stepping.proofs.Going.{point_of}
-use Rattle.back_stepping.proofs.Giving.{given_nowhere}
-use Rattle.back_stepping.proofs.Moving.{frame_is}
+use Rattle.back_emission.specs.Moments.{state_at, Ready}
+use Rattle.back_emission.specs.Arriving.{Given}
+use Rattle.back_emission.proofs.Operands.{BothRead, both_read, read}
+use Rattle.back_emission.proofs.Arithmetic.{branch_unless_same, branch_where_same}
+use Rattle.back_emission.proofs.JumpSteps.{branch_reaches, jumped_to}
+use Rattle.back_emission.proofs.Lengths.{read_length}
+use Rattle.back_emission.proofs.Going.{point_of}
+use Rattle.back_emission.proofs.Giving.{given_nowhere}
+use Rattle.back_emission.proofs.Moving.{frame_is}
 use Rattle.back_emission.proofs.Scratch.{scratched_none, scratched_both, scratched_on, scratched_past, table_prepared, arrived, jumped}
 use Rattle.back_emission.proofs.Steps.{nothing, follows, at_line, weighs, next_line}
 

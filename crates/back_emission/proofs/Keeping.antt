@@ -16,12 +16,12 @@ use Rattle.back_places.specs.Operands.{given_in, keep_code}
 use Rattle.back_places.specs.Facts.{IsPlace, Apart, IsSomewhere}
 use Rattle.back_places.specs.Good.{IsGood}
 use Rattle.back_places.specs.Relation.{Stands, Point}
-use Rattle.back_stepping.specs.Moments.{state_at, AreSmall, Sets, Ready, Prepared}
-use Rattle.back_stepping.specs.Arriving.{Given, Arrives}
-use Rattle.back_stepping.proofs.Coming.{sets_on}
-use Rattle.back_stepping.proofs.Operands.{prepared_one, BothRead, no_scratch}
-use Rattle.back_stepping.proofs.Giving.{SetsOne, given_in_register, given_in_slot}
-use Rattle.back_stepping.proofs.Moving.{frame_is}
+use Rattle.back_emission.specs.Moments.{state_at, AreSmall, Sets, Ready, Prepared}
+use Rattle.back_emission.specs.Arriving.{Given, Arrives}
+use Rattle.back_emission.proofs.Coming.{sets_on}
+use Rattle.back_emission.proofs.Operands.{prepared_one, BothRead, no_scratch}
+use Rattle.back_emission.proofs.Giving.{SetsOne, given_in_register, given_in_slot}
+use Rattle.back_emission.proofs.Moving.{frame_is}
 
 -- the registers behind code that gives a word to one of them: but for that one and registers 5 to 7, all are as before
 pub record Gave (words registers : List ℕ) (code : List Instr) (to w : ℕ) : Type 0 where

@@ -14,9 +14,9 @@ use Rattle.back_places.specs.Places.{Located}
 use Rattle.back_places.specs.Operands.{low_part, is_short, constant_code}
 use Rattle.back_places.specs.Blocks.{stack_code, raise_code}
 use Rattle.back_places.specs.Relation.{Machine}
-use Rattle.back_stepping.specs.Moments.{state_at, AreSmall, Ready, Prepared}
-use Rattle.back_stepping.proofs.Parts.{short_is}
-use Rattle.back_stepping.proofs.Operands.{prepared_one, prepared_none, prepared_on, constant_prepared}
+use Rattle.back_emission.specs.Moments.{state_at, AreSmall, Ready, Prepared}
+use Rattle.back_emission.proofs.Parts.{short_is}
+use Rattle.back_emission.proofs.Operands.{prepared_one, prepared_none, prepared_on, constant_prepared}
 
 -- a word is added to the stack pointer
 pub stack_prepared :

@@ -28,12 +28,12 @@ use Rattle.back_places.specs.Good.{IsGood}
 use Rattle.back_places.specs.Relation.{Stands, Relates}
 use Rattle.back_places.specs.StepLaw.{Follows, weight}
 use Rattle.back_places.proofs.LinesInForm.{line_is, line_in_form}
-use Rattle.back_stepping.specs.Moments.{state_at, Ready}
-use Rattle.back_stepping.proofs.Operands.{read}
-use Rattle.back_stepping.proofs.Lengths.{read_length, keep_length}
-use Rattle.back_stepping.proofs.Going.{point_of}
-use Rattle.back_stepping.proofs.Giving.{arrives}
-use Rattle.back_stepping.proofs.Moving.{place_small, frame_is}
+use Rattle.back_emission.specs.Moments.{state_at, Ready}
+use Rattle.back_emission.proofs.Operands.{read}
+use Rattle.back_emission.proofs.Lengths.{read_length, keep_length}
+use Rattle.back_emission.proofs.Going.{point_of}
+use Rattle.back_emission.proofs.Giving.{arrives}
+use Rattle.back_emission.proofs.Moving.{place_small, frame_is}
 use Rattle.back_emission.proofs.Addresses.{address_same, word_there}
 use Rattle.back_emission.proofs.Keeping.{gave_of_one, given_is, kept}
 use Rattle.back_emission.proofs.Steps.{nothing, follows, at_line, weighs, next_line}

@@ -30,14 +30,14 @@ use Rattle.back_places.specs.Good.{IsGood}
 use Rattle.back_places.specs.Relation.{Stands, IsAt, base_of, Point, Relates}
 use Rattle.back_places.specs.StepLaw.{Follows}
 use Rattle.back_places.proofs.LinesInForm.{line_is, line_in_form}
-use Rattle.back_stepping.specs.Moments.{state_at, Ready}
-use Rattle.back_stepping.specs.Arriving.{Given, Arrives}
-use Rattle.back_stepping.proofs.Operands.{read, both_read}
-use Rattle.back_stepping.proofs.Arithmetic.{arithmetic_same, immediate_same}
-use Rattle.back_stepping.proofs.Lengths.{move_length, compute_length}
-use Rattle.back_stepping.proofs.Going.{point_of}
-use Rattle.back_stepping.proofs.Giving.{arrives}
-use Rattle.back_stepping.proofs.Moving.{place_small, holds_somewhere, frame_is, moved}
+use Rattle.back_emission.specs.Moments.{state_at, Ready}
+use Rattle.back_emission.specs.Arriving.{Given, Arrives}
+use Rattle.back_emission.proofs.Operands.{read, both_read}
+use Rattle.back_emission.proofs.Arithmetic.{arithmetic_same, immediate_same}
+use Rattle.back_emission.proofs.Lengths.{move_length, compute_length}
+use Rattle.back_emission.proofs.Going.{point_of}
+use Rattle.back_emission.proofs.Giving.{arrives}
+use Rattle.back_emission.proofs.Moving.{place_small, holds_somewhere, frame_is, moved}
 use Rattle.back_emission.proofs.Keeping.{gave_of_one, gave_of_two, given_is, kept}
 use Rattle.back_emission.proofs.Steps.{nothing, follows, at_line, weighs, next_line}
 

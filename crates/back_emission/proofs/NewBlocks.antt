@@ -10,7 +10,7 @@ use Rattle.mid_lines.specs.declared.line.LineProgram.{LineProgram}
 use Rattle.back_places.specs.declared.place.Place.{Place}
 use Rattle.back_places.specs.Places.{Located}
 use Rattle.back_places.specs.Relation.{Machine}
-use Rattle.back_stepping.specs.Moments.{AreSmall, Ready}
+use Rattle.back_emission.specs.Moments.{AreSmall, Ready}
 
 pub length_emptied : (i n : ℕ) (ws : List (Option ℕ)) → length (emptied i n ws) ≡ length ws
 length_emptied i n [] = refl

@@ -19,12 +19,12 @@ use Rattle.back_places.specs.Passing.{is_other, are_others, are_in_order, argume
 use Rattle.back_places.specs.Facts.{IsPlace}
 use Rattle.back_places.specs.Relation.{Stands, IsAt, ArePassed}
 use Rattle.back_places.specs.StepLaw.{Comes}
-use Rattle.back_stepping.specs.Moments.{state_at, Beside, later, moment, AreSmall, Ready, Prepared, LeadsTo, Frame}
-use Rattle.back_stepping.proofs.Coming.{has_front, has_back, next_place, and_on, one_step, step_at, sets_none, sets_on}
-use Rattle.back_stepping.proofs.Parts.{parts_sum}
-use Rattle.back_stepping.proofs.Operands.{set_small, prepared_one, read, loaded}
-use Rattle.back_stepping.proofs.Private.{has_code_kept}
-use Rattle.back_stepping.proofs.Moving.{read_not_seven}
+use Rattle.back_emission.specs.Moments.{state_at, Beside, later, moment, AreSmall, Ready, Prepared, LeadsTo, Frame}
+use Rattle.back_emission.proofs.Coming.{has_front, has_back, next_place, and_on, one_step, step_at, sets_none, sets_on}
+use Rattle.back_emission.proofs.Parts.{parts_sum}
+use Rattle.back_emission.proofs.Operands.{set_small, prepared_one, read, loaded}
+use Rattle.back_emission.proofs.Private.{has_code_kept}
+use Rattle.back_emission.proofs.Moving.{read_not_seven}
 
 -- the fourteen registers: where each stands, and that they are others than those with a use of their own
 place_in : (r : ℕ) → List ℕ → ℕ

@@ -27,11 +27,11 @@ use Rattle.back_places.specs.Facts.{IsPlace, GoodGiveBack}
 use Rattle.back_places.specs.Good.{IsGood}
 use Rattle.back_places.specs.Relation.{Stands, IsAt, HeadHolds, HeadsHold, Machine, Runs, statics, static_of, Relates}
 use Rattle.back_places.specs.StepLaw.{Comes, Follows, weight}
-use Rattle.back_stepping.specs.Moments.{state_at, later, moment, beside, Ready, Prepared}
-use Rattle.back_stepping.proofs.Coming.{same_moment}
-use Rattle.back_stepping.proofs.Parts.{small_extended}
-use Rattle.back_stepping.proofs.Operands.{prepared_one}
-use Rattle.back_stepping.proofs.Lengths.{raise_length}
+use Rattle.back_emission.specs.Moments.{state_at, later, moment, beside, Ready, Prepared}
+use Rattle.back_emission.proofs.Coming.{same_moment}
+use Rattle.back_emission.proofs.Parts.{small_extended}
+use Rattle.back_emission.proofs.Operands.{prepared_one}
+use Rattle.back_emission.proofs.Lengths.{raise_length}
 use Rattle.back_emission.proofs.Leaving.{raise_prepared, machine_left}
 use Rattle.back_emission.proofs.Steps.{nothing, at_line, weighs, next_line}
 

@@ -26,16 +26,16 @@ use Rattle.back_places.specs.Facts.{Outlasts}
 use Rattle.back_places.specs.Good.{IsGood}
 use Rattle.back_places.specs.Relation.{IsAt, base_of, Machine, Point, Runs, Waits, CallersWait, Relates}
 use Rattle.back_places.specs.StepLaw.{Comes, Follows, weight}
-use Rattle.back_stepping.specs.Moments.{state_at, later, moment, beside, AreSmall, Sets, Ready, Prepared, Frame}
-use Rattle.back_stepping.specs.Arriving.{Given}
-use Rattle.back_stepping.proofs.Coming.{sets_on, and_one, and_on}
-use Rattle.back_stepping.proofs.Operands.{prepared_none, prepared_one, slot_prepared, loaded, frame_still}
-use Rattle.back_stepping.proofs.Jumps.{jumped_to}
-use Rattle.back_stepping.proofs.Private.{outer_words}
-use Rattle.back_stepping.proofs.Lengths.{load_length, slot_length, raise_length, move_from_register}
-use Rattle.back_stepping.proofs.Going.{point_of}
-use Rattle.back_stepping.proofs.Giving.{register_other, register_same}
-use Rattle.back_stepping.proofs.Moving.{place_small, holds_somewhere, frame_is, moved}
+use Rattle.back_emission.specs.Moments.{state_at, later, moment, beside, AreSmall, Sets, Ready, Prepared, Frame}
+use Rattle.back_emission.specs.Arriving.{Given}
+use Rattle.back_emission.proofs.Coming.{sets_on, and_one, and_on}
+use Rattle.back_emission.proofs.Operands.{prepared_none, prepared_one, slot_prepared, loaded, frame_still}
+use Rattle.back_emission.proofs.JumpSteps.{jumped_to}
+use Rattle.back_emission.proofs.Private.{outer_words}
+use Rattle.back_emission.proofs.Lengths.{load_length, slot_length, raise_length, move_from_register}
+use Rattle.back_emission.proofs.Going.{point_of}
+use Rattle.back_emission.proofs.Giving.{register_other, register_same}
+use Rattle.back_emission.proofs.Moving.{place_small, holds_somewhere, frame_is, moved}
 use Rattle.back_emission.proofs.Ends.{holding, Called, called_with}
 use Rattle.back_emission.proofs.Leaving.{raise_prepared, machine_left}
 use Rattle.back_emission.proofs.Steps.{nothing, at_line, weighs}

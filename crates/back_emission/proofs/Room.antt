@@ -20,11 +20,11 @@ use Rattle.back_places.specs.Selection.{far_offset, far_jump_code}
 use Rattle.back_places.specs.Blocks.{stack_code, room_test_code, room_code, full_code}
 use Rattle.back_places.specs.Relation.{HasCode, Stands}
 use Rattle.back_places.specs.StepLaw.{Comes}
-use Rattle.back_stepping.specs.Moments.{state_at, Beside, later, moment, beside, AreSmall, Sets, Ready, Prepared}
-use Rattle.back_stepping.proofs.Coming.{stays, same_moment, and_on, and_one, sets_on, has_front, has_back}
-use Rattle.back_stepping.proofs.Operands.{prepared_one, parts_prepared}
-use Rattle.back_stepping.proofs.Arithmetic.{room_test}
-use Rattle.back_stepping.proofs.Lengths.{stack_length}
+use Rattle.back_emission.specs.Moments.{state_at, Beside, later, moment, beside, AreSmall, Sets, Ready, Prepared}
+use Rattle.back_emission.proofs.Coming.{stays, same_moment, and_on, and_one, sets_on, has_front, has_back}
+use Rattle.back_emission.proofs.Operands.{prepared_one, parts_prepared}
+use Rattle.back_emission.proofs.Arithmetic.{room_test}
+use Rattle.back_emission.proofs.Lengths.{stack_length}
 use Rattle.back_emission.specs.Laying.{Asking, Lowered}
 use Rattle.back_emission.proofs.Leaving.{stack_prepared}
 use Rattle.back_emission.proofs.Scratch.{far_jumps}

@@ -24,13 +24,13 @@ use Rattle.back_places.specs.Facts.{IsPlace, Keeps}
 use Rattle.back_places.specs.Good.{IsGood}
 use Rattle.back_places.specs.Relation.{HasCode, Stands, IsAt, Runs}
 use Rattle.back_places.specs.StepLaw.{Comes}
-use Rattle.back_stepping.specs.Moments.{state_at, Beside, later, moment, with_word_in, beside, AreSmall, Sets, Ready, Prepared}
-use Rattle.back_stepping.specs.Arriving.{Given}
-use Rattle.back_stepping.proofs.Coming.{sets_none, sets_on, sets_one, has_back, one_step, step_at, next_place, and_on, and_one}
-use Rattle.back_stepping.proofs.Parts.{parts_sum}
-use Rattle.back_stepping.proofs.Operands.{prepared_one, set_small, BothRead, no_scratch}
-use Rattle.back_stepping.proofs.Jumps.{jump_reaches, far_reaches}
-use Rattle.back_stepping.proofs.Going.{no_change, point_of, goes_on}
+use Rattle.back_emission.specs.Moments.{state_at, Beside, later, moment, with_word_in, beside, AreSmall, Sets, Ready, Prepared}
+use Rattle.back_emission.specs.Arriving.{Given}
+use Rattle.back_emission.proofs.Coming.{sets_none, sets_on, sets_one, has_back, one_step, step_at, next_place, and_on, and_one}
+use Rattle.back_emission.proofs.Parts.{parts_sum}
+use Rattle.back_emission.proofs.Operands.{prepared_one, set_small, BothRead, no_scratch}
+use Rattle.back_emission.proofs.JumpSteps.{jump_reaches, far_reaches}
+use Rattle.back_emission.proofs.Going.{no_change, point_of, goes_on}
 
 pub record Scratched (words registers : List ℕ) (code : List Instr) : Type 0 where
   pub registers' : List ℕ

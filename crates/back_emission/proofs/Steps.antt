@@ -14,8 +14,8 @@ use Rattle.back_places.specs.LineCode.{line_code, behind_code}
 use Rattle.back_places.specs.Good.{IsGood}
 use Rattle.back_places.specs.Relation.{Relates}
 use Rattle.back_places.specs.StepLaw.{Follows, IsLawful, weight, line_weight}
-use Rattle.back_stepping.specs.Arriving.{Given}
-use Rattle.back_stepping.proofs.Coming.{stays}
+use Rattle.back_emission.specs.Arriving.{Given}
+use Rattle.back_emission.proofs.Coming.{stays}
 
 module _ (program : LineProgram) (l : Located) (Fact : (number line register : ℕ) → Place → Type 0) (first : List Block)
     (good : IsGood program l Fact) where

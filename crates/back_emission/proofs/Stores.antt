@@ -34,13 +34,13 @@ use Rattle.back_places.specs.Good.{IsGood}
 use Rattle.back_places.specs.Relation.{Stands, IsAt, base_of, InForm, HasArena, IsPrivate, Machine, Runs, Relates}
 use Rattle.back_places.specs.StepLaw.{Comes, Follows, weight}
 use Rattle.back_places.proofs.LinesInForm.{line_is, line_in_form}
-use Rattle.back_stepping.specs.Moments.{state_at, Beside, later, moment, beside, AreSmall, Ready}
-use Rattle.back_stepping.proofs.Coming.{next_place, and_one}
-use Rattle.back_stepping.proofs.Operands.{set_small, BothRead, both_read}
-use Rattle.back_stepping.proofs.Private.{lent_apart, lent_where, on_blocks, SamePrivate, program_kept}
-use Rattle.back_stepping.proofs.Lengths.{read_length}
-use Rattle.back_stepping.proofs.Going.{all_kept, point_of, stands_at}
-use Rattle.back_stepping.proofs.Moving.{place_small, frame_is}
+use Rattle.back_emission.specs.Moments.{state_at, Beside, later, moment, beside, AreSmall, Ready}
+use Rattle.back_emission.proofs.Coming.{next_place, and_one}
+use Rattle.back_emission.proofs.Operands.{set_small, BothRead, both_read}
+use Rattle.back_emission.proofs.Private.{lent_apart, lent_where, on_blocks, SamePrivate, program_kept}
+use Rattle.back_emission.proofs.Lengths.{read_length}
+use Rattle.back_emission.proofs.Going.{all_kept, point_of, stands_at}
+use Rattle.back_emission.proofs.Moving.{place_small, frame_is}
 use Rattle.back_emission.proofs.Addresses.{address_same, lent_within}
 use Rattle.back_emission.proofs.Steps.{nothing, at_line, weighs, next_line}
 

@@ -11,7 +11,7 @@ use Rattle.back_places.specs.Places.{Located}
 use Rattle.back_places.specs.Blocks.{room_code}
 use Rattle.back_places.specs.Relation.{HasCode, Machine}
 use Rattle.back_places.specs.StepLaw.{Comes, Known}
-use Rattle.back_stepping.specs.Moments.{state_at, later, moment, beside, AreSmall, Ready}
+use Rattle.back_emission.specs.Moments.{state_at, later, moment, beside, AreSmall, Ready}
 
 -- a moment at a position, where so many words are asked for: the stack pointer and the heap's end
 pub record Asking (m : Moment) (at : ℕ) (words : List ℕ) (sp hp n : ℕ) : Type 0 where

@@ -39,12 +39,12 @@ use Rattle.back_relation.specs.Worlds.{World, LandsIn}
 use Rattle.back_relation.specs.Activation.{FormScope, ExitReached}
 use Rattle.back_relation.specs.Ends.{left_by}
 use Rattle.back_relation.specs.Forms.{below_at, context_at, code_at}
-use Rattle.back_combining.specs.Points.{Point, start_at, Here}
-use Rattle.back_combining.specs.Starts.{FlatGrown, Start, FellFrom, ReachedFrom, EndsAt, SparingAt}
-use Rattle.back_combining.proofs.FormGrowth.{form_grows}
-use Rattle.back_combining.proofs.Growth.{grown_later}
-use Rattle.back_combining.proofs.Points.{code_grows}
-use Rattle.back_combining.proofs.Starts.{start_charged, ends_sparing, ends_spared, reached_set}
+use Rattle.back_relation.specs.Points.{Point, start_at, Here}
+use Rattle.back_relation.specs.Starts.{FlatGrown, Start, FellFrom, ReachedFrom, EndsAt, SparingAt}
+use Rattle.back_relation.proofs.FormGrowth.{form_grows}
+use Rattle.back_relation.proofs.Growth.{grown_later}
+use Rattle.back_relation.proofs.Points.{code_grows}
+use Rattle.back_relation.proofs.Starts.{start_charged, ends_sparing, ends_spared, reached_set}
 use Rattle.back_exits.specs.AtOnce.{LawOfReturnsAtOnce, LawOfGoesAtOnce}
 use Rattle.back_exits.proofs.Charging.{next_start, whole_then, value_then}
 use Rattle.back_exits.proofs.Cutting.{search_finds, runs, left_at_once}

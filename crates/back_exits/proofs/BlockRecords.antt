@@ -25,9 +25,9 @@ use Rattle.back_relation.specs.Around.{RoomFor}
 use Rattle.back_relation.specs.Things.{WithinLimit}
 use Rattle.back_relation.specs.Ends.{RoomEnded, stopped}
 use Rattle.back_relation.specs.Forms.{code_at}
-use Rattle.back_combining.specs.Starts.{FlatGrown, Start, EndsAt}
-use Rattle.back_combining.specs.Stores.{stores}
-use Rattle.back_combining.proofs.Windows.{set_here}
+use Rattle.back_relation.specs.Starts.{FlatGrown, Start, EndsAt}
+use Rattle.back_relation.specs.Stores.{stores}
+use Rattle.back_relation.proofs.Windows.{set_here}
 use Rattle.back_exits.specs.Going.{exits_counted}
 use Rattle.back_exits.specs.Inside.{around_at, arena_inside, address_inside, LaidAt, IsInnermost}
 use Rattle.back_exits.specs.RecordSteps.{record_registers, record_stores, with_stores}

@@ -29,13 +29,13 @@ use Rattle.back_relation.specs.Placed.{IsPlaced}
 use Rattle.back_relation.specs.Worlds.{for_exit}
 use Rattle.back_relation.specs.Activation.{FormScope, with_exit}
 use Rattle.back_relation.specs.Forms.{Begins, context_at, code_at}
-use Rattle.back_combining.specs.Points.{Point, start_at, value_steps, Here}
-use Rattle.back_combining.specs.Starts.{FlatGrown, Start, FellFrom, EndsAt, SparingAt}
-use Rattle.back_combining.proofs.FormGrowth.{form_grows}
-use Rattle.back_combining.proofs.Growth.{same_flat, both_flat, same_prefix}
-use Rattle.back_combining.proofs.Parts.{single_step}
-use Rattle.back_combining.proofs.Starts.{start_charged, ends_sparing, ends_spared}
-use Rattle.back_combining.proofs.Windows.{here}
+use Rattle.back_relation.specs.Points.{Point, start_at, value_steps, Here}
+use Rattle.back_relation.specs.Starts.{FlatGrown, Start, FellFrom, EndsAt, SparingAt}
+use Rattle.back_relation.proofs.FormGrowth.{form_grows}
+use Rattle.back_relation.proofs.Growth.{same_flat, both_flat, same_prefix}
+use Rattle.back_relation.proofs.Parts.{single_step}
+use Rattle.back_relation.proofs.Starts.{start_charged, ends_sparing, ends_spared}
+use Rattle.back_relation.proofs.Windows.{here}
 use Rattle.back_exits.specs.Blocks.{LawOfBlocks}
 use Rattle.back_exits.specs.Inside.{environment_with, around_with, address_inside, record_inside, LaidAt, IsInnermost}
 use Rattle.back_exits.proofs.BlockRecords.{no_words, no_serial, drawn, block_laid, laid_registers, lays, lays_none, ended_registers, ended_state, the_exit, world_of_block, flat_of_block, state_of_block, block_stands, block_first}

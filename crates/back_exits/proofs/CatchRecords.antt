@@ -23,9 +23,9 @@ use Rattle.back_relation.specs.Placed.{IsPlaced}
 use Rattle.back_relation.specs.Worlds.{World, for_exit}
 use Rattle.back_relation.specs.StackWords.{HasWordAt}
 use Rattle.back_relation.specs.Forms.{code_at}
-use Rattle.back_combining.specs.Starts.{Start}
-use Rattle.back_combining.specs.Stores.{stores}
-use Rattle.back_combining.proofs.Windows.{here, set_here, store_in, stored_lent}
+use Rattle.back_relation.specs.Starts.{Start}
+use Rattle.back_relation.specs.Stores.{stores}
+use Rattle.back_relation.proofs.Windows.{here, set_here, store_in, stored_lent}
 use Rattle.back_exits.specs.Going.{exits_counted}
 use Rattle.back_exits.specs.Inside.{around_at, arena_inside, address_inside, LaidAt, IsInnermost}
 use Rattle.back_exits.specs.RecordSteps.{record_registers, record_stores, with_stores, ControlSays, ControlLent, RecordLent}

@@ -27,14 +27,14 @@ use Rattle.back_relation.specs.Room.{words_for}
 use Rattle.back_relation.specs.Worlds.{for_exit}
 use Rattle.back_relation.specs.Activation.{FormScope}
 use Rattle.back_relation.specs.Forms.{Begins, context_at, code_at}
-use Rattle.back_combining.specs.Points.{Point, start_at, value_steps, Here}
-use Rattle.back_combining.specs.Starts.{FlatGrown, Start, FellFrom, EndsAt, SparingAt}
-use Rattle.back_combining.proofs.Fitting.{registers_front, registers_behind}
-use Rattle.back_combining.proofs.FormGrowth.{form_grows}
-use Rattle.back_combining.proofs.Growth.{same_flat, both_flat, same_prefix}
-use Rattle.back_combining.proofs.Parts.{single_step}
-use Rattle.back_combining.proofs.Points.{code_grows}
-use Rattle.back_combining.proofs.Starts.{start_charged, ends_sparing, ends_spared, scope_later}
+use Rattle.back_relation.specs.Points.{Point, start_at, value_steps, Here}
+use Rattle.back_relation.specs.Starts.{FlatGrown, Start, FellFrom, EndsAt, SparingAt}
+use Rattle.back_relation.proofs.Fitting.{registers_front, registers_behind}
+use Rattle.back_relation.proofs.FormGrowth.{form_grows}
+use Rattle.back_relation.proofs.Growth.{same_flat, both_flat, same_prefix}
+use Rattle.back_relation.proofs.Parts.{single_step}
+use Rattle.back_relation.proofs.Points.{code_grows}
+use Rattle.back_relation.proofs.Starts.{start_charged, ends_sparing, ends_spared, scope_later}
 use Rattle.back_exits.specs.Blocks.{LawOfCatches, LawOfWholeCatches}
 use Rattle.back_exits.specs.Inside.{around_with, address_inside, record_inside, LaidAt, IsInnermost}
 use Rattle.back_exits.proofs.BlockRecords.{no_words, no_serial}
@@ -46,7 +46,7 @@ use Rattle.back_exits.proofs.Inside.{around_exit, begins_inside}
 use Rattle.back_exits.proofs.Landing.{behind_body, landing_steps, after, rest, catch, rest_grows, catch_grows, falls_out, lands_then}
 use Rattle.back_exits.proofs.OwnExits.{same_exits}
 use Rattle.back_exits.proofs.Steps.{record_runs, record_wanting, Window, window_of}
-use Rattle.back_combining.proofs.Points.{does_here}
+use Rattle.back_relation.proofs.Points.{does_here}
 use Rattle.back_exits.proofs.Whole.{inside_registers, second_register}
 
 -- what a body inside a catch of a tag comes to

@@ -10,11 +10,11 @@ use Rattle.mid_code.proofs.Growth.{go_on_grown, same_grown}
 use Rattle.back_relation.specs.Setting.{Setting}
 use Rattle.back_relation.specs.Worlds.{World}
 use Rattle.back_relation.specs.Ends.{Transfers, Ends, done, left_by, full_there, stopped, few_turns}
-use Rattle.back_combining.specs.Starts.{FlatGrown, Start, FellFrom, ReachedFrom, LeftFrom, EndsBy, EndsAt}
-use Rattle.back_combining.proofs.Growth.{both_prefix, then_value, then_other, then_grown}
-use Rattle.back_combining.proofs.Parts.{go_on_falls, go_on_last}
-use Rattle.back_combining.proofs.Starts.{start_after, start_charged, reached_repaid}
-use Rattle.back_combining.proofs.Then.{reached_then, left_behind, because_then, stopped_last, registers_less}
+use Rattle.back_relation.specs.Starts.{FlatGrown, Start, FellFrom, ReachedFrom, LeftFrom, EndsBy, EndsAt}
+use Rattle.back_relation.proofs.Growth.{both_prefix, then_value, then_other, then_grown}
+use Rattle.back_relation.proofs.Parts.{go_on_falls, go_on_last}
+use Rattle.back_relation.proofs.Starts.{start_after, start_charged, reached_repaid}
+use Rattle.back_relation.proofs.Then.{reached_then, left_behind, because_then, stopped_last, registers_less}
 
 module _ (setting : Setting) where
   -- ---- behind what was reached

@@ -30,15 +30,15 @@ use Rattle.back_relation.specs.StackWords.{HasWordAt}
 use Rattle.back_relation.specs.Things.{Things}
 use Rattle.back_relation.specs.Activation.{ActivationStands}
 use Rattle.back_relation.specs.Ends.{WorldKept}
-use Rattle.back_combining.specs.Cuts.{boxes_cut}
-use Rattle.back_combining.specs.Starts.{Start, LeftFrom}
-use Rattle.back_combining.specs.Stores.{stores}
-use Rattle.back_combining.proofs.Activations.{activation_later, SameBelow}
-use Rattle.back_combining.proofs.Straight.{world_units, things_units}
-use Rattle.back_combining.proofs.Windows.{stored_elsewhere}
-use Rattle.back_combining.proofs.Worlds.{Same}
-use Rattle.back_combining.proofs.Cuts.{words_fewer}
-use Rattle.back_objects.proofs.Boxes.{stack_stays}
+use Rattle.back_relation.specs.Cuts.{boxes_cut}
+use Rattle.back_relation.specs.Starts.{Start, LeftFrom}
+use Rattle.back_relation.specs.Stores.{stores}
+use Rattle.back_relation.proofs.Activations.{activation_later, SameBelow}
+use Rattle.back_relation.proofs.Straight.{world_units, things_units}
+use Rattle.back_relation.proofs.Windows.{stored_elsewhere}
+use Rattle.back_relation.proofs.Worlds.{Same}
+use Rattle.back_relation.proofs.Cuts.{words_fewer}
+use Rattle.back_relation.proofs.Boxes.{stack_stays}
 use Rattle.back_exits.specs.Going.{world_with}
 use Rattle.back_exits.specs.Inside.{around_at}
 use Rattle.back_exits.specs.Touching.{Touched, touched, ExitsMade}

@@ -19,10 +19,10 @@ use Rattle.back_relation.specs.Setting.{Setting}
 use Rattle.back_relation.specs.Worlds.{World, for_exit, Standing, IsIn, Links, record_of_exit, first_stop}
 use Rattle.back_relation.specs.Ends.{Transfers, IsFull, RoomEnded, Because, done, left_by, full_there, stopped, few_turns}
 use Rattle.back_relation.specs.Forms.{Begins}
-use Rattle.back_combining.specs.Starts.{FlatGrown, Start, FellFrom, LeftFrom, EndsBy, EndsAt}
-use Rattle.back_combining.proofs.Growth.{both_prefix, same_flat}
-use Rattle.back_combining.proofs.Parts.{go_on_last}
-use Rattle.back_combining.proofs.Reaches.{first_stop_in}
+use Rattle.back_relation.specs.Starts.{FlatGrown, Start, FellFrom, LeftFrom, EndsBy, EndsAt}
+use Rattle.back_relation.proofs.Growth.{both_prefix, same_flat}
+use Rattle.back_relation.proofs.Parts.{go_on_last}
+use Rattle.back_relation.proofs.Reaches.{first_stop_in}
 use Rattle.back_exits.specs.Inside.{scope_with, environment_with, around_with, around_at, address_inside, record_inside, LaidAt, IsInnermost}
 use Rattle.back_exits.proofs.Inside.{at_from, at_to, words_left, found_new, found_outside}
 use Rattle.back_exits.proofs.Leaving.{world_outside, registers_outside, activation_outside}

@@ -21,10 +21,10 @@ use Rattle.back_relation.specs.Activation.{FormScope, ScopeStands, ArgumentsHeld
 use Rattle.back_relation.specs.Activation.{on_stack as arguments_on_stack}
 use Rattle.back_relation.specs.Ends.{WorldKept}
 use Rattle.back_relation.specs.Forms.{Begins}
-use Rattle.back_combining.specs.Starts.{Start}
-use Rattle.back_combining.proofs.Activations.{activation_later, SameBelow}
-use Rattle.back_combining.proofs.Then.{method_there_again}
-use Rattle.back_combining.proofs.Worlds.{Deeper, Same, later_then, plain_later, record_stays, handlers_stay, bindings_stay, links_raise, chain_lower}
+use Rattle.back_relation.specs.Starts.{Start}
+use Rattle.back_relation.proofs.Activations.{activation_later, SameBelow}
+use Rattle.back_relation.proofs.Then.{method_there_again}
+use Rattle.back_relation.proofs.Worlds.{Deeper, Same, later_then, plain_later, record_stays, handlers_stay, bindings_stay, links_raise, chain_lower}
 use Rattle.back_exits.specs.Inside.{scope_with, environment_with, around_with, ExitsStand, around_at, address_inside, record_inside, LaidAt, IsInnermost, LawOfSurroundings, LawOfBodies}
 use Rattle.back_exits.proofs.Steps.{laid_size, laid_from, laid_to, laid_low}
 

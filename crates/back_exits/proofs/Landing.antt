@@ -32,9 +32,9 @@ use Rattle.back_relation.specs.Things.{Things}
 use Rattle.back_relation.specs.Activation.{NoSlot, RegistersKept}
 use Rattle.back_relation.specs.Ends.{ChargedFrom, WorldKept, done}
 use Rattle.back_relation.specs.Forms.{Begins, code_at}
-use Rattle.back_combining.specs.Starts.{Start, FellFrom, ReachedFrom, LeftFrom, EndsAt}
-use Rattle.back_combining.specs.Stores.{stores}
-use Rattle.back_combining.proofs.Parts.{go_on_falls}
+use Rattle.back_relation.specs.Starts.{Start, FellFrom, ReachedFrom, LeftFrom, EndsAt}
+use Rattle.back_relation.specs.Stores.{stores}
+use Rattle.back_relation.proofs.Parts.{go_on_falls}
 use Rattle.back_exits.specs.Inside.{scope_with, environment_with, around_with, around_at, address_inside, record_inside, LaidAt, IsInnermost}
 use Rattle.back_exits.specs.RecordSteps.{ControlSays, left_stores, landed_stores, with_stores}
 use Rattle.back_exits.specs.Touching.{touched}

@@ -11,8 +11,8 @@ use Rattle.mid_arena.proofs.Running.{StepsTo, RunsTo, and_then, none_left, parts
 use Rattle.back_lowering.specs.ControlWords.{control_address, current_address, link_address, serials_address, handlers_address, bindings_address, record_serial, record_kind, record_outer, record_link}
 use Rattle.back_lowering.specs.Records.{record_laid, exit_laid, record_left, record_landed}
 use Rattle.back_lowering.specs.Steps.{store}
-use Rattle.back_combining.specs.Stores.{stores}
-use Rattle.back_combining.proofs.Windows.{constant_in, load_in, store_in, draw_in, stored_elsewhere, stored_lent}
+use Rattle.back_relation.specs.Stores.{stores}
+use Rattle.back_relation.proofs.Windows.{constant_in, load_in, store_in, draw_in, stored_elsewhere, stored_lent}
 use Rattle.back_exits.specs.RecordSteps.{ControlSays, ControlLent, RecordLent, record_stores, exit_stores, left_stores, landed_stores, record_registers, with_stores, LawOfRecordSteps}
 
 -- ---- laying

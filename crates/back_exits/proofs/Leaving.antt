@@ -18,13 +18,13 @@ use Rattle.back_relation.specs.Placed.{IsPlaced}
 use Rattle.back_relation.specs.Worlds.{World, RecordRole, Standing}
 use Rattle.back_relation.specs.Activation.{RegistersKept, ExitReached, ActivationStands}
 use Rattle.back_relation.specs.Ends.{ChargedFrom, TakenCharged, PaidFrom, WorldKept}
-use Rattle.back_combining.specs.Cuts.{boxes_cut}
-use Rattle.back_combining.specs.Starts.{Start, ReachedFrom}
-use Rattle.back_combining.specs.Stores.{stores, Aligned, Differs}
-use Rattle.back_combining.proofs.Activations.{activation_later}
-use Rattle.back_combining.proofs.Windows.{stored_elsewhere}
-use Rattle.back_combining.proofs.Worlds.{Same}
-use Rattle.back_objects.proofs.Boxes.{stack_stays}
+use Rattle.back_relation.specs.Cuts.{boxes_cut}
+use Rattle.back_relation.specs.Starts.{Start, ReachedFrom}
+use Rattle.back_relation.specs.Stores.{stores, Aligned, Differs}
+use Rattle.back_relation.proofs.Activations.{activation_later}
+use Rattle.back_relation.proofs.Windows.{stored_elsewhere}
+use Rattle.back_relation.proofs.Worlds.{Same}
+use Rattle.back_relation.proofs.Boxes.{stack_stays}
 use Rattle.back_exits.specs.Going.{world_with}
 use Rattle.back_exits.specs.Inside.{scope_with, environment_with, around_with, ExitsStand, around_at, LaidAt}
 use Rattle.back_exits.specs.RecordSteps.{ControlSays}

@@ -12,7 +12,7 @@ use Rattle.mid_arena.proofs.OwnWords.{own_words}
 use Rattle.back_relation.specs.Setting.{Setting, control_spot}
 use Rattle.back_relation.specs.Worlds.{World, BoxPlace, on_heap, on_stack, gone}
 use Rattle.back_relation.specs.Things.{Things}
-use Rattle.back_objects.proofs.Moving as moving
+use Rattle.back_relation.proofs.Moving as moving
 use Rattle.back_exits.specs.Going.{BoxWas, world_with, exits_counted, GoesOn, LawOfGoing}
 
 module _ (setting : Setting) {w : World} {z : FlatState} {y y' : MidState} {boxes : List BoxPlace} {forms : List (Option ExitForm)} {exits : ℕ} (made : List ℕ)

@@ -16,9 +16,9 @@ use Rattle.back_relation.specs.Setting.{Setting}
 use Rattle.back_relation.specs.Worlds.{World, for_exit, Standing, IsIn, record_of_exit, first_stop}
 use Rattle.back_relation.specs.Activation.{IsOwn, ScopeStands, ExitReached}
 use Rattle.back_relation.specs.Activation.{with_exit as form_with_exit}
-use Rattle.back_combining.specs.Starts.{Start}
-use Rattle.back_combining.proofs.Reaches.{reached_under_exit}
-use Rattle.back_combining.proofs.Starts.{scope_later}
+use Rattle.back_relation.specs.Starts.{Start}
+use Rattle.back_relation.proofs.Reaches.{reached_under_exit}
+use Rattle.back_relation.proofs.Starts.{scope_later}
 use Rattle.back_exits.specs.Inside.{ExitsStand, around_at, address_inside, record_inside, LaidAt}
 use Rattle.back_exits.proofs.Inside.{at_to}
 

@@ -8,7 +8,7 @@ use Rattle.mid_code.proofs.WordBounds.{first_true, second_true}
 use Rattle.mid_arena.proofs.Memory.{lent_with_word, word_here, word_elsewhere}
 use Rattle.back_lowering.specs.ControlWords.{control_address, variables_address}
 use Rattle.back_relation.specs.Worlds.{record_bytes}
-use Rattle.back_combining.specs.Stores.{stores}
+use Rattle.back_relation.specs.Stores.{stores}
 use Rattle.back_exits.specs.Touching.{Touches}
 
 -- a word at an offset from the control words, or from a record

@@ -16,7 +16,7 @@ use Rattle.mid_arena.proofs.Memory.{room_below}
 use Rattle.mid_arena.proofs.Running.{StepsTo, address_up}
 use Rattle.back_lowering.specs.ControlWords.{record_words}
 use Rattle.back_relation.specs.Worlds.{record_bytes}
-use Rattle.back_combining.proofs.Windows.{here}
+use Rattle.back_relation.proofs.Windows.{here}
 
 module _ (c : Context) (block words word : ℕ) (inside landing : MidCode) (regs : Registers) (y : MidState) where
   -- the state where the record was laid

@@ -17,11 +17,11 @@ use Rattle.back_relation.specs.Placed.{IsPlaced}
 use Rattle.back_relation.specs.Worlds.{World, BoxPlace, on_heap, on_stack, gone}
 use Rattle.back_relation.specs.Things.{Things}
 use Rattle.back_relation.specs.Ends.{WorldKept}
-use Rattle.back_combining.specs.Cuts.{boxes_cut}
-use Rattle.back_combining.specs.Stores.{stores, Aligned, Differs}
-use Rattle.back_combining.proofs.Cuts.{later_cut}
-use Rattle.back_combining.proofs.Windows.{stored_elsewhere, stored_size}
-use Rattle.back_objects.proofs.Boxes.{cut_count, heap_was, stack_above, stack_stays}
+use Rattle.back_relation.specs.Cuts.{boxes_cut}
+use Rattle.back_relation.specs.Stores.{stores, Aligned, Differs}
+use Rattle.back_relation.proofs.Cuts.{later_cut}
+use Rattle.back_relation.proofs.Windows.{stored_elsewhere, stored_size}
+use Rattle.back_relation.proofs.Boxes.{cut_count, heap_was, stack_above, stack_stays}
 use Rattle.back_exits.specs.Going.{BoxWas, world_with, exits_counted, GoesOn}
 use Rattle.back_exits.specs.Touching.{IsStored, Touches, Touched, touched, ExitsMade, LawOfTouching}
 use Rattle.back_exits.proofs.Moving.{things_go_on}

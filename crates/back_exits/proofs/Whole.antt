@@ -10,8 +10,8 @@ use Rattle.back_lowering.specs.Registers.{of_code, enough_for}
 use Rattle.back_lowering.specs.Steps.{Steps}
 use Rattle.back_relation.specs.Room.{words_for}
 use Rattle.back_relation.specs.Activation.{FormScope, with_exit}
-use Rattle.back_combining.proofs.Fitting.{enough_front, registers_front, registers_behind}
-use Rattle.back_combining.proofs.Points.{does_here}
+use Rattle.back_relation.proofs.Fitting.{enough_front, registers_front, registers_behind}
+use Rattle.back_relation.proofs.Points.{does_here}
 use Rattle.back_exits.specs.Blocks.{LawOfWholeBlocks}
 use Rattle.back_exits.proofs.Blocks.{blocks_law}
 use Rattle.back_exits.proofs.Landing.{behind_body, landing_steps}

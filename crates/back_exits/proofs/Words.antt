@@ -20,12 +20,12 @@ use Rattle.back_relation.specs.Worlds.{World, RecordRole}
 use Rattle.back_relation.specs.StackWords.{HasWordAt, kind_number, UseAt}
 use Rattle.back_relation.specs.Things.{Things}
 use Rattle.back_relation.specs.Ends.{WorldKept}
-use Rattle.back_combining.specs.Cuts.{boxes_cut}
-use Rattle.back_combining.specs.Starts.{Start}
-use Rattle.back_combining.specs.Stores.{stores}
-use Rattle.back_combining.proofs.Straight.{things_units}
-use Rattle.back_combining.proofs.Windows.{here, stored_elsewhere}
-use Rattle.back_objects.proofs.Boxes.{stack_above}
+use Rattle.back_relation.specs.Cuts.{boxes_cut}
+use Rattle.back_relation.specs.Starts.{Start}
+use Rattle.back_relation.specs.Stores.{stores}
+use Rattle.back_relation.proofs.Straight.{things_units}
+use Rattle.back_relation.proofs.Windows.{here, stored_elsewhere}
+use Rattle.back_relation.proofs.Boxes.{stack_above}
 use Rattle.back_exits.specs.Going.{world_with, exits_counted}
 use Rattle.back_exits.specs.Inside.{around_at, arena_inside, address_inside, record_inside, LaidAt}
 use Rattle.back_exits.specs.RecordSteps.{record_registers, ControlSays, ControlLent, RecordLent}

@@ -6,7 +6,7 @@ use Rattle.flat_language.specs.FlatExits.{made_by}
 use Rattle.flat_language.specs.FlatForm.{FlatForm, return_from, go}
 use Rattle.back_lowering.specs.declared.scope.OwnExit.{OwnExit}
 use Rattle.back_lowering.specs.declared.scope.Reach.TheVariants.{AtOnce}
-use Rattle.back_combining.specs.Points.{Here}
+use Rattle.back_relation.specs.Points.{Here}
 use Rattle.back_relation.specs.Setting.{Setting}
 use Rattle.back_relation.specs.Placed.{IsPlaced}
 use Rattle.back_relation.specs.Activation.{FormScope}

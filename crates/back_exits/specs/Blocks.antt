@@ -3,7 +3,7 @@ use Rattle.std.specs.Prelude.{ℕ, ◌+◌, ◌≤◌}
 use Rattle.lang_meaning.specs.declared.scope.ExitForm.TheVariants.{Block}
 use Rattle.flat_language.specs.FlatForm.{FlatForm, block, catch_form}
 use Rattle.back_exits.specs.Known.{FormsKnown}
-use Rattle.back_combining.specs.Points.{Here}
+use Rattle.back_relation.specs.Points.{Here}
 use Rattle.back_relation.specs.Setting.{Setting}
 use Rattle.back_relation.specs.Placed.{IsPlaced}
 use Rattle.back_relation.specs.Activation.{FormScope, with_exit}

@@ -14,7 +14,7 @@ use Rattle.back_relation.specs.Around.{AroundStands}
 use Rattle.back_relation.specs.Activation.{FormScope, ScopeStands, ExitReached}
 use Rattle.back_relation.specs.Ends.{WorldKept}
 use Rattle.back_relation.specs.Forms.{Begins}
-use Rattle.back_combining.specs.Starts.{Start}
+use Rattle.back_relation.specs.Starts.{Start}
 use Rattle.back_exits.specs.RecordSteps.{ControlSays}
 
 -- ---- with other exits around

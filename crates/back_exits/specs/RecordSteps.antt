@@ -8,7 +8,7 @@ use Rattle.mid_code.specs.State.{Registers, register, falls, ends, MidState}
 use Rattle.back_lowering.specs.ControlWords.{control_address, control_words, variables_address, current_address, link_address, serials_address, handlers_address, bindings_address, record_serial, record_kind, record_outer, record_link}
 use Rattle.back_lowering.specs.Records.{record_laid, exit_laid, record_left, record_landed}
 use Rattle.back_relation.specs.Worlds.{record_bytes}
-use Rattle.back_combining.specs.Stores.{stores}
+use Rattle.back_relation.specs.Stores.{stores}
 
 -- what is around, by the control words
 pub record ControlSays (a : Arena) (current link handlers bindings : ℕ) : Type 0 where

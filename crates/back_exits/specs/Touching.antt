@@ -11,8 +11,8 @@ use Rattle.back_relation.specs.Placed.{IsPlaced}
 use Rattle.back_relation.specs.Worlds.{World}
 use Rattle.back_relation.specs.Things.{Things}
 use Rattle.back_relation.specs.Ends.{WorldKept}
-use Rattle.back_combining.specs.Cuts.{boxes_cut}
-use Rattle.back_combining.specs.Stores.{stores}
+use Rattle.back_relation.specs.Cuts.{boxes_cut}
+use Rattle.back_relation.specs.Stores.{stores}
 use Rattle.back_exits.specs.Going.{world_with, exits_counted}
 
 -- a control word that code stores: all but the record of the end, which stands as it was

@@ -48,13 +48,13 @@ use Rattle.back_relation.specs.Procedures.{called, as_registers, mean_inside, bo
 use Rattle.back_relation.specs.Chains.{ChainAt, ChainTakes}
 use Rattle.back_relation.specs.RoutineClaims.{list_credit, argument_credit, level_credit, entry_spare, LevelThere, ListThere, MethodKept}
 use Rattle.back_relation.specs.Placed.{IsPlaced}
-use Rattle.back_combining.proofs.Activations.{made_by_later}
-use Rattle.back_combining.proofs.Starts.{room_after}
-use Rattle.back_combining.proofs.Straight.{things_cost, things_units, world_cost, around_cost}
-use Rattle.back_combining.proofs.Then.{call_then, from_same, world_then, back_then}
-use Rattle.back_combining.proofs.Growth.{grown_later}
-use Rattle.back_combining.proofs.Parts.{go_on_falls, single_step, step_then}
-use Rattle.back_arguments.proofs.WordLists.{of_values_later}
+use Rattle.back_relation.proofs.Activations.{made_by_later}
+use Rattle.back_relation.proofs.Starts.{room_after}
+use Rattle.back_relation.proofs.Straight.{things_cost, things_units, world_cost, around_cost}
+use Rattle.back_relation.proofs.Then.{call_then, from_same, world_then, back_then}
+use Rattle.back_relation.proofs.Growth.{grown_later}
+use Rattle.back_relation.proofs.Parts.{go_on_falls, single_step, step_then}
+use Rattle.back_values.proofs.WordLists.{of_values_later}
 use Rattle.back_values.proofs.BoxesMade.{steps_grow}
 use Rattle.back_calling.specs.Calling.{WordsIn, call_cost}
 use Rattle.back_calling.proofs.Inner.{going_on_law, returned}
@@ -62,9 +62,9 @@ use Rattle.back_calling.proofs.Outward.{captured_later, self_out, method_out}
 use Rattle.back_calling.proofs.Numbers.{behind_front}
 use Rattle.back_calling.proofs.Units.{world_both, around_both, calls_spared, calls_recounted}
 use Rattle.back_calling.proofs.Growing.{tasks_below}
-use Rattle.back_bodies.proofs.Held.{extra_below, given_values, given_then}
-use Rattle.back_applications.proofs.Applied.{called_grows}
-use Rattle.back_applications.proofs.Levels.{levels_there_at}
+use Rattle.back_function_entries.proofs.Held.{extra_below, given_values, given_then}
+use Rattle.back_calling.proofs.Applied.{called_grows}
+use Rattle.back_calling.proofs.Levels.{levels_there_at}
 use Rattle.back_function_entries.specs.Entries.{ListDoesAnywhere, MethodDoesAnywhere}
 use Rattle.back_function_entries.proofs.FunctionEntries.{extras, extra_words, extras_in, few_extras, count_from, fewer_turns, room_cost, meant_later, method_there}
 use Rattle.back_function_entries.proofs.Made.{record_in_parts, made_after, made_then, list_in_parts}

@@ -45,20 +45,20 @@ use Rattle.back_relation.specs.Ends.{done, left_by, full_there, stopped, few_tur
 use Rattle.back_relation.specs.Forms.{below_at, context_at, code_at}
 use Rattle.back_relation.specs.Procedures.{called, as_registers, mean_inside, body_words, body_credit, entry_credit, IsFunction, CapturedFits, ExtraGiven, BodyDoes, ArgumentsGiven, CalledFits}
 use Rattle.back_function_entries.proofs.Ready.{EntryReady, EntryReserve}
-use Rattle.back_combining.proofs.Growth.{same_flat, grown_later}
-use Rattle.back_combining.proofs.Worlds.{later_same, around_again}
-use Rattle.back_combining.proofs.Straight.{same_here, things_units, things_cost, world_cost, around_cost}
+use Rattle.back_relation.proofs.Growth.{same_flat, grown_later}
+use Rattle.back_relation.proofs.Worlds.{later_same, around_again}
+use Rattle.back_relation.proofs.Straight.{same_here, things_units, things_cost, world_cost, around_cost}
 use Rattle.back_calling.specs.Calling.{WordsIn, call_cost}
 use Rattle.back_calling.proofs.Entered.{turns_entered, no_level_at}
 use Rattle.back_calling.proofs.Growing.{tasks_below}
 use Rattle.back_calling.proofs.Inner.{going_on_law, returned}
 use Rattle.back_calling.proofs.Numbers.{numbers_law}
 use Rattle.back_calling.proofs.Units.{begins_recounted, calls_recounted}
-use Rattle.back_bodies.proofs.Held.{extra_below, values_below, given_values, given_there}
-use Rattle.back_bodies.proofs.Scopes.{first_count}
-use Rattle.back_applications.proofs.Applied.{called_grows}
-use Rattle.back_applications.proofs.Levels.{level_there}
-use Rattle.back_applications.proofs.Charging.{asked, things_charged, around_charged, framed_ends, within_asked}
+use Rattle.back_function_entries.proofs.Held.{extra_below, values_below, given_values, given_there}
+use Rattle.back_function_entries.proofs.Scopes.{first_count}
+use Rattle.back_calling.proofs.Applied.{called_grows}
+use Rattle.back_calling.proofs.Levels.{level_there}
+use Rattle.back_calling.proofs.Charging.{asked, things_charged, around_charged, framed_ends, within_asked}
 use Rattle.back_function_entries.proofs.Loading.{loads_run}
 
 same_numbers : (a b : ℕ) → (a == b) ≡ true → a ≡ b

@@ -19,11 +19,11 @@ use Rattle.back_relation.specs.Worlds.{World, Standing}
 use Rattle.back_relation.specs.Things.{Things}
 use Rattle.back_relation.specs.Ends.{WorldKept, Around, Because, Ends, done, left_by, full_there, stopped, few_turns, SparingCall}
 use Rattle.back_relation.specs.Procedures.{called}
-use Rattle.back_combining.specs.Starts.{FlatGrown}
-use Rattle.back_combining.proofs.Growth.{both_prefix, then_value, then_other, then_grown}
-use Rattle.back_combining.proofs.Parts.{go_on_falls, go_on_last}
-use Rattle.back_combining.proofs.Straight.{world_cost, around_cost}
-use Rattle.back_combining.proofs.Then.{world_then, back_then, stopped_last, because_then}
+use Rattle.back_relation.specs.Starts.{FlatGrown}
+use Rattle.back_relation.proofs.Growth.{both_prefix, then_value, then_other, then_grown}
+use Rattle.back_relation.proofs.Parts.{go_on_falls, go_on_last}
+use Rattle.back_relation.proofs.Straight.{world_cost, around_cost}
+use Rattle.back_relation.proofs.Then.{world_then, back_then, stopped_last, because_then}
 use Rattle.back_calling.specs.Calling.{WordsIn, call_cost}
 use Rattle.back_calling.proofs.Formed.{called_state, called_returned, called_because, call_comes}
 use Rattle.back_calling.proofs.Inner.{going_on_law}

@@ -18,7 +18,7 @@ use Rattle.back_relation.specs.Procedures.{as_registers, body_words, ArgumentsGi
 use Rattle.back_relation.specs.Room.{entry_words}
 use Rattle.back_relation.specs.Things.{Things}
 use Rattle.back_relation.specs.Worlds.{World, Standing}
-use Rattle.back_applications.proofs.Charging.{asked}
+use Rattle.back_calling.proofs.Charging.{asked}
 
 module _ (setting : Setting) (rs valid : List Standing) where
   pub record EntryReady (q : FlatProcedure) (cs : List Captured) (called_as : Option Called) (vs : List Value) (self chain address : ℕ) (w : World) (around : DynamicContext) (z : FlatState) (y : MidState) : Type 0 where

@@ -41,9 +41,9 @@ use Rattle.back_relation.specs.Around.{RoomFor, AroundStands, CallBegins}
 use Rattle.back_relation.specs.Ends.{Returned, LeftCall, CallEnds, SparingCall}
 use Rattle.back_relation.specs.Forms.{below_at, context_at, code_at}
 use Rattle.back_relation.specs.RoutineClaims.{list_credit}
-use Rattle.back_combining.proofs.Growth.{same_flat, grown_later}
-use Rattle.back_combining.proofs.Parts.{step_then}
-use Rattle.back_combining.proofs.Straight.{things_cost, things_units}
+use Rattle.back_relation.proofs.Growth.{same_flat, grown_later}
+use Rattle.back_relation.proofs.Parts.{step_then}
+use Rattle.back_relation.proofs.Straight.{things_cost, things_units}
 use Rattle.back_values.proofs.BoxesMade.{steps_grow}
 use Rattle.back_calling.specs.Calling.{call_cost}
 use Rattle.back_calling.specs.Entering.{Inside}
@@ -52,13 +52,13 @@ use Rattle.back_calling.proofs.Entered.{turns_entered, no_level_at}
 use Rattle.back_calling.proofs.Inner.{looked}
 use Rattle.back_calling.proofs.Numbers.{numbers_law}
 use Rattle.back_calling.proofs.Units.{begins_recounted, calls_recounted}
-use Rattle.back_bodies.proofs.Held.{extra_below, given_below}
-use Rattle.back_bodies.proofs.Scopes.{first_count}
-use Rattle.back_applications.proofs.Applied.{called_grows}
-use Rattle.back_applications.proofs.Charging.{asked, things_charged, around_charged, framed_ends, within_asked}
-use Rattle.back_applications.proofs.Levels.{level_there}
+use Rattle.back_function_entries.proofs.Held.{extra_below, given_below}
+use Rattle.back_function_entries.proofs.Scopes.{first_count}
+use Rattle.back_calling.proofs.Applied.{called_grows}
+use Rattle.back_calling.proofs.Charging.{asked, things_charged, around_charged, framed_ends, within_asked}
+use Rattle.back_calling.proofs.Levels.{level_there}
 use Rattle.back_function_entries.specs.Entries.{ListDoesAnywhere, MethodDoesAnywhere, LawOfEntries}
-use Rattle.back_applications.specs.Lending.{with_lent}
+use Rattle.back_calling.specs.Lending.{with_lent}
 use Rattle.back_function_entries.specs.Lending.{LawOfLentEntries}
 use Rattle.back_function_entries.proofs.AllEntries.{Given, few_args, level_ends}
 use Rattle.back_function_entries.proofs.Ready.{EntryReady, EntryReserve}

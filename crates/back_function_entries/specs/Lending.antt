@@ -17,7 +17,7 @@ use Rattle.back_relation.specs.Placed.{IsPlaced}
 use Rattle.back_relation.specs.Procedures.{called, IsFunction, CapturedFits, CalledFits, ArgumentsLent, entry_credit, BodyDoes}
 use Rattle.back_relation.specs.Room.{entry_words}
 use Rattle.back_relation.specs.Worlds.{World, Standing}
-use Rattle.back_applications.specs.Lending.{LentBegins}
+use Rattle.back_calling.specs.Lending.{LentBegins}
 use Rattle.back_function_entries.specs.Entries.{ListDoesAnywhere, MethodDoesAnywhere}
 
 module _ (setting : Setting) where

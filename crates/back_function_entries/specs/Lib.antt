@@ -1,2 +1,11 @@
+pub mod Applies
+pub mod Bodies
 pub mod Entries
+pub mod EntryLists
+pub mod KnownCalls
 pub mod Lending
+pub mod Lists
+pub mod Making
+pub mod Methods
+pub mod RestCalls
+pub mod RestForms

@@ -54,10 +54,10 @@ use Rattle.back_relation.specs.Ends.{WorldKept, Around, CallEnds}
 use Rattle.back_relation.specs.Forms.{below_at, context_at, code_at}
 use Rattle.back_relation.specs.Procedures.{IsFunction, CapturedFits, CalledFits, ArgumentsLent, entry_credit}
 use Rattle.back_relation.specs.RoutineClaims.{WordIs, generic_credit, applying_credit}
-use Rattle.back_combining.specs.Starts.{FlatGrown}
-use Rattle.back_combining.proofs.Growth.{grown_later}
-use Rattle.back_combining.proofs.Parts.{step_then}
-use Rattle.back_combining.proofs.Straight.{world_cost, around_cost}
+use Rattle.back_relation.specs.Starts.{FlatGrown}
+use Rattle.back_relation.proofs.Growth.{grown_later}
+use Rattle.back_relation.proofs.Parts.{step_then}
+use Rattle.back_relation.proofs.Straight.{world_cost, around_cost}
 use Rattle.back_calling.specs.Calling.{WordsIn}
 use Rattle.back_calling.proofs.Entered.{turns_law}
 use Rattle.back_calling.proofs.Formed.{call_comes, call_number_comes}
@@ -65,13 +65,13 @@ use Rattle.back_calling.proofs.Growing.{tasks_below, signal_later}
 use Rattle.back_calling.proofs.Inner.{returned}
 use Rattle.back_calling.proofs.Numbers.{numbers_law}
 use Rattle.back_calling.proofs.Units.{calls_recounted}
-use Rattle.back_chains.proofs.Constants.{constants_law}
-use Rattle.back_transfers.proofs.Points.{point_begins}
-use Rattle.back_transfers.proofs.Within.{call_less}
-use Rattle.back_signals.specs.Law.{ConditionsDo}
-use Rattle.back_signals.specs.Within.{making_credit}
-use Rattle.back_methods.specs.Methods.{EntriesDo, EntriesBelow}
-use Rattle.back_methods.proofs.Given.{lent_then, lent_inside}
+use Rattle.back_values.proofs.Constants.{constants_law}
+use Rattle.back_exits.proofs.Points.{point_begins}
+use Rattle.back_exits.proofs.Within.{call_less}
+use Rattle.back_conditions.specs.Law.{ConditionsDo}
+use Rattle.back_conditions.specs.Within.{making_credit}
+use Rattle.back_generics.specs.Methods.{EntriesDo, EntriesBelow}
+use Rattle.back_generics.proofs.Given.{lent_then, lent_inside}
 use Rattle.back_generics.specs.Functions.{LawOfFunctions, LawOfFunctionClaims}
 use Rattle.back_generics.proofs.Generics.{generics_law}
 use Rattle.back_generics.proofs.Judging.{odd_tells, half_is, some_more, too_few, so_many, others_many, judged_over}

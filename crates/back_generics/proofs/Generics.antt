@@ -51,26 +51,26 @@ use Rattle.back_relation.specs.Ends.{WorldKept, Around, CallEnds, few_turns}
 use Rattle.back_relation.specs.Forms.{context_at, code_at}
 use Rattle.back_relation.specs.Procedures.{ArgumentsLent}
 use Rattle.back_relation.specs.RoutineClaims.{chain_credit, generic_credit}
-use Rattle.back_combining.specs.Starts.{FlatGrown}
-use Rattle.back_combining.proofs.Growth.{grown_later}
-use Rattle.back_combining.proofs.Parts.{step_then}
-use Rattle.back_combining.proofs.Straight.{world_cost, around_cost}
+use Rattle.back_relation.specs.Starts.{FlatGrown}
+use Rattle.back_relation.proofs.Growth.{grown_later}
+use Rattle.back_relation.proofs.Parts.{step_then}
+use Rattle.back_relation.proofs.Straight.{world_cost, around_cost}
 use Rattle.back_calling.proofs.Entered.{turns_law}
 use Rattle.back_calling.proofs.Growing.{tasks_below}
 use Rattle.back_calling.proofs.Inner.{returned}
 use Rattle.back_calling.proofs.Numbers.{numbers_law}
 use Rattle.back_calling.proofs.Storing.{some_words}
 use Rattle.back_calling.proofs.Units.{calls_recounted}
-use Rattle.back_chains.proofs.Constants.{constants_law}
-use Rattle.back_looking.proofs.ClassNumbers.{class_known}
-use Rattle.back_transfers.proofs.Points.{point_begins}
-use Rattle.back_transfers.proofs.Within.{call_less}
-use Rattle.back_signals.specs.Law.{ConditionsDo}
-use Rattle.back_signals.specs.Within.{making_credit}
-use Rattle.back_signals.proofs.Signalling.{word_within}
-use Rattle.back_methods.specs.Methods.{EntriesBelow}
-use Rattle.back_methods.proofs.Chains.{chains_law}
-use Rattle.back_methods.proofs.Given.{lent_inside, lent_then}
+use Rattle.back_values.proofs.Constants.{constants_law}
+use Rattle.back_conditions.proofs.ClassNumbers.{class_known}
+use Rattle.back_exits.proofs.Points.{point_begins}
+use Rattle.back_exits.proofs.Within.{call_less}
+use Rattle.back_conditions.specs.Law.{ConditionsDo}
+use Rattle.back_conditions.specs.Within.{making_credit}
+use Rattle.back_conditions.proofs.Signalling.{word_within}
+use Rattle.back_generics.specs.Methods.{EntriesBelow}
+use Rattle.back_generics.proofs.Chains.{chains_law}
+use Rattle.back_generics.proofs.Given.{lent_inside, lent_then}
 use Rattle.back_generics.specs.Generics.{LawOfGenerics, LawOfGenericClaims}
 use Rattle.back_generics.proofs.Judging.{odd_tells, half_is, some_more, too_few, so_many, others_many}
 use Rattle.back_generics.proofs.Points.{second_of, first_one, fewer_room, steps_grown, straight, first_branch, second_branch}

@@ -26,16 +26,16 @@ use Rattle.back_relation.specs.Ends.{WorldKept, Around, CallEnds, Returned, Left
 use Rattle.back_relation.specs.Forms.{below_at, code_at}
 use Rattle.back_relation.specs.RoutineClaims.{LevelThere}
 use Rattle.back_relation.specs.Procedures.{called}
-use Rattle.back_combining.specs.Starts.{FlatGrown}
-use Rattle.back_combining.proofs.Growth.{same_flat}
-use Rattle.back_combining.proofs.Straight.{world_cost, around_cost}
-use Rattle.back_combining.proofs.Then.{world_then, back_then}
+use Rattle.back_relation.specs.Starts.{FlatGrown}
+use Rattle.back_relation.proofs.Growth.{same_flat}
+use Rattle.back_relation.proofs.Straight.{world_cost, around_cost}
+use Rattle.back_relation.proofs.Then.{world_then, back_then}
 use Rattle.back_calling.proofs.Entered.{no_level_at}
 use Rattle.back_calling.proofs.Inner.{going_on_law, looked, nothing_because}
 use Rattle.back_calling.proofs.Numbers.{numbers_law}
-use Rattle.back_applications.specs.Applying.{judging_cost}
-use Rattle.back_applications.proofs.Levels.{level_there, levels_there_at}
-use Rattle.back_transfers.proofs.Points.{point_begins}
+use Rattle.back_calling.specs.Applying.{judging_cost}
+use Rattle.back_calling.proofs.Levels.{level_there, levels_there_at}
+use Rattle.back_exits.proofs.Points.{point_begins}
 
 -- ---- numbers of arguments
 

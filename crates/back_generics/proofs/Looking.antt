@@ -22,9 +22,9 @@ use Rattle.back_relation.specs.Around.{CallBegins, SiteStored}
 use Rattle.back_relation.specs.Ends.{WorldKept, Around, RoomEnded, Ends, done, stopped}
 use Rattle.back_relation.specs.Forms.{code_at}
 use Rattle.back_relation.specs.Procedures.{called}
-use Rattle.back_combining.proofs.Growth.{same_prefix}
-use Rattle.back_looking.proofs.Entering.{same_word, looked_world, looked_back, with_frame_of, BodyLooks, frame_left}
-use Rattle.back_looking.proofs.Finding.{Used}
+use Rattle.back_relation.proofs.Growth.{same_prefix}
+use Rattle.back_conditions.proofs.Entering.{same_word, looked_world, looked_back, with_frame_of, BodyLooks, frame_left}
+use Rattle.back_conditions.proofs.Finding.{Used}
 
 module _ (setting : Setting) (k t m : ℕ) (rs valid : List Standing) (w : World) (around : DynamicContext) (z counted : FlatState) (y : MidState) where
   -- a word is returned, and all but the cost is as it was

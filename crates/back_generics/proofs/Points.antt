@@ -19,8 +19,8 @@ use Rattle.back_relation.specs.Things.{Things}
 use Rattle.back_relation.specs.Around.{RoomFor}
 use Rattle.back_relation.specs.Ends.{CallEnds}
 use Rattle.back_relation.specs.Forms.{code_at}
-use Rattle.back_combining.proofs.Parts.{step_then}
-use Rattle.back_combining.proofs.Straight.{world_cost, around_cost}
+use Rattle.back_relation.proofs.Parts.{step_then}
+use Rattle.back_relation.proofs.Straight.{world_cost, around_cost}
 use Rattle.back_calling.proofs.Inner.{going_on_law, passing_law}
 
 -- one of two that a test tells

@@ -33,14 +33,14 @@ use Rattle.back_relation.specs.Ends.{WorldKept, Around, CallEnds, Returned, Left
 use Rattle.back_relation.specs.Forms.{code_at}
 use Rattle.back_relation.specs.Procedures.{called}
 use Rattle.back_relation.specs.RoutineClaims.{WordIs, class_cost}
-use Rattle.back_combining.specs.Starts.{FlatGrown}
-use Rattle.back_combining.proofs.Straight.{world_cost, around_cost}
+use Rattle.back_relation.specs.Starts.{FlatGrown}
+use Rattle.back_relation.proofs.Straight.{world_cost, around_cost}
 use Rattle.back_calling.proofs.Inner.{going_on_law, looked, nothing_because}
-use Rattle.back_looking.proofs.ClassNumbers.{given, given_small, body_finds}
-use Rattle.back_looking.proofs.Finding.{routine_used}
-use Rattle.back_signals.proofs.Signalling.{word_within}
-use Rattle.back_chains.proofs.Constants.{constants_law}
-use Rattle.back_methods.proofs.Loops.{behind_call, loop_calls, again_runs, behind_call_grows}
+use Rattle.back_conditions.proofs.ClassNumbers.{given, given_small, body_finds}
+use Rattle.back_conditions.proofs.Finding.{routine_used}
+use Rattle.back_conditions.proofs.Signalling.{word_within}
+use Rattle.back_values.proofs.Constants.{constants_law}
+use Rattle.back_generics.proofs.Loops.{behind_call, loop_calls, again_runs, behind_call_grows}
 use Rattle.back_generics.proofs.Looking.{LookThere, looks_called}
 
 -- the class of an argument

@@ -15,8 +15,8 @@ use Rattle.back_relation.specs.Ends.{CallEnds}
 use Rattle.back_relation.specs.Forms.{context_at, code_at}
 use Rattle.back_relation.specs.Procedures.{called, ArgumentsLent}
 use Rattle.back_relation.specs.RoutineClaims.{WordIs, FunctionDoes, applying_credit}
-use Rattle.back_signals.specs.Law.{ConditionsDo}
-use Rattle.back_methods.specs.Methods.{EntriesDo, EntriesBelow}
+use Rattle.back_conditions.specs.Law.{ConditionsDo}
+use Rattle.back_generics.specs.Methods.{EntriesDo, EntriesBelow}
 
 module _ (setting : Setting) (k turns spare : ℕ) (rs valid : List Standing) (w : World) (around : DynamicContext) (z : FlatState) (y : MidState) where
   -- a routine that is called where the site is stored does what the meaning comes to, and leaves so many turns over

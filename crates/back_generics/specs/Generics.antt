@@ -15,8 +15,8 @@ use Rattle.back_relation.specs.Worlds.{World, Standing}
 use Rattle.back_relation.specs.Forms.{context_at}
 use Rattle.back_relation.specs.Procedures.{ArgumentsLent}
 use Rattle.back_relation.specs.RoutineClaims.{GenericDoes, generic_credit}
-use Rattle.back_signals.specs.Law.{ConditionsDo}
-use Rattle.back_methods.specs.Methods.{EntriesBelow}
+use Rattle.back_conditions.specs.Law.{ConditionsDo}
+use Rattle.back_generics.specs.Methods.{EntriesBelow}
 use Rattle.back_generics.specs.Functions.{DoesOver}
 
 -- the routine does what is claimed of it, with so many turns left over for what calls it

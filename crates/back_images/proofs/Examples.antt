@@ -9,7 +9,7 @@ use Rattle.back_trivial.specs.OwnSlots.{is_in_own_slot}
 use Rattle.back_layout.specs.OwnSlots.{own_slots_decided, own_slots_laid_out}
 use Rattle.back_layout.proofs.OwnSlots.{law_of_own_slots_laid_out}
 use Rattle.back_runs.specs.Ends.{IsSaid, EndsAs}
-use Rattle.back_start.specs.Images.{IsFirst, first_state}
+use Rattle.back_runs.specs.Images.{IsFirst, first_state}
 use Rattle.back_images.specs.Laws.{LaidAreWords, emitted}
 use Rattle.back_images.specs.Worked.{printing, machine_run, BytesPrinted}
 use Rattle.back_images.proofs.Images.{placed_well, law_of_first_states, law_of_emitted_runs}

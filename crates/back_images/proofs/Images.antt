@@ -14,9 +14,9 @@ use Rattle.back_layout.specs.OwnSlots.{own_slots_decided, own_slots_laid_out}
 use Rattle.back_layout.proofs.Words.{law_of_words}
 use Rattle.back_layout.proofs.OwnSlots.{law_of_own_slots_laid_out}
 use Rattle.back_runs.proofs.Programs.{law_of_known_runs}
-use Rattle.back_start.specs.Images.{IsFirst, first_state}
-use Rattle.back_start.proofs.Starting.{law_of_first}
-use Rattle.back_start.proofs.Images.{law_of_image_runs}
+use Rattle.back_runs.specs.Images.{IsFirst, first_state}
+use Rattle.back_runs.proofs.Starting.{law_of_first}
+use Rattle.back_runs.proofs.Images.{law_of_image_runs}
 use Rattle.back_images.specs.Laws.{LawOfImages, LawOfFirstStates, LawOfEmittedRuns}
 
 pub law_of_images : LawOfImages

@@ -16,8 +16,8 @@ use Rattle.back_layout.specs.Layout.{start_at, laid_out}
 use Rattle.back_layout.specs.Image.{image}
 use Rattle.back_layout.specs.OwnSlots.{own_slots_decided, own_slots_laid_out}
 use Rattle.back_runs.specs.ProgramRuns.{IsLawfulEnd, DoesAs}
-use Rattle.back_start.specs.Images.{HasStart, IsFirst, first_state}
-use Rattle.back_start.specs.Laws.{loaded, ImageRuns}
+use Rattle.back_runs.specs.Images.{HasStart, IsFirst, first_state}
+use Rattle.back_runs.specs.Laws.{loaded, ImageRuns}
 
 -- the words laid beside the code of a program are words
 abbrev pub LaidAreWords : List ℕ → Type 0

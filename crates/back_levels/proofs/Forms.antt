@@ -20,38 +20,38 @@ use Rattle.back_relation.specs.Setting.{Setting}
 use Rattle.back_relation.specs.Placed.{IsPlaced, CallPlaced, CalleeThere}
 use Rattle.back_relation.specs.Right.{ProgramIsRight}
 use Rattle.back_relation.specs.Forms.{DoesForm, JudgesForm, FormDoes, context_at, code_at}
-use Rattle.back_combining.specs.Forms.{AllDo, ClausesDo}
-use Rattle.back_combining.proofs.Branches.{whole_clauses, whole_whiles}
-use Rattle.back_combining.proofs.Wholes.{whole_sequences_law}
+use Rattle.back_relation.specs.FormLaws.{AllDo, ClausesDo}
+use Rattle.back_relation.proofs.Branches.{whole_clauses, whole_whiles}
+use Rattle.back_relation.proofs.Wholes.{whole_sequences_law}
 use Rattle.back_values.specs.Bindings.{forms_of}
-use Rattle.back_value_forms.specs.Wholes.{IsByValue, Does}
-use Rattle.back_value_forms.proofs.Literals.{whole_literals}
-use Rattle.back_value_forms.proofs.NextMethods.{whole_next_methods}
-use Rattle.back_value_forms.proofs.Sites.{sites_law}
-use Rattle.back_value_forms.proofs.Wholes.{judged_forms, whole_variables, whole_setting, whole_bindings, whole_functions, whole_globals, whole_setting_globals, whole_definitions}
+use Rattle.back_values.specs.Wholes.{IsByValue, Does}
+use Rattle.back_values.proofs.Literals.{whole_literals}
+use Rattle.back_values.proofs.NextMethods.{whole_next_methods}
+use Rattle.back_values.proofs.Sites.{sites_law}
+use Rattle.back_values.proofs.Wholes.{judged_forms, whole_variables, whole_setting, whole_bindings, whole_functions, whole_globals, whole_setting_globals, whole_definitions}
 use Rattle.back_exits.proofs.Catches.{whole_catches_law}
 use Rattle.back_exits.proofs.Whole.{whole_blocks_law}
-use Rattle.back_tagbodies.proofs.Down.{tagbodies_at_levels_law}
-use Rattle.back_unwinding.proofs.Cleanups.{whole_unwinding_law}
+use Rattle.back_exits.proofs.Down.{tagbodies_at_levels_law}
+use Rattle.back_exits.proofs.Cleanups.{whole_unwinding_law}
 use Rattle.back_sought_exits.proofs.Called.{returns_law, goes_law}
-use Rattle.back_bindings.specs.Forms.{DynamicsDo}
-use Rattle.back_bindings.proofs.DynamicForms.{dynamic_lets_law}
-use Rattle.back_bindings.proofs.Dynamics.{dynamics_law}
-use Rattle.back_bindings.proofs.HandlerForms.{handlers_law}
-use Rattle.back_bindings.proofs.TwoWords.{continuing_law, signals_law, throws_law}
-use Rattle.back_dynamic_values.proofs.Definitions.{definitions_law}
-use Rattle.back_dynamic_values.proofs.Settings.{settings_law}
-use Rattle.back_bodies.proofs.Bodies.{bodies_law}
-use Rattle.back_known_calls.specs.KnownCalls.{BodiesBelow}
-use Rattle.back_known_calls.proofs.Applies.{applies_law}
-use Rattle.back_known_calls.proofs.KnownCalls.{known_calls_law}
-use Rattle.back_known_calls.proofs.Undefined.{undefined_calls_law}
-use Rattle.back_known_calls.proofs.Wrong.{wrong_calls_law}
-use Rattle.back_argument_lists.proofs.RestForms.{rest_forms_law}
-use Rattle.back_primitive_forms.proofs.Forms.{primitive_forms_law}
-use Rattle.back_value_calls.proofs.GenericCalls.{generic_calls_law}
-use Rattle.back_value_calls.proofs.NextForms.{next_forms_law}
-use Rattle.back_value_calls.proofs.ValueCalls.{value_calls_law}
+use Rattle.back_conditions.specs.Forms.{DynamicsDo}
+use Rattle.back_conditions.proofs.DynamicForms.{dynamic_lets_law}
+use Rattle.back_conditions.proofs.Dynamics.{dynamics_law}
+use Rattle.back_conditions.proofs.HandlerForms.{handlers_law}
+use Rattle.back_conditions.proofs.TwoWords.{continuing_law, signals_law, throws_law}
+use Rattle.back_conditions.proofs.Definitions.{definitions_law}
+use Rattle.back_conditions.proofs.Settings.{settings_law}
+use Rattle.back_function_entries.proofs.Bodies.{bodies_law}
+use Rattle.back_function_entries.specs.KnownCalls.{BodiesBelow}
+use Rattle.back_function_entries.proofs.Applies.{applies_law}
+use Rattle.back_function_entries.proofs.KnownCalls.{known_calls_law}
+use Rattle.back_function_entries.proofs.Undefined.{undefined_calls_law}
+use Rattle.back_function_entries.proofs.Wrong.{wrong_calls_law}
+use Rattle.back_function_entries.proofs.RestForms.{rest_forms_law}
+use Rattle.back_primitives.proofs.Forms.{primitive_forms_law}
+use Rattle.back_generics.proofs.GenericCalls.{generic_calls_law}
+use Rattle.back_generics.proofs.NextForms.{next_forms_law}
+use Rattle.back_generics.proofs.ValueCalls.{value_calls_law}
 use Rattle.back_levels.specs.Levels.{FormsDo, RoutinesDo, LawOfForms}
 
 module _ (setting : Setting) (k : ℕ) (right : ProgramIsRight setting) (routines : (turns : ℕ) → turns ≤ setting.turns_each → RoutinesDo setting k turns)

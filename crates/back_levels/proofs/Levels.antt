@@ -3,9 +3,9 @@ use Rattle.std.proofs.Common.{◌≡◌, ◌⊎◌, inl, inr, ℕ, zero, suc, �
 use Rattle.std.proofs.lemmas.Bool.{cases_lt}
 use Rattle.back_relation.specs.Setting.{Setting}
 use Rattle.back_relation.specs.Right.{ProgramIsRight}
-use Rattle.back_mains.proofs.Mains.{mains_law}
-use Rattle.back_whole_programs.specs.MainsLeft.{MainsDo}
-use Rattle.back_whole_programs.proofs.Programs.{programs_law}
+use Rattle.back_levels.proofs.Mains.{mains_law}
+use Rattle.back_levels.specs.MainsLeft.{MainsDo}
+use Rattle.back_levels.proofs.Programs.{programs_law}
 use Rattle.back_levels.specs.Levels.{FormsDo, LawOfLevels, LawOfLowering}
 use Rattle.back_levels.proofs.Forms.{forms_law}
 use Rattle.back_levels.proofs.Routines.{routines_law}

@@ -11,23 +11,23 @@ use Rattle.back_relation.specs.Placed.{IsPlaced}
 use Rattle.back_relation.specs.Right.{ProgramIsRight}
 use Rattle.back_relation.specs.Worlds.{World, Standing}
 use Rattle.back_relation.specs.Procedures.{BodyDoes}
-use Rattle.back_bodies.proofs.Bodies.{bodies_law}
+use Rattle.back_function_entries.proofs.Bodies.{bodies_law}
 use Rattle.back_function_entries.proofs.WholeEntries.{entries_law, lent_entries_law}
-use Rattle.back_lists.proofs.Lists.{lists_law}
-use Rattle.back_lists.proofs.Methods.{methods_law}
-use Rattle.back_transfers.proofs.Within.{call_less}
-use Rattle.back_signals.specs.Law.{ConditionsDo}
-use Rattle.back_signals.specs.Within.{raise_credit, making_spare, RaisesWithin}
-use Rattle.back_signals.proofs.Combined.{conditions_law, errors_law}
-use Rattle.back_handled_signals.specs.Handled.{FunctionsDo}
-use Rattle.back_handled_signals.proofs.Raising.{raising_law}
-use Rattle.back_methods.specs.Methods.{EntriesDo, EntriesBelow}
-use Rattle.back_methods.proofs.Chains.{lent_chains_law}
-use Rattle.back_methods.proofs.Next.{next_law}
+use Rattle.back_function_entries.proofs.EntryLists.{lists_law}
+use Rattle.back_function_entries.proofs.Methods.{methods_law}
+use Rattle.back_exits.proofs.Within.{call_less}
+use Rattle.back_conditions.specs.Law.{ConditionsDo}
+use Rattle.back_conditions.specs.Within.{raise_credit, making_spare, RaisesWithin}
+use Rattle.back_conditions.proofs.Combined.{conditions_law, errors_law}
+use Rattle.back_conditions.specs.Handled.{FunctionsDo}
+use Rattle.back_conditions.proofs.Raising.{raising_law}
+use Rattle.back_generics.specs.Methods.{EntriesDo, EntriesBelow}
+use Rattle.back_generics.proofs.Chains.{lent_chains_law}
+use Rattle.back_generics.proofs.Next.{next_law}
 use Rattle.back_generics.proofs.Functions.{function_claims_law}
 use Rattle.back_generics.proofs.Generics.{generic_claims_law}
-use Rattle.back_list_applications.specs.Law.{ApplyParts}
-use Rattle.back_list_applications.proofs.Whole.{applications_law}
+use Rattle.back_generics.specs.Law.{ApplyParts}
+use Rattle.back_generics.proofs.Whole.{applications_law}
 use Rattle.back_levels.specs.Levels.{FormsDo, RoutinesDo, LawOfRoutines}
 
 module _ (setting : Setting) (k : ℕ) (right : ProgramIsRight setting) (below : (j : ℕ) → j < k → FormsDo setting j) where

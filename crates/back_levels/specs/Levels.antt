@@ -10,7 +10,7 @@ use Rattle.back_relation.specs.Right.{ProgramIsRight}
 use Rattle.back_relation.specs.Forms.{FormDoes}
 use Rattle.back_relation.specs.RoutineClaims.{FunctionDoes, ApplyDoes, GenericDoes, NextDoes}
 use Rattle.back_claims.specs.Program.{LoweringIsRight}
-use Rattle.back_signals.specs.Law.{Errors}
+use Rattle.back_conditions.specs.Law.{Errors}
 
 -- all forms do what they mean at k levels, with as many turns as a level has, or fewer
 abbrev pub FormsDo : Setting → (k : ℕ) → Type 0

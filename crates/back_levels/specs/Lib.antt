@@ -1,1 +1,12 @@
+pub mod Beginning
+pub mod Laid
 pub mod Levels
+pub mod MainEnds
+pub mod MainSteps
+pub mod Mains
+pub mod MainsLeft
+pub mod Numbers
+pub mod Programs
+pub mod Runs
+pub mod StartSteps
+pub mod Surroundings

@@ -36,9 +36,9 @@ use Rattle.back_runs.specs.Ends.{IsSaid, EndsAs}
 use Rattle.back_runs.specs.ProgramRuns.{DoesAs}
 use Rattle.back_runs.proofs.Doing.{law_of_known_steps}
 use Rattle.back_runs.proofs.Programs.{end_is}
-use Rattle.back_start.specs.Images.{HasStart, IsFirst}
-use Rattle.back_start.specs.Laws.{loaded, ImageRuns}
-use Rattle.back_start.proofs.Images.{law_of_image_runs}
+use Rattle.back_runs.specs.Images.{HasStart, IsFirst}
+use Rattle.back_runs.specs.Laws.{loaded, ImageRuns}
+use Rattle.back_runs.proofs.Images.{law_of_image_runs}
 use Rattle.back_meant.specs.Laws.{with_limits, code_of_setting, entry_of, SerialsLast, HaltsAs, UnhandledAs, EndsWell, HasTurns, LawOfMeantRuns}
 use Rattle.back_meant.proofs.Steps.{steps_are_known}
 use Rattle.back_meant.proofs.Verdicts.{halt_as, unhandled_as, verdict}

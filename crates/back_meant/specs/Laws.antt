@@ -29,7 +29,7 @@ use Rattle.back_places.specs.Good.{IsGood}
 use Rattle.back_places.specs.StepLaw.{Known}
 use Rattle.back_runs.specs.Draws.{draws}
 use Rattle.back_runs.specs.Ends.{Leaves}
-use Rattle.back_start.specs.Images.{HasStart, IsFirst}
+use Rattle.back_runs.specs.Images.{HasStart, IsFirst}
 
 -- a setting with another limit of words for its meaning, and with so many turns
 abbrev pub with_limits : Setting → Limit → (turns : ℕ) → Setting

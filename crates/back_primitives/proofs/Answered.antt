@@ -52,8 +52,8 @@ use Rattle.back_relation.specs.Around.{RoomFor}
 use Rattle.back_relation.specs.Ends.{RoomEnded}
 use Rattle.back_relation.specs.Forms.{context_at, code_at}
 use Rattle.back_relation.specs.Things.{Things, WithinLimit}
-use Rattle.back_combining.specs.Starts.{Start, EndsAt}
-use Rattle.back_combining.proofs.Straight.{things_cost}
+use Rattle.back_relation.specs.Starts.{Start, EndsAt}
+use Rattle.back_relation.proofs.Straight.{things_cost}
 use Rattle.back_primitives.specs.Calling.{WordsIn, PrimitiveThere, PendingDoesAnywhere}
 use Rattle.back_primitives.proofs.Answers.{IsNoFunction, IsProper, answers_proper}
 use Rattle.back_primitives.proofs.Applied.{full_ends, few_ends, HandedBack, called_registers, behind_test, value_ends, signal_ends, wanting_ends}

@@ -23,12 +23,12 @@ use Rattle.back_relation.specs.Setting.{Setting}
 use Rattle.back_relation.specs.Placed.{IsPlaced}
 use Rattle.back_relation.specs.Ends.{ChargedFrom, PaidFrom, RoomEnded, done, full_there, stopped, few_turns}
 use Rattle.back_relation.specs.Forms.{code_at}
-use Rattle.back_combining.specs.Starts.{Start, EndsAt, ReachedFrom}
-use Rattle.back_combining.proofs.Choices.{jumps}
-use Rattle.back_combining.proofs.Parts.{single_step}
-use Rattle.back_combining.proofs.Starts.{start_after, reached_set, behind}
-use Rattle.back_combining.proofs.Straight.{set_beside, registers_set}
-use Rattle.back_objects.proofs.Standing.{StandsBehind, world_behind, reached_behind}
+use Rattle.back_relation.specs.Starts.{Start, EndsAt, ReachedFrom}
+use Rattle.back_relation.proofs.Choices.{jumps}
+use Rattle.back_relation.proofs.Parts.{single_step}
+use Rattle.back_relation.proofs.Starts.{start_after, reached_set, behind}
+use Rattle.back_relation.proofs.Straight.{set_beside, registers_set}
+use Rattle.back_relation.proofs.Standing.{StandsBehind, world_behind, reached_behind}
 use Rattle.back_primitives.proofs.Called.{called_returns, called_wanting}
 
 -- all words of the meaning were asked for: whatever code does

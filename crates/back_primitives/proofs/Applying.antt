@@ -14,7 +14,7 @@ use Rattle.mid_arena.proofs.WordFacts.{integers_compare_equal, integers_compare_
 use Rattle.back_lowering.specs.Primitives.{by_procedure, apply_primitive}
 use Rattle.back_lowering.specs.Registers.{of_code}
 use Rattle.back_relation.specs.Setting.{Setting}
-use Rattle.back_combining.specs.Starts.{Start}
+use Rattle.back_relation.specs.Starts.{Start}
 use Rattle.back_primitives.specs.Applying.{Applies, StepsAnswer, NamesThere, LawOfProcedures, LawOfApplying, primitive_credit}
 use Rattle.back_primitives.specs.Calling.{KnownWords}
 use Rattle.back_primitives.proofs.Answered.{SignalPaid, by_procedure_ends}

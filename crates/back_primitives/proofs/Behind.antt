@@ -21,7 +21,7 @@ use Rattle.mid_arena.proofs.Keeping.{old_spot, spot_in_tells}
 use Rattle.back_relation.specs.Setting.{Setting, control_spot}
 use Rattle.back_relation.specs.Worlds.{World}
 use Rattle.back_relation.specs.Things.{Things, WithinLimit}
-use Rattle.back_objects.proofs.Standing.{KeepsMost, StandsBehind}
+use Rattle.back_relation.proofs.Standing.{KeepsMost, StandsBehind}
 use Rattle.back_primitives.proofs.Answers.{IsNoFunction}
 
 -- ---- objects

@@ -22,13 +22,13 @@ use Rattle.back_lowering.specs.Steps.{Steps, where_so}
 use Rattle.back_lowering.specs.Primitives.{where_tag, where_integers}
 use Rattle.back_relation.specs.Setting.{Setting}
 use Rattle.back_relation.specs.Ends.{done}
-use Rattle.back_combining.specs.Starts.{Start, EndsAt, ReachedFrom}
-use Rattle.back_combining.proofs.Activations.{activation_later}
-use Rattle.back_combining.proofs.Choices.{jumps}
-use Rattle.back_combining.proofs.Parts.{single_step}
-use Rattle.back_combining.proofs.Starts.{start_after, reached_same, behind}
-use Rattle.back_combining.proofs.Straight.{same_here, world_cost, around_cost}
-use Rattle.back_combining.proofs.Worlds.{later_same}
+use Rattle.back_relation.specs.Starts.{Start, EndsAt, ReachedFrom}
+use Rattle.back_relation.proofs.Activations.{activation_later}
+use Rattle.back_relation.proofs.Choices.{jumps}
+use Rattle.back_relation.proofs.Parts.{single_step}
+use Rattle.back_relation.proofs.Starts.{start_after, reached_same, behind}
+use Rattle.back_relation.proofs.Straight.{same_here, world_cost, around_cost}
+use Rattle.back_relation.proofs.Worlds.{later_same}
 use Rattle.back_primitives.specs.Calling.{WordsIn}
 
 -- ---- registers

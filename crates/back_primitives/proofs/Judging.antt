@@ -32,9 +32,9 @@ use Rattle.back_lowering.specs.Registers.{of_code, enough_for}
 use Rattle.back_lowering.specs.Steps.{Steps, constant, compute, test_of, if_true}
 use Rattle.back_relation.specs.Setting.{Setting}
 use Rattle.back_relation.specs.Forms.{TestEnds, judged_credit, code_at}
-use Rattle.back_combining.specs.Starts.{Start}
-use Rattle.back_combining.proofs.Starts.{reached_same}
-use Rattle.back_combining.proofs.Fitting.{registers_front, registers_behind}
+use Rattle.back_relation.specs.Starts.{Start}
+use Rattle.back_relation.proofs.Starts.{reached_same}
+use Rattle.back_relation.proofs.Fitting.{registers_front, registers_behind}
 use Rattle.back_primitives.specs.Applying.{Applies, primitive_credit, answer_meant, TestAt, NamesThere, JudgesAnswer, LawOfJudgedPrimitives}
 use Rattle.back_primitives.specs.Calling.{KnownWords}
 use Rattle.back_primitives.proofs.Answered.{SignalPaid}

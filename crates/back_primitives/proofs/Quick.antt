@@ -34,8 +34,8 @@ use Rattle.back_lowering.specs.Scope.{registers_from}
 use Rattle.back_lowering.specs.Steps.{Steps, constant, call, if_equal, load_from}
 use Rattle.back_relation.specs.Setting.{Setting}
 use Rattle.back_relation.specs.Forms.{Begins, context_at, code_at}
-use Rattle.back_combining.specs.Starts.{Start, EndsAt}
-use Rattle.back_combining.proofs.Fitting.{enough_front, enough_behind}
+use Rattle.back_relation.specs.Starts.{Start, EndsAt}
+use Rattle.back_relation.proofs.Fitting.{enough_front, enough_behind}
 use Rattle.back_calling.proofs.Growing.{tasks_below}
 use Rattle.back_primitives.specs.Applying.{Applies}
 use Rattle.back_primitives.proofs.Answered.{SignalPaid, by_procedure_ends}

@@ -32,9 +32,9 @@ use Rattle.back_relation.specs.Setting.{Setting}
 use Rattle.back_relation.specs.Room.{words_for_handler}
 use Rattle.back_relation.specs.Ends.{done, stopped}
 use Rattle.back_relation.specs.Forms.{code_at}
-use Rattle.back_combining.specs.Starts.{Start, EndsAt}
-use Rattle.back_combining.proofs.Growth.{same_prefix}
-use Rattle.back_objects.proofs.Standing.{StandsBehind, world_behind, reached_behind}
+use Rattle.back_relation.specs.Starts.{Start, EndsAt}
+use Rattle.back_relation.proofs.Growth.{same_prefix}
+use Rattle.back_relation.proofs.Standing.{StandsBehind, world_behind, reached_behind}
 use Rattle.back_primitives.specs.Applying.{Applies}
 use Rattle.back_primitives.proofs.Answered.{left_behind, charged_by, room_ended}
 use Rattle.back_primitives.proofs.Applied.{full_ends}

@@ -34,8 +34,8 @@ use Rattle.back_lowering.specs.Registers.{of_code, enough_for}
 use Rattle.back_lowering.specs.Steps.{Steps, constant, compute, load, load_header, where_so, if_equal, if_different}
 use Rattle.back_relation.specs.Setting.{Setting}
 use Rattle.back_relation.specs.Forms.{context_at, code_at}
-use Rattle.back_combining.specs.Starts.{Start, EndsAt}
-use Rattle.back_combining.proofs.Fitting.{registers_behind}
+use Rattle.back_relation.specs.Starts.{Start, EndsAt}
+use Rattle.back_relation.proofs.Fitting.{registers_behind}
 use Rattle.back_primitives.specs.Applying.{Applies, primitive_credit}
 use Rattle.back_primitives.specs.Calling.{KnownWords}
 use Rattle.back_primitives.proofs.Answered.{SignalPaid}

@@ -31,8 +31,8 @@ use Rattle.back_lowering.specs.Registers.{of_code, enough_for}
 use Rattle.back_lowering.specs.Steps.{Steps, constant, load_from}
 use Rattle.back_relation.specs.Setting.{Setting}
 use Rattle.back_relation.specs.Forms.{context_at, code_at}
-use Rattle.back_combining.specs.Starts.{Start, EndsAt}
-use Rattle.back_combining.proofs.Starts.{behind}
+use Rattle.back_relation.specs.Starts.{Start, EndsAt}
+use Rattle.back_relation.proofs.Starts.{behind}
 use Rattle.back_primitives.specs.Applying.{Applies, primitive_credit}
 use Rattle.back_primitives.proofs.Answered.{SignalPaid}
 use Rattle.back_primitives.proofs.Choosing.{Beside, beside_none, beside_set, beside_less, register_kept, reached_beside, start_beside, quick_ends, Chosen, chosen_ends, tag_chosen}

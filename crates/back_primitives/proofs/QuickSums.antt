@@ -34,7 +34,7 @@ use Rattle.back_lowering.specs.Registers.{of_code, enough_for}
 use Rattle.back_lowering.specs.Steps.{Steps, move, compute, constant, where_so, if_equal}
 use Rattle.back_relation.specs.Setting.{Setting}
 use Rattle.back_relation.specs.Forms.{Begins, code_at}
-use Rattle.back_combining.specs.Starts.{Start, EndsAt}
+use Rattle.back_relation.specs.Starts.{Start, EndsAt}
 use Rattle.back_primitives.specs.Applying.{Applies}
 use Rattle.back_primitives.specs.Calling.{KnownWords}
 use Rattle.back_primitives.proofs.Answered.{SignalPaid}

@@ -25,7 +25,7 @@ use Rattle.back_relation.specs.Setting.{Setting}
 use Rattle.back_relation.specs.Room.{routine_words, failing_words}
 use Rattle.back_relation.specs.Forms.{context_at, code_at}
 use Rattle.back_relation.specs.RoutineClaims.{routine_credit}
-use Rattle.back_combining.specs.Starts.{Start, EndsAt}
+use Rattle.back_relation.specs.Starts.{Start, EndsAt}
 use Rattle.back_calling.specs.Calling.{Between}
 use Rattle.back_calling.specs.Storing.{stored_at, standing_world}
 use Rattle.back_calling.proofs.Growing.{tasks_below}

@@ -19,13 +19,13 @@ use Rattle.back_relation.specs.Setting.{Setting}
 use Rattle.back_relation.specs.Worlds.{World}
 use Rattle.back_relation.specs.Ends.{Ends, Left, done}
 use Rattle.back_relation.specs.Forms.{FellJudged, code_at}
-use Rattle.back_combining.specs.Starts.{Start, EndsAt, FellFrom, ReachedFrom}
-use Rattle.back_combining.proofs.Choices.{go_gives}
-use Rattle.back_combining.proofs.Growth.{same_flat}
-use Rattle.back_combining.proofs.Judging.{truth_of_word}
-use Rattle.back_combining.proofs.Parts.{go_on_falls}
-use Rattle.back_combining.proofs.Starts.{start_after, reached_cost}
-use Rattle.back_combining.proofs.Then.{reached_then, ends_behind, ends_go_on}
+use Rattle.back_relation.specs.Starts.{Start, EndsAt, FellFrom, ReachedFrom}
+use Rattle.back_relation.proofs.Choices.{go_gives}
+use Rattle.back_relation.proofs.Growth.{same_flat}
+use Rattle.back_relation.proofs.Judging.{truth_of_word}
+use Rattle.back_relation.proofs.Parts.{go_on_falls}
+use Rattle.back_relation.proofs.Starts.{start_after, reached_cost}
+use Rattle.back_relation.proofs.Then.{reached_then, ends_behind, ends_go_on}
 use Rattle.back_primitives.specs.Applying.{TestAt}
 use Rattle.back_primitives.proofs.Choosing.{Beside, beside_less, reached_beside, start_beside, Chosen}
 

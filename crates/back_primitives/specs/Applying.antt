@@ -22,7 +22,7 @@ use Rattle.back_relation.specs.Placed.{IsPlaced}
 use Rattle.back_relation.specs.Room.{routine_words}
 use Rattle.back_relation.specs.Forms.{TestEnds, judged_credit, context_at, code_at}
 use Rattle.back_relation.specs.Ends.{form_credit}
-use Rattle.back_combining.specs.Starts.{Start, EndsAt}
+use Rattle.back_relation.specs.Starts.{Start, EndsAt}
 use Rattle.back_primitives.specs.Calling.{WordsIn, PrimitiveThere, PendingDoesAnywhere, KnownWords}
 
 -- what a primitive needs to be applied to words in registers

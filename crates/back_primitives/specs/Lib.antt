@@ -1,2 +1,3 @@
-pub mod Calling
 pub mod Applying
+pub mod Calling
+pub mod Forms

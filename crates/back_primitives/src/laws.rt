@@ -1,5 +1,6 @@
-// The laws of primitives, each as the contract of a function that does nothing.
+// The laws, each as the contract of a function that does nothing.
 ghost use Rattle.back_primitives.specs.Applying.{LawOfProcedures, LawOfApplying, LawOfJudgedPrimitives};
+ghost use Rattle.back_primitives.specs.Forms.{LawOfPrimitiveForms};
 
 /// A primitive is applied by its procedure.
 pub fn law_procedures()
@@ -14,4 +15,9 @@ pub fn law_applying()
 /// A primitive is judged, where a form branches on what it says.
 pub fn law_judged_primitives()
     ensures { LawOfJudgedPrimitives }
+{}
+
+/// The form of a primitive does what it means, and is judged.
+pub fn law_primitive_forms()
+    ensures { LawOfPrimitiveForms }
 {}

@@ -18,8 +18,8 @@ use Rattle.back_layout.proofs.OwnSlots.{law_of_own_slots_laid_out}
 use Rattle.back_layout.proofs.Words.{law_of_words}
 use Rattle.back_runs.specs.Ends.{EndsAs}
 use Rattle.back_runs.specs.ProgramRuns.{DoesAs}
-use Rattle.back_start.specs.Images.{IsFirst, first_state}
-use Rattle.back_start.specs.Laws.{loaded}
+use Rattle.back_runs.specs.Images.{IsFirst, first_state}
+use Rattle.back_runs.specs.Laws.{loaded}
 use Rattle.back_images.specs.Laws.{LaidAreWords, emitted, emitted_start, EmittedRuns}
 use Rattle.back_images.proofs.Images.{placed_well, law_of_first_states, law_of_emitted_runs}
 use Rattle.back_emit.specs.declared.errors.EmitError.{EmitError}

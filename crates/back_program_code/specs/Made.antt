@@ -11,7 +11,7 @@ use Rattle.back_trivial.specs.FrameFound.{finds_frames}
 use Rattle.back_layout.specs.OwnSlots.{own_slots_laid_out}
 use Rattle.back_runs.specs.Ends.{IsSaid, EndsAs}
 use Rattle.back_runs.specs.ProgramRuns.{IsLawfulEnd, DoesAs}
-use Rattle.back_start.specs.Images.{IsFirst, first_state}
+use Rattle.back_runs.specs.Images.{IsFirst, first_state}
 use Rattle.back_images.specs.Laws.{LaidAreWords, emitted, emitted_start}
 use Rattle.back_program_code.specs.declared.plans.Plan.{Plan}
 use Rattle.back_program_code.specs.Shapes.{shapes_of, front_of, near_jumps, near_lefts, near_entries, code_end, all_entries, AreLow, EachShapeFits, first_position}

@@ -16,7 +16,7 @@ use Rattle.back_places.specs.declared.place.Place.{Place}
 use Rattle.back_places.specs.Places.{Located}
 use Rattle.back_places.specs.Relation.{Relates}
 use Rattle.back_places.specs.StepLaw.{Follows, IsLawful, Known, weight, line_weight}
-use Rattle.back_stepping.proofs.Coming.{stays, and_on}
+use Rattle.back_emission.proofs.Coming.{stays, and_on}
 use Rattle.back_steps.proofs.AllLines.{law_of_steps}
 use Rattle.back_runs.specs.Draws.{draws}
 use Rattle.back_runs.specs.Runs.{FollowsRun, LawOfRuns}

@@ -1,6 +1,10 @@
-pub mod Drawing
-pub mod Following
-pub mod Ending
 pub mod Doing
-pub mod Weighing
+pub mod Drawing
+pub mod Ending
+pub mod FirstEntry
+pub mod Following
+pub mod Images
+pub mod Padding
 pub mod Programs
+pub mod Starting
+pub mod Weighing

@@ -1,5 +1,7 @@
 pub mod Draws
-pub mod Runs
 pub mod Ends
+pub mod Images
+pub mod Laws
 pub mod MachineRuns
 pub mod ProgramRuns
+pub mod Runs

@@ -1,9 +1,9 @@
-// The laws of whole runs, as the contracts of functions that do nothing.
-
+// The laws, each as the contract of a function that does nothing.
 ghost use Rattle.back_runs.specs.Runs.{LawOfRuns};
 ghost use Rattle.back_runs.specs.Ends.{LawOfGoingOn};
 ghost use Rattle.back_runs.specs.MachineRuns.{LawOfKnownSteps, LawOfMachineRuns};
 ghost use Rattle.back_runs.specs.ProgramRuns.{LawOfWeighing, LawOfKnownRuns, LawOfProgramRuns};
+ghost use Rattle.back_runs.specs.Laws.{LawOfFirst, LawOfStart, LawOfEnd, LawOfImageRuns};
 
 /// Where decisions are good, so many steps of lines from a stage that the machine is at are matched by a run of instructions, in no more
 /// than these steps cost, in no fewer than they weigh, and in no fewer than they draw serial numbers.
@@ -43,4 +43,24 @@ pub fn law_known_runs()
 /// where they have ended, the program has, in the same way; and they end so in one more than the program costs.
 pub fn law_program_runs()
     ensures { LawOfProgramRuns }
+{}
+
+/// The state whose arena has the words laid beside the code, and nothing else, is one with which a run of the image begins.
+pub fn law_first()
+    ensures { LawOfFirst }
+{}
+
+/// From the image's first instruction the machine comes in two to where the first procedure is entered.
+pub fn law_start()
+    ensures { LawOfStart }
+{}
+
+/// Behind the first procedure the machine halts in three instructions, with the word in register 12.
+pub fn law_end()
+    ensures { LawOfEnd }
+{}
+
+/// An image does what its program means, in two instructions more.
+pub fn law_image_runs()
+    ensures { LawOfImageRuns }
 {}

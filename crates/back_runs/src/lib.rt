@@ -4,6 +4,6 @@
 pub mod laws;
 
 pub use laws::{
-    law_going_on, law_known_runs, law_known_steps, law_machine_runs, law_program_runs, law_runs,
-    law_weighing,
+    law_end, law_first, law_going_on, law_image_runs, law_known_runs, law_known_steps,
+    law_machine_runs, law_program_runs, law_runs, law_start, law_weighing,
 };

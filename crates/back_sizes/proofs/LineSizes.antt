@@ -20,9 +20,9 @@ use Rattle.back_places.specs.Selection.{branch_code, jump_code, low_12}
 use Rattle.back_places.specs.Passing.{pass_code, parameters_code}
 use Rattle.back_places.specs.Blocks.{stack_code, raise_code, room_test_code, room_code, full_here_code}
 use Rattle.back_places.specs.LineCode.{few_requested_code, requested_code, request_code, link_code, sources, before_call_code, call_jump_code, call_code, operation_code, is_silent_jump, tested_code, lent_code, lay_code, lend_code, before_return_code, line_code, behind_code, save_code, entry_code}
-use Rattle.back_stepping.proofs.Lengths.{either_length, slot_length, load_length, read_length, keep_length, move_length, move_from_register, compute_length, stack_length, raise_length}
+use Rattle.back_emission.proofs.Lengths.{either_length, slot_length, load_length, read_length, keep_length, move_length, move_from_register, compute_length, stack_length, raise_length}
 use Rattle.back_emission.proofs.CallSteps.{pass_length}
-use Rattle.back_entries.proofs.Parameters.{parameters_length, save_length}
+use Rattle.back_steps.proofs.Parameters.{parameters_length, save_length}
 use Rattle.back_layout.specs.Sizes.{unplaced, jump_size, goes_over_nothing, line_size, switch_targets}
 
 -- what a line costs as code; that of a record pays for the head of its landing

@@ -1,6 +1,6 @@
 -- What is known of the two routines that ways to exits call: the one of transfers goes to a record, and the one that leaves by a number finds what the
 -- meaning finds.
-use Rattle.back_transfers.proofs.Combined.{transfers_law, leaving_law}
+use Rattle.back_exits.proofs.Combined.{transfers_law, leaving_law}
 use Rattle.back_sought_exits.specs.Called.{LawOfTransferring, LawOfSeeking, LawOfReturns, LawOfGoes}
 use Rattle.back_sought_exits.proofs.Whole.{whole_returns_law, whole_goes_law}
 

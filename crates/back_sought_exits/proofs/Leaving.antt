@@ -27,11 +27,11 @@ use Rattle.back_relation.specs.Setting.{Setting}
 use Rattle.back_relation.specs.Worlds.{World, LandsIn}
 use Rattle.back_relation.specs.Activation.{FormScope}
 use Rattle.back_relation.specs.Forms.{context_at, code_at}
-use Rattle.back_combining.specs.Points.{Point, start_at, Here}
-use Rattle.back_combining.specs.Starts.{Start, FellFrom, ReachedFrom, EndsAt, SparingAt}
-use Rattle.back_combining.proofs.FormGrowth.{form_grows}
-use Rattle.back_combining.proofs.Points.{code_grows}
-use Rattle.back_combining.proofs.Starts.{start_charged, reached_set, ends_sparing, ends_spared}
+use Rattle.back_relation.specs.Points.{Point, start_at, Here}
+use Rattle.back_relation.specs.Starts.{Start, FellFrom, ReachedFrom, EndsAt, SparingAt}
+use Rattle.back_relation.proofs.FormGrowth.{form_grows}
+use Rattle.back_relation.proofs.Points.{code_grows}
+use Rattle.back_relation.proofs.Starts.{start_charged, reached_set, ends_sparing, ends_spared}
 use Rattle.back_exits.proofs.AtOnce.{transfer_grows, lands_in_block, lands_in_segment}
 use Rattle.back_exits.proofs.Charging.{next_start, whole_then, value_then}
 use Rattle.back_sought_exits.specs.Sought.{LawOfReturnsBySearch, LawOfGoesBySearch, LawOfReturnsToCaptured, LawOfGoesToCaptured}

@@ -39,8 +39,8 @@ use Rattle.back_relation.specs.Worlds.{World, LandsIn}
 use Rattle.back_relation.specs.Things.{MadeBy, AreMadeBy}
 use Rattle.back_relation.specs.Forms.{context_at, code_at}
 use Rattle.back_relation.specs.RoutineClaims.{routine_credit}
-use Rattle.back_combining.specs.Starts.{Start, ReachedFrom, EndsAt}
-use Rattle.back_combining.proofs.Starts.{reached_set}
+use Rattle.back_relation.specs.Starts.{Start, ReachedFrom, EndsAt}
+use Rattle.back_relation.proofs.Starts.{reached_set}
 use Rattle.back_calling.specs.Calling.{Between, AllButTwo}
 use Rattle.back_calling.specs.Storing.{stored_at, standing_world}
 use Rattle.back_calling.proofs.Growing.{tasks_below}

@@ -24,12 +24,12 @@ use Rattle.back_relation.specs.Setting.{Setting}
 use Rattle.back_relation.specs.Placed.{IsPlaced}
 use Rattle.back_relation.specs.Room.{routine_words}
 use Rattle.back_relation.specs.Activation.{FormScope}
-use Rattle.back_combining.specs.Points.{Here}
-use Rattle.back_combining.proofs.Fitting.{registers_front, registers_behind}
-use Rattle.back_combining.proofs.Points.{does_here}
+use Rattle.back_relation.specs.Points.{Here}
+use Rattle.back_relation.proofs.Fitting.{registers_front, registers_behind}
+use Rattle.back_relation.proofs.Points.{does_here}
 use Rattle.back_exits.proofs.AtOnce.{returns_at_once_law, goes_at_once_law}
-use Rattle.back_cleanups.proofs.Returns.{returns_by_transfer_law, goes_by_transfer_law}
-use Rattle.back_cleanups.specs.Cleanups.{TransferGoes}
+use Rattle.back_exits.proofs.Returns.{returns_by_transfer_law, goes_by_transfer_law}
+use Rattle.back_exits.specs.Cleanups.{TransferGoes}
 use Rattle.back_sought_exits.specs.Sought.{LeavingDoes, LawOfWholeReturns, LawOfWholeGoes}
 use Rattle.back_sought_exits.proofs.Seeking.{search_code}
 use Rattle.back_sought_exits.proofs.Leaving.{returns_by_search_law, goes_by_search_law, returns_to_captured_law, goes_to_captured_law}

@@ -9,7 +9,7 @@ use Rattle.back_relation.specs.Setting.{Setting}
 use Rattle.back_relation.specs.Placed.{IsPlaced}
 use Rattle.back_relation.specs.Worlds.{World, Standing}
 use Rattle.back_relation.specs.Forms.{context_at, code_at, DoesForm}
-use Rattle.back_cleanups.specs.Cleanups.{TransferGoes}
+use Rattle.back_exits.specs.Cleanups.{TransferGoes}
 use Rattle.back_relation.specs.RoutineClaims.{FailingDoes}
 use Rattle.back_sought_exits.specs.Sought.{LeavingDoes}
 

@@ -12,7 +12,7 @@ use Rattle.flat_language.specs.FlatState.{FlatState}
 use Rattle.mid_code.specs.State.{MidState}
 use Rattle.back_lowering.specs.declared.scope.OwnExit.{OwnExit}
 use Rattle.back_lowering.specs.declared.scope.Reach.TheVariants.{BySearch}
-use Rattle.back_combining.specs.Points.{Here}
+use Rattle.back_relation.specs.Points.{Here}
 use Rattle.back_relation.specs.Setting.{Setting}
 use Rattle.back_relation.specs.Placed.{IsPlaced}
 use Rattle.back_relation.specs.Room.{routine_words}
@@ -20,7 +20,7 @@ use Rattle.back_relation.specs.Worlds.{World, Standing}
 use Rattle.back_relation.specs.Activation.{FormScope}
 use Rattle.back_relation.specs.Forms.{context_at, code_at, DoesForm}
 use Rattle.back_relation.specs.RoutineClaims.{LeaveDoes}
-use Rattle.back_cleanups.specs.Cleanups.{TransferGoes}
+use Rattle.back_exits.specs.Cleanups.{TransferGoes}
 
 -- wherever it is called, the routine that leaves by a number does what the meaning does
 abbrev pub LeavingDoes : (setting : Setting) → (k turns : ℕ) → Type 0

@@ -17,15 +17,15 @@ use Rattle.back_places.specs.Places.{Located}
 use Rattle.back_places.specs.Good.{IsGood}
 use Rattle.back_places.specs.Relation.{Relates}
 use Rattle.back_places.specs.StepLaw.{Follows, Known, LawOfSteps}
-use Rattle.back_stepping.proofs.Coming.{stays}
+use Rattle.back_emission.proofs.Coming.{stays}
 use Rattle.back_emission.proofs.Steps.{nothing}
 use Rattle.back_emission.proofs.KindLaws.{law_of_computations, law_of_choices, law_of_ends, law_of_calls, law_of_accesses, law_of_given_back, law_of_puts, law_of_landings}
-use Rattle.back_requests.proofs.AskingLaws.{law_of_gets}
-use Rattle.back_requests.proofs.DrawingLaws.{law_of_draws}
-use Rattle.back_requests.proofs.RequestLaws.{law_of_requests}
-use Rattle.back_blocks.proofs.BlockLaws.{law_of_lays, law_of_lends}
-use Rattle.back_cuts.proofs.CutLaws.{law_of_cuts}
-use Rattle.back_entries.proofs.Entries.{law_of_entries}
+use Rattle.back_steps.proofs.AskingLaws.{law_of_gets}
+use Rattle.back_steps.proofs.DrawingLaws.{law_of_draws}
+use Rattle.back_steps.proofs.RequestLaws.{law_of_requests}
+use Rattle.back_steps.proofs.BlockLaws.{law_of_lays, law_of_lends}
+use Rattle.back_steps.proofs.CutLaws.{law_of_cuts}
+use Rattle.back_steps.proofs.Entries.{law_of_entries}
 
 module _ (program : LineProgram) (l : Located) (known : (number line register : ℕ) → Place → Bool) (first : List Block)
     (checked : is_checked_line_program program ≡ true) (good : IsGood program l (Known known)) where

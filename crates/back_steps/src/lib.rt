@@ -3,4 +3,6 @@
 
 pub mod laws;
 
-pub use laws::law_steps;
+pub use laws::{
+    law_cuts, law_draws, law_entries, law_gets, law_lays, law_lends, law_requests, law_steps,
+};

@@ -28,20 +28,20 @@ use Rattle.back_relation.specs.Placed.{IsPlaced}
 use Rattle.back_relation.specs.Room.{words_for_handler}
 use Rattle.back_relation.specs.Ends.{Reached, Ends, done, left_by, full_there, stopped, few_turns, Because, Left, form_credit}
 use Rattle.back_relation.specs.Forms.{context_at, code_at}
-use Rattle.back_combining.specs.Points.{Point, start_at, run, value_steps, Here}
-use Rattle.back_combining.specs.Starts.{FlatGrown, Start, EndsAt, FellFrom, ReachedFrom}
-use Rattle.back_combining.proofs.Activations.{activation_later}
-use Rattle.back_combining.proofs.Choices.{go_gives}
-use Rattle.back_combining.proofs.FormGrowth.{form_grows}
-use Rattle.back_combining.proofs.Growth.{same_flat, then_value}
-use Rattle.back_combining.proofs.Parts.{go_on_falls}
-use Rattle.back_combining.proofs.Points.{point_after, code_grows}
-use Rattle.back_combining.proofs.Starts.{start_charged, ends_sparing, ends_spared, gives_run, behind}
-use Rattle.back_combining.proofs.Then.{ends_go_on, same_world}
+use Rattle.back_relation.specs.Points.{Point, start_at, run, value_steps, Here}
+use Rattle.back_relation.specs.Starts.{FlatGrown, Start, EndsAt, FellFrom, ReachedFrom}
+use Rattle.back_relation.proofs.Activations.{activation_later}
+use Rattle.back_relation.proofs.Choices.{go_gives}
+use Rattle.back_relation.proofs.FormGrowth.{form_grows}
+use Rattle.back_relation.proofs.Growth.{same_flat, then_value}
+use Rattle.back_relation.proofs.Parts.{go_on_falls}
+use Rattle.back_relation.proofs.Points.{point_after, code_grows}
+use Rattle.back_relation.proofs.Starts.{start_charged, ends_sparing, ends_spared, gives_run, behind}
+use Rattle.back_relation.proofs.Then.{ends_go_on, same_world}
 use Rattle.mid_arena.specs.Places.{WordsOf}
-use Rattle.back_arguments.proofs.WordLists.{of_values_later}
-use Rattle.back_arguments.specs.Arguments.{WordsIn, ArgumentsHere}
-use Rattle.back_arguments.proofs.Arguments.{arguments_law}
+use Rattle.back_values.proofs.WordLists.{of_values_later}
+use Rattle.back_values.specs.Arguments.{WordsIn, ArgumentsHere}
+use Rattle.back_values.proofs.Arguments.{arguments_law}
 use Rattle.back_values.specs.Bindings.{forms_of, HomesAsSlots, LawOfBindings}
 use Rattle.back_values.specs.Boxes.{SlotsIn, extended, BoxesMade, BoxesEnd, made, no_words, no_space}
 use Rattle.back_values.proofs.BoxesMade.{boxes_law, boxes_grow}

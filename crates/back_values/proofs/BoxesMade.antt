@@ -35,13 +35,13 @@ use Rattle.back_relation.specs.Things.{Things, WithinLimit}
 use Rattle.back_relation.specs.Around.{RoomFor}
 use Rattle.back_relation.specs.Ends.{FullThere, Stopped, RoomEnded}
 use Rattle.back_relation.specs.Forms.{code_at}
-use Rattle.back_combining.specs.Starts.{FlatGrown}
-use Rattle.back_combining.proofs.Growth.{same_prefix, same_flat, both_flat}
-use Rattle.back_combining.proofs.Starts.{room_after}
-use Rattle.back_combining.proofs.Then.{world_then, back_then}
-use Rattle.back_combining.proofs.Worlds.{later_same, word_later}
-use Rattle.back_arguments.specs.Arguments.{WordsIn}
-use Rattle.back_arguments.proofs.WordLists.{words_kept, of_values_later}
+use Rattle.back_relation.specs.Starts.{FlatGrown}
+use Rattle.back_relation.proofs.Growth.{same_prefix, same_flat, both_flat}
+use Rattle.back_relation.proofs.Starts.{room_after}
+use Rattle.back_relation.proofs.Then.{world_then, back_then}
+use Rattle.back_relation.proofs.Worlds.{later_same, word_later}
+use Rattle.back_values.specs.Arguments.{WordsIn}
+use Rattle.back_values.proofs.WordLists.{words_kept, of_values_later}
 use Rattle.back_values.specs.Boxes.{Clean, extended, SlotsIn, BoxesMade, BoxesEnd, made, no_words, no_space, LawOfBoxes}
 use Rattle.back_values.proofs.NewBoxes.{box_asked, box_world, things_boxed, world_boxed, around_boxed, clean_boxed, box_is}
 

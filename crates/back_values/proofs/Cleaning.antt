@@ -9,12 +9,12 @@ use Rattle.back_relation.specs.Setting.{Setting}
 use Rattle.back_relation.specs.Worlds.{World, BoxPlace, on_heap, on_stack, gone, Later}
 use Rattle.back_relation.specs.StackWords.{StackKept}
 use Rattle.back_relation.specs.Things.{Things, BoxStands}
-use Rattle.back_combining.specs.Cuts.{world_cut}
-use Rattle.back_combining.specs.Starts.{Start, ReachedFrom}
-use Rattle.back_combining.proofs.Activations.{activation_later}
-use Rattle.back_combining.proofs.Cuts.{later_cut}
-use Rattle.back_combining.proofs.Starts.{start_after}
-use Rattle.back_objects.proofs.Boxes.{cut_count, heap_was, stack_above, stack_stays}
+use Rattle.back_relation.specs.Cuts.{world_cut}
+use Rattle.back_relation.specs.Starts.{Start, ReachedFrom}
+use Rattle.back_relation.proofs.Activations.{activation_later}
+use Rattle.back_relation.proofs.Cuts.{later_cut}
+use Rattle.back_relation.proofs.Starts.{start_after}
+use Rattle.back_relation.proofs.Boxes.{cut_count, heap_was, stack_above, stack_stays}
 use Rattle.back_values.specs.Boxes.{Clean}
 use Rattle.back_values.proofs.Moved.{literals_move, method_moves, functions_move, box_moves}
 

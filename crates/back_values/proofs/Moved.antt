@@ -22,8 +22,8 @@ use Rattle.back_relation.specs.Placed.{HasGlobal, HasDynamic, HasSymbol, IsVaria
 use Rattle.back_relation.specs.Worlds.{World, BoxPlace, on_heap, on_stack, gone, Later}
 use Rattle.back_relation.specs.StackWords.{HasWordAt}
 use Rattle.back_relation.specs.Things.{Things, TakenSpot, CapturedIs, CapturedAt, BoxStands, MethodStands, FunctionStands, LiteralIs}
-use Rattle.back_combining.proofs.Activations.{made_by_later}
-use Rattle.back_combining.proofs.Worlds.{word_later}
+use Rattle.back_relation.proofs.Activations.{made_by_later}
+use Rattle.back_relation.proofs.Worlds.{word_later}
 
 module _ (setting : Setting) {w w' : World} {z : FlatState} {y : MidState} (y' : MidState) (t : Things setting w z y) (later : Later w w') (Stays : Owner → Type 0)
     (same : (p : Owner) (s : Spot) → Stays p → spot_of w.places p ≡ Some s → SameWords y.arena y'.arena s) where

@@ -25,7 +25,7 @@ use Rattle.back_relation.specs.Placed.{IsPlaced}
 use Rattle.back_relation.specs.Worlds.{World, BoxPlace, on_heap, on_stack, gone, Later, BoxesApart}
 use Rattle.back_relation.specs.Things.{Things, WithinLimit, BoxStands}
 use Rattle.back_relation.specs.Ends.{WorldKept, Around}
-use Rattle.back_combining.proofs.Worlds.{word_later}
+use Rattle.back_relation.proofs.Worlds.{word_later}
 use Rattle.back_values.specs.Boxes.{Clean, extended}
 use Rattle.back_values.proofs.Moved.{KeepsBox, box_moves, method_moves, functions_move, literals_move, symbols_move, further_moves, control_moves, word_moves, serials_move, globals_move, dynamics_move}
 

@@ -29,7 +29,7 @@ use Rattle.back_relation.specs.Placed.{IsPlaced}
 use Rattle.back_relation.specs.Worlds.{World, BoxPlace, on_heap, on_stack, gone, BoxIs}
 use Rattle.back_relation.specs.Things.{Things, WithinLimit, TakenSpot, BoxStands}
 use Rattle.back_relation.specs.Ends.{WorldKept, Around}
-use Rattle.back_combining.proofs.Worlds.{later_same}
+use Rattle.back_relation.proofs.Worlds.{later_same}
 use Rattle.back_values.specs.Boxes.{Clean}
 use Rattle.back_values.proofs.Moved.{KeepsBox, box_moves, method_moves, functions_move, further_moves, word_moves, serials_move, globals_move, dynamics_move}
 

@@ -19,9 +19,9 @@ use Rattle.back_lowering.specs.declared.scope.SitePlace.TheVariants.{Known, Held
 use Rattle.back_relation.specs.Setting.{Setting}
 use Rattle.back_relation.specs.Worlds.{World, Standing}
 use Rattle.back_relation.specs.Activation.{FormScope, NoSlot, ScopeStands, RegistersKept, SlotHas, SlotIs, ExitReached, SelfHeld, SiteHeld, ActivationStands}
-use Rattle.back_combining.proofs.Activations.{method_later}
-use Rattle.back_combining.proofs.Straight.{same_here}
-use Rattle.back_combining.proofs.Worlds.{later_same}
+use Rattle.back_relation.proofs.Activations.{method_later}
+use Rattle.back_relation.proofs.Straight.{same_here}
+use Rattle.back_relation.proofs.Worlds.{later_same}
 use Rattle.back_values.proofs.Frames.{framed}
 
 module _ (setting : Setting) {s : FormScope} {d : ℕ} {rs valid : List Standing} {w : World} {env : FlatEnvironment} {around : DynamicContext} {z : FlatState} {regs : Registers} {y : MidState}

@@ -29,18 +29,18 @@ use Rattle.back_relation.specs.Activation.{FormScope}
 use Rattle.back_relation.specs.Placed.{IsPlaced}
 use Rattle.back_relation.specs.Ends.{done, form_credit}
 use Rattle.back_relation.specs.Forms.{context_at, code_at}
-use Rattle.back_combining.specs.Points.{Point, start_at, run, value_steps, Here}
-use Rattle.back_combining.specs.Starts.{Start, EndsAt, ReachedFrom}
-use Rattle.back_combining.proofs.Activations.{activation_later}
-use Rattle.back_combining.proofs.FormGrowth.{form_grows}
-use Rattle.back_combining.proofs.Growth.{same_prefix}
-use Rattle.back_combining.proofs.Points.{point_after, code_grows}
-use Rattle.back_combining.proofs.Starts.{start_charged, ends_sparing, ends_spared, behind, two}
-use Rattle.back_combining.proofs.Straight.{set_beside, registers_set, world_cost, around_cost}
-use Rattle.back_combining.proofs.Then.{same_world}
-use Rattle.back_combining.proofs.Worlds.{later_same}
-use Rattle.back_combining.specs.Starts.{FlatGrown}
-use Rattle.back_combining.proofs.Fitting.{registers_behind}
+use Rattle.back_relation.specs.Points.{Point, start_at, run, value_steps, Here}
+use Rattle.back_relation.specs.Starts.{Start, EndsAt, ReachedFrom}
+use Rattle.back_relation.proofs.Activations.{activation_later}
+use Rattle.back_relation.proofs.FormGrowth.{form_grows}
+use Rattle.back_relation.proofs.Growth.{same_prefix}
+use Rattle.back_relation.proofs.Points.{point_after, code_grows}
+use Rattle.back_relation.proofs.Starts.{start_charged, ends_sparing, ends_spared, behind, two}
+use Rattle.back_relation.proofs.Straight.{set_beside, registers_set, world_cost, around_cost}
+use Rattle.back_relation.proofs.Then.{same_world}
+use Rattle.back_relation.proofs.Worlds.{later_same}
+use Rattle.back_relation.specs.Starts.{FlatGrown}
+use Rattle.back_relation.proofs.Fitting.{registers_behind}
 use Rattle.back_values.specs.Boxes.{Clean}
 use Rattle.back_values.specs.Variables.{CapturedByFunctions, KnownPlace, LawOfSetting}
 use Rattle.back_values.proofs.CapturedWords.{of_kind, is_box, part_there}

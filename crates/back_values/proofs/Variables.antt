@@ -30,10 +30,10 @@ use Rattle.back_relation.specs.Things.{Things}
 use Rattle.back_relation.specs.Activation.{FormScope, SlotIs}
 use Rattle.back_relation.specs.Ends.{form_credit}
 use Rattle.back_relation.specs.Forms.{code_at}
-use Rattle.back_combining.specs.Points.{Point, start_at, run, Here}
-use Rattle.back_combining.specs.Starts.{Start, EndsAt}
-use Rattle.back_combining.proofs.Leaves.{box_low}
-use Rattle.back_combining.proofs.Starts.{start_charged, ends_sparing, gives_run}
+use Rattle.back_relation.specs.Points.{Point, start_at, run, Here}
+use Rattle.back_relation.specs.Starts.{Start, EndsAt}
+use Rattle.back_relation.proofs.Leaves.{box_low}
+use Rattle.back_relation.proofs.Starts.{start_charged, ends_sparing, gives_run}
 use Rattle.back_values.specs.Variables.{CapturedByFunctions, KnownPlace, LawOfVariables}
 use Rattle.back_values.proofs.Far.{Loaded, load_far_runs, charged_twice}
 use Rattle.back_values.proofs.CapturedWords.{PartThere, of_kind, is_value, is_box, part_there}

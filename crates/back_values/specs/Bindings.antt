@@ -9,8 +9,8 @@ use Rattle.back_lowering.specs.Scope.{registers_from}
 use Rattle.back_relation.specs.Setting.{Setting}
 use Rattle.back_relation.specs.Activation.{FormScope, with_slots}
 use Rattle.back_relation.specs.Placed.{IsPlaced}
-use Rattle.back_combining.specs.Points.{Here}
-use Rattle.back_arguments.specs.Arguments.{ArgumentsHere}
+use Rattle.back_relation.specs.Points.{Here}
+use Rattle.back_values.specs.Arguments.{ArgumentsHere}
 
 -- the forms of bindings
 abbrev pub forms_of : FlatBindings → FlatForms

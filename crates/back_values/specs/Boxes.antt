@@ -20,8 +20,8 @@ use Rattle.back_relation.specs.Around.{RoomFor}
 use Rattle.back_relation.specs.Activation.{SlotIs}
 use Rattle.back_relation.specs.Ends.{WorldKept, Around, FullThere, Stopped}
 use Rattle.back_relation.specs.Forms.{code_at}
-use Rattle.back_combining.specs.Starts.{FlatGrown}
-use Rattle.back_arguments.specs.Arguments.{WordsIn}
+use Rattle.back_relation.specs.Starts.{FlatGrown}
+use Rattle.back_values.specs.Arguments.{WordsIn}
 
 -- all places on the stack are in blocks that stand
 abbrev pub Clean : World → MidState → Type 0

@@ -1,3 +1,10 @@
-pub mod Variables
-pub mod Boxes
+pub mod Arguments
 pub mod Bindings
+pub mod Boxes
+pub mod Chains
+pub mod Functions
+pub mod Globals
+pub mod Methods
+pub mod Sites
+pub mod Variables
+pub mod Wholes

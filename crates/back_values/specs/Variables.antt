@@ -12,7 +12,7 @@ use Rattle.back_lowering.specs.Registers.{of_code, enough_for}
 use Rattle.back_relation.specs.Setting.{Setting}
 use Rattle.back_relation.specs.Activation.{FormScope}
 use Rattle.back_relation.specs.Placed.{IsPlaced}
-use Rattle.back_combining.specs.Points.{Point, Here}
+use Rattle.back_relation.specs.Points.{Point, Here}
 
 -- captured parts stand under the numbers of functions
 abbrev pub CapturedByFunctions : FlatState → Type 0

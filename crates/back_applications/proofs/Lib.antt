@@ -1,3 +1,0 @@
-pub mod Charging
-pub mod Levels
-pub mod Applied

@@ -1,5 +1,0 @@
-use Rattle.back_applications.proofs.Levels.{form_levels_law}
-use Rattle.back_applications.proofs.laws.law_form_levels.Goals as goal
-
-pub returns : goal.returns
-returns c = form_levels_law

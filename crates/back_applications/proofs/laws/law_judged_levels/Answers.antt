@@ -1,5 +1,0 @@
-use Rattle.back_applications.proofs.Levels.{judged_levels_law}
-use Rattle.back_applications.proofs.laws.law_judged_levels.Goals as goal
-
-pub returns : goal.returns
-returns c = judged_levels_law

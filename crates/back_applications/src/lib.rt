@@ -1,4 +1,0 @@
-// Applications: functions that are entered at their bodies.
-#![tactic(auto)]
-
-pub mod laws;

@@ -1,5 +1,0 @@
-use Rattle.back_argument_lists.proofs.Lists.{lists_at_law}
-use Rattle.back_argument_lists.proofs.laws.law_lists_at.Goals as goal
-
-pub returns : goal.returns
-returns c = lists_at_law

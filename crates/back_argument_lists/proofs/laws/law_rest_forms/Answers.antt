@@ -1,5 +1,0 @@
-use Rattle.back_argument_lists.proofs.RestForms.{rest_forms_law}
-use Rattle.back_argument_lists.proofs.laws.law_rest_forms.Goals as goal
-
-pub returns : goal.returns
-returns c = rest_forms_law

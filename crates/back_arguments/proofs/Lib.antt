@@ -1,5 +1,0 @@
-pub mod WordLists
-pub mod Lowering
-pub mod Arguments
-pub mod FirstRegisters
-pub mod Lists

@@ -1,5 +1,0 @@
-use Rattle.back_bindings.proofs.DynamicForms.{dynamic_lets_law}
-use Rattle.back_bindings.proofs.laws.law_dynamic_lets.Goals as goal
-
-pub returns : goal.returns
-returns c = dynamic_lets_law

@@ -1,5 +1,0 @@
-use Rattle.back_bindings.proofs.HandlerForms.{handlers_law}
-use Rattle.back_bindings.proofs.laws.law_handlers.Goals as goal
-
-pub returns : goal.returns
-returns c = handlers_law

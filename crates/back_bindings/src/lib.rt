@@ -1,4 +1,0 @@
-// What is shown of dynamic variables and handlers.
-#![tactic(auto)]
-
-pub mod laws;

@@ -1,4 +1,0 @@
-pub mod Headers
-pub mod Lays
-pub mod Lends
-pub mod BlockLaws

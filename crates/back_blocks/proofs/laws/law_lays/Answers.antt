@@ -1,5 +1,0 @@
-use Rattle.back_blocks.proofs.BlockLaws.{law_of_lays}
-use Rattle.back_blocks.proofs.laws.law_lays.Goals as goal
-
-pub returns : goal.returns
-returns c = law_of_lays

@@ -1,3 +1,0 @@
-pub mod Constants
-pub mod Words
-pub mod Primaries

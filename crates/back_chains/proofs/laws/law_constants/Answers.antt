@@ -1,5 +1,0 @@
-use Rattle.back_chains.proofs.Constants.{constants_law}
-use Rattle.back_chains.proofs.laws.law_constants.Goals as goal
-
-pub returns : goal.returns
-returns c = constants_law

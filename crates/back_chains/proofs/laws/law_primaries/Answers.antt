@@ -1,5 +1,0 @@
-use Rattle.back_chains.proofs.Primaries.{primaries_law}
-use Rattle.back_chains.proofs.laws.law_primaries.Goals as goal
-
-pub returns : goal.returns
-returns c = primaries_law

@@ -1,4 +1,0 @@
-// Walks along the words of chains of methods.
-#![tactic(auto)]
-
-pub mod laws;

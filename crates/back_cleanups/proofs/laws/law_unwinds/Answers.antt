@@ -1,5 +1,0 @@
-use Rattle.back_cleanups.proofs.Unwinds.{unwinds_law}
-use Rattle.back_cleanups.proofs.laws.law_unwinds.Goals as goal
-
-pub returns : goal.returns
-returns c = unwinds_law

@@ -1,5 +1,0 @@
-use Rattle.back_cleanups.proofs.Unwinds.{whole_unwinds_law}
-use Rattle.back_cleanups.proofs.laws.law_whole_unwinds.Goals as goal
-
-pub returns : goal.returns
-returns c = whole_unwinds_law

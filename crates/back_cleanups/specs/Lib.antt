@@ -1,2 +1,0 @@
-pub mod Cleanups
-pub mod Returns

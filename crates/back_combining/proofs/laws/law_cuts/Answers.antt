@@ -1,5 +1,0 @@
-use Rattle.back_combining.proofs.Cuts.{cuts_law}
-use Rattle.back_combining.proofs.laws.law_cuts.Goals as goal
-
-pub returns : goal.returns
-returns c = cuts_law

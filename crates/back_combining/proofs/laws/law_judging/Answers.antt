@@ -1,5 +1,0 @@
-use Rattle.back_combining.proofs.Judging.{judging_law}
-use Rattle.back_combining.proofs.laws.law_judging.Goals as goal
-
-pub returns : goal.returns
-returns c = judging_law

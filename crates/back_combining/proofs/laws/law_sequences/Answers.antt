@@ -1,5 +1,0 @@
-use Rattle.back_combining.proofs.Sequences.{sequences_law}
-use Rattle.back_combining.proofs.laws.law_sequences.Goals as goal
-
-pub returns : goal.returns
-returns c = sequences_law

@@ -1,5 +1,0 @@
-use Rattle.back_combining.proofs.Windows.{stored_elsewhere}
-use Rattle.back_combining.proofs.laws.law_stores.Goals as goal
-
-pub returns : goal.returns
-returns c = stored_elsewhere

@@ -1,5 +1,0 @@
-use Rattle.back_combining.proofs.Combined.{two_parts_law}
-use Rattle.back_combining.proofs.laws.law_two_parts.Goals as goal
-
-pub returns : goal.returns
-returns c = two_parts_law

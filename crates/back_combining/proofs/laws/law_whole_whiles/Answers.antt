@@ -1,5 +1,0 @@
-use Rattle.back_combining.proofs.Branches.{whole_whiles_law}
-use Rattle.back_combining.proofs.laws.law_whole_whiles.Goals as goal
-
-pub returns : goal.returns
-returns c = whole_whiles_law

@@ -1,4 +1,0 @@
-pub mod Seeking
-pub mod Receiving
-pub mod Cutting
-pub mod CutLaws

@@ -1,5 +1,0 @@
-use Rattle.back_cuts.proofs.CutLaws.{law_of_cuts}
-use Rattle.back_cuts.proofs.laws.law_cuts.Goals as goal
-
-pub returns : goal.returns
-returns c = law_of_cuts

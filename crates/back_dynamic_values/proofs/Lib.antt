@@ -1,4 +1,0 @@
-pub mod NewOutermost
-pub mod NewBound
-pub mod Definitions
-pub mod Settings

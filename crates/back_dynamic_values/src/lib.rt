@@ -1,4 +1,0 @@
-// New values of dynamic variables.
-#![tactic(auto)]
-
-pub mod laws;

@@ -1,4 +1,0 @@
-pub mod FrameStores
-pub mod Parameters
-pub mod Arguments
-pub mod Entries

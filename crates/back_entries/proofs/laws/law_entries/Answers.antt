@@ -1,5 +1,0 @@
-use Rattle.back_entries.proofs.Entries.{law_of_entries}
-use Rattle.back_entries.proofs.laws.law_entries.Goals as goal
-
-pub returns : goal.returns
-returns c = law_of_entries

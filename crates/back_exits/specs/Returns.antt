@@ -1,0 +1,28 @@
+-- Own exits that are left by a transfer: `return-from` and `go` call the routine.
+use Rattle.std.specs.Prelude.{◌≡◌, ℕ, ◌+◌, ◌≤◌, true, Some, slice_get}
+use Rattle.lang_meaning.specs.Standing.{is_block, is_segment}
+use Rattle.flat_language.specs.declared.place.ExitPlace.TheVariants.{Own}
+use Rattle.flat_language.specs.FlatExits.{made_by}
+use Rattle.flat_language.specs.FlatForm.{FlatForm, return_from, go}
+use Rattle.back_lowering.specs.declared.scope.OwnExit.{OwnExit}
+use Rattle.back_lowering.specs.declared.scope.Reach.TheVariants.{ByTransfer}
+use Rattle.back_relation.specs.Points.{Here}
+use Rattle.back_relation.specs.Setting.{Setting}
+use Rattle.back_relation.specs.Placed.{IsPlaced}
+use Rattle.back_relation.specs.Room.{routine_words}
+use Rattle.back_relation.specs.Activation.{FormScope}
+use Rattle.back_exits.specs.Cleanups.{TransferGoes}
+
+-- a value goes to a block
+abbrev pub LawOfReturnsByTransfer : Type 0
+LawOfReturnsByTransfer =
+    (setting : Setting) (s : FormScope) (d n size k turns i : ℕ) (x : OwnExit) (f : FlatForm) → IsPlaced setting → d + 3 ≤ size → routine_words ≤ n → TransferGoes setting k turns
+    → slice_get s.code.exits i ≡ Some x → x.reach ≡ ByTransfer → is_block (made_by s.exits (Own i)) ≡ true → Here setting s d n size k turns f
+    → Here setting s d n size k turns (return_from (Own i) f)
+
+-- a tagbody goes on at a segment
+abbrev pub LawOfGoesByTransfer : Type 0
+LawOfGoesByTransfer =
+    (setting : Setting) (s : FormScope) (d n size k turns i segment : ℕ) (x : OwnExit) → IsPlaced setting → d + 3 ≤ size → routine_words ≤ n → TransferGoes setting k turns
+    → slice_get s.code.exits i ≡ Some x → x.reach ≡ ByTransfer → is_segment segment (made_by s.exits (Own i)) ≡ true
+    → Here setting s d n size k turns (go (Own i) segment)

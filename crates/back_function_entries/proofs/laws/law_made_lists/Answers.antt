@@ -1,0 +1,5 @@
+use Rattle.back_function_entries.proofs.Lists.{lists_law}
+use Rattle.back_function_entries.proofs.laws.law_made_lists.Goals as goal
+
+pub returns : goal.returns
+returns c = lists_law

@@ -1,3 +1,0 @@
-pub mod NewFunctions
-pub mod FunctionParts
-pub mod Functions

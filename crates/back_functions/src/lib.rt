@@ -1,4 +1,0 @@
-// Functions that forms make.
-#![tactic(auto)]
-
-pub mod laws;

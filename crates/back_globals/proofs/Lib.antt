@@ -1,4 +1,0 @@
-pub mod Signals
-pub mod VariableWords
-pub mod NewGlobals
-pub mod Globals

@@ -1,5 +1,0 @@
-use Rattle.back_globals.proofs.Globals.{definitions_law}
-use Rattle.back_globals.proofs.laws.law_definitions.Goals as goal
-
-pub returns : goal.returns
-returns c = definitions_law

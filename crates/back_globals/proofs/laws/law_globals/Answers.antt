@@ -1,5 +1,0 @@
-use Rattle.back_globals.proofs.Globals.{globals_law}
-use Rattle.back_globals.proofs.laws.law_globals.Goals as goal
-
-pub returns : goal.returns
-returns c = globals_law

@@ -1,4 +1,0 @@
-// Global variables.
-#![tactic(auto)]
-
-pub mod laws;

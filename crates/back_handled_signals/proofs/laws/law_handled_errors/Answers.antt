@@ -1,5 +1,0 @@
-use Rattle.back_handled_signals.proofs.Raising.{handled_errors_law}
-use Rattle.back_handled_signals.proofs.laws.law_handled_errors.Goals as goal
-
-pub returns : goal.returns
-returns c = handled_errors_law

@@ -1,4 +1,0 @@
-pub mod KnownCalls
-pub mod Undefined
-pub mod Wrong
-pub mod Applies

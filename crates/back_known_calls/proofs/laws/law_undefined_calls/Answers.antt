@@ -1,5 +1,0 @@
-use Rattle.back_known_calls.proofs.Undefined.{undefined_calls_law}
-use Rattle.back_known_calls.proofs.laws.law_undefined_calls.Goals as goal
-
-pub returns : goal.returns
-returns c = undefined_calls_law

@@ -1,2 +1,0 @@
-pub mod KnownCalls
-pub mod Applies

@@ -1,5 +1,0 @@
-use Rattle.back_laid_programs.proofs.Laid.{laid_runs_law}
-use Rattle.back_laid_programs.proofs.laws.law_laid_runs.Goals as goal
-
-pub returns : goal.returns
-returns c = laid_runs_law

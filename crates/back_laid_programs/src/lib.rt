@@ -1,4 +1,0 @@
-// Whole programs of core forms, made flat and laid by their words: lowered they do what they mean.
-#![tactic(auto)]
-
-pub mod laws;

@@ -1,5 +1,0 @@
-use Rattle.back_list_applications.proofs.Whole.{applications_law}
-use Rattle.back_list_applications.proofs.laws.law_list_applications.Goals as goal
-
-pub returns : goal.returns
-returns c = applications_law

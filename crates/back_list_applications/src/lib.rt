@@ -1,4 +1,0 @@
-// Values that are applied to the elements of lists.
-#![tactic(auto)]
-
-pub mod laws;

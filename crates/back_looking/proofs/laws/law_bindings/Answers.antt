@@ -1,5 +1,0 @@
-use Rattle.back_looking.proofs.BindingWalk.{bindings_law}
-use Rattle.back_looking.proofs.laws.law_bindings.Goals as goal
-
-pub returns : goal.returns
-returns c = bindings_law

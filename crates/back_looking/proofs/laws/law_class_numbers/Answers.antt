@@ -1,5 +1,0 @@
-use Rattle.back_looking.proofs.ClassNumbers.{class_numbers_law}
-use Rattle.back_looking.proofs.laws.law_class_numbers.Goals as goal
-
-pub returns : goal.returns
-returns c = class_numbers_law

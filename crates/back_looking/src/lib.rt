@@ -1,4 +1,0 @@
-// What is shown of the routines that only look.
-#![tactic(auto)]
-
-pub mod laws;

@@ -1,5 +1,0 @@
-use Rattle.back_mains.proofs.MainEnds.{main_ends_law}
-use Rattle.back_mains.proofs.laws.law_main_ends.Goals as goal
-
-pub returns : goal.returns
-returns c = main_ends_law

@@ -1,5 +1,0 @@
-use Rattle.back_mains.proofs.Numbers.{main_numbers_law}
-use Rattle.back_mains.proofs.laws.law_main_numbers.Goals as goal
-
-pub returns : goal.returns
-returns c = main_numbers_law

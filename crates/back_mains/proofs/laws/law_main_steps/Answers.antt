@@ -1,5 +1,0 @@
-use Rattle.back_mains.proofs.MainSteps.{main_steps_law}
-use Rattle.back_mains.proofs.laws.law_main_steps.Goals as goal
-
-pub returns : goal.returns
-returns c = main_steps_law

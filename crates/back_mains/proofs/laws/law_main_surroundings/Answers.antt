@@ -1,5 +1,0 @@
-use Rattle.back_mains.proofs.Surroundings.{main_surroundings_law}
-use Rattle.back_mains.proofs.laws.law_main_surroundings.Goals as goal
-
-pub returns : goal.returns
-returns c = main_surroundings_law

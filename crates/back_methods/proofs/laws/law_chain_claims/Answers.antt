@@ -1,5 +1,0 @@
-use Rattle.back_methods.proofs.Chains.{chain_claims_law}
-use Rattle.back_methods.proofs.laws.law_chain_claims.Goals as goal
-
-pub returns : goal.returns
-returns c = chain_claims_law

@@ -1,5 +1,0 @@
-use Rattle.back_methods.proofs.Chains.{chains_law}
-use Rattle.back_methods.proofs.laws.law_chains.Goals as goal
-
-pub returns : goal.returns
-returns c = chains_law

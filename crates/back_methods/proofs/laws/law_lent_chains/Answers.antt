@@ -1,5 +1,0 @@
-use Rattle.back_methods.proofs.Chains.{lent_chains_law}
-use Rattle.back_methods.proofs.laws.law_lent_chains.Goals as goal
-
-pub returns : goal.returns
-returns c = lent_chains_law

@@ -1,5 +1,0 @@
-use Rattle.back_methods.proofs.Next.{next_law}
-use Rattle.back_methods.proofs.laws.law_next.Goals as goal
-
-pub returns : goal.returns
-returns c = next_law

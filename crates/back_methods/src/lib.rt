@@ -1,4 +1,0 @@
-// Chains of methods: what their routines do.
-#![tactic(auto)]
-
-pub mod laws;

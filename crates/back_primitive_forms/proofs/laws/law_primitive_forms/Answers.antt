@@ -1,5 +1,0 @@
-use Rattle.back_primitive_forms.proofs.Forms.{primitive_forms_law}
-use Rattle.back_primitive_forms.proofs.laws.law_primitive_forms.Goals as goal
-
-pub returns : goal.returns
-returns c = primitive_forms_law

@@ -1,5 +1,0 @@
-use Rattle.back_requests.proofs.DrawingLaws.{law_of_draws}
-use Rattle.back_requests.proofs.laws.law_draws.Goals as goal
-
-pub returns : goal.returns
-returns c = law_of_draws

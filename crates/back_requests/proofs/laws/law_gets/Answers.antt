@@ -1,5 +1,0 @@
-use Rattle.back_requests.proofs.AskingLaws.{law_of_gets}
-use Rattle.back_requests.proofs.laws.law_gets.Goals as goal
-
-pub returns : goal.returns
-returns c = law_of_gets

@@ -1,5 +1,0 @@
-use Rattle.back_requests.proofs.RequestLaws.{law_of_requests}
-use Rattle.back_requests.proofs.laws.law_requests.Goals as goal
-
-pub returns : goal.returns
-returns c = law_of_requests

@@ -1,5 +1,0 @@
-use Rattle.back_signals.proofs.Combined.{conditions_law}
-use Rattle.back_signals.proofs.laws.law_conditions.Goals as goal
-
-pub returns : goal.returns
-returns c = conditions_law

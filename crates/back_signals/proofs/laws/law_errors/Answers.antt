@@ -1,5 +1,0 @@
-use Rattle.back_signals.proofs.Combined.{errors_law}
-use Rattle.back_signals.proofs.laws.law_errors.Goals as goal
-
-pub returns : goal.returns
-returns c = errors_law

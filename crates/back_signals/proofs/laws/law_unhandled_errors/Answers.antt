@@ -1,5 +1,0 @@
-use Rattle.back_signals.proofs.Combined.{unhandled_errors_law}
-use Rattle.back_signals.proofs.laws.law_unhandled_errors.Goals as goal
-
-pub returns : goal.returns
-returns c = unhandled_errors_law

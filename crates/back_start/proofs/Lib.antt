@@ -1,4 +1,0 @@
-pub mod Padding
-pub mod Starting
-pub mod FirstEntry
-pub mod Images

@@ -1,5 +1,0 @@
-use Rattle.back_start.proofs.Images.{law_of_end}
-use Rattle.back_start.proofs.laws.law_end.Goals as goal
-
-pub returns : goal.returns
-returns c = law_of_end

@@ -1,5 +1,0 @@
-use Rattle.back_start.proofs.Starting.{law_of_first}
-use Rattle.back_start.proofs.laws.law_first.Goals as goal
-
-pub returns : goal.returns
-returns c = law_of_first

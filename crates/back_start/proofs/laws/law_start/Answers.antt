@@ -1,5 +1,0 @@
-use Rattle.back_start.proofs.Starting.{law_of_start}
-use Rattle.back_start.proofs.laws.law_start.Goals as goal
-
-pub returns : goal.returns
-returns c = law_of_start

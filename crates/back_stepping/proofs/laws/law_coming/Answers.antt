@@ -1,5 +1,0 @@
-use Rattle.back_stepping.proofs.Coming.{and_on}
-use Rattle.back_stepping.proofs.laws.law_coming.Goals as goal
-
-pub returns : goal.returns
-returns c = λ a b m m' m''. and_on

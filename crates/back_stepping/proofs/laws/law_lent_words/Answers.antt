@@ -1,5 +1,0 @@
-use Rattle.back_stepping.proofs.Private.{lent_apart}
-use Rattle.back_stepping.proofs.laws.law_lent_words.Goals as goal
-
-pub returns : goal.returns
-returns c = lent_apart

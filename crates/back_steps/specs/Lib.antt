@@ -1,0 +1,3 @@
+pub mod AskingKinds
+pub mod CuttingKind
+pub mod LayingKinds

@@ -1,9 +1,0 @@
-pub mod Segments
-pub mod Ending
-pub mod TurnRecords
-pub mod Turning
-pub mod Turns
-pub mod Serials
-pub mod Tagbodies
-pub mod Whole
-pub mod Down

@@ -1,5 +1,0 @@
-use Rattle.back_transfers.proofs.Tags.{tags_law}
-use Rattle.back_transfers.proofs.laws.law_tags.Goals as goal
-
-pub returns : goal.returns
-returns c = tags_law

@@ -1,5 +1,0 @@
-pub mod Searches
-pub mod Links
-pub mod Tags
-pub mod Within
-pub mod Law

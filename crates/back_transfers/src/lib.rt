@@ -1,4 +1,0 @@
-// Transfers: the routines that leave to an exit, by its record, its number, or a tag.
-#![tactic(auto)]
-
-pub mod laws;

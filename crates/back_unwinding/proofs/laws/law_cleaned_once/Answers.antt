@@ -1,5 +1,0 @@
-use Rattle.back_unwinding.proofs.Once.{cleaned_once_law}
-use Rattle.back_unwinding.proofs.laws.law_cleaned_once.Goals as goal
-
-pub returns : goal.returns
-returns c = cleaned_once_law

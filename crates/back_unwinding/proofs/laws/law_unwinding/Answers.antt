@@ -1,5 +1,0 @@
-use Rattle.back_unwinding.proofs.Cleanups.{unwinding_law}
-use Rattle.back_unwinding.proofs.laws.law_unwinding.Goals as goal
-
-pub returns : goal.returns
-returns c = unwinding_law

@@ -1,5 +1,0 @@
-use Rattle.back_unwinding.proofs.Whole.{whole_goes_law}
-use Rattle.back_unwinding.proofs.laws.law_whole_goes.Goals as goal
-
-pub returns : goal.returns
-returns c = whole_goes_law

@@ -1,5 +1,0 @@
-use Rattle.back_unwinding.proofs.Cleanups.{whole_unwinding_law}
-use Rattle.back_unwinding.proofs.laws.law_whole_unwinding.Goals as goal
-
-pub returns : goal.returns
-returns c = whole_unwinding_law

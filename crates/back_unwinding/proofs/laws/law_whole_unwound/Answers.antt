@@ -1,5 +1,0 @@
-use Rattle.back_unwinding.proofs.Once.{whole_unwound_law}
-use Rattle.back_unwinding.proofs.laws.law_whole_unwound.Goals as goal
-
-pub returns : goal.returns
-returns c = whole_unwound_law

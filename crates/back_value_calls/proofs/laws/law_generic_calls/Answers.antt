@@ -1,5 +1,0 @@
-use Rattle.back_value_calls.proofs.GenericCalls.{generic_calls_law}
-use Rattle.back_value_calls.proofs.laws.law_generic_calls.Goals as goal
-
-pub returns : goal.returns
-returns c = generic_calls_law

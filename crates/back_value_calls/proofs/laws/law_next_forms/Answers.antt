@@ -1,5 +1,0 @@
-use Rattle.back_value_calls.proofs.NextForms.{next_forms_law}
-use Rattle.back_value_calls.proofs.laws.law_next_forms.Goals as goal
-
-pub returns : goal.returns
-returns c = next_forms_law

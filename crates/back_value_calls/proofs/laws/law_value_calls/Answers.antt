@@ -1,5 +1,0 @@
-use Rattle.back_value_calls.proofs.ValueCalls.{value_calls_law}
-use Rattle.back_value_calls.proofs.laws.law_value_calls.Goals as goal
-
-pub returns : goal.returns
-returns c = value_calls_law

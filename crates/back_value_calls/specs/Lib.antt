@@ -1,3 +1,0 @@
-pub mod NextForms
-pub mod ValueCalls
-pub mod GenericCalls

@@ -1,5 +1,0 @@
-use Rattle.back_value_forms.proofs.NextMethods.{next_methods_law}
-use Rattle.back_value_forms.proofs.laws.law_next_methods.Goals as goal
-
-pub returns : goal.returns
-returns c = next_methods_law

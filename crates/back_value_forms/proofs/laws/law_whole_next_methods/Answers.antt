@@ -1,5 +1,0 @@
-use Rattle.back_value_forms.proofs.NextMethods.{whole_next_methods}
-use Rattle.back_value_forms.proofs.laws.law_whole_next_methods.Goals as goal
-
-pub returns : goal.returns
-returns c = whole_next_methods

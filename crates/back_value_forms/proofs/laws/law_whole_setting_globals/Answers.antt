@@ -1,5 +1,0 @@
-use Rattle.back_value_forms.proofs.Wholes.{whole_setting_globals}
-use Rattle.back_value_forms.proofs.laws.law_whole_setting_globals.Goals as goal
-
-pub returns : goal.returns
-returns c = whole_setting_globals

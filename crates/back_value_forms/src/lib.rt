@@ -1,4 +1,0 @@
-// Variables, bindings, global variables and functions, wherever the forms stand.
-#![tactic(auto)]
-
-pub mod laws;

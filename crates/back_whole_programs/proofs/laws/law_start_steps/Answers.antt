@@ -1,5 +1,0 @@
-use Rattle.back_whole_programs.proofs.StartSteps.{start_steps_law}
-use Rattle.back_whole_programs.proofs.laws.law_start_steps.Goals as goal
-
-pub returns : goal.returns
-returns c = start_steps_law

@@ -1,4 +1,0 @@
-pub mod StartSteps
-pub mod MainsLeft
-pub mod Runs
-pub mod Programs

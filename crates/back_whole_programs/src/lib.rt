@@ -1,4 +1,0 @@
-// Whole lowered programs, from what their main forms do.
-#![tactic(auto)]
-
-pub mod laws;
