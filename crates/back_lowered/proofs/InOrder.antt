@@ -28,13 +28,6 @@ module _ (names : List (List ℕ)) (functions : List FunctionRow) (laid : Static
   literals_all k so_far past before =
       sym (append-nil so_far) ∙ ap (λ ls. so_far ++ literals_from names functions laid ls k) (sym (drop_all k all past)) ∙ before
 
--- where there is no item, none is left
-none_left : {X : Type 0} (xs : List X) (i : ℕ) → slice_get xs i ≡ None → drop i xs ≡ []
-none_left [] zero e = refl
-none_left [] (suc i) e = refl
-none_left (x ∷ xs) zero e = absurd (cc)
-none_left (x ∷ xs) (suc i) e = none_left xs i e
-
 module _ (names : List (List ℕ)) (functions : List FunctionRow) (words : List ℕ) (name : List ℕ) where
   -- a function's row and its word are next
   next_one : (k : ℕ) (f : FunctionRow) (w : ℕ) → slice_get functions k ≡ Some f → slice_get words k ≡ Some w
@@ -61,12 +54,12 @@ module _ (names : List (List ℕ)) (functions : List FunctionRow) (words : List 
       ∙ ap (λ b. if b then Some w else word_of_text names (drop (k + 1) functions) (drop (k + 1) words) name) other
 
   -- there is none where words or functions are no more
-  pub no_word : (k : ℕ) (f : FunctionRow) → slice_get functions k ≡ Some f → slice_get words k ≡ None
+  pub no_word : (k : ℕ) (f : FunctionRow) → slice_get functions k ≡ Some f → length words ≤ k
       → word_of_text names functions words name ≡ word_of_text names (drop k functions) (drop k words) name
       → None ≡ word_of_text names functions words name
   no_word k f row past before =
       sym (before ∙ ap (λ fs. word_of_text names fs (drop k words) name) (rest_at functions k f row)
-      ∙ ap (λ ws. word_of_text names (f ∷ drop (k + 1) functions) ws name) (none_left words k past))
+      ∙ ap (λ ws. word_of_text names (f ∷ drop (k + 1) functions) ws name) (drop_all k words past))
 
   pub no_function : (k : ℕ) → length functions ≤ k
       → word_of_text names functions words name ≡ word_of_text names (drop k functions) (drop k words) name
