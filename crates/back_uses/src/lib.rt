@@ -5,7 +5,9 @@ mod forms;
 mod functions;
 mod naming;
 mod program;
+mod table;
 mod used;
 
 pub use program::used_names;
+pub use table::are_in_table;
 pub use used::UsedNames;
