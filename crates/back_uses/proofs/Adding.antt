@@ -1,5 +1,5 @@
 -- Uses that are added one after another.
-use Rattle.std.proofs.Common.{◌≡◌, ℕ, ◌+◌, ◌≤◌, List, [], ◌∷◌, ◌++◌, length, take, map, Some, slice_get, refl, sym, ◌∙◌, ap, subst, append_assoc, append-nil, arith}
+use Rattle.std.proofs.Common.{◌≡◌, ℕ, ◌+◌, List, [], ◌∷◌, ◌++◌, take, Some, slice_get, refl, sym, ◌∙◌, ap, subst, append_assoc, append-nil}
 use Rattle.base.specs.model.DataRest.{take_at}
 use Rattle.back_words.specs.Uses.{Use, as_global, as_dynamic, as_symbol, globals_among, dynamics_among, symbols_among}
 use Rattle.back_uses.specs.declared.used.UsedNames.{UsedNames}
@@ -31,7 +31,11 @@ both : {X : Type 0} (a b c xs ys zs : List X) → b ≡ a ++ xs → c ≡ b ++ y
 both a b c xs ys zs e f g = f ∙ ap (λ l. l ++ ys) e ∙ append_assoc a xs ys ∙ ap (λ l. a ++ l) (sym g)
 
 pub none_added : (old : UsedNames) → AreAdded old [] old
-none_added old = record { globals = sym (append-nil old.globals); dynamics = sym (append-nil old.dynamics); symbols = sym (append-nil old.symbols) }
+none_added old = record {
+  globals = sym (append-nil old.globals);
+  dynamics = sym (append-nil old.dynamics);
+  symbols = sym (append-nil old.symbols);
+}
 
 pub both_added : {a b c : UsedNames} {us vs : List Use} → AreAdded a us b → AreAdded b vs c → AreAdded a (us ++ vs) c
 both_added {a} {b} {c} {us} {vs} g h = record {
@@ -40,10 +44,11 @@ both_added {a} {b} {c} {us} {vs} g h = record {
   symbols = both a.symbols b.symbols c.symbols _ _ _ g.symbols h.symbols (symbols_behind us vs);
 }
 
--- the same uses, same_added otherwise
+-- the same uses in other words
 pub same_added : {a b : UsedNames} {us vs : List Use} → vs ≡ us → AreAdded a us b → AreAdded a vs b
 same_added {a} {b} e h = subst (λ ws. AreAdded a ws b) (sym e) h
 
+-- all that are there, and more
 pub used_more : {a b : UsedNames} {us vs : List Use} → AreUsed us a → AreAdded a vs b → AreUsed (us ++ vs) b
 used_more {a} {b} {us} {vs} g h = record {
   globals = h.globals ∙ ap (λ l. l ++ globals_among vs) g.globals ∙ sym (globals_behind us vs);
@@ -53,7 +58,8 @@ used_more {a} {b} {us} {vs} g h = record {
 
 -- ---- item by item, where the uses of a list are those of its first item and then those of the rest
 
-module _ {X : Type 0} (all : List X → List Use) (one : X → List Use) (none : all [] ≡ []) (next : (x : X) (xs : List X) → all (x ∷ xs) ≡ one x ++ all xs) where
+module _ {X : Type 0} (all : List X → List Use) (one : X → List Use) (none : all [] ≡ [])
+    (next : (x : X) (xs : List X) → all (x ∷ xs) ≡ one x ++ all xs) where
   uses_behind : (xs : List X) (x : X) → all (xs ++ x ∷ []) ≡ all xs ++ one x
   uses_behind [] x = next x [] ∙ ap (λ l. one x ++ l) none ∙ append-nil (one x) ∙ sym (ap (λ l. l ++ one x) none)
   uses_behind (y ∷ ys) x =

@@ -37,7 +37,7 @@ below_all count (n ∷ ns) h =
     let first : below count n ≡ true = grind (arith, nat_tests, h.0) in
     ap (λ b. b && list_all (below count) ns) first ∙ below_all count ns h.1
 
--- the names of uses
+-- of names that are used
 pub tested : (names : List (List ℕ)) (program : FlatProgram) (used : UsedNames) (count : ℕ) (variables symbols result : Bool) → count ≡ length names
     → AreUsed (program_uses names program) used → variables ≡ (list_all (below count) used.globals && list_all (below count) used.dynamics)
     → symbols ≡ list_all (λ (n : Name). nat_lt n.0 count) used.symbols → result ≡ (variables && symbols) → IsTrue result ↔ NamesAsked names program

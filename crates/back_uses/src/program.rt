@@ -15,8 +15,8 @@ use flat_language::{FlatCoreList, FlatProcedureList, FlatProgram};
 use lang_meaning::{FunctionRow, GenericRows};
 use std::alloc::Global;
 
-/// The names that the forms of a program use, where the function of each name is known: under its
-/// number that of a name of the table, and that of each other one.
+/// The names that the forms of a program use. `rows` has the function of each name of the table, by
+/// its number; `unnamed` is that of any other name.
 pub fn used_names(
     alloc: Global,
     names: &Names,

@@ -1,14 +1,14 @@
 // Names that were found to be used: as global variables, as dynamic ones, and as names of conditions.
 
-ghost use Rattle.std.specs.Prelude.{[], ◌∷◌, IfOk, OnOk};
+ghost use Rattle.std.specs.Prelude.{[], ◌∷◌, OnOk};
 ghost use Rattle.back_words.specs.Uses.{as_dynamic, as_symbol, of_global, of_dynamic};
 ghost use Rattle.back_uses.specs.Used.{AreUsed, AreAdded};
 
 use base::{ItemList, Name, NameList, NoMemory};
 use std::alloc::Global;
 
-/// The names that forms use, each as often as they use it, in the order in which they do: as global
-/// variables and as dynamic ones, by their numbers, and as names of conditions.
+/// The names that forms use, in the order in which they do and each as often: as global variables
+/// and as dynamic ones, by their numbers, and as names of conditions.
 #[derive(Drop)]
 pub struct UsedNames {
     pub globals: ItemList<usize>,

@@ -13,20 +13,26 @@ use Rattle.back_uses.proofs.forms.+uses.Goals as goal
 
 pub add_uses-returns-in_ok-add_uses-in-Two : goal.add_uses-returns-in_ok-add_uses-in-Two
 add_uses-returns-in_ok-add_uses-in-Two t c =
+    let names = c.args.lookups.now.names.now in
+    let program = c.args.lookups.now.program.now in
     on_ok_weaker c.add_uses-in-Two-2.result
-    (λ h. same_added (c.in-Two.ensures.1 c.args.lookups.now.names.now c.args.lookups.now.program.now) (both_added c.in_ok-add_uses-in-Two.ensures h))
+    (λ h. same_added (c.in-Two.ensures.1 names program) (both_added c.in_ok-add_uses-in-Two.ensures h))
     c.add_uses-in-Two-2.ensures
 
 pub add_uses-returns-in_ok-add_bindings-in-Let : goal.add_uses-returns-in_ok-add_bindings-in-Let
 add_uses-returns-in_ok-add_bindings-in-Let t c =
+    let names = c.args.lookups.now.names.now in
+    let program = c.args.lookups.now.program.now in
     on_ok_weaker c.add_uses-in-Let.result
-    (λ h. same_added (c.in-Let.ensures.1 c.args.lookups.now.names.now c.args.lookups.now.program.now) (both_added c.in_ok-add_bindings-in-Let.ensures h))
+    (λ h. same_added (c.in-Let.ensures.1 names program) (both_added c.in_ok-add_bindings-in-Let.ensures h))
     c.add_uses-in-Let.ensures
 
 pub add_uses-returns-in_ok-add_dynamic_bindings-in-DynamicLet : goal.add_uses-returns-in_ok-add_dynamic_bindings-in-DynamicLet
 add_uses-returns-in_ok-add_dynamic_bindings-in-DynamicLet t c =
+    let names = c.args.lookups.now.names.now in
+    let program = c.args.lookups.now.program.now in
     on_ok_weaker c.add_uses-in-DynamicLet.result
-    (λ h. same_added (c.in-DynamicLet.ensures.1 c.args.lookups.now.names.now c.args.lookups.now.program.now) (both_added c.in_ok-add_dynamic_bindings-in-DynamicLet.ensures h))
+    (λ h. same_added (c.in-DynamicLet.ensures.1 names program) (both_added c.in_ok-add_dynamic_bindings-in-DynamicLet.ensures h))
     c.add_uses-in-DynamicLet.ensures
 
 pub add_forms-loop-at-preserved : goal.add_forms-loop-at-preserved
