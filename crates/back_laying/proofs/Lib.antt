@@ -1,3 +1,9 @@
 pub mod Lists
 pub mod Numbers
 pub mod Distinct
+pub mod Apart
+pub mod MapWords
+pub mod ChainCells
+pub mod Behind
+pub mod GroupTurns
+pub mod GenericParts

@@ -1,12 +1,15 @@
 // How many arguments functions take, as words.
 
-ghost use Rattle.std.specs.Prelude.{◌≡◌, ◌^◌, ◌<◌, ◌++◌, length, map, OnOk};
+ghost use Rattle.std.specs.Prelude.{◌≡◌, ◌^◌, ◌<◌, ◌++◌, length, map, true, OnOk};
 ghost use Rattle.base.specs.AllOf.{AllOf};
 ghost use Rattle.flat_language.specs.declared.program.FlatProcedure.{FlatProcedure};
 ghost use Rattle.back_words.specs.Words.{arity_of};
 
 use base::{NoMemory, WordList};
 use flat_language::{FlatProcedure, FlatProcedureList};
+
+// So many arguments are not required.
+const MOST_REQUIRED: usize = 1_073_741_824;
 
 /// A word for each procedure, behind those that are there: twice how many arguments it requires, and
 /// one more where it takes further ones.
@@ -33,4 +36,19 @@ fn arity_word(procedure: &FlatProcedure) -> u32
     } else {
         required
     }
+}
+
+/// Whether so few arguments are required.
+pub fn arities_fit(procedures: &FlatProcedureList) -> bool
+    ensures { result ≡ true → AllOf (λ (q : FlatProcedure). length q.required < 2 ^ 30) procedures.now }
+{
+    for at in 0..procedures.len() {
+        let Some(procedure) = procedures.get(at) else {
+            unreachable!()
+        };
+        if procedure.required.len() >= MOST_REQUIRED {
+            return false;
+        }
+    }
+    true
 }
