@@ -1,9 +1,11 @@
 -- Blocks of words behind one another, with their addresses.
-use Rattle.std.proofs.Common.{◌≡◌, ℕ, ◌+◌, ◌*◌, ◌≤◌, List, [], ◌∷◌, ◌++◌, length, drop, Some, refl, sym, ap, ◌∙◌, append_assoc, append-nil, length-append, arith}
+use Rattle.std.proofs.Common.{◌≡◌, ℕ, ◌+◌, ◌*◌, ◌^◌, ◌≤◌, ◌⊎◌, inl, inr, ⊎_elim, suc, List, [], ◌∷◌, ◌++◌, length, drop, Some, refl, sym, ap, subst, ◌∙◌, append_assoc, append-nil, length-append, arith}
 use Rattle.std.specs.Prelude.{slice_get}
 use Rattle.std.proofs.lemmas.List.{drop_all}
 use Rattle.base.specs.model.DataRest.{rest_at}
 use Rattle.back_words.specs.Blocks.{blocks, block_addresses}
+use Rattle.back_laying.specs.TooLarge.{IsLarge, DoNotFit}
+use Rattle.back_laying.proofs.Large.{part_too_large}
 
 module _ {X : Type 0} (of : X → ℕ → List ℕ) where
   -- what is laid, and what is to come
@@ -51,3 +53,38 @@ module _ {X : Type 0} (of : X → ℕ → List ℕ) where
       let second : laid ≡ blocks of all start = sym (append-nil laid) ∙ ap (λ l. laid ++ blocks of l (start + 4 * length laid)) (sym none) ∙ h.words_too in
       joined ∙ ap (λ l. l ++ laid) first ∙ ap (λ l. (before ++ block_addresses of all start) ++ l) second
       ∙ append_assoc before (block_addresses of all start) (blocks of all start)
+
+  -- ---- what does not fit
+
+  addresses_many : (xs : List X) (start : ℕ) → length (block_addresses of xs start) ≡ length xs
+  addresses_many [] start = refl
+  addresses_many (x ∷ xs) start = ap suc (addresses_many xs (start + 4 * length (of x start)))
+
+  pub addresses_too_large : (all : List X) (address start : ℕ) → 2 ^ 32 ≤ address + 4 * length all
+      → DoNotFit address (block_addresses of all start ++ blocks of all start)
+  addresses_too_large all address start h =
+      let end : 2 ^ 32 ≤ address + 4 * length (block_addresses of all start ++ blocks of all start) =
+      omega (arith, h, length-append (block_addresses of all start) (blocks of all start), addresses_many all start) in inl end
+
+  pub laid_too_large : (all rest : List X) (address start : ℕ) (before addresses laid : List ℕ) → start ≡ address + 4 * length all
+      → BlocksSoFar all rest start before addresses laid → 2 ^ 32 ≤ start + 4 * length laid
+      → DoNotFit address (block_addresses of all start ++ blocks of all start)
+  laid_too_large all rest address start before addresses laid at h far =
+      let many : length laid + length (blocks of rest (start + 4 * length laid)) ≡ length (blocks of all start) =
+      sym (length-append laid (blocks of rest (start + 4 * length laid))) ∙ ap length h.words_too in
+      let end : 2 ^ 32 ≤ address + 4 * length (block_addresses of all start ++ blocks of all start) =
+      omega (arith, far, at, many, length-append (block_addresses of all start) (blocks of all start), addresses_many all start) in inl end
+
+  pub block_too_large : (all xs : List X) (i : ℕ) (x : X) (address start here : ℕ) (before addresses laid : List ℕ) → slice_get xs i ≡ Some x
+      → start ≡ address + 4 * length all → here ≡ start + 4 * length laid → DoNotFit here (of x here)
+      → BlocksSoFar all (drop i xs) start before addresses laid → DoNotFit address (block_addresses of all start ++ blocks of all start)
+  block_too_large all xs i x address start here before addresses laid there at place large h =
+      let rest = blocks of (drop (i + 1) xs) (here + 4 * length (of x here)) in
+      let all_addresses = block_addresses of all start in
+      let whole : laid ++ (of x here ++ rest) ≡ blocks of all start =
+      ap (λ l. laid ++ blocks of l here) (sym (rest_at xs i x there)) ∙ ap (λ n. laid ++ blocks of (drop i xs) n) place ∙ h.words_too in
+      let joined : (all_addresses ++ laid) ++ (of x here ++ rest) ≡ all_addresses ++ blocks of all start =
+      append_assoc all_addresses laid (of x here ++ rest) ∙ ap (λ l. all_addresses ++ l) whole in
+      subst (DoNotFit address) joined
+      (part_too_large address here (all_addresses ++ laid) (of x here) rest
+      (omega (arith, place, at, length-append all_addresses laid, addresses_many all start)) large)

@@ -1,10 +1,12 @@
 -- The chains of tuples, each behind the one before, with their cells.
-use Rattle.std.proofs.Common.{◌≡◌, ℕ, ◌+◌, ◌*◌, ◌≤◌, List, [], ◌∷◌, ◌++◌, length, map, drop, Option, Some, refl, sym, ap, ◌∙◌, append_assoc, append-nil, length-append, arith}
+use Rattle.std.proofs.Common.{◌≡◌, ℕ, ◌+◌, ◌*◌, ◌≤◌, List, [], ◌∷◌, ◌++◌, length, map, drop, Option, Some, refl, sym, ap, subst, ◌∙◌, append_assoc, append-nil, length-append, arith}
 use Rattle.std.specs.Prelude.{slice_get}
 use Rattle.std.proofs.lemmas.List.{drop_all}
 use Rattle.base.specs.model.DataRest.{rest_at}
 use Rattle.lang_meaning.specs.Objects.{Chain}
 use Rattle.back_words.specs.Generics.{words_of_chain, all_chain_words, chain_cell, chain_cells}
+use Rattle.back_laying.specs.TooLarge.{DoNotFit}
+use Rattle.back_laying.proofs.Large.{part_too_large}
 
 -- what is laid, and what is to come
 pub record ChainsSoFar (all rest : List (Option Chain)) (start : ℕ) (cells words : List ℕ) : Type 0 where
@@ -50,3 +52,12 @@ chains_all f all xs i start cells words past h =
       sym (append-nil cells) ∙ ap (λ l. cells ++ chain_cells (map f l) (start + 4 * length words)) (sym none) ∙ h.cells_too,
       sym (append-nil words) ∙ ap (λ l. words ++ all_chain_words (map f l)) (sym none) ∙ h.words_too,
     )
+
+-- a chain that does not fit
+pub chain_too_large : {X : Type 0} (f : X → Option Chain) (all : List (Option Chain)) (xs : List X) (i : ℕ) (x : X) (c : Option Chain) (start : ℕ) (cells words : List ℕ)
+    → slice_get xs i ≡ Some x → c ≡ f x → DoNotFit (start + 4 * length words) (words_of_chain c)
+    → ChainsSoFar all (map f (drop i xs)) start cells words → DoNotFit start (all_chain_words all)
+chain_too_large f all xs i x c start cells words here made large h =
+    let left : c ∷ map f (drop (i + 1) xs) ≡ map f (drop i xs) = ap (λ d. d ∷ map f (drop (i + 1) xs)) made ∙ ap (map f) (sym (rest_at xs i x here)) in
+    subst (DoNotFit start) (ap (λ l. words ++ all_chain_words l) left ∙ h.words_too)
+    (part_too_large start (start + 4 * length words) words (words_of_chain c) (all_chain_words (map f (drop (i + 1) xs))) refl large)

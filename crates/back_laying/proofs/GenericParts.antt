@@ -1,17 +1,20 @@
 -- The parts of a generic function's words, one behind another.
-use Rattle.std.proofs.Common.{◌≡◌, ℕ, ◌+◌, ◌*◌, List, [], ◌∷◌, ◌++◌, length, map, sym, ap, ◌∙◌, append_assoc, arith}
+use Rattle.std.proofs.Common.{◌≡◌, ℕ, suc, ◌+◌, ◌*◌, ◌^◌, ◌≤◌, ◌⊎◌, inl, inr, ⊎_elim, List, [], ◌∷◌, ◌++◌, Option, length, map, refl, sym, ap, subst, ◌∙◌, append_assoc, length-append, arith}
 use Rattle.std.specs.Prelude.{flat_map}
 use Rattle.std.proofs.lemmas.List.{length-map}
 use Rattle.lang_meaning.specs.declared.program.ProgramRows.{ProgramRows}
 use Rattle.lang_meaning.specs.declared.program.GenericRow.{GenericRow}
 use Rattle.lang_meaning.specs.Cells.{tuples}
 use Rattle.lang_meaning.specs.Classes.{chain}
+use Rattle.lang_meaning.specs.Objects.{Chain}
 use Rattle.lang_dispatch.specs.Tables.{tuples_of}
-use Rattle.back_relation.specs.Chains.{arity_word, specialised_words}
-use Rattle.back_words.specs.Generics.{specialised_arguments, specialised_at, map_words, tuple_chains, chain_cells, all_chain_words, maps_at, chains_at, generic_words}
+use Rattle.back_relation.specs.Chains.{arity_word, Specialised, specialised_words}
+use Rattle.back_words.specs.Generics.{specialised_arguments, specialised_at, map_words, tuple_chains, chain_cells, words_of_chain, all_chain_words, cells_at, maps_at, chains_at, generic_words}
 use Rattle.back_laying.specs.declared.groups.GenericGroups.{GenericGroups}
 use Rattle.back_laying.specs.declared.groups.SpecialisedArgument.{SpecialisedArgument}
 use Rattle.back_laying.specs.Grouped.{arguments_of, AreGrouped}
+use Rattle.back_laying.specs.TooLarge.{SomeOf, IsLarge, DoNotFit}
+use Rattle.back_laying.proofs.Large.{some_front, some_behind}
 use Rattle.back_laying.proofs.MapWords.{maps_many}
 
 parts_joined :
@@ -25,6 +28,17 @@ parts_joined before one two three four five six seven specialised cells maps cha
     ∙ ap (λ l. l ++ (specialised ++ (cells ++ (maps ++ chains)))) r ∙ append_assoc two (c ∷ []) (specialised ++ (cells ++ (maps ++ chains)))
     ∙ ap (λ l. l ++ c ∷ (specialised ++ (cells ++ (maps ++ chains)))) q ∙ append_assoc one (b ∷ []) (c ∷ (specialised ++ (cells ++ (maps ++ chains))))
     ∙ ap (λ l. l ++ b ∷ c ∷ (specialised ++ (cells ++ (maps ++ chains)))) p ∙ append_assoc before (a ∷ []) (b ∷ c ∷ (specialised ++ (cells ++ (maps ++ chains))))
+
+cells_many : (cs : List (Option Chain)) (address : ℕ) → length (chain_cells cs address) ≡ length cs
+cells_many [] address = refl
+cells_many (c ∷ cs) address = ap suc (cells_many cs (address + 4 * length (words_of_chain c)))
+
+specialised_many : (program : ProgramRows) (g : GenericRow) (is : List ℕ) (address : ℕ)
+    → length (specialised_words (specialised_at program g is address)) ≡ 2 * length is
+specialised_many program g [] address = refl
+specialised_many program g (i ∷ is) address =
+    let rest = specialised_many program g is (address + 4 * length program.classes) in
+    omega (arith, rest)
 
 module _ (program : ProgramRows) (symbol_of : ℕ → ℕ) (g : GenericRow) (address : ℕ) (found : GenericGroups) (grouped : AreGrouped program g g.required found) where
   arguments_many : length found.specialised ≡ length (specialised_arguments program g)
@@ -71,3 +85,83 @@ module _ (program : ProgramRows) (symbol_of : ℕ → ℕ) (g : GenericRow) (add
       ∙ ap (chain_cells (tuple_chains program g)) behind))
       u
       (v ∙ ap (λ l. six ++ l) (is_chains ∙ ap (λ ls. all_chain_words (map (chain program g) (tuples ls))) grouped.firsts))
+
+  -- ---- what does not fit
+
+  abbrev header : List ℕ
+  header = arity_word g.required g.rest ∷ symbol_of g.name.0 ∷ length (specialised_arguments program g) ∷ []
+
+  abbrev specialised_part : List ℕ
+  specialised_part = specialised_words (specialised_at program g (specialised_arguments program g) (maps_at program symbol_of g address))
+
+  abbrev cells_part : List ℕ
+  cells_part = chain_cells (tuple_chains program g) (chains_at program symbol_of g address)
+
+  abbrev maps_part : List ℕ
+  maps_part = flat_map (map_words program g) (specialised_arguments program g)
+
+  abbrev chains_part : List ℕ
+  chains_part = all_chain_words (tuple_chains program g)
+
+  -- how many words there are
+  words_many : length (generic_words program symbol_of g address)
+      ≡ 3 + 2 * length (specialised_arguments program g) + length (tuple_chains program g) + length maps_part + length chains_part
+  words_many =
+      omega (
+        arith,
+        length-append specialised_part (cells_part ++ (maps_part ++ chains_part)),
+        length-append cells_part (maps_part ++ chains_part),
+        length-append maps_part chains_part,
+        specialised_many program g (specialised_arguments program g) (maps_at program symbol_of g address),
+        cells_many (tuple_chains program g) (chains_at program symbol_of g address),
+      )
+
+  pub arity_too_large : IsLarge (arity_word g.required g.rest) → DoNotFit address (generic_words program symbol_of g address)
+  arity_too_large h = inr (inl h)
+
+  -- the parts in front of the maps end at such an address
+  pub front_too_large : (words : ℕ) → words ≤ 3 + 2 * length found.specialised + length (tuples found.firsts) → 2 ^ 32 ≤ address + 4 * words
+      → DoNotFit address (generic_words program symbol_of g address)
+  front_too_large words within h =
+      let end : 2 ^ 32 ≤ address + 4 * length (generic_words program symbol_of g address) = omega (arith, h, within, words_many, arguments_many, tuples_many) in
+      inl end
+
+  pub arguments_too_large : (maps : ℕ) → maps ≡ address + 12 + 8 * length found.specialised + 4 * length (tuples found.firsts)
+      → (2 ^ 32 ≤ maps + 4 * (length program.classes * length found.specialised))
+      ⊎ SomeOf IsLarge (specialised_words (specialised_at program g (arguments_of found.specialised) maps))
+      → DoNotFit address (generic_words program symbol_of g address)
+  arguments_too_large maps at_maps h =
+      let many : length maps_part ≡ length program.classes * length found.specialised =
+      maps_many program g (specialised_arguments program g) ∙ ap (λ n. length program.classes * n) (sym arguments_many) in
+      ⊎_elim
+      (λ (far : 2 ^ 32 ≤ maps + 4 * (length program.classes * length found.specialised)).
+      let end : 2 ^ 32 ≤ address + 4 * length (generic_words program symbol_of g address) = omega (arith, far, at_maps, many, words_many, arguments_many, tuples_many) in
+      inl end)
+      (λ (some : SomeOf IsLarge (specialised_words (specialised_at program g (arguments_of found.specialised) maps))).
+      let there : SomeOf IsLarge specialised_part =
+      subst (λ a. SomeOf IsLarge (specialised_words (specialised_at program g (specialised_arguments program g) a))) (maps_where maps at_maps)
+      (subst (λ is. SomeOf IsLarge (specialised_words (specialised_at program g is maps))) grouped.specialised some) in
+      inr (some_behind IsLarge header (specialised_part ++ (cells_part ++ (maps_part ++ chains_part)))
+      (some_front IsLarge specialised_part (cells_part ++ (maps_part ++ chains_part)) there)))
+      h
+
+  pub maps_too_large : SomeOf IsLarge maps_part → DoNotFit address (generic_words program symbol_of g address)
+  maps_too_large some =
+      inr (some_behind IsLarge header (specialised_part ++ (cells_part ++ (maps_part ++ chains_part)))
+      (some_behind IsLarge specialised_part (cells_part ++ (maps_part ++ chains_part))
+      (some_behind IsLarge cells_part (maps_part ++ chains_part) (some_front IsLarge maps_part chains_part some))))
+
+  pub chains_too_large : (maps start : ℕ) → maps ≡ address + 12 + 8 * length found.specialised + 4 * length (tuples found.firsts)
+      → start ≡ maps + 4 * (length program.classes * length found.specialised)
+      → DoNotFit start (all_chain_words (map (chain program g) (tuples found.firsts))) → DoNotFit address (generic_words program symbol_of g address)
+  chains_too_large maps start at_maps at_start h =
+      let behind : start ≡ chains_at program symbol_of g address = chains_where maps start (maps_where maps at_maps) at_start in
+      let there : DoNotFit start chains_part = subst (λ ls. DoNotFit start (all_chain_words (map (chain program g) (tuples ls)))) grouped.firsts h in
+      ⊎_elim
+      (λ (far : 2 ^ 32 ≤ start + 4 * length chains_part).
+      let end : 2 ^ 32 ≤ address + 4 * length (generic_words program symbol_of g address) = omega (arith, far, behind, words_many) in inl end)
+      (λ (some : SomeOf IsLarge chains_part).
+      inr (some_behind IsLarge header (specialised_part ++ (cells_part ++ (maps_part ++ chains_part)))
+      (some_behind IsLarge specialised_part (cells_part ++ (maps_part ++ chains_part))
+      (some_behind IsLarge cells_part (maps_part ++ chains_part) (some_behind IsLarge maps_part chains_part some)))))
+      there

@@ -7,3 +7,5 @@ pub mod ChainCells
 pub mod Behind
 pub mod GroupTurns
 pub mod GenericParts
+pub mod Large
+pub mod LargeChains

@@ -2,6 +2,8 @@
 use Rattle.std.proofs.Common.{◌≡◌, ℕ, zero, suc, ◌+◌, ◌-◌, ◌*◌, ◌<◌, ◌≤◌, ◌⊎◌, inl, inr, ⊎_elim, min, List, [], ◌∷◌, ◌++◌, length, map, take, drop, Some, refl, sym, ap, subst, ◌∙◌, append_assoc, append-nil, length-append, arith}
 use Rattle.std.specs.Prelude.{slice_get, flat_map}
 use Rattle.std.specs.List.{range_with_len}
+use Rattle.std.specs.Option.{option_map}
+use Rattle.std.proofs.lemmas.Option.{slice_get-map}
 use Rattle.std.proofs.lemmas.Grind.{flat_map-append}
 use Rattle.std.proofs.lemmas.List.{take_all}
 use Rattle.std.proofs.lemmas.List.FromFn.{length-map-range_with_len}
@@ -16,7 +18,9 @@ use Rattle.back_words.specs.Generics.{specialised_arguments, stride, map_word, m
 use Rattle.back_laying.specs.declared.groups.GenericGroups.{GenericGroups}
 use Rattle.back_laying.specs.declared.groups.SpecialisedArgument.{SpecialisedArgument}
 use Rattle.back_laying.specs.Grouped.{arguments_of, IsNumbered, AreGrouped}
+use Rattle.back_laying.specs.TooLarge.{SomeOf, IsLarge}
 use Rattle.back_laying.proofs.Apart.{numbers_are}
+use Rattle.back_laying.proofs.Large.{some_flat}
 
 map_twice : {X Y Z : Type 0} (f : Y → Z) (h : X → Y) (xs : List X) → map f (map h xs) ≡ map (λ x. f (h x)) xs
 map_twice f h [] = refl
@@ -59,6 +63,20 @@ product_fits (suc n) count tuples product word c p w fits = ⊎_elim (λ h. smal
         let most : count ≡ 18446744073709551615 = omega arith in
         let is : product ≡ min (suc n * 18446744073709551615) 18446744073709551615 = p ∙ ap (λ t. min (suc n * t) 18446744073709551615) most in
         absurd (omega (arith, is, w, fits))
+
+pub product_large : (number count tuples product : ℕ) → count ≡ min tuples 18446744073709551615 → product ≡ min (number * count) 18446744073709551615
+    → 4294967296 ≤ 0 + 4 * product → 2147483648 ≤ 4 * (number * tuples)
+product_large zero count tuples product c p large = absurd (omega (arith, p, large))
+product_large (suc n) count tuples product c p large = ⊎_elim (λ h. small h) (λ h. most h) (either tuples 18446744073709551615)
+  where
+    small : tuples ≤ 18446744073709551615 → 2147483648 ≤ 4 * (suc n * tuples)
+    small h =
+        let same : count ≡ tuples = omega arith in
+        let is : product ≡ min (suc n * tuples) 18446744073709551615 = p ∙ ap (λ t. min (suc n * t) 18446744073709551615) same in
+        omega (arith, is, large)
+
+    most : 18446744073709551615 ≤ tuples → 2147483648 ≤ 4 * (suc n * tuples)
+    most h = omega (arith, h)
 
 module _ (program : ProgramRows) (g : GenericRow) where
   pub stride_is : (firsts : List (List ℕ)) (i : ℕ) → firsts ≡ map (groups program g) (range_with_len 0 g.required)
@@ -124,3 +142,21 @@ module _ (program : ProgramRows) (g : GenericRow) where
       ∙ append_assoc now (word ∷ []) (address ∷ rest)
       ∙ ap (λ w. now ++ w ∷ address ∷ rest) number
       ∙ ap (λ ys. now ++ specialised_words (specialised_at program g (arguments_of ys) address)) (sym (rest_at xs i x here))
+
+  -- what does not fit
+  pub argument_too_large : (xs : List SpecialisedArgument) (i : ℕ) (x : SpecialisedArgument) (address : ℕ) → slice_get xs i ≡ Some x → IsLarge (4 * x.argument)
+      → SomeOf IsLarge (specialised_words (specialised_at program g (arguments_of xs) address))
+  argument_too_large [] i x address e h = absurd (cc e)
+  argument_too_large (y ∷ ys) zero x address e h = let is : y ≡ x = cc e in inl (subst (λ (z : SpecialisedArgument). IsLarge (4 * z.argument)) (sym is) h)
+  argument_too_large (y ∷ ys) (suc i) x address e h = inr (inr (argument_too_large ys i x (address + 4 * length program.classes) e h))
+
+  pub map_too_large : (found : GenericGroups) (i : ℕ) (x : SpecialisedArgument) → AreGrouped program g g.required found → slice_get found.specialised i ≡ Some x
+      → SomeOf IsLarge (map (λ number. 4 * (number * length (tuples (drop (x.argument + 1) found.firsts)))) x.numbers)
+      → SomeOf IsLarge (flat_map (map_words program g) (specialised_arguments program g))
+  map_too_large found i x h here large =
+      let numbered : IsNumbered program g x = all_at (IsNumbered program g) found.specialised i x h.numbered here in
+      let made = map_made x (length (tuples (drop (x.argument + 1) found.firsts))) numbered (stride_is found.firsts x.argument h.firsts) in
+      let there : slice_get (arguments_of found.specialised) i ≡ Some x.argument =
+      slice_get-map (λ (x : SpecialisedArgument). x.argument) found.specialised i ∙ ap (option_map (λ (x : SpecialisedArgument). x.argument)) here in
+      subst (λ is. SomeOf IsLarge (flat_map (map_words program g) is)) h.specialised
+      (some_flat IsLarge (map_words program g) (arguments_of found.specialised) i x.argument there (subst (SomeOf IsLarge) made large))

@@ -1,3 +1,4 @@
 pub mod Fits
 pub mod Grouped
 pub mod Kept
+pub mod TooLarge

@@ -1,9 +1,10 @@
 // How many arguments functions take, as words.
 
-ghost use Rattle.std.specs.Prelude.{◌≡◌, ◌^◌, ◌<◌, ◌++◌, length, map, true, OnOk};
+ghost use Rattle.std.specs.Prelude.{◌≡◌, ◌^◌, ◌<◌, ◌++◌, length, map, true, false, OnOk};
 ghost use Rattle.base.specs.AllOf.{AllOf};
 ghost use Rattle.flat_language.specs.declared.program.FlatProcedure.{FlatProcedure};
 ghost use Rattle.back_words.specs.Words.{arity_of};
+ghost use Rattle.back_laying.specs.TooLarge.{SomeOf, IsLarge};
 
 use base::{NoMemory, WordList};
 use flat_language::{FlatProcedure, FlatProcedureList};
@@ -40,7 +41,8 @@ fn arity_word(procedure: &FlatProcedure) -> u32
 
 /// Whether so few arguments are required.
 pub fn arities_fit(procedures: &FlatProcedureList) -> bool
-    ensures { result ≡ true → AllOf (λ (q : FlatProcedure). length q.required < 2 ^ 30) procedures.now }
+    ensures fit { result ≡ true → AllOf (λ (q : FlatProcedure). length q.required < 2 ^ 30) procedures.now }
+    ensures too_large { result ≡ false → SomeOf IsLarge (map arity_of procedures.now) }
 {
     for at in 0..procedures.len() {
         let Some(procedure) = procedures.get(at) else {

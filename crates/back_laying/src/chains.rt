@@ -1,10 +1,11 @@
 // The words of chains of methods.
 
-ghost use Rattle.std.specs.Prelude.{◌≡◌, ◌+◌, ◌*◌, ◌^◌, ◌<◌, ◌++◌, true, OnOk};
+ghost use Rattle.std.specs.Prelude.{◌≡◌, ◌+◌, ◌*◌, ◌^◌, ◌<◌, ◌++◌, ℕ, ◌≤◌, true, false, OnOk};
 ghost use Rattle.base.specs.AllOf.{AllOf};
 ghost use Rattle.lang_dispatch.specs.Chains.{seen};
 ghost use Rattle.back_relation.specs.Chains.{ahead_words, method_words, chain_words};
 ghost use Rattle.back_laying.specs.Fits.{IsSmall, ChainFits};
+ghost use Rattle.back_laying.specs.TooLarge.{SomeOf, IsLarge};
 
 use base::{NoMemory, WordList};
 use lang_dispatch::{Chain, ProcedureIds};
@@ -80,7 +81,8 @@ fn push_ahead(words: &mut WordList, methods: usize) -> Result<(), NoMemory>
 
 /// Whether the words of a chain fit.
 pub fn chain_fits(chain: &Chain) -> bool
-    ensures { result ≡ true → ChainFits chain.now }
+    ensures fit { result ≡ true → ChainFits chain.now }
+    ensures too_large { result ≡ false → SomeOf IsLarge (chain_words (seen chain.now)) }
 {
     all_small(&chain.around)
         && all_small(&chain.before)
@@ -90,7 +92,8 @@ pub fn chain_fits(chain: &Chain) -> bool
 }
 
 fn all_small(procedures: &ProcedureIds) -> bool
-    ensures { result ≡ true → AllOf IsSmall procedures.now }
+    ensures small { result ≡ true → AllOf IsSmall procedures.now }
+    ensures too_large { result ≡ false → (kind : ℕ) → SomeOf IsLarge (method_words kind procedures.now) }
 {
     for at in 0..procedures.len() {
         let Some(procedure) = procedures.get(at) else {
@@ -104,7 +107,8 @@ fn all_small(procedures: &ProcedureIds) -> bool
 }
 
 fn few(before: usize, after: usize) -> bool
-    ensures { result ≡ true → before + after < 2 ^ 26 }
+    ensures few { result ≡ true → before + after < 2 ^ 26 }
+    ensures many { result ≡ false → 2 ^ 26 ≤ before + after }
 {
     before < MOST_METHODS && after < MOST_METHODS - before
 }

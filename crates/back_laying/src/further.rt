@@ -1,9 +1,8 @@
 // The further words of a program: those behind all objects.
 
-ghost use Rattle.std.specs.Prelude.{◌≡◌, ◌^◌, ◌<◌, true, length, IfOk};
-ghost use Rattle.base.specs.AllOf.{AllOf};
-ghost use Rattle.flat_language.specs.declared.program.FlatProcedure.{FlatProcedure};
+ghost use Rattle.std.specs.Prelude.{◌≡◌, Err, IfOk};
 ghost use Rattle.back_words.specs.Words as words_specs;
+ghost use Rattle.back_laying.specs.TooLarge.{DoNotFit};
 
 use crate::arities::{arities_fit, push_arities};
 use crate::faults::{LayingFault, behind};
@@ -21,7 +20,8 @@ pub fn further_words(
     symbols: &WordList,
     address: u32,
 ) -> Result<WordList, LayingFault>
-    ensures { IfOk result (λ ws. ws ≡ words_specs.further_words program.now symbols.now address) }
+    ensures words { IfOk result (λ ws. ws ≡ words_specs.further_words program.now symbols.now address) }
+    ensures too_large { result ≡ Err LayingFault.TooLarge → DoNotFit address (words_specs.further_words program.now symbols.now address) }
 {
     if !arities_fit(&program.procedures) || !arities_fit(&program.lambdas) {
         return Err(LayingFault::TooLarge);

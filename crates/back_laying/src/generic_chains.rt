@@ -1,12 +1,13 @@
 // The chains of a generic function, with a cell for each tuple of groups.
 
-ghost use Rattle.std.specs.Prelude.{◌≡◌, ◌+◌, ◌*◌, ◌++◌, ◌∷◌, [], length, map, OnOk, IfOk};
+ghost use Rattle.std.specs.Prelude.{◌≡◌, ◌+◌, ◌*◌, ◌++◌, ◌∷◌, [], length, map, Err, OnOk, IfOk};
 ghost use Rattle.lang_meaning.specs.Cells.{tuples};
 ghost use Rattle.lang_meaning.specs.Classes.{chain};
 ghost use Rattle.lang_dispatch.specs.Chains.{seen, maybe_seen};
 ghost use Rattle.lang_dispatch.specs.OfClasses.{with_classes};
 ghost use Rattle.back_relation.specs.Chains.{chain_words};
 ghost use Rattle.back_words.specs.Generics.{words_of_chain, all_chain_words, chain_cell, chain_cells};
+ghost use Rattle.back_laying.specs.TooLarge.{DoNotFit};
 
 use crate::chains::{chain_fits, push_chain};
 use crate::faults::{LayingFault, behind};
@@ -28,6 +29,7 @@ impl LaidChains {
     fn take(&mut self, start: u32, chain: &Option<Chain>) -> Result<(), LayingFault>
         ensures cells { OnOk result (self.new.cells ≡ self.old.cells ++ chain_cell (maybe_seen chain.now) (start + 4 * length self.old.words) ∷ []) }
         ensures words { OnOk result (self.new.words ≡ self.old.words ++ words_of_chain (maybe_seen chain.now)) }
+        ensures too_large { result ≡ Err LayingFault.TooLarge → DoNotFit (start + 4 * length self.old.words) (words_of_chain (maybe_seen chain.now)) }
     {
         match chain {
             Some(chain) => self.take_chain(start, chain),
@@ -38,6 +40,7 @@ impl LaidChains {
     fn take_chain(&mut self, start: u32, chain: &Chain) -> Result<(), LayingFault>
         ensures cells { OnOk result (self.new.cells ≡ self.old.cells ++ (start + 4 * length self.old.words) ∷ []) }
         ensures words { OnOk result (self.new.words ≡ self.old.words ++ chain_words (seen chain.now)) }
+        ensures too_large { result ≡ Err LayingFault.TooLarge → DoNotFit (start + 4 * length self.old.words) (chain_words (seen chain.now)) }
     {
         let address = behind(start, self.words.len())?;
         if !chain_fits(chain) {
@@ -62,6 +65,7 @@ pub(crate) fn lay_chains(
     requires { count ≡ length (tuples firsts.now) }
     ensures cells { IfOk result (λ laid. laid.cells ≡ chain_cells (map (chain (with_classes classes.now) generic.now) (tuples firsts.now)) start) }
     ensures words { IfOk result (λ laid. laid.words ≡ all_chain_words (map (chain (with_classes classes.now) generic.now) (tuples firsts.now))) }
+    ensures too_large { result ≡ Err LayingFault.TooLarge → DoNotFit start (all_chain_words (map (chain (with_classes classes.now) generic.now) (tuples firsts.now))) }
 {
     let mut laid = LaidChains {
         cells: WordList::new(alloc),

@@ -1,11 +1,12 @@
 // The words of generic functions.
 
-ghost use Rattle.std.specs.Prelude.{◌≡◌, ◌+◌, ◌*◌, ◌++◌, length, OnOk, IfOk};
+ghost use Rattle.std.specs.Prelude.{◌≡◌, ◌+◌, ◌*◌, ◌++◌, length, Err, OnOk, OnErr, IfOk};
 ghost use Rattle.lang_dispatch.specs.OfClasses.{with_classes};
 ghost use Rattle.back_relation.specs.Chains.{arity_word};
 ghost use Rattle.back_words.specs.Blocks.{blocks, block_addresses};
 ghost use Rattle.back_words.specs.Generics.{generic_words};
 ghost use Rattle.back_words.specs.Words.{symbol_among};
+ghost use Rattle.back_laying.specs.TooLarge.{IsLarge, DoNotFit};
 
 use crate::faults::{LayingFault, behind};
 use crate::generic_chains::lay_chains;
@@ -31,9 +32,12 @@ pub fn push_generics(
     symbols: &WordList,
     address: u32,
 ) -> Result<(), LayingFault>
-    ensures { OnOk result (words.new ≡ words.old
+    ensures words { OnOk result (words.new ≡ words.old
         ++ (block_addresses (generic_words (with_classes classes.now) (symbol_among symbols.now)) generics.now (address + 4 * length generics.now)
         ++ blocks (generic_words (with_classes classes.now) (symbol_among symbols.now)) generics.now (address + 4 * length generics.now))) }
+    ensures too_large { result ≡ Err LayingFault.TooLarge → DoNotFit address
+        (block_addresses (generic_words (with_classes classes.now) (symbol_among symbols.now)) generics.now (address + 4 * length generics.now)
+        ++ blocks (generic_words (with_classes classes.now) (symbol_among symbols.now)) generics.now (address + 4 * length generics.now)) }
 {
     let start = behind(address, generics.len())?;
     let mut laid = WordList::new(alloc);
@@ -58,7 +62,8 @@ pub fn push_generic(
     symbols: &WordList,
     address: u32,
 ) -> Result<(), LayingFault>
-    ensures { OnOk result (words.new ≡ words.old ++ generic_words (with_classes classes.now) (symbol_among symbols.now) generic.now address) }
+    ensures words { OnOk result (words.new ≡ words.old ++ generic_words (with_classes classes.now) (symbol_among symbols.now) generic.now address) }
+    ensures too_large { result ≡ Err LayingFault.TooLarge → DoNotFit address (generic_words (with_classes classes.now) (symbol_among symbols.now) generic.now address) }
 {
     let arity = generic_arity(generic)?;
     let groups = generic_groups(alloc, generic, classes)?;
@@ -78,7 +83,8 @@ pub fn push_generic(
 
 // How many arguments a generic function takes.
 fn generic_arity(generic: &GenericRow) -> Result<u32, LayingFault>
-    ensures { IfOk result (λ word. word ≡ arity_word generic.now.required generic.now.rest) }
+    ensures word { IfOk result (λ word. word ≡ arity_word generic.now.required generic.now.rest) }
+    ensures too_large { OnErr result (IsLarge (arity_word generic.now.required generic.now.rest)) }
 {
     if generic.required > MOST_REQUIRED {
         return Err(LayingFault::TooLarge);

@@ -1,12 +1,13 @@
 // The specialised arguments of a generic function, and their maps.
 
-ghost use Rattle.std.specs.Prelude.{◌≡◌, ℕ, ◌+◌, ◌*◌, ◌++◌, List, flat_map, length, map, drop, min, OnOk, IfOk};
+ghost use Rattle.std.specs.Prelude.{◌≡◌, ℕ, ◌+◌, ◌*◌, ◌^◌, ◌≤◌, ◌⊎◌, ◌++◌, flat_map, length, map, drop, min, Err, OnOk, IfOk};
 ghost use Rattle.lang_meaning.specs.declared.program.GenericRow.{GenericRow};
 ghost use Rattle.lang_meaning.specs.declared.program.ProgramRows.{ProgramRows};
 ghost use Rattle.lang_meaning.specs.Cells.{tuples};
 ghost use Rattle.back_relation.specs.Chains.{specialised_words};
 ghost use Rattle.back_words.specs.Generics.{map_words, specialised_arguments, specialised_at};
 ghost use Rattle.back_laying.specs.Grouped.{arguments_of, AreGrouped};
+ghost use Rattle.back_laying.specs.TooLarge.{SomeOf, IsLarge};
 
 use crate::faults::{LayingFault, behind};
 use crate::groups::{GenericGroups, SpecialisedArguments};
@@ -26,6 +27,8 @@ pub(crate) fn push_specialised(
     ensures words { OnOk result ((program : ProgramRows) → (g : GenericRow) → length program.classes ≡ classes
         → words.new ≡ words.old ++ specialised_words (specialised_at program g (arguments_of specialised.now) maps)) }
     ensures end { IfOk result (λ end. end ≡ maps + 4 * (classes * length specialised.now)) }
+    ensures too_large { result ≡ Err LayingFault.TooLarge → (program : ProgramRows) → (g : GenericRow)
+        → (2 ^ 32 ≤ maps + 4 * (classes * length specialised.now)) ⊎ SomeOf IsLarge (specialised_words (specialised_at program g (arguments_of specialised.now) maps)) }
 {
     let mut address = maps;
     for at in 0..specialised.len() {
@@ -41,8 +44,10 @@ pub(crate) fn push_specialised(
 
 /// The maps of all specialised arguments, behind the words that are there.
 pub(crate) fn push_maps(words: &mut WordList, groups: &GenericGroups) -> Result<(), LayingFault>
-    ensures { OnOk result ((program : ProgramRows) → (g : GenericRow) → AreGrouped program g g.required groups.now
+    ensures words { OnOk result ((program : ProgramRows) → (g : GenericRow) → AreGrouped program g g.required groups.now
         → words.new ≡ words.old ++ flat_map (map_words program g) (specialised_arguments program g)) }
+    ensures too_large { result ≡ Err LayingFault.TooLarge → (program : ProgramRows) → (g : GenericRow) → AreGrouped program g g.required groups.now
+        → SomeOf IsLarge (flat_map (map_words program g) (specialised_arguments program g)) }
 {
     for at in 0..groups.specialised.len() {
         let Some(item) = groups.specialised.get(at) else {
@@ -60,8 +65,10 @@ fn push_map(
     numbers: &GroupNumbers,
     stride: usize,
 ) -> Result<(), LayingFault>
-    ensures { OnOk result ((tuples : ℕ) → stride ≡ min tuples 18446744073709551615
+    ensures words { OnOk result ((tuples : ℕ) → stride ≡ min tuples 18446744073709551615
         → words.new ≡ words.old ++ map (λ number. 4 * (number * tuples)) numbers.now) }
+    ensures too_large { result ≡ Err LayingFault.TooLarge → (tuples : ℕ) → stride ≡ min tuples 18446744073709551615
+        → SomeOf IsLarge (map (λ number. 4 * (number * tuples)) numbers.now) }
 {
     for at in 0..numbers.len() {
         let Some(number) = numbers.get(at) else {

@@ -1,10 +1,10 @@
--- One argument more.
-use Rattle.std.proofs.Common.{◌≡◌, ◌+◌, ◌*◌, ◌++◌, ◌∷◌, [], length, drop, sym, ap, ◌∙◌, append-nil, arith}
+-- One argument more, or one whose words do not fit.
+use Rattle.std.proofs.Common.{◌≡◌, ◌+◌, ◌*◌, ◌^◌, ◌≤◌, ◌++◌, ◌∷◌, [], inr, length, drop, sym, ap, ◌∙◌, append-nil, arith}
 use Rattle.std.proofs.lemmas.List.{drop_all}
 use Rattle.back_relation.specs.Chains.{specialised_words}
 use Rattle.back_words.specs.Generics.{specialised_at}
 use Rattle.back_laying.specs.Grouped.{arguments_of}
-use Rattle.back_laying.proofs.MapWords.{specialised_more}
+use Rattle.back_laying.proofs.MapWords.{specialised_more, argument_too_large}
 use Rattle.back_laying.proofs.maps.push_specialised.Goals as goal
 
 pub loop-at-preserved : goal.loop-at-preserved
@@ -27,3 +27,9 @@ returns-clause-words c =
     sym (append-nil c.loop-at.words)
     ∙ ap (λ xs. c.loop-at.words ++ specialised_words (specialised_at program g (arguments_of xs) c.loop-at.address)) (sym none)
     ∙ c.loop-at.invariant.words program g many
+
+pub returns-in_err-behind-clause-too_large : goal.returns-in_err-behind-clause-too_large
+returns-in_err-behind-clause-too_large c =
+    λ e program g.
+    let large : 2 ^ 31 ≤ 4 * c.in-Some.item.now.argument = omega (arith, c.in_err-behind.ensures.too_large) in
+    inr (argument_too_large program g c.args.specialised.now c.loop-at.at c.in-Some.item.now c.args.maps c.in-Some.ensures large)
