@@ -60,11 +60,7 @@ pub(crate) fn push_maps(words: &mut WordList, groups: &GenericGroups) -> Result<
 
 // A word for each class: how many bytes the cells of its group are behind those of the first one,
 // where so many tuples, or 2^64 - 1 for any number above that, have the same groups up to the argument.
-fn push_map(
-    words: &mut WordList,
-    numbers: &GroupNumbers,
-    stride: usize,
-) -> Result<(), LayingFault>
+fn push_map(words: &mut WordList, numbers: &GroupNumbers, stride: usize) -> Result<(), LayingFault>
     ensures words { OnOk result ((tuples : ℕ) → stride ≡ min tuples 18446744073709551615
         → words.new ≡ words.old ++ map (λ number. 4 * (number * tuples)) numbers.now) }
     ensures too_large { result ≡ Err LayingFault.TooLarge → (tuples : ℕ) → stride ≡ min tuples 18446744073709551615
