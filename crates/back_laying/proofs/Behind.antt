@@ -1,10 +1,10 @@
 -- Blocks of words behind one another, with their addresses.
-use Rattle.std.proofs.Common.{◌≡◌, ℕ, ◌+◌, ◌*◌, ◌^◌, ◌≤◌, ◌⊎◌, inl, inr, ⊎_elim, suc, List, [], ◌∷◌, ◌++◌, length, drop, Some, refl, sym, ap, subst, ◌∙◌, append_assoc, append-nil, length-append, arith}
+use Rattle.std.proofs.Common.{◌≡◌, ℕ, ◌+◌, ◌*◌, ◌^◌, ◌≤◌, inl, suc, List, [], ◌∷◌, ◌++◌, length, drop, Some, refl, sym, ap, subst, ◌∙◌, append_assoc, append-nil, length-append, arith}
 use Rattle.std.specs.Prelude.{slice_get}
 use Rattle.std.proofs.lemmas.List.{drop_all}
 use Rattle.base.specs.model.DataRest.{rest_at}
 use Rattle.back_words.specs.Blocks.{blocks, block_addresses}
-use Rattle.back_laying.specs.TooLarge.{IsLarge, DoNotFit}
+use Rattle.back_laying.specs.TooLarge.{DoNotFit}
 use Rattle.back_laying.proofs.Large.{part_too_large}
 
 module _ {X : Type 0} (of : X → ℕ → List ℕ) where

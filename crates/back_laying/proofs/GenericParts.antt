@@ -8,8 +8,8 @@ use Rattle.lang_meaning.specs.Cells.{tuples}
 use Rattle.lang_meaning.specs.Classes.{chain}
 use Rattle.lang_meaning.specs.Objects.{Chain}
 use Rattle.lang_dispatch.specs.Tables.{tuples_of}
-use Rattle.back_relation.specs.Chains.{arity_word, Specialised, specialised_words}
-use Rattle.back_words.specs.Generics.{specialised_arguments, specialised_at, map_words, tuple_chains, chain_cells, words_of_chain, all_chain_words, cells_at, maps_at, chains_at, generic_words}
+use Rattle.back_relation.specs.Chains.{arity_word, specialised_words}
+use Rattle.back_words.specs.Generics.{specialised_arguments, specialised_at, map_words, tuple_chains, chain_cells, words_of_chain, all_chain_words, maps_at, chains_at, generic_words}
 use Rattle.back_laying.specs.declared.groups.GenericGroups.{GenericGroups}
 use Rattle.back_laying.specs.declared.groups.SpecialisedArgument.{SpecialisedArgument}
 use Rattle.back_laying.specs.Grouped.{arguments_of, AreGrouped}

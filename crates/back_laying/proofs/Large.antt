@@ -1,5 +1,5 @@
 -- What does not fit, of a part and of the whole.
-use Rattle.std.proofs.Common.{◌≡◌, ℕ, zero, suc, ◌+◌, ◌*◌, ◌^◌, ◌≤◌, inl, inr, ⊎_elim, List, [], ◌∷◌, ◌++◌, length, map, Some, sym, ap, subst, append-nil, length-append, arith}
+use Rattle.std.proofs.Common.{◌≡◌, ℕ, zero, suc, ◌+◌, ◌*◌, ◌^◌, ◌≤◌, inl, inr, ⊎_elim, List, [], ◌∷◌, ◌++◌, length, map, Some, sym, subst, append-nil, length-append, arith}
 use Rattle.std.specs.Prelude.{slice_get, flat_map}
 use Rattle.back_laying.specs.TooLarge.{SomeOf, IsLarge, DoNotFit}
 

@@ -1,5 +1,5 @@
 -- Chains whose words do not fit.
-use Rattle.std.proofs.Common.{◌≡◌, ℕ, zero, suc, ◌+◌, ◌*◌, ◌^◌, ◌≤◌, List, [], ◌∷◌, ◌++◌, length, inl, inr, arith}
+use Rattle.std.proofs.Common.{ℕ, zero, suc, ◌+◌, ◌*◌, ◌^◌, ◌≤◌, List, [], ◌∷◌, ◌++◌, length, inl, arith}
 use Rattle.lang_meaning.specs.Objects.{Chain}
 use Rattle.back_relation.specs.Chains.{ahead_words, method_words, chain_words}
 use Rattle.back_laying.specs.TooLarge.{SomeOf, IsLarge}

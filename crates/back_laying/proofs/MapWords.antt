@@ -7,7 +7,7 @@ use Rattle.std.proofs.lemmas.Option.{slice_get-map}
 use Rattle.std.proofs.lemmas.Grind.{flat_map-append}
 use Rattle.std.proofs.lemmas.List.{take_all}
 use Rattle.std.proofs.lemmas.List.FromFn.{length-map-range_with_len}
-use Rattle.base.specs.AllOf.{AllOf, all_at}
+use Rattle.base.specs.AllOf.{all_at}
 use Rattle.base.specs.model.DataRest.{rest_at, take_at}
 use Rattle.lang_meaning.specs.declared.program.ProgramRows.{ProgramRows}
 use Rattle.lang_meaning.specs.declared.program.GenericRow.{GenericRow}

@@ -1,5 +1,5 @@
 -- One procedure more.
-use Rattle.std.proofs.Common.{◌≡◌, ◌^◌, ◌<◌, ◌≤◌, length, arith}
+use Rattle.std.proofs.Common.{◌^◌, ◌<◌, ◌≤◌, length, arith}
 use Rattle.flat_language.specs.declared.program.FlatProcedure.{FlatProcedure}
 use Rattle.back_words.specs.Words.{arity_of}
 use Rattle.back_laying.specs.TooLarge.{IsLarge}

@@ -1,5 +1,5 @@
 -- One procedure more.
-use Rattle.std.proofs.Common.{◌≡◌, ◌+◌, ◌*◌, ◌^◌, ◌<◌, ◌≤◌, arith}
+use Rattle.std.proofs.Common.{◌+◌, ◌*◌, ◌^◌, ◌<◌, ◌≤◌, arith}
 use Rattle.back_laying.specs.Fits.{IsSmall}
 use Rattle.back_laying.specs.TooLarge.{IsLarge}
 use Rattle.back_laying.proofs.Large.{some_mapped}

@@ -1,5 +1,5 @@
 -- All words, one part behind another, or one part that does not fit.
-use Rattle.std.proofs.Common.{◌≡◌, ◌+◌, ◌*◌, ◌++◌, List, ℕ, Err, inr, length, map, ap, subst, ◌∙◌, length-append, arith}
+use Rattle.std.proofs.Common.{◌≡◌, ◌+◌, ◌*◌, ◌++◌, Err, inr, length, map, ap, subst, ◌∙◌, length-append, arith}
 use Rattle.std.proofs.lemmas.Result.{err_from_is_err_and}
 use Rattle.std.proofs.lemmas.List.{length-map}
 use Rattle.lang_dispatch.specs.OfClasses.{with_classes}
