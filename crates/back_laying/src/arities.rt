@@ -9,7 +9,7 @@ ghost use Rattle.back_laying.specs.TooLarge.{SomeOf, IsLarge};
 use base::{NoMemory, WordList};
 use flat_language::{FlatProcedure, FlatProcedureList};
 
-// So many arguments are not required.
+// Fewer arguments than these are required.
 const MOST_REQUIRED: usize = 1_073_741_824;
 
 /// A word for each procedure, behind those that are there: twice how many arguments it requires, and

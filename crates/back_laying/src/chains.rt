@@ -24,7 +24,7 @@ const END: u32 = 4;
 const AHEAD: u32 = 5;
 
 // Numbers of procedures, and of methods that run before or after the first primary one, are below
-// these.
+// these two.
 const MOST_PROCEDURES: usize = 268_435_456;
 
 const MOST_METHODS: usize = 67_108_864;

@@ -1,11 +1,9 @@
 // The words of generic functions.
 
-ghost use Rattle.std.specs.Prelude.{◌≡◌, ◌+◌, ◌*◌, ◌++◌, length, Err, OnOk, OnErr, IfOk};
-ghost use Rattle.lang_dispatch.specs.OfClasses.{with_classes};
+ghost use Rattle.std.specs.Prelude.{◌≡◌, ◌++◌, Err, OnOk, OnErr, IfOk};
 ghost use Rattle.back_relation.specs.Chains.{arity_word};
-ghost use Rattle.back_words.specs.Blocks.{blocks, block_addresses};
-ghost use Rattle.back_words.specs.Generics.{generic_words};
 ghost use Rattle.back_words.specs.Words.{symbol_among};
+ghost use Rattle.back_laying.specs.GenericWords.{words_of_generic, words_of_generics};
 ghost use Rattle.back_laying.specs.TooLarge.{IsLarge, DoNotFit};
 
 use crate::faults::{LayingFault, behind};
@@ -18,7 +16,7 @@ use lang_meaning::{ClassRows, GenericRow, GenericRows};
 use mid_arena::words::NIL;
 use std::alloc::Global;
 
-// Twice so many arguments, and one, fit into a word.
+// Twice so many arguments, and one, are below 2^31.
 const MOST_REQUIRED: u32 = 1_073_741_823;
 
 /// A word for the address of each generic function, behind the words that are there, and behind them
@@ -32,12 +30,8 @@ pub fn push_generics(
     symbols: &WordList,
     address: u32,
 ) -> Result<(), LayingFault>
-    ensures words { OnOk result (words.new ≡ words.old
-        ++ (block_addresses (generic_words (with_classes classes.now) (symbol_among symbols.now)) generics.now (address + 4 * length generics.now)
-        ++ blocks (generic_words (with_classes classes.now) (symbol_among symbols.now)) generics.now (address + 4 * length generics.now))) }
-    ensures too_large { result ≡ Err LayingFault.TooLarge → DoNotFit address
-        (block_addresses (generic_words (with_classes classes.now) (symbol_among symbols.now)) generics.now (address + 4 * length generics.now)
-        ++ blocks (generic_words (with_classes classes.now) (symbol_among symbols.now)) generics.now (address + 4 * length generics.now)) }
+    ensures words { OnOk result (words.new ≡ words.old ++ words_of_generics classes.now symbols.now generics.now address) }
+    ensures too_large { result ≡ Err LayingFault.TooLarge → DoNotFit address (words_of_generics classes.now symbols.now generics.now address) }
 {
     let start = behind(address, generics.len())?;
     let mut laid = WordList::new(alloc);
@@ -62,8 +56,8 @@ pub fn push_generic(
     symbols: &WordList,
     address: u32,
 ) -> Result<(), LayingFault>
-    ensures words { OnOk result (words.new ≡ words.old ++ generic_words (with_classes classes.now) (symbol_among symbols.now) generic.now address) }
-    ensures too_large { result ≡ Err LayingFault.TooLarge → DoNotFit address (generic_words (with_classes classes.now) (symbol_among symbols.now) generic.now address) }
+    ensures words { OnOk result (words.new ≡ words.old ++ words_of_generic classes.now symbols.now generic.now address) }
+    ensures too_large { result ≡ Err LayingFault.TooLarge → DoNotFit address (words_of_generic classes.now symbols.now generic.now address) }
 {
     let arity = generic_arity(generic)?;
     let groups = generic_groups(alloc, generic, classes)?;
