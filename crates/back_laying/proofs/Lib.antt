@@ -1,3 +1,11 @@
 pub mod Lists
 pub mod Numbers
 pub mod Distinct
+pub mod Apart
+pub mod MapWords
+pub mod ChainCells
+pub mod Behind
+pub mod GroupTurns
+pub mod GenericParts
+pub mod Large
+pub mod LargeChains

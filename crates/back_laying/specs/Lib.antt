@@ -1,2 +1,5 @@
 pub mod Fits
+pub mod Grouped
 pub mod Kept
+pub mod TooLarge
+pub mod GenericWords

@@ -1,10 +1,11 @@
 // The words of chains of methods.
 
-ghost use Rattle.std.specs.Prelude.{◌≡◌, ◌+◌, ◌*◌, ◌^◌, ◌<◌, ◌++◌, OnOk};
+ghost use Rattle.std.specs.Prelude.{◌≡◌, ◌+◌, ◌*◌, ◌^◌, ◌<◌, ◌++◌, ℕ, ◌≤◌, true, false, OnOk};
 ghost use Rattle.base.specs.AllOf.{AllOf};
 ghost use Rattle.lang_dispatch.specs.Chains.{seen};
 ghost use Rattle.back_relation.specs.Chains.{ahead_words, method_words, chain_words};
 ghost use Rattle.back_laying.specs.Fits.{IsSmall, ChainFits};
+ghost use Rattle.back_laying.specs.TooLarge.{SomeOf, IsLarge};
 
 use base::{NoMemory, WordList};
 use lang_dispatch::{Chain, ProcedureIds};
@@ -21,6 +22,12 @@ const PRIMARY: u32 = 3;
 const END: u32 = 4;
 
 const AHEAD: u32 = 5;
+
+// Numbers of procedures, and of methods that run before or after the first primary one, are below
+// these two.
+const MOST_PROCEDURES: usize = 268_435_456;
+
+const MOST_METHODS: usize = 67_108_864;
 
 /// The words of a chain, behind those that are there: one for each method, in the order in which
 /// they run, and the end.
@@ -70,4 +77,38 @@ fn push_ahead(words: &mut WordList, methods: usize) -> Result<(), NoMemory>
         return Ok(());
     }
     words.push(8 * (4 * (1 + methods as u32)) + AHEAD)
+}
+
+/// Whether the words of a chain fit.
+pub fn chain_fits(chain: &Chain) -> bool
+    ensures fit { result ≡ true → ChainFits chain.now }
+    ensures too_large { result ≡ false → SomeOf IsLarge (chain_words (seen chain.now)) }
+{
+    all_small(&chain.around)
+        && all_small(&chain.before)
+        && all_small(&chain.primary)
+        && all_small(&chain.after)
+        && few(chain.before.len(), chain.after.len())
+}
+
+fn all_small(procedures: &ProcedureIds) -> bool
+    ensures small { result ≡ true → AllOf IsSmall procedures.now }
+    ensures too_large { result ≡ false → (kind : ℕ) → SomeOf IsLarge (method_words kind procedures.now) }
+{
+    for at in 0..procedures.len() {
+        let Some(procedure) = procedures.get(at) else {
+            unreachable!()
+        };
+        if *procedure >= MOST_PROCEDURES {
+            return false;
+        }
+    }
+    true
+}
+
+fn few(before: usize, after: usize) -> bool
+    ensures few { result ≡ true → before + after < 2 ^ 26 }
+    ensures many { result ≡ false → 2 ^ 26 ≤ before + after }
+{
+    before < MOST_METHODS && after < MOST_METHODS - before
 }

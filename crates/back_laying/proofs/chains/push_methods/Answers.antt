@@ -1,5 +1,5 @@
 -- One method more.
-use Rattle.std.proofs.Common.{◌+◌, ◌*◌, ◌≡◌, ◌++◌, ◌∷◌, [], ap, ◌∙◌, arith}
+use Rattle.std.proofs.Common.{◌+◌, ◌*◌, ◌++◌, ◌∷◌, [], ap, ◌∙◌, arith}
 use Rattle.base.specs.AllOf.{all_at}
 use Rattle.back_laying.specs.Fits.{IsSmall}
 use Rattle.back_laying.proofs.Lists.{mapped_more, mapped_all}

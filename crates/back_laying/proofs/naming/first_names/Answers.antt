@@ -1,6 +1,6 @@
 -- One name more is passed, or kept.
 use Rattle.lang_meaning.specs.Lookup.{text}
-use Rattle.back_laying.proofs.Distinct.{none_seen, one_taken, firsts_all}
+use Rattle.back_laying.proofs.Distinct.{one_taken}
 use Rattle.back_laying.proofs.naming.first_names.Goals as goal
 
 pub loop-at-preserved : goal.loop-at-preserved

@@ -1,7 +1,7 @@
 -- One name more is passed, or found.
-use Rattle.std.proofs.Common.{sym, ◌∙◌, arith}
+use Rattle.std.proofs.Common.{sym, ◌∙◌}
 use Rattle.lang_meaning.specs.Lookup.{text}
-use Rattle.back_laying.proofs.Numbers.{number_here, number_later, number_none}
+use Rattle.back_laying.proofs.Numbers.{number_here, number_later}
 use Rattle.back_laying.proofs.naming.number_among.Goals as goal
 
 pub loop-at-preserved : goal.loop-at-preserved
