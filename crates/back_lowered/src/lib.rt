@@ -1,8 +1,13 @@
-// A flat program lowered: its procedures, and the words before its first form.
+// The words of a whole lowered program, laid: those of its objects, and all that lowered code looks for beside them.
 #![tactic(auto)]
 
+pub mod behind;
+pub mod faults;
 pub mod literals;
+pub mod objects;
+pub mod program;
 pub mod symbols;
+pub mod variables;
 
-pub use literals::literal_words;
-pub use symbols::symbol_words;
+pub use faults::LoweringFault;
+pub use program::{LaidProgram, lay_program};

@@ -1,0 +1,20 @@
+-- **A program that is laid**: where its words are, and the words with which its run begins.
+use Rattle.std.specs.Prelude.{◌≡◌, ℕ, List, length, slice_get, Some, ◌<◌, ◌^◌, ◌*◌}
+use Rattle.flat_language.specs.declared.program.FlatProgram.{FlatProgram}
+use Rattle.flat_language.specs.FlatNodes.{tables}
+use Rattle.mid_start.specs.NamedSymbols.{HaveSymbols}
+use Rattle.mid_start.specs.StaticData.{IsStaticData}
+use Rattle.back_words.specs.Start.{wanted_names, laid_symbols, literals_from}
+use Rattle.back_words.specs.Variables.{low_words}
+use Rattle.back_words.specs.Words.{further_words, placement_of}
+use Rattle.back_lowered.specs.declared.program.LaidProgram.{LaidProgram}
+
+pub record IsLaidProgram (names : List (List ℕ)) (program : FlatProgram) (l : LaidProgram) : Type 0 where
+  pub further : List ℕ
+  pub start : IsStaticData names (tables program) (low_words names program) further l.data
+  pub further_is : further ≡ further_words program (laid_symbols names l.data.arena.symbols) start.further_at
+  pub placement :
+      l.placement
+      ≡ placement_of names program (literals_from names program.functions l.data program.literals 0) (laid_symbols names l.data.arena.symbols)
+      start.further_at
+  pub symbols : HaveSymbols (wanted_names names program) l.data.arena.symbols

@@ -1,0 +1,41 @@
+// The words of all objects before the first form, and of the symbols that conditions may have.
+
+ghost use Rattle.std.specs.Prelude.{◌≡◌, ◌^◌, ◌≤◌, [], length, IfOk};
+ghost use Rattle.flat_language.specs.FlatNodes.{tables};
+ghost use Rattle.mid_start.specs.NamedSymbols.{AreNamed, HaveSymbols};
+ghost use Rattle.mid_start.specs.Rows.{RowsFit};
+ghost use Rattle.mid_start.specs.StaticData.{IsStaticData};
+
+use crate::faults::LoweringFault;
+use base::{Name, NameList, Names, WordList};
+use flat_language::FlatProgram;
+use mid_start::{StaticData, lay_rows, lay_symbols};
+use std::alloc::Global;
+
+/// The words of the objects that are there before the first form, behind the fixed words and these low
+/// ones, with the symbols of these names.
+pub fn lay_objects(
+    alloc: Global,
+    names: &Names,
+    true_name: Name,
+    program: &FlatProgram,
+    low: WordList,
+    wanted: &NameList,
+) -> Result<StaticData, LoweringFault>
+    requires fit { RowsFit names.now true_name program.now.classes program.now.functions program.now.literals }
+    requires named { AreNamed names.now wanted.now }
+    ensures start { IfOk result (λ s. IsStaticData names.now (tables program.now) low [] s) }
+    ensures symbols { IfOk result (λ s. HaveSymbols wanted.now s.arena.symbols) }
+    ensures size { IfOk result (λ s. length s.arena.words ≤ 2 ^ 24) }
+{
+    let laid = lay_rows(
+        alloc,
+        names,
+        true_name,
+        &program.classes,
+        &program.functions,
+        &program.literals,
+        low,
+    )?;
+    Ok(lay_symbols(alloc, laid, wanted, names)?)
+}
