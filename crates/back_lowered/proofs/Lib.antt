@@ -1,1 +1,4 @@
+pub mod Addressed
 pub mod InOrder
+pub mod Wanted
+pub mod Whole

@@ -34,7 +34,7 @@ pub fn variables_of(
     names: &Names,
     used: &UsedNames,
 ) -> Result<Variables, LoweringFault>
-    ensures { IfOk result (λ v. (program : FlatProgram) → AreUsed (program_uses names.now program) used.now → HasVariables names.now program v) }
+    ensures laid { IfOk result (λ v. (program : FlatProgram) → AreUsed (program_uses names.now program) used.now → HasVariables names.now program v) }
     ensures few { IfOk result (λ v. v.count ≤ 2 ^ 25) }
 {
     let globals = first_names(alloc, names, &used.globals)?;
