@@ -1,4 +1,6 @@
 pub mod Addressed
+pub mod Exceeding
 pub mod InOrder
+pub mod Told
 pub mod Wanted
 pub mod Whole

@@ -29,14 +29,14 @@ use Rattle.back_lowered.specs.Variables.{HasVariables}
 use Rattle.back_lowered.specs.Laid.{IsLaidProgram}
 
 -- the addresses of generic functions stand behind the arities
-pub generics_behind : (program : FlatProgram) (address first last m n : ℕ) → m ≡ length program.procedures → n ≡ length program.lambdas
-    → first ≡ address + 4 * m → last ≡ first + 4 * n → last ≡ generics_at program address
-generics_behind program address first last m n p q e f =
+pub generics_behind : (program : FlatProgram) (address m n : ℕ) → m ≡ length program.procedures → n ≡ length program.lambdas
+    → address + 4 * (m + n) ≡ generics_at program address
+generics_behind program address m n p q =
     let both : length (map arity_of program.procedures ++ map arity_of program.lambdas) ≡ length program.procedures + length program.lambdas =
     length-append (map arity_of program.procedures) (map arity_of program.lambdas)
     ∙ ap (λ k. k + length (map arity_of program.lambdas)) (length-map program.procedures arity_of)
     ∙ ap (λ k. length program.procedures + k) (length-map program.lambdas arity_of) in
-    omega (arith, both, p, q, e, f)
+    omega (arith, both, p, q)
 
 -- the words of literals, where other words of the arena are laid
 module _ (names : List (List ℕ)) (functions : List FunctionRow) (a b : StaticData) (literals : a.literals ≡ b.literals) (classes : a.classes ≡ b.classes)

@@ -1,3 +1,4 @@
 pub mod Faults
 pub mod Variables
 pub mod Laid
+pub mod TooLarge

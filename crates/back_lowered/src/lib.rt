@@ -1,7 +1,6 @@
-// The words of a whole lowered program, laid: those of its objects, and all that lowered code looks for beside them.
+// A whole flat program lowered: its procedures, and the words that are there before its first form.
 #![tactic(auto)]
 
-pub mod behind;
 pub mod faults;
 pub mod literals;
 pub mod objects;

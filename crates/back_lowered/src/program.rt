@@ -1,13 +1,13 @@
 // A whole program, laid.
 
-ghost use Rattle.std.specs.Prelude.{IfOk};
+ghost use Rattle.std.specs.Prelude.{◌≡◌, Err, IfOk};
 ghost use Rattle.mid_start.specs.Rows.{RowsFit};
 ghost use Rattle.back_words.specs.Asked.{NamesAsked};
 ghost use Rattle.back_uses.specs.Functions.{AreFunctions};
 ghost use Rattle.back_lowered.specs.Laid.{IsLaidProgram};
+ghost use Rattle.back_lowered.specs.TooLarge.{IsTooLarge};
 
 use crate::faults::LoweringFault;
-use crate::behind::behind;
 use crate::literals::literal_words;
 use crate::objects::lay_objects;
 use crate::symbols::symbol_words;
@@ -42,6 +42,7 @@ pub fn lay_program(
     requires functions { AreFunctions names.now program.now.functions rows.now unnamed }
     requires named { NamesAsked names.now program.now }
     ensures laid { IfOk result (λ l. IsLaidProgram names.now program.now l) }
+    ensures too_large { result ≡ Err LoweringFault.TooLarge → IsTooLarge names.now program.now }
 {
     let used = used_names(alloc, names, program, rows, unnamed)?;
     let variables = variables_of(alloc, names, &used)?;
@@ -58,7 +59,7 @@ pub fn lay_program(
     let arities = 4 * objects.arena.words.len() as u32;
     let further = further_words(alloc, program, &symbols, arities)?;
     let data = lay_further(objects, further)?;
-    let generics = behind(behind(arities, program.procedures.len())?, program.lambdas.len())?;
+    let functions = program.procedures.len() + program.lambdas.len();
     Ok(LaidProgram {
         placement: Placement {
             literals,
@@ -68,7 +69,7 @@ pub fn lay_program(
             procedures: program.procedures.len(),
             lambdas: program.lambdas.len(),
             arities,
-            generics,
+            generics: arities + 4 * functions as u32,
         },
         data,
     })

@@ -1,8 +1,9 @@
 // Where the words of variables are.
 
-ghost use Rattle.std.specs.Prelude.{◌≡◌, ◌^◌, ◌≤◌, IfOk};
+ghost use Rattle.std.specs.Prelude.{◌≡◌, ◌^◌, ◌<◌, ◌≤◌, Err, IfOk};
 ghost use Rattle.flat_language.specs.declared.program.FlatProgram.{FlatProgram};
 ghost use Rattle.back_words.specs.Uses.{program_uses};
+ghost use Rattle.back_words.specs.Variables.{variable_count};
 ghost use Rattle.back_uses.specs.Used.{AreUsed};
 ghost use Rattle.back_lowered.specs.Variables.{HasVariables};
 
@@ -36,6 +37,8 @@ pub fn variables_of(
 ) -> Result<Variables, LoweringFault>
     ensures laid { IfOk result (λ v. (program : FlatProgram) → AreUsed (program_uses names.now program) used.now → HasVariables names.now program v) }
     ensures few { IfOk result (λ v. v.count ≤ 2 ^ 25) }
+    ensures too_large { result ≡ Err LoweringFault.TooLarge → (program : FlatProgram) → AreUsed (program_uses names.now program) used.now
+        → 2 ^ 24 < variable_count names.now program }
 {
     let globals = first_names(alloc, names, &used.globals)?;
     let dynamics = first_names(alloc, names, &used.dynamics)?;

@@ -1,6 +1,7 @@
 -- The rows of a program are those of its tables.
-use Rattle.std.proofs.Common.{refl}
+use Rattle.std.proofs.Common.{refl, ap, Err, inl}
 use Rattle.flat_language.specs.FlatNodes.{tables}
+use Rattle.back_lowered.proofs.Told.{told_of_data}
 use Rattle.back_lowered.proofs.objects.lay_objects.Goals as goal
 
 pub lay_symbols-requires-clause-first : goal.lay_symbols-requires-clause-first
@@ -13,3 +14,7 @@ returns-clause-start c =
 pub returns-clause-symbols : goal.returns-clause-symbols
 returns-clause-symbols c =
     c.in_ok-lay_symbols.ensures.symbols (tables c.args.program.now) c.args.low (c.in_ok-laid.ensures.start (tables c.args.program.now) refl refl refl)
+
+pub returns-in_err-laid-clause-too_large : goal.returns-in_err-laid-clause-too_large
+returns-in_err-laid-clause-too_large c = λ e.
+    inl (c.in_err-laid.ensures.too_large (ap Err (told_of_data c.in_err-laid.field-0.0 c.from_residual.result c.from_residual.ensures.1 e)))
