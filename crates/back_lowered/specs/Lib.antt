@@ -1,4 +1,5 @@
 pub mod Faults
 pub mod Variables
 pub mod Laid
+pub mod Lowered
 pub mod TooLarge

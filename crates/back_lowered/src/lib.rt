@@ -3,10 +3,12 @@
 
 pub mod faults;
 pub mod literals;
+pub mod lowering;
 pub mod objects;
 pub mod program;
 pub mod symbols;
 pub mod variables;
 
 pub use faults::LoweringFault;
+pub use lowering::{LoweredProgram, lower};
 pub use program::{LaidProgram, lay_program};
