@@ -28,7 +28,7 @@ module _ (names : List (List ℕ)) (program : FlatProgram) (used : UsedNames) (a
       dynamics_at from ws begin e =
           e
           ∙ ap (λ f. map (address_among (text names) f dynamics) (range_with_len 0 (length names)))
-            (begin ∙ ap (λ gs. variables_address + 4 * length gs) global_names_are)
+          (begin ∙ ap (λ gs. variables_address + 4 * length gs) global_names_are)
           ∙ ap (λ ds. map (address_among (text names) (dynamics_from names program) ds) (range_with_len 0 (length names))) dynamic_names_are
 
       pub count_is : (m n : ℕ) → m ≡ length globals → n ≡ length dynamics → m + n ≡ variable_count names program

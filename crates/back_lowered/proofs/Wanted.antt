@@ -2,7 +2,7 @@
 use Rattle.std.proofs.Common.{◌≡◌, ℕ, zero, suc, ◌<◌, List, [], ◌∷◌, length, Option, Some, None, refl, sym, ◌∙◌, ap}
 use Rattle.std.specs.Prelude.{slice_get}
 use Rattle.base.specs.declared.datum.Name.{Name}
-use Rattle.base.specs.AllOf.{AllOf, all_at}
+use Rattle.base.specs.AllOf.{all_at}
 use Rattle.mid_arena.specs.FixedWords.{nil_text}
 use Rattle.mid_start.specs.NamedSymbols.{AreNamed}
 use Rattle.flat_language.specs.declared.program.FlatProgram.{FlatProgram}

@@ -2,7 +2,6 @@
 use Rattle.std.proofs.Common.{◌≡◌, ℕ, ◌+◌, ◌*◌, List, [], ◌∷◌, ◌++◌, length, refl, sym, ◌∙◌, ap, subst, length-append, map, arith}
 use Rattle.std.specs.Prelude.{replicate}
 use Rattle.std.proofs.lemmas.List.{length-map}
-use Rattle.base.specs.declared.datum.Name.{Name}
 use Rattle.lang_meaning.specs.declared.program.FunctionRow.{FunctionRow}
 use Rattle.lang_meaning.specs.declared.program.LiteralRow.{LiteralRow}
 use Rattle.lang_meaning.specs.declared.program.LiteralRow.TheVariants as row
@@ -23,7 +22,6 @@ use Rattle.back_words.specs.Variables.{low_words, global_addresses, dynamic_addr
 use Rattle.back_words.specs.Words.{further_words, placement_of, generics_at, arity_of}
 use Rattle.back_uses.specs.declared.used.UsedNames.{UsedNames}
 use Rattle.back_uses.specs.Used.{AreUsed}
-use Rattle.back_lowered.specs.declared.program.LaidProgram.{LaidProgram}
 use Rattle.back_lowered.specs.declared.variables.Variables.{Variables}
 use Rattle.back_lowered.specs.Variables.{HasVariables}
 use Rattle.back_lowered.specs.Laid.{IsLaidProgram}

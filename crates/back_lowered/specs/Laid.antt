@@ -1,5 +1,5 @@
 -- **A program that is laid**: where its words are, and the words with which its run begins.
-use Rattle.std.specs.Prelude.{◌≡◌, ℕ, List, length, slice_get, Some, ◌<◌, ◌^◌, ◌*◌}
+use Rattle.std.specs.Prelude.{◌≡◌, ℕ, List}
 use Rattle.flat_language.specs.declared.program.FlatProgram.{FlatProgram}
 use Rattle.flat_language.specs.FlatNodes.{tables}
 use Rattle.mid_start.specs.NamedSymbols.{HaveSymbols}

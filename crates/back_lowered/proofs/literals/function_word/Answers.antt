@@ -1,7 +1,7 @@
 -- One function is passed, or found; or there is none.
-use Rattle.std.proofs.Common.{sym, ◌∙◌, arith}
+use Rattle.std.proofs.Common.{sym, ◌∙◌}
 use Rattle.lang_meaning.specs.Lookup.{text}
-use Rattle.back_lowered.proofs.InOrder.{function_here, function_later, no_word, no_function}
+use Rattle.back_lowered.proofs.InOrder.{function_here, function_later, no_word}
 use Rattle.back_lowered.proofs.literals.function_word.Goals as goal
 
 pub returns-in_default-get : goal.returns-in_default-get

@@ -1,5 +1,5 @@
 -- One word more, and all of them.
-use Rattle.std.proofs.Common.{◌≡◌, ◌+◌, ◌++◌, ◌∷◌, [], drop, ap, sym, ◌∙◌, length, arith}
+use Rattle.std.proofs.Common.{◌+◌, ◌++◌, ◌∷◌, [], drop, ap, ◌∙◌, arith}
 use Rattle.back_words.specs.Start.{literals_from}
 use Rattle.back_lowered.proofs.InOrder.{literals_later, literals_all}
 use Rattle.back_lowered.proofs.literals.literal_words.Goals as goal

@@ -1,8 +1,7 @@
 -- The words so far.
-use Rattle.std.proofs.Common.{◌≡◌, map, length}
+use Rattle.std.proofs.Common.{◌≡◌, map}
 use Rattle.std.specs.List.{range_with_len}
 use Rattle.std.specs.Option.{unwrap_or}
-use Rattle.base.specs.declared.datum.Name.{Name}
 use Rattle.base.specs.declared.datum.Symbol.TheVariants.{Named}
 use Rattle.mid_arena.specs.Tags.{nil_word}
 use Rattle.mid_start.specs.Symbols.{word_of_symbol}

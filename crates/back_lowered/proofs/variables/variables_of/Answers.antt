@@ -1,5 +1,5 @@
 -- The addresses are those of the program whose names these are.
-use Rattle.std.proofs.Common.{◌≡◌, ◌+◌, ◌*◌, ap}
+use Rattle.std.proofs.Common.{◌+◌, ◌*◌, ap}
 use Rattle.back_lowered.proofs.Addressed.{globals_at, dynamics_at, count_is}
 use Rattle.back_lowered.proofs.variables.variables_of.Goals as goal
 
