@@ -28,9 +28,6 @@ module _ (program : ProgramRows) (setting : Setting) (laid : StaticData) (is : I
   fits : ProgramFits setting.program
   fits = subst ProgramFits (sym is.flat) (law_of_flat_programs law_of_names program is.whole).1
 
-  boxes : ProgramBoxes setting.program
-  boxes = subst ProgramBoxes (sym is.flat) (boxes_captured program is.differ)
-
   rows : RowsAsked setting.program
   rows = subst RowsAsked (sym is.flat) (rows_asked program is.whole)
 
@@ -45,7 +42,7 @@ module _ (program : ProgramRows) (setting : Setting) (laid : StaticData) (is : I
     stands = stands;
     fits = fits;
     placed = placed_programs setting _ _ is.starts.words is.further fits rows is.names symbols forms;
-    frames_paid = frames_paid setting fits boxes;
+    frames_paid = frames_paid setting fits is.boxes;
   }
 
 pub right_programs_law : LawOfRightPrograms

@@ -4,7 +4,7 @@ use Rattle.base.specs.Names.{IsTable}
 use Rattle.lang_meaning.specs.declared.program.ProgramRows.{ProgramRows}
 use Rattle.lang_meaning.specs.Facts.{is_whole}
 use Rattle.flat_language.specs.Flatten.{flat_program}
-use Rattle.flat_boxes.specs.Parameters.{ParametersDiffer}
+use Rattle.flat_boxes.specs.Boxes.{ProgramBoxes}
 use Rattle.mid_code.specs.State.{MidState}
 use Rattle.mid_arena.specs.Layouts.{AreBytes}
 use Rattle.mid_start.specs.declared.static_data.StaticData.{StaticData}
@@ -18,12 +18,12 @@ use Rattle.back_words.specs.Asked.{NamesAsked}
 use Rattle.back_words.specs.Laws.{FurtherStand}
 use Rattle.back_words.specs.Start.{StartsWith, wanted_names}
 
--- A whole program whose functions have different parameters is made flat; the names that its forms use are in the table; its words are laid, with the
--- symbols of the names that a condition may have.
+-- A whole program is made flat, where no more variables have boxes than functions capture; the names that its forms use are in the table; its words are
+-- laid, with the symbols of the names that a condition may have.
 pub record IsLaid (program : ProgramRows) (setting : Setting) (laid : StaticData) : Type 0 where
   pub whole : is_whole program ≡ true
-  pub differ : ParametersDiffer program
   pub flat : setting.program ≡ flat_program program
+  pub boxes : ProgramBoxes setting.program
   pub table : IsTable setting.names
   pub names : NamesAsked setting.names setting.program
   pub starts : StartsWith setting laid

@@ -1,0 +1,5 @@
+mod WholeMeaning
+mod Counted
+mod Lowered
+mod First
+mod Compiled

@@ -1,0 +1,154 @@
+-- What an image does in words of a flat program's meaning, in words of the whole program that was made flat.
+use Rattle.std.proofs.Common.{inl, inr, ◌≡◌, ◌⊎◌, ℕ, ◌+◌, ◌*◌, ◌^◌, ◌<◌, ◌≤◌, List, length, refl, sym, ap, subst, ◌∙◌, arith, Some}
+use Rattle.std.specs.Prelude.{true, slice_index}
+use Rattle.base.specs.declared.place.Place.{Place}
+use Rattle.lang_meaning.specs.declared.program.ProgramRows.{ProgramRows}
+use Rattle.lang_meaning.specs.Counts.{bound}
+use Rattle.lang_meaning.specs.Facts.{is_whole}
+use Rattle.lang_meaning.specs.Meaning.{Meant, End, meaning, ended_value, ended_unhandled, ended_full, ended_more, class_in, place_of_site}
+use Rattle.lang_meaning.specs.Prefixes.{IsPrefix}
+use Rattle.lang_meaning.specs.State.{Limit, words, unlimited}
+use Rattle.lang_meaning.specs.Values.{Value}
+use Rattle.flat_language.specs.Flatten.{flat_program}
+use Rattle.flat_language.specs.FlatMeaning.{flat_meaning}
+use Rattle.flat_language.specs.FlatNodes.{tables}
+use Rattle.flat_language.specs.declared.program.FlatProgram.{FlatProgram}
+use Rattle.flat_language.specs.Law.{SameRun, LawOfClosures}
+use Rattle.rv_machine.specs.declared.ending.Ending.TheVariants.{Budget, Halt, Unhandled, Full}
+use Rattle.rv_machine.specs.Run.{Ended, run_of}
+use Rattle.mid_code.specs.State.{MidState}
+use Rattle.mid_arena.specs.Represents.{Represents}
+use Rattle.back_relation.specs.Setting.{Setting}
+use Rattle.back_relation.specs.Worlds.{World}
+use Rattle.back_claims.specs.Program.{ProgramBegins, the_meaning, IsFullEnd}
+use Rattle.back_meant.specs.Laws.{with_limits, HaltsAs, UnhandledAs, EndsWell, HasTurns, MeantRuns}
+use Rattle.back_build.specs.Means.{Holds, HasWord, HaltsWith, EndsUnhandled, EndsFull, IsFull, ImageMeans}
+use Rattle.back_build.specs.Laws.{LawOfWholeMeaning}
+
+module _ (closures : LawOfClosures) (program : ProgramRows) (base : Setting) (whole : is_whole program ≡ true) (flat : base.program ≡ flat_program program)
+    (at : ℕ) (image : List ℕ) (arena : ℕ) (input : List ℕ) (w : World) (y : MidState)
+    (begins : (charge turns : ℕ) → Holds arena image charge → ProgramBegins (with_limits base (words charge) turns) input w y)
+    (runs : MeantRuns base image at arena input w y) where
+  abbrev names : List (List ℕ)
+  names = base.names
+
+  abbrev whole_meaning : (k : ℕ) → Limit → Meant
+  whole_meaning k limit = meaning names program input k limit
+
+  abbrev meant_flat : (k : ℕ) → Limit → Meant
+  meant_flat k limit = flat_meaning names base.program input k limit
+
+  abbrev the_run : ℕ → Ended
+  the_run n = run_of image (4 * at) arena input n
+
+  same : (k : ℕ) (limit : Limit) → SameRun (whole_meaning k limit) (meant_flat k limit)
+  same k limit =
+      subst (λ (p : FlatProgram). SameRun (whole_meaning k limit) (flat_meaning names p input k limit)) (sym flat) (closures names program whole input k limit)
+
+  -- a run that halted, or ended unhandled, with any limit
+  halted : (k turns : ℕ) (limit : Limit) (x : Ended) (word : ℕ) → x.ending ≡ Halt word → HaltsAs (with_limits base limit turns) input k y x word
+      → HaltsWith names program (whole_meaning k limit) x
+  halted k turns limit x word e h = record {
+    word = word;
+    ending = e;
+    result = h.result;
+    end = sym (same k limit).end ∙ h.end;
+    has_word = record {
+      places = h.world.places;
+      state = _;
+      arena = h.state;
+      represents = subst (λ (p : FlatProgram). Represents names (tables p) h.world.places _ h.state) flat h.things.represents;
+      of_value = h.of_value;
+      leaves = h.leaves;
+    };
+    printed = h.printed ∙ (same k limit).printed;
+  }
+
+  unhandled : (k turns : ℕ) (limit : Limit) (x : Ended) (class : ℕ) → x.ending ≡ Unhandled class → UnhandledAs (with_limits base limit turns) input k y x class
+      → EndsUnhandled names program (whole_meaning k limit) x
+  unhandled k turns limit x class e h = record {
+    class = class;
+    ending = e;
+    condition = h.condition;
+    place = h.place;
+    end = sym (same k limit).end ∙ h.end;
+    class_is = h.class_is ∙ (same k limit).class h.condition;
+    site_is = elim h.site_is [
+      | inl none ↦ inl none
+      | inr some ↦ inr (some.0, ap (λ (p : FlatProgram). place_of_site p.sites (slice_index x.at.state.registers 11)) (sym flat) ∙ some.1)
+    ];
+    has_word = record {
+      places = h.world.places;
+      state = _;
+      arena = h.state;
+      represents = subst (λ (p : FlatProgram). Represents names (tables p) h.world.places _ h.state) flat h.things.represents;
+      of_value = h.of_condition;
+      leaves = h.leaves;
+    };
+    printed = h.printed ∙ (same k limit).printed;
+  }
+
+  prefix : (n : ℕ) → n < 2 ^ 32 → IsPrefix (the_run n).at.printed (whole_meaning n unlimited).printed
+  prefix n few = subst (λ printed. IsPrefix (the_run n).at.printed printed) (same n unlimited).printed (runs.prefix n few)
+
+  well : (n turns : ℕ) → EndsWell (with_limits base unlimited turns) input n y (the_run n)
+      → HaltsWith names program (whole_meaning n unlimited) (the_run n) ⊎ EndsUnhandled names program (whole_meaning n unlimited) (the_run n) ⊎ EndsFull names program (the_run n)
+  well n turns (inl (word, e, h)) = inl (halted n turns unlimited (the_run n) word e h)
+  well n turns (inr (inl (class, e, h))) = inr (inl (unhandled n turns unlimited (the_run n) class e h))
+  well n turns (inr (inr (asked, left, e))) = inr (inr (record { asked = asked; left = left; ending = e }))
+
+  -- the end of a meaning that has no words left
+  is_full : (k turns : ℕ) (limit : Limit) (e : End) → (meant_flat k limit).end ≡ e → IsFullEnd (with_limits base limit turns) input k y e
+      → IsFull names program (whole_meaning k limit)
+  is_full k turns limit (ended_full asked left) e h = record { asked = asked; left = left; end = sym (same k limit).end ∙ e }
+  is_full k turns limit ended_more e h = absurd h
+  is_full k turns limit (ended_value v) e h = absurd h
+  is_full k turns limit (ended_unhandled c place) e h = absurd h
+
+  -- turns enough
+  abbrev turns_for : (n k charge : ℕ) → ℕ
+  turns_for n k charge = n + (16 * (meant_flat k (words charge)).units + length y.arena.memory + 1)
+
+  full : (n : ℕ) → n < 2 ^ 32 → EndsFull names program (the_run n) → (charge k : ℕ) → Holds arena image charge → n ≤ k
+      → IsFull names program (whole_meaning k (words charge))
+  full n few f charge k holds le =
+      is_full k (turns_for n k charge) (words charge) _ refl
+      (runs.full n f.asked f.left few f.ending charge k (turns_for n k charge) (begins charge (turns_for n k charge) holds) (omega arith) le (omega arith))
+
+  module _ (charge k n : ℕ) (holds : Holds arena image charge) (low : bound (whole_meaning k (words charge)).units < 2 ^ 32)
+      (paid : bound (whole_meaning k (words charge)).units ≤ n) where
+    abbrev units_same : (meant_flat k (words charge)).units ≡ (whole_meaning k (words charge)).units
+    units_same = (same k (words charge)).units
+
+    in_time : ((v : Value) → (the_meaning (with_limits base (words charge) (turns_for n k charge)) input k y).end ≡ ended_value v
+        → (word : ℕ) × ((the_run n).ending ≡ Halt word) × HaltsAs (with_limits base (words charge) (turns_for n k charge)) input k y (the_run n) word)
+        × ((c : Value) (place : Place) → (the_meaning (with_limits base (words charge) (turns_for n k charge)) input k y).end ≡ ended_unhandled c place
+        → (class : ℕ) × ((the_run n).ending ≡ Unhandled class) × UnhandledAs (with_limits base (words charge) (turns_for n k charge)) input k y (the_run n) class)
+    in_time =
+        runs.in_time charge k (turns_for n k charge) n (begins charge (turns_for n k charge) holds) (omega arith)
+        (subst (λ u. bound u < 2 ^ 32) (sym units_same) low) (subst (λ u. bound u ≤ n) (sym units_same) paid)
+
+    of_value : (v : Value) → (whole_meaning k (words charge)).end ≡ ended_value v → HaltsWith names program (whole_meaning k (words charge)) (the_run n)
+    of_value v e =
+        let h = in_time.0 v ((same k (words charge)).end ∙ e) in
+        halted k (turns_for n k charge) (words charge) (the_run n) h.0 h.1 h.2
+
+    of_condition : (c : Value) (place : Place) → (whole_meaning k (words charge)).end ≡ ended_unhandled c place
+        → EndsUnhandled names program (whole_meaning k (words charge)) (the_run n)
+    of_condition c place e =
+        let h = in_time.1 c place ((same k (words charge)).end ∙ e) in
+        unhandled k (turns_for n k charge) (words charge) (the_run n) h.0 h.1 h.2
+
+pub whole_meaning_law : LawOfClosures → LawOfWholeMeaning
+whole_meaning_law closures program base whole flat at image arena input w y begins runs = record {
+  prefix = prefix closures program base whole flat at image arena input w y begins runs;
+  ends = λ n few. elim (runs.ends n few) [
+    | inl budget ↦ inl budget
+    | inr (turns, well_ended) ↦ inr (well closures program base whole flat at image arena input w y begins runs n turns well_ended)
+  ];
+  full = full closures program base whole flat at image arena input w y begins runs;
+  in_time = λ charge k n holds low paid. (
+    of_value closures program base whole flat at image arena input w y begins runs charge k n holds low paid,
+    of_condition closures program base whole flat at image arena input w y begins runs charge k n holds low paid,
+  );
+}
