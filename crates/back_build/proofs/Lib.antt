@@ -1,5 +1,3 @@
 mod WholeMeaning
 mod Counted
-mod Lowered
-mod First
-mod Compiled
+mod Named

@@ -20,7 +20,7 @@ use Rattle.mid_code.specs.State.{MidState}
 use Rattle.mid_arena.specs.Represents.{Represents}
 use Rattle.back_relation.specs.Setting.{Setting}
 use Rattle.back_relation.specs.Worlds.{World}
-use Rattle.back_claims.specs.Program.{ProgramBegins, the_meaning, IsFullEnd}
+use Rattle.back_claims.specs.Program.{ProgramBegins, meant_by, the_meaning, IsFullEnd}
 use Rattle.back_meant.specs.Laws.{with_limits, HaltsAs, UnhandledAs, EndsWell, HasTurns, MeantRuns}
 use Rattle.back_build.specs.Means.{Holds, HasWord, HaltsWith, EndsUnhandled, EndsFull, IsFull, ImageMeans}
 use Rattle.back_build.specs.Laws.{LawOfWholeMeaning}
@@ -55,9 +55,9 @@ module _ (closures : LawOfClosures) (program : ProgramRows) (base : Setting) (wh
     end = sym (same k limit).end ∙ h.end;
     has_word = record {
       places = h.world.places;
-      state = _;
+      state = (meant_by (with_limits base limit turns) input k).state.state;
       arena = h.state;
-      represents = subst (λ (p : FlatProgram). Represents names (tables p) h.world.places _ h.state) flat h.things.represents;
+      represents = subst (λ (p : FlatProgram). Represents names (tables p) h.world.places (meant_by (with_limits base limit turns) input k).state.state h.state) flat h.things.represents;
       of_value = h.of_value;
       leaves = h.leaves;
     };
@@ -79,9 +79,9 @@ module _ (closures : LawOfClosures) (program : ProgramRows) (base : Setting) (wh
     ];
     has_word = record {
       places = h.world.places;
-      state = _;
+      state = (meant_by (with_limits base limit turns) input k).state.state;
       arena = h.state;
-      represents = subst (λ (p : FlatProgram). Represents names (tables p) h.world.places _ h.state) flat h.things.represents;
+      represents = subst (λ (p : FlatProgram). Represents names (tables p) h.world.places (meant_by (with_limits base limit turns) input k).state.state h.state) flat h.things.represents;
       of_value = h.of_condition;
       leaves = h.leaves;
     };

@@ -23,9 +23,7 @@ pub(crate) fn captured_in(form: &FlatCore) -> usize
         Inside::Two(first, second) => captured_in(first).saturating_add(captured_in(second)),
         Inside::Forms(list) => captured_in_forms(list),
         Inside::Clauses(list) => captured_in_clauses(list),
-        Inside::Let(list, body) => {
-            captured_in_bindings(list).saturating_add(captured_in(body))
-        }
+        Inside::Let(list, body) => { captured_in_bindings(list).saturating_add(captured_in(body)) }
         Inside::DynamicLet(list, body) => {
             captured_in_dynamics(list).saturating_add(captured_in(body))
         }

@@ -1,20 +1,12 @@
 // The laws of images of whole programs, as the contracts of functions that do nothing.
 
-ghost use Rattle.back_build.specs.Laws.{LawOfWholeMeaning, LawOfCompiled};
+ghost use Rattle.back_build.specs.Laws.{LawOfWholeMeaning};
 
-use flat_language::laws::{law_closures, law_flat_programs};
+use flat_language::laws::law_closures;
 
 /// An image that does what a flat program means does what the whole program means that was made flat.
 pub fn law_whole_meaning()
     ensures { LawOfWholeMeaning }
 {
     law_closures();
-}
-
-/// The image of a whole program that was made flat and lowered does what the program means, whatever was decided of places, where it was decided well.
-pub fn law_compiled()
-    ensures { LawOfCompiled }
-{
-    law_closures();
-    law_flat_programs();
 }

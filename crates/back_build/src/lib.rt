@@ -9,4 +9,4 @@ pub mod laws;
 mod names_there;
 
 pub use boxes::boxes_are_captured;
-pub use laws::{law_compiled, law_whole_meaning};
+pub use laws::law_whole_meaning;

@@ -10,9 +10,7 @@ ghost use Rattle.back_build.specs.Named.{is_slot_named, is_class_named, LiteralN
 
 use crate::data_below::is_below;
 use base::{Name, NameList, Names};
-use lang_meaning::{
-    ClassRow, ClassRows, LiteralRow, LiteralRows, ProgramRows, SlotRow, SlotRows,
-};
+use lang_meaning::{ClassRow, ClassRows, LiteralRow, LiteralRows, ProgramRows, SlotRow, SlotRows};
 
 // Data are walked as deep as they are.
 const DEPTH: u32 = u32::MAX;
@@ -30,7 +28,7 @@ pub(crate) fn name_of_true(names: &Names) -> Option<Name>
 }
 
 fn is_text(names: &Names, name: Name, text: &[u8]) -> bool
-    ensures { IsTrue result → slice_get names.now name.0 ≡ Some text.now }
+    ensures here { IsTrue result → slice_get names.now name.0 ≡ Some text.now }
     ensures other { slice_get names.now name.0 ≡ Some text.now → IsTrue result }
 {
     match names.text(name) {
@@ -45,9 +43,13 @@ pub(crate) fn are_names_there(names: &Names, true_name: Name, rows: &ProgramRows
     ensures { IsTrue result → NamesThere names.now true_name rows.now }
 {
     let count = names.len();
-    has_no_nil(names)
-        && are_classes_named(&rows.classes, count)
-        && are_literals_named(&rows.literals, count)
+    if !has_no_nil(names) {
+        return false;
+    }
+    if !are_classes_named(&rows.classes, count) {
+        return false;
+    }
+    are_literals_named(&rows.literals, count)
 }
 
 fn has_no_nil(names: &Names) -> bool
@@ -64,7 +66,10 @@ fn has_no_nil(names: &Names) -> bool
 fn are_classes_named(classes: &ClassRows, count: usize) -> bool
     ensures { result ≡ list_all (is_class_named count) classes.now }
 {
-    classes.as_slice().iter().all(|class| is_class_named(class, count))
+    classes
+        .as_slice()
+        .iter()
+        .all(|class| is_class_named(class, count))
 }
 
 fn is_class_named(class: &ClassRow, count: usize) -> bool
@@ -76,7 +81,10 @@ fn is_class_named(class: &ClassRow, count: usize) -> bool
 fn are_slots_named(slots: &SlotRows, count: usize) -> bool
     ensures { result ≡ list_all (is_slot_named count) slots.now }
 {
-    slots.as_slice().iter().all(|slot| is_slot_named(slot, count))
+    slots
+        .as_slice()
+        .iter()
+        .all(|slot| is_slot_named(slot, count))
 }
 
 fn is_slot_named(slot: &SlotRow, count: usize) -> bool
