@@ -2,7 +2,7 @@
 use Rattle.std.proofs.Common.{◌≡◌, ℕ, ◌+◌, ◌*◌, ◌^◌, ◌-◌, true, false, List, [], ◌∷◌, ◌++◌, length, map, refl, ap, ◌∙◌}
 use Rattle.std.specs.Prelude.{◌&&◌, ◌==◌, nat_lt, if◌then◌else◌}
 use Rattle.rv_encode.specs.declared.instruction.Instr.{Instr}
-use Rattle.rv_encode.specs.declared.instruction.Instr.TheVariants.{Lui, Jalr, Bge, Lw, Sw, Addi, Add, Sub, Slli, Ecall}
+use Rattle.rv_encode.specs.declared.instruction.Instr.TheVariants.{Lui, Jalr, Beq, Bge, Lw, Sw, Addi, Add, Sub, Slli, Ecall}
 use Rattle.mid_code.specs.declared.operation.Callee.{Callee}
 use Rattle.mid_code.specs.declared.operation.Callee.TheVariants.{Procedure, Word}
 use Rattle.mid_code.specs.declared.operation.Operation.{Operation}
@@ -103,7 +103,7 @@ module _ (l : Located) (number frame line : ℕ) (s : Spot) where
       three (λ w p q. read_code w 5 p ++ (read_code w 6 q ++ (Sw (read_in 5 p) (read_in 6 q) (low_12 offset) ∷ []))) W V (S from) (own_slot from) (S base) (own_slot base) a.way (a.source from) (a.source base)
   operation_same (operation.Request to words) a = three request_code W V (S words) (own_slot words) T (own_slot to) a.way (a.source words) a.target
   operation_same (operation.Draw to base offset) a =
-      three (λ w p q. read_code w 6 p ++ (Lw 5 (read_in 6 p) (low_12 offset) ∷ Addi 5 5 1 ∷ Sw 5 (read_in 6 p) (low_12 offset) ∷ move_code w (InRegister 5) q)) W V (S base) (own_slot base) T (own_slot to)
+      three (λ w p q. read_code w 6 p ++ (Lw 5 (read_in 6 p) (low_12 offset) ∷ Addi 5 5 1 ∷ Beq 5 0 0 ∷ Sw 5 (read_in 6 p) (low_12 offset) ∷ move_code w (InRegister 5) q)) W V (S base) (own_slot base) T (own_slot to)
       a.way (a.source base) a.target
   operation_same (operation.Put from) a = two (λ w p. load_into w 10 p ++ Addi 17 0 1 ∷ Ecall ∷ []) W V (S from) (own_slot from) a.way (a.source from)
   operation_same (operation.Get to) a = two (λ w q. Addi 17 0 2 ∷ Ecall ∷ move_code w (InRegister 10) q) W V T (own_slot to) a.way a.target

@@ -2,7 +2,7 @@
 -- is near.
 use Rattle.std.specs.Prelude.{ℕ, ◌+◌, ◌-◌, ◌*◌, ◌^◌, Bool, false, ◌&&◌, ◌==◌, nat_lt, List, [], ◌∷◌, ◌++◌, length, map, if◌then◌else◌}
 use Rattle.rv_encode.specs.declared.instruction.Instr.{Instr}
-use Rattle.rv_encode.specs.declared.instruction.Instr.TheVariants.{Lui, Jalr, Bge, Lw, Sw, Addi, Add, Sub, Slli, Ecall}
+use Rattle.rv_encode.specs.declared.instruction.Instr.TheVariants.{Lui, Jalr, Beq, Bge, Lw, Sw, Addi, Add, Sub, Slli, Ecall}
 use Rattle.mid_code.specs.declared.operation.Callee.{Callee}
 use Rattle.mid_code.specs.declared.operation.Callee.TheVariants.{Procedure, Word}
 use Rattle.mid_code.specs.declared.operation.Operation.{Operation}
@@ -52,7 +52,7 @@ module _ (s : Spot) where
   own_operation (operation.Store from base offset) = read_own 5 from ++ (read_own 6 base ++ (Sw 5 6 (low_12 offset) ∷ []))
   own_operation (operation.Request to words) = request_code (way_of s.way) (own_slot words) (own_slot to)
   own_operation (operation.Draw to base offset) =
-      read_own 6 base ++ (Lw 5 6 (low_12 offset) ∷ Addi 5 5 1 ∷ Sw 5 6 (low_12 offset) ∷ give_own (InRegister 5) to)
+      read_own 6 base ++ (Lw 5 6 (low_12 offset) ∷ Addi 5 5 1 ∷ Beq 5 0 0 ∷ Sw 5 6 (low_12 offset) ∷ give_own (InRegister 5) to)
   own_operation (operation.Put from) = load_own 10 from ++ Addi 17 0 1 ∷ Ecall ∷ []
   own_operation (operation.Get to) = Addi 17 0 2 ∷ Ecall ∷ give_own (InRegister 10) to
   own_operation (operation.Call to callee arguments) =

@@ -2,7 +2,7 @@
 
 ghost use Rattle.std.specs.Prelude.{◌≡◌, ◌+◌, ◌^◌, ◌<◌, ◌≤◌, [], ◌∷◌, ◌++◌, true, length, OnOk};
 ghost use Rattle.std.specs.List.{list_all};
-ghost use Rattle.rv_encode.specs.declared.instruction.Instr.TheVariants.{Addi, Lw, Sw, Ecall};
+ghost use Rattle.rv_encode.specs.declared.instruction.Instr.TheVariants.{Beq, Addi, Lw, Sw, Ecall};
 ghost use Rattle.back_places.specs.declared.place.Place.TheVariants.{InRegister};
 ghost use Rattle.mid_code.specs.Checked.{is_register, operation_fits, callee_fits};
 ghost use Rattle.back_places.specs.Operands.{load_into, read_in, read_code, given_in, keep_code, move_code, high_part, low_part};
@@ -66,7 +66,7 @@ pub fn put_store(
     put_access(code, Access::StoreFrom(word), to, low_12(offset))
 }
 
-/// Appends that a serial number is drawn.
+/// Appends that a serial number is drawn: where none is left, the machine stays at the branch.
 pub fn put_draw(
     code: &mut CodeList,
     way: FrameWay,
@@ -77,12 +77,17 @@ pub fn put_draw(
     requires { IsInReach way base × IsInReach way target }
     ensures { OnOk result (code.new ≡ code.old ++
         (read_code (way_of way) 6 base
-        ++ (Lw 5 (read_in 6 base) (low_12 offset) ∷ Addi 5 5 1 ∷ Sw 5 (read_in 6 base) (low_12 offset) ∷ move_code (way_of way) (InRegister 5) target))) }
+        ++ (Lw 5 (read_in 6 base) (low_12 offset) ∷ Addi 5 5 1 ∷ Beq 5 0 0 ∷ Sw 5 (read_in 6 base) (low_12 offset) ∷ move_code (way_of way) (InRegister 5) target))) }
 {
     put_read(code, way, 6, base)?;
     let at = read_in(6, base);
     put_access(code, Access::LoadInto(5), at, low_12(offset))?;
     put_addi(code, 5, 5, 1)?;
+    code.push(Instr::Beq {
+        rs1: Register::of(5),
+        rs2: Register::of(0),
+        offset: Offset13::of(0),
+    })?;
     put_access(code, Access::StoreFrom(5), at, low_12(offset))?;
     put_move(code, way, Place::InRegister(5), target)
 }

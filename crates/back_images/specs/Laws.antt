@@ -50,7 +50,7 @@ pub record EmittedRuns (program : MidProgram) (entry arena : ℕ) (input : List 
   pub runs_as :
       ImageRuns program (own_slots_laid_out program) (Known (is_in_own_slot (program_lines program))) (emitted_start program) entry (emitted program entry)
       arena input z
-  -- where the program with at least as many levels and turns is neither stuck nor out of serial numbers
+  -- where the program with at least as many levels and turns is not stuck
   pub lawful :
       (n k turns_each : ℕ) → n ≤ k → n ≤ turns_each → IsLawfulEnd (runs program k turns_each entry [] z).end
       → DoesAs (runs program k turns_each entry [] z) (loaded (emitted program entry) (emitted_start program) arena input) (2 + n)

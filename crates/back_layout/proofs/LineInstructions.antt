@@ -1,7 +1,7 @@
 -- The code of a line, what stands behind it, and the entry of a procedure are instructions, where places are within reach.
 use Rattle.std.proofs.Common.{inl, inr, ◌≡◌, ℕ, suc, ◌+◌, ◌-◌, ◌*◌, ◌^◌, ◌<◌, Bool, true, false, List, [], ◌∷◌, ◌++◌, length, Some, refl, arith, ltb-true}
 use Rattle.std.specs.Prelude.{◌⊎◌, nat_lt, slice_get, if◌then◌else◌}
-use Rattle.rv_encode.specs.declared.instruction.Instr.TheVariants.{Lui, Jalr, Bge, Lw, Sw, Addi, Add, Sub, Slli, Ecall}
+use Rattle.rv_encode.specs.declared.instruction.Instr.TheVariants.{Lui, Jalr, Beq, Bge, Lw, Sw, Addi, Add, Sub, Slli, Ecall}
 use Rattle.mid_code.specs.declared.operation.Callee.{Callee}
 use Rattle.mid_code.specs.declared.operation.Callee.TheVariants.{Procedure, Word}
 use Rattle.mid_code.specs.declared.operation.Operation.{Operation}
@@ -139,10 +139,10 @@ module _
       let b = read base h.gives.reads.0 in
       let s = read_in_small way frame 6 (l.source number line base) (omega arith) b in
       both_are (read_code way 6 (l.source number line base))
-      (Lw 5 (read_in 6 (l.source number line base)) (low_12 offset) ∷ Addi 5 5 1 ∷ Sw 5 (read_in 6 (l.source number line base)) (low_12 offset)
+      (Lw 5 (read_in 6 (l.source number line base)) (low_12 offset) ∷ Addi 5 5 1 ∷ Beq 5 0 0 ∷ Sw 5 (read_in 6 (l.source number line base)) (low_12 offset)
       ∷ move_code way (InRegister 5) (l.target number line))
       (read_is way frame 6 (l.source number line base) (omega arith) b)
-      ((omega arith, s, low_12_small offset), ((omega arith, omega arith, omega arith), ((omega arith, s, low_12_small offset), move_is way frame (InRegister 5) (l.target number line) (omega arith) given)))
+      ((omega arith, s, low_12_small offset), ((omega arith, omega arith, omega arith), ((omega arith, omega arith, (omega arith, refl)), ((omega arith, s, low_12_small offset), move_is way frame (InRegister 5) (l.target number line) (omega arith) given))))
   operation_is (operation.Put from) h =
       both_are (load_into way 10 (l.source number line from)) (Addi 17 0 1 ∷ Ecall ∷ []) (load_is way frame 10 (l.source number line from) (omega arith) (read from h.reads.0))
       ((omega arith, omega arith, omega arith), (tt, tt))

@@ -1,5 +1,5 @@
 -- Images of lowered programs, where lowering is right.
-use Rattle.std.proofs.Common.{inl, inr, ◌≡◌, ◌⊎◌, ℕ, suc, ◌+◌, ◌-◌, ◌*◌, ◌^◌, ◌<◌, ◌≤◌, List, [], ◌∷◌, ◌++◌, length, refl, sym, ap, subst, ◌∙◌, arith, append_assoc, Some}
+use Rattle.std.proofs.Common.{inl, inr, ◌≡◌, ◌⊎◌, ℕ, ◌+◌, ◌-◌, ◌*◌, ◌^◌, ◌<◌, ◌≤◌, List, [], ◌∷◌, ◌++◌, length, refl, sym, ap, subst, ◌∙◌, arith, append_assoc, Some}
 use Rattle.std.specs.Prelude.{Bool, true, slice_get}
 use Rattle.std.proofs.lemmas.Bool.{cases_lt}
 use Rattle.base.specs.declared.place.Place.{Place}
@@ -31,7 +31,6 @@ use Rattle.back_places.specs.declared.place.Place.{Place as WordPlace}
 use Rattle.back_places.specs.Places.{Located}
 use Rattle.back_places.specs.Good.{IsGood}
 use Rattle.back_places.specs.StepLaw.{Known}
-use Rattle.back_runs.specs.Draws.{draws}
 use Rattle.back_runs.specs.Ends.{IsSaid, EndsAs}
 use Rattle.back_runs.specs.ProgramRuns.{DoesAs}
 use Rattle.back_runs.proofs.Doing.{law_of_known_steps}
@@ -39,7 +38,7 @@ use Rattle.back_runs.proofs.Programs.{end_is}
 use Rattle.back_runs.specs.Images.{HasStart, IsFirst}
 use Rattle.back_runs.specs.Laws.{loaded, ImageRuns}
 use Rattle.back_runs.proofs.Images.{law_of_image_runs}
-use Rattle.back_meant.specs.Laws.{with_limits, code_of_setting, entry_of, SerialsLast, HaltsAs, UnhandledAs, EndsWell, HasTurns, LawOfMeantRuns}
+use Rattle.back_meant.specs.Laws.{with_limits, code_of_setting, entry_of, HaltsAs, UnhandledAs, EndsWell, HasTurns, LawOfMeantRuns}
 use Rattle.back_meant.proofs.Steps.{steps_are_known}
 use Rattle.back_meant.proofs.Verdicts.{halt_as, unhandled_as, verdict}
 
@@ -54,8 +53,7 @@ module _ (lowering : LoweringIsRight) (base : Setting) (laid : List ℕ) (l : Lo
     (at : ℕ) (image : List ℕ) (arena : ℕ) (input : List ℕ) (w : World) (y : MidState) (p : LineProcedure)
     (starts : HasStart (program_lines (code_of_setting base laid)) l at (entry_of base) image) (first : IsFirst l image arena input y)
     (there : slice_get (program_lines (code_of_setting base laid)).procedures (entry_of base) ≡ Some p)
-    (begins : (turns : ℕ) → ProgramBegins (with_limits base unlimited turns) input w y)
-    (serials : SerialsLast (code_of_setting base laid) (entry_of base) y) where
+    (begins : (turns : ℕ) → ProgramBegins (with_limits base unlimited turns) input w y) where
   abbrev program : MidProgram
   program = code_of_setting base laid
 
@@ -95,14 +93,11 @@ module _ (lowering : LoweringIsRight) (base : Setting) (laid : List ℕ) (l : Lo
       let x = end_is program entry [] y n n (turns_for n) (omega arith) (omega arith) steps mid.stuck z e light in
       (does_free n).never_stuck refl (ap (λ r. r.end) (sym (same_run unlimited (turns_for n) n)) ∙ x.0)
 
-  not_exhausted : (n : ℕ) → n < 2 ^ 32 → (steps : ℕ) (z : MidState) → after lines (suc steps) at_first ≡ ended mid.exhausted z → draws lines steps at_first < n → ⊥
-  not_exhausted n few steps z e drawn = let last = serials steps z e in omega (arith, few, drawn, last)
-
   -- 2 and q instructions do what the code does with at least as many levels and turns
-  behind_start : (n q k turns : ℕ) → n ≡ 2 + q → n < 2 ^ 32 → n ≤ k → n ≤ turns → DoesAs (runs program k turns entry [] y) (loaded image at arena input) n
-  behind_start n q k turns e few le lt =
+  behind_start : (n q k turns : ℕ) → n ≡ 2 + q → n ≤ k → n ≤ turns → DoesAs (runs program k turns entry [] y) (loaded image at arena input) n
+  behind_start n q k turns e le lt =
       let stays = law_of_known_steps lines l known y.arena.blocks at_first image_runs.started.moment q
-      (steps_are_known lines at_first q (λ steps z h light. not_stuck n steps z h (omega (arith, light, e))) (λ steps z h drawn. not_exhausted n few steps z h (omega (arith, drawn, e)))) in
+      (steps_are_known lines at_first q (λ steps z h light. not_stuck n steps z h (omega (arith, light, e)))) in
       subst (λ i. DoesAs (runs program k turns entry [] y) (loaded image at arena input) i) (sym e)
       (image_runs.does q k turns (omega (arith, e, le)) (omega (arith, e, lt)) stays)
 
@@ -118,15 +113,15 @@ module _ (lowering : LoweringIsRight) (base : Setting) (laid : List ℕ) (l : Lo
         ends = inl (s.comes.goes_on n few);
       }
 
-  does_with : (n k turns : ℕ) → n < 2 ^ 32 → n ≤ k → n ≤ turns → DoesAs (runs program k turns entry [] y) (loaded image at arena input) n
-  does_with n k turns few le lt = elim (cases_lt n 2) [
+  does_with : (n k turns : ℕ) → n ≤ k → n ≤ turns → DoesAs (runs program k turns entry [] y) (loaded image at arena input) n
+  does_with n k turns le lt = elim (cases_lt n 2) [
     | inl start ↦ in_start n k turns (omega (arith, start))
-    | inr on ↦ behind_start n (n - 2) k turns (omega (arith, on)) few le lt
+    | inr on ↦ behind_start n (n - 2) k turns (omega (arith, on)) le lt
   ]
 
-  does : (n : ℕ) → n < 2 ^ 32 → DoesAs (run (free n) n y) (loaded image at arena input) n
-  does n few =
-      subst (λ r. DoesAs r (loaded image at arena input) n) (same_run unlimited (turns_for n) n) (does_with n n (turns_for n) few (omega arith) (omega arith))
+  does : (n : ℕ) → DoesAs (run (free n) n y) (loaded image at arena input) n
+  does n =
+      subst (λ r. DoesAs r (loaded image at arena input) n) (same_run unlimited (turns_for n) n) (does_with n n (turns_for n) (omega arith) (omega arith))
 
   -- an end of code with which the machine has no room
   no_room_is : (e : mid.End) (z : MidState) (x : Ended) (asked left_then : ℕ) → EndsAs e z x → x.ending ≡ Full asked left_then
@@ -139,13 +134,13 @@ module _ (lowering : LoweringIsRight) (base : Setting) (laid : List ℕ) (l : Lo
   no_room_is (mid.cuts n word) z x asked left_then h f = absurd h
   no_room_is mid.no_level z x asked left_then h f = absurd h
   no_room_is mid.no_turn z x asked left_then h f = absurd h
-  no_room_is mid.exhausted z x asked left_then h f = absurd h
+  no_room_is mid.exhausted z x asked left_then h f = absurd (cc (h.0, f))
   no_room_is mid.stuck z x asked left_then h f = absurd h
 
-  full : (n asked left_then : ℕ) → n < 2 ^ 32 → (run_of image (4 * at) arena input n).ending ≡ Full asked left_then
+  full : (n asked left_then : ℕ) → (run_of image (4 * at) arena input n).ending ≡ Full asked left_then
       → (m k turns : ℕ) → ProgramBegins (with_limits base (words m) turns) input w y → HasTurns (with_limits base (words m) turns) input k y → n ≤ k → n ≤ turns
       → IsFullEnd (with_limits base (words m) turns) input k y (the_meaning (with_limits base (words m) turns) input k y).end
-  full n asked left_then few f m k turns starts_so enough le lt = by (does_with n k turns few le lt).ends
+  full n asked left_then f m k turns starts_so enough le lt = by (does_with n k turns le lt).ends
     where
       d : RunDoes (with_limits base (words m) turns) input k y
       d = lowering (with_limits base (words m) turns) (right (words m) turns) input k w y starts_so enough
@@ -158,20 +153,24 @@ module _ (lowering : LoweringIsRight) (base : Setting) (laid : List ℕ) (l : Lo
           let x = no_room_is (runs program k turns entry [] y).end (runs program k turns entry [] y).state (run_of image (4 * at) arena input n) asked left_then e f in
           d.room m x.0 x.1 refl (ap (λ r. r.end) (sym (same_run (words m) turns k)) ∙ x.2)
 
-  prefix : (n : ℕ) → n < 2 ^ 32 → IsPrefix (run_of image (4 * at) arena input n).at.printed (flat_meaning base.names base.program input n unlimited).printed
-  prefix n few =
-      let d = does n few in
+  prefix : (n : ℕ) → IsPrefix (run_of image (4 * at) arena input n).at.printed (flat_meaning base.names base.program input n unlimited).printed
+  prefix n =
+      let d = does n in
       let m = (does_free n).printed (had_room n) in
       record {
         rest = d.prints.0 ++ m.rest;
         is = sym (append_assoc (run_of image (4 * at) arena input n).at.printed d.prints.0 m.rest) ∙ ap (λ x. x ++ m.rest) d.prints.1 ∙ m.is;
       }
 
-  ends : (n : ℕ) → n < 2 ^ 32
+  ends : (n : ℕ)
       → ((run_of image (4 * at) arena input n).ending ≡ Budget) ⊎ ((turns : ℕ) × EndsWell (with_limits base unlimited turns) input n y (run_of image (4 * at) arena input n))
-  ends n few = elim (does n few).ends [
+  ends n = elim (does n).ends [
     | inl b ↦ inl b
-    | inr e ↦ inr (turns_for n, verdict (free n) input n y (does_free n) (had_room n) (run_of image (4 * at) arena input n) (code_end (free n) input n y) refl e (does_free n).ends)
+    | inr e ↦
+        elim (verdict (free n) input n y (does_free n) (had_room n) (run_of image (4 * at) arena input n) (code_end (free n) input n y) refl e (does_free n).ends) [
+          | inl b ↦ inl b
+          | inr x ↦ inr (turns_for n, x)
+        ]
   ]
 
   -- within so many words
@@ -283,12 +282,12 @@ module _ (lowering : LoweringIsRight) (base : Setting) (laid : List ℕ) (l : Lo
         (x.class, ended_so.0, unhandled_as within input k y d room (run_of image (4 * at) arena input n) x.class x.site x.word v place h x.end ended_so x.means)
 
 pub law_of_meant_runs : LawOfMeantRuns
-law_of_meant_runs lowering base laid l known right checked good at image arena input w y p starts first there begins serials = record {
-  prefix = prefix lowering base laid l known right checked good at image arena input w y p starts first there begins serials;
-  ends = ends lowering base laid l known right checked good at image arena input w y p starts first there begins serials;
-  full = full lowering base laid l known right checked good at image arena input w y p starts first there begins serials;
+law_of_meant_runs lowering base laid l known right checked good at image arena input w y p starts first there begins = record {
+  prefix = prefix lowering base laid l known right checked good at image arena input w y p starts first there begins;
+  ends = ends lowering base laid l known right checked good at image arena input w y p starts first there begins;
+  full = full lowering base laid l known right checked good at image arena input w y p starts first there begins;
   in_time = λ m k turns n starts_so enough low paid. (
-    of_value lowering base laid l known right checked good at image arena input w y p starts first there begins serials m k turns n starts_so enough low paid,
-    of_condition lowering base laid l known right checked good at image arena input w y p starts first there begins serials m k turns n starts_so enough low paid,
+    of_value lowering base laid l known right checked good at image arena input w y p starts first there begins m k turns n starts_so enough low paid,
+    of_condition lowering base laid l known right checked good at image arena input w y p starts first there begins m k turns n starts_so enough low paid,
   );
 }

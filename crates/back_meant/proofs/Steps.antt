@@ -1,14 +1,13 @@
--- Steps of lines lead to stages that are known, where lines are not stuck in steps of so little weight, nor out of serial numbers behind so few.
-use Rattle.std.proofs.Common.{◌≡◌, ℕ, suc, ◌+◌, ◌<◌, ◌≤◌, List, refl, ap, ◌∙◌, arith, Option, Some, None}
+-- Steps of lines lead to stages that are known, where lines are not stuck in steps of so little weight.
+use Rattle.std.proofs.Common.{◌≡◌, ℕ, suc, ◌+◌, ◌≤◌, List, refl, ap, ◌∙◌, arith, Option, Some, None}
 use Rattle.std.specs.Prelude.{slice_get}
-use Rattle.mid_code.specs.State.{MidState, exhausted, stuck}
+use Rattle.mid_code.specs.State.{MidState, stuck}
 use Rattle.mid_lines.specs.declared.line.LineProcedure.{LineProcedure}
 use Rattle.mid_lines.specs.declared.line.LineProgram.{LineProgram}
 use Rattle.mid_lines.specs.Weights as weighs
 use Rattle.mid_lines.specs.Weights.{weights}
 use Rattle.mid_lines.specs.LineMeaning.{Caller, Stage, running, entering, ended, enter_at, next, after}
 use Rattle.mid_lines.proofs.Coming.{after_sum, weights_sum}
-use Rattle.back_runs.specs.Draws.{draws}
 use Rattle.back_runs.specs.MachineRuns.{IsKnown, StepsAreKnown}
 use Rattle.back_runs.proofs.Doing.{step_weighs}
 
@@ -24,8 +23,7 @@ last_weight program n s =
     omega (arith, same, weights_sum program n 1 s)
 
 module _ (program : LineProgram) (s : Stage) (n : ℕ)
-    (not_stuck : (steps : ℕ) (y : MidState) → after program steps s ≡ ended stuck y → weights program steps s ≤ n → ⊥)
-    (not_exhausted : (steps : ℕ) (y : MidState) → after program (suc steps) s ≡ ended exhausted y → draws program steps s < n → ⊥) where
+    (not_stuck : (steps : ℕ) (y : MidState) → after program steps s ≡ ended stuck y → weights program steps s ≤ n → ⊥) where
   -- a procedure that is entered is there
   is_there :
       (steps number : ℕ) (args : List ℕ) (callers : List Caller) (y : MidState) (o : Option LineProcedure) → slice_get program.procedures number ≡ o
@@ -37,13 +35,12 @@ module _ (program : LineProgram) (s : Stage) (n : ℕ)
       absurd (not_stuck (suc steps) y to (omega (arith, light, none, last_weight program steps s)))
 
   is_known :
-      (steps : ℕ) (t : Stage) → after program (suc steps) s ≡ t → weights program (suc steps) s ≤ n → draws program steps s < n → IsKnown program t
-  is_known steps (running a line rs callers y) h light few = tt
-  is_known steps (entering number args callers y) h light few = is_there (suc steps) number args callers y (slice_get program.procedures number) refl h light
-  is_known steps (ended stuck y) h light few = not_stuck (suc steps) y h light
-  is_known steps (ended exhausted y) h light few = not_exhausted steps y h few
-  is_known steps (ended e y) h light few = tt
+      (steps : ℕ) (t : Stage) → after program (suc steps) s ≡ t → weights program (suc steps) s ≤ n → IsKnown program t
+  is_known steps (running a line rs callers y) h light = tt
+  is_known steps (entering number args callers y) h light = is_there (suc steps) number args callers y (slice_get program.procedures number) refl h light
+  is_known steps (ended stuck y) h light = not_stuck (suc steps) y h light
+  is_known steps (ended e y) h light = tt
 
   pub steps_are_known : StepsAreKnown program s n
-  steps_are_known steps light few here =
-      is_known steps (after program (suc steps) s) refl (omega (arith, light, step_weighs program (after program steps s), last_weight program steps s)) few
+  steps_are_known steps light here =
+      is_known steps (after program (suc steps) s) refl (omega (arith, light, step_weighs program (after program steps s), last_weight program steps s))

@@ -5,6 +5,7 @@ use Rattle.lang_meaning.specs.Meaning.{End, ended_value, ended_unhandled, ended_
 use Rattle.lang_meaning.specs.Prefixes.{IsPrefix}
 use Rattle.lang_meaning.specs.State.{Limit, words, unlimited}
 use Rattle.lang_meaning.specs.Values.{Value}
+use Rattle.rv_machine.specs.declared.ending.Ending.TheVariants.{Budget}
 use Rattle.rv_machine.specs.Run.{Ended}
 use Rattle.mid_code.specs.State as mid
 use Rattle.mid_code.specs.State.{MidState}
@@ -104,19 +105,21 @@ module _ (setting : Setting) (input : List ℕ) (k : ℕ) (y : MidState) (d : Ru
   runs_out_unhandled (words m) class site word h = h
   runs_out_unhandled unlimited class site word h = h
 
+  -- the run has ended well, or waits where there is no serial number
   pub verdict :
       (e : mid.End) → code_end setting input k y ≡ e → EndsAs e q x
-      → MeansEnd setting input k y e (the_meaning setting input k y).end ⊎ RunsOutFor setting input k y setting.limit e → EndsWell setting input k y x
-  verdict (mid.halts word) c h (inl m) = halted word (the_meaning setting input k y).end refl c h m
+      → MeansEnd setting input k y e (the_meaning setting input k y).end ⊎ RunsOutFor setting input k y setting.limit e
+      → (x.ending ≡ Budget) ⊎ EndsWell setting input k y x
+  verdict (mid.halts word) c h (inl m) = inr (halted word (the_meaning setting input k y).end refl c h m)
   verdict (mid.halts word) c h (inr out) = absurd (runs_out_halts setting.limit word out)
   verdict (mid.returns word) c h (inl m) = absurd (not_returned word (the_meaning setting input k y).end refl m)
   verdict (mid.returns word) c h (inr out) = absurd (runs_out_returns setting.limit word out)
-  verdict (mid.unhandled class site word) c h (inl m) = not_handled class site word (the_meaning setting input k y).end refl c h m
+  verdict (mid.unhandled class site word) c h (inl m) = inr (not_handled class site word (the_meaning setting input k y).end refl c h m)
   verdict (mid.unhandled class site word) c h (inr out) = absurd (runs_out_unhandled setting.limit class site word out)
-  verdict (mid.no_room asked left_then) c h m = inr (inr (asked, left_then, h.0))
+  verdict (mid.no_room asked left_then) c h m = inr (inr (inr (asked, left_then, h.0)))
   verdict mid.falls c h m = absurd h
   verdict (mid.cuts n word) c h m = absurd h
   verdict mid.no_level c h m = absurd h
   verdict mid.no_turn c h m = absurd h
-  verdict mid.exhausted c h m = absurd h
+  verdict mid.exhausted c h m = inl h.0
   verdict mid.stuck c h m = absurd h

@@ -1,5 +1,5 @@
 -- What images of lowered programs do, in words of the meaning of flat programs.
-use Rattle.std.specs.Prelude.{◌≡◌, ◌⊎◌, ◌<◌, ◌≤◌, ℕ, suc, ◌+◌, ◌-◌, ◌*◌, ◌^◌, Bool, true, List, [], length, slice_get, slice_index, Some}
+use Rattle.std.specs.Prelude.{◌≡◌, ◌⊎◌, ◌<◌, ◌≤◌, ℕ, ◌+◌, ◌*◌, ◌^◌, Bool, true, List, length, slice_get, slice_index, Some}
 use Rattle.base.specs.declared.place.Place.{Place}
 use Rattle.lang_meaning.specs.Counts.{bound}
 use Rattle.lang_meaning.specs.Meaning.{ended_value, ended_unhandled, class_in}
@@ -11,12 +11,10 @@ use Rattle.rv_machine.specs.declared.ending.Ending.TheVariants.{Budget, Halt, Un
 use Rattle.rv_machine.specs.Run.{Ended, run_of}
 use Rattle.mid_code.specs.declared.program.MidProgram.{MidProgram}
 use Rattle.mid_code.specs.Checked.{is_checked_program}
-use Rattle.mid_code.specs.State.{MidState, exhausted}
+use Rattle.mid_code.specs.State.{MidState}
 use Rattle.mid_arena.specs.Places.{word_of}
 use Rattle.mid_lines.specs.declared.line.LineProcedure.{LineProcedure}
 use Rattle.mid_lines.specs.Flattened.{program_lines}
-use Rattle.mid_lines.specs.LineLaw.{line_run}
-use Rattle.mid_lines.specs.LineMeaning.{begin, ended}
 use Rattle.back_lowering.specs.Program.{start_number}
 use Rattle.back_relation.specs.Setting.{Setting}
 use Rattle.back_relation.specs.Worlds.{World}
@@ -27,7 +25,6 @@ use Rattle.back_places.specs.declared.place.Place.{Place as WordPlace}
 use Rattle.back_places.specs.Places.{Located}
 use Rattle.back_places.specs.Good.{IsGood}
 use Rattle.back_places.specs.StepLaw.{Known}
-use Rattle.back_runs.specs.Draws.{draws}
 use Rattle.back_runs.specs.Ends.{Leaves}
 use Rattle.back_runs.specs.Images.{HasStart, IsFirst}
 
@@ -41,12 +38,6 @@ code_of_setting base laid = record { procedures = base.procedures; laid = laid }
 
 abbrev pub entry_of : Setting → ℕ
 entry_of base = start_number base.names base.at base.program
-
--- where a run of lines has exhausted the serial numbers, it has drawn all of them: 2^32 - 1
-abbrev pub SerialsLast : MidProgram → (entry : ℕ) → MidState → Type 0
-SerialsLast program entry z =
-    (steps : ℕ) (y : MidState) → line_run program entry [] z (suc steps) ≡ ended exhausted y
-    → 2 ^ 32 - 1 ≤ draws (program_lines program) steps (begin entry [] z)
 
 -- a run of the machine has halted with the word of the value of the program, with so many levels, and has printed the same
 pub record HaltsAs (setting : Setting) (input : List ℕ) (k : ℕ) (y : MidState) (x : Ended) (word : ℕ) : Type 0 where
@@ -88,15 +79,14 @@ HasTurns setting input k y = 16 * (the_meaning setting input k y).units + length
 pub record MeantRuns (base : Setting) (image : List ℕ) (at arena : ℕ) (input : List ℕ) (w : World) (y : MidState) : Type 0 where
   -- with no limit of words, and as many levels
   pub prefix :
-      (n : ℕ) → n < 2 ^ 32
-      → IsPrefix (run_of image (4 * at) arena input n).at.printed (flat_meaning base.names base.program input n unlimited).printed
+      (n : ℕ) → IsPrefix (run_of image (4 * at) arena input n).at.printed (flat_meaning base.names base.program input n unlimited).printed
   pub ends :
-      (n : ℕ) → n < 2 ^ 32
+      (n : ℕ)
       → ((run_of image (4 * at) arena input n).ending ≡ Budget)
       ⊎ ((turns : ℕ) × EndsWell (with_limits base unlimited turns) input n y (run_of image (4 * at) arena input n))
   -- Where there was no room, the program has no end of its own within the words with which it begins so, with as many levels or more.
   pub full :
-      (n asked left_then : ℕ) → n < 2 ^ 32 → (run_of image (4 * at) arena input n).ending ≡ Full asked left_then
+      (n asked left_then : ℕ) → (run_of image (4 * at) arena input n).ending ≡ Full asked left_then
       → (m k turns : ℕ) → ProgramBegins (with_limits base (words m) turns) input w y → HasTurns (with_limits base (words m) turns) input k y → n ≤ k → n ≤ turns
       → IsFullEnd (with_limits base (words m) turns) input k y (the_meaning (with_limits base (words m) turns) input k y).end
   -- with so many words, and any number of levels: within the charged count
@@ -122,5 +112,4 @@ LawOfMeantRuns =
     → HasStart (program_lines (code_of_setting base laid)) l at (entry_of base) image → IsFirst l image arena input y
     → slice_get (program_lines (code_of_setting base laid)).procedures (entry_of base) ≡ Some p
     → ((turns : ℕ) → ProgramBegins (with_limits base unlimited turns) input w y)
-    → SerialsLast (code_of_setting base laid) (entry_of base) y
     → MeantRuns base image at arena input w y

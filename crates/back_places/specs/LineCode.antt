@@ -1,7 +1,7 @@
 -- The instructions of each kind of line, and of the entry of a procedure.
 use Rattle.std.specs.Prelude.{ℕ, ◌+◌, ◌-◌, ◌*◌, ◌^◌, Bool, true, false, ◌&&◌, ◌==◌, nat_lt, List, [], ◌∷◌, ◌++◌, length, map, if◌then◌else◌}
 use Rattle.rv_encode.specs.declared.instruction.Instr.{Instr}
-use Rattle.rv_encode.specs.declared.instruction.Instr.TheVariants.{Lui, Jalr, Bge, Bgeu, Lw, Sw, Addi, Add, Sub, Slli, Srli, Ecall}
+use Rattle.rv_encode.specs.declared.instruction.Instr.TheVariants.{Lui, Jalr, Beq, Bge, Bgeu, Lw, Sw, Addi, Add, Sub, Slli, Srli, Ecall}
 use Rattle.mid_code.specs.declared.operation.Callee.{Callee}
 use Rattle.mid_code.specs.declared.operation.Callee.TheVariants.{Procedure, Word}
 use Rattle.mid_code.specs.declared.operation.Operation.{Operation}
@@ -66,6 +66,7 @@ module _ (l : Located) where
   abbrev pub taken_code : (number line : ℕ) → List Instr
   taken_code number line = move_code (way_at l number line) (InRegister 12) (l.target number line)
 
+  -- An operation. A draw where the last serial number was 2^32 - 1, and one more is 0, is a branch to itself: the machine waits for ever.
   abbrev pub operation_code : (number line : ℕ) → Operation → List Instr
   operation_code number line (operation.Move to from) = move_code (way_at l number line) (l.source number line from) (l.target number line)
   operation_code number line (operation.Constant to word) = move_code (way_at l number line) (AsConstant word) (l.target number line)
@@ -81,8 +82,8 @@ module _ (l : Located) where
   operation_code number line (operation.Request to words) = request_code (way_at l number line) (l.source number line words) (l.target number line)
   operation_code number line (operation.Draw to base offset) =
       read_code (way_at l number line) 6 (l.source number line base)
-      ++ (Lw 5 (read_in 6 (l.source number line base)) (low_12 offset) ∷ Addi 5 5 1 ∷ Sw 5 (read_in 6 (l.source number line base)) (low_12 offset)
-      ∷ move_code (way_at l number line) (InRegister 5) (l.target number line))
+      ++ (Lw 5 (read_in 6 (l.source number line base)) (low_12 offset) ∷ Addi 5 5 1 ∷ Beq 5 0 0
+      ∷ Sw 5 (read_in 6 (l.source number line base)) (low_12 offset) ∷ move_code (way_at l number line) (InRegister 5) (l.target number line))
   operation_code number line (operation.Put from) = load_into (way_at l number line) 10 (l.source number line from) ++ Addi 17 0 1 ∷ Ecall ∷ []
   operation_code number line (operation.Get to) = Addi 17 0 2 ∷ Ecall ∷ move_code (way_at l number line) (InRegister 10) (l.target number line)
   operation_code number line (operation.Call to callee arguments) = call_code number line callee arguments

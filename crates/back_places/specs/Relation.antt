@@ -3,7 +3,8 @@ use Rattle.std.specs.Prelude.{◌≡◌, ◌≢◌, ◌≤◌, ◌<◌, ◌⊎�
 use Rattle.rv_encode.specs.declared.instruction.Instr.{Instr}
 use Rattle.rv_encode.specs.Encodes.{IsInstr, word_of}
 use Rattle.rv_machine.specs.Memory.{bytes_of}
-use Rattle.rv_machine.specs.Run.{Moment}
+use Rattle.rv_machine.specs.declared.ending.Ending.TheVariants.{Budget}
+use Rattle.rv_machine.specs.Run.{Moment, run_from}
 use Rattle.rv_machine.specs.Step.{environment_call, step_of}
 use Rattle.mid_code.specs.declared.operation.Callee.{Callee}
 use Rattle.mid_code.specs.declared.operation.Operation.TheVariants.{Call}
@@ -98,6 +99,11 @@ argument_in l registers words i =
 abbrev pub ArePassed : (l : Located) (registers words : List ℕ) (i : ℕ) → List ℕ → Type 0
 ArePassed l registers words i [] = Unit {0}
 ArePassed l registers words i (w ∷ more) = (argument_in l registers words i ≡ w) × ArePassed l registers words (i + 1) more
+
+-- The machine waits for ever: with however many instructions more it has not ended, and has printed no more than a state has.
+pub record WaitsForEver (z : MidState) (m : Moment) : Type 0 where
+  pub goes_on : (n : ℕ) → (run_from n m).ending ≡ Budget
+  pub printed : (n : ℕ) → (run_from n m).at.printed ≡ z.printed
 
 -- the code of the program and its tables stand in the words
 pub record HasProgram (program : LineProgram) (l : Located) (words : List ℕ) : Type 0 where
@@ -235,7 +241,8 @@ module _ (program : LineProgram) (l : Located) (Fact : (number line register : �
     pub printed : m.printed ≡ z.printed
     pub input : m.input ≡ z.input
 
-  -- Where lines are stuck, or serial numbers exhausted, nothing is said; to the other ends without an environment call lines do not come.
+  -- Where serial numbers are exhausted, the machine waits. Where lines are stuck, nothing is said; to the other ends without an environment
+  -- call lines do not come.
   abbrev pub EndsAt : End → MidState → Moment → Type 0
   EndsAt (halts w) z m = Calls 0 z m × (slice_index m.state.registers 10 ≡ w)
   EndsAt (returns w) z m = Calls 0 z m × (slice_index m.state.registers 10 ≡ w)
@@ -248,7 +255,7 @@ module _ (program : LineProgram) (l : Located) (Fact : (number line register : �
   EndsAt (cuts n w) z m = ⊥
   EndsAt no_level z m = ⊥
   EndsAt no_turn z m = ⊥
-  EndsAt exhausted z m = Unit {0}
+  EndsAt exhausted z m = WaitsForEver z m
   EndsAt stuck z m = Unit {0}
 
   -- a stage and a moment

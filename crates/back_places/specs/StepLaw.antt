@@ -4,7 +4,7 @@ use Rattle.rv_machine.specs.declared.ending.Ending.TheVariants.{Budget}
 use Rattle.rv_machine.specs.Run.{Moment, run_from}
 use Rattle.mid_code.specs.declared.operation.Operation.TheVariants.{Call}
 use Rattle.mid_code.specs.Arena.{Block}
-use Rattle.mid_code.specs.State.{Registers, MidState, stuck, exhausted}
+use Rattle.mid_code.specs.State.{Registers, MidState, stuck}
 use Rattle.mid_lines.specs.declared.line.Line.{Line}
 use Rattle.mid_lines.specs.declared.line.Line.TheVariants.{Do, Jump}
 use Rattle.mid_lines.specs.declared.line.LineProgram.{LineProgram}
@@ -34,10 +34,9 @@ weight program (running a line rs callers z) = line_weight line (line_of program
 weight program (entering number arguments callers z) = 0
 weight program (ended e z) = 0
 
--- a stage of which something is said: it is not stuck, and serial numbers are not exhausted
+-- a stage of which something is said: it is not stuck
 abbrev pub IsLawful : Stage → Type 0
 IsLawful (ended stuck z) = ⊥
-IsLawful (ended exhausted z) = ⊥
 IsLawful s = Unit {0}
 
 -- The machine goes on to what comes one step later, in no more instructions than that costs, and in no fewer than the stage weighs.

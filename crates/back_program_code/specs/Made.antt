@@ -54,8 +54,8 @@ LawOfFirstOfImage =
 
 -- What instructions of the image do, beside the run of the program with so many levels and turns.
 pub record RunsOfImage (program : MidProgram) (entry arena : ℕ) (image : Image) (input : List ℕ) (z : MidState) : Type 0 where
-  -- where that run is neither stuck nor out of serial numbers: 2 and n instructions have printed a beginning of what it prints, and go on, or have
-  -- ended as it has; so they have not trapped
+  -- where that run is not stuck: 2 and n instructions have printed a beginning of what it prints, and go on, or have ended as it has; so they have
+  -- not trapped
   pub does :
       (n k turns_each : ℕ) → n ≤ k → n ≤ turns_each → IsLawfulEnd (runs program k turns_each entry [] z).end
       → DoesAs (runs program k turns_each entry [] z) (loaded_with image arena input) (2 + n)

@@ -47,7 +47,6 @@ pub known_lawful : (program : LineProgram) (s : Stage) → IsKnown program s →
 known_lawful program (running a line rs callers z) k = tt
 known_lawful program (entering number arguments callers z) k = tt
 known_lawful program (ended stuck z) k = k
-known_lawful program (ended exhausted z) k = k
 known_lawful program (ended e z) k = tt
 
 module _ (program : LineProgram) (l : Located) (Fact : (number line register : ℕ) → Place → Type 0) (first : List Block) where
@@ -59,6 +58,7 @@ module _ (program : LineProgram) (l : Located) (Fact : (number line register : �
   printed_entering (Some q) p number arguments callers z m e r = r.machine.printed
 
   pub printed_is : (s : Stage) (m : Moment) → Relates program l Fact first s m → IsKnown program s → m.printed ≡ (state_of s).printed
+  unfolding run_from
   printed_is (running a line rs callers z) m r k = r.1.machine.printed
   printed_is (entering number arguments callers z) m r k = printed_entering (slice_get program.procedures number) k.0 number arguments callers z m k.1 r.1
   printed_is (ended (returns w) z) m r k = r.0.printed
@@ -69,7 +69,7 @@ module _ (program : LineProgram) (l : Located) (Fact : (number line register : �
   printed_is (ended (cuts n w) z) m r k = absurd r
   printed_is (ended no_level z) m r k = absurd r
   printed_is (ended no_turn z) m r k = absurd r
-  printed_is (ended exhausted z) m r k = absurd k
+  printed_is (ended exhausted z) m r k = r.printed 0
   printed_is (ended stuck z) m r k = absurd k
 
   -- an end to which lines come, where it is known
@@ -82,7 +82,7 @@ module _ (program : LineProgram) (l : Located) (Fact : (number line register : �
   said (cuts n w) z m r k = r
   said no_level z m r k = r
   said no_turn z m r k = r
-  said exhausted z m r k = k
+  said exhausted z m r k = tt
   said stuck z m r k = k
 
   -- no instruction
@@ -210,4 +210,4 @@ law_of_machine_runs program l known first checked good s m r k n steps stay c = 
 pub law_of_known_steps : LawOfKnownSteps
 law_of_known_steps program l known first s m n known_steps steps f few here =
     let h = known_lawful program (after program steps s) here in
-    known_steps steps (omega (arith, few, f.heavy h)) (omega (arith, few, f.drawn h)) here
+    known_steps steps (omega (arith, few, f.heavy h)) here

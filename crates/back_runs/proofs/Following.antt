@@ -18,9 +18,7 @@ use Rattle.back_places.specs.Relation.{Relates}
 use Rattle.back_places.specs.StepLaw.{Follows, IsLawful, Known, weight, line_weight}
 use Rattle.back_emission.proofs.Coming.{stays, and_on}
 use Rattle.back_steps.proofs.AllLines.{law_of_steps}
-use Rattle.back_runs.specs.Draws.{draws}
 use Rattle.back_runs.specs.Runs.{FollowsRun, LawOfRuns}
-use Rattle.back_runs.proofs.Drawing.{drawn}
 
 -- the weight of a line, and of a stage, is the same in both crates that speak of it
 same_line : (line : ℕ) (o : Option Line) → line_weight line o ≡ weighs.line_weight line o
@@ -41,8 +39,8 @@ lawful_before program n (ended e z) h = subst (λ t. IsLawful t) (after_end prog
 
 module _ (program : LineProgram) (l : Located) (Fact : (number line register : ℕ) → Place → Type 0) (first : List Block) where
   pub no_steps : (s : Stage) (m : Moment) → Relates program l Fact first s m → FollowsRun program l Fact first s m 0
-  unfolding after weights draws
-  no_steps s m r = record { count = 0; moment = m; comes = stays m; relates = r; cheap = omega arith; heavy = λ h. omega arith; drawn = λ h. omega arith }
+  unfolding after weights
+  no_steps s m r = record { count = 0; moment = m; comes = stays m; relates = r; cheap = omega arith; heavy = λ h. omega arith }
 
   pub no_count : (s : Stage) (m : Moment) (r : Relates program l Fact first s m) → (no_steps s m r).count ≡ 0
   unfolding no_steps
@@ -52,7 +50,7 @@ module _ (program : LineProgram) (l : Located) (Fact : (number line register : �
   pub then_run :
       (s : Stage) (m : Moment) (steps : ℕ) → Relates program l Fact first s m → (f : Follows program l Fact first s m) → FollowsRun program l Fact first (next program s) f.moment steps
       → FollowsRun program l Fact first s m (suc steps)
-  unfolding after weights draws
+  unfolding after weights
   then_run s m steps r f g = record {
     count = f.count + g.count;
     moment = g.moment;
@@ -60,7 +58,6 @@ module _ (program : LineProgram) (l : Located) (Fact : (number line register : �
     relates = g.relates;
     cheap = omega (arith, f.cheap, g.cheap);
     heavy = λ h. omega (arith, g.heavy h, f.heavy (lawful_before program steps (next program s) h), same_weight program s);
-    drawn = λ h. omega (arith, g.drawn h, drawn program l Fact first s m r f (lawful_before program steps (next program s) h));
   }
 
   pub then_count :

@@ -1,5 +1,4 @@
 pub mod Doing
-pub mod Drawing
 pub mod Ending
 pub mod FirstEntry
 pub mod Following

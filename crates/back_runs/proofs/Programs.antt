@@ -44,7 +44,7 @@ last_weight program n s =
     let same = ap (λ k. weights program k s) e in
     omega (arith, same, weights_sum program n 1 s)
 
--- a run of lines that ends stuck, or without serial numbers, after steps of so little weight: the run of the program does so too
+-- a run of lines that ends stuck after steps of so little weight: the run of the program does so too
 
 module _ (program : MidProgram) (entry : ℕ) (arguments : List ℕ) (z : MidState) (n k turns_each : ℕ) (le : n ≤ k) (lt : n ≤ turns_each) where
   abbrev s : Stage
@@ -77,9 +77,6 @@ module _ (program : MidProgram) (entry : ℕ) (arguments : List ℕ) (z : MidSta
     not_stuck : (steps : ℕ) (y : MidState) → after flat steps s ≡ ended stuck y → weights flat steps s ≤ n → ⊥
     not_stuck steps y h light = subst (λ e. IsLawfulEnd e) (end_is steps stuck y h light).0 lawful
 
-    not_exhausted : (steps : ℕ) (y : MidState) → after flat steps s ≡ ended exhausted y → weights flat steps s ≤ n → ⊥
-    not_exhausted steps y h light = subst (λ e. IsLawfulEnd e) (end_is steps exhausted y h light).0 lawful
-
     -- a procedure that is entered is there
     is_there :
         (steps number : ℕ) (args : List ℕ) (callers : List Caller) (y : MidState) (o : Option LineProcedure) → slice_get flat.procedures number ≡ o
@@ -94,7 +91,6 @@ module _ (program : MidProgram) (entry : ℕ) (arguments : List ℕ) (z : MidSta
     is_known steps (running a line rs callers y) h light = tt
     is_known steps (entering number args callers y) h light = is_there steps number args callers y (slice_get flat.procedures number) refl h light
     is_known steps (ended stuck y) h light = not_stuck steps y h light
-    is_known steps (ended exhausted y) h light = not_exhausted steps y h light
     is_known steps (ended e y) h light = tt
 
     pub stays : (l : Located) (Fact : (number line register : ℕ) → Place → Type 0) (first : List Block) (m : Moment) → StaysKnown flat l Fact first s m n
@@ -116,7 +112,7 @@ said_reached falls h = absurd h
 said_reached (cuts n w) h = absurd h
 said_reached no_level h = absurd h
 said_reached no_turn h = absurd h
-said_reached exhausted h = absurd h
+said_reached exhausted h = tt
 said_reached stuck h = absurd h
 
 module _ (program : MidProgram) (l : Located) (known : (number line register : ℕ) → Place → Bool) (checked : is_checked_program program ≡ true)

@@ -1,4 +1,3 @@
-pub mod Draws
 pub mod Ends
 pub mod Images
 pub mod Laws

@@ -3,7 +3,7 @@ use Rattle.std.specs.Prelude.{◌≡◌, ◌⊎◌, ◌≤◌, ◌<◌, ℕ, suc
 use Rattle.rv_machine.specs.declared.ending.Ending.TheVariants.{Budget}
 use Rattle.rv_machine.specs.Run.{Moment, run_from}
 use Rattle.mid_code.specs.Arena.{Block}
-use Rattle.mid_code.specs.State.{MidState, End, exhausted, stuck}
+use Rattle.mid_code.specs.State.{MidState, End, stuck}
 use Rattle.mid_lines.specs.declared.line.LineProcedure.{LineProcedure}
 use Rattle.mid_lines.specs.declared.line.LineProgram.{LineProgram}
 use Rattle.mid_lines.specs.LinesChecked.{is_checked_line_program}
@@ -14,16 +14,14 @@ use Rattle.back_places.specs.Places.{Located}
 use Rattle.back_places.specs.Good.{IsGood}
 use Rattle.back_places.specs.Relation.{Relates}
 use Rattle.back_places.specs.StepLaw.{Known}
-use Rattle.back_runs.specs.Draws.{draws}
 use Rattle.back_runs.specs.Runs.{FollowsRun}
 use Rattle.back_runs.specs.Ends.{EndsAs}
 
--- A stage at which the machine's moment is known: it is not stuck, serial numbers are not exhausted, and a procedure that is entered is there.
+-- A stage at which the machine's moment is known: it is not stuck, and a procedure that is entered is there.
 abbrev pub IsKnown : LineProgram → Stage → Type 0
 IsKnown program (running a line rs callers z) = Unit {0}
 IsKnown program (entering number arguments callers z) = (p : LineProcedure) × (slice_get program.procedures number ≡ Some p)
 IsKnown program (ended stuck z) = ⊥
-IsKnown program (ended exhausted z) = ⊥
 IsKnown program (ended e z) = Unit {0}
 
 -- the run of lines has ended
@@ -33,8 +31,8 @@ HasCome (entering number arguments callers z) = ⊥
 HasCome (ended e z) = Unit {0}
 
 module _ (program : LineProgram) (l : Located) (Fact : (number line register : ℕ) → Place → Type 0) (first : List Block) where
-  -- No step that the machine begins within so many instructions leads to where lines are stuck, or serial numbers exhausted, or to the entry of
-  -- a procedure that is not there.
+  -- No step that the machine begins within so many instructions leads to where lines are stuck, or to the entry of a procedure that is not
+  -- there.
   abbrev pub StaysKnown : Stage → Moment → (n : ℕ) → Type 0
   StaysKnown s m n =
       (steps : ℕ) (f : FollowsRun program l Fact first s m steps) → f.count < n → IsKnown program (after program steps s)
@@ -47,7 +45,7 @@ module _ (program : LineProgram) (l : Located) (Fact : (number line register : �
     pub goes_on : (run_from n m).ending ≡ Budget
     pub prints : (rest : List ℕ) × ((run_from n m).at.printed ++ rest ≡ (state_of (after program steps s)).printed)
 
-  -- the machine has ended as lines end after steps of no more weight
+  -- the machine has ended, or waits, as lines end after steps of no more weight
   pub record HasEnded (s : Stage) (m : Moment) (n : ℕ) : Type 0 where
     pub steps : ℕ
     pub end : End
@@ -59,12 +57,11 @@ module _ (program : LineProgram) (l : Located) (Fact : (number line register : �
   abbrev pub HasDone : Stage → Moment → (n : ℕ) → Type 0
   HasDone s m n = IsAmid s m n ⊎ HasEnded s m n
 
--- By lines alone: no step behind fewer than so many calls and jumps backwards, and fewer than so many serial numbers drawn, leads there. Then no
--- step leads there that the machine begins within so many instructions, as each of these takes one.
+-- By lines alone: no step behind fewer than so many calls and jumps backwards leads there. Then no step leads there that the machine begins
+-- within so many instructions, as each of these takes one.
 abbrev pub StepsAreKnown : LineProgram → Stage → (n : ℕ) → Type 0
 StepsAreKnown program s n =
-    (steps : ℕ) → weights program steps s < n → draws program steps s < n → IsKnown program (after program steps s)
-    → IsKnown program (after program (suc steps) s)
+    (steps : ℕ) → weights program steps s < n → IsKnown program (after program steps s) → IsKnown program (after program (suc steps) s)
 
 abbrev pub LawOfKnownSteps : Type 0
 LawOfKnownSteps =

@@ -5,7 +5,7 @@ use Rattle.rv_machine.specs.Run.{Moment, run_from}
 use Rattle.mid_code.specs.declared.program.MidProgram.{MidProgram}
 use Rattle.mid_code.specs.Arena.{Block}
 use Rattle.mid_code.specs.Checked.{is_checked_program}
-use Rattle.mid_code.specs.State.{MidState, End, exhausted, stuck, MidOutcome}
+use Rattle.mid_code.specs.State.{MidState, End, stuck, MidOutcome}
 use Rattle.mid_code.specs.Meaning.{runs}
 use Rattle.mid_lines.specs.declared.line.LineProcedure.{LineProcedure}
 use Rattle.mid_lines.specs.declared.line.LineProgram.{LineProgram}
@@ -33,10 +33,9 @@ LawOfWeighing =
     (program : MidProgram) (n entry : ℕ) (arguments : List ℕ) (z : MidState)
     → (steps : ℕ) × ((n < run_weight program entry arguments z steps) ⊎ HasCome (line_run program entry arguments z steps))
 
--- the end of a run that is not stuck, and has not exhausted the serial numbers
+-- the end of a run that is not stuck
 abbrev pub IsLawfulEnd : End → Type 0
 IsLawfulEnd stuck = ⊥
-IsLawfulEnd exhausted = ⊥
 IsLawfulEnd e = Unit {0}
 
 -- Where the run of a program, with at least so many levels and turns, is lawful, no step that the machine begins within so many instructions
@@ -58,7 +57,7 @@ pub record DoesAs (r : MidOutcome) (m : Moment) (n : ℕ) : Type 0 where
 pub record RunsAs
     (program : MidProgram) (l : Located) (Fact : (number line register : ℕ) → Place → Type 0) (entry : ℕ) (arguments : List ℕ) (z : MidState) (m : Moment)
     (n k turns_each : ℕ) : Type 0 where
-  -- as long as lines are not stuck, and serial numbers not exhausted, in steps that these instructions begin
+  -- as long as lines are not stuck in steps that these instructions begin
   pub does :
       n ≤ k → n ≤ turns_each → StaysKnown (program_lines program) l Fact z.arena.blocks (begin entry arguments z) m n
       → DoesAs (runs program k turns_each entry arguments z) m n

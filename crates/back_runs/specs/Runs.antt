@@ -11,10 +11,8 @@ use Rattle.back_places.specs.Places.{Located}
 use Rattle.back_places.specs.Good.{IsGood}
 use Rattle.back_places.specs.Relation.{Relates}
 use Rattle.back_places.specs.StepLaw.{Comes, IsLawful, Known}
-use Rattle.back_runs.specs.Draws.{draws}
 
--- The machine goes on to what comes so many steps later, in no more instructions than these steps cost, in no fewer than they weigh, and in no
--- fewer than they draw serial numbers.
+-- The machine goes on to what comes so many steps later, in no more instructions than these steps cost, and in no fewer than they weigh.
 pub record FollowsRun
     (program : LineProgram) (l : Located) (Fact : (number line register : ℕ) → Place → Type 0) (first : List Block) (s : Stage) (m : Moment) (steps : ℕ) : Type 0 where
   pub count : ℕ
@@ -23,7 +21,6 @@ pub record FollowsRun
   pub relates : Relates program l Fact first (after program steps s) moment
   pub cheap : count + (state_of s).cost ≤ (state_of (after program steps s)).cost
   pub heavy : IsLawful (after program steps s) → weights program steps s ≤ count
-  pub drawn : IsLawful (after program steps s) → draws program steps s ≤ count
 
 -- where all is good, each run of lines is matched, from wherever the stage is
 abbrev pub LawOfRuns : Type 0

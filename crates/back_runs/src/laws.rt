@@ -6,18 +6,18 @@ ghost use Rattle.back_runs.specs.ProgramRuns.{LawOfWeighing, LawOfKnownRuns, Law
 ghost use Rattle.back_runs.specs.Laws.{LawOfFirst, LawOfStart, LawOfEnd, LawOfImageRuns};
 
 /// Where decisions are good, so many steps of lines from a stage that the machine is at are matched by a run of instructions, in no more
-/// than these steps cost, in no fewer than they weigh, and in no fewer than they draw serial numbers.
+/// than these steps cost, and in no fewer than they weigh.
 pub fn law_runs()
     ensures { LawOfRuns }
 {}
 
-/// A run of the machine that has ended as lines do stays so: more instructions change nothing.
+/// A run of the machine that has ended as lines do, and does not wait, stays so: more instructions change nothing.
 pub fn law_going_on()
     ensures { LawOfGoingOn }
 {}
 
-/// Where no step of lines behind fewer than so many calls and jumps backwards, and fewer than so many serial numbers drawn, leads to where
-/// nothing is known of the machine, no step does that the machine begins within so many instructions.
+/// Where no step of lines behind fewer than so many calls and jumps backwards leads to where nothing is known of the machine, no step does
+/// that the machine begins within so many instructions.
 pub fn law_known_steps()
     ensures { LawOfKnownSteps }
 {}
@@ -33,14 +33,14 @@ pub fn law_weighing()
     ensures { LawOfWeighing }
 {}
 
-/// Where a program, with at least so many levels and turns, is neither stuck nor out of serial numbers, neither are its lines in so many
-/// instructions of the machine.
+/// Where a program, with at least so many levels and turns, is not stuck, its lines are not in so many instructions of the machine.
 pub fn law_known_runs()
     ensures { LawOfKnownRuns }
 {}
 
 /// Instructions do what the program means: what they print is a beginning of what the program prints with at least as many levels and turns;
-/// where they have ended, the program has, in the same way; and they end so in one more than the program costs.
+/// where they have ended, the program has, in the same way; and they end so in one more than the program costs, or wait by then where it has
+/// exhausted the serial numbers.
 pub fn law_program_runs()
     ensures { LawOfProgramRuns }
 {}

@@ -2,7 +2,7 @@
 use Rattle.std.proofs.Common.{◌≡◌, ℕ, ◌+◌, ◌-◌, ◌*◌, ◌^◌, ◌≤◌, Bool, true, false, List, [], ◌∷◌, ◌++◌, length, arith, length-append}
 use Rattle.std.specs.Prelude.{◌==◌, nat_lt}
 use Rattle.std.proofs.lemmas.List.{length-map}
-use Rattle.rv_encode.specs.declared.instruction.Instr.TheVariants.{Lui, Jalr, Bge, Lw, Sw, Addi, Add, Sub, Slli, Ecall}
+use Rattle.rv_encode.specs.declared.instruction.Instr.TheVariants.{Lui, Jalr, Beq, Bge, Lw, Sw, Addi, Add, Sub, Slli, Ecall}
 use Rattle.mid_code.specs.declared.operation.Callee.{Callee}
 use Rattle.mid_code.specs.declared.operation.Callee.TheVariants.{Procedure, Word}
 use Rattle.mid_code.specs.declared.operation.Comparison.{Comparison}
@@ -139,7 +139,7 @@ module _ (l : Located) (number line : ℕ) where
         arith,
         read_length way 6 p,
         move_from_register way 5 (l.target number line),
-        length-append (read_code way 6 p) (Lw 5 (read_in 6 p) (low_12 offset) ∷ Addi 5 5 1 ∷ Sw 5 (read_in 6 p) (low_12 offset) ∷ M),
+        length-append (read_code way 6 p) (Lw 5 (read_in 6 p) (low_12 offset) ∷ Addi 5 5 1 ∷ Beq 5 0 0 ∷ Sw 5 (read_in 6 p) (low_12 offset) ∷ M),
       )
   operation_length (operation.Put from) =
       let A = load_into way 10 (l.source number line from) in

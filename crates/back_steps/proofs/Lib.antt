@@ -21,3 +21,4 @@ pub mod RequestSteps
 pub mod Requests
 pub mod Seeking
 pub mod Taken
+pub mod Waiting
