@@ -14,4 +14,5 @@ returns c =
       stand_in_places c.args.procedure.now c.in_ok-landings.landings chosen.allocation.spots.items chosen.intervals chosen.allocation.slots chosen.allocation.slots places
           c.in_ok-parameters.parameters c.in_ok-chosen.ensures.chosen c.in_ok-landings.ensures are c.in_ok-parameters.ensures refl,
       omega (arith, more),
+      c.in_ok-chosen.ensures.few,
     )
