@@ -1,9 +1,10 @@
 pub mod Passed
+pub mod InOrder
 pub mod Short
 pub mod FromSpots
 pub mod WaysOfTrees
 pub mod Walked
 pub mod Deep
 pub mod Counted
-pub mod OwnRests
-pub mod OwnNear
+pub mod PlacedRests
+pub mod PlacedNear

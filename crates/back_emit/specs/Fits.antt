@@ -1,16 +1,24 @@
--- What is asked of the spot of a line, so that its code has words as offsets: registers are reached, and positions are within 2^24 words.
-use Rattle.std.specs.Prelude.{◌≡◌, ℕ, ◌+◌, ◌^◌, ◌<◌, ◌≤◌, true, length}
+-- What is asked of the spot of a line, so that its code has words as offsets: all places are in reach, and positions are within 2^24 words.
+use Rattle.std.specs.Prelude.{◌≡◌, ℕ, ◌+◌, ◌^◌, ◌<◌, ◌≤◌, true, List, length}
 use Rattle.mid_code.specs.declared.operation.Operation.{Operation}
 use Rattle.mid_code.specs.declared.operation.Operation.TheVariants as operation
 use Rattle.mid_lines.specs.declared.line.Line.{Line}
 use Rattle.mid_lines.specs.declared.line.Line.TheVariants.{Do, Return}
 use Rattle.mid_lines.specs.LinesChecked.{line_fits}
+use Rattle.back_places.specs.declared.place.Place.{Place}
+use Rattle.back_allocation.specs.Places.{place_at}
 use Rattle.back_emit.specs.declared.spots.Spot.{Spot}
-use Rattle.back_emit.specs.Ways.{IsReached, depth_of}
+use Rattle.back_emit.specs.declared.ways.FrameWay.{FrameWay}
+use Rattle.back_emit.specs.Ways.{IsReached, IsInReach, depth_of}
 
-pub record FitsSpot (s : Spot) (registers : ℕ) : Type 0 where
-  pub reached : IsReached s.way registers
-  pub reached_next : IsReached s.next_way registers
+-- all registers are in reach
+abbrev pub AreInReach : FrameWay → (places : List Place) → Type 0
+AreInReach way places = (v : ℕ) → IsInReach way (place_at places v)
+
+-- the places of registers are in reach at the line, and behind it
+pub record FitsSpot (s : Spot) (places : List Place) : Type 0 where
+  pub reached : AreInReach s.way places
+  pub reached_next : AreInReach s.next_way places
   pub framed : depth_of s.way + s.frame < 2 ^ 30
   pub at_low : s.at < 2 ^ 24
   pub to_low : s.to < 2 ^ 24
@@ -33,11 +41,11 @@ abbrev pub ReachesLink : Spot → Line → Type 0
 ReachesLink s (Return r) = IsReached s.way 0
 ReachesLink s x = Unit {0}
 
--- what is asked for the code of a line of a procedure with so many registers and lines
-pub record FitsLine (s : Spot) (registers : ℕ) (x : Line) : Type 0 where
+-- what is asked for the code of a line, which fits some number of registers and of lines
+pub record FitsLine (s : Spot) (places : List Place) (x : Line) : Type 0 where
+  pub registers : ℕ
   pub lines : ℕ
-  pub spot : FitsSpot s registers
-  pub few : registers < 2 ^ 30
+  pub spot : FitsSpot s places
   pub fits : line_fits registers lines x ≡ true
   pub passed : s.arguments_at + passed_by x ≤ 2 ^ 24
   pub link : ReachesLink s x

@@ -1,8 +1,9 @@
 pub mod Ways
-pub mod OwnCode
+pub mod InOrder
+pub mod PlacedCode
 pub mod Fits
 pub mod Agree
 pub mod TreeWays
-pub mod OwnSizes
-pub mod OwnLines
-pub mod OwnNear
+pub mod PlacedSizes
+pub mod PlacedLines
+pub mod PlacedNear

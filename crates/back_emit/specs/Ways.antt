@@ -36,7 +36,7 @@ IsInReach way (InRegister r) = r < 32
 IsInReach way (InSlot k) = IsReached way k
 IsInReach way (AsConstant w) = Unit {0}
 
--- so many registers in slots of their own are reached, with the return address in front of them
+-- how many words records take on the way
 abbrev pub depth_of : FrameWay → ℕ
 depth_of (FromStack depth) = depth
 depth_of (PastLent depth) = depth

@@ -1,11 +1,8 @@
-// The code of a line, of whatever kind, where each register is in a slot of its own.
+// The code of a line, of whatever kind, where registers have places.
 
 ghost use Rattle.std.specs.Prelude.{◌≡◌, ◌+◌, ◌^◌, ◌<◌, ◌≤◌, ◌++◌, [], true, length, OnOk, IfErr};
 ghost use Rattle.back_emit.specs.declared.errors.EmitError.TheVariants.{TooLarge};
-ghost use Rattle.std.specs.List.{list_all};
-ghost use Rattle.mid_code.specs.Checked.{is_register, operation_fits, callee_fits};
-ghost use Rattle.mid_lines.specs.LinesChecked.{line_fits};
-ghost use Rattle.back_emit.specs.OwnCode.{give_own, own_operation, own_line, own_behind, own_before_call, own_call_jump, own_silent};
+ghost use Rattle.back_emit.specs.PlacedCode.{give_placed, placed_operation, placed_line, placed_behind, placed_before_call, placed_call_jump, placed_silent};
 ghost use Rattle.mid_code.specs.declared.operation.Operation.TheVariants.{Call};
 ghost use Rattle.back_places.specs.declared.place.Place.TheVariants.{InRegister};
 ghost use Rattle.mid_lines.specs.declared.line.Line.TheVariants.{Do, Branch, Jump};
@@ -14,16 +11,17 @@ ghost use Rattle.back_emit.specs.Fits.{FitsSpot, FitsLine, IsPlain, passed_by_op
 use crate::blocks::{put_environment_call, put_raise};
 use crate::errors::EmitError;
 use crate::lines::{
-    put_cut, put_lay, put_lend, put_load_own, put_return, put_switch, put_tested, put_unhandled,
+    put_cut, put_lay, put_lend, put_load_placed, put_return, put_switch, put_tested, put_unhandled,
 };
-use crate::operands::{CodeList, put_access, put_load, put_move};
+use crate::operands::{CodeList, put_access, put_move, read_in};
 use crate::operations::{
-    put_before_call, put_call_jump, put_draw, put_loaded, put_requested, put_store,
+    put_before_call, put_call_jump, put_draw, put_loaded, put_request, put_store,
 };
-use crate::registers::own_place;
-use crate::selection::{put_binary, put_branch, put_jump};
+use crate::registers::place_in_reach;
+use crate::selection::{put_branch, put_compute, put_jump};
 use crate::spots::Spot;
 use crate::ways::Access;
+use back_allocation::PlaceList;
 use back_places::Place;
 use base::NoMemory;
 use mid_code::{Callee, Operation, Register, RegisterList, Test};
@@ -34,21 +32,21 @@ use rv_encode::Immediate12;
 pub fn put_plain_operation(
     code: &mut CodeList,
     spot: &Spot,
-    registers: usize,
+    places: &PlaceList,
     operation: &Operation,
 ) -> Result<(), NoMemory>
-    requires { FitsSpot spot.now registers × (registers < 2 ^ 30) × (operation_fits registers operation.now ≡ true) × IsPlain operation.now }
-    ensures { OnOk result (code.new ≡ code.old ++ own_operation spot.now operation.now) }
+    requires { FitsSpot spot.now places.now × IsPlain operation.now }
+    ensures { OnOk result (code.new ≡ code.old ++ placed_operation places.now spot.now operation.now) }
 {
     let way = spot.way;
     match operation {
         Operation::Move { to, from } => {
-            let from = own_place(way, registers, *from);
-            let to = own_place(way, registers, *to);
+            let from = place_in_reach(way, places, *from);
+            let to = place_in_reach(way, places, *to);
             put_move(code, way, from, to)
         }
         Operation::Constant { to, word } => {
-            let to = own_place(way, registers, *to);
+            let to = place_in_reach(way, places, *to);
             put_move(code, way, Place::AsConstant(*word), to)
         }
         Operation::Compute {
@@ -57,37 +55,37 @@ pub fn put_plain_operation(
             first,
             second,
         } => {
-            let first = own_place(way, registers, *first);
-            let second = own_place(way, registers, *second);
-            let to = own_place(way, registers, *to);
-            put_binary(code, way, *which, first, second, to)
+            let first = place_in_reach(way, places, *first);
+            let second = place_in_reach(way, places, *second);
+            let to = place_in_reach(way, places, *to);
+            put_compute(code, way, *which, first, second, to)
         }
         Operation::Load { to, base, offset } => {
-            let base = own_place(way, registers, *base);
-            let to = own_place(way, registers, *to);
+            let base = place_in_reach(way, places, *base);
+            let to = place_in_reach(way, places, *to);
             put_loaded(code, way, base, *offset, to)
         }
         Operation::Store { from, base, offset } => {
-            let from = own_place(way, registers, *from);
-            let base = own_place(way, registers, *base);
+            let from = place_in_reach(way, places, *from);
+            let base = place_in_reach(way, places, *base);
             put_store(code, way, from, base, *offset)
         }
         Operation::Request { to, words } => {
-            let to = own_place(way, registers, *to);
-            put_load_own(code, spot, registers, 10, *words)?;
-            put_requested(code, way, to)
+            let words = place_in_reach(way, places, *words);
+            let to = place_in_reach(way, places, *to);
+            put_request(code, way, words, to)
         }
         Operation::Draw { to, base, offset } => {
-            let base = own_place(way, registers, *base);
-            let to = own_place(way, registers, *to);
+            let base = place_in_reach(way, places, *base);
+            let to = place_in_reach(way, places, *to);
             put_draw(code, way, base, *offset, to)
         }
         Operation::Put { from } => {
-            put_load_own(code, spot, registers, 10, *from)?;
+            put_load_placed(code, spot, places, 10, *from)?;
             put_environment_call(code, 1)
         }
         Operation::Get { to } => {
-            let to = own_place(way, registers, *to);
+            let to = place_in_reach(way, places, *to);
             put_environment_call(code, 2)?;
             put_move(code, way, Place::InRegister(10), to)
         }
@@ -99,18 +97,18 @@ pub fn put_plain_operation(
 pub fn put_call(
     code: &mut CodeList,
     spot: &Spot,
-    registers: usize,
+    places: &PlaceList,
     to: Register,
     callee: Callee,
     arguments: &RegisterList,
 ) -> Result<(), EmitError>
-    requires { FitsSpot spot.now registers × (registers < 2 ^ 30) × (callee_fits registers callee ≡ true) × (list_all (is_register registers) arguments.now ≡ true)
+    requires { FitsSpot spot.now places.now
         × (spot.now.arguments_at + length arguments.now ≤ 2 ^ 24) }
-    ensures ok { OnOk result (code.new ≡ code.old ++ own_operation spot.now (Call to callee arguments.now)) }
-    ensures err { IfErr result (λ e. e ≡ TooLarge → 2 ^ 24 ≤ length (own_before_call spot.now callee arguments.now)) }
+    ensures ok { OnOk result (code.new ≡ code.old ++ placed_operation places.now spot.now (Call to callee arguments.now)) }
+    ensures err { IfErr result (λ e. e ≡ TooLarge → 2 ^ 24 ≤ length (placed_before_call places.now spot.now callee arguments.now)) }
 {
     let start = code.len();
-    put_before_call(code, spot, registers, callee, arguments)?;
+    put_before_call(code, spot, places, callee, arguments)?;
     let passed = code.len() - start;
     if 16_777_216 <= passed {
         return Err(EmitError::TooLarge);
@@ -124,22 +122,24 @@ pub fn put_call(
 pub fn put_branch_line(
     code: &mut CodeList,
     spot: &Spot,
-    registers: usize,
+    places: &PlaceList,
     test: Test,
     otherwise: usize,
 ) -> Result<(), NoMemory>
-    requires { FitsSpot spot.now registers × (registers < 2 ^ 30) × (test.first < registers) × (test.second < registers) }
-    ensures { OnOk result (code.new ≡ code.old ++ own_line spot.now (Branch test otherwise)) }
+    requires { FitsSpot spot.now places.now }
+    ensures { OnOk result (code.new ≡ code.old ++ placed_line places.now spot.now (Branch test otherwise)) }
 {
     let start = code.len();
-    put_tested(code, spot, registers, test.first, test.second)?;
+    put_tested(code, spot, places, test.first, test.second)?;
     let read = code.len() - start;
+    let first = read_in(5, place_in_reach(spot.way, places, test.first));
+    let second = read_in(6, place_in_reach(spot.way, places, test.second));
     put_branch(
         code,
         spot.near,
         test.comparison,
-        5,
-        6,
+        first,
+        second,
         spot.at + read as u32,
         spot.to,
     )
@@ -149,11 +149,11 @@ pub fn put_branch_line(
 pub fn put_jump_line(
     code: &mut CodeList,
     spot: &Spot,
-    registers: usize,
+    places: &PlaceList,
     to: usize,
 ) -> Result<(), NoMemory>
-    requires { FitsSpot spot.now registers }
-    ensures { OnOk result (code.new ≡ code.old ++ own_line spot.now (Jump to)) }
+    requires { FitsSpot spot.now places.now }
+    ensures { OnOk result (code.new ≡ code.old ++ placed_line places.now spot.now (Jump to)) }
 {
     if spot.line < to && spot.to == spot.next {
         Ok(())
@@ -166,29 +166,29 @@ pub fn put_jump_line(
 pub fn put_operation(
     code: &mut CodeList,
     spot: &Spot,
-    registers: usize,
+    places: &PlaceList,
     operation: &Operation,
 ) -> Result<(), EmitError>
-    requires { FitsSpot spot.now registers × (registers < 2 ^ 30) × (operation_fits registers operation.now ≡ true)
+    requires { FitsSpot spot.now places.now
         × (spot.now.arguments_at + passed_by_operation operation.now ≤ 2 ^ 24) }
-    ensures ok { OnOk result (code.new ≡ code.old ++ own_operation spot.now operation.now) }
-    ensures err { IfErr result (λ e. e ≡ TooLarge → 2 ^ 24 ≤ length (own_operation spot.now operation.now)) }
+    ensures ok { OnOk result (code.new ≡ code.old ++ placed_operation places.now spot.now operation.now) }
+    ensures err { IfErr result (λ e. e ≡ TooLarge → 2 ^ 24 ≤ length (placed_operation places.now spot.now operation.now)) }
 {
     match operation {
         Operation::Call {
             to,
             callee,
             arguments,
-        } => put_call(code, spot, registers, *to, *callee, arguments),
-        Operation::Move { .. } => Ok(put_plain_operation(code, spot, registers, operation)?),
-        Operation::Constant { .. } => Ok(put_plain_operation(code, spot, registers, operation)?),
-        Operation::Compute { .. } => Ok(put_plain_operation(code, spot, registers, operation)?),
-        Operation::Load { .. } => Ok(put_plain_operation(code, spot, registers, operation)?),
-        Operation::Store { .. } => Ok(put_plain_operation(code, spot, registers, operation)?),
-        Operation::Request { .. } => Ok(put_plain_operation(code, spot, registers, operation)?),
-        Operation::Draw { .. } => Ok(put_plain_operation(code, spot, registers, operation)?),
-        Operation::Put { .. } => Ok(put_plain_operation(code, spot, registers, operation)?),
-        Operation::Get { .. } => Ok(put_plain_operation(code, spot, registers, operation)?),
+        } => put_call(code, spot, places, *to, *callee, arguments),
+        Operation::Move { .. } => Ok(put_plain_operation(code, spot, places, operation)?),
+        Operation::Constant { .. } => Ok(put_plain_operation(code, spot, places, operation)?),
+        Operation::Compute { .. } => Ok(put_plain_operation(code, spot, places, operation)?),
+        Operation::Load { .. } => Ok(put_plain_operation(code, spot, places, operation)?),
+        Operation::Store { .. } => Ok(put_plain_operation(code, spot, places, operation)?),
+        Operation::Request { .. } => Ok(put_plain_operation(code, spot, places, operation)?),
+        Operation::Draw { .. } => Ok(put_plain_operation(code, spot, places, operation)?),
+        Operation::Put { .. } => Ok(put_plain_operation(code, spot, places, operation)?),
+        Operation::Get { .. } => Ok(put_plain_operation(code, spot, places, operation)?),
     }
 }
 
@@ -196,50 +196,50 @@ pub fn put_operation(
 pub fn put_line(
     code: &mut CodeList,
     spot: &Spot,
-    registers: usize,
+    places: &PlaceList,
     line: &Line,
 ) -> Result<(), EmitError>
-    requires { FitsLine spot.now registers line.now }
-    ensures ok { OnOk result (code.new ≡ code.old ++ own_line spot.now line.now) }
-    ensures err { IfErr result (λ e. e ≡ TooLarge → 2 ^ 24 ≤ length (own_line spot.now line.now)) }
+    requires { FitsLine spot.now places.now line.now }
+    ensures ok { OnOk result (code.new ≡ code.old ++ placed_line places.now spot.now line.now) }
+    ensures err { IfErr result (λ e. e ≡ TooLarge → 2 ^ 24 ≤ length (placed_line places.now spot.now line.now)) }
 {
     match line {
-        Line::Do(operation) => put_operation(code, spot, registers, operation),
+        Line::Do(operation) => put_operation(code, spot, places, operation),
         Line::Branch { test, otherwise } => {
-            Ok(put_branch_line(code, spot, registers, *test, *otherwise)?)
+            Ok(put_branch_line(code, spot, places, *test, *otherwise)?)
         }
-        Line::Switch { register, .. } => Ok(put_switch(code, spot, registers, *register)?),
-        Line::Jump(to) => Ok(put_jump_line(code, spot, registers, *to)?),
-        Line::Lay { block, words, .. } => Ok(put_lay(code, spot, registers, *block, *words)?),
-        Line::Landed(register) => Ok(put_taken(code, spot, registers, *register)?),
+        Line::Switch { register, .. } => Ok(put_switch(code, spot, places, *register)?),
+        Line::Jump(to) => Ok(put_jump_line(code, spot, places, *to)?),
+        Line::Lay { block, words, .. } => Ok(put_lay(code, spot, places, *block, *words)?),
+        Line::Landed(register) => Ok(put_taken(code, spot, places, *register)?),
         Line::GiveBack(words) => Ok(put_raise(code, *words + 2)?),
-        Line::Lend { block, words } => Ok(put_lend(code, spot, registers, *block, *words)?),
+        Line::Lend { block, words } => Ok(put_lend(code, spot, places, *block, *words)?),
         Line::GiveBackLent => Ok(put_access(code, Access::LoadInto(2), 2, Immediate12::of(4))?),
-        Line::Return(register) => Ok(put_return(code, spot, registers, *register)?),
-        Line::Cut { block, word } => Ok(put_cut(code, spot, registers, *block, *word)?),
+        Line::Return(register) => Ok(put_return(code, spot, places, *register)?),
+        Line::Cut { block, word } => Ok(put_cut(code, spot, places, *block, *word)?),
         Line::Halt(register) => {
-            put_load_own(code, spot, registers, 10, *register)?;
+            put_load_placed(code, spot, places, 10, *register)?;
             Ok(put_environment_call(code, 0)?)
         }
         Line::Unhandled {
             class,
             site,
             condition,
-        } => Ok(put_unhandled(code, spot, registers, *class, *site, *condition)?),
+        } => Ok(put_unhandled(code, spot, places, *class, *site, *condition)?),
     }
 }
 
-/// Appends what brings the word in register 12 to the slot of a register.
+/// Appends what brings the word in register 12 to the place of a register.
 pub fn put_taken(
     code: &mut CodeList,
     spot: &Spot,
-    registers: usize,
+    places: &PlaceList,
     register: Register,
 ) -> Result<(), NoMemory>
-    requires { FitsSpot spot.now registers × (registers < 2 ^ 30) × (register < registers) }
-    ensures { OnOk result (code.new ≡ code.old ++ give_own spot.now (InRegister 12) register) }
+    requires { FitsSpot spot.now places.now }
+    ensures { OnOk result (code.new ≡ code.old ++ give_placed places.now spot.now (InRegister 12) register) }
 {
-    let to = own_place(spot.way, registers, register);
+    let to = place_in_reach(spot.way, places, register);
     put_move(code, spot.way, Place::InRegister(12), to)
 }
 
@@ -247,14 +247,14 @@ pub fn put_taken(
 pub fn put_behind(
     code: &mut CodeList,
     spot: &Spot,
-    registers: usize,
+    places: &PlaceList,
     line: &Line,
 ) -> Result<(), NoMemory>
-    requires { FitsLine spot.now registers line.now }
-    ensures { OnOk result (code.new ≡ code.old ++ own_behind spot.now line.now) }
+    requires { FitsLine spot.now places.now line.now }
+    ensures { OnOk result (code.new ≡ code.old ++ placed_behind places.now spot.now line.now) }
 {
     if let Line::Do(Operation::Call { to, .. }) = line {
-        put_taken(code, spot, registers, *to)
+        put_taken(code, spot, places, *to)
     } else {
         Ok(())
     }

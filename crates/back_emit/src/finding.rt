@@ -16,20 +16,20 @@ use crate::walking::{past_block, past_record};
 use crate::ways::FrameWay;
 use mid_code::{CaseList, Code, CodeStep, MidProcedure, StepKind};
 
-/// How many words registers and a frame take.
+/// How many slots are wanted behind the return address, and how many words the frame has.
 #[derive(Clone, Copy)]
 pub struct FrameSize {
-    pub registers: usize,
+    pub slots: usize,
     pub frame: u32,
 }
 
-/// Whether a procedure finds its frame. It is too large where records have 2^29 words or more, one inside the other.
-pub fn procedure_finds(procedure: &MidProcedure) -> Result<bool, EmitError>
-    ensures ok { IfOk result (λ finds. finds ≡ procedure_finds procedure.now) }
+/// Whether a procedure with so many slots finds its frame. It is too large where records have 2^29 words or more, one inside the other.
+pub fn procedure_finds(procedure: &MidProcedure, slots: usize) -> Result<bool, EmitError>
+    ensures ok { IfOk result (λ finds. finds ≡ procedure_finds (record procedure.now { registers = slots })) }
     ensures err { IfErr result (λ e. e ≡ TooLarge → has_deep (code_ways (FromStack 0) (code_of procedure.now.body)) ≡ true) }
 {
     let size = FrameSize {
-        registers: procedure.registers,
+        slots,
         frame: procedure.frame,
     };
     let way = FrameWay::FromStack(0);
@@ -40,15 +40,15 @@ pub fn procedure_finds(procedure: &MidProcedure) -> Result<bool, EmitError>
     }
 }
 
-/// Whether all registers, and the return address, are reached that way.
+/// Whether all slots, and the return address, are reached that way.
 pub fn reaches_all(size: FrameSize, way: FrameWay) -> bool
-    ensures { result ≡ reaches_all size.registers size.frame (way_of way) }
+    ensures { result ≡ reaches_all size.slots size.frame (way_of way) }
 {
     match way {
-        FrameWay::FromStack(_) => size.registers < size.frame as usize,
+        FrameWay::FromStack(_) => size.slots < size.frame as usize,
         FrameWay::PastLent(depth) => {
             if 4 * (u64::from(depth) + u64::from(size.frame)) <= 2048 {
-                size.registers < size.frame as usize
+                size.slots < size.frame as usize
             } else {
                 false
             }
@@ -71,7 +71,7 @@ pub fn is_from_stack(way: FrameWay) -> bool
 #[cycle(find)]
 #[tactic(auto, using(mid_code::specs::model::Sizes::step_turn))]
 fn code_finds(size: FrameSize, code: &Code, way: FrameWay) -> Result<bool, EmitError>
-    ensures ok { IfOk result (λ finds. finds ≡ code_finds size.registers size.frame (way_of way) (code_of code.now)) }
+    ensures ok { IfOk result (λ finds. finds ≡ code_finds size.slots size.frame (way_of way) (code_of code.now)) }
     ensures err { IfErr result (λ e. e ≡ TooLarge → has_deep (code_ways way (code_of code.now)) ≡ true) }
 {
     for step in code.as_slice() {
@@ -84,7 +84,7 @@ fn code_finds(size: FrameSize, code: &Code, way: FrameWay) -> Result<bool, EmitE
 
 #[cycle(find)]
 fn step_finds(size: FrameSize, step: &CodeStep, way: FrameWay) -> Result<bool, EmitError>
-    ensures ok { IfOk result (λ finds. finds ≡ step_finds size.registers size.frame (way_of way) step.now) }
+    ensures ok { IfOk result (λ finds. finds ≡ step_finds size.slots size.frame (way_of way) step.now) }
     ensures err { IfErr result (λ e. e ≡ TooLarge → has_deep (step_ways way step.now) ≡ true) }
 {
     match &step.kind {
@@ -109,7 +109,7 @@ fn step_finds(size: FrameSize, step: &CodeStep, way: FrameWay) -> Result<bool, E
 #[cycle(find)]
 fn both_find(size: FrameSize, first: &Code, second: &Code, way: FrameWay) -> Result<bool, EmitError>
     ensures ok { IfOk result (λ finds. finds ≡
-        (code_finds size.registers size.frame (way_of way) (code_of first.now) && code_finds size.registers size.frame (way_of way) (code_of second.now))) }
+        (code_finds size.slots size.frame (way_of way) (code_of first.now) && code_finds size.slots size.frame (way_of way) (code_of second.now))) }
     ensures err { IfErr result (λ e. e ≡ TooLarge → has_deep (code_ways way (code_of first.now) ++ code_ways way (code_of second.now)) ≡ true) }
 {
     let first_finds = code_finds(size, first, way)?;
@@ -120,7 +120,7 @@ fn both_find(size: FrameSize, first: &Code, second: &Code, way: FrameWay) -> Res
 #[cycle(find)]
 #[tactic(auto, using(mid_code::specs::model::Sizes::case_turn))]
 fn codes_find(size: FrameSize, codes: &CaseList, way: FrameWay) -> Result<bool, EmitError>
-    ensures ok { IfOk result (λ finds. finds ≡ codes_find size.registers size.frame (way_of way) (codes_of codes.now)) }
+    ensures ok { IfOk result (λ finds. finds ≡ codes_find size.slots size.frame (way_of way) (codes_of codes.now)) }
     ensures err { IfErr result (λ e. e ≡ TooLarge → has_deep (codes_ways way (codes_of codes.now)) ≡ true) }
 {
     for case in codes.as_slice() {
@@ -140,9 +140,9 @@ fn record_finds(
     way: FrameWay,
 ) -> Result<bool, EmitError>
     ensures ok { IfOk result (λ finds. finds ≡
-        (reaches_all size.registers size.frame (way_of (past_record (words + header_words) way))
-        && (code_finds size.registers size.frame (way_of (past_record (words + header_words) way)) (code_of inside.now)
-        && code_finds size.registers size.frame (way_of (past_record (words + header_words) way)) (code_of landing.now)))) }
+        (reaches_all size.slots size.frame (way_of (past_record (words + header_words) way))
+        && (code_finds size.slots size.frame (way_of (past_record (words + header_words) way)) (code_of inside.now)
+        && code_finds size.slots size.frame (way_of (past_record (words + header_words) way)) (code_of landing.now)))) }
     ensures err { IfErr result (λ e. e ≡ TooLarge → has_deep (past_record (words + header_words) way
         ∷ (code_ways (past_record (words + header_words) way) (code_of inside.now) ++ code_ways (past_record (words + header_words) way) (code_of landing.now))) ≡ true) }
 {
@@ -155,8 +155,8 @@ fn record_finds(
 #[cycle(find)]
 fn lent_finds(size: FrameSize, inside: &Code, way: FrameWay) -> Result<bool, EmitError>
     ensures ok { IfOk result (λ finds. finds ≡
-        (reaches_all size.registers size.frame (way_of (past_block way))
-        && code_finds size.registers size.frame (way_of (past_block way)) (code_of inside.now))) }
+        (reaches_all size.slots size.frame (way_of (past_block way))
+        && code_finds size.slots size.frame (way_of (past_block way)) (code_of inside.now))) }
     ensures err { IfErr result (λ e. e ≡ TooLarge → has_deep (code_ways (past_block way) (code_of inside.now)) ≡ true) }
 {
     let past = past_block(way);

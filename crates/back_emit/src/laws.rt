@@ -2,10 +2,10 @@
 
 ghost use Rattle.back_emit.specs.Agree.{LawOfSpots};
 ghost use Rattle.back_emit.specs.TreeWays.{LawOfTreeWays};
-ghost use Rattle.back_emit.specs.OwnSizes.{LawOfOwnRests};
-ghost use Rattle.back_emit.specs.OwnNear.{LawOfOwnNear};
+ghost use Rattle.back_emit.specs.PlacedSizes.{LawOfPlacedRests};
+ghost use Rattle.back_emit.specs.PlacedNear.{LawOfPlacedNear};
 
-/// Where a line's spot says what was decided, and each register is in a slot of its own, the code of the line is the code from its spot.
+/// Where a line's spot, with the places of registers, says what was decided, the code of the line is the code from its spot.
 pub fn law_spots()
     ensures { LawOfSpots }
 {}
@@ -16,11 +16,11 @@ pub fn law_tree_ways()
 {}
 
 /// What is left from each line on, counted from the spots of lines, is what the layout counts.
-pub fn law_own_rests()
-    ensures { LawOfOwnRests }
+pub fn law_placed_rests()
+    ensures { LawOfPlacedRests }
 {}
 
 /// Where a line's spot says what was decided, its jump is near by the spot where it is near by the layout.
-pub fn law_own_near()
-    ensures { LawOfOwnNear }
+pub fn law_placed_near()
+    ensures { LawOfPlacedNear }
 {}

@@ -5,6 +5,7 @@ pub mod blocks;
 pub mod code_of_lines;
 pub mod errors;
 pub mod finding;
+pub mod in_order;
 pub mod laws;
 pub mod lines;
 pub mod nearness;

@@ -1,16 +1,14 @@
-// The code of lines where each register is in a slot of its own.
+// The code of lines, where registers have places.
 
 ghost use Rattle.std.specs.Prelude.{◌≡◌, ◌+◌, ◌-◌, ◌*◌, ◌^◌, ◌<◌, ◌≤◌, [], ◌∷◌, ◌++◌, true, false, length, OnOk};
-ghost use Rattle.std.specs.List.{list_all};
 ghost use Rattle.rv_encode.specs.declared.instruction.Instr.TheVariants.{Lui, Jalr, Bge, Lw, Sw, Addi, Add, Sub, Slli, Ecall};
 ghost use Rattle.mid_code.specs.Arena.{header_words};
-ghost use Rattle.mid_code.specs.Checked.{is_register, operation_fits, callee_fits, is_block_size};
 ghost use Rattle.back_places.specs.Places.{depth_in};
 ghost use Rattle.back_places.specs.Operands.{high_part, low_part};
 ghost use Rattle.back_places.specs.LineCode.{link_code};
 ghost use Rattle.back_places.specs.Blocks.{raise_code, full_here_code};
 ghost use Rattle.back_emit.specs.Ways.{way_of, depth_of, IsReached, IsInReach};
-ghost use Rattle.back_emit.specs.OwnCode.{load_own, own_operation, own_line, own_behind, own_tested, own_lent, own_lay, own_lend, own_switch, own_return, own_cut, own_unhandled};
+ghost use Rattle.back_emit.specs.PlacedCode.{load_placed, placed_operation, placed_line, placed_behind, placed_tested, placed_lent, placed_lay, placed_lend, placed_switch, placed_return, placed_cut, placed_unhandled};
 ghost use Rattle.back_emit.specs.Fits.{FitsSpot};
 
 use crate::blocks::{
@@ -18,61 +16,62 @@ use crate::blocks::{
     put_times_4,
 };
 use crate::operands::{
-    CodeList, high_part, low_part, put_access, put_addi, put_at_slot, put_keep, put_load, put_read,
-    put_sum,
+    CodeList, given_in, high_part, low_part, put_access, put_addi, put_at_slot, put_keep, put_load,
+    put_read, put_sum, read_in,
 };
-use crate::registers::own_place;
-use crate::selection::put_branch;
+use crate::registers::place_in_reach;
 use crate::spots::Spot;
 use crate::ways::{Access, FrameWay};
+use back_allocation::PlaceList;
 use base::NoMemory;
-use mid_code::{Register, Test};
+use mid_code::Register;
 use rv_encode::{Immediate12, Instr};
 
 /// Appends both operands of a test.
 pub fn put_tested(
     code: &mut CodeList,
     spot: &Spot,
-    registers: usize,
+    places: &PlaceList,
     first: Register,
     second: Register,
 ) -> Result<(), NoMemory>
-    requires { FitsSpot spot.now registers × (registers < 2 ^ 30) × (first < registers) × (second < registers) }
-    ensures { OnOk result (code.new ≡ code.old ++ own_tested spot.now first second) }
+    requires { FitsSpot spot.now places.now }
+    ensures { OnOk result (code.new ≡ code.old ++ placed_tested places.now spot.now first second) }
 {
-    let a = own_place(spot.way, registers, first);
-    let b = own_place(spot.way, registers, second);
+    let a = place_in_reach(spot.way, places, first);
+    let b = place_in_reach(spot.way, places, second);
     put_read(code, spot.way, 5, a)?;
     put_read(code, spot.way, 6, b)
 }
 
-/// Appends the address of the first lent word of the record that was laid, to the slot of a register.
+/// Appends the address of the first lent word of the record that was laid, to the place of a register.
 pub fn put_lent(
     code: &mut CodeList,
     spot: &Spot,
-    registers: usize,
+    places: &PlaceList,
     block: Register,
 ) -> Result<(), NoMemory>
-    requires { FitsSpot spot.now registers × (registers < 2 ^ 30) × (block < registers) }
-    ensures { OnOk result (code.new ≡ code.old ++ own_lent spot.now block) }
+    requires { FitsSpot spot.now places.now }
+    ensures { OnOk result (code.new ≡ code.old ++ placed_lent places.now spot.now block) }
 {
-    let to = own_place(spot.next_way, registers, block);
-    put_addi(code, 5, 2, 8)?;
+    let to = place_in_reach(spot.next_way, places, block);
+    let given = given_in(to);
+    put_addi(code, given, 2, 8)?;
     put_keep(code, spot.next_way, to)
 }
 
 /// Appends the load of a register into a register of the machine.
-pub fn put_load_own(
+pub fn put_load_placed(
     code: &mut CodeList,
     spot: &Spot,
-    registers: usize,
+    places: &PlaceList,
     to: u32,
     register: Register,
 ) -> Result<(), NoMemory>
-    requires { FitsSpot spot.now registers × (registers < 2 ^ 30) × (register < registers) × (to < 32) }
-    ensures { OnOk result (code.new ≡ code.old ++ load_own spot.now to register) }
+    requires { FitsSpot spot.now places.now × (to < 32) }
+    ensures { OnOk result (code.new ≡ code.old ++ load_placed places.now spot.now to register) }
 {
-    let from = own_place(spot.way, registers, register);
+    let from = place_in_reach(spot.way, places, register);
     put_load(code, spot.way, to, from)
 }
 
@@ -80,36 +79,36 @@ pub fn put_load_own(
 pub fn put_lay(
     code: &mut CodeList,
     spot: &Spot,
-    registers: usize,
+    places: &PlaceList,
     block: Register,
     words: u32,
 ) -> Result<(), NoMemory>
-    requires { FitsSpot spot.now registers × (registers < 2 ^ 30) × (block < registers) × (words < 2 ^ 24) }
-    ensures { OnOk result (code.new ≡ code.old ++ own_lay spot.now block words) }
+    requires { FitsSpot spot.now places.now × (words < 2 ^ 24) }
+    ensures { OnOk result (code.new ≡ code.old ++ placed_lay places.now spot.now block words) }
 {
     put_room(code, spot.full_at, spot.at, words + 2)?;
     put_sum(code, 5, 4 * spot.to)?;
     put_access(code, Access::StoreFrom(5), 2, Immediate12::of(0))?;
-    put_lent(code, spot, registers, block)
+    put_lent(code, spot, places, block)
 }
 
 /// Appends that a block of as many words as a register says is lent.
 pub fn put_lend(
     code: &mut CodeList,
     spot: &Spot,
-    registers: usize,
+    places: &PlaceList,
     block: Register,
     words: Register,
 ) -> Result<(), NoMemory>
-    requires { FitsSpot spot.now registers × (registers < 2 ^ 30) × (block < registers) × (words < registers) }
-    ensures { OnOk result (code.new ≡ code.old ++ own_lend spot.now block words) }
+    requires { FitsSpot spot.now places.now }
+    ensures { OnOk result (code.new ≡ code.old ++ placed_lend places.now spot.now block words) }
 {
-    put_load_own(code, spot, registers, 10, words)?;
+    put_load_placed(code, spot, places, 10, words)?;
     put_lend_test(code)?;
     put_full_here(code)?;
     put_access(code, Access::StoreFrom(2), 5, Immediate12::of(4))?;
     put_addi(code, 2, 5, 0)?;
-    put_lent(code, spot, registers, block)
+    put_lent(code, spot, places, block)
 }
 
 fn put_lend_test(code: &mut CodeList) -> Result<(), NoMemory>
@@ -125,16 +124,17 @@ fn put_lend_test(code: &mut CodeList) -> Result<(), NoMemory>
 pub fn put_switch(
     code: &mut CodeList,
     spot: &Spot,
-    registers: usize,
+    places: &PlaceList,
     register: Register,
 ) -> Result<(), NoMemory>
-    requires { FitsSpot spot.now registers × (registers < 2 ^ 30) × (register < registers) }
-    ensures { OnOk result (code.new ≡ code.old ++ own_switch spot.now register) }
+    requires { FitsSpot spot.now places.now }
+    ensures { OnOk result (code.new ≡ code.old ++ placed_switch places.now spot.now register) }
 {
     let address = 4 * spot.table;
-    let number = own_place(spot.way, registers, register);
+    let number = place_in_reach(spot.way, places, register);
     put_read(code, spot.way, 5, number)?;
-    put_times_4(code, 5, 5)?;
+    let from = read_in(5, number);
+    put_times_4(code, 5, from)?;
     code.push(Instr::Lui {
         rd: rv_encode::Register::of(7),
         immediate: high_part(address),
@@ -172,13 +172,13 @@ pub fn depth_in(way: FrameWay) -> u32
 pub fn put_return(
     code: &mut CodeList,
     spot: &Spot,
-    registers: usize,
+    places: &PlaceList,
     register: Register,
 ) -> Result<(), NoMemory>
-    requires { FitsSpot spot.now registers × (registers < 2 ^ 30) × (register < registers) × IsReached spot.now.way 0 }
-    ensures { OnOk result (code.new ≡ code.old ++ own_return spot.now register) }
+    requires { FitsSpot spot.now places.now × IsReached spot.now.way 0 }
+    ensures { OnOk result (code.new ≡ code.old ++ placed_return places.now spot.now register) }
 {
-    put_load_own(code, spot, registers, 12, register)?;
+    put_load_placed(code, spot, places, 12, register)?;
     put_at_slot(code, spot.way, 0, Access::LoadInto(1))?;
     let depth = depth_in(spot.way);
     put_raise(code, depth + spot.frame)?;
@@ -189,15 +189,15 @@ pub fn put_return(
 pub fn put_cut(
     code: &mut CodeList,
     spot: &Spot,
-    registers: usize,
+    places: &PlaceList,
     block: Register,
     word: Register,
 ) -> Result<(), NoMemory>
-    requires { FitsSpot spot.now registers × (registers < 2 ^ 30) × (block < registers) × (word < registers) }
-    ensures { OnOk result (code.new ≡ code.old ++ own_cut spot.now block word) }
+    requires { FitsSpot spot.now places.now }
+    ensures { OnOk result (code.new ≡ code.old ++ placed_cut places.now spot.now block word) }
 {
-    put_load_own(code, spot, registers, 5, block)?;
-    put_load_own(code, spot, registers, 12, word)?;
+    put_load_placed(code, spot, places, 5, block)?;
+    put_load_placed(code, spot, places, 12, word)?;
     put_addi(code, 2, 5, 4088)?;
     put_access(code, Access::LoadInto(5), 2, Immediate12::of(0))?;
     put_jump_to(code, 0, 5)
@@ -207,16 +207,16 @@ pub fn put_cut(
 pub fn put_unhandled(
     code: &mut CodeList,
     spot: &Spot,
-    registers: usize,
+    places: &PlaceList,
     class: Register,
     site: Register,
     condition: Register,
 ) -> Result<(), NoMemory>
-    requires { FitsSpot spot.now registers × (registers < 2 ^ 30) × (class < registers) × (site < registers) × (condition < registers) }
-    ensures { OnOk result (code.new ≡ code.old ++ own_unhandled spot.now class site condition) }
+    requires { FitsSpot spot.now places.now }
+    ensures { OnOk result (code.new ≡ code.old ++ placed_unhandled places.now spot.now class site condition) }
 {
-    put_load_own(code, spot, registers, 10, class)?;
-    put_load_own(code, spot, registers, 11, site)?;
-    put_load_own(code, spot, registers, 12, condition)?;
+    put_load_placed(code, spot, places, 10, class)?;
+    put_load_placed(code, spot, places, 11, site)?;
+    put_load_placed(code, spot, places, 12, condition)?;
     put_environment_call(code, 3)
 }

@@ -1,17 +1,16 @@
 // Which jumps are near.
 
 ghost use Rattle.std.specs.Prelude.{◌≡◌, ◌+◌, ◌^◌, ◌<◌, ◌≤◌, true, length, IfOk};
-ghost use Rattle.std.specs.List.{list_all};
-ghost use Rattle.mid_code.specs.Checked.{is_register};
 ghost use Rattle.mid_code.specs.declared.operation.Callee.TheVariants.{Procedure};
 ghost use Rattle.back_layout.specs.Layout.{is_near_branch, is_near_jump};
-ghost use Rattle.back_emit.specs.OwnCode.{own_before_call, own_tested};
+ghost use Rattle.back_emit.specs.PlacedCode.{placed_before_call, placed_tested};
 ghost use Rattle.back_emit.specs.Fits.{FitsSpot};
 
 use crate::lines::put_tested;
 use crate::operands::CodeList;
 use crate::operations::put_before_call;
 use crate::spots::Spot;
+use back_allocation::PlaceList;
 use base::NoMemory;
 use mid_code::{Callee, Register, RegisterList};
 
@@ -35,15 +34,15 @@ pub fn is_near_jump(from: usize, to: usize) -> bool
 pub fn tested_length(
     scratch: &mut CodeList,
     spot: &Spot,
-    registers: usize,
+    places: &PlaceList,
     first: Register,
     second: Register,
 ) -> Result<usize, NoMemory>
-    requires { FitsSpot spot.now registers × (registers < 2 ^ 30) × (first < registers) × (second < registers) }
-    ensures { IfOk result (λ count. count ≡ length (own_tested spot.now first second)) }
+    requires { FitsSpot spot.now places.now }
+    ensures { IfOk result (λ count. count ≡ length (placed_tested places.now spot.now first second)) }
 {
     scratch.cut(0);
-    put_tested(scratch, spot, registers, first, second)?;
+    put_tested(scratch, spot, places, first, second)?;
     Ok(scratch.len())
 }
 
@@ -51,19 +50,19 @@ pub fn tested_length(
 pub fn passed_length(
     scratch: &mut CodeList,
     spot: &Spot,
-    registers: usize,
+    places: &PlaceList,
     number: usize,
     arguments: &RegisterList,
 ) -> Result<usize, NoMemory>
-    requires { FitsSpot spot.now registers × (registers < 2 ^ 30) × (list_all (is_register registers) arguments.now ≡ true)
+    requires { FitsSpot spot.now places.now
         × (spot.now.arguments_at + length arguments.now ≤ 2 ^ 24) }
-    ensures { IfOk result (λ count. count ≡ length (own_before_call spot.now (Procedure number) arguments.now)) }
+    ensures { IfOk result (λ count. count ≡ length (placed_before_call places.now spot.now (Procedure number) arguments.now)) }
 {
     scratch.cut(0);
     put_before_call(
         scratch,
         spot,
-        registers,
+        places,
         Callee::Procedure(number),
         arguments,
     )?;

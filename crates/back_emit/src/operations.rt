@@ -1,31 +1,30 @@
-// The code of operations where each register is in a slot of its own.
+// The code of operations, where registers have places.
 
-ghost use Rattle.std.specs.Prelude.{◌≡◌, ◌+◌, ◌^◌, ◌<◌, ◌≤◌, [], ◌∷◌, ◌++◌, true, length, OnOk};
-ghost use Rattle.std.specs.List.{list_all};
-ghost use Rattle.rv_encode.specs.declared.instruction.Instr.TheVariants.{Addi, Lw, Sw, Ecall};
+ghost use Rattle.std.specs.Prelude.{◌≡◌, ◌+◌, ◌*◌, ◌^◌, ◌<◌, ◌≤◌, [], ◌∷◌, ◌++◌, length, OnOk};
+ghost use Rattle.rv_encode.specs.declared.instruction.Instr.TheVariants.{Addi, Bgeu, Lw, Sw, Ecall};
 ghost use Rattle.back_places.specs.declared.place.Place.TheVariants.{InRegister};
-ghost use Rattle.mid_code.specs.Checked.{is_register, operation_fits, callee_fits};
 ghost use Rattle.back_places.specs.Operands.{load_into, read_in, read_code, given_in, keep_code, move_code, high_part, low_part};
-ghost use Rattle.back_places.specs.Selection.{low_12, compute_code, binary_code, arithmetic_of};
-ghost use Rattle.back_places.specs.LineCode.{requested_code, request_code, table_jump_code};
-ghost use Rattle.back_places.specs.Trivial.{own_slot};
+ghost use Rattle.back_places.specs.Selection.{low_12};
+ghost use Rattle.back_places.specs.LineCode.{few_requested_code, requested_code, request_code, table_jump_code};
+ghost use Rattle.back_allocation.specs.Places.{place_at};
 ghost use Rattle.back_emit.specs.Ways.{way_of, IsReached, IsInReach};
-ghost use Rattle.back_emit.specs.OwnCode.{own_operation, own_before_call, own_call_jump};
+ghost use Rattle.back_emit.specs.PlacedCode.{placed_before_call, placed_call_jump};
 ghost use Rattle.back_emit.specs.Fits.{FitsSpot};
 
-use crate::blocks::{put_add, put_environment_call, put_left, put_times_4};
+use crate::blocks::{put_add, put_environment_call, put_full_here, put_left, put_times_4};
 use crate::operands::{
     CodeList, given_in, high_part, low_part, put_access, put_addi, put_keep, put_load, put_move,
     put_read, read_in,
 };
-use crate::passing::put_arguments;
-use crate::registers::own_place;
-use crate::selection::{low_12, put_binary, put_jump};
+use crate::passing::put_passed;
+use crate::registers::place_in_reach;
+use crate::selection::{low_12, put_jump};
 use crate::spots::Spot;
 use crate::ways::{Access, FrameWay};
+use back_allocation::PlaceList;
 use back_places::Place;
 use base::NoMemory;
-use mid_code::{Callee, Operation, RegisterList};
+use mid_code::{Callee, RegisterList};
 use rv_encode::{Immediate12, Instr, Offset13, Register};
 
 /// Appends that a word is loaded.
@@ -87,6 +86,71 @@ pub fn put_draw(
     put_move(code, way, Place::InRegister(5), target)
 }
 
+/// Appends a request of words of the heap.
+pub fn put_request(
+    code: &mut CodeList,
+    way: FrameWay,
+    words: Place,
+    target: Place,
+) -> Result<(), NoMemory>
+    requires { IsInReach way words × IsInReach way target }
+    ensures { OnOk result (code.new ≡ code.old ++ request_code (way_of way) words target) }
+{
+    match words {
+        Place::InRegister(_) => put_read_request(code, way, words, target),
+        Place::InSlot(_) => put_read_request(code, way, words, target),
+        Place::AsConstant(word) => {
+            if word < 512 {
+                put_few_requested(code, way, word, target)
+            } else {
+                put_read_request(code, way, words, target)
+            }
+        }
+    }
+}
+
+fn put_read_request(
+    code: &mut CodeList,
+    way: FrameWay,
+    words: Place,
+    target: Place,
+) -> Result<(), NoMemory>
+    requires { IsInReach way words × IsInReach way target }
+    ensures { OnOk result (code.new ≡ code.old ++ (load_into (way_of way) 10 words ++ requested_code (way_of way) target)) }
+{
+    put_load(code, way, 10, words)?;
+    put_requested(code, way, target)
+}
+
+/// Appends a request of as many words as a constant says, which is short.
+pub fn put_few_requested(
+    code: &mut CodeList,
+    way: FrameWay,
+    words: u32,
+    target: Place,
+) -> Result<(), NoMemory>
+    requires { (words < 512) × IsInReach way target }
+    ensures { OnOk result (code.new ≡ code.old ++ few_requested_code (way_of way) words target) }
+{
+    put_few_test(code, words)?;
+    put_full_here(code)?;
+    put_move(code, way, Place::InRegister(3), target)?;
+    put_addi(code, 3, 5, 0)
+}
+
+fn put_few_test(code: &mut CodeList, words: u32) -> Result<(), NoMemory>
+    requires { words < 512 }
+    ensures { OnOk result (code.new ≡ code.old ++ Addi 5 3 (4 * words) ∷ Bgeu 2 5 24 ∷ Addi 10 0 words ∷ []) }
+{
+    put_addi(code, 5, 3, 4 * words)?;
+    code.push(Instr::Bgeu {
+        rs1: Register::of(2),
+        rs2: Register::of(5),
+        offset: Offset13::of(24),
+    })?;
+    put_addi(code, 10, 0, words)
+}
+
 /// Appends a request of as many words of the heap as are in register 10.
 pub fn put_requested(code: &mut CodeList, way: FrameWay, target: Place) -> Result<(), NoMemory>
     requires { IsInReach way target }
@@ -129,26 +193,20 @@ pub fn put_table_jump(code: &mut CodeList, table: u32) -> Result<(), NoMemory>
 pub fn put_before_call(
     code: &mut CodeList,
     spot: &Spot,
-    registers: usize,
+    places: &PlaceList,
     callee: Callee,
     arguments: &RegisterList,
 ) -> Result<(), NoMemory>
-    requires { FitsSpot spot.now registers × (registers < 2 ^ 30) × (callee_fits registers callee ≡ true) × (list_all (is_register registers) arguments.now ≡ true)
+    requires { FitsSpot spot.now places.now
         × (spot.now.arguments_at + length arguments.now ≤ 2 ^ 24) }
-    ensures { OnOk result (code.new ≡ code.old ++ own_before_call spot.now callee arguments.now) }
+    ensures { OnOk result (code.new ≡ code.old ++ placed_before_call places.now spot.now callee arguments.now) }
 {
     match callee {
-        Callee::Procedure(_) => put_arguments(
-            code,
-            spot.arguments_at,
-            spot.way,
-            registers,
-            arguments,
-        ),
+        Callee::Procedure(_) => put_passed(code, spot.arguments_at, spot.way, places, arguments),
         Callee::Word(register) => {
-            let number = own_place(spot.way, registers, register);
+            let number = place_in_reach(spot.way, places, register);
             put_load(code, spot.way, 6, number)?;
-            put_arguments(code, spot.arguments_at, spot.way, registers, arguments)
+            put_passed(code, spot.arguments_at, spot.way, places, arguments)
         }
     }
 }
@@ -161,7 +219,7 @@ pub fn put_call_jump(
     callee: Callee,
 ) -> Result<(), NoMemory>
     requires { (from < 2 ^ 25) × (spot.now.to < 2 ^ 24) × (spot.now.procedures_at < 2 ^ 24) }
-    ensures { OnOk result (code.new ≡ code.old ++ own_call_jump spot.now from callee) }
+    ensures { OnOk result (code.new ≡ code.old ++ placed_call_jump places.now spot.now from callee) }
 {
     match callee {
         Callee::Procedure(_) => put_jump(code, spot.near, 1, from, spot.to),

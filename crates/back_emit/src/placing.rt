@@ -1,8 +1,8 @@
 // The spots of lines with their positions, which are known from what is left.
 
 ghost use Rattle.std.specs.Prelude.{◌≡◌, ◌+◌, ◌^◌, ◌<◌, ℕ, slice_get, slice_index};
-ghost use Rattle.back_emit.specs.OwnSizes.{sizing_spot};
-ghost use Rattle.back_emit.specs.OwnLines.{line_position, callee_position, operation_goes, line_goes, placed_spot};
+ghost use Rattle.back_emit.specs.PlacedSizes.{sizing_spot};
+ghost use Rattle.back_emit.specs.PlacedLines.{line_position, callee_position, operation_goes, line_goes, placed_spot};
 
 use crate::sizes::{LeftList, NearList, left_at, sizing_spot};
 use crate::spots::{Sizing, Spot};

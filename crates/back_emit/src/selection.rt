@@ -1,7 +1,9 @@
 // The instructions of arithmetic, of tests and of jumps.
 
-ghost use Rattle.std.specs.Prelude.{◌≡◌, ◌+◌, ◌^◌, ◌<◌, [], ◌∷◌, ◌++◌, OnOk};
-ghost use Rattle.back_places.specs.Selection.{arithmetic_of, immediate_of, binary_code, compute_code, branch_where, branch_unless, branch_offset, jump_offset, far_offset, far_jump_code, jump_code, branch_code, low_12};
+ghost use Rattle.std.specs.Prelude.{◌≡◌, ◌+◌, ◌-◌, ◌%◌, ◌^◌, ◌<◌, [], ◌∷◌, ◌++◌, OnOk};
+ghost use Rattle.rv_encode.specs.declared.instruction.Instr.TheVariants.{Addi};
+ghost use Rattle.back_places.specs.Operands.{read_in, read_code, given_in, keep_code};
+ghost use Rattle.back_places.specs.Selection.{arithmetic_of, with_short, immediate_of, binary_code, short_code, compute_code, branch_where, branch_unless, branch_offset, jump_offset, far_offset, far_jump_code, jump_code, branch_code, low_12};
 ghost use Rattle.back_emit.specs.Ways.{way_of, IsInReach};
 
 use crate::operands::{
@@ -58,6 +60,111 @@ pub fn put_binary(
     let to = given_in(target);
     code.push(arithmetic(which, to, a, b))?;
     put_keep(code, way, target)
+}
+
+/// The word that is added where another one is subtracted.
+pub fn negated(word: u32) -> u32
+    ensures { result ≡ (2 ^ 32 - word) % 2 ^ 32 }
+{
+    let difference = 4_294_967_296 - u64::from(word);
+    (difference % 4_294_967_296) as u32
+}
+
+/// What is computed of a register and a word, in one instruction; none where there is no such instruction.
+pub fn immediate(which: Arithmetic, to: u32, first: u32, word: u32) -> Option<Instr>
+    requires { (to < 32) × (first < 32) }
+    ensures { result ≡ immediate_of which to first word }
+{
+    let rd = Register::of(to);
+    let rs1 = Register::of(first);
+    let short = is_short(word);
+    let immediate = low_part(word);
+    let shift = Shift5::of(word % 32);
+    match which {
+        Arithmetic::Add => short.then_some(Instr::Addi { rd, rs1, immediate }),
+        Arithmetic::Subtract => subtracted(to, first, word),
+        Arithmetic::Multiply => None,
+        Arithmetic::MultiplyHigh => None,
+        Arithmetic::Divide => None,
+        Arithmetic::Remainder => None,
+        Arithmetic::And => short.then_some(Instr::Andi { rd, rs1, immediate }),
+        Arithmetic::Or => short.then_some(Instr::Ori { rd, rs1, immediate }),
+        Arithmetic::ExclusiveOr => short.then_some(Instr::Xori { rd, rs1, immediate }),
+        Arithmetic::ShiftLeft => Some(Instr::Slli { rd, rs1, shift }),
+        Arithmetic::ShiftRight => Some(Instr::Srli { rd, rs1, shift }),
+        Arithmetic::ShiftRightSigned => Some(Instr::Srai { rd, rs1, shift }),
+        Arithmetic::Less => short.then_some(Instr::Slti { rd, rs1, immediate }),
+        Arithmetic::LessUnsigned => short.then_some(Instr::Sltiu { rd, rs1, immediate }),
+    }
+}
+
+// A word is subtracted by the addition of another one.
+fn subtracted(to: u32, first: u32, word: u32) -> Option<Instr>
+    requires { (to < 32) × (first < 32) }
+    ensures { result ≡ with_short (Addi to first) ((2 ^ 32 - word) % 2 ^ 32) }
+{
+    let difference = 4_294_967_296 - u64::from(word);
+    let negated = (difference % 4_294_967_296) as u32;
+    is_short(negated).then_some(Instr::Addi {
+        rd: Register::of(to),
+        rs1: Register::of(first),
+        immediate: low_part(negated),
+    })
+}
+
+/// Appends an operand, what is computed of it and a word, by one instruction where there is one, and its result to its place.
+pub fn put_with_word(
+    code: &mut CodeList,
+    way: FrameWay,
+    which: Arithmetic,
+    first: Place,
+    word: u32,
+    target: Place,
+) -> Result<(), NoMemory>
+    requires { IsInReach way first × IsInReach way target }
+    ensures { OnOk result (code.new ≡ code.old ++
+        short_code (way_of way) first word target which (immediate_of which (given_in target) (read_in 5 first) word)) }
+{
+    let a = read_in(5, first);
+    let to = given_in(target);
+    match immediate(which, to, a, word) {
+        Some(instruction) => put_short(code, way, first, instruction, target),
+        None => put_binary(code, way, which, first, Place::AsConstant(word), target),
+    }
+}
+
+fn put_short(
+    code: &mut CodeList,
+    way: FrameWay,
+    first: Place,
+    instruction: Instr,
+    target: Place,
+) -> Result<(), NoMemory>
+    requires { IsInReach way first × IsInReach way target }
+    ensures { OnOk result (code.new ≡ code.old ++ (read_code (way_of way) 5 first ++ (instruction ∷ keep_code (way_of way) target))) }
+{
+    put_read(code, way, 5, first)?;
+    code.push(instruction)?;
+    put_keep(code, way, target)
+}
+
+/// Appends what is computed of two places, and its result to its place.
+pub fn put_compute(
+    code: &mut CodeList,
+    way: FrameWay,
+    which: Arithmetic,
+    first: Place,
+    second: Place,
+    target: Place,
+) -> Result<(), NoMemory>
+    requires { IsInReach way first × IsInReach way second × IsInReach way target }
+    ensures { OnOk result (code.new ≡ code.old ++ compute_code (way_of way) first second target which) }
+{
+    match second {
+        Place::InRegister(_) => put_binary(code, way, which, first, second, target),
+        Place::InSlot(_) => put_binary(code, way, which, first, second, target),
+        Place::AsConstant(word) => put_with_word(code, way, which, first, word, target),
+    }
 }
 
 /// A branch where a comparison holds.

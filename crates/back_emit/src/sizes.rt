@@ -4,9 +4,9 @@ ghost use Rattle.std.specs.Prelude.{◌≡◌, ◌+◌, ◌^◌, ◌<◌, ◌≤
 ghost use Rattle.back_emit.specs.declared.errors.EmitError.TheVariants.{TooLarge};
 ghost use Rattle.mid_lines.specs.declared.line.Line.TheVariants.{Jump};
 ghost use Rattle.back_layout.specs.Sizes.{jump_size, goes_over_nothing};
-ghost use Rattle.back_emit.specs.OwnCode.{own_line, own_behind};
+ghost use Rattle.back_emit.specs.PlacedCode.{placed_line, placed_behind};
 ghost use Rattle.back_emit.specs.Fits.{FitsLine};
-ghost use Rattle.back_emit.specs.OwnSizes.{way_in, near_in, sizing_spot, own_line_size, own_rests, EachFits};
+ghost use Rattle.back_emit.specs.PlacedSizes.{way_in, near_in, sizing_spot, placed_line_size, placed_rests, EachFits};
 ghost use Rattle.std.specs.Prelude.{slice_get};
 
 use crate::code_of_lines::{put_behind, put_line};
@@ -15,6 +15,7 @@ use crate::operands::CodeList;
 use crate::spots::{Sizing, Spot};
 use crate::walking::WayList;
 use crate::ways::FrameWay;
+use back_allocation::PlaceList;
 use base::{ItemList, NoMemory};
 use mid_lines::{Line, LineList};
 use std::alloc::Global;
@@ -80,16 +81,16 @@ pub fn sizing_spot(sizing: Sizing, ways: &WayList, nears: &NearList, line: usize
 pub fn words_of_line(
     scratch: &mut CodeList,
     spot: &Spot,
-    registers: usize,
+    places: &PlaceList,
     line: &Line,
 ) -> Result<usize, EmitError>
-    requires { FitsLine spot.now registers line.now }
-    ensures ok { IfOk result (λ words. words ≡ length (own_line spot.now line.now) + length (own_behind spot.now line.now)) }
-    ensures err { IfErr result (λ e. e ≡ TooLarge → 2 ^ 24 ≤ length (own_line spot.now line.now)) }
+    requires { FitsLine spot.now places.now line.now }
+    ensures ok { IfOk result (λ words. words ≡ length (placed_line places.now spot.now line.now) + length (placed_behind places.now spot.now line.now)) }
+    ensures err { IfErr result (λ e. e ≡ TooLarge → 2 ^ 24 ≤ length (placed_line places.now spot.now line.now)) }
 {
     scratch.cut(0);
-    put_line(scratch, spot, registers, line)?;
-    put_behind(scratch, spot, registers, line)?;
+    put_line(scratch, spot, places, line)?;
+    put_behind(scratch, spot, places, line)?;
     Ok(scratch.len())
 }
 
@@ -106,6 +107,7 @@ pub fn words_of_jump(lefts: &LeftList, line: usize, to: usize, near: bool) -> us
 /// The words of a line, where these are left from each later line on.
 pub fn size_of_line(
     scratch: &mut CodeList,
+    places: &PlaceList,
     sizing: Sizing,
     ways: &WayList,
     nears: &NearList,
@@ -113,15 +115,15 @@ pub fn size_of_line(
     at: usize,
     line: &Line,
 ) -> Result<usize, EmitError>
-    requires { (at < 2 ^ 63) × FitsLine (sizing_spot sizing ways.now nears.now at) sizing.registers line.now }
-    ensures ok { IfOk result (λ words. words ≡ own_line_size sizing ways.now nears.now at line.now (drop (at + 1) lefts.now)) }
-    ensures err { IfErr result (λ e. e ≡ TooLarge → 2 ^ 24 ≤ own_line_size sizing ways.now nears.now at line.now (drop (at + 1) lefts.now)) }
+    requires { (at < 2 ^ 63) × FitsLine (sizing_spot sizing ways.now nears.now at) places.now line.now }
+    ensures ok { IfOk result (λ words. words ≡ placed_line_size places.now sizing ways.now nears.now at line.now (drop (at + 1) lefts.now)) }
+    ensures err { IfErr result (λ e. e ≡ TooLarge → 2 ^ 24 ≤ placed_line_size places.now sizing ways.now nears.now at line.now (drop (at + 1) lefts.now)) }
 {
     if let Line::Jump(to) = line {
         Ok(words_of_jump(lefts, at, *to, near_at(nears, at)))
     } else {
         let spot = sizing_spot(sizing, ways, nears, at);
-        words_of_line(scratch, &spot, sizing.registers, line)
+        words_of_line(scratch, &spot, places, line)
     }
 }
 
@@ -140,14 +142,15 @@ pub fn zeros_for(alloc: Global, lines: &LineList) -> Result<LeftList, NoMemory>
 /// Counts what is left from each line on. It is too large where that is 2^24 words or more.
 pub fn rests_of(
     alloc: Global,
+    places: &PlaceList,
     sizing: Sizing,
     ways: &WayList,
     nears: &NearList,
     lines: &LineList,
 ) -> Result<LeftList, EmitError>
-    requires { (length lines.now < 2 ^ 63) × EachFits sizing ways.now nears.now lines.now }
-    ensures ok { IfOk result (λ lefts. lefts ≡ own_rests sizing ways.now nears.now 0 lines.now) }
-    ensures err { IfErr result (λ e. e ≡ TooLarge → 2 ^ 24 ≤ slice_index (own_rests sizing ways.now nears.now 0 lines.now) 0) }
+    requires { (length lines.now < 2 ^ 63) × EachFits places.now sizing ways.now nears.now lines.now }
+    ensures ok { IfOk result (λ lefts. lefts ≡ placed_rests places.now sizing ways.now nears.now 0 lines.now) }
+    ensures err { IfErr result (λ e. e ≡ TooLarge → 2 ^ 24 ≤ slice_index (placed_rests places.now sizing ways.now nears.now 0 lines.now) 0) }
 {
     let mut lefts = zeros_for(alloc, lines)?;
     let mut scratch = CodeList::new(alloc);
@@ -157,7 +160,7 @@ pub fn rests_of(
         let Some(line) = lines.get(at) else {
             unreachable!()
         };
-        let words = size_of_line(&mut scratch, sizing, ways, nears, &lefts, at, line)?;
+        let words = size_of_line(&mut scratch, places, sizing, ways, nears, &lefts, at, line)?;
         if 16_777_216 <= words {
             return Err(EmitError::TooLarge);
         }

@@ -21,10 +21,10 @@ pub struct Spot {
     pub full_at: u32,
 }
 
-/// What is the same for all lines of a procedure: how many registers it has, the words of its frame, and positions in front of the code.
+/// What is the same for all lines of a procedure: how many slots it has, the words of its frame, and positions in front of the code.
 #[derive(Clone, Copy)]
 pub struct Sizing {
-    pub registers: usize,
+    pub slots: u32,
     pub frame: u32,
     pub arguments_at: u32,
     pub procedures_at: u32,

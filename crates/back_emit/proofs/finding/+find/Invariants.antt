@@ -28,10 +28,10 @@ decreases-lent_finds l = code_size (code_of l.inside.now) + 1
 
 abbrev pub invariant-code_finds-loop-step : goal.invariant-code_finds-loop-step
 invariant-code_finds-loop-step l =
-    (code_finds l.size.registers l.size.frame (way_of l.way) (code_of (drop l.step-index l.code)) ≡ code_finds l.size.registers l.size.frame (way_of l.way) (code_of l.code))
+    (code_finds l.size.slots l.size.frame (way_of l.way) (code_of (drop l.step-index l.code)) ≡ code_finds l.size.slots l.size.frame (way_of l.way) (code_of l.code))
     × DeepStays (code_ways l.way (code_of (drop l.step-index l.code))) (code_ways l.way (code_of l.code))
 
 abbrev pub invariant-codes_find-loop-case : goal.invariant-codes_find-loop-case
 invariant-codes_find-loop-case l =
-    (codes_find l.size.registers l.size.frame (way_of l.way) (codes_of (drop l.case-index l.codes)) ≡ codes_find l.size.registers l.size.frame (way_of l.way) (codes_of l.codes))
+    (codes_find l.size.slots l.size.frame (way_of l.way) (codes_of (drop l.case-index l.codes)) ≡ codes_find l.size.slots l.size.frame (way_of l.way) (codes_of l.codes))
     × DeepStays (codes_ways l.way (codes_of (drop l.case-index l.codes))) (codes_ways l.way (codes_of l.codes))

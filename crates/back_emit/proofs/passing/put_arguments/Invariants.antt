@@ -1,9 +1,9 @@
 -- As many arguments are passed as were looked at.
 use Rattle.std.proofs.Common.{◌≡◌, ◌++◌, map, take}
 use Rattle.back_places.specs.Passing.{arguments_code}
-use Rattle.back_places.specs.Trivial.{own_slot}
+use Rattle.back_allocation.specs.Places.{place_at}
 use Rattle.back_emit.specs.Ways.{way_of}
 use Rattle.back_emit.proofs.passing.put_arguments.Given as goal
 
 abbrev pub invariant-loop-i : goal.invariant-loop-i
-invariant-loop-i l = l.code ≡ l.fn.code ++ arguments_code l.words_at (way_of l.way) 0 (map own_slot (take l.i l.arguments))
+invariant-loop-i l = l.code ≡ l.fn.code ++ arguments_code l.words_at (way_of l.way) 0 (map (place_at l.places) (take l.i l.arguments))

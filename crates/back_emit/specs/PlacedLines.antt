@@ -9,7 +9,7 @@ use Rattle.mid_lines.specs.declared.line.Line.TheVariants.{Do, Branch, Jump, Lay
 use Rattle.back_emit.specs.declared.spots.Spot.{Spot}
 use Rattle.back_emit.specs.declared.spots.Sizing.{Sizing}
 use Rattle.back_emit.specs.declared.ways.FrameWay.{FrameWay}
-use Rattle.back_emit.specs.OwnSizes.{sizing_spot}
+use Rattle.back_emit.specs.PlacedSizes.{sizing_spot}
 
 -- the position of a line, in a body at a position
 abbrev pub line_position : (lefts : List ℕ) → (body line : ℕ) → ℕ

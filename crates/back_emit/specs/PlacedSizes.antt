@@ -1,14 +1,15 @@
--- How many words are left from each line on, where each register is in a slot of its own: what `back_layout` counts, from the spots of lines.
+-- How many words are left from each line on, where registers have these places: what `back_layout` counts, from the spots of lines.
 use Rattle.std.specs.Prelude.{◌≡◌, ℕ, ◌+◌, Bool, false, List, [], ◌∷◌, length, slice_get, slice_index, Option, Some, None}
 use Rattle.mid_lines.specs.declared.line.Line.{Line}
 use Rattle.mid_lines.specs.declared.line.Line.TheVariants.{Jump}
+use Rattle.back_places.specs.declared.place.Place.{Place}
 use Rattle.back_places.specs.Places.{Located}
 use Rattle.back_layout.specs.Sizes.{unplaced, jump_size, goes_over_nothing, rests}
 use Rattle.back_emit.specs.declared.spots.Spot.{Spot}
 use Rattle.back_emit.specs.declared.spots.Sizing.{Sizing}
 use Rattle.back_emit.specs.declared.ways.FrameWay.{FrameWay}
 use Rattle.back_emit.specs.declared.ways.FrameWay.TheVariants.{NoWay}
-use Rattle.back_emit.specs.OwnCode.{own_line, own_behind}
+use Rattle.back_emit.specs.PlacedCode.{placed_line, placed_behind}
 use Rattle.back_emit.specs.Fits.{FitsLine}
 use Rattle.back_emit.specs.Agree.{AgreesAt}
 
@@ -39,25 +40,27 @@ module _ (z : Sizing) (ways : List FrameWay) (nears : List Bool) where
     full_at = z.full_at;
   }
 
+module _ (places : List Place) (z : Sizing) (ways : List FrameWay) (nears : List Bool) where
   -- the words of a line, where these are left from each later line on
-  abbrev pub own_line_size : (line : ℕ) → Line → (rests : List ℕ) → ℕ
-  own_line_size line (Jump to) rests = jump_size (goes_over_nothing line to rests) (near_in (slice_get nears line))
-  own_line_size line x rests = length (own_line (sizing_spot line) x) + length (own_behind (sizing_spot line) x)
+  abbrev pub placed_line_size : (line : ℕ) → Line → (rests : List ℕ) → ℕ
+  placed_line_size line (Jump to) rests = jump_size (goes_over_nothing line to rests) (near_in (slice_get nears line))
+  placed_line_size line x rests =
+      length (placed_line places (sizing_spot z ways nears line) x) + length (placed_behind places (sizing_spot z ways nears line) x)
 
-  abbrev pub with_own_line : (line : ℕ) → Line → (rests : List ℕ) → List ℕ
-  with_own_line line x rests = (slice_index rests 0 + own_line_size line x rests) ∷ rests
+  abbrev pub with_placed_line : (line : ℕ) → Line → (rests : List ℕ) → List ℕ
+  with_placed_line line x rests = (slice_index rests 0 + placed_line_size line x rests) ∷ rests
 
-  abbrev pub own_rests : (line : ℕ) → List Line → List ℕ
-  own_rests line [] = 0 ∷ []
-  own_rests line (x ∷ more) = with_own_line line x (own_rests (line + 1) more)
+  abbrev pub placed_rests : (line : ℕ) → List Line → List ℕ
+  placed_rests line [] = 0 ∷ []
+  placed_rests line (x ∷ more) = with_placed_line line x (placed_rests (line + 1) more)
 
   -- what is asked of each line
   abbrev pub EachFits : List Line → Type 0
-  EachFits xs = (line : ℕ) (x : Line) → slice_get xs line ≡ Some x → FitsLine (sizing_spot line) z.registers x
+  EachFits xs = (line : ℕ) (x : Line) → slice_get xs line ≡ Some x → FitsLine (sizing_spot z ways nears line) places x
 
 -- where the spots say what was decided, this is what the layout counts
-abbrev pub LawOfOwnRests : Type 0
-LawOfOwnRests =
-    (l : Located) (number frame : ℕ) (z : Sizing) (ways : List FrameWay) (nears : List Bool) (xs : List Line)
-    → ((line : ℕ) (x : Line) → slice_get xs line ≡ Some x → AgreesAt (unplaced l) number frame line (sizing_spot z ways nears line) x)
-    → rests l number frame 0 xs ≡ own_rests z ways nears 0 xs
+abbrev pub LawOfPlacedRests : Type 0
+LawOfPlacedRests =
+    (l : Located) (places : List Place) (number frame : ℕ) (z : Sizing) (ways : List FrameWay) (nears : List Bool) (xs : List Line)
+    → ((line : ℕ) (x : Line) → slice_get xs line ≡ Some x → AgreesAt (unplaced l) places number frame line (sizing_spot z ways nears line) x)
+    → rests l number frame 0 xs ≡ placed_rests places z ways nears 0 xs
