@@ -1,19 +1,17 @@
 -- Places that fit a program are a choice for all its procedures, by which decisions are good but for positions.
-use Rattle.std.proofs.Common.{◌≡◌, ℕ, zero, suc, ◌≤◌, Bool, false, List, [], ◌∷◌, length, Option, Some, None, option_map, refl, sym, ap, subst, ◌∙◌, arith}
+use Rattle.std.proofs.Common.{◌≡◌, ℕ, zero, suc, Bool, false, List, [], ◌∷◌, length, Option, Some, None, option_map, refl, sym, ap, subst, ◌∙◌, arith}
 use mathlib.Core.Path.{fun_ext}
-use Rattle.std.specs.Prelude.{slice_get, slice_index_or}
+use Rattle.std.specs.Prelude.{slice_get}
 use Rattle.std.proofs.lemmas.Option.{slice_get-map}
 use Rattle.mid_code.specs.declared.program.MidProcedure.{MidProcedure}
 use Rattle.mid_code.specs.declared.program.MidProgram.{MidProgram}
 use Rattle.mid_lines.specs.declared.line.LineProcedure.{LineProcedure}
-use Rattle.mid_lines.specs.declared.line.LineProgram.{LineProgram}
 use Rattle.mid_lines.specs.Flattened.{procedure_lines, program_lines}
-use Rattle.mid_lines.specs.StaticRecords.{procedure_records}
 use Rattle.back_places.specs.declared.place.Place.{Place}
 use Rattle.back_places.specs.Places.{Located}
 use Rattle.back_places.specs.StepLaw.{Known}
 use Rattle.back_trivial.specs.KnownRecords.{tree_records}
-use Rattle.back_trivial.specs.OwnSlots.{PassesArguments, IsPlacedWell}
+use Rattle.back_trivial.specs.OwnSlots.{IsPlacedWell}
 use Rattle.back_trivial.proofs.TreeLines.{procedure_of_tree}
 use Rattle.back_allocation.specs.declared.placing.RegisterPlaces.{RegisterPlaces}
 use Rattle.back_allocation.specs.LineSteps.{landings_of, landings_in}
@@ -40,11 +38,11 @@ parameters_of spot enters (Some p) = parameter_places spot enters 0 p.parameters
 
 module _ (program : MidProgram) (chosen : List RegisterPlaces) (fit : PlacesFit program chosen) where
   -- the tests of a procedure that is there
-  alive_in : (number : ℕ) (o : Option MidProcedure) → slice_get program.procedures number ≡ o → (register line : ℕ) → Bool
+  abbrev alive_in : (number : ℕ) (o : Option MidProcedure) → slice_get program.procedures number ≡ o → (register line : ℕ) → Bool
   alive_in number None h v line = false
   alive_in number (Some p) h v line = (fit.each number p h).stand.alive v line
 
-  enters_in : (number : ℕ) (o : Option MidProcedure) → slice_get program.procedures number ≡ o → (register : ℕ) → Bool
+  abbrev enters_in : (number : ℕ) (o : Option MidProcedure) → slice_get program.procedures number ≡ o → (register : ℕ) → Bool
   enters_in number None h v = false
   enters_in number (Some p) h v = (fit.each number p h).stand.enters v
 
@@ -61,15 +59,15 @@ module _ (program : MidProgram) (chosen : List RegisterPlaces) (fit : PlacesFit 
   stand_in :
       (number : ℕ) (o : Option MidProcedure) (e : slice_get program.procedures number ≡ o) (p : MidProcedure) → o ≡ Some p
       → AllStand (procedure_lines p).lines p.parameters (landings_in (line_landings 0 [] (procedure_lines p).lines)) (place_at (places_for chosen number).places)
-          (alive_in number o e) (enters_in number o e) (places_for chosen number).slots
+      (alive_in number o e) (enters_in number o e) (places_for chosen number).slots
   stand_in number None e p g = absurd (cc g)
   stand_in number (Some q) e p g =
       let same : q ≡ p = cc g in
       let s = (fit.each number q e).stand in
       subst
-          (λ r. AllStand (procedure_lines r).lines r.parameters (landings_in (line_landings 0 [] (procedure_lines r).lines)) (place_at (places_for chosen number).places) s.alive s.enters
-              (places_for chosen number).slots)
-          same s.stand
+      (λ r. AllStand (procedure_lines r).lines r.parameters (landings_in (line_landings 0 [] (procedure_lines r).lines)) (place_at (places_for chosen number).places) s.alive s.enters
+      (places_for chosen number).slots)
+      same s.stand
 
   -- its entry brings parameters where the choice says
   entry_in :
@@ -88,12 +86,12 @@ module _ (program : MidProgram) (chosen : List RegisterPlaces) (fit : PlacesFit 
         ap landings_in known.told ∙ fun_ext known.standing in
         let here = stand_in number (slice_get program.procedures number) refl o.tree o.there in
         subst
-            (λ q. AllStand q.lines q.parameters (λ line. landings_of (tree_records program number line)) (choice.spot number) (choice.alive number) (choice.enters number)
-                (choice.slots number))
-            o.same
-            (subst
-                (λ t. AllStand (procedure_lines o.tree).lines o.tree.parameters t (choice.spot number) (choice.alive number) (choice.enters number) (choice.slots number))
-                landings here);
+        (λ q. AllStand q.lines q.parameters (λ line. landings_of (tree_records program number line)) (choice.spot number) (choice.alive number) (choice.enters number)
+        (choice.slots number))
+        o.same
+        (subst
+        (λ t. AllStand (procedure_lines o.tree).lines o.tree.parameters t (choice.spot number) (choice.alive number) (choice.enters number) (choice.slots number))
+        landings here);
     finds = λ number p h. (fit.each number p h).finds;
   }
 
