@@ -36,6 +36,8 @@ read_short way scratch (AsConstant (suc w)) = constant_short scratch (suc w)
 pub tested_short : (places : List Place) (s : Spot) (first second : ℕ) → length (placed_tested places s first second) ≤ 6
 tested_short places s first second =
     omega (
-      arith, read_short (way_of s.way) 5 (place_at places first), read_short (way_of s.way) 6 (place_at places second),
+      arith,
+      read_short (way_of s.way) 5 (place_at places first),
+      read_short (way_of s.way) 6 (place_at places second),
       length-append (read_placed places s 5 first) (read_placed places s 6 second),
     )

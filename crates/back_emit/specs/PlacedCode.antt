@@ -21,6 +21,16 @@ use Rattle.back_allocation.specs.Places.{place_at}
 use Rattle.back_emit.specs.Ways.{way_of}
 use Rattle.back_emit.specs.declared.spots.Spot.{Spot}
 
+module _ (s : Spot) where
+  -- the jump of a call
+  abbrev pub placed_call_jump : (from : ℕ) → Callee → List Instr
+  placed_call_jump from (Procedure n) = jump_code s.near 1 from s.to
+  placed_call_jump from (Word r) = table_jump_code s.procedures_at
+
+  -- a jump forward over lines without instructions has none
+  abbrev pub placed_silent : (to : ℕ) → Bool
+  placed_silent to = nat_lt s.line to && (s.to == s.next)
+
 module _ (places : List Place) (s : Spot) where
   -- a register is read, is loaded into a register of the machine, and gets a word
   abbrev pub read_placed : (scratch register : ℕ) → List Instr
@@ -32,17 +42,13 @@ module _ (places : List Place) (s : Spot) where
   abbrev pub give_placed : (from : Place) → (register : ℕ) → List Instr
   give_placed from r = move_code (way_of s.way) from (place_at places r)
 
-  -- a call: its arguments are passed, and behind the number of a procedure in a register; and its jump
+  -- a call up to its jump: arguments are passed, behind the number of a procedure where that is in a register
   abbrev pub placed_arguments : List ℕ → List Instr
   placed_arguments arguments = pass_code s.arguments_at (way_of s.way) (map (place_at places) arguments)
 
   abbrev pub placed_before_call : Callee → (arguments : List ℕ) → List Instr
   placed_before_call (Procedure n) arguments = placed_arguments arguments
   placed_before_call (Word r) arguments = load_placed 6 r ++ placed_arguments arguments
-
-  abbrev pub placed_call_jump : (from : ℕ) → Callee → List Instr
-  placed_call_jump from (Procedure n) = jump_code s.near 1 from s.to
-  placed_call_jump from (Word r) = table_jump_code s.procedures_at
 
   -- operations
   abbrev pub placed_operation : Operation → List Instr
@@ -64,11 +70,7 @@ module _ (places : List Place) (s : Spot) where
   placed_operation (operation.Put from) = load_placed 10 from ++ Addi 17 0 1 ∷ Ecall ∷ []
   placed_operation (operation.Get to) = Addi 17 0 2 ∷ Ecall ∷ give_placed (InRegister 10) to
   placed_operation (operation.Call to callee arguments) =
-      placed_before_call callee arguments ++ placed_call_jump (s.at + length (placed_before_call callee arguments)) callee
-
-  -- a jump forward over lines without instructions has none
-  abbrev pub placed_silent : (to : ℕ) → Bool
-  placed_silent to = nat_lt s.line to && (s.to == s.next)
+      placed_before_call callee arguments ++ placed_call_jump s (s.at + length (placed_before_call callee arguments)) callee
 
   -- both operands of a test
   abbrev pub placed_tested : (first second : ℕ) → List Instr
@@ -113,7 +115,7 @@ module _ (places : List Place) (s : Spot) where
       ++ branch_code s.near t.comparison (read_in 5 (place_at places t.first)) (read_in 6 (place_at places t.second))
       (s.at + length (placed_tested t.first t.second)) s.to
   placed_line (Switch r targets) = placed_switch r
-  placed_line (Jump to) = if placed_silent to then [] else jump_code s.near 0 s.at s.to
+  placed_line (Jump to) = if placed_silent s to then [] else jump_code s.near 0 s.at s.to
   placed_line (Lay block words landing) = placed_lay block words
   placed_line (Landed r) = give_placed (InRegister 12) r
   placed_line (GiveBack words) = raise_code (words + header_words)

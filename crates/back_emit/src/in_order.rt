@@ -27,6 +27,7 @@ pub fn are_in_order(places: &PlaceList, arguments: &RegisterList) -> bool
 }
 
 /// Whether a place is another one than the registers of the first arguments.
+#[tactic(auto, using(crate::proofs::InOrder::slot_unwritten, crate::proofs::InOrder::constant_unwritten))]
 pub fn is_unwritten(count: usize, place: Place) -> bool
     ensures { result ≡ is_unwritten 0 count place }
 {
@@ -37,15 +38,17 @@ pub fn is_unwritten(count: usize, place: Place) -> bool
     }
 }
 
-// Only fourteen arguments have registers: register 0 stands for those of all others.
+// Behind the first fourteen arguments, which have registers, register 0 stands for all others.
 fn is_register_unwritten(count: usize, register: u32) -> bool
     ensures { result ≡ is_unwritten 0 count (InRegister register) }
 {
-    let passed = if count < 14 { count } else { 14 };
-    for i in 0..passed {
+    for i in 0..count {
+        if i == 14 {
+            return register != 0;
+        }
         if argument_register(i) == register {
             return false;
         }
     }
-    count <= 14 || register != 0
+    true
 }

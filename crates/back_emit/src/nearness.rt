@@ -59,12 +59,6 @@ pub fn passed_length(
     ensures { IfOk result (λ count. count ≡ length (placed_before_call places.now spot.now (Procedure number) arguments.now)) }
 {
     scratch.cut(0);
-    put_before_call(
-        scratch,
-        spot,
-        places,
-        Callee::Procedure(number),
-        arguments,
-    )?;
+    put_before_call(scratch, spot, places, Callee::Procedure(number), arguments)?;
     Ok(scratch.len())
 }

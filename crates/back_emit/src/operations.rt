@@ -219,7 +219,7 @@ pub fn put_call_jump(
     callee: Callee,
 ) -> Result<(), NoMemory>
     requires { (from < 2 ^ 25) × (spot.now.to < 2 ^ 24) × (spot.now.procedures_at < 2 ^ 24) }
-    ensures { OnOk result (code.new ≡ code.old ++ placed_call_jump places.now spot.now from callee) }
+    ensures { OnOk result (code.new ≡ code.old ++ placed_call_jump spot.now from callee) }
 {
     match callee {
         Callee::Procedure(_) => put_jump(code, spot.near, 1, from, spot.to),

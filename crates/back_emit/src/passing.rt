@@ -132,6 +132,7 @@ pub fn put_fetched(code: &mut CodeList, words_at: u32, count: usize) -> Result<(
 
 /// Appends that arguments are passed: one after the other, or by words of the image where a later one would be read from a register that was
 /// written for one before it.
+#[tactic(auto, using(crate::proofs::Passed::length_placed))]
 pub fn put_passed(
     code: &mut CodeList,
     words_at: u32,
