@@ -1,5 +1,5 @@
 -- The registers of the worked program stand well in those of the machine.
-use Rattle.std.proofs.Common.{◌≡◌, ◌≢◌, ℕ, zero, suc, ◌<◌, Bool, true, false, [], ◌∷◌, List, length, Some, refl, subst, arith}
+use Rattle.std.proofs.Common.{◌≡◌, ◌≢◌, ℕ, zero, suc, ◌<◌, Bool, true, false, List, length, Some, refl, subst, arith}
 use Rattle.std.specs.Prelude.{slice_get}
 use Rattle.mid_code.specs.declared.operation.Operation.TheVariants as operation
 use Rattle.mid_code.specs.declared.program.MidProcedure.{MidProcedure}
@@ -8,15 +8,16 @@ use Rattle.mid_lines.specs.declared.line.Line.TheVariants.{Do, Cut}
 use Rattle.mid_lines.specs.Flattened.{procedure_lines}
 use Rattle.mid_lines.specs.LinesChecked.{line_fits}
 use Rattle.back_places.specs.declared.place.Place.{Place}
+use Rattle.back_places.specs.declared.place.Place.TheVariants.{InRegister, InSlot, AsConstant}
 use Rattle.back_places.specs.Facts.{IsPlace, Apart, IsSomewhere}
 use Rattle.back_places.proofs.LinesInForm.{all_at}
+use Rattle.back_trivial.specs.OwnSlots.{no_target}
 use Rattle.back_allocation.specs.declared.placing.RegisterPlaces.{RegisterPlaces}
 use Rattle.back_allocation.specs.LineSteps.{line_gives}
 use Rattle.back_allocation.specs.Standing.{MayCut}
 use Rattle.back_allocation.specs.Places.{place_at}
 use Rattle.back_allocation.specs.ProgramPlaces.{places_for, FitsProcedure, PlacesFit}
 use Rattle.back_allocation.proofs.GivenRegisters.{line_given}
-use Rattle.back_allocation.proofs.Parameters.{from_nowhere}
 use Rattle.back_images.specs.Worked.{printing_procedure, printing, in_registers}
 
 abbrev chosen : RegisterPlaces
@@ -24,6 +25,11 @@ chosen = places_for in_registers 0
 
 abbrev spot : ℕ → Place
 spot v = place_at chosen.places v
+
+from_nowhere : (p : Place) → Apart no_target p
+from_nowhere (InRegister r) = tt
+from_nowhere (InSlot k) = tt
+from_nowhere (AsConstant w) = tt
 
 all_apart : (v u : ℕ) → v ≢ u → Apart (spot v) (spot u)
 all_apart zero zero ne = absurd (ne refl)
