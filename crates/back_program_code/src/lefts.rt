@@ -26,12 +26,7 @@ pub type NearTable = ItemList<NearList>;
 pub type LeftTable = ItemList<LeftList>;
 
 /// Appends the entry of a procedure, at a position.
-pub fn put_entry(
-    code: &mut CodeList,
-    front: Front,
-    at: u32,
-    shape: &Shape,
-) -> Result<(), NoMemory>
+pub fn put_entry(code: &mut CodeList, front: Front, at: u32, shape: &Shape) -> Result<(), NoMemory>
     requires { FitsShape front shape.now × (at < 2 ^ 24) }
     ensures { OnOk result (code.new ≡ code.old ++ placed_entry (full_position front) front.arguments_at at shape.now.procedure.frame shape.now.chosen.parameters) }
 {
@@ -41,11 +36,7 @@ pub fn put_entry(
 }
 
 /// How many words an entry has. The list is for instructions that are only counted.
-pub fn entry_words(
-    scratch: &mut CodeList,
-    front: Front,
-    shape: &Shape,
-) -> Result<usize, NoMemory>
+pub fn entry_words(scratch: &mut CodeList, front: Front, shape: &Shape) -> Result<usize, NoMemory>
     requires { FitsShape front shape.now }
     ensures { IfOk result (λ words. words ≡ entry_words front shape.now) }
 {

@@ -38,11 +38,7 @@ pub fn are_near_shapes(shapes: &ShapeList) -> bool
     ensures { result ≡ list_all is_near_shape shapes.now }
 {
     for shape in shapes.as_slice() {
-        if !are_near_ways(
-            shape.chosen.slots,
-            shape.procedure.frame,
-            &shape.ways,
-        ) {
+        if !are_near_ways(shape.chosen.slots, shape.procedure.frame, &shape.ways) {
             return false;
         }
     }

@@ -107,12 +107,10 @@ pub fn is_near_way(slots: u32, frame: u32, way: FrameWay) -> bool
 {
     match way {
         FrameWay::FromStack(depth) => {
-            is_sum_below(depth, slots, 1_073_741_824)
-                && is_sum_below(depth, frame, 1_073_741_824)
+            is_sum_below(depth, slots, 1_073_741_824) && is_sum_below(depth, frame, 1_073_741_824)
         }
         FrameWay::PastLent(depth) => {
-            is_sum_below(depth, slots, 1024)
-                && is_sum_below(depth, frame, 1_073_741_824)
+            is_sum_below(depth, slots, 1024) && is_sum_below(depth, frame, 1_073_741_824)
         }
         FrameWay::NoWay => frame < 1_073_741_824,
     }
