@@ -1,6 +1,7 @@
 -- Arguments in order, one more; and registers that are left as they are.
 use Rattle.std.proofs.Common.{◌≡◌, ◌≤◌, ℕ, zero, suc, ◌+◌, ◌-◌, ◌<◌, Bool, true, false, List, [], ◌∷◌, length, map, take, Some, refl, sym, ap, ◌∙◌, arith}
 use Rattle.std.specs.Prelude.{◌==◌, ◌&&◌, not, slice_get, slice_index}
+use Rattle.std.proofs.lemmas.Bool.Decides.{nat_tests}
 use Rattle.back_places.specs.declared.place.Place.{Place}
 use Rattle.back_places.specs.declared.place.Place.TheVariants.{InRegister, InSlot, AsConstant}
 use Rattle.back_places.specs.Places.{argument_register, value_registers}
@@ -78,7 +79,7 @@ constant_unwritten from (suc count) w = constant_unwritten (from + 1) count w
 
 -- a register, from the first arguments on
 
-pub one_compared :
+one_compared :
     (i count r : ℕ) → i < count
     → is_unwritten i (count - i) (InRegister r) ≡ (not (r == argument_register i) && is_unwritten (i + 1) (count - (i + 1)) (InRegister r))
 one_compared i count r below =
@@ -99,7 +100,28 @@ others_unwritten i (suc n) r above =
     ap (λ q. not (r == q) && is_unwritten (i + 1) (suc n) (InRegister r)) (beyond value_registers i above)
     ∙ ap (λ b. not (r == 0) && b) (others_unwritten (i + 1) n r (omega (arith, above))) ∙ and_again (not (r == 0))
 
-pub many_unwritten : (count r : ℕ) → 14 < count → is_unwritten 14 (count - 14) (InRegister r) ≡ not (r == 0)
+many_unwritten : (count r : ℕ) → 14 < count → is_unwritten 14 (count - 14) (InRegister r) ≡ not (r == 0)
 many_unwritten count r above =
     let more : count - 14 ≡ suc (count - 15) = omega (arith, above) in
     ap (λ n. is_unwritten 14 n (InRegister r)) more ∙ others_unwritten 14 (count - 15) r (omega arith)
+
+pub at_others :
+    (i count r : ℕ) → i ≡ 14 → i < count → is_unwritten i (count - i) (InRegister r) ≡ is_unwritten 0 count (InRegister r)
+    → not (r == 0) ≡ is_unwritten 0 count (InRegister r)
+at_others i count r e below h =
+    sym (many_unwritten count r (omega (arith, e, below))) ∙ ap (λ k. is_unwritten k (count - k) (InRegister r)) (sym e) ∙ h
+
+-- one argument more, in another register
+
+differs : (r q : ℕ) → (q ≡ r → ⊥) → not (r == q) ≡ true
+differs r q h = grind (arith, nat_tests, h)
+
+pub unwritten_more :
+    (i count r q : ℕ) → i < count → i ≤ 14 → (i ≡ 14 → ⊥) → q ≡ argument_register i → (q ≡ r → ⊥)
+    → is_unwritten i (count - i) (InRegister r) ≡ is_unwritten 0 count (InRegister r)
+    → (i + 1 ≤ 14) × (is_unwritten (i + 1) (count - (i + 1)) (InRegister r) ≡ is_unwritten 0 count (InRegister r))
+unwritten_more i count r q below few short is other h = (
+  omega (arith, few, short),
+  sym (ap (λ b. b && is_unwritten (i + 1) (count - (i + 1)) (InRegister r)) (ap (λ k. not (r == k)) (sym is) ∙ differs r q other))
+      ∙ sym (one_compared i count r below) ∙ h,
+)
