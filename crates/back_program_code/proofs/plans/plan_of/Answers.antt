@@ -33,7 +33,5 @@ pub returns-then-not-are_near_shapes-clause-large : goal.returns-then-not-are_ne
 returns-then-not-are_near_shapes-clause-large c e =
     let program = c.args.program.now in
     let shapes = c.in_ok-shapes.shapes in
-    inr (
-      near_or_deep program (chosen_in shapes) c.requires (places_fit program shapes c.in_ok-shapes.ensures.ok) shapes (shapes_are program shapes c.in_ok-shapes.ensures.ok)
-          (sym c.are_near_shapes.ensures ∙ c.if-not-are_near_shapes.true),
-    )
+    inr (near_or_deep program (chosen_in shapes) c.requires (places_fit program shapes c.in_ok-shapes.ensures.ok) shapes (shapes_are program shapes c.in_ok-shapes.ensures.ok)
+    (sym c.are_near_shapes.ensures ∙ c.if-not-are_near_shapes.true))
