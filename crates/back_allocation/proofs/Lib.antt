@@ -7,3 +7,6 @@ pub mod ToldLandings
 pub mod Choosing
 pub mod TreePlaces
 pub mod PlacesOfSpots
+pub mod ProgramPlaces
+pub mod FewerSlots
+pub mod GivenRegisters

@@ -1,8 +1,7 @@
 -- The places of spots, and of parameters, one more; and that registers stand well in them.
-use Rattle.std.proofs.Common.{◌≡◌, ℕ, zero, suc, ◌+◌, ◌<◌, ◌≤◌, Bool, List, [], ◌∷◌, ◌++◌, length, map, take, Option, Some, None, refl, sym, ap, subst, ◌∙◌, arith}
+use Rattle.std.proofs.Common.{◌≡◌, ℕ, zero, suc, ◌+◌, ◌<◌, Bool, List, [], ◌∷◌, ◌++◌, map, Option, refl, sym, ap, subst, ◌∙◌, arith}
 use mathlib.Core.Path.{fun_ext}
-use Rattle.std.specs.Prelude.{slice_index_or, if◌then◌else◌}
-use Rattle.mid_lines.specs.declared.line.Line.{Line}
+use Rattle.std.specs.Prelude.{if◌then◌else◌}
 use Rattle.mid_lines.specs.declared.line.LineProcedure.{LineProcedure}
 use Rattle.back_places.specs.declared.place.Place.{Place}
 use Rattle.back_places.specs.declared.place.Place.TheVariants.{InRegister}
@@ -11,7 +10,6 @@ use Rattle.back_places.specs.Facts.{IsPlace}
 use Rattle.back_trivial.specs.OwnSlots.{no_target}
 use Rattle.back_scan.specs.declared.spot.Spot.{Spot}
 use Rattle.back_liveness.specs.declared.step.Interval.{Interval}
-use Rattle.back_allocation.specs.declared.placing.RegisterPlaces.{RegisterPlaces}
 use Rattle.back_allocation.specs.LineSteps.{landings_in}
 use Rattle.back_allocation.specs.StandingLandings.{line_landings}
 use Rattle.back_allocation.specs.Allocated.{parameter_places}

@@ -27,7 +27,7 @@ use Rattle.back_allocation.specs.TreePlaces.{parameters_in, with_places, FitsTre
 use Rattle.back_allocation.proofs.Allocating.{law_of_allocated}
 
 -- what is found in a procedure, as that of a program that has it alone
-found_alone :
+pub found_alone :
     (p : MidProcedure) → procedure_finds p ≡ true → Found (procedure_records (Some p)) p.registers p.frame (code_lines 0 (code_of p.body))
 found_alone p h =
     let alone : MidProgram = record { procedures = p ∷ []; laid = [] } in

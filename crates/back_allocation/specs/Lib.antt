@@ -7,3 +7,4 @@ pub mod Places
 pub mod Allocated
 pub mod RegistersPlaced
 pub mod TreePlaces
+pub mod ProgramPlaces

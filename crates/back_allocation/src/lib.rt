@@ -10,6 +10,8 @@ pub mod steps;
 pub mod wishes;
 
 pub use allocation::allocate;
-pub use laws::{law_allocated, law_good_places, law_landings, law_places};
+pub use laws::{
+    law_allocated, law_fewer_slots, law_good_places, law_landings, law_places, law_program_places,
+};
 pub use placing::{PlaceList, RegisterPlaces, place_at, place_registers};
 pub use steps::LandingsList;

@@ -32,8 +32,8 @@ pub struct RegisterPlaces {
     pub slots: u32,
 }
 
-/// Where the registers of a procedure stand; none where its frame has no word for each slot and one for the return address, so it has no more
-/// words than there are registers.
+/// Where the registers of a procedure stand, with no more slots than there are registers; none where its frame has no word for each slot and one for
+/// the return address, so it has no more words than there are registers.
 pub fn place_registers(
     alloc: Global,
     procedure: &LineProcedure,
@@ -41,7 +41,7 @@ pub fn place_registers(
     requires registers { (line to : ℕ) (x : Line) → slice_get procedure.now.lines line ≡ Some x → line_gives x ≡ Some to → to < procedure.now.registers }
     requires parameters { procedure.now.parameters ≤ procedure.now.registers }
     ensures { IfOk result (λ found. MatchOption found (procedure.now.frame ≤ procedure.now.registers)
-        (λ a. StandInPlaces procedure.now a × (a.slots < procedure.now.frame))) }
+        (λ a. StandInPlaces procedure.now a × (a.slots < procedure.now.frame) × (a.slots ≤ procedure.now.registers))) }
 {
     let lines = &procedure.lines;
     if 4_611_686_018_427_387_904 <= lines.len() {

@@ -7,12 +7,12 @@ use Rattle.back_places.specs.declared.place.Place.{Place}
 use Rattle.back_places.specs.Places.{Located}
 use Rattle.back_places.specs.Good.{IsGood}
 use Rattle.back_places.specs.StepLaw.{Known}
-use Rattle.back_trivial.specs.OwnSlots.{is_in_own_slot, IsPlacedWell}
+use Rattle.back_trivial.specs.OwnSlots.{IsPlacedWell}
 use Rattle.back_layout.specs.Layout.{start_at, laid_out}
 use Rattle.back_layout.specs.Image.{image}
-use Rattle.back_layout.specs.OwnSlots.{own_slots_decided, own_slots_laid_out}
+use Rattle.back_layout.specs.ChosenPlaces.{placed_decided, placed_laid_out}
 use Rattle.back_layout.proofs.Words.{law_of_words}
-use Rattle.back_layout.proofs.OwnSlots.{law_of_own_slots_laid_out}
+use Rattle.back_layout.proofs.ChosenPlaces.{law_of_placed_laid_out}
 use Rattle.back_runs.proofs.Programs.{law_of_known_runs}
 use Rattle.back_runs.specs.Images.{IsFirst, first_state}
 use Rattle.back_runs.proofs.Starting.{law_of_first}
@@ -54,14 +54,16 @@ placed_well program l known g = record {
 }
 
 pub law_of_emitted_runs : LawOfEmittedRuns
-law_of_emitted_runs program entry arena input z p checked finds low laid there first =
+law_of_emitted_runs program chosen entry arena input z p checked fit low laid there first =
     let lines = program_lines program in
-    let l = own_slots_laid_out program in
-    let known = is_in_own_slot lines in
-    let good = law_of_own_slots_laid_out program checked finds low in
-    let i = law_of_images lines (own_slots_decided program) known entry (placed_well lines l known good) low laid in
-    let r = law_of_image_runs program l known checked good (start_at lines (own_slots_decided program)) entry (image lines l entry) arena input z p i first there in
+    let l = placed_laid_out program chosen in
+    let decided = law_of_placed_laid_out program chosen fit low in
+    let known = decided.known in
+    let i = law_of_images lines (placed_decided program chosen) known entry (placed_well lines l known decided.good) low laid in
+    let r =
+    law_of_image_runs program l known checked decided.good (start_at lines (placed_decided program chosen)) entry (image lines l entry) arena input z p i first there in
     record {
+      known = known;
       runs_as = r;
       lawful = λ n k turns_each le lt h.
           r.does n k turns_each le lt (law_of_known_runs program l known z.arena.blocks entry [] z r.started.moment n k turns_each le lt h);

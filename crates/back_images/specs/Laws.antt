@@ -10,11 +10,12 @@ use Rattle.mid_lines.specs.Flattened.{program_lines}
 use Rattle.back_places.specs.declared.place.Place.{Place}
 use Rattle.back_places.specs.Places.{Located}
 use Rattle.back_places.specs.StepLaw.{Known}
-use Rattle.back_trivial.specs.FrameFound.{finds_frames}
-use Rattle.back_trivial.specs.OwnSlots.{is_in_own_slot, IsPlacedWell}
+use Rattle.back_trivial.specs.OwnSlots.{IsPlacedWell}
+use Rattle.back_allocation.specs.declared.placing.RegisterPlaces.{RegisterPlaces}
+use Rattle.back_allocation.specs.ProgramPlaces.{PlacesFit}
 use Rattle.back_layout.specs.Layout.{start_at, laid_out}
 use Rattle.back_layout.specs.Image.{image}
-use Rattle.back_layout.specs.OwnSlots.{own_slots_decided, own_slots_laid_out}
+use Rattle.back_layout.specs.ChosenPlaces.{most_arguments, nothing_decided, placed_laid_out}
 use Rattle.back_runs.specs.ProgramRuns.{IsLawfulEnd, DoesAs}
 use Rattle.back_runs.specs.Images.{HasStart, IsFirst, first_state}
 use Rattle.back_runs.specs.Laws.{loaded, ImageRuns}
@@ -38,27 +39,29 @@ LawOfFirstStates =
     → (laid_out program l).code_to ≤ arena → arena ≤ 2 ^ 24 → ((i : ℕ) → slice_index input i < 2 ^ 32)
     → IsFirst (laid_out program l) (image program (laid_out program l) entry) arena input (first_state program.laid (laid_out program l).code_to arena input)
 
--- a program of middle code as code: where all stands, with each register in a slot of its own, its words, and where they begin a run
-abbrev pub emitted : MidProgram → (entry : ℕ) → List ℕ
-emitted program entry = image (program_lines program) (own_slots_laid_out program) entry
+-- A program of middle code as code, with registers in places that were chosen, procedure by procedure: its words, and where they begin a run, which
+-- is the same with all places.
+abbrev pub emitted : MidProgram → (chosen : List RegisterPlaces) → (entry : ℕ) → List ℕ
+emitted program chosen entry = image (program_lines program) (placed_laid_out program chosen) entry
 
 abbrev pub emitted_start : MidProgram → ℕ
-emitted_start program = start_at (program_lines program) (own_slots_decided program)
+emitted_start program = start_at (program_lines program) (nothing_decided (most_arguments (program_lines program).procedures))
 
 -- what the image of a program does, from a state with which its run begins
-pub record EmittedRuns (program : MidProgram) (entry arena : ℕ) (input : List ℕ) (z : MidState) : Type 0 where
+pub record EmittedRuns (program : MidProgram) (chosen : List RegisterPlaces) (entry arena : ℕ) (input : List ℕ) (z : MidState) : Type 0 where
+  -- what is known at lines is told by some test
+  pub known : (number line register : ℕ) → Place → Bool
   pub runs_as :
-      ImageRuns program (own_slots_laid_out program) (Known (is_in_own_slot (program_lines program))) (emitted_start program) entry (emitted program entry)
-      arena input z
+      ImageRuns program (placed_laid_out program chosen) (Known known) (emitted_start program) entry (emitted program chosen entry) arena input z
   -- where the program with at least as many levels and turns is not stuck
   pub lawful :
       (n k turns_each : ℕ) → n ≤ k → n ≤ turns_each → IsLawfulEnd (runs program k turns_each entry [] z).end
-      → DoesAs (runs program k turns_each entry [] z) (loaded (emitted program entry) (emitted_start program) arena input) (2 + n)
+      → DoesAs (runs program k turns_each entry [] z) (loaded (emitted program chosen entry) (emitted_start program) arena input) (2 + n)
 
--- **Emitted code does what programs mean**: each program of middle code in form whose frames are found, and whose image is small enough.
+-- **Emitted code does what programs mean**: each program of middle code in form, with places that fit it, whose image is small enough.
 abbrev pub LawOfEmittedRuns : Type 0
 LawOfEmittedRuns =
-    (program : MidProgram) (entry arena : ℕ) (input : List ℕ) (z : MidState) (p : LineProcedure)
-    → is_checked_program program ≡ true → finds_frames program ≡ true → (own_slots_laid_out program).code_to < 2 ^ 24 → LaidAreWords program.laid
-    → slice_get (program_lines program).procedures entry ≡ Some p → IsFirst (own_slots_laid_out program) (emitted program entry) arena input z
-    → EmittedRuns program entry arena input z
+    (program : MidProgram) (chosen : List RegisterPlaces) (entry arena : ℕ) (input : List ℕ) (z : MidState) (p : LineProcedure)
+    → is_checked_program program ≡ true → PlacesFit program chosen → (placed_laid_out program chosen).code_to < 2 ^ 24 → LaidAreWords program.laid
+    → slice_get (program_lines program).procedures entry ≡ Some p → IsFirst (placed_laid_out program chosen) (emitted program chosen entry) arena input z
+    → EmittedRuns program chosen entry arena input z

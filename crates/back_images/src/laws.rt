@@ -12,7 +12,7 @@ pub fn law_first_states()
     ensures { LawOfFirstStates }
 {}
 
-/// The image of a program of middle code, with each register in a slot of its own, does what the program means.
+/// The image of a program of middle code, with registers in places that fit it, does what the program means.
 pub fn law_emitted_runs()
     ensures { LawOfEmittedRuns }
 {}

@@ -5,7 +5,7 @@ pub mod Positions
 pub mod Near
 pub mod LaidOut
 pub mod Instructions
-pub mod OwnSlots
+pub mod ChosenPlaces
 pub mod LineInstructions
 pub mod Pieces
 pub mod Words

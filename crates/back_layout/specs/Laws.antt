@@ -1,7 +1,6 @@
 -- The laws of the layout.
-use Rattle.std.specs.Prelude.{◌≡◌, ◌≤◌, ◌<◌, ℕ, ◌+◌, ◌*◌, ◌^◌, Bool, true, List, length, slice_get, slice_index, Some}
+use Rattle.std.specs.Prelude.{◌≡◌, ◌≤◌, ◌<◌, ℕ, ◌+◌, ◌*◌, ◌^◌, Bool, List, length, slice_get, slice_index, Some}
 use Rattle.mid_code.specs.declared.program.MidProgram.{MidProgram}
-use Rattle.mid_code.specs.Checked.{is_checked_program}
 use Rattle.mid_lines.specs.declared.line.Line.{Line}
 use Rattle.mid_lines.specs.declared.line.LineProcedure.{LineProcedure}
 use Rattle.mid_lines.specs.declared.line.LineProgram.{LineProgram}
@@ -14,11 +13,12 @@ use Rattle.back_places.specs.LineCode.{line_code, behind_code, entry_code}
 use Rattle.back_places.specs.Good.{IsGood}
 use Rattle.back_places.specs.Relation.{Stands, HasProgram}
 use Rattle.back_places.specs.StepLaw.{Known}
-use Rattle.back_trivial.specs.FrameFound.{finds_frames}
-use Rattle.back_trivial.specs.OwnSlots.{is_in_own_slot, IsPlacedWell, IsLaidWell}
+use Rattle.back_trivial.specs.OwnSlots.{IsPlacedWell, IsLaidWell}
+use Rattle.back_allocation.specs.declared.placing.RegisterPlaces.{RegisterPlaces}
+use Rattle.back_allocation.specs.ProgramPlaces.{PlacesFit}
 use Rattle.back_layout.specs.Layout.{start_at, laid_out}
 use Rattle.back_layout.specs.Image.{start_code, image}
-use Rattle.back_layout.specs.OwnSlots.{own_slots_laid_out}
+use Rattle.back_layout.specs.ChosenPlaces.{placed_laid_out}
 
 -- Each position is behind the one before by the length of its code, up to where code ends; and where that is below 2^24, addresses are words.
 pub record ArePositions (program : LineProgram) (l : Located) : Type 0 where
@@ -48,11 +48,16 @@ LawOfLayout =
     → IsPlacedWell program (laid_out program l) (Known known) → (laid_out program l).code_to < 2 ^ 24
     → IsGood program (laid_out program l) (Known known)
 
--- those of own slots among them
-abbrev pub LawOfOwnSlotsLaidOut : Type 0
-LawOfOwnSlotsLaidOut =
-    (program : MidProgram) → is_checked_program program ≡ true → finds_frames program ≡ true → (own_slots_laid_out program).code_to < 2 ^ 24
-    → IsGood (program_lines program) (own_slots_laid_out program) (Known (is_in_own_slot (program_lines program)))
+-- Decisions that are good whole, where some test tells what is known at each line.
+pub record AreGood (program : LineProgram) (l : Located) : Type 0 where
+  pub known : (number line register : ℕ) → Place → Bool
+  pub good : IsGood program l (Known known)
+
+-- those by places that fit a program among them
+abbrev pub LawOfPlacedLaidOut : Type 0
+LawOfPlacedLaidOut =
+    (program : MidProgram) (chosen : List RegisterPlaces) → PlacesFit program chosen → (placed_laid_out program chosen).code_to < 2 ^ 24
+    → AreGood (program_lines program) (placed_laid_out program chosen)
 
 -- Words are an image: they have the program, begin with the words laid beside the code, have the jump to the procedure in which a run begins, and are
 -- as many as positions say. Where the laid words are words and the image is small enough, all are.

@@ -1,5 +1,5 @@
 pub mod Sizes
 pub mod Layout
 pub mod Image
-pub mod OwnSlots
+pub mod ChosenPlaces
 pub mod Laws

@@ -1,6 +1,6 @@
 // The laws of the layout, as the contracts of functions that do nothing.
 
-ghost use Rattle.back_layout.specs.Laws.{LawOfPositions, LawOfLaidOut, LawOfLayout, LawOfOwnSlotsLaidOut, LawOfWords};
+ghost use Rattle.back_layout.specs.Laws.{LawOfPositions, LawOfLaidOut, LawOfLayout, LawOfPlacedLaidOut, LawOfWords};
 
 /// Each position is behind the one before by the length of the code there, and where all code ends below 2^24, addresses are words.
 pub fn law_positions()
@@ -17,10 +17,9 @@ pub fn law_layout()
     ensures { LawOfLayout }
 {}
 
-/// The lines of a program in form whose frames are found: with each register in a slot of its own, and these positions, all that the law
-/// of steps asks of decisions holds.
-pub fn law_own_slots_laid_out()
-    ensures { LawOfOwnSlotsLaidOut }
+/// Places that fit a program, with these positions: all that the law of steps asks of decisions holds.
+pub fn law_placed_laid_out()
+    ensures { LawOfPlacedLaidOut }
 {}
 
 /// The words of the image have the program, and are as many as positions say.

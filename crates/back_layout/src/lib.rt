@@ -3,4 +3,4 @@
 
 pub mod laws;
 
-pub use laws::{law_laid_out, law_layout, law_own_slots_laid_out, law_positions, law_words};
+pub use laws::{law_laid_out, law_layout, law_placed_laid_out, law_positions, law_words};

@@ -19,38 +19,48 @@ use Rattle.mid_lines.specs.Flattened.{procedure_lines, program_lines}
 use Rattle.mid_lines.specs.LinesChecked.{takes, operation_calls, line_calls, line_fits}
 use Rattle.mid_lines.proofs.Checking.{law_of_form}
 use Rattle.mid_lines.proofs.Conjunctions.{back_true}
+use Rattle.back_places.specs.declared.place.Place.{Place}
 use Rattle.back_places.specs.Places.{Located}
 use Rattle.back_places.specs.Passing.{parameters_code}
 use Rattle.back_places.specs.Blocks.{room_code}
 use Rattle.back_places.specs.LineCode.{save_code}
-use Rattle.back_places.specs.Trivial.{TargetIs}
 use Rattle.back_places.proofs.LinesInForm.{all_at, line_is}
-use Rattle.back_trivial.specs.OwnSlots.{target_in, parameters_in, is_there}
-use Rattle.back_trivial.proofs.Targets.{line_target_is}
+use Rattle.back_trivial.specs.OwnSlots.{is_there}
+use Rattle.back_allocation.specs.declared.placing.RegisterPlaces.{RegisterPlaces}
+use Rattle.back_allocation.specs.LineSteps.{line_gives}
+use Rattle.back_allocation.specs.Allocated.{place_given, target_at}
+use Rattle.back_allocation.specs.Places.{place_at}
+use Rattle.back_allocation.specs.ProgramPlaces.{places_for}
 use Rattle.back_layout.specs.Sizes.{unplaced, procedure_rests, entry_size, procedure_size, code_size, all_targets, lines_there}
 use Rattle.back_layout.specs.Layout.{start_at, with_front, first_at, entry_place, body_place, line_place, table_place, placed}
-use Rattle.back_layout.specs.OwnSlots.{own_slots_decided}
+use Rattle.back_layout.specs.ChosenPlaces.{placed_decided}
 use Rattle.back_emit.specs.declared.spots.Spot.{Spot}
 use Rattle.back_emit.specs.declared.spots.Sizing.{Sizing}
-use Rattle.back_emit.specs.OwnCode.{own_entry}
-use Rattle.back_emit.specs.OwnSizes.{near_in, sizing_spot}
-use Rattle.back_emit.specs.OwnLines.{line_position, line_goes, operation_goes}
-use Rattle.back_emit.specs.Agree.{OperationGoes, LineGoes, AgreesAt}
-use Rattle.back_emit.proofs.OwnRests.{law_of_own_rests}
+use Rattle.back_emit.specs.PlacedCode.{placed_entry}
+use Rattle.back_emit.specs.PlacedSizes.{near_in, sizing_spot}
+use Rattle.back_emit.specs.PlacedLines.{line_position, line_goes, operation_goes}
+use Rattle.back_emit.specs.Agree.{OperationGoes, LineGoes, GoesToPlace, AgreesAt}
+use Rattle.back_emit.proofs.PlacedRests.{law_of_placed_rests}
 use Rattle.back_program_code.specs.declared.front.Front.{Front}
 use Rattle.back_program_code.specs.declared.shapes.Shape.{Shape}
 use Rattle.back_program_code.specs.Shapes.{shape_of, shapes_of, front_of, listed, full_position, first_position, sizing_of, entry_words, shape_lefts, shape_words, all_lefts, words_of, entry_position, all_entries, code_end, body_position, spot_in}
+use Rattle.back_program_code.specs.Joined.{joined}
 use Rattle.back_program_code.specs.ShapedImage.{table_position}
-use Rattle.back_program_code.proofs.Joined.{joined_get, joined_index}
+use Rattle.back_program_code.proofs.Joined.{joined_get, joined_index, joined_taken}
 use Rattle.back_program_code.proofs.Ways.{way_same}
 
 -- the entry of a procedure that is there
 pub entry_code_same :
-    (l : Located) (full full' arguments at frame : ℕ) (o : Option LineProcedure) (p : LineProcedure) → full ≡ full' → o ≡ Some p
-    → room_code full at frame ++ (save_code l (is_there o) ++ parameters_code arguments 0 (parameters_in o)) ≡ own_entry full' arguments at frame p.parameters
-entry_code_same l full full' arguments at frame o p e h =
-    ap (λ k. room_code k at frame ++ (save_code l (is_there o) ++ parameters_code arguments 0 (parameters_in o))) e
-    ∙ ap (λ k. room_code full' at frame ++ (save_code l (is_there k) ++ parameters_code arguments 0 (parameters_in k))) h
+    (l : Located) (full full' arguments at frame : ℕ) (parameters : List Place) (o : Option LineProcedure) (p : LineProcedure) → full ≡ full' → o ≡ Some p
+    → room_code full at frame ++ (save_code l (is_there o) ++ parameters_code arguments 0 parameters) ≡ placed_entry full' arguments at frame parameters
+entry_code_same l full full' arguments at frame parameters o p e h =
+    ap (λ k. room_code k at frame ++ (save_code l (is_there o) ++ parameters_code arguments 0 parameters)) e
+    ∙ ap (λ k. room_code full' at frame ++ (save_code l (is_there k) ++ parameters_code arguments 0 parameters)) h
+
+-- a word goes to the place of its register
+goes_to_place : (places : List Place) (given : Option ℕ) → GoesToPlace places (place_given (place_at places) given) given
+goes_to_place places None = tt
+goes_to_place places (Some to) = refl
 
 -- where a call goes, the procedure is there
 procedure_called : (procedures : List LineProcedure) (n count : ℕ) (o : Option LineProcedure) → takes o count ≡ true → (p : LineProcedure) × (o ≡ Some p)
@@ -58,6 +68,16 @@ procedure_called procedures n count None h = absurd (cc h)
 procedure_called procedures n count (Some p) h = (p, refl)
 
 module _ (program : MidProgram) where
+  pub procedure_there :
+      (number : ℕ) (p : MidProcedure) → slice_get program.procedures number ≡ Some p → slice_get (program_lines program).procedures number ≡ Some (procedure_lines p)
+  procedure_there number p h = slice_get-map procedure_lines program.procedures number ∙ ap (option_map procedure_lines) h
+
+  pub line_there :
+      (number line : ℕ) (p : MidProcedure) (x : Line) → slice_get program.procedures number ≡ Some p → slice_get (procedure_lines p).lines line ≡ Some x
+      → line_of (program_lines program) number line ≡ Some x
+  line_there number line p x h e = ap (λ o. slice_get (lines_in o) line) (procedure_there number p h) ∙ e
+
+module _ (program : MidProgram) (chosen : List RegisterPlaces) where
   abbrev P : LineProgram
   P = program_lines program
 
@@ -65,30 +85,30 @@ module _ (program : MidProgram) where
   f = front_of program
 
   abbrev S : List Shape
-  S = shapes_of program
+  S = shapes_of program chosen
+
+  -- the shape of a procedure, and the places of its registers
+  abbrev pub shape : (number : ℕ) → MidProcedure → Shape
+  shape number p = shape_of (places_for chosen number) p
+
+  abbrev places : (number : ℕ) → List Place
+  places number = (places_for chosen number).places
 
   -- the decisions with these jumps near
   abbrev pub with_jumps : (near : (number line : ℕ) → Bool) → Located
-  with_jumps near = record (with_front P (own_slots_decided program)) { near = near }
+  with_jumps near = record (with_front P (placed_decided program chosen)) { near = near }
 
-  pub procedure_there :
-      (number : ℕ) (p : MidProcedure) → slice_get program.procedures number ≡ Some p → slice_get P.procedures number ≡ Some (procedure_lines p)
-  procedure_there number p h = slice_get-map procedure_lines program.procedures number ∙ ap (option_map procedure_lines) h
-
-  pub shape_there : (number : ℕ) (p : MidProcedure) → slice_get program.procedures number ≡ Some p → slice_get S number ≡ Some (shape_of p)
-  shape_there number p h = slice_get-map shape_of program.procedures number ∙ ap (option_map shape_of) h
-
-  pub line_there :
-      (number line : ℕ) (p : MidProcedure) (x : Line) → slice_get program.procedures number ≡ Some p → slice_get (procedure_lines p).lines line ≡ Some x
-      → line_of P number line ≡ Some x
-  line_there number line p x h e = ap (λ o. slice_get (lines_in o) line) (procedure_there number p h) ∙ e
+  pub shape_there : (number : ℕ) (p : MidProcedure) → slice_get program.procedures number ≡ Some p → slice_get S number ≡ Some (shape number p)
+  shape_there number p h = joined_get shape 0 number number p program.procedures (omega arith) h
 
   target_same :
       (number line : ℕ) (p : MidProcedure) (x : Line) → slice_get program.procedures number ≡ Some p → slice_get (procedure_lines p).lines line ≡ Some x
-      → TargetIs (target_in (line_of P number line)) x
-  target_same number line p x h e = subst (λ o. TargetIs (target_in o) x) (sym (line_there number line p x h e)) (line_target_is x)
+      → GoesToPlace (places number) (target_at (place_at (places number)) (line_of P number line)) (line_gives x)
+  target_same number line p x h e =
+      subst (λ o. GoesToPlace (places number) (target_at (place_at (places number)) o) (line_gives x)) (sym (line_there program number line p x h e))
+      (goes_to_place (places number) (line_gives x))
 
-  pub full_same : start_at P (own_slots_decided program) + 2 + 3 ≡ full_position f
+  pub full_same : start_at P (placed_decided program chosen) + 2 + 3 ≡ full_position f
   full_same = omega arith
 
   nowhere : (l : Located) (number line : ℕ) (z : Sizing) (ways : List _) (nears : List Bool) (x : Line) → LineGoes (unplaced l) number (sizing_spot z ways nears line) x
@@ -121,11 +141,11 @@ module _ (program : MidProgram) where
     own_nears number = listed (slice_get nears number)
 
     abbrev own_lefts : (number : ℕ) → MidProcedure → List ℕ
-    own_lefts number p = shape_lefts f (own_nears number) (shape_of p)
+    own_lefts number p = shape_lefts f (own_nears number) (shape number p)
 
     sized :
         (number line : ℕ) (p : MidProcedure) (x : Line) → slice_get program.procedures number ≡ Some p → slice_get (procedure_lines p).lines line ≡ Some x
-        → AgreesAt (unplaced L) number p.frame line (sizing_spot (sizing_of f (procedure_lines p)) (shape_of p).ways (own_nears number) line) x
+        → AgreesAt (unplaced L) (places number) number p.frame line (sizing_spot (sizing_of f (shape number p)) (shape number p).ways (own_nears number) line) x
     sized number line p x h e = record {
       source = λ v. refl;
       target = target_same number line p x h e;
@@ -137,7 +157,7 @@ module _ (program : MidProgram) where
       near = same number line p x h e;
       at = refl;
       next = refl;
-      goes = nowhere L number line (sizing_of f (procedure_lines p)) (shape_of p).ways (own_nears number) x;
+      goes = nowhere L number line (sizing_of f (shape number p)) (shape number p).ways (own_nears number) x;
       table = refl;
       arguments_at = refl;
       procedures_at = refl;
@@ -146,37 +166,37 @@ module _ (program : MidProgram) where
 
     rests_same : (number : ℕ) (p : MidProcedure) → slice_get program.procedures number ≡ Some p → procedure_rests L number (slice_get P.procedures number) ≡ own_lefts number p
     rests_same number p h =
-        ap (procedure_rests L number) (procedure_there number p h)
-        ∙ law_of_own_rests L number p.frame (sizing_of f (procedure_lines p)) (shape_of p).ways (own_nears number) (procedure_lines p).lines
+        ap (procedure_rests L number) (procedure_there program number p h)
+        ∙ law_of_placed_rests L (places number) number p.frame (sizing_of f (shape number p)) (shape number p).ways (own_nears number) (procedure_lines p).lines
         (λ line x e. sized number line p x h e)
 
     pub lefts_there : (number : ℕ) (p : MidProcedure) → slice_get program.procedures number ≡ Some p → listed (slice_get lefts number) ≡ own_lefts number p
     lefts_there number p h =
-        ap listed (joined_get (λ n s. shape_lefts f (listed (slice_get nears n)) s) 0 number number (shape_of p) S (omega arith) (shape_there number p h))
+        ap listed (joined_get (λ n s. shape_lefts f (listed (slice_get nears n)) s) 0 number number (shape number p) S (omega arith) (shape_there number p h))
 
-    entry_same : (number : ℕ) (p : MidProcedure) → slice_get program.procedures number ≡ Some p → entry_size L number (slice_get P.procedures number) ≡ entry_words f (procedure_lines p)
+    entry_same : (number : ℕ) (p : MidProcedure) → slice_get program.procedures number ≡ Some p → entry_size L number (slice_get P.procedures number) ≡ entry_words f (shape number p)
     entry_same number p h =
-        ap (entry_size L number) (procedure_there number p h)
-        ∙ ap length (entry_code_same L (L.full_at) (full_position f) f.arguments_at 0 p.frame (slice_get P.procedures number) (procedure_lines p) full_same (procedure_there number p h))
+        ap (entry_size L number) (procedure_there program number p h)
+        ∙ ap length (entry_code_same L (L.full_at) (full_position f) f.arguments_at 0 p.frame (places_for chosen number).parameters (slice_get P.procedures number) (procedure_lines p) full_same (procedure_there program number p h))
 
     size_same :
         (number : ℕ) (p : MidProcedure) → slice_get program.procedures number ≡ Some p
-        → procedure_size L number (procedure_lines p) ≡ shape_words f (listed (slice_get lefts number)) (shape_of p)
+        → procedure_size L number (procedure_lines p) ≡ shape_words f (listed (slice_get lefts number)) (shape number p)
     size_same number p h =
-        let there = procedure_there number p h in
-        let a : entry_size L number (Some (procedure_lines p)) ≡ entry_words f (procedure_lines p) = ap (entry_size L number) (sym there) ∙ entry_same number p h in
+        let there = procedure_there program number p h in
+        let a : entry_size L number (Some (procedure_lines p)) ≡ entry_words f (shape number p) = ap (entry_size L number) (sym there) ∙ entry_same number p h in
         let b : procedure_rests L number (Some (procedure_lines p)) ≡ listed (slice_get lefts number) =
         ap (procedure_rests L number) (sym there) ∙ rests_same number p h ∙ sym (lefts_there number p h) in
         ap (λ n. n + slice_index (procedure_rests L number (Some (procedure_lines p))) 0 + length (all_targets (procedure_lines p).lines)) a
-        ∙ ap (λ r. entry_words f (procedure_lines p) + slice_index r 0 + length (all_targets (procedure_lines p).lines)) b
+        ∙ ap (λ r. entry_words f (shape number p) + slice_index r 0 + length (all_targets (procedure_lines p).lines)) b
 
     sizes_same :
         (from : ℕ) (ps : List MidProcedure) → ((i number : ℕ) (p : MidProcedure) → number ≡ from + i → slice_get ps i ≡ Some p → slice_get program.procedures number ≡ Some p)
-        → code_size L from (map procedure_lines ps) ≡ words_of f lefts from (map shape_of ps)
+        → code_size L from (map procedure_lines ps) ≡ words_of f lefts from (joined (λ n q. shape n q ∷ []) from ps)
     sizes_same from [] h = refl
     sizes_same from (p ∷ ps) h =
         ap (λ n. n + code_size L (from + 1) (map procedure_lines ps)) (size_same from p (h 0 from p (omega arith) refl))
-        ∙ ap (λ n. shape_words f (listed (slice_get lefts from)) (shape_of p) + n)
+        ∙ ap (λ n. shape_words f (listed (slice_get lefts from)) (shape from p) + n)
         (sizes_same (from + 1) ps (λ i number q e g. h (suc i) number q (omega (arith, e)) g))
 
     there_taken : (n : ℕ) (ps : List MidProcedure) (i : ℕ) (p : MidProcedure) → slice_get (take n ps) i ≡ Some p → slice_get ps i ≡ Some p
@@ -193,7 +213,7 @@ module _ (program : MidProgram) where
     taken_same : (n : ℕ) → code_size L 0 (take n P.procedures) ≡ words_of f lefts 0 (take n S)
     taken_same n =
         ap (code_size L 0) (take-map procedure_lines n program.procedures) ∙ sizes_same 0 (take n program.procedures) (there_from n)
-        ∙ ap (words_of f lefts 0) (sym (take-map shape_of n program.procedures))
+        ∙ ap (words_of f lefts 0) (sym (joined_taken shape 0 n program.procedures))
 
     first_same : first_at P L ≡ first_position f
     first_same = omega arith
@@ -212,26 +232,26 @@ module _ (program : MidProgram) where
         entry_place_is number ∙ sym (joined_index Shape (λ n t. entry_position f lefts S n) 0 number number s S (omega arith) h)
 
     pub entry_there : (number : ℕ) (p : MidProcedure) → slice_get program.procedures number ≡ Some p → entry_place P L number ≡ slice_index entries number
-    entry_there number p h = entry_listed number (shape_of p) (shape_there number p h)
+    entry_there number p h = entry_listed number (shape number p) (shape_there number p h)
 
-    body_same : (number : ℕ) (p : MidProcedure) → slice_get program.procedures number ≡ Some p → body_place P L number ≡ body_position f (slice_index entries number) (shape_of p)
+    body_same : (number : ℕ) (p : MidProcedure) → slice_get program.procedures number ≡ Some p → body_place P L number ≡ body_position f (slice_index entries number) (shape number p)
     body_same number p h =
         ap (λ n. n + entry_size L number (slice_get P.procedures number)) (entry_there number p h) ∙ ap (λ n. slice_index entries number + n) (entry_same number p h)
 
     pub line_same :
         (number line : ℕ) (p : MidProcedure) → slice_get program.procedures number ≡ Some p
-        → line_place P L number line ≡ line_position (own_lefts number p) (body_position f (slice_index entries number) (shape_of p)) line
+        → line_place P L number line ≡ line_position (own_lefts number p) (body_position f (slice_index entries number) (shape number p)) line
     line_same number line p h =
         ap (λ n. n + (slice_index (procedure_rests L number (slice_get P.procedures number)) 0 - slice_index (procedure_rests L number (slice_get P.procedures number)) line)) (body_same number p h)
-        ∙ ap (λ r. body_position f (slice_index entries number) (shape_of p) + (slice_index r 0 - slice_index r line)) (rests_same number p h)
+        ∙ ap (λ r. body_position f (slice_index entries number) (shape number p) + (slice_index r 0 - slice_index r line)) (rests_same number p h)
 
     pub table_same :
         (number line : ℕ) (p : MidProcedure) → slice_get program.procedures number ≡ Some p
-        → table_place P L number line ≡ table_position f entries (slice_index entries number) (own_nears number) (own_lefts number p) (shape_of p) line
+        → table_place P L number line ≡ table_position f entries (slice_index entries number) (own_nears number) (own_lefts number p) (shape number p) line
     table_same number line p h =
         ap (λ n. n + slice_index (procedure_rests L number (slice_get P.procedures number)) 0 + length (all_targets (take line (lines_there (slice_get P.procedures number))))) (body_same number p h)
-        ∙ ap (λ r. body_position f (slice_index entries number) (shape_of p) + slice_index r 0 + length (all_targets (take line (lines_there (slice_get P.procedures number))))) (rests_same number p h)
-        ∙ ap (λ o. body_position f (slice_index entries number) (shape_of p) + slice_index (own_lefts number p) 0 + length (all_targets (take line (lines_there o)))) (procedure_there number p h)
+        ∙ ap (λ r. body_position f (slice_index entries number) (shape number p) + slice_index r 0 + length (all_targets (take line (lines_there (slice_get P.procedures number))))) (rests_same number p h)
+        ∙ ap (λ o. body_position f (slice_index entries number) (shape number p) + slice_index (own_lefts number p) 0 + length (all_targets (take line (lines_there o)))) (procedure_there program number p h)
 
     module _ (checked : is_checked_program program ≡ true) where
       called : (n : ℕ) (q : LineProcedure) → slice_get P.procedures n ≡ Some q → (p : MidProcedure) × (slice_get program.procedures n ≡ Some p)
@@ -261,7 +281,7 @@ module _ (program : MidProgram) where
 
       goes_same :
           (number : ℕ) (p : MidProcedure) (s : Spot) (x : Line) → slice_get program.procedures number ≡ Some p → line_calls P.procedures x ≡ true
-          → s.to ≡ line_goes (own_lefts number p) entries (body_position f (slice_index entries number) (shape_of p)) x → LineGoes (placed P L) number s x
+          → s.to ≡ line_goes (own_lefts number p) entries (body_position f (slice_index entries number) (shape number p)) x → LineGoes (placed P L) number s x
       goes_same number p s (Do o) h c e = operation_goes_same number s o c e
       goes_same number p s (Branch t otherwise) h c e = line_same number otherwise p h ∙ sym e
       goes_same number p s (Jump to) h c e = line_same number to p h ∙ sym e
@@ -270,12 +290,12 @@ module _ (program : MidProgram) where
 
       abbrev spot : (number line : ℕ) → MidProcedure → Line → Spot
       spot number line p x =
-          spot_in f entries (slice_index entries number) (own_nears number) (own_lefts number p) (shape_of p)
-          (table_position f entries (slice_index entries number) (own_nears number) (own_lefts number p) (shape_of p) line) line x
+          spot_in f entries (slice_index entries number) (own_nears number) (own_lefts number p) (shape number p)
+          (table_position f entries (slice_index entries number) (own_nears number) (own_lefts number p) (shape number p) line) line x
 
       pub agrees :
           (number line : ℕ) (p : MidProcedure) (x : Line) → slice_get program.procedures number ≡ Some p → slice_get (procedure_lines p).lines line ≡ Some x
-          → AgreesAt (placed P L) number p.frame line (spot number line p x) x
+          → AgreesAt (placed P L) (places number) number p.frame line (spot number line p x) x
       agrees number line p x h e = record {
         source = λ v. refl;
         target = target_same number line p x h e;
@@ -287,7 +307,7 @@ module _ (program : MidProgram) where
         near = same number line p x h e;
         at = line_same number line p h;
         next = line_same number (line + 1) p h;
-        goes = goes_same number p (spot number line p x) x h (calls number line x (line_there number line p x h e)) refl;
+        goes = goes_same number p (spot number line p x) x h (calls number line x (line_there program number line p x h e)) refl;
         table = table_same number line p h;
         arguments_at = refl;
         procedures_at = refl;

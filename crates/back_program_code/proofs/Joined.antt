@@ -64,3 +64,10 @@ joined_index X make from (suc i) j x (y ∷ ys) e h = joined_index X make (from 
 pub joined_length : {X Y : Type 0} (make : ℕ → X → Y) (from : ℕ) (xs : List X) → length (joined (λ n y. make n y ∷ []) from xs) ≡ length xs
 joined_length make from [] = refl
 joined_length make from (x ∷ xs) = ap suc (joined_length make (from + 1) xs)
+
+-- the first of what was made of each item
+pub joined_taken :
+    {X Y : Type 0} (make : ℕ → X → Y) (from n : ℕ) (xs : List X) → take n (joined (λ i x. make i x ∷ []) from xs) ≡ joined (λ i x. make i x ∷ []) from (take n xs)
+joined_taken make from zero xs = refl
+joined_taken make from (suc n) [] = refl
+joined_taken make from (suc n) (x ∷ xs) = ap (λ c. make from x ∷ c) (joined_taken make (from + 1) n xs)

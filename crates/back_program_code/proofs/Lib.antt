@@ -3,6 +3,7 @@ pub mod Ways
 pub mod Agreeing
 pub mod Fitting
 pub mod Most
+pub mod Shaped
 pub mod Positions
 pub mod ShapesFit
 pub mod ShapedImage

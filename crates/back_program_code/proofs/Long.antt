@@ -6,10 +6,11 @@ use Rattle.std.proofs.lemmas.List.{length-map}
 use Rattle.std.proofs.lemmas.Option.{slice_get_read}
 use Rattle.mid_lines.specs.declared.line.Line.{Line}
 use Rattle.rv_encode.specs.Encodes.{word_of}
+use Rattle.back_places.specs.declared.place.Place.{Place}
 use Rattle.back_emit.specs.declared.spots.Spot.{Spot}
 use Rattle.back_emit.specs.declared.errors.EmitError.{EmitError}
 use Rattle.back_emit.specs.declared.errors.EmitError.TheVariants as emit
-use Rattle.back_emit.specs.OwnCode.{own_entry, own_line, own_behind}
+use Rattle.back_emit.specs.PlacedCode.{placed_entry, placed_line, placed_behind}
 use Rattle.back_program_code.specs.declared.errors.ImageError.{ImageError}
 use Rattle.back_program_code.specs.declared.errors.ImageError.TheVariants as image
 use Rattle.back_program_code.specs.declared.front.Front.{Front}
@@ -94,17 +95,18 @@ module _ (f : Front) where
 -- the code of a line, and that of a procedure, is part of that of all
 
 pub part_long :
-    (spot other : Spot) (x : Line) (total : ℕ) → spot ≡ other → length (own_line other x ++ own_behind other x) ≤ total → 2 ^ 24 ≤ length (own_line spot x) → 2 ^ 24 ≤ total
-part_long spot other x total e within long =
-    let n = length-append (own_line other x) (own_behind other x) in
-    let same = ap (λ s. length (own_line s x)) e in
+    (places : List Place) (spot other : Spot) (x : Line) (total : ℕ) → spot ≡ other → length (placed_line places other x ++ placed_behind places other x) ≤ total
+    → 2 ^ 24 ≤ length (placed_line places spot x) → 2 ^ 24 ≤ total
+part_long places spot other x total e within long =
+    let n = length-append (placed_line places other x) (placed_behind places other x) in
+    let same = ap (λ s. length (placed_line places s x)) e in
     omega (arith, n, same, within, long)
 
 module _ (f : Front) (entries : List ℕ) (at : ℕ) (nears : List Bool) (lefts : List ℕ) (s : Shape) where
   pub code_long :
       2 ^ 24 ≤ length (joined (line_instructions f entries at nears lefts s) 0 s.procedure.lines) → 2 ^ 24 ≤ length (shape_image f entries at nears lefts s)
   code_long long =
-      let own = own_entry (full_position f) f.arguments_at at s.procedure.frame s.procedure.parameters in
+      let own = placed_entry (full_position f) f.arguments_at at s.procedure.frame s.chosen.parameters in
       let a = length-append own (joined (line_instructions f entries at nears lefts s) 0 s.procedure.lines) in
       let b = length-map (shape_code f entries at nears lefts s) word_of in
       let c = length-append (map word_of (shape_code f entries at nears lefts s)) (joined (line_table f entries at nears lefts s) 0 s.procedure.lines) in

@@ -8,10 +8,13 @@ use Rattle.mid_lines.specs.declared.line.Line.{Line}
 use Rattle.mid_lines.specs.declared.line.Line.TheVariants.{Do}
 use Rattle.mid_lines.specs.declared.line.LineProcedure.{LineProcedure}
 use Rattle.mid_lines.specs.Flattened.{procedure_lines, program_lines}
-use Rattle.back_layout.specs.OwnSlots.{arguments_passed, most_in_lines, most_arguments}
+use Rattle.back_allocation.specs.declared.placing.RegisterPlaces.{RegisterPlaces}
+use Rattle.back_allocation.specs.ProgramPlaces.{places_for}
+use Rattle.back_layout.specs.ChosenPlaces.{arguments_passed, most_in_lines, most_arguments}
 use Rattle.back_layout.specs.Sizes.{switch_targets, all_targets}
 use Rattle.back_emit.specs.Fits.{passed_by}
 use Rattle.back_program_code.specs.declared.shapes.Shape.{Shape}
+use Rattle.back_program_code.specs.Joined.{joined}
 use Rattle.back_program_code.specs.Shapes.{shape_of, shapes_of, procedure_of}
 
 pub most_next :
@@ -93,17 +96,20 @@ tables_within (suc i) x (y ∷ ys) h =
     let b = length-append (switch_targets y) (all_targets ys) in
     omega (arith, k, a, b)
 
--- the lines of the shapes of a program are those of the program
-procedures_same : (ps : List MidProcedure) → map procedure_of (map shape_of ps) ≡ map procedure_lines ps
-procedures_same [] = refl
-procedures_same (p ∷ ps) = ap (λ r. procedure_lines p ∷ r) (procedures_same ps)
+-- the lines of the shapes of a program are those of the program, whatever is chosen
+module _ (chosen : List RegisterPlaces) where
+  procedures_same : (from : ℕ) (ps : List MidProcedure) → map procedure_of (joined (λ number p. shape_of (places_for chosen number) p ∷ []) from ps) ≡ map procedure_lines ps
+  procedures_same from [] = refl
+  procedures_same from (p ∷ ps) = ap (λ r. procedure_lines p ∷ r) (procedures_same (from + 1) ps)
 
-pub most_of_shapes : (program : MidProgram) (shapes : List Shape) → shapes ≡ shapes_of program → most_arguments (map procedure_of shapes) ≡ most_arguments (program_lines program).procedures
-most_of_shapes program shapes e = ap (λ ss. most_arguments (map procedure_of ss)) e ∙ ap most_arguments (procedures_same program.procedures)
+  long : (from : ℕ) (ps : List MidProcedure) → length (joined (λ number p. shape_of (places_for chosen number) p ∷ []) from ps) ≡ length (map procedure_lines ps)
+  long from [] = refl
+  long from (p ∷ ps) = ap suc (long (from + 1) ps)
 
-long : (ps : List MidProcedure) → length (map shape_of ps) ≡ length (map procedure_lines ps)
-long [] = refl
-long (p ∷ ps) = ap suc (long ps)
+  pub most_of_shapes :
+      (program : MidProgram) (shapes : List Shape) → shapes ≡ shapes_of program chosen
+      → most_arguments (map procedure_of shapes) ≡ most_arguments (program_lines program).procedures
+  most_of_shapes program shapes e = ap (λ ss. most_arguments (map procedure_of ss)) e ∙ ap most_arguments (procedures_same 0 program.procedures)
 
-pub count_of_shapes : (program : MidProgram) (shapes : List Shape) → shapes ≡ shapes_of program → length shapes ≡ length (program_lines program).procedures
-count_of_shapes program shapes e = ap length e ∙ long program.procedures
+  pub count_of_shapes : (program : MidProgram) (shapes : List Shape) → shapes ≡ shapes_of program chosen → length shapes ≡ length (program_lines program).procedures
+  count_of_shapes program shapes e = ap length e ∙ long 0 program.procedures

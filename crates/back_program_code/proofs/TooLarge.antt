@@ -8,21 +8,19 @@ use Rattle.mid_code.specs.declared.program.MidProgram.{MidProgram}
 use Rattle.mid_code.specs.Checked.{is_checked_program}
 use Rattle.mid_code.specs.MidCode.{code_of}
 use Rattle.mid_lines.specs.Flattened.{program_lines}
-use Rattle.mid_lines.specs.StaticRecords.{records_in, procedure_records}
 use Rattle.mid_lines.proofs.Checking.{law_of_form}
-use Rattle.back_places.specs.Places as places
 use Rattle.back_places.specs.Places.{reachable}
 use Rattle.back_places.proofs.LinesInForm.{frame_is_small}
-use Rattle.back_trivial.specs.FrameFound.{finds_frames}
-use Rattle.back_trivial.specs.KnownRecords.{known_records}
-use Rattle.back_trivial.proofs.TreeLines.{found_at}
+use Rattle.back_allocation.specs.declared.placing.RegisterPlaces.{RegisterPlaces}
+use Rattle.back_allocation.specs.ProgramPlaces.{places_for, PlacesFit}
+use Rattle.back_allocation.proofs.TreePlaces.{found_alone}
 use Rattle.back_emit.specs.declared.ways.FrameWay.{FrameWay}
 use Rattle.back_emit.specs.declared.ways.FrameWay.TheVariants.{FromStack, PastLent, NoWay}
 use Rattle.back_emit.specs.Ways.{way_of}
 use Rattle.back_emit.specs.TreeWays.{is_deep, has_deep, code_ways}
 use Rattle.back_emit.proofs.Deep.{deep_head, deep_tail, either_front, either_back}
 use Rattle.back_layout.specs.Layout.{with_front}
-use Rattle.back_layout.specs.OwnSlots.{own_slots_decided}
+use Rattle.back_layout.specs.ChosenPlaces.{placed_decided}
 use Rattle.back_layout.proofs.Rests.{code_smaller}
 use Rattle.back_emit.specs.declared.errors.EmitError.{EmitError}
 use Rattle.back_emit.specs.declared.errors.EmitError.TheVariants as emit
@@ -31,50 +29,53 @@ use Rattle.back_program_code.specs.declared.errors.ImageError.TheVariants as ima
 use Rattle.back_program_code.specs.Errors.{image_error}
 use Rattle.back_program_code.specs.declared.front.Front.{Front}
 use Rattle.back_program_code.specs.declared.shapes.Shape.{Shape}
-use Rattle.back_program_code.specs.Shapes.{shape_of, shapes_of, front_of, is_near_way, is_near_shape, near_lefts, all_lefts, code_end, first_position}
-use Rattle.back_program_code.specs.TooLarge.{far_end, is_deep_procedure, has_deep_records, IsTooLarge}
-use Rattle.back_program_code.proofs.Agreeing.{end_same, procedure_there}
+use Rattle.back_program_code.specs.Joined.{joined}
+use Rattle.back_program_code.specs.Shapes.{shapes_of, chosen_in, AreShapesOf, front_of, is_near_way, is_near_shape, near_lefts, all_lefts, code_end, first_position}
+use Rattle.back_program_code.specs.TooLarge.{far_end, is_deep_procedure, has_deep_records, IsLong, IsTooLarge}
+use Rattle.back_program_code.proofs.Agreeing.{end_same, procedure_there, shape}
 use Rattle.back_program_code.proofs.Long.{from_large}
+use Rattle.back_program_code.proofs.Shaped.{places_fit}
 use Rattle.back_program_code.proofs.Ways.{way_past}
 use Rattle.back_program_code.proofs.ShapedImage.{far, far_is, near, near_is, nears}
 
-module _ (program : MidProgram) (checked : is_checked_program program ≡ true) where
-  pub far_end_is : far_end program ≡ code_end (front_of program) (all_lefts (front_of program) [] (shapes_of program)) (shapes_of program)
-  far_end_is = end_same program (far program checked) [] (far_is program checked)
+module _ (program : MidProgram) (chosen : List RegisterPlaces) (checked : is_checked_program program ≡ true) where
+  pub far_end_is :
+      far_end program chosen ≡ code_end (front_of program) (all_lefts (front_of program) [] (shapes_of program chosen)) (shapes_of program chosen)
+  far_end_is = end_same program chosen (far program chosen checked) [] (far_is program chosen checked)
 
-  pub first_before : first_position (front_of program) ≤ far_end program
+  pub first_before : first_position (front_of program) ≤ far_end program chosen
   first_before = let e = far_end_is in omega (arith, e)
 
   -- with near jumps the image is no longer
-  pub near_before : code_end (front_of program) (near_lefts (front_of program) (shapes_of program)) (shapes_of program) ≤ far_end program
+  pub near_before : code_end (front_of program) (near_lefts (front_of program) (shapes_of program chosen)) (shapes_of program chosen) ≤ far_end program chosen
   near_before =
       let P = program_lines program in
-      let e = end_same program (near program checked) (nears program checked) (near_is program checked) in
-      let l = with_front P (own_slots_decided program) in
-      let smaller = code_smaller l (near program checked) 0 P.procedures in
+      let e = end_same program chosen (near program chosen checked) (nears program chosen checked) (near_is program chosen checked) in
+      let l = with_front P (placed_decided program chosen) in
+      let smaller = code_smaller l (near program chosen checked) 0 P.procedures in
       omega (arith, e, smaller)
 
 -- where code ends in what a plan is made of
-module _ (program : MidProgram) (checked : is_checked_program program ≡ true) (f : Front) (shapes : List Shape) (front_is : f ≡ front_of program) (shapes_are : shapes ≡ shapes_of program) where
-  pub far_long : (lefts : List (List ℕ)) → lefts ≡ all_lefts f [] shapes → 2 ^ 24 ≤ code_end f lefts shapes → 2 ^ 24 ≤ far_end program
+module _ (program : MidProgram) (chosen : List RegisterPlaces) (checked : is_checked_program program ≡ true) (f : Front) (shapes : List Shape) (front_is : f ≡ front_of program) (shapes_are : shapes ≡ shapes_of program chosen) where
+  pub far_long : (lefts : List (List ℕ)) → lefts ≡ all_lefts f [] shapes → 2 ^ 24 ≤ code_end f lefts shapes → 2 ^ 24 ≤ far_end program chosen
   far_long lefts e long =
       let same =
       ap (λ l. code_end f l shapes) e ∙ ap (λ k. code_end k (all_lefts k [] shapes) shapes) front_is
       ∙ ap (λ ss. code_end (front_of program) (all_lefts (front_of program) [] ss) ss) shapes_are in
-      let far_is_end = far_end_is program checked in
+      let far_is_end = far_end_is program chosen checked in
       omega (arith, same, far_is_end, long)
 
-  pub near_long : (lefts : List (List ℕ)) → lefts ≡ near_lefts f shapes → 2 ^ 24 ≤ code_end f lefts shapes → 2 ^ 24 ≤ far_end program
+  pub near_long : (lefts : List (List ℕ)) → lefts ≡ near_lefts f shapes → 2 ^ 24 ≤ code_end f lefts shapes → 2 ^ 24 ≤ far_end program chosen
   near_long lefts e long =
       let same =
       ap (λ l. code_end f l shapes) e ∙ ap (λ k. code_end k (near_lefts k shapes) shapes) front_is
       ∙ ap (λ ss. code_end (front_of program) (near_lefts (front_of program) ss) ss) shapes_are in
-      let before = near_before program checked in
+      let before = near_before program chosen checked in
       omega (arith, same, before, long)
 
 -- a way that is not near is deep, where the frame is found
-abbrev Either : (registers frame : ℕ) → FrameWay → Type 0
-Either registers frame way = (is_near_way registers frame way ≡ true) ⊎ (is_deep way ≡ true)
+abbrev Either : (slots frame : ℕ) → FrameWay → Type 0
+Either slots frame way = (is_near_way slots frame way ≡ true) ⊎ (is_deep way ≡ true)
 
 both_true : (a b : Bool) → a ≡ true → b ≡ true → (a && b) ≡ true
 both_true true b e g = g
@@ -83,81 +84,90 @@ both_true false b e g = absurd (cc e)
 below : (a b : ℕ) → a < b → nat_lt a b ≡ true
 below a b h = grind (arith, nat_tests, h)
 
-reach_small : (t : Bool) (registers frame : ℕ) → registers < (if t then frame else 0) → t ≡ true
-reach_small true registers frame h = refl
-reach_small false registers frame h = absurd (omega (arith, h))
+reach_small : (t : Bool) (slots frame : ℕ) → slots < (if t then frame else 0) → t ≡ true
+reach_small true slots frame h = refl
+reach_small false slots frame h = absurd (omega (arith, h))
 
-way_either : (registers frame : ℕ) (way : FrameWay) → frame < 2 ^ 24 → registers < reachable (way_of way) frame → Either registers frame way
-way_either registers frame (FromStack depth) low h = by (nat_le (2 ^ 29) depth) refl
+way_either : (slots frame : ℕ) (way : FrameWay) → frame < 2 ^ 24 → slots < reachable (way_of way) frame → Either slots frame way
+way_either slots frame (FromStack depth) low h = by (nat_le (2 ^ 29) depth) refl
   where
-    by : (t : Bool) → nat_le (2 ^ 29) depth ≡ t → Either registers frame (FromStack depth)
+    by : (t : Bool) → nat_le (2 ^ 29) depth ≡ t → Either slots frame (FromStack depth)
     by true e = inr e
     by false e =
         let few : depth < 2 ^ 29 = grind (arith, nat_tests, e) in
-        inl (both_true _ _ (below (depth + registers) (2 ^ 30) (omega (arith, few, low, h))) (below (depth + frame) (2 ^ 30) (omega (arith, few, low))))
-way_either registers frame (PastLent depth) low h =
-    let t = reach_small (nat_le (4 * (depth + frame)) 2048) registers frame h in
+        inl (both_true _ _ (below (depth + slots) (2 ^ 30) (omega (arith, few, low, h))) (below (depth + frame) (2 ^ 30) (omega (arith, few, low))))
+way_either slots frame (PastLent depth) low h =
+    let t = reach_small (nat_le (4 * (depth + frame)) 2048) slots frame h in
     let few : 4 * (depth + frame) ≤ 2048 = grind (arith, nat_tests, t) in
     let within = ap (λ b. if b then frame else 0) t in
-    inl (both_true _ _ (below (depth + registers) (2 ^ 10) (omega (arith, few, h, within))) (below (depth + frame) (2 ^ 30) (omega (arith, few, low))))
-way_either registers frame NoWay low h = inl (below frame (2 ^ 30) (omega (arith, low)))
+    inl (both_true _ _ (below (depth + slots) (2 ^ 10) (omega (arith, few, h, within))) (below (depth + frame) (2 ^ 30) (omega (arith, few, low))))
+way_either slots frame NoWay low h = inl (below frame (2 ^ 30) (omega (arith, low)))
 
-either_way : (registers frame : ℕ) (w : FrameWay) (ways : List FrameWay) → Either registers frame w → (is_near_way registers frame w ≡ true → has_deep ways ≡ true) → has_deep (w ∷ ways) ≡ true
-either_way registers frame w ways (inl k) rest = deep_tail w ways (rest k)
-either_way registers frame w ways (inr k) rest = deep_head w ways k
+either_way : (slots frame : ℕ) (w : FrameWay) (ways : List FrameWay) → Either slots frame w → (is_near_way slots frame w ≡ true → has_deep ways ≡ true) → has_deep (w ∷ ways) ≡ true
+either_way slots frame w ways (inl k) rest = deep_tail w ways (rest k)
+either_way slots frame w ways (inr k) rest = deep_head w ways k
 
 deep_some :
-    (registers frame : ℕ) (ways : List FrameWay) → ((i : ℕ) (way : FrameWay) → slice_get ways i ≡ Some way → Either registers frame way)
-    → list_all (is_near_way registers frame) (ways ++ FromStack 0 ∷ []) ≡ false → registers < 2 ^ 24 → frame < 2 ^ 24 → has_deep ways ≡ true
-deep_some registers frame [] h e few low =
-    absurd (cc (sym e ∙ both_true _ true (both_true _ _ (below (0 + registers) (2 ^ 30) (omega (arith, few))) (below (0 + frame) (2 ^ 30) (omega (arith, low)))) refl))
-deep_some registers frame (w ∷ ways) h e few low =
-    either_way registers frame w ways (h 0 w refl)
+    (slots frame : ℕ) (ways : List FrameWay) → ((i : ℕ) (way : FrameWay) → slice_get ways i ≡ Some way → Either slots frame way)
+    → list_all (is_near_way slots frame) (ways ++ FromStack 0 ∷ []) ≡ false → slots < 2 ^ 24 → frame < 2 ^ 24 → has_deep ways ≡ true
+deep_some slots frame [] h e few low =
+    absurd (cc (sym e ∙ both_true _ true (both_true _ _ (below (0 + slots) (2 ^ 30) (omega (arith, few))) (below (0 + frame) (2 ^ 30) (omega (arith, low)))) refl))
+deep_some slots frame (w ∷ ways) h e few low =
+    either_way slots frame w ways (h 0 w refl)
     (λ k.
-    deep_some registers frame ways (λ i way g. h (suc i) way g) (sym (ap (λ b. b && list_all (is_near_way registers frame) (ways ++ FromStack 0 ∷ [])) k) ∙ e) few low)
+    deep_some slots frame ways (λ i way g. h (suc i) way g) (sym (ap (λ b. b && list_all (is_near_way slots frame) (ways ++ FromStack 0 ∷ [])) k) ∙ e) few low)
 
-module _ (program : MidProgram) (checked : is_checked_program program ≡ true) (finds : finds_frames program ≡ true) where
+module _ (program : MidProgram) (chosen : List RegisterPlaces) (checked : is_checked_program program ≡ true) (fit : PlacesFit program chosen) where
+  abbrev slots : ℕ → ℕ
+  slots number = (places_for chosen number).slots
+
   one_either :
       (number i : ℕ) (p : MidProcedure) (way : FrameWay) → slice_get program.procedures number ≡ Some p → slice_get (code_ways (FromStack 0) (code_of p.body)) i ≡ Some way
-      → Either p.registers p.frame way
+      → Either (slots number) p.frame way
   one_either number i p way h e =
-      let f = (found_at program number p finds h).everywhere i in
-      let here = way_past p i way e in
-      let is : places.way_of (known_records (records_in (slice_get (procedure_records (slice_get program.procedures number)) i))) ≡ way_of way =
-      ap (λ o. places.way_of (known_records (records_in (slice_get (procedure_records o) i)))) h ∙ here in
-      let same : f.0 ≡ way_of way = sym f.1.way_is ∙ is in
-      way_either p.registers p.frame way (frame_is_small (program_lines program) number _ (law_of_form program checked) (procedure_there program number p h))
-      (subst (λ w. p.registers < reachable w p.frame) same f.1.within)
+      let f = (found_alone (record p { registers = slots number }) (fit.each number p h).finds).everywhere i in
+      let same : f.0 ≡ way_of way = sym f.1.way_is ∙ way_past p i way e in
+      way_either (slots number) p.frame way (frame_is_small (program_lines program) number _ (law_of_form program checked) (procedure_there program number p h))
+      (subst (λ w. slots number < reachable w p.frame) same f.1.within)
 
-  not_near : (number : ℕ) (p : MidProcedure) → slice_get program.procedures number ≡ Some p → is_near_shape (shape_of p) ≡ false → is_deep_procedure p ≡ true
+  not_near : (number : ℕ) (p : MidProcedure) → slice_get program.procedures number ≡ Some p → is_near_shape (shape program chosen number p) ≡ false → is_deep_procedure p ≡ true
   not_near number p h e =
       let low = frame_is_small (program_lines program) number _ (law_of_form program checked) (procedure_there program number p h) in
-      let more = (found_at program number p finds h).enough in
-      deep_some p.registers p.frame (code_ways (FromStack 0) (code_of p.body)) (λ i way g. one_either number i p way h g) e (omega (arith, more, low)) low
+      let more = (found_alone (record p { registers = slots number }) (fit.each number p h).finds).enough in
+      deep_some (slots number) p.frame (code_ways (FromStack 0) (code_of p.body)) (λ i way g. one_either number i p way h g) e (omega (arith, more, low)) low
 
   one_deep :
-      (p : MidProcedure) (ps : List MidProcedure) (t : Bool) → is_near_shape (shape_of p) ≡ t → (is_near_shape (shape_of p) ≡ false → is_deep_procedure p ≡ true)
-      → (is_near_shape (shape_of p) ≡ true → list_any is_deep_procedure ps ≡ true) → list_any is_deep_procedure (p ∷ ps) ≡ true
-  one_deep p ps true k here rest = either_back (is_deep_procedure p) (list_any is_deep_procedure ps) (rest k)
-  one_deep p ps false k here rest = either_front (is_deep_procedure p) (list_any is_deep_procedure ps) (here k)
+      (p : MidProcedure) (ps : List MidProcedure) (s : Shape) (t : Bool) → is_near_shape s ≡ t → (is_near_shape s ≡ false → is_deep_procedure p ≡ true)
+      → (is_near_shape s ≡ true → list_any is_deep_procedure ps ≡ true) → list_any is_deep_procedure (p ∷ ps) ≡ true
+  one_deep p ps s true k here rest = either_back (is_deep_procedure p) (list_any is_deep_procedure ps) (rest k)
+  one_deep p ps s false k here rest = either_front (is_deep_procedure p) (list_any is_deep_procedure ps) (here k)
 
-  some_deep : (ps : List MidProcedure) → ((i : ℕ) (p : MidProcedure) → slice_get ps i ≡ Some p → is_near_shape (shape_of p) ≡ false → is_deep_procedure p ≡ true)
-      → list_all is_near_shape (map shape_of ps) ≡ false → list_any is_deep_procedure ps ≡ true
-  some_deep [] h e = absurd (cc e)
-  some_deep (p ∷ ps) h e =
-      one_deep p ps (is_near_shape (shape_of p)) refl (h 0 p refl)
-      (λ k. some_deep ps (λ i q g. h (suc i) q g) (sym (ap (λ b. b && list_all is_near_shape (map shape_of ps)) k) ∙ e))
+  some_deep :
+      (from : ℕ) (ps : List MidProcedure)
+      → ((i number : ℕ) (p : MidProcedure) → number ≡ from + i → slice_get ps i ≡ Some p → is_near_shape (shape program chosen number p) ≡ false → is_deep_procedure p ≡ true)
+      → list_all is_near_shape (joined (λ number p. shape program chosen number p ∷ []) from ps) ≡ false → list_any is_deep_procedure ps ≡ true
+  some_deep from [] h e = absurd (cc e)
+  some_deep from (p ∷ ps) h e =
+      one_deep p ps (shape program chosen from p) (is_near_shape (shape program chosen from p)) refl (h 0 from p (omega arith) refl)
+      (λ k.
+      some_deep (from + 1) ps (λ i number q g. h (suc i) number q (omega (arith, g)))
+      (sym (ap (λ b. b && list_all is_near_shape (joined (λ number p. shape program chosen number p ∷ []) (from + 1) ps)) k) ∙ e))
 
-  pub near_or_deep : (shapes : List Shape) → shapes ≡ shapes_of program → list_all is_near_shape shapes ≡ false → has_deep_records program ≡ true
-  near_or_deep shapes same e = some_deep program.procedures (λ i p h. not_near i p h) (sym (ap (list_all is_near_shape) same) ∙ e)
+  pub near_or_deep : (shapes : List Shape) → shapes ≡ shapes_of program chosen → list_all is_near_shape shapes ≡ false → has_deep_records program ≡ true
+  near_or_deep shapes same e =
+      some_deep 0 program.procedures
+      (λ i number p g h. let place : number ≡ i = omega (arith, g) in not_near number p (ap (slice_get program.procedures) place ∙ h))
+      (sym (ap (list_all is_near_shape) same) ∙ e)
 
 -- the errors of what a plan is made of
-module _ (program : MidProgram) (from : EmitError) (e : ImageError) (is : e ≡ image_error from) where
-  pub deep_large : (from ≡ emit.TooLarge → has_deep_records program ≡ true) → e ≡ image.TooLarge → IsTooLarge program
-  deep_large h large = inr (h (from_large from e is large))
+pub deep_large : (program : MidProgram) (e : ImageError) → (e ≡ image.TooLarge → has_deep_records program ≡ true) → e ≡ image.TooLarge → IsTooLarge program
+deep_large program e h large = inr (h large)
 
-  pub far_large : (from ≡ emit.TooLarge → 2 ^ 24 ≤ far_end program) → e ≡ image.TooLarge → IsTooLarge program
-  far_large h large = inl (h (from_large from e is large))
+module _ (program : MidProgram) (shapes : List Shape) (a : AreShapesOf program.procedures shapes) (from : EmitError) (e : ImageError) (is : e ≡ image_error from) where
+  pub far_large : (from ≡ emit.TooLarge → 2 ^ 24 ≤ far_end program (chosen_in shapes)) → e ≡ image.TooLarge → IsTooLarge program
+  far_large h large = inl (record { chosen = chosen_in shapes; fit = places_fit program shapes a; long = h (from_large from e is large) })
 
   pub front_large : is_checked_program program ≡ true → 2 ^ 24 ≤ first_position (front_of program) → e ≡ image.TooLarge → IsTooLarge program
-  front_large checked h large = let b = first_before program checked in inl (omega (arith, b, h))
+  front_large checked h large =
+      let b = first_before program (chosen_in shapes) checked in
+      inl (record { chosen = chosen_in shapes; fit = places_fit program shapes a; long = omega (arith, b, h) })

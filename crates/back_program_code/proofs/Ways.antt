@@ -16,7 +16,7 @@ use Rattle.back_trivial.proofs.Counting.{code_count}
 use Rattle.back_emit.specs.declared.ways.FrameWay.{FrameWay}
 use Rattle.back_emit.specs.declared.ways.FrameWay.TheVariants.{FromStack}
 use Rattle.back_emit.specs.Ways.{way_of}
-use Rattle.back_emit.specs.OwnSizes.{way_in}
+use Rattle.back_emit.specs.PlacedSizes.{way_in}
 use Rattle.back_emit.specs.TreeWays.{code_ways}
 use Rattle.back_emit.proofs.WaysOfTrees.{law_of_tree_ways}
 use Rattle.back_program_code.specs.Shapes.{body_ways}

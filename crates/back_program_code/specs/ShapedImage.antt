@@ -7,11 +7,12 @@ use Rattle.mid_code.specs.Checked.{is_checked_program}
 use Rattle.mid_lines.specs.declared.line.Line.{Line}
 use Rattle.back_places.specs.Selection.{far_jump_code}
 use Rattle.back_places.specs.Blocks.{end_code, full_code}
+use Rattle.back_allocation.specs.declared.placing.RegisterPlaces.{RegisterPlaces}
 use Rattle.back_layout.specs.Sizes.{switch_targets, all_targets}
-use Rattle.back_layout.specs.OwnSlots.{own_slots_laid_out}
+use Rattle.back_layout.specs.ChosenPlaces.{placed_laid_out}
 use Rattle.back_emit.specs.declared.spots.Spot.{Spot}
-use Rattle.back_emit.specs.OwnCode.{own_line, own_behind, own_entry}
-use Rattle.back_emit.specs.OwnLines.{line_position}
+use Rattle.back_emit.specs.PlacedCode.{placed_line, placed_behind, placed_entry}
+use Rattle.back_emit.specs.PlacedLines.{line_position}
 use Rattle.back_images.specs.Laws.{emitted}
 use Rattle.back_program_code.specs.declared.front.Front.{Front}
 use Rattle.back_program_code.specs.declared.shapes.Shape.{Shape}
@@ -27,12 +28,12 @@ module _ (f : Front) (entries : List ℕ) (at : ℕ) (nears : List Bool) (lefts 
   line_spot line x = spot_in f entries at nears lefts s (table_position line) line x
 
   abbrev pub line_instructions : (line : ℕ) → Line → List Instr
-  line_instructions line x = own_line (line_spot line x) x ++ own_behind (line_spot line x) x
+  line_instructions line x = placed_line s.chosen.places (line_spot line x) x ++ placed_behind s.chosen.places (line_spot line x) x
 
   -- the instructions of a procedure, and the words of its tables
   abbrev pub shape_code : List Instr
   shape_code =
-      own_entry (full_position f) f.arguments_at at s.procedure.frame s.procedure.parameters ++ joined line_instructions 0 s.procedure.lines
+      placed_entry (full_position f) f.arguments_at at s.procedure.frame s.chosen.parameters ++ joined line_instructions 0 s.procedure.lines
 
   abbrev pub line_table : (line : ℕ) → Line → List ℕ
   line_table line x = map (λ to. 4 * line_position lefts (body_position f at s) to) (switch_targets x)
@@ -52,17 +53,19 @@ front_words laid f entries entry =
     ++ (map (λ at. 4 * at) entries
     ++ (map word_of (far_jump_code 1 f.start_at (slice_index entries entry)) ++ (map word_of end_code ++ map word_of full_code))))
 
-abbrev pub shaped_image : MidProgram → (entry : ℕ) → List ℕ
-shaped_image program entry =
-    front_words program.laid (front_of program) (near_entries (front_of program) (shapes_of program)) entry
+-- the words from the shapes that procedures have with places that were chosen for them
+abbrev pub shaped_image : MidProgram → (chosen : List RegisterPlaces) → (entry : ℕ) → List ℕ
+shaped_image program chosen entry =
+    front_words program.laid (front_of program) (near_entries (front_of program) (shapes_of program chosen)) entry
     ++ joined
-    (numbered_image (front_of program) (near_entries (front_of program) (shapes_of program)) (near_jumps (front_of program) (shapes_of program))
-    (near_lefts (front_of program) (shapes_of program)))
-    0 (shapes_of program)
+    (numbered_image (front_of program) (near_entries (front_of program) (shapes_of program chosen)) (near_jumps (front_of program) (shapes_of program chosen))
+    (near_lefts (front_of program) (shapes_of program chosen)))
+    0 (shapes_of program chosen)
 
--- for a program in form this is its image, and it ends where the image does
+-- for a program in form this is its image with these places, whatever they are, and it ends where the image does
 abbrev pub LawOfShapedImage : Type 0
 LawOfShapedImage =
-    (program : MidProgram) (entry : ℕ) → is_checked_program program ≡ true → entry < length program.procedures
-    → (shaped_image program entry ≡ emitted program entry)
-    × (code_end (front_of program) (near_lefts (front_of program) (shapes_of program)) (shapes_of program) ≡ (own_slots_laid_out program).code_to)
+    (program : MidProgram) (chosen : List RegisterPlaces) (entry : ℕ) → is_checked_program program ≡ true → entry < length program.procedures
+    → (shaped_image program chosen entry ≡ emitted program chosen entry)
+    × (code_end (front_of program) (near_lefts (front_of program) (shapes_of program chosen)) (shapes_of program chosen)
+    ≡ (placed_laid_out program chosen).code_to)

@@ -9,31 +9,58 @@ use Rattle.mid_lines.specs.declared.line.Line.{Line}
 use Rattle.mid_lines.specs.declared.line.LineProcedure.{LineProcedure}
 use Rattle.mid_lines.specs.LinesChecked.{line_fits}
 use Rattle.mid_lines.specs.Flattened.{procedure_lines, program_lines}
-use Rattle.back_layout.specs.OwnSlots.{most_arguments}
+use Rattle.back_places.specs.Facts.{IsPlace}
+use Rattle.back_allocation.specs.declared.placing.RegisterPlaces.{RegisterPlaces}
+use Rattle.back_allocation.specs.LineSteps.{line_gives}
+use Rattle.back_allocation.specs.Places.{place_at}
+use Rattle.back_allocation.specs.ProgramPlaces.{places_for, FitsProcedure}
+use Rattle.back_layout.specs.ChosenPlaces.{most_arguments}
 use Rattle.back_layout.specs.Sizes.{all_targets}
 use Rattle.back_emit.specs.declared.spots.Spot.{Spot}
 use Rattle.back_emit.specs.declared.spots.Sizing.{Sizing}
 use Rattle.back_emit.specs.declared.ways.FrameWay.{FrameWay}
 use Rattle.back_emit.specs.declared.ways.FrameWay.TheVariants.{FromStack, PastLent, NoWay}
-use Rattle.back_emit.specs.OwnCode.{own_entry}
-use Rattle.back_emit.specs.OwnSizes.{own_rests}
-use Rattle.back_emit.specs.OwnLines.{placed_spot}
-use Rattle.back_emit.specs.OwnNear.{own_is_near}
+use Rattle.back_emit.specs.PlacedCode.{placed_entry}
+use Rattle.back_emit.specs.PlacedSizes.{placed_rests}
+use Rattle.back_emit.specs.PlacedLines.{placed_spot}
+use Rattle.back_emit.specs.PlacedNear.{placed_is_near}
 use Rattle.back_emit.specs.Fits.{passed_by}
 use Rattle.back_emit.specs.TreeWays.{code_ways}
 use Rattle.back_program_code.specs.declared.front.Front.{Front}
 use Rattle.back_program_code.specs.declared.shapes.Shape.{Shape}
 use Rattle.back_program_code.specs.Joined.{joined}
 
--- A procedure as lines, with the ways to the frame at each of them and behind the last.
+-- A procedure as lines, with the ways to the frame at each of them and behind the last, and with the places that are chosen for its registers.
 abbrev pub body_ways : MidProcedure → List FrameWay
 body_ways p = code_ways (FromStack 0) (code_of p.body) ++ FromStack 0 ∷ []
 
-abbrev pub shape_of : MidProcedure → Shape
-shape_of p = record { procedure = procedure_lines p; ways = body_ways p }
+abbrev pub shape_of : RegisterPlaces → MidProcedure → Shape
+shape_of a p = record { procedure = procedure_lines p; ways = body_ways p; chosen = a }
 
-abbrev pub shapes_of : MidProgram → List Shape
-shapes_of program = map shape_of program.procedures
+abbrev pub shapes_of : MidProgram → (chosen : List RegisterPlaces) → List Shape
+shapes_of program chosen = joined (λ number p. shape_of (places_for chosen number) p ∷ []) 0 program.procedures
+
+abbrev pub chosen_for : Shape → RegisterPlaces
+chosen_for s = s.chosen
+
+abbrev pub chosen_in : List Shape → List RegisterPlaces
+chosen_in shapes = map chosen_for shapes
+
+-- each is the shape of its procedure, with places that fit it
+pub record IsShapeOf (p : MidProcedure) (s : Shape) : Type 0 where
+  pub is : s ≡ shape_of s.chosen p
+  pub fits : FitsProcedure p s.chosen
+
+abbrev pub AreShapesOf : List MidProcedure → List Shape → Type 0
+AreShapesOf [] [] = Unit {0}
+AreShapesOf [] (s ∷ shapes) = ⊥
+AreShapesOf (p ∷ procedures) [] = ⊥
+AreShapesOf (p ∷ procedures) (s ∷ shapes) = IsShapeOf p s × AreShapesOf procedures shapes
+
+-- what is asked of a procedure for which places are chosen: the registers to which lines give words, and the parameters, are registers of its own
+pub record HasRegisters (p : LineProcedure) : Type 0 where
+  pub given : (line to : ℕ) (x : Line) → slice_get p.lines line ≡ Some x → line_gives x ≡ Some to → to < p.registers
+  pub parameters : p.parameters ≤ p.registers
 
 abbrev pub procedure_of : Shape → LineProcedure
 procedure_of s = s.procedure
@@ -63,24 +90,24 @@ module _ (f : Front) where
   abbrev pub first_position : ℕ
   first_position = f.start_at + 11
 
-  abbrev pub sizing_of : LineProcedure → Sizing
-  sizing_of p = record {
-    registers = p.registers;
-    frame = p.frame;
+  abbrev pub sizing_of : Shape → Sizing
+  sizing_of s = record {
+    slots = s.chosen.slots;
+    frame = s.procedure.frame;
     arguments_at = f.arguments_at;
     procedures_at = f.procedures_at;
     full_at = full_position;
   }
 
   -- how many words an entry has, how many are left from each line on, and how many a procedure has
-  abbrev pub entry_words : LineProcedure → ℕ
-  entry_words p = length (own_entry full_position f.arguments_at 0 p.frame p.parameters)
+  abbrev pub entry_words : Shape → ℕ
+  entry_words s = length (placed_entry full_position f.arguments_at 0 s.procedure.frame s.chosen.parameters)
 
   abbrev pub shape_lefts : (nears : List Bool) → Shape → List ℕ
-  shape_lefts nears s = own_rests (sizing_of s.procedure) s.ways nears 0 s.procedure.lines
+  shape_lefts nears s = placed_rests s.chosen.places (sizing_of s) s.ways nears 0 s.procedure.lines
 
   abbrev pub shape_words : (lefts : List ℕ) → Shape → ℕ
-  shape_words lefts s = entry_words s.procedure + slice_index lefts 0 + length (all_targets s.procedure.lines)
+  shape_words lefts s = entry_words s + slice_index lefts 0 + length (all_targets s.procedure.lines)
 
   -- what is left in each procedure, where these jumps are near
   abbrev pub all_lefts : (nears : List (List Bool)) → List Shape → List (List ℕ)
@@ -102,15 +129,15 @@ module _ (f : Front) where
 
   -- the spot of a line in a procedure whose entry is at a position, with that of its table
   abbrev pub body_position : (at : ℕ) → Shape → ℕ
-  body_position at s = at + entry_words s.procedure
+  body_position at s = at + entry_words s
 
   abbrev pub spot_in : (entries : List ℕ) → (at : ℕ) → (nears : List Bool) → (lefts : List ℕ) → Shape → (table line : ℕ) → Line → Spot
   spot_in entries at nears lefts s table line x =
-      placed_spot (sizing_of s.procedure) s.ways nears lefts entries (body_position at s) line table x
+      placed_spot (sizing_of s) s.ways nears lefts entries (body_position at s) line table x
 
   -- which jumps are near, where what is left was counted with none that is
   abbrev pub shape_nears : (entries : List ℕ) → (at : ℕ) → (lefts : List ℕ) → Shape → List Bool
-  shape_nears entries at lefts s = joined (λ line x. own_is_near (spot_in entries at [] lefts s 0 line x) x ∷ []) 0 s.procedure.lines
+  shape_nears entries at lefts s = joined (λ line x. placed_is_near s.chosen.places (spot_in entries at [] lefts s 0 line x) x ∷ []) 0 s.procedure.lines
 
   abbrev pub all_nears : (lefts : List (List ℕ)) → (entries : List ℕ) → List Shape → List (List Bool)
   all_nears lefts entries shapes =
@@ -129,23 +156,26 @@ module _ (f : Front) where
 abbrev pub AreLow : List ℕ → Type 0
 AreLow entries = (number : ℕ) → slice_index entries number < 2 ^ 24
 
--- What is asked of a procedure, so that all numbers are words: a way reaches all registers, and lines are in form.
-abbrev pub is_near_way : (registers frame : ℕ) → FrameWay → Bool
-is_near_way registers frame (FromStack depth) = nat_lt (depth + registers) (2 ^ 30) && nat_lt (depth + frame) (2 ^ 30)
-is_near_way registers frame (PastLent depth) = nat_lt (depth + registers) (2 ^ 10) && nat_lt (depth + frame) (2 ^ 30)
-is_near_way registers frame NoWay = nat_lt frame (2 ^ 30)
+-- What is asked of a procedure, so that all numbers are words: a way reaches all slots, the places of registers and of parameters are registers of the
+-- machine or slots, and lines are in form.
+abbrev pub is_near_way : (slots frame : ℕ) → FrameWay → Bool
+is_near_way slots frame (FromStack depth) = nat_lt (depth + slots) (2 ^ 30) && nat_lt (depth + frame) (2 ^ 30)
+is_near_way slots frame (PastLent depth) = nat_lt (depth + slots) (2 ^ 10) && nat_lt (depth + frame) (2 ^ 30)
+is_near_way slots frame NoWay = nat_lt frame (2 ^ 30)
 
 abbrev pub is_near_shape : Shape → Bool
-is_near_shape s = list_all (is_near_way s.procedure.registers s.procedure.frame) s.ways
+is_near_shape s = list_all (is_near_way s.chosen.slots s.procedure.frame) s.ways
 
 pub record FitsShape (f : Front) (s : Shape) : Type 0 where
   pub low : first_position f < 2 ^ 24
   pub arguments_low : f.arguments_at < 2 ^ 24
   pub procedures_low : f.procedures_at < 2 ^ 24
-  pub few : s.procedure.registers < 2 ^ 30
+  pub few : s.chosen.slots < 2 ^ 24
   pub framed : s.procedure.frame < 2 ^ 30
-  pub ways : list_all (is_near_way s.procedure.registers s.procedure.frame) s.ways ≡ true
-  pub parameters : f.arguments_at + s.procedure.parameters ≤ 2 ^ 24
+  pub ways : list_all (is_near_way s.chosen.slots s.procedure.frame) s.ways ≡ true
+  pub placed : (v : ℕ) → IsPlace (s.chosen.slots + 1) (place_at s.chosen.places v)
+  pub entered : (v : ℕ) → IsPlace (s.chosen.slots + 1) (place_at s.chosen.parameters v)
+  pub parameters : f.arguments_at + length s.chosen.parameters ≤ 2 ^ 24
   pub lines : (line : ℕ) (x : Line) → slice_get s.procedure.lines line ≡ Some x → line_fits s.procedure.registers (length s.procedure.lines) x ≡ true
   pub passed : (line : ℕ) (x : Line) → slice_get s.procedure.lines line ≡ Some x → f.arguments_at + passed_by x ≤ 2 ^ 24
 

@@ -56,6 +56,6 @@ pub fn body_position(
     requires { FitsShape front shape.now × (at + shape_words front lefts.now shape.now < 2 ^ 24) }
     ensures { IfOk result (λ body. body ≡ body_position front at shape.now) }
 {
-    let entry = entry_words(scratch, front, &shape.procedure)?;
+    let entry = entry_words(scratch, front, shape)?;
     Ok(at + entry as u32)
 }

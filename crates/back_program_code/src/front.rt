@@ -1,8 +1,8 @@
 // What stands in front of all procedures of an image.
 
 ghost use Rattle.std.specs.Prelude.{◌≡◌, ◌+◌, ◌^◌, ◌<◌, ◌≤◌, max, length, map, IfOk, IfErr};
-ghost use Rattle.back_layout.specs.OwnSlots.{arguments_passed, most_in_lines, most_arguments};
-ghost use Rattle.back_program_code.specs.Shapes.{shapes_of, procedure_of, front_of, first_position};
+ghost use Rattle.back_layout.specs.ChosenPlaces.{arguments_passed, most_in_lines, most_arguments};
+ghost use Rattle.back_program_code.specs.Shapes.{shapes_of, chosen_in, procedure_of, front_of, first_position};
 
 use crate::shapes::ShapeList;
 use back_emit::EmitError;
@@ -22,7 +22,7 @@ pub struct Front {
 
 /// What stands in front of the procedures of a program. It is too large where that is 2^24 words or more.
 pub fn front_of(program: &MidProgram, shapes: &ShapeList) -> Result<Front, EmitError>
-    requires { shapes.now ≡ shapes_of program.now }
+    requires { shapes.now ≡ shapes_of program.now (chosen_in shapes.now) }
     ensures ok { IfOk result (λ front. front ≡ front_of program.now) }
     ensures low { IfOk result (λ front. first_position front < 2 ^ 24) }
     ensures err { IfErr result (λ e. 2 ^ 24 ≤ first_position (front_of program.now)) }

@@ -5,7 +5,7 @@ ghost use Rattle.mid_code.specs.Checked.{is_checked_program};
 ghost use Rattle.rv_encode.specs.Encodes.{word_of};
 ghost use Rattle.back_places.specs.Selection.{far_jump_code};
 ghost use Rattle.back_places.specs.Blocks.{end_code, full_code};
-ghost use Rattle.back_program_code.specs.Shapes.{first_position, AreLow};
+ghost use Rattle.back_program_code.specs.Shapes.{first_position, AreLow, chosen_in};
 ghost use Rattle.back_program_code.specs.ShapedImage.{front_words, shaped_image};
 ghost use Rattle.back_emit.specs.declared.errors.EmitError.TheVariants.{TooLarge};
 ghost use Rattle.back_trivial.specs.FrameFound.{finds_frames};
@@ -99,9 +99,9 @@ pub fn words_of(
     plan: &Plan,
     entry: usize,
 ) -> Result<WordList, EmitError>
-    requires { IsPlan program.now plan.now }
-    ensures ok { IfOk result (λ words. words ≡ shaped_image program.now entry) }
-    ensures err { IfErr result (λ e. e ≡ TooLarge → 2 ^ 24 ≤ length (shaped_image program.now entry)) }
+    requires { IsPlan program.now (chosen_in plan.now.shapes) plan.now }
+    ensures ok { IfOk result (λ words. words ≡ shaped_image program.now (chosen_in plan.now.shapes) entry) }
+    ensures err { IfErr result (λ e. e ≡ TooLarge → 2 ^ 24 ≤ length (shaped_image program.now (chosen_in plan.now.shapes) entry)) }
 {
     let mut words = WordList::new(alloc);
     put_front(
@@ -124,8 +124,9 @@ pub fn words_of(
     Ok(words)
 }
 
-/// The image of a program, which begins with a jump to one of its procedures. `FrameNotFound`: at some line the frame is not found. `TooLarge`:
-/// with all jumps far the image would have 2^24 words or more, or records have 2^29 words or more, one inside the other.
+/// The image of a program, which begins with a jump to one of its procedures, with places that are chosen for registers by the linear scan.
+/// `FrameNotFound`: at some line the frame is not found. `TooLarge`: with all jumps far the image would have 2^24 words or more, or records have
+/// 2^29 words or more, one inside the other.
 pub fn emit(alloc: Global, program: &MidProgram, entry: usize) -> Result<Image, ImageError>
     requires { (is_checked_program program.now ≡ true) × (entry < length program.now.procedures) }
     ensures ok { IfOk result (λ image. IsImageOf program.now entry image) }

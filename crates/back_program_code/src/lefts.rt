@@ -3,8 +3,7 @@
 ghost use Rattle.std.specs.Prelude.{◌≡◌, ◌+◌, ◌^◌, ◌<◌, ◌≤◌, [], length, slice_get, slice_index, IfOk, IfErr, OnOk, ◌++◌};
 ghost use Rattle.back_emit.specs.declared.errors.EmitError.TheVariants.{TooLarge};
 ghost use Rattle.back_layout.specs.Sizes.{all_targets, switch_targets};
-ghost use Rattle.back_emit.specs.OwnCode.{own_entry};
-ghost use Rattle.back_emit.specs.OwnSizes.{own_rests};
+ghost use Rattle.back_emit.specs.PlacedCode.{placed_entry};
 ghost use Rattle.back_program_code.specs.Shapes.{listed, full_position, entry_words, shape_lefts, shape_words, all_lefts, code_end, sizing_of, FitsShape, EachShapeFits};
 
 use crate::front::Front;
@@ -16,7 +15,7 @@ use back_emit::sizes::{LeftList, NearList, left_at, rests_of};
 use back_emit::ways::Access;
 use back_emit::{CodeList, EmitError};
 use base::{ItemList, NoMemory};
-use mid_lines::{Line, LineList, LineProcedure};
+use mid_lines::{Line, LineList};
 use rv_encode::Immediate12;
 use std::alloc::Global;
 
@@ -27,31 +26,22 @@ pub type NearTable = ItemList<NearList>;
 pub type LeftTable = ItemList<LeftList>;
 
 /// Appends the entry of a procedure, at a position.
-pub fn put_entry(
-    code: &mut CodeList,
-    front: Front,
-    at: u32,
-    procedure: &LineProcedure,
-) -> Result<(), NoMemory>
-    requires { (front.start_at + 11 < 2 ^ 24) × (at < 2 ^ 24) × (procedure.now.frame < 2 ^ 30) × (front.arguments_at + procedure.now.parameters ≤ 2 ^ 24) }
-    ensures { OnOk result (code.new ≡ code.old ++ own_entry (full_position front) front.arguments_at at procedure.now.frame procedure.now.parameters) }
+pub fn put_entry(code: &mut CodeList, front: Front, at: u32, shape: &Shape) -> Result<(), NoMemory>
+    requires { FitsShape front shape.now × (at < 2 ^ 24) }
+    ensures { OnOk result (code.new ≡ code.old ++ placed_entry (full_position front) front.arguments_at at shape.now.procedure.frame shape.now.chosen.parameters) }
 {
-    put_room(code, front.start_at + 5, at, procedure.frame)?;
+    put_room(code, front.start_at + 5, at, shape.procedure.frame)?;
     put_access(code, Access::StoreFrom(1), 2, Immediate12::of(0))?;
-    put_parameters(code, front.arguments_at, procedure.parameters)
+    put_parameters(code, front.arguments_at, &shape.chosen.parameters)
 }
 
 /// How many words an entry has. The list is for instructions that are only counted.
-pub fn entry_words(
-    scratch: &mut CodeList,
-    front: Front,
-    procedure: &LineProcedure,
-) -> Result<usize, NoMemory>
-    requires { (front.start_at + 11 < 2 ^ 24) × (procedure.now.frame < 2 ^ 30) × (front.arguments_at + procedure.now.parameters ≤ 2 ^ 24) }
-    ensures { IfOk result (λ words. words ≡ entry_words front procedure.now) }
+pub fn entry_words(scratch: &mut CodeList, front: Front, shape: &Shape) -> Result<usize, NoMemory>
+    requires { FitsShape front shape.now }
+    ensures { IfOk result (λ words. words ≡ entry_words front shape.now) }
 {
     scratch.cut(0);
-    put_entry(scratch, front, 0, procedure)?;
+    put_entry(scratch, front, 0, shape)?;
     Ok(scratch.len())
 }
 
@@ -99,7 +89,7 @@ pub fn shape_words(
     ensures ok { IfOk result (λ words. (words ≡ shape_words front lefts.now shape.now) × (words < 2 ^ 26)) }
     ensures err { IfErr result (λ e. e ≡ TooLarge → 2 ^ 24 ≤ shape_words front lefts.now shape.now) }
 {
-    let entry = entry_words(scratch, front, &shape.procedure)?;
+    let entry = entry_words(scratch, front, shape)?;
     let left = left_at(lefts, 0);
     if 16_777_216 <= entry {
         return Err(EmitError::TooLarge);
@@ -122,9 +112,16 @@ pub fn shape_lefts(
     ensures ok { IfOk result (λ lefts. lefts ≡ shape_lefts front nears.now shape.now) }
     ensures err { IfErr result (λ e. e ≡ TooLarge → 2 ^ 24 ≤ slice_index (shape_lefts front nears.now shape.now) 0) }
 {
-    let sizing = sizing_of(front, &shape.procedure);
+    let sizing = sizing_of(front, shape);
     let _count = shape.procedure.lines.as_slice().len();
-    rests_of(alloc, sizing, &shape.ways, nears, &shape.procedure.lines)
+    rests_of(
+        alloc,
+        &shape.chosen.places,
+        sizing,
+        &shape.ways,
+        nears,
+        &shape.procedure.lines,
+    )
 }
 
 fn numbered_lefts(

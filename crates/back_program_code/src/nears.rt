@@ -3,13 +3,14 @@
 ghost use Rattle.std.specs.Prelude.{◌≡◌, ◌+◌, ◌^◌, ◌<◌, length, slice_index, IfOk};
 ghost use Rattle.mid_lines.specs.declared.line.Line.TheVariants.{Do};
 ghost use Rattle.back_emit.specs.Fits.{FitsLine};
-ghost use Rattle.back_emit.specs.OwnNear.{own_is_near};
+ghost use Rattle.back_emit.specs.PlacedNear.{placed_is_near};
 ghost use Rattle.back_program_code.specs.Shapes.{first_position, shape_words, shape_nears, all_lefts, all_entries, all_nears, code_end, FitsShape, EachShapeFits, AreLow};
 
 use crate::entries::body_position;
 use crate::front::Front;
 use crate::lefts::{LeftTable, NearTable};
 use crate::shapes::{Shape, ShapeList, sizing_of};
+use back_allocation::PlaceList;
 use back_emit::nearness::{is_near_branch, is_near_jump, passed_length, tested_length};
 use back_emit::placing::{EntryList, entry_position, placed_spot};
 use back_emit::sizes::{LeftList, NearList};
@@ -23,16 +24,16 @@ use std::alloc::Global;
 pub fn line_is_near(
     scratch: &mut CodeList,
     spot: &Spot,
-    registers: usize,
+    places: &PlaceList,
     line: &Line,
 ) -> Result<bool, NoMemory>
-    requires { FitsLine spot.now registers line.now }
-    ensures { IfOk result (λ near. near ≡ own_is_near spot.now line.now) }
+    requires { FitsLine spot.now places.now line.now }
+    ensures { IfOk result (λ near. near ≡ placed_is_near places.now spot.now line.now) }
 {
     match line {
-        Line::Do(operation) => operation_is_near(scratch, spot, registers, operation),
+        Line::Do(operation) => operation_is_near(scratch, spot, places, operation),
         Line::Branch { test, .. } => {
-            let read = tested_length(scratch, spot, registers, test.first, test.second)?;
+            let read = tested_length(scratch, spot, places, test.first, test.second)?;
             Ok(read < 33_554_432 && is_near_branch(spot.at as usize + read, spot.to as usize))
         }
         Line::Switch { .. } => Ok(false),
@@ -52,11 +53,11 @@ pub fn line_is_near(
 fn operation_is_near(
     scratch: &mut CodeList,
     spot: &Spot,
-    registers: usize,
+    places: &PlaceList,
     operation: &Operation,
 ) -> Result<bool, NoMemory>
-    requires { FitsLine spot.now registers (Do operation.now) }
-    ensures { IfOk result (λ near. near ≡ own_is_near spot.now (Do operation.now)) }
+    requires { FitsLine spot.now places.now (Do operation.now) }
+    ensures { IfOk result (λ near. near ≡ placed_is_near places.now spot.now (Do operation.now)) }
 {
     match operation {
         Operation::Call {
@@ -65,7 +66,7 @@ fn operation_is_near(
             ..
         } => match callee {
             Callee::Procedure(number) => {
-                let passed = passed_length(scratch, spot, registers, *number, arguments)?;
+                let passed = passed_length(scratch, spot, places, *number, arguments)?;
                 Ok(passed < 33_554_432 && is_near_jump(spot.at as usize + passed, spot.to as usize))
             }
             Callee::Word(_) => Ok(false),
@@ -98,14 +99,14 @@ pub fn shape_nears(
     let none = NearList::new(alloc);
     let mut scratch = CodeList::new(alloc);
     let body = body_position(&mut scratch, front, at, lefts, shape)?;
-    let sizing = sizing_of(front, &shape.procedure);
+    let sizing = sizing_of(front, shape);
     let count = shape.procedure.lines.as_slice().len();
     for i in 0..count {
         let Some(line) = shape.procedure.lines.get(i) else {
             unreachable!()
         };
         let spot = placed_spot(sizing, &shape.ways, &none, lefts, entries, body, i, 0, line);
-        nears.push(line_is_near(&mut scratch, &spot, sizing.registers, line)?)?;
+        nears.push(line_is_near(&mut scratch, &spot, &shape.chosen.places, line)?)?;
     }
     Ok(nears)
 }

@@ -4,10 +4,11 @@ ghost use Rattle.std.specs.Prelude.{◌≡◌, ◌+◌, ◌^◌, ◌<◌, ◌≤
 ghost use Rattle.std.specs.List.{list_all};
 ghost use Rattle.mid_code.specs.Checked.{is_checked_program};
 ghost use Rattle.back_trivial.specs.FrameFound.{finds_frames};
-ghost use Rattle.back_program_code.specs.Shapes.{shapes_of, front_of, first_position, is_near_shape, EachShapeFits};
+ghost use Rattle.back_program_code.specs.Shapes.{shapes_of, chosen_in, front_of, first_position, is_near_shape, EachShapeFits};
 ghost use Rattle.back_emit.specs.declared.errors.EmitError.TheVariants.{TooLarge};
 ghost use Rattle.back_program_code.specs.declared.errors.ImageError.TheVariants as image;
-ghost use Rattle.back_program_code.specs.TooLarge.{has_deep_records, far_end, IsTooLarge};
+ghost use Rattle.back_program_code.specs.TooLarge.{far_end, IsTooLarge};
+ghost use Rattle.back_allocation.specs.ProgramPlaces.{PlacesFit};
 ghost use Rattle.back_program_code.specs.Made.{IsPlan};
 
 use crate::entries::all_entries;
@@ -17,12 +18,11 @@ use crate::lefts::{LeftTable, NearTable, all_lefts};
 use crate::nears::all_nears;
 use crate::shapes::{ShapeList, are_near_ways, shapes_of};
 use back_emit::EmitError;
-use back_emit::finding::procedure_finds;
 use back_emit::placing::EntryList;
 use mid_code::MidProgram;
 use std::alloc::Global;
 
-/// The procedures of a program as lines, what stands in front of them, which jumps are near, how many words are left from each line on, and the
+/// The procedures of a program as lines with the places of their registers, what stands in front of them, which jumps are near, how many words are left from each line on, and the
 /// positions of entries.
 #[derive(Drop)]
 pub struct Plan {
@@ -33,29 +33,12 @@ pub struct Plan {
     pub entries: EntryList,
 }
 
-/// Whether all procedures find their frames. It is too large where records have 2^29 words or more, one inside the other.
-pub fn finds_frames(program: &MidProgram) -> Result<bool, EmitError>
-    ensures ok { IfOk result (λ finds. finds ≡ finds_frames program.now) }
-    ensures err { IfErr result (λ e. e ≡ TooLarge → has_deep_records program.now ≡ true) }
-{
-    for procedure in program.procedures.as_slice() {
-        if !procedure_finds(procedure)? {
-            return Ok(false);
-        }
-    }
-    Ok(true)
-}
-
-/// Whether in all procedures each way reaches all registers, so that offsets are words.
+/// Whether in all procedures each way reaches all slots, so that offsets are words.
 pub fn are_near_shapes(shapes: &ShapeList) -> bool
     ensures { result ≡ list_all is_near_shape shapes.now }
 {
     for shape in shapes.as_slice() {
-        if !are_near_ways(
-            shape.procedure.registers,
-            shape.procedure.frame,
-            &shape.ways,
-        ) {
+        if !are_near_ways(shape.chosen.slots, shape.procedure.frame, &shape.ways) {
             return false;
         }
     }
@@ -65,13 +48,10 @@ pub fn are_near_shapes(shapes: &ShapeList) -> bool
 /// Finds all that the words of a program's image are made of.
 pub fn plan_of(alloc: Global, program: &MidProgram) -> Result<Plan, ImageError>
     requires { is_checked_program program.now ≡ true }
-    ensures ok { IfOk result (λ plan. IsPlan program.now plan) }
+    ensures ok { IfOk result (λ plan. IsPlan program.now (chosen_in plan.shapes) plan) }
     ensures large { IfErr result (λ e. e ≡ image.TooLarge → IsTooLarge program.now) }
     ensures not_found { IfErr result (λ e. e ≡ image.FrameNotFound → finds_frames program.now ≡ false) }
 {
-    if !finds_frames(program)? {
-        return Err(ImageError::FrameNotFound);
-    }
     let shapes = shapes_of(alloc, program)?;
     let front = front_of(program, &shapes)?;
     if !are_near_shapes(&shapes) {
@@ -86,10 +66,10 @@ fn laid_out(
     shapes: ShapeList,
     front: Front,
 ) -> Result<Plan, EmitError>
-    requires { (is_checked_program program.now ≡ true) × (shapes ≡ shapes_of program.now) × (front ≡ front_of program.now) × (first_position front < 2 ^ 24) × EachShapeFits front shapes
-        × (finds_frames program.now ≡ true) }
-    ensures ok { IfOk result (λ plan. IsPlan program.now plan) }
-    ensures err { IfErr result (λ e. e ≡ TooLarge → 2 ^ 24 ≤ far_end program.now) }
+    requires { (is_checked_program program.now ≡ true) × PlacesFit program.now (chosen_in shapes) × (shapes ≡ shapes_of program.now (chosen_in shapes)) × (front ≡ front_of program.now)
+        × (first_position front < 2 ^ 24) × EachShapeFits front shapes }
+    ensures ok { IfOk result (λ plan. IsPlan program.now (chosen_in plan.shapes) plan) }
+    ensures err { IfErr result (λ e. e ≡ TooLarge → 2 ^ 24 ≤ far_end program.now (chosen_in shapes)) }
 {
     let none = NearTable::new(alloc);
     let far = all_lefts(alloc, front, &none, &shapes)?;

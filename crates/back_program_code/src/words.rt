@@ -4,7 +4,7 @@ ghost use Rattle.std.specs.Prelude.{◌≡◌, ◌+◌, ◌*◌, ◌^◌, ◌<�
 ghost use Rattle.rv_encode.specs.Encodes.{word_of};
 ghost use Rattle.back_emit.specs.declared.errors.EmitError.TheVariants.{TooLarge};
 ghost use Rattle.back_layout.specs.Sizes.{switch_targets};
-ghost use Rattle.back_emit.specs.OwnLines.{line_position};
+ghost use Rattle.back_emit.specs.PlacedLines.{line_position};
 ghost use Rattle.back_program_code.specs.Joined.{joined};
 ghost use Rattle.back_program_code.specs.Shapes.{shape_words, all_entries, code_end, body_position, FitsShape, EachShapeFits, AreLow};
 ghost use Rattle.back_program_code.specs.ShapedImage.{line_instructions, shape_code, line_table, shape_image, numbered_image};
@@ -50,7 +50,7 @@ pub fn put_lines(
 {
     let mut scratch = CodeList::new(alloc);
     let body = body_position(&mut scratch, front, at, lefts, shape)?;
-    let sizing = sizing_of(front, &shape.procedure);
+    let sizing = sizing_of(front, shape);
     let mut table = body + left_at(lefts, 0) as u32;
     let count = shape.procedure.lines.as_slice().len();
     for i in 0..count {
@@ -68,8 +68,8 @@ pub fn put_lines(
             table,
             line,
         );
-        put_line(code, &spot, sizing.registers, line)?;
-        put_behind(code, &spot, sizing.registers, line)?;
+        put_line(code, &spot, &shape.chosen.places, line)?;
+        put_behind(code, &spot, &shape.chosen.places, line)?;
         table += target_count(line) as u32;
     }
     Ok(())
@@ -149,7 +149,7 @@ pub fn put_shape(
     ensures err { IfErr result (λ e. e ≡ TooLarge → 2 ^ 24 ≤ length (shape_image front entries.now at nears.now lefts.now shape.now)) }
 {
     let mut code = CodeList::new(alloc);
-    put_entry(&mut code, front, at, &shape.procedure)?;
+    put_entry(&mut code, front, at, shape)?;
     put_lines(alloc, &mut code, front, entries, at, nears, lefts, shape)?;
     put_encoded(words, &code)?;
     Ok(put_tables(alloc, words, front, entries, at, nears, lefts, shape)?)

@@ -1,5 +1,5 @@
 -- Whole procedures, programs and images.
-use Rattle.std.proofs.Common.{◌≡◌, ℕ, zero, suc, ◌+◌, ◌≤◌, List, [], ◌∷◌, length, map, Some, refl, sym, ap, ◌∙◌, arith, length-append}
+use Rattle.std.proofs.Common.{◌≡◌, ℕ, suc, ◌+◌, ◌≤◌, List, [], ◌∷◌, length, map, Some, refl, sym, ap, ◌∙◌, arith, length-append}
 use Rattle.std.specs.Prelude.{slice_get, slice_index}
 use Rattle.std.proofs.lemmas.List.{length-map}
 use Rattle.mid_code.specs.declared.program.MidProcedure.{MidProcedure}
@@ -9,12 +9,14 @@ use Rattle.mid_lines.specs.declared.line.Line.{Line}
 use Rattle.mid_lines.specs.declared.line.LineProcedure.{LineProcedure}
 use Rattle.mid_lines.specs.Flattened.{code_lines, procedure_lines, program_lines}
 use Rattle.back_places.specs.Places.{Located}
-use Rattle.back_places.specs.Trivial.{own_slots}
-use Rattle.back_trivial.specs.OwnSlots.{parameters_in}
+use Rattle.back_trivial.proofs.TreeLines.{procedure_of_tree}
+use Rattle.back_allocation.specs.Places.{place_at}
+use Rattle.back_allocation.specs.ProgramPlaces.{places_for}
+use Rattle.back_allocation.proofs.Parameters.{count_of}
 use Rattle.back_layout.specs.Sizes.{unplaced, rests, switch_targets, all_targets, procedure_size, code_size}
 use Rattle.back_layout.specs.Layout.{with_near}
-use Rattle.back_layout.specs.OwnSlots.{own_slots_decided}
-use Rattle.back_sizes.specs.Laws.{procedures_cost, LawOfSizes, LawOfOwnSlotsSize}
+use Rattle.back_layout.specs.ChosenPlaces.{placed_decided}
+use Rattle.back_sizes.specs.Laws.{procedures_cost, LawOfSizes, LawOfPlacedSize}
 use Rattle.back_sizes.proofs.LineSizes.{size_length, entry_length}
 use Rattle.back_sizes.proofs.TreeSizes.{lines_cost, code_costs}
 
@@ -48,12 +50,9 @@ law_of_sizes program l h =
     let all = all_words n 0 program.procedures (λ i p e. let same : 0 + i ≡ i = omega arith in ap (λ k. length (l.parameters k)) same ∙ h i p e) in
     omega (arith, all, length-map program.procedures procedure_lines)
 
--- own slots
-
-slots_long : (i n : ℕ) → length (own_slots i n) ≡ n
-slots_long i zero = refl
-slots_long i (suc n) = ap suc (slots_long (i + 1) n)
-
-pub law_of_own_slots_size : LawOfOwnSlotsSize
-law_of_own_slots_size program =
-    law_of_sizes program (own_slots_decided program) (λ number p e. ap (λ o. length (parameters_in o)) e ∙ slots_long 0 p.parameters)
+pub law_of_placed_size : LawOfPlacedSize
+law_of_placed_size program chosen fit =
+    law_of_sizes program (placed_decided program chosen) (λ number p e.
+    let o = procedure_of_tree program number p e in
+    let stand = (fit.each number o.tree o.there).stand in
+    ap length stand.entry ∙ count_of (place_at (places_for chosen number).places) stand.enters 0 o.tree.parameters ∙ ap (λ q. q.parameters) o.same)

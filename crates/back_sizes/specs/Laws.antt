@@ -6,8 +6,10 @@ use Rattle.mid_arena.specs.CodeCosts.{procedure_cost}
 use Rattle.mid_lines.specs.declared.line.LineProcedure.{LineProcedure}
 use Rattle.mid_lines.specs.Flattened.{program_lines}
 use Rattle.back_places.specs.Places.{Located}
+use Rattle.back_allocation.specs.declared.placing.RegisterPlaces.{RegisterPlaces}
+use Rattle.back_allocation.specs.ProgramPlaces.{PlacesFit}
 use Rattle.back_layout.specs.Layout.{laid_out}
-use Rattle.back_layout.specs.OwnSlots.{most_arguments, own_slots_laid_out}
+use Rattle.back_layout.specs.ChosenPlaces.{most_arguments, placed_laid_out}
 
 -- what the code of procedures costs
 abbrev pub procedures_cost : List MidProcedure → ℕ
@@ -25,8 +27,9 @@ LawOfSizes =
     → (laid_out (program_lines program) l).code_to
     ≤ length program.laid + l.argument_words + length program.procedures + 11 + procedures_cost program.procedures
 
-abbrev pub LawOfOwnSlotsSize : Type 0
-LawOfOwnSlotsSize =
-    (program : MidProgram)
-    → (own_slots_laid_out program).code_to
+-- so it is with places that fit the program, and as many words of arguments as the longest call has
+abbrev pub LawOfPlacedSize : Type 0
+LawOfPlacedSize =
+    (program : MidProgram) (chosen : List RegisterPlaces) → PlacesFit program chosen
+    → (placed_laid_out program chosen).code_to
     ≤ length program.laid + most_arguments (program_lines program).procedures + length program.procedures + 11 + procedures_cost program.procedures

@@ -3,4 +3,4 @@
 
 pub mod laws;
 
-pub use laws::{law_own_slots_size, law_sizes};
+pub use laws::{law_placed_size, law_sizes};

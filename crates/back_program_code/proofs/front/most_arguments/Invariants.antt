@@ -1,6 +1,6 @@
 -- The most of the procedures that were looked at.
 use Rattle.std.proofs.Common.{◌≡◌, map, take}
-use Rattle.back_layout.specs.OwnSlots.{most_arguments}
+use Rattle.back_layout.specs.ChosenPlaces.{most_arguments}
 use Rattle.back_program_code.specs.Shapes.{procedure_of}
 use Rattle.back_program_code.proofs.front.most_arguments.Given as goal
 

@@ -1,5 +1,5 @@
 use Rattle.std.proofs.Common.{rules, ◌≡◌, ◌+◌, ◌++◌, refl, ap, ◌∙◌, arith, append_assoc}
-use Rattle.back_emit.specs.OwnCode.{own_line, own_behind}
+use Rattle.back_emit.specs.PlacedCode.{placed_line, placed_behind}
 use Rattle.back_program_code.specs.Shapes.{spot_in}
 use Rattle.back_program_code.specs.ShapedImage.{line_instructions, line_spot}
 use Rattle.back_program_code.proofs.Joined.{joined_more}
@@ -48,8 +48,8 @@ loop-i-preserved c =
     c.loop-i.i x c.placed_spot-spot.ensures c.sizing_of-sizing.ensures refl c.in_ok-body.ensures
     ∙ ap (λ t. spot_in f entries at nears lefts shape t c.loop-i.i x) c.loop-i.invariant.1 in (
       joined_more (line_instructions f entries at nears lefts shape) c.loop-i.i x shape.procedure.lines c.args.code.now c.loop-i.code _
-          (c.in_ok-put_behind.ensures ∙ ap (λ k. k ++ own_behind spot x) c.in_ok-put_line.ensures.ok ∙ append_assoc c.loop-i.code (own_line spot x) (own_behind spot x)
-          ∙ ap (λ k. c.loop-i.code ++ (own_line k x ++ own_behind k x)) same)
+          (c.in_ok-put_behind.ensures ∙ ap (λ k. k ++ placed_behind shape.chosen.places spot x) c.in_ok-put_line.ensures.ok ∙ append_assoc c.loop-i.code (placed_line shape.chosen.places spot x) (placed_behind shape.chosen.places spot x)
+          ∙ ap (λ k. c.loop-i.code ++ (placed_line shape.chosen.places k x ++ placed_behind shape.chosen.places k x)) same)
           c.loop-i.invariant.0 c.in-Some.ensures,
       omega (arith, next, c.loop-i.invariant.1, c.target_count.ensures),
     )
@@ -69,4 +69,4 @@ returns-in_err-put_line-clause-err c =
     c.loop-i.i x c.placed_spot-spot.ensures c.sizing_of-sizing.ensures refl c.in_ok-body.ensures
     ∙ ap (λ t. spot_in f entries at nears lefts shape t c.loop-i.i x) c.loop-i.invariant.1 in
     let within = joined_long (line_instructions f entries at nears lefts shape) 0 c.loop-i.i c.loop-i.i x shape.procedure.lines (omega arith) c.in-Some.ensures in
-    search (rules, part_long spot (line_spot f entries at nears lefts shape c.loop-i.i x) x _ same within)
+    search (rules, part_long shape.chosen.places spot (line_spot f entries at nears lefts shape c.loop-i.i x) x _ same within)

@@ -1,6 +1,6 @@
 use Rattle.std.proofs.Common.{◌*◌, ◌++◌, map, ap, ◌∙◌}
 use Rattle.back_layout.specs.Sizes.{switch_targets}
-use Rattle.back_emit.specs.OwnLines.{line_position}
+use Rattle.back_emit.specs.PlacedLines.{line_position}
 use Rattle.back_program_code.specs.ShapedImage.{line_table}
 use Rattle.back_program_code.proofs.Joined.{joined_more}
 use Rattle.back_program_code.proofs.words.put_tables.Goals as goal

@@ -1,6 +1,6 @@
 -- The addresses of as many lines as were looked at.
 use Rattle.std.proofs.Common.{◌≡◌, ◌*◌, ◌++◌, map, take}
-use Rattle.back_emit.specs.OwnLines.{line_position}
+use Rattle.back_emit.specs.PlacedLines.{line_position}
 use Rattle.back_program_code.proofs.words.put_targets.Given as goal
 
 abbrev pub invariant-loop-target : goal.invariant-loop-target

@@ -1,4 +1,4 @@
--- The layout of the lines of a tree, where each register is in a slot of its own.
+-- The layout of the lines of a tree, where registers stand in places that were chosen, procedure by procedure.
 use Rattle.std.specs.Prelude.{ℕ, false, List, [], ◌∷◌, length, max}
 use Rattle.mid_code.specs.declared.operation.Operation.TheVariants.{Call}
 use Rattle.mid_code.specs.declared.program.MidProgram.{MidProgram}
@@ -8,7 +8,8 @@ use Rattle.mid_lines.specs.declared.line.LineProcedure.{LineProcedure}
 use Rattle.mid_lines.specs.Flattened.{program_lines}
 use Rattle.back_places.specs.declared.place.Place.TheVariants.{AsConstant}
 use Rattle.back_places.specs.Places.{Located}
-use Rattle.back_trivial.specs.OwnSlots.{with_own_slots}
+use Rattle.back_allocation.specs.declared.placing.RegisterPlaces.{RegisterPlaces}
+use Rattle.back_allocation.specs.ProgramPlaces.{with_chosen_places}
 use Rattle.back_layout.specs.Layout.{laid_out}
 
 -- how many arguments a line passes, and the most that lines, and procedures with their parameters, pass
@@ -47,9 +48,9 @@ nothing_decided argument_words = record {
   code_to = 0;
 }
 
--- each register in a slot of its own, as many words for arguments as the longest call has, and all positions
-abbrev pub own_slots_decided : MidProgram → Located
-own_slots_decided program = with_own_slots program (nothing_decided (most_arguments (program_lines program).procedures))
+-- registers in these places, as many words for arguments as the longest call has, and all positions
+abbrev pub placed_decided : MidProgram → List RegisterPlaces → Located
+placed_decided program chosen = with_chosen_places program chosen (nothing_decided (most_arguments (program_lines program).procedures))
 
-abbrev pub own_slots_laid_out : MidProgram → Located
-own_slots_laid_out program = laid_out (program_lines program) (own_slots_decided program)
+abbrev pub placed_laid_out : MidProgram → List RegisterPlaces → Located
+placed_laid_out program chosen = laid_out (program_lines program) (placed_decided program chosen)

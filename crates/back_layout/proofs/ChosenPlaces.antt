@@ -1,4 +1,4 @@
--- Where each register has a slot of its own, and there are as many words for arguments as the longest call has, the layout is good whole.
+-- Where places fit a program, and there are as many words for arguments as the longest call has, the layout is good whole.
 use Rattle.std.proofs.Common.{◌≡◌, ℕ, zero, suc, ◌≤◌, max, List, [], ◌∷◌, Option, Some, None, refl, ap, arith}
 use Rattle.std.specs.Prelude.{slice_get}
 use Rattle.mid_code.specs.declared.operation.Operation.{Operation}
@@ -12,10 +12,11 @@ use Rattle.mid_lines.specs.Flattened.{program_lines}
 use Rattle.back_places.specs.Places.{Located}
 use Rattle.back_places.specs.StepLaw.{Known}
 use Rattle.back_places.specs.Trivial.{ArgumentsFit}
-use Rattle.back_trivial.specs.OwnSlots.{PassesArguments, is_in_own_slot}
-use Rattle.back_trivial.proofs.TrivialLines.{law_of_trivial_lines}
-use Rattle.back_layout.specs.OwnSlots.{arguments_passed, most_in_lines, most_arguments, own_slots_decided, own_slots_laid_out}
-use Rattle.back_layout.specs.Laws.{LawOfOwnSlotsLaidOut}
+use Rattle.back_trivial.specs.OwnSlots.{PassesArguments}
+use Rattle.back_allocation.specs.declared.placing.RegisterPlaces.{RegisterPlaces}
+use Rattle.back_allocation.proofs.ProgramPlaces.{law_of_program_places}
+use Rattle.back_layout.specs.ChosenPlaces.{arguments_passed, most_in_lines, most_arguments, placed_decided, placed_laid_out}
+use Rattle.back_layout.specs.Laws.{LawOfPlacedLaidOut}
 use Rattle.back_layout.proofs.LaidOut.{law_of_laid_out, good_with}
 
 most_of_line : (xs : List Line) (i : ℕ) (x : Line) → slice_get xs i ≡ Some x → arguments_passed x ≤ most_in_lines xs
@@ -42,7 +43,7 @@ fits : (l : Located) (x : Line) → arguments_passed x ≤ l.argument_words → 
 fits l (Do o) h = fits_operation l o h
 fits l x h = tt
 
-module _ (program : MidProgram) where
+module _ (program : MidProgram) (chosen : List RegisterPlaces) where
   most : (number line : ℕ) (o : Option LineProcedure) (x : Line) → slice_get (program_lines program).procedures number ≡ o → slice_get (lines_in o) line ≡ Some x
       → arguments_passed x ≤ most_arguments (program_lines program).procedures
   most number line None x h e = absurd (cc e)
@@ -51,14 +52,18 @@ module _ (program : MidProgram) where
       let b = most_of_procedure (program_lines program).procedures number p h in
       omega (arith, a, b)
 
-  passes : PassesArguments (program_lines program) (own_slots_laid_out program)
+  passes : PassesArguments (program_lines program) (placed_laid_out program chosen)
   passes = record {
-    calls = λ number line x e. fits (own_slots_laid_out program) x (most number line (slice_get (program_lines program).procedures number) x refl e);
+    calls = λ number line x e. fits (placed_laid_out program chosen) x (most number line (slice_get (program_lines program).procedures number) x refl e);
     entries = λ number p h. let b = most_of_procedure (program_lines program).procedures number p h in omega (arith, b);
   }
 
-pub law_of_own_slots_laid_out : LawOfOwnSlotsLaidOut
-law_of_own_slots_laid_out program checked finds low =
-    good_with (program_lines program) (own_slots_laid_out program) (Known (is_in_own_slot (program_lines program)))
-    (law_of_trivial_lines program (own_slots_laid_out program) checked finds (passes program))
-    (law_of_laid_out (program_lines program) (own_slots_decided program) low)
+pub law_of_placed_laid_out : LawOfPlacedLaidOut
+law_of_placed_laid_out program chosen fit low =
+    let w = law_of_program_places program chosen (placed_laid_out program chosen) fit (passes program chosen) in
+    record {
+      known = w.known;
+      good =
+          good_with (program_lines program) (placed_laid_out program chosen) (Known w.known) w.well
+          (law_of_laid_out (program_lines program) (placed_decided program chosen) low);
+    }
