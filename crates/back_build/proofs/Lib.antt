@@ -1,3 +1,8 @@
 mod WholeMeaning
 mod Counted
 mod Named
+mod Lowered
+mod First
+mod Entry
+mod Compiled
+mod Built

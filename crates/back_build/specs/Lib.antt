@@ -1,4 +1,7 @@
 pub mod Means
 pub mod Laws
+pub mod Built
+pub mod Compiled
 pub mod Inside
 pub mod Named
+pub mod Faults

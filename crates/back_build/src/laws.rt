@@ -1,12 +1,30 @@
 // The laws of images of whole programs, as the contracts of functions that do nothing.
 
 ghost use Rattle.back_build.specs.Laws.{LawOfWholeMeaning};
+ghost use Rattle.back_build.specs.Compiled.{LawOfCompiled, LawOfBuilt};
 
-use flat_language::laws::law_closures;
+use flat_language::laws::{law_closures, law_flat_programs};
 
 /// An image that does what a flat program means does what the whole program means that was made flat.
 pub fn law_whole_meaning()
     ensures { LawOfWholeMeaning }
 {
     law_closures();
+}
+
+/// The image of a whole program that was made flat and lowered does what the program means, whatever was decided of places, where it was
+/// decided well.
+pub fn law_compiled()
+    ensures { LawOfCompiled }
+{
+    law_closures();
+    law_flat_programs();
+}
+
+/// An image that was made of the code of a whole program does what the program means.
+pub fn law_built()
+    ensures { LawOfBuilt }
+{
+    law_closures();
+    law_flat_programs();
 }

@@ -2,11 +2,14 @@
 #![tactic(auto)]
 
 mod boxes;
+pub mod building;
 mod captured;
 mod data_below;
+pub mod faults;
 mod inside;
 pub mod laws;
 mod names_there;
 
-pub use boxes::boxes_are_captured;
-pub use laws::law_whole_meaning;
+pub use building::build;
+pub use faults::BuildFault;
+pub use laws::{law_built, law_compiled, law_whole_meaning};

@@ -1,0 +1,92 @@
+// A whole program compiled to an image.
+
+ghost use Rattle.std.specs.Prelude.{◌≡◌, true, IsTrue, IfOk};
+ghost use Rattle.lang_meaning.specs.declared.program.ProgramRows.{ProgramRows as program_rows};
+ghost use Rattle.lang_meaning.specs.Facts.{is_whole};
+ghost use Rattle.flat_language.specs.Flatten.{flat_program};
+ghost use Rattle.mid_start.specs.Rows.{RowsFit};
+ghost use Rattle.back_words.specs.Asked.{NamesAsked};
+ghost use Rattle.back_build.specs.Compiled.{IsImageMade};
+ghost use Rattle.back_build.specs.Means.{IsBuilt};
+
+use crate::boxes::boxes_are_captured;
+use crate::faults::BuildFault;
+use crate::laws::law_built;
+use crate::names_there::{are_names_there, name_of_true};
+use back_lowered::{LoweredProgram, lower};
+use back_program_code::emit;
+use back_tables::tables_of;
+use back_uses::{are_in_table, used_names};
+use base::{Name, Names, NoMemory};
+use flat_conversion::flatten;
+use flat_language::FlatProgram;
+use lang_meaning::Program;
+use mid_code::MidProgram;
+use mid_start::law_whole_rows;
+use rv_machine::Image;
+use std::alloc::Global;
+
+/// The image of a program with these names: in every arena that has room for it, it does what the program means.
+pub fn build(alloc: Global, program: &Program, names: &Names) -> Result<Image, BuildFault>
+    ensures { IfOk result (λ image. IsBuilt names.now program.now image) }
+{
+    law_whole_rows();
+    let rows = program.rows();
+    let Some(true_name) = name_of_true(names) else {
+        return Err(BuildFault::NotInForm);
+    };
+    if !are_names_there(names, true_name, rows) {
+        return Err(BuildFault::NotInForm);
+    }
+    let flat = flatten(alloc, program)?;
+    let image = build_flat(alloc, names, true_name, &flat);
+    drop(flat);
+    image
+}
+
+// The image of a program that was made flat.
+fn build_flat(
+    alloc: Global,
+    names: &Names,
+    true_name: Name,
+    flat: &FlatProgram,
+) -> Result<Image, BuildFault>
+    requires { RowsFit names.now true_name flat.now.classes flat.now.functions flat.now.literals }
+    ensures { IfOk result (λ image. (program : program_rows) → is_whole program ≡ true → flat.now ≡ flat_program program → IsBuilt names.now program image) }
+{
+    law_built();
+    let _count = names.len();
+    if !boxes_are_captured(flat) {
+        return Err(BuildFault::NotInForm);
+    }
+    if !are_names_asked(alloc, names, flat)? {
+        return Err(BuildFault::NotInForm);
+    }
+    let lowered = lower(alloc, names, true_name, flat)?;
+    image_of(alloc, lowered)
+}
+
+// Whether the names that forms use are in the table.
+fn are_names_asked(alloc: Global, names: &Names, flat: &FlatProgram) -> Result<bool, NoMemory>
+    ensures { IfOk result (λ are. IsTrue are → NamesAsked names.now flat.now) }
+{
+    let tables = tables_of(alloc, names, flat)?;
+    let used = used_names(alloc, names, flat, &tables.rows, tables.unnamed)?;
+    Ok(are_in_table(names, &used))
+}
+
+// The image of a program that was lowered; its start is the last of its procedures.
+fn image_of(alloc: Global, lowered: LoweredProgram) -> Result<Image, BuildFault>
+    ensures { IfOk result (λ image. IsImageMade lowered image) }
+{
+    let LoweredProgram { procedures, words } = lowered;
+    let program = MidProgram {
+        procedures,
+        laid: words.data.arena.words,
+    };
+    let count = program.procedures.len();
+    if count == 0 || !program.check() {
+        return Err(BuildFault::NotInForm);
+    }
+    Ok(emit(alloc, &program, count - 1)?)
+}
