@@ -103,8 +103,7 @@ fn subtracted(to: u32, first: u32, word: u32) -> Option<Instr>
     requires { (to < 32) × (first < 32) }
     ensures { result ≡ with_short (Addi to first) ((2 ^ 32 - word) % 2 ^ 32) }
 {
-    let difference = 4_294_967_296 - u64::from(word);
-    let negated = (difference % 4_294_967_296) as u32;
+    let negated = negated(word);
     is_short(negated).then_some(Instr::Addi {
         rd: Register::of(to),
         rs1: Register::of(first),
