@@ -1,9 +1,10 @@
 -- The shapes of procedures, one more; and what they are once all are there: those of the program with places that fit it.
-use Rattle.std.proofs.Common.{◌≡◌, ℕ, zero, suc, ◌+◌, Bool, true, false, List, [], ◌∷◌, ◌++◌, length, map, take, Some, refl, sym, ap, subst, ◌∙◌, arith}
-use Rattle.std.specs.Prelude.{slice_get, nat_le, ◌&&◌}
+use Rattle.std.proofs.Common.{◌≡◌, ℕ, zero, suc, ◌+◌, ◌<◌, Bool, true, false, List, [], ◌∷◌, ◌++◌, length, take, get_or, Some, refl, sym, ap, subst, ◌∙◌, arith}
+use Rattle.std.specs.Prelude.{slice_get, nat_le}
 use Rattle.std.specs.List.{list_all}
 use Rattle.std.proofs.lemmas.Bool.Decides.{nat_tests}
 use Rattle.std.proofs.lemmas.List.{length-map}
+use Rattle.std.proofs.lemmas.Option.{slice_get_read}
 use Rattle.mid_code.specs.declared.program.MidProcedure.{MidProcedure}
 use Rattle.mid_code.specs.declared.program.MidProgram.{MidProgram}
 use Rattle.mid_code.specs.Checked.{is_block_size, is_checked_program}
@@ -21,15 +22,24 @@ use Rattle.back_program_code.specs.Joined.{joined}
 use Rattle.back_program_code.specs.Shapes.{shape_of, shapes_of, chosen_in, chosen_for, IsShapeOf, AreShapesOf, HasRegisters}
 use Rattle.back_program_code.proofs.Agreeing.{procedure_there}
 
+-- the item at which a loop stands
+pub item_there :
+    {X : Type 0} (xs items : List X) (i : ℕ) (x : X) → items ≡ xs → i < length items → x ≡ get_or items i x → slice_get xs i ≡ Some x
+item_there xs items i x same lt e = ap (λ k. slice_get k i) (sym same) ∙ slice_get_read items (length items) i x refl lt e
+
 -- one more
 pub shapes_more :
-    (i : ℕ) (procedures : List MidProcedure) (shapes : List Shape) (p : MidProcedure) (s : Shape) → slice_get procedures i ≡ Some p
-    → AreShapesOf (take i procedures) shapes → IsShapeOf p s → AreShapesOf (take (i + 1) procedures) (shapes ++ s ∷ [])
-shapes_more i [] shapes p s e a is = absurd (cc e)
-shapes_more zero (q ∷ qs) [] p s e a is = let same : p ≡ q = cc (sym e) in (subst (λ r. IsShapeOf r s) same is, tt)
-shapes_more zero (q ∷ qs) (t ∷ ts) p s e a is = absurd a
-shapes_more (suc i) (q ∷ qs) [] p s e a is = absurd a
-shapes_more (suc i) (q ∷ qs) (t ∷ ts) p s e a is = (a.0, shapes_more i qs ts p s e a.1 is)
+    (i n : ℕ) (procedures : List MidProcedure) (shapes : List Shape) (p : MidProcedure) (s : Shape) → n ≡ i + 1 → slice_get procedures i ≡ Some p
+    → AreShapesOf (take i procedures) shapes → IsShapeOf p s → AreShapesOf (take n procedures) (shapes ++ s ∷ [])
+shapes_more i n [] shapes p s next e a is = absurd (cc e)
+shapes_more i zero (q ∷ qs) shapes p s next e a is = absurd (omega (arith, next))
+shapes_more zero (suc n) (q ∷ qs) [] p s next e a is =
+    let same : p ≡ q = cc (sym e) in
+    let none : 0 ≡ n = omega (arith, next) in
+    (subst (λ r. IsShapeOf r s) same is, subst (λ k. AreShapesOf (take k qs) []) none tt)
+shapes_more zero (suc n) (q ∷ qs) (t ∷ ts) p s next e a is = absurd a
+shapes_more (suc i) (suc n) (q ∷ qs) [] p s next e a is = absurd a
+shapes_more (suc i) (suc n) (q ∷ qs) (t ∷ ts) p s next e a is = (a.0, shapes_more i n qs ts p s (omega (arith, next)) e a.1 is)
 
 -- what was chosen, by the number of a shape
 chosen_at : (shapes : List Shape) (number : ℕ) (s : Shape) → slice_get shapes number ≡ Some s → places_for (chosen_in shapes) number ≡ s.chosen

@@ -1,5 +1,5 @@
 -- When a program is too large: what does not fit otherwise is large with all jumps far, or has deep records.
-use Rattle.std.proofs.Common.{inl, inr, ◌≡◌, ◌≤◌, ◌⊎◌, ℕ, suc, ◌+◌, ◌*◌, ◌^◌, ◌<◌, Bool, true, false, List, [], ◌∷◌, ◌++◌, map, Some, refl, sym, ap, subst, ◌∙◌, arith}
+use Rattle.std.proofs.Common.{inl, inr, ◌≡◌, ◌≤◌, ◌⊎◌, ℕ, suc, ◌+◌, ◌*◌, ◌^◌, ◌<◌, Bool, true, false, List, [], ◌∷◌, ◌++◌, Some, refl, sym, ap, subst, ◌∙◌, arith}
 use Rattle.std.specs.Prelude.{slice_get, nat_lt, nat_le, ◌&&◌, if◌then◌else◌}
 use Rattle.std.specs.List.{list_any, list_all}
 use Rattle.std.proofs.lemmas.Bool.Decides.{nat_tests}
@@ -31,7 +31,7 @@ use Rattle.back_program_code.specs.declared.front.Front.{Front}
 use Rattle.back_program_code.specs.declared.shapes.Shape.{Shape}
 use Rattle.back_program_code.specs.Joined.{joined}
 use Rattle.back_program_code.specs.Shapes.{shapes_of, chosen_in, AreShapesOf, front_of, is_near_way, is_near_shape, near_lefts, all_lefts, code_end, first_position}
-use Rattle.back_program_code.specs.TooLarge.{far_end, is_deep_procedure, has_deep_records, IsLong, IsTooLarge}
+use Rattle.back_program_code.specs.TooLarge.{far_end, is_deep_procedure, has_deep_records, IsTooLarge}
 use Rattle.back_program_code.proofs.Agreeing.{end_same, procedure_there, shape}
 use Rattle.back_program_code.proofs.Long.{from_large}
 use Rattle.back_program_code.proofs.Shaped.{places_fit}

@@ -5,6 +5,9 @@ use Rattle.back_program_code.proofs.Positions.{words_next}
 use Rattle.back_program_code.proofs.Long.{words_long, end_long}
 use Rattle.back_program_code.proofs.entries.all_entries.Goals as goal
 
+pub shape_words-requires : goal.shape_words-requires
+shape_words-requires c = c.requires.0 c.loop-number.number c.in-Some.shape.now c.in-Some.ensures
+
 pub loop-number-preserved : goal.loop-number-preserved
 loop-number-preserved c =
     let f = c.args.front in

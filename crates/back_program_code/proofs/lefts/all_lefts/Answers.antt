@@ -5,6 +5,9 @@ use Rattle.back_program_code.proofs.Joined.{joined_one}
 use Rattle.back_program_code.proofs.Long.{lefts_long}
 use Rattle.back_program_code.proofs.lefts.all_lefts.Goals as goal
 
+pub numbered_lefts-requires : goal.numbered_lefts-requires
+numbered_lefts-requires c = c.requires c.loop-number.number c.in-Some.shape.now c.in-Some.ensures
+
 pub loop-number-preserved : goal.loop-number-preserved
 loop-number-preserved c = (
   joined_one (λ number s. shape_lefts c.args.front (listed (slice_get c.args.nears.now number)) s ∷ []) c.loop-number.number _ _ _ _
