@@ -14,11 +14,12 @@ use Rattle.back_emit.specs.declared.spots.Spot.{Spot}
 use Rattle.back_emit.specs.Ways.{way_of}
 use Rattle.back_emit.specs.PlacedCode.{placed_line, placed_behind}
 
--- where the line jumps, or its landing
+-- the spot says where a call jumps
 abbrev pub OperationGoes : (l : Located) (s : Spot) → Operation → Type 0
 OperationGoes l s (operation.Call to (Procedure n) arguments) = l.entry_at n ≡ s.to
 OperationGoes l s o = Unit {0}
 
+-- and where a line jumps, or its landing
 abbrev pub LineGoes : (l : Located) (number : ℕ) (s : Spot) → Line → Type 0
 LineGoes l number s (Do o) = OperationGoes l s o
 LineGoes l number s (Branch t otherwise) = l.line_at number otherwise ≡ s.to

@@ -27,11 +27,12 @@ pub record FitsSpot (s : Spot) (places : List Place) : Type 0 where
   pub procedures_low : s.procedures_at < 2 ^ 24
   pub full_low : s.full_at < 2 ^ 24
 
--- how many arguments a line passes
+-- how many arguments an operation passes
 abbrev pub passed_by_operation : Operation → ℕ
 passed_by_operation (operation.Call to callee arguments) = length arguments
 passed_by_operation o = 0
 
+-- the same of a line
 abbrev pub passed_by : Line → ℕ
 passed_by (Do o) = passed_by_operation o
 passed_by x = 0

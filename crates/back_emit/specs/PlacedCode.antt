@@ -32,25 +32,28 @@ module _ (s : Spot) where
   placed_silent to = nat_lt s.line to && (s.to == s.next)
 
 module _ (places : List Place) (s : Spot) where
-  -- a register is read, is loaded into a register of the machine, and gets a word
+  -- what comes before a register is read as an operand
   abbrev pub read_placed : (scratch register : ℕ) → List Instr
   read_placed scratch r = read_code (way_of s.way) scratch (place_at places r)
 
+  -- a register is loaded into a register of the machine
   abbrev pub load_placed : (to register : ℕ) → List Instr
   load_placed to r = load_into (way_of s.way) to (place_at places r)
 
+  -- the word of a place is given to a register
   abbrev pub give_placed : (from : Place) → (register : ℕ) → List Instr
   give_placed from r = move_code (way_of s.way) from (place_at places r)
 
-  -- a call up to its jump: arguments are passed, behind the number of a procedure where that is in a register
+  -- arguments are passed
   abbrev pub placed_arguments : List ℕ → List Instr
   placed_arguments arguments = pass_code s.arguments_at (way_of s.way) (map (place_at places) arguments)
 
+  -- a call up to its jump: the number of a procedure that is in a register is read before arguments are passed
   abbrev pub placed_before_call : Callee → (arguments : List ℕ) → List Instr
   placed_before_call (Procedure n) arguments = placed_arguments arguments
   placed_before_call (Word r) arguments = load_placed 6 r ++ placed_arguments arguments
 
-  -- operations
+  -- an operation
   abbrev pub placed_operation : Operation → List Instr
   placed_operation (operation.Move to from) = give_placed (place_at places from) to
   placed_operation (operation.Constant to word) = give_placed (AsConstant word) to
@@ -86,23 +89,26 @@ module _ (places : List Place) (s : Spot) where
       read_placed 5 r
       ++ (Slli 5 (read_in 5 (place_at places r)) 2 ∷ Lui 7 (high_part (4 * s.table)) ∷ Add 5 5 7 ∷ Lw 5 5 (low_part (4 * s.table)) ∷ Jalr 0 5 0 ∷ [])
 
-  -- blocks of the stack: one of as many words as a register says, and a control record
+  -- a block of as many words as a register says
   abbrev pub placed_lend : (block words : ℕ) → List Instr
   placed_lend block words =
       load_placed 10 words
       ++ (Addi 10 10 header_words ∷ Slli 5 10 2 ∷ Sub 5 2 5 ∷ Bge 5 3 20 ∷ full_here_code
       ++ (Sw 2 5 4 ∷ Addi 2 5 0 ∷ placed_lent block))
 
+  -- a control record, whose first word is the address of its landing
   abbrev pub placed_lay : (block words : ℕ) → List Instr
   placed_lay block words = room_code s.full_at s.at (words + header_words) ++ (address_code 5 s.to ++ (Sw 5 2 0 ∷ placed_lent block))
 
-  -- the ways out: a return, a cut, and the end with a condition that is not handled
+  -- a return of a word
   abbrev pub placed_return : (result : ℕ) → List Instr
   placed_return r = (load_placed 12 r ++ (link_code (way_of s.way) false ++ raise_code (depth_in (way_of s.way) + s.frame))) ++ Jalr 0 1 0 ∷ []
 
+  -- a cut to a record, with a word
   abbrev pub placed_cut : (block word : ℕ) → List Instr
   placed_cut block word = load_placed 5 block ++ (load_placed 12 word ++ (Addi 2 5 (2 ^ 12 - 4 * header_words) ∷ Lw 5 2 0 ∷ Jalr 0 5 0 ∷ []))
 
+  -- the end with a condition that is not handled
   abbrev pub placed_unhandled : (class site condition : ℕ) → List Instr
   placed_unhandled class site condition =
       load_placed 10 class ++ (load_placed 11 site ++ (load_placed 12 condition ++ Addi 17 0 3 ∷ Ecall ∷ []))

@@ -13,11 +13,12 @@ use Rattle.back_emit.specs.PlacedCode.{placed_line, placed_behind}
 use Rattle.back_emit.specs.Fits.{FitsLine}
 use Rattle.back_emit.specs.Agree.{AgreesAt}
 
--- the way at a line, and whether its jump is near
+-- the way at a line; none where it is not there
 abbrev pub way_in : Option FrameWay → FrameWay
 way_in None = NoWay
 way_in (Some way) = way
 
+-- whether the jump at a line is near; not where it is not there
 abbrev pub near_in : Option Bool → Bool
 near_in None = false
 near_in (Some near) = near
@@ -47,9 +48,11 @@ module _ (places : List Place) (z : Sizing) (ways : List FrameWay) (nears : List
   placed_line_size line x rests =
       length (placed_line places (sizing_spot z ways nears line) x) + length (placed_behind places (sizing_spot z ways nears line) x)
 
+  -- what is left from a line on, in front of what is left from each later line on
   abbrev pub with_placed_line : (line : ℕ) → Line → (rests : List ℕ) → List ℕ
   with_placed_line line x rests = (slice_index rests 0 + placed_line_size line x rests) ∷ rests
 
+  -- what is left from each of these lines on, up to the end behind the last
   abbrev pub placed_rests : (line : ℕ) → List Line → List ℕ
   placed_rests line [] = 0 ∷ []
   placed_rests line (x ∷ more) = with_placed_line line x (placed_rests (line + 1) more)

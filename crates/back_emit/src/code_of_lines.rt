@@ -1,8 +1,8 @@
 // The code of a line, of whatever kind, where registers have places.
 
-ghost use Rattle.std.specs.Prelude.{◌≡◌, ◌+◌, ◌^◌, ◌<◌, ◌≤◌, ◌++◌, [], true, length, OnOk, IfErr};
+ghost use Rattle.std.specs.Prelude.{◌≡◌, ◌+◌, ◌^◌, ◌<◌, ◌≤◌, ◌++◌, length, OnOk, IfErr};
 ghost use Rattle.back_emit.specs.declared.errors.EmitError.TheVariants.{TooLarge};
-ghost use Rattle.back_emit.specs.PlacedCode.{give_placed, placed_operation, placed_line, placed_behind, placed_before_call, placed_call_jump, placed_silent};
+ghost use Rattle.back_emit.specs.PlacedCode.{give_placed, placed_operation, placed_line, placed_behind, placed_before_call};
 ghost use Rattle.mid_code.specs.declared.operation.Operation.TheVariants.{Call};
 ghost use Rattle.back_places.specs.declared.place.Place.TheVariants.{InRegister};
 ghost use Rattle.mid_lines.specs.declared.line.Line.TheVariants.{Do, Branch, Jump};

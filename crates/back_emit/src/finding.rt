@@ -1,10 +1,10 @@
 // Whether the frame is found at each line of a tree, by a walk of its steps.
 
-ghost use Rattle.std.specs.Prelude.{◌≡◌, ◌+◌, ◌&&◌, ◌<◌, ◌∷◌, [], ◌++◌, true, nat_lt, IfOk, IfErr};
+ghost use Rattle.std.specs.Prelude.{◌≡◌, ◌+◌, ◌&&◌, ◌<◌, ◌∷◌, ◌++◌, true, IfOk, IfErr};
 ghost use Rattle.mid_code.specs.Arena.{header_words};
 ghost use Rattle.mid_code.specs.MidCode.{code_of};
 ghost use Rattle.mid_code.specs.model.View.{codes_of};
-ghost use Rattle.back_places.specs.Places.{is_from_stack, reachable};
+ghost use Rattle.back_places.specs.Places.{is_from_stack};
 ghost use Rattle.back_trivial.specs.FrameFound.{reaches_all, step_finds, code_finds, codes_find, procedure_finds};
 ghost use Rattle.back_emit.specs.TreeWays.{past_record, past_block, step_ways, code_ways, codes_ways, has_deep};
 ghost use Rattle.back_emit.specs.declared.errors.EmitError.TheVariants.{TooLarge};

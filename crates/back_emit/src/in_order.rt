@@ -1,6 +1,6 @@
 // Whether arguments can be passed one after the other.
 
-ghost use Rattle.std.specs.Prelude.{◌≡◌, ◌<◌, map};
+ghost use Rattle.std.specs.Prelude.{◌≡◌, map};
 ghost use Rattle.back_places.specs.declared.place.Place.TheVariants.{InRegister};
 ghost use Rattle.back_places.specs.Passing.{are_in_order};
 ghost use Rattle.back_allocation.specs.Places.{place_at};

@@ -1,14 +1,12 @@
 // The code of lines, where registers have places.
 
-ghost use Rattle.std.specs.Prelude.{◌≡◌, ◌+◌, ◌-◌, ◌*◌, ◌^◌, ◌<◌, ◌≤◌, [], ◌∷◌, ◌++◌, true, false, length, OnOk};
-ghost use Rattle.rv_encode.specs.declared.instruction.Instr.TheVariants.{Lui, Jalr, Bge, Lw, Sw, Addi, Add, Sub, Slli, Ecall};
+ghost use Rattle.std.specs.Prelude.{◌≡◌, ◌+◌, ◌-◌, ◌*◌, ◌^◌, ◌<◌, [], ◌∷◌, ◌++◌, OnOk};
+ghost use Rattle.rv_encode.specs.declared.instruction.Instr.TheVariants.{Lui, Jalr, Bge, Addi, Sub, Slli};
 ghost use Rattle.mid_code.specs.Arena.{header_words};
 ghost use Rattle.back_places.specs.Places.{depth_in};
 ghost use Rattle.back_places.specs.Operands.{high_part, low_part};
-ghost use Rattle.back_places.specs.LineCode.{link_code};
-ghost use Rattle.back_places.specs.Blocks.{raise_code, full_here_code};
-ghost use Rattle.back_emit.specs.Ways.{way_of, depth_of, IsReached, IsInReach};
-ghost use Rattle.back_emit.specs.PlacedCode.{load_placed, placed_operation, placed_line, placed_behind, placed_tested, placed_lent, placed_lay, placed_lend, placed_switch, placed_return, placed_cut, placed_unhandled};
+ghost use Rattle.back_emit.specs.Ways.{way_of, depth_of, IsReached};
+ghost use Rattle.back_emit.specs.PlacedCode.{load_placed, placed_tested, placed_lent, placed_lay, placed_lend, placed_switch, placed_return, placed_cut, placed_unhandled};
 ghost use Rattle.back_emit.specs.Fits.{FitsSpot};
 
 use crate::blocks::{

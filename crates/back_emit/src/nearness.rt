@@ -1,6 +1,6 @@
 // Which jumps are near.
 
-ghost use Rattle.std.specs.Prelude.{◌≡◌, ◌+◌, ◌^◌, ◌<◌, ◌≤◌, true, length, IfOk};
+ghost use Rattle.std.specs.Prelude.{◌≡◌, ◌+◌, ◌^◌, ◌<◌, ◌≤◌, length, IfOk};
 ghost use Rattle.mid_code.specs.declared.operation.Callee.TheVariants.{Procedure};
 ghost use Rattle.back_layout.specs.Layout.{is_near_branch, is_near_jump};
 ghost use Rattle.back_emit.specs.PlacedCode.{placed_before_call, placed_tested};

@@ -6,8 +6,7 @@ ghost use Rattle.back_places.specs.declared.place.Place.TheVariants.{InRegister}
 ghost use Rattle.back_places.specs.Operands.{load_into, read_in, read_code, given_in, keep_code, move_code, high_part, low_part};
 ghost use Rattle.back_places.specs.Selection.{low_12};
 ghost use Rattle.back_places.specs.LineCode.{few_requested_code, requested_code, request_code, table_jump_code};
-ghost use Rattle.back_allocation.specs.Places.{place_at};
-ghost use Rattle.back_emit.specs.Ways.{way_of, IsReached, IsInReach};
+ghost use Rattle.back_emit.specs.Ways.{way_of, IsInReach};
 ghost use Rattle.back_emit.specs.PlacedCode.{placed_before_call, placed_call_jump};
 ghost use Rattle.back_emit.specs.Fits.{FitsSpot};
 

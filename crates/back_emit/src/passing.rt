@@ -1,6 +1,6 @@
 // Arguments into the places where they are passed, and parameters from there.
 
-ghost use Rattle.std.specs.Prelude.{◌≡◌, ◌+◌, ◌^◌, ◌<◌, ◌≤◌, [], ◌∷◌, ◌++◌, length, map, nat_lt, OnOk, if◌then◌else◌};
+ghost use Rattle.std.specs.Prelude.{◌≡◌, ◌+◌, ◌^◌, ◌<◌, ◌≤◌, [], ◌++◌, length, map, nat_lt, OnOk, if◌then◌else◌};
 ghost use Rattle.rv_encode.specs.declared.instruction.Instr.TheVariants.{Lw};
 ghost use Rattle.back_places.specs.declared.place.Place.TheVariants.{InSlot};
 ghost use Rattle.back_places.specs.Places.{argument_register};

@@ -1,6 +1,6 @@
 // The instructions of arithmetic, of tests and of jumps.
 
-ghost use Rattle.std.specs.Prelude.{◌≡◌, ◌+◌, ◌-◌, ◌%◌, ◌^◌, ◌<◌, [], ◌∷◌, ◌++◌, OnOk};
+ghost use Rattle.std.specs.Prelude.{◌≡◌, ◌+◌, ◌-◌, ◌%◌, ◌^◌, ◌<◌, ◌∷◌, ◌++◌, OnOk};
 ghost use Rattle.rv_encode.specs.declared.instruction.Instr.TheVariants.{Addi};
 ghost use Rattle.back_places.specs.Operands.{read_in, read_code, given_in, keep_code};
 ghost use Rattle.back_places.specs.Selection.{arithmetic_of, with_short, immediate_of, binary_code, short_code, compute_code, branch_where, branch_unless, branch_offset, jump_offset, far_offset, far_jump_code, jump_code, branch_code, low_12};
@@ -103,8 +103,7 @@ fn subtracted(to: u32, first: u32, word: u32) -> Option<Instr>
     requires { (to < 32) × (first < 32) }
     ensures { result ≡ with_short (Addi to first) ((2 ^ 32 - word) % 2 ^ 32) }
 {
-    let difference = 4_294_967_296 - u64::from(word);
-    let negated = (difference % 4_294_967_296) as u32;
+    let negated = negated(word);
     is_short(negated).then_some(Instr::Addi {
         rd: Register::of(to),
         rs1: Register::of(first),

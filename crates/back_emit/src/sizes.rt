@@ -1,6 +1,6 @@
 // How many words are left from each line on, counted once, from the last line to the first.
 
-ghost use Rattle.std.specs.Prelude.{◌≡◌, ◌+◌, ◌^◌, ◌<◌, ◌≤◌, [], ◌∷◌, length, drop, slice_index, replicate, IfOk, IfErr, OnOk};
+ghost use Rattle.std.specs.Prelude.{◌≡◌, ◌+◌, ◌^◌, ◌<◌, ◌≤◌, length, drop, slice_index, replicate, IfOk, IfErr};
 ghost use Rattle.back_emit.specs.declared.errors.EmitError.TheVariants.{TooLarge};
 ghost use Rattle.mid_lines.specs.declared.line.Line.TheVariants.{Jump};
 ghost use Rattle.back_layout.specs.Sizes.{jump_size, goes_over_nothing};
