@@ -19,7 +19,8 @@ use Rattle.back_allocation.specs.ProgramPlaces.{places_for, FitsProcedure, Place
 use Rattle.back_allocation.proofs.GivenRegisters.{line_given}
 use Rattle.back_program_code.specs.declared.shapes.Shape.{Shape}
 use Rattle.back_program_code.specs.Joined.{joined}
-use Rattle.back_program_code.specs.Shapes.{shape_of, shapes_of, chosen_in, chosen_for, IsShapeOf, AreShapesOf, HasRegisters}
+use Rattle.back_program_code.specs.Shapes.{shape_of, shapes_of, chosen_in, chosen_for}
+use Rattle.back_program_code.specs.ShapesMade.{IsShapeOf, AreShapesOf, HasRegisters}
 use Rattle.back_program_code.proofs.Agreeing.{procedure_there}
 
 -- the item at which a loop stands

@@ -30,7 +30,8 @@ use Rattle.back_program_code.specs.Errors.{image_error}
 use Rattle.back_program_code.specs.declared.front.Front.{Front}
 use Rattle.back_program_code.specs.declared.shapes.Shape.{Shape}
 use Rattle.back_program_code.specs.Joined.{joined}
-use Rattle.back_program_code.specs.Shapes.{shapes_of, chosen_in, AreShapesOf, front_of, is_near_way, is_near_shape, near_lefts, all_lefts, code_end, first_position}
+use Rattle.back_program_code.specs.Shapes.{shapes_of, chosen_in, front_of, is_near_way, is_near_shape, near_lefts, all_lefts, code_end, first_position}
+use Rattle.back_program_code.specs.ShapesMade.{AreShapesOf}
 use Rattle.back_program_code.specs.TooLarge.{far_end, is_deep_procedure, has_deep_records, IsTooLarge}
 use Rattle.back_program_code.proofs.Agreeing.{end_same, procedure_there, shape}
 use Rattle.back_program_code.proofs.Long.{from_large}

@@ -11,9 +11,8 @@ use Rattle.mid_lines.specs.LinesChecked.{line_fits}
 use Rattle.mid_lines.specs.Flattened.{procedure_lines, program_lines}
 use Rattle.back_places.specs.Facts.{IsPlace}
 use Rattle.back_allocation.specs.declared.placing.RegisterPlaces.{RegisterPlaces}
-use Rattle.back_allocation.specs.LineSteps.{line_gives}
 use Rattle.back_allocation.specs.Places.{place_at}
-use Rattle.back_allocation.specs.ProgramPlaces.{places_for, FitsProcedure}
+use Rattle.back_allocation.specs.ProgramPlaces.{places_for}
 use Rattle.back_layout.specs.ChosenPlaces.{most_arguments}
 use Rattle.back_layout.specs.Sizes.{all_targets}
 use Rattle.back_emit.specs.declared.spots.Spot.{Spot}
@@ -30,38 +29,27 @@ use Rattle.back_program_code.specs.declared.front.Front.{Front}
 use Rattle.back_program_code.specs.declared.shapes.Shape.{Shape}
 use Rattle.back_program_code.specs.Joined.{joined}
 
--- A procedure as lines, with the ways to the frame at each of them and behind the last, and with the places that are chosen for its registers.
+-- the ways to the frame at each line of a procedure, and behind the last
 abbrev pub body_ways : MidProcedure → List FrameWay
 body_ways p = code_ways (FromStack 0) (code_of p.body) ++ FromStack 0 ∷ []
 
+-- A procedure as lines, with the ways, and with the places that are chosen for its registers.
 abbrev pub shape_of : RegisterPlaces → MidProcedure → Shape
 shape_of a p = record { procedure = procedure_lines p; ways = body_ways p; chosen = a }
 
+-- those of a program, with the places that are chosen for each
 abbrev pub shapes_of : MidProgram → (chosen : List RegisterPlaces) → List Shape
 shapes_of program chosen = joined (λ number p. shape_of (places_for chosen number) p ∷ []) 0 program.procedures
 
+-- what is chosen for a shape
 abbrev pub chosen_for : Shape → RegisterPlaces
 chosen_for s = s.chosen
 
+-- and for all of them
 abbrev pub chosen_in : List Shape → List RegisterPlaces
 chosen_in shapes = map chosen_for shapes
 
--- each is the shape of its procedure, with places that fit it
-pub record IsShapeOf (p : MidProcedure) (s : Shape) : Type 0 where
-  pub is : s ≡ shape_of s.chosen p
-  pub fits : FitsProcedure p s.chosen
-
-abbrev pub AreShapesOf : List MidProcedure → List Shape → Type 0
-AreShapesOf [] [] = Unit {0}
-AreShapesOf [] (s ∷ shapes) = ⊥
-AreShapesOf (p ∷ procedures) [] = ⊥
-AreShapesOf (p ∷ procedures) (s ∷ shapes) = IsShapeOf p s × AreShapesOf procedures shapes
-
--- what is asked of a procedure for which places are chosen: the registers to which lines give words, and the parameters, are registers of its own
-pub record HasRegisters (p : LineProcedure) : Type 0 where
-  pub given : (line to : ℕ) (x : Line) → slice_get p.lines line ≡ Some x → line_gives x ≡ Some to → to < p.registers
-  pub parameters : p.parameters ≤ p.registers
-
+-- the lines of a shape
 abbrev pub procedure_of : Shape → LineProcedure
 procedure_of s = s.procedure
 
@@ -90,6 +78,7 @@ module _ (f : Front) where
   abbrev pub first_position : ℕ
   first_position = f.start_at + 11
 
+  -- what all lines of a procedure share
   abbrev pub sizing_of : Shape → Sizing
   sizing_of s = record {
     slots = s.chosen.slots;
@@ -99,13 +88,15 @@ module _ (f : Front) where
     full_at = full_position;
   }
 
-  -- how many words an entry has, how many are left from each line on, and how many a procedure has
+  -- how many words an entry has
   abbrev pub entry_words : Shape → ℕ
   entry_words s = length (placed_entry full_position f.arguments_at 0 s.procedure.frame s.chosen.parameters)
 
+  -- how many are left from each line on
   abbrev pub shape_lefts : (nears : List Bool) → Shape → List ℕ
   shape_lefts nears s = placed_rests s.chosen.places (sizing_of s) s.ways nears 0 s.procedure.lines
 
+  -- how many a procedure has
   abbrev pub shape_words : (lefts : List ℕ) → Shape → ℕ
   shape_words lefts s = entry_words s + slice_index lefts 0 + length (all_targets s.procedure.lines)
 

@@ -12,10 +12,11 @@ use Rattle.back_layout.specs.ChosenPlaces.{placed_decided}
 use Rattle.back_emit.specs.declared.ways.FrameWay.TheVariants.{FromStack}
 use Rattle.back_emit.specs.TreeWays.{code_ways, has_deep}
 
--- records have 2^29 words or more, one inside the other
+-- records of a procedure have 2^29 words or more, one inside the other
 abbrev pub is_deep_procedure : MidProcedure → Bool
 is_deep_procedure p = has_deep (code_ways (FromStack 0) (code_of p.body))
 
+-- so it is with those of some procedure
 abbrev pub has_deep_records : MidProgram → Bool
 has_deep_records program = list_any is_deep_procedure program.procedures
 
@@ -29,5 +30,6 @@ pub record IsLong (program : MidProgram) : Type 0 where
   pub fit : PlacesFit program chosen
   pub long : 2 ^ 24 ≤ far_end program chosen
 
+-- either of these
 abbrev pub IsTooLarge : MidProgram → Type 0
 IsTooLarge program = IsLong program ⊎ (has_deep_records program ≡ true)

@@ -8,7 +8,8 @@ ghost use Rattle.back_trivial.specs.FrameFound.{procedure_finds, finds_frames};
 ghost use Rattle.back_allocation.specs.ProgramPlaces.{FitsProcedure};
 ghost use Rattle.back_program_code.specs.declared.errors.ImageError.TheVariants as image;
 ghost use Rattle.back_program_code.specs.TooLarge.{is_deep_procedure, has_deep_records};
-ghost use Rattle.back_program_code.specs.Shapes.{IsShapeOf, AreShapesOf, HasRegisters, sizing_of, is_near_way};
+ghost use Rattle.back_program_code.specs.Shapes.{sizing_of, is_near_way};
+ghost use Rattle.back_program_code.specs.ShapesMade.{IsShapeOf, AreShapesOf, HasRegisters};
 
 use crate::errors::ImageError;
 use crate::front::Front;

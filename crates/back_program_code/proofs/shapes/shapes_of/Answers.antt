@@ -1,5 +1,5 @@
 use Rattle.std.proofs.Common.{◌+◌, take, refl, sym, subst}
-use Rattle.back_program_code.specs.Shapes.{AreShapesOf}
+use Rattle.back_program_code.specs.ShapesMade.{AreShapesOf}
 use Rattle.back_program_code.proofs.Shaped.{item_there, shapes_more, has_registers}
 use Rattle.back_program_code.proofs.shapes.shapes_of.Goals as goal
 

@@ -1,6 +1,6 @@
 -- As many shapes are made as procedures were looked at.
 use Rattle.std.proofs.Common.{take}
-use Rattle.back_program_code.specs.Shapes.{AreShapesOf}
+use Rattle.back_program_code.specs.ShapesMade.{AreShapesOf}
 use Rattle.back_program_code.proofs.shapes.shapes_of.Given as goal
 
 abbrev pub invariant-loop-procedure : goal.invariant-loop-procedure
