@@ -39,11 +39,11 @@ LawOfFirstStates =
     → (laid_out program l).code_to ≤ arena → arena ≤ 2 ^ 24 → ((i : ℕ) → slice_index input i < 2 ^ 32)
     → IsFirst (laid_out program l) (image program (laid_out program l) entry) arena input (first_state program.laid (laid_out program l).code_to arena input)
 
--- A program of middle code as code, with registers in places that were chosen, procedure by procedure: its words, and where they begin a run, which
--- is the same with all places.
+-- the words of a program of middle code, with registers in places that were chosen, procedure by procedure
 abbrev pub emitted : MidProgram → (chosen : List RegisterPlaces) → (entry : ℕ) → List ℕ
 emitted program chosen entry = image (program_lines program) (placed_laid_out program chosen) entry
 
+-- where these begin a run, which is the same with all places
 abbrev pub emitted_start : MidProgram → ℕ
 emitted_start program = start_at (program_lines program) (nothing_decided (most_arguments (program_lines program).procedures))
 

@@ -23,6 +23,7 @@ printing_procedure =
     (code_of (perform (Put 0) ∷ perform (Compute 0 which.Add 0 1) ∷ []))
     ∷ return_word 0 ∷ [])
 
+-- a program of it alone
 abbrev pub printing : MidProgram
 printing = program (printing_procedure ∷ [])
 
@@ -35,5 +36,6 @@ in_registers = record { places = InRegister 12 ∷ InRegister 13 ∷ InRegister 
 abbrev pub machine_run : Ended
 machine_run = run_of (emitted printing in_registers 0) (4 * emitted_start printing) 128 [] (20 + 3 * 6 + 4 * 12 + 3 * (8 + 10 + 2) + 14)
 
+-- it prints three bytes, and halts with the word that is returned
 abbrev pub BytesPrinted : Type 0
 BytesPrinted = (machine_run.ending ≡ Halt 68) × (machine_run.at.printed ≡ 65 ∷ 66 ∷ 67 ∷ [])

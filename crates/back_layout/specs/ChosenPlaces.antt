@@ -12,15 +12,17 @@ use Rattle.back_allocation.specs.declared.placing.RegisterPlaces.{RegisterPlaces
 use Rattle.back_allocation.specs.ProgramPlaces.{with_chosen_places}
 use Rattle.back_layout.specs.Layout.{laid_out}
 
--- how many arguments a line passes, and the most that lines, and procedures with their parameters, pass
+-- how many arguments a line passes
 abbrev pub arguments_passed : Line → ℕ
 arguments_passed (Do (Call to callee arguments)) = length arguments
 arguments_passed x = 0
 
+-- the most that lines pass
 abbrev pub most_in_lines : List Line → ℕ
 most_in_lines [] = 0
 most_in_lines (x ∷ more) = max (arguments_passed x) (most_in_lines more)
 
+-- the most that procedures pass, or take as their parameters
 abbrev pub most_arguments : List LineProcedure → ℕ
 most_arguments [] = 0
 most_arguments (p ∷ more) = max (max p.parameters (most_in_lines p.lines)) (most_arguments more)
@@ -48,9 +50,10 @@ nothing_decided argument_words = record {
   code_to = 0;
 }
 
--- registers in these places, as many words for arguments as the longest call has, and all positions
+-- registers in these places, and as many words for arguments as the longest call has
 abbrev pub placed_decided : MidProgram → List RegisterPlaces → Located
 placed_decided program chosen = with_chosen_places program chosen (nothing_decided (most_arguments (program_lines program).procedures))
 
+-- and all positions
 abbrev pub placed_laid_out : MidProgram → List RegisterPlaces → Located
 placed_laid_out program chosen = laid_out (program_lines program) (placed_decided program chosen)
