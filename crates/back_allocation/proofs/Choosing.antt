@@ -9,7 +9,9 @@ use Rattle.back_places.specs.declared.place.Place.TheVariants.{InRegister}
 use Rattle.back_places.specs.Places.{value_registers, argument_register}
 use Rattle.back_places.specs.Facts.{Apart, Outlasts, IsSomewhere, IsPlace}
 use Rattle.back_trivial.specs.OwnSlots.{no_target}
+use Rattle.back_liveness.specs.declared.barrier.Barrier.{Barrier}
 use Rattle.back_liveness.specs.declared.step.Interval.{Interval}
+use Rattle.back_liveness.specs.Barriers.{Crosses, barrier_at}
 use Rattle.back_liveness.specs.Liveness.{IsWithin, IsCovered, Covers}
 use Rattle.back_liveness.proofs.Around.{there_below}
 use Rattle.back_scan.specs.declared.spot.Spot.{Spot}
@@ -17,9 +19,8 @@ use Rattle.back_scan.specs.declared.spot.Spot.TheVariants.{Held, Slot}
 use Rattle.back_scan.specs.declared.spot.Wish.{Wish}
 use Rattle.back_scan.specs.declared.spot.Wish.TheVariants as asks
 use Rattle.back_scan.specs.Spots.{Allows, IsAllowed, spot_of, interval_of, StandWell}
-use Rattle.back_allocation.specs.declared.barriers.Barrier.{Barrier}
 use Rattle.back_allocation.specs.LineSteps.{line_gives, step_of, steps_from}
-use Rattle.back_allocation.specs.Barriers.{may_cut, Crosses, barrier_at, AreBarriers}
+use Rattle.back_allocation.specs.Barriers.{may_cut, AreBarriers}
 use Rattle.back_allocation.specs.Wishes.{IsOwnWish, wish_at, WishesHold}
 use Rattle.back_allocation.specs.Standing.{MayCut, IsOwnPlace}
 use Rattle.back_allocation.specs.Places.{place_of, place_in, is_entered, enters_in, ChosenWell}
@@ -136,10 +137,10 @@ within_entered None h = absurd h
 within_entered (Some i) h = eq-eqb i.from 0 (omega (arith, h.0))
 
 module _
-    (lines : List Line) (parameters : ℕ) (landings : ℕ → List ℕ) (registers : ℕ) (found : List (Option Interval)) (barriers : List Barrier)
-    (wishes : List Wish) (spots : List (Option Spot)) (slots : ℕ) (count : length found ≡ registers)
-    (covers : Covers (steps_from landings 0 lines) found) (b : AreBarriers lines landings (length lines) barriers)
-    (w : WishesHold found barriers parameters (length found) wishes) (s : StandWell found wishes spots slots)
+    (lines : List Line) (parameters : ℕ) (landings : ℕ → List ℕ) (registers : ℕ) (found : List (Option Interval)) (crossed : List Bool)
+    (barriers : List Barrier) (wishes : List Wish) (spots : List (Option Spot)) (slots : ℕ) (count : length found ≡ registers)
+    (covers : Covers (steps_from landings 0 lines) barriers found crossed) (b : AreBarriers lines landings (length lines) barriers)
+    (w : WishesHold found crossed parameters (length found) wishes) (s : StandWell found wishes spots slots)
     (form : (line to : ℕ) (x : Line) → slice_get lines line ≡ Some x → line_gives x ≡ Some to → to < registers) where
   -- the spot of a register whose interval has a line
   spot_at : (v line : ℕ) → IsCovered found v line → (p : Spot) × (spot_of spots v ≡ Some p)
@@ -196,7 +197,7 @@ module _
         | inl low ↦
             (let i = covers.within v line low h in
             let p = spot_at v line i in
-            subst (λ o. Outlasts (place_of o)) (sym p.1) (slot_outlasts p.0 (wish_at wishes v) (s.allowed v p.0 p.1) (w.crossed v line low i k)))
+            subst (λ o. Outlasts (place_of o)) (sym p.1) (slot_outlasts p.0 (wish_at wishes v) (s.allowed v p.0 p.1) (w.outlasting v low (covers.crossings v line low h k))))
       ]
 
   entered : (v : ℕ) → parameters ≤ registers → v < parameters → covers.test v 0 ≡ true → enters_in found v ≡ true

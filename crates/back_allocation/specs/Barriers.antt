@@ -1,11 +1,11 @@
 -- Lines at which registers that are alive have to outlast calls.
-use Rattle.std.specs.Prelude.{◌≡◌, ◌≢◌, ◌<◌, ℕ, ◌+◌, ◌==◌, Bool, true, false, List, slice_get, slice_index_or, Option, Some, None}
+use Rattle.std.specs.Prelude.{◌≡◌, ◌≢◌, ◌<◌, ℕ, ◌+◌, ◌==◌, Bool, true, false, List, slice_get, Option, Some, None}
 use Rattle.std.specs.List.{list_any}
 use Rattle.mid_code.specs.declared.operation.Operation.TheVariants as operation
 use Rattle.mid_lines.specs.declared.line.Line.{Line}
 use Rattle.mid_lines.specs.declared.line.Line.TheVariants.{Do, Cut}
-use Rattle.back_allocation.specs.declared.barriers.Barrier.{Barrier}
-use Rattle.back_allocation.specs.declared.barriers.Barrier.TheVariants.{Open, Closed, ClosedBut}
+use Rattle.back_liveness.specs.declared.barrier.Barrier.{Barrier}
+use Rattle.back_liveness.specs.Barriers.{Crosses, barrier_at}
 
 -- the register that has the result of a call
 abbrev pub call_result : Line → Option ℕ
@@ -17,16 +17,6 @@ abbrev pub may_cut : Line → Bool
 may_cut (Do (operation.Call to callee arguments)) = true
 may_cut (Cut block word) = true
 may_cut x = false
-
--- a register that is alive where the barrier is has to outlast calls
-abbrev pub Crosses : Barrier → (register : ℕ) → Type 0
-Crosses Open v = ⊥
-Crosses Closed v = Unit {0}
-Crosses (ClosedBut to) v = v ≢ to
-
--- beyond the end all is closed
-abbrev pub barrier_at : List Barrier → (line : ℕ) → Barrier
-barrier_at barriers line = slice_index_or barriers line Closed
 
 -- the barriers of the first lines
 pub record AreBarriers (lines : List Line) (landings : ℕ → List ℕ) (count : ℕ) (barriers : List Barrier) : Type 0 where

@@ -8,7 +8,7 @@ ghost use Rattle.back_allocation.specs.Places.{place_in, enters_in, ChosenWell};
 use crate::barriers::barriers_of;
 use crate::steps::{LandingsList, steps_of};
 use crate::wishes::wishes_of;
-use back_liveness::{IntervalList, live_intervals};
+use back_liveness::{IntervalList, LiveIntervals, live_intervals};
 use back_scan::{Allocation, linear_scan};
 use base::NoMemory;
 use mid_lines::LineList;
@@ -37,9 +37,10 @@ pub fn allocate(
     ensures few { IfOk result (λ a. a.allocation.slots ≤ registers) }
 {
     let steps = steps_of(alloc, lines, landings)?;
-    let intervals = live_intervals(alloc, &steps, registers)?;
     let barriers = barriers_of(alloc, lines, landings)?;
-    let wishes = wishes_of(alloc, &intervals, barriers.as_slice(), parameters)?;
+    let found = live_intervals(alloc, &steps, barriers.as_slice(), registers)?;
+    let LiveIntervals { intervals, crossed } = found;
+    let wishes = wishes_of(alloc, &intervals, &crossed, parameters)?;
     let allocation = linear_scan(alloc, &intervals, &wishes)?;
     Ok(Chosen {
         allocation,

@@ -1,26 +1,18 @@
 // Lines at which registers that are alive have to outlast calls: those behind calls, and landings.
 
-ghost use Rattle.std.specs.Prelude.{◌≡◌, ◌≢◌, ◌≤◌, ◌<◌, ◌+◌, ◌^◌, ◌==◌, ℕ, true, false, length, slice_get, slice_index_or, Some, IfOk, MatchBool};
+ghost use Rattle.std.specs.Prelude.{◌≡◌, ◌≢◌, ◌≤◌, ◌<◌, ◌+◌, ◌^◌, ◌==◌, ℕ, true, false, length, slice_get, slice_index_or, Some, IfOk};
 ghost use Rattle.std.specs.List.{list_any};
-ghost use Rattle.back_liveness.specs.Liveness.{IsWithin};
+ghost use Rattle.back_liveness.specs.Barriers.{Crosses, barrier_at};
 ghost use Rattle.mid_lines.specs.declared.line.Line.{Line};
 ghost use Rattle.back_allocation.specs.LineSteps.{landings_in};
-ghost use Rattle.back_allocation.specs.Barriers.{call_result, may_cut, Crosses, barrier_at, AreBarriers};
+ghost use Rattle.back_allocation.specs.Barriers.{call_result, may_cut, AreBarriers};
 
 use crate::steps::LandingsList;
-use back_liveness::Interval;
+use back_liveness::Barrier;
 use base::NoMemory;
 use mid_code::{Operation, Register};
 use mid_lines::{Line, LineList, TargetList};
 use std::alloc::Global;
-
-/// Which registers have to outlast calls if they are alive at a line: none, all, or all but the result of a call.
-#[derive(Clone, Copy)]
-pub enum Barrier {
-    Open,
-    Closed,
-    ClosedBut(Register),
-}
 
 /// The barriers at lines, and at the end behind them, where the records that stand have these landings.
 pub fn barriers_of(
@@ -149,30 +141,5 @@ fn close_at(barriers: &mut [Barrier], line: usize)
 {
     if line < barriers.len() {
         barriers[line] = Barrier::Closed;
-    }
-}
-
-/// Whether the register has to outlast calls at some line of its interval.
-pub fn crosses(interval: Interval, barriers: &[Barrier], register: Register) -> bool
-    ensures { result ≡ false → (x : ℕ) → IsWithin (Some interval) x → Crosses (barrier_at barriers.now x) register → ⊥ }
-{
-    if interval.to >= barriers.len() {
-        return true;
-    }
-    for x in interval.from..interval.to + 1 {
-        if is_crossed(barriers[x], register) {
-            return true;
-        }
-    }
-    false
-}
-
-fn is_crossed(barrier: Barrier, register: Register) -> bool
-    ensures { MatchBool result (Crosses barrier register) (Crosses barrier register → ⊥) }
-{
-    match barrier {
-        Barrier::Open => false,
-        Barrier::Closed => true,
-        Barrier::ClosedBut(to) => register != to,
     }
 }

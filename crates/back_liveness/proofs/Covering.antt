@@ -1,16 +1,18 @@
 -- Intervals of all registers.
-use Rattle.std.proofs.Common.{◌≡◌, ℕ, ◌+◌, ◌<◌, ◌≤◌, true, List, [], ◌∷◌, ◌++◌, length, get_or, Option, None, Some, Result, Ok, Err, arith}
+use Rattle.std.proofs.Common.{◌≡◌, ℕ, ◌+◌, ◌<◌, ◌≤◌, Bool, true, false, List, [], ◌∷◌, ◌++◌, length, get_or, Option, None, Some, Result, Ok, Err, arith}
 use Rattle.std.specs.Prelude.{slice_get, slice_index, nat_le, IfOk}
 use Rattle.std.proofs.Math.ListN.{get_or-append}
 use Rattle.std.proofs.Math.Seq.{get_or-append_seam}
 use borrow.Author.Tests.{leb-true, le-leb}
+use Rattle.back_liveness.specs.declared.barrier.Barrier.{Barrier}
+use Rattle.back_liveness.specs.declared.intervals.LiveIntervals.{LiveIntervals}
 use Rattle.back_liveness.specs.declared.lives.Life.{Life}
 use Rattle.back_liveness.specs.declared.step.Interval.{Interval}
 use Rattle.back_liveness.specs.declared.step.Step.{Step}
 use Rattle.back_liveness.specs.Liveness.{is_read, IsLive, IsWithin, IsCovered, Covers}
 use Rattle.back_liveness.specs.Ahead.{alive_ahead, alive_around}
 use Rattle.back_liveness.specs.Heads.{AreHeads, AreNested}
-use Rattle.back_liveness.specs.Points.{HasLoop, HaveLives}
+use Rattle.back_liveness.specs.Points.{HasLoop, HaveLives, is_told, HaveCrossings}
 use Rattle.back_liveness.specs.Settled.{Settled}
 use Rattle.back_liveness.proofs.Forwards.{all_told}
 use Rattle.back_liveness.proofs.Around.{there_below, around_found, goes_along, law_of_alive}
@@ -20,7 +22,7 @@ pub none_alive :
     (steps : List Step) (earliest latest : List ℕ) (v : ℕ) → AreHeads steps earliest latest
     → ((k : ℕ) (x : Step) → slice_get steps k ≡ Some x → is_read x v ≡ true → ⊥) → (k : ℕ) → alive_ahead steps v k ≡ true → ⊥
 none_alive steps earliest latest v heads none k h =
-    let life : Life = record { need = 1; from = 0; to = 0 } in
+    let life : Life = record { need = 1; from = 0; to = 0; crossed = false } in
     let s : Settled steps earliest latest v [] 0 life 1 = record {
       reads = λ j x low up e r. absurd (omega (arith, low, up));
       behind = λ j x low up e f w m. absurd (omega (arith, low, up));
@@ -43,22 +45,27 @@ loop_there (Some i) line at last h low up = (omega (arith, h.0), omega (arith, h
 
 -- intervals that have the lives of registers cover lines
 pub lives_cover :
-    (steps : List Step) (earliest latest : List ℕ) (found : List (Option Interval)) → AreHeads steps earliest latest → AreNested earliest latest
-    → HaveLives steps latest (length found) found → Covers steps found
-lives_cover steps earliest latest found heads nested lives = record {
+    (steps : List Step) (barriers : List Barrier) (earliest latest : List ℕ) (found : List (Option Interval)) (crossed : List Bool)
+    → AreHeads steps earliest latest → AreNested earliest latest → HaveLives steps latest (length found) found
+    → HaveCrossings steps barriers latest (length found) crossed → Covers steps barriers found crossed
+lives_cover steps barriers earliest latest found crossed heads nested lives crossings = record {
   test = alive_around steps latest;
   along = goes_along steps earliest latest heads nested;
   within = λ v line h a.
       let i = around_found steps latest v line a in
       loop_there (get_or found v None) i.head line (slice_index latest i.head) (lives.ahead v i.head h i.ahead) i.before i.back;
   written = lives.written;
+  crossings = λ v line h a c.
+      let i = around_found steps latest v line a in
+      crossings v i.head h i.ahead line i.before i.back c;
 }
 
 -- and so do intervals that have all lines
 pub all_cover :
-    (steps : List Step) (found : List (Option Interval)) → ((v line : ℕ) → v < length found → line ≤ length steps → IsCovered found v line)
-    → Covers steps found
-all_cover steps found all = record {
+    (steps : List Step) (barriers : List Barrier) (found : List (Option Interval)) (crossed : List Bool)
+    → ((v line : ℕ) → v < length found → line ≤ length steps → IsCovered found v line) → ((v : ℕ) → v < length found → is_told crossed v ≡ true)
+    → Covers steps barriers found crossed
+all_cover steps barriers found crossed all told = record {
   test = λ v line. nat_le line (length steps);
   along = record {
     reads = λ v line s e r. le-leb line (length steps) (omega (arith, there_below steps line s e));
@@ -67,16 +74,19 @@ all_cover steps found all = record {
   };
   within = λ v line h a. all v line h (leb-true line (length steps) a);
   written = λ v line s h e w. all v (line + 1) h (omega (arith, there_below steps line s e));
+  crossings = λ v line h a c. told v h;
 }
 
 -- what is covered has all lines at which registers are alive
 pub covers_alive :
-    (steps : List Step) (found : List (Option Interval)) → Covers steps found → (v line : ℕ) → v < length found → IsLive steps v line
-    → IsCovered found v line
-covers_alive steps found c v line h l = c.within v line h (law_of_alive steps c.test c.along v line l)
+    (steps : List Step) (barriers : List Barrier) (found : List (Option Interval)) (crossed : List Bool) → Covers steps barriers found crossed
+    → (v line : ℕ) → v < length found → IsLive steps v line → IsCovered found v line
+covers_alive steps barriers found crossed c v line h l = c.within v line h (law_of_alive steps c.test c.along v line l)
 
 pub if_all_alive :
-    {E : Type 0} (steps : List Step) (registers : ℕ) (r : Result (List (Option Interval)) E) → IfOk r (λ found. length found ≡ registers)
-    → IfOk r (λ found. Covers steps found) → IfOk r (λ found. (v line : ℕ) → v < registers → IsLive steps v line → IsCovered found v line)
-if_all_alive steps registers (Ok found) count covers = λ v line h l. covers_alive steps found covers v line (omega (arith, count, h)) l
-if_all_alive steps registers (Err e) count covers = tt
+    {E : Type 0} (steps : List Step) (barriers : List Barrier) (registers : ℕ) (r : Result LiveIntervals E) → IfOk r (λ found. length found.intervals ≡ registers)
+    → IfOk r (λ found. Covers steps barriers found.intervals found.crossed)
+    → IfOk r (λ found. (v line : ℕ) → v < registers → IsLive steps v line → IsCovered found.intervals v line)
+if_all_alive steps barriers registers (Ok found) count covers = λ v line h l.
+    covers_alive steps barriers found.intervals found.crossed covers v line (omega (arith, count, h)) l
+if_all_alive steps barriers registers (Err e) count covers = tt

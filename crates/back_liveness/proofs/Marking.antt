@@ -1,11 +1,13 @@
 -- Marks of lines, made from a last line backwards: one line more, and where they tell all that is alive along paths forwards.
 use Rattle.std.proofs.Common.{◌≡◌, ◌≢◌, ℕ, ◌+◌, ◌-◌, ◌<◌, ◌≤◌, Bool, true, false, List, length, set, Some, sym, subst, ◌∙◌, arith, inl, inr, get_or-set_other, get_or-set_same}
 use Rattle.std.specs.Prelude.{slice_get, slice_index}
+use Rattle.back_liveness.specs.declared.barrier.Barrier.{Barrier}
 use Rattle.back_liveness.specs.declared.lives.Life.{Life}
 use Rattle.back_liveness.specs.declared.step.Step.{Step}
+use Rattle.back_liveness.specs.Barriers.{Crosses, barrier_at, TellsLoop}
 use Rattle.back_liveness.specs.Liveness.{is_read, goes_aside}
 use Rattle.back_liveness.specs.Ahead.{is_written}
-use Rattle.back_liveness.specs.Settled.{is_marked, Settled}
+use Rattle.back_liveness.specs.Settled.{is_marked, Settled, CrossingsTold}
 use Rattle.back_liveness.proofs.Lists.{same_or_other}
 
 mark_same : (marks : List Bool) (line : ℕ) (b : Bool) → line < length marks → is_marked (set marks line b) line ≡ b
@@ -94,3 +96,16 @@ module _ (steps : List Step) (earliest latest : List ℕ) (v : ℕ) (marks : Lis
 
   pub one_more : Settled steps earliest latest v (set marks line b) high new line
   one_more = record { reads = reads; behind = behind; aside = aside; looked = looked }
+
+-- with a line more marked, crossings in its loop are told too
+pub one_more_told :
+    (barriers : List Barrier) (latest : List ℕ) (v : ℕ) (marks : List Bool) (high line : ℕ) (b old new : Bool) → line < length marks
+    → CrossingsTold barriers latest v marks high old (line + 1) → (old ≡ true → new ≡ true) → (b ≡ true → TellsLoop barriers latest v line new)
+    → CrossingsTold barriers latest v (set marks line b) high new line
+one_more_told barriers latest v marks high line b old new there before known now k low up marked x from to crosses =
+    elim (same_or_other k line) [
+      | inl q ↦
+          now (sym (mark_same marks line b there) ∙ subst (λ n. is_marked (set marks line b) n ≡ true) q marked) x
+          (subst (λ n. n ≤ x) q from) (subst (λ n. x ≤ slice_index latest n) q to) crosses
+      | inr ne ↦ known (before k (omega (arith, ne, low)) up (sym (mark_other marks line k b ne) ∙ marked) x from to crosses)
+    ]

@@ -1,3 +1,4 @@
+pub mod Barriers
 pub mod Liveness
 pub mod Ahead
 pub mod Heads

@@ -1,8 +1,10 @@
 -- When a register is alive at a line, by paths, and what an interval of lines covers.
-use Rattle.std.specs.Prelude.{◌≡◌, ◌≢◌, ◌≤◌, ◌<◌, ℕ, ◌+◌, ◌==◌, Bool, true, List, length, slice_get, slice_index_or, Option, Some, None}
+use Rattle.std.specs.Prelude.{◌≡◌, ◌≢◌, ◌≤◌, ◌<◌, ℕ, ◌+◌, ◌==◌, Bool, true, false, List, length, slice_get, slice_index_or, Option, Some, None}
 use Rattle.std.specs.List.{list_any}
+use Rattle.back_liveness.specs.declared.barrier.Barrier.{Barrier}
 use Rattle.back_liveness.specs.declared.step.Interval.{Interval}
 use Rattle.back_liveness.specs.declared.step.Step.{Step}
+use Rattle.back_liveness.specs.Barriers.{Crosses, barrier_at}
 
 -- whether a line reads a register, and whether it goes aside to a line
 abbrev pub is_read : Step → (register : ℕ) → Bool
@@ -36,12 +38,15 @@ pub record GoesAlong (steps : List Step) (test : (register line : ℕ) → Bool)
   pub aside : (v line to : ℕ) (s : Step) → slice_get steps line ≡ Some s → goes_aside s to ≡ true → test v to ≡ true → test v line ≡ true
 
 -- The intervals of the first registers. They have the lines at which a test that goes along tells that the registers are alive, and
--- each line behind one that writes them.
-pub record Covers (steps : List Step) (found : List (Option Interval)) : Type 0 where
+-- each line behind one that writes them; and where a barrier crosses a register at a line at which that test tells it, the register was told to be
+-- crossed.
+pub record Covers (steps : List Step) (barriers : List Barrier) (found : List (Option Interval)) (crossed : List Bool) : Type 0 where
   pub test : (register line : ℕ) → Bool
   pub along : GoesAlong steps test
   pub within : (v line : ℕ) → v < length found → test v line ≡ true → IsCovered found v line
   pub written : (v line : ℕ) (s : Step) → v < length found → slice_get steps line ≡ Some s → s.written ≡ Some v → IsCovered found v (line + 1)
+  pub crossings :
+      (v line : ℕ) → v < length found → test v line ≡ true → Crosses (barrier_at barriers line) v → slice_index_or crossed v false ≡ true
 
 -- a register is alive only where such a test tells it
 abbrev pub LawOfAlive : Type 0

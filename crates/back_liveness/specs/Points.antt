@@ -1,7 +1,9 @@
 -- Intervals that have the points of registers.
-use Rattle.std.specs.Prelude.{◌≡◌, ◌≤◌, ◌<◌, ℕ, ◌+◌, true, List, length, slice_get, slice_index, slice_index_or, Option, Some, None}
+use Rattle.std.specs.Prelude.{◌≡◌, ◌≤◌, ◌<◌, ℕ, ◌+◌, Bool, true, false, List, length, slice_get, slice_index, slice_index_or, Option, Some, None}
+use Rattle.back_liveness.specs.declared.barrier.Barrier.{Barrier}
 use Rattle.back_liveness.specs.declared.step.Interval.{Interval}
 use Rattle.back_liveness.specs.declared.step.Step.{Step}
+use Rattle.back_liveness.specs.Barriers.{TellsLoop}
 use Rattle.back_liveness.specs.Liveness.{is_read, IsCovered}
 use Rattle.back_liveness.specs.Ahead.{alive_ahead}
 
@@ -31,3 +33,12 @@ pub record HaveLives (steps : List Step) (latest : List ℕ) (registers : ℕ) (
   pub ahead :
       (v line : ℕ) → v < registers → alive_ahead steps v line ≡ true → HasLoop (slice_index_or found v None) line (slice_index latest line)
   pub written : (v line : ℕ) (s : Step) → v < registers → slice_get steps line ≡ Some s → s.written ≡ Some v → IsCovered found v (line + 1)
+
+-- the registers that were told to be crossed: each at whose lines a barrier crosses it where it is alive, along paths forwards or in a loop of which
+-- such a line is the head
+abbrev pub is_told : List Bool → (register : ℕ) → Bool
+is_told crossed v = slice_index_or crossed v false
+
+abbrev pub HaveCrossings : (steps : List Step) (barriers : List Barrier) (latest : List ℕ) (registers : ℕ) (crossed : List Bool) → Type 0
+HaveCrossings steps barriers latest registers crossed =
+    (v line : ℕ) → v < registers → alive_ahead steps v line ≡ true → TellsLoop barriers latest v line (is_told crossed v)

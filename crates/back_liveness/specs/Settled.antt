@@ -1,7 +1,9 @@
 -- Marks at lines that tell where a register is alive, made from a last line backwards.
 use Rattle.std.specs.Prelude.{◌≡◌, ◌≤◌, ◌<◌, ℕ, ◌+◌, ◌-◌, Bool, true, false, List, slice_get, slice_index, slice_index_or, Some}
 use Rattle.back_liveness.specs.declared.lives.Life.{Life}
+use Rattle.back_liveness.specs.declared.barrier.Barrier.{Barrier}
 use Rattle.back_liveness.specs.declared.step.Step.{Step}
+use Rattle.back_liveness.specs.Barriers.{TellsLoop}
 use Rattle.back_liveness.specs.Liveness.{is_read, goes_aside}
 use Rattle.back_liveness.specs.Ahead.{is_written}
 
@@ -21,3 +23,8 @@ pub record Settled (steps : List Step) (earliest latest : List ℕ) (v : ℕ) (m
   pub looked :
       (k : ℕ) → line ≤ k → k ≤ high → is_marked marks k ≡ true
       → (life.need ≤ k - 1) × (life.need ≤ slice_index earliest k) × (life.from ≤ k) × (slice_index latest k ≤ life.to)
+
+-- for each marked line from one on: where a barrier crosses the register in the loop of which it is the head, that was told
+abbrev pub CrossingsTold : (barriers : List Barrier) (latest : List ℕ) (v : ℕ) (marks : List Bool) (high : ℕ) (crossed : Bool) (line : ℕ) → Type 0
+CrossingsTold barriers latest v marks high crossed line =
+    (k : ℕ) → line ≤ k → k ≤ high → is_marked marks k ≡ true → TellsLoop barriers latest v k crossed

@@ -1,55 +1,79 @@
-// For each register one interval of lines, outside of which it is not alive.
+// For each register one interval of lines, outside of which it is not alive, and whether a barrier crosses it.
 
 ghost use Rattle.std.specs.Prelude.{◌≡◌, ◌≤◌, ◌<◌, ◌+◌, ◌^◌, ℕ, true, length, slice_get, slice_index, slice_index_or, Some, None, IfOk};
 ghost use Rattle.back_liveness.specs.declared.step.Interval.{Interval};
 ghost use Rattle.back_liveness.specs.declared.step.Step.{Step};
 ghost use Rattle.back_liveness.specs.Liveness.{is_read, IsLive, IsWithin, IsCovered, Covers};
 ghost use Rattle.back_liveness.specs.Ahead.{alive_ahead};
+ghost use Rattle.back_liveness.specs.Barriers.{TellsLoop};
 ghost use Rattle.back_liveness.specs.Heads.{AreHeads, AreFloors, AreRoofs, AreNested};
 ghost use Rattle.back_liveness.specs.Points.{EndsBy, EndBy, ArePoints, HasLoop, HaveLives};
 
+use crate::barrier::Barrier;
 use crate::heads::{Heads, are_nested, heads_of};
 use crate::lives::life_of;
 use crate::points::points_of;
 use crate::step::{Interval, IntervalList, StepList};
-use base::NoMemory;
+use base::{ItemList, NoMemory};
 use mid_code::Register;
 use std::alloc::Global;
 
+/// The intervals of registers, and whether a barrier crosses them where they are alive, by the numbers of registers.
+#[derive(Drop)]
+pub struct LiveIntervals {
+    pub intervals: IntervalList,
+    pub crossed: CrossedList,
+}
+
+/// Whether barriers cross registers.
+pub type CrossedList = ItemList<bool>;
+
 /// For each of so many registers an interval that has all lines at which the register is alive, and those behind lines that write
-/// it; none for a register that has no such line. Where loops are entered elsewhere than at their heads, it has all lines.
+/// it; none for a register that has no such line; and whether a barrier crosses it where it is alive. Where loops are entered elsewhere than at
+/// their heads, the interval has all lines, and the register is taken for crossed.
 pub fn live_intervals(
     alloc: Global,
     steps: &StepList,
+    barriers: &[Barrier],
     registers: usize,
-) -> Result<IntervalList, NoMemory>
+) -> Result<LiveIntervals, NoMemory>
     requires { length steps.now < 2 ^ 62 }
-    ensures count { IfOk result (λ found. length found ≡ registers) }
-    ensures covers { IfOk result (λ found. Covers steps.now found) }
-    ensures alive { IfOk result (λ found. (v line : ℕ) → v < registers → IsLive steps.now v line → IsCovered found v line) }
+    ensures count { IfOk result (λ found. length found.intervals ≡ registers) }
+    ensures crossed { IfOk result (λ found. length found.crossed ≡ registers) }
+    ensures covers { IfOk result (λ found. Covers steps.now barriers.now found.intervals found.crossed) }
+    ensures alive { IfOk result (λ found. (v line : ℕ) → v < registers → IsLive steps.now v line → IsCovered found.intervals v line) }
 {
     let heads = heads_of(alloc, steps)?;
     if are_nested(heads.earliest.as_slice(), heads.latest.as_slice()) {
-        lives(alloc, steps, &heads, registers)
+        lives(alloc, steps, &heads, barriers, registers)
     } else {
-        whole(alloc, steps, registers)
+        whole(alloc, steps, barriers, registers)
     }
 }
 
 // All lines, for each register.
-fn whole(alloc: Global, steps: &StepList, registers: usize) -> Result<IntervalList, NoMemory>
-    ensures count { IfOk result (λ found. length found ≡ registers) }
-    ensures covers { IfOk result (λ found. Covers steps.now found) }
+fn whole(
+    alloc: Global,
+    steps: &StepList,
+    barriers: &[Barrier],
+    registers: usize,
+) -> Result<LiveIntervals, NoMemory>
+    ensures count { IfOk result (λ found. length found.intervals ≡ registers) }
+    ensures crossed { IfOk result (λ found. length found.crossed ≡ registers) }
+    ensures covers { IfOk result (λ found. Covers steps.now barriers.now found.intervals found.crossed) }
 {
+    let _ = barriers;
     let all = Interval {
         from: 0,
         to: steps.len(),
     };
-    let mut found = IntervalList::new(alloc);
+    let mut intervals = IntervalList::new(alloc);
+    let mut crossed = CrossedList::new(alloc);
     for register in 0..registers {
-        found.push(Some(all))?;
+        intervals.push(Some(all))?;
+        crossed.push(true)?;
     }
-    Ok(found)
+    Ok(LiveIntervals { intervals, crossed })
 }
 
 // The intervals of all registers, with all lines at which they are alive along paths forwards and the loops of those.
@@ -57,19 +81,28 @@ fn lives(
     alloc: Global,
     steps: &StepList,
     heads: &Heads,
+    barriers: &[Barrier],
     registers: usize,
-) -> Result<IntervalList, NoMemory>
+) -> Result<LiveIntervals, NoMemory>
     requires heads { AreHeads steps.now heads.now.earliest.items heads.now.latest.items }
     requires floors { AreFloors heads.now.earliest.items heads.now.floors.items }
     requires roofs { AreRoofs heads.now.latest.items heads.now.roofs.items }
     requires nested { AreNested heads.now.earliest.items heads.now.latest.items }
     requires room { length steps.now < 2 ^ 62 }
-    ensures count { IfOk result (λ found. length found ≡ registers) }
-    ensures covers { IfOk result (λ found. Covers steps.now found) }
+    ensures count { IfOk result (λ found. length found.intervals ≡ registers) }
+    ensures crossed { IfOk result (λ found. length found.crossed ≡ registers) }
+    ensures covers { IfOk result (λ found. Covers steps.now barriers.now found.intervals found.crossed) }
 {
     let points = points_of(alloc, steps, registers)?;
     let mut marks = vec![in alloc; false; steps.len() + 1]?;
-    lives_with(alloc, steps, heads, points.as_slice(), marks.as_mut_slice())
+    lives_with(
+        alloc,
+        steps,
+        heads,
+        barriers,
+        points.as_slice(),
+        marks.as_mut_slice(),
+    )
 }
 
 // The same with the points of the registers.
@@ -77,9 +110,10 @@ fn lives_with(
     alloc: Global,
     steps: &StepList,
     heads: &Heads,
+    barriers: &[Barrier],
     points: &[Option<Interval>],
     marks: &mut [bool],
-) -> Result<IntervalList, NoMemory>
+) -> Result<LiveIntervals, NoMemory>
     requires heads { AreHeads steps.now heads.now.earliest.items heads.now.latest.items }
     requires floors { AreFloors heads.now.earliest.items heads.now.floors.items }
     requires roofs { AreRoofs heads.now.latest.items heads.now.roofs.items }
@@ -88,25 +122,36 @@ fn lives_with(
     requires points { ArePoints steps.now (length steps.now) points.now }
     requires ends { EndBy (length steps.now) points.now }
     requires marks { length marks.old ≡ length steps.now + 1 }
-    ensures count { IfOk result (λ found. length found ≡ length points.now) }
-    ensures covers { IfOk result (λ found. Covers steps.now found) }
+    ensures count { IfOk result (λ found. length found.intervals ≡ length points.now) }
+    ensures crossed { IfOk result (λ found. length found.crossed ≡ length points.now) }
+    ensures covers { IfOk result (λ found. Covers steps.now barriers.now found.intervals found.crossed) }
 {
-    let mut found = IntervalList::new(alloc);
+    let mut intervals = IntervalList::new(alloc);
+    let mut crossed = CrossedList::new(alloc);
     for register in 0..points.len() {
-        let interval = interval_of(steps, heads, register, points[register], marks);
-        found.push(interval)?;
+        let lived = interval_of(steps, heads, barriers, register, points[register], marks);
+        intervals.push(lived.interval)?;
+        crossed.push(lived.crossed)?;
     }
-    Ok(found)
+    Ok(LiveIntervals { intervals, crossed })
+}
+
+// The interval of a register, if it has one, and whether a barrier crosses it.
+#[derive(Clone, Copy)]
+pub(crate) struct Found {
+    pub interval: Option<Interval>,
+    pub crossed: bool,
 }
 
 // The interval of a register with these points.
 fn interval_of(
     steps: &StepList,
     heads: &Heads,
+    barriers: &[Barrier],
     register: Register,
     points: Option<Interval>,
     marks: &mut [bool],
-) -> Option<Interval>
+) -> Found
     requires heads { AreHeads steps.now heads.now.earliest.items heads.now.latest.items }
     requires floors { AreFloors heads.now.earliest.items heads.now.floors.items }
     requires roofs { AreRoofs heads.now.latest.items heads.now.roofs.items }
@@ -114,11 +159,21 @@ fn interval_of(
     requires marks { length marks.old ≡ length steps.now + 1 }
     requires points { (line : ℕ) (s : Step) → slice_get steps.now line ≡ Some s → is_read s register ≡ true → IsWithin points line }
     requires ends { EndsBy (length steps.now) points }
-    ensures ahead { (line : ℕ) → alive_ahead steps.now register line ≡ true → HasLoop result line (slice_index heads.now.latest.items line) }
-    ensures points { (line : ℕ) → IsWithin points line → IsWithin result line }
+    ensures ahead { (line : ℕ) → alive_ahead steps.now register line ≡ true → HasLoop result.interval line (slice_index heads.now.latest.items line) }
+    ensures points { (line : ℕ) → IsWithin points line → IsWithin result.interval line }
+    ensures crossed { (line : ℕ) → alive_ahead steps.now register line ≡ true → TellsLoop barriers.now heads.now.latest.items register line result.crossed }
 {
     match points {
-        Some(points) => Some(life_of(steps, heads, register, points, marks)),
-        None => None,
+        Some(points) => {
+            let lived = life_of(steps, heads, barriers, register, points, marks);
+            Found {
+                interval: Some(lived.interval),
+                crossed: lived.crossed,
+            }
+        }
+        None => Found {
+            interval: None,
+            crossed: false,
+        },
     }
 }

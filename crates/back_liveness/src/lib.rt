@@ -2,6 +2,7 @@
 // alive.
 #![tactic(auto)]
 
+pub mod barrier;
 mod heads;
 pub mod intervals;
 pub mod laws;
@@ -9,6 +10,7 @@ mod lives;
 mod points;
 pub mod step;
 
-pub use intervals::live_intervals;
+pub use barrier::Barrier;
+pub use intervals::{CrossedList, LiveIntervals, live_intervals};
 pub use laws::law_alive;
 pub use step::{Interval, IntervalList, Step, StepList};

@@ -6,30 +6,42 @@ ghost use Rattle.back_liveness.specs.declared.step.Step.{Step};
 ghost use Rattle.back_liveness.specs.Liveness.{is_read, goes_aside, IsWithin};
 ghost use Rattle.back_liveness.specs.Ahead.{is_written, alive_ahead};
 ghost use Rattle.back_liveness.specs.Heads.{AreHeads, AreFloors, AreRoofs};
-ghost use Rattle.back_liveness.specs.Settled.{is_marked, Settled};
+ghost use Rattle.back_liveness.specs.Barriers.{Crosses, barrier_at, TellsLoop};
+ghost use Rattle.back_liveness.specs.Settled.{is_marked, Settled, CrossingsTold};
 ghost use Rattle.back_liveness.specs.Closed.{IsWrittenBefore, IsClosed};
 
+use crate::barrier::{Barrier, crosses};
 use crate::heads::Heads;
 use crate::step::{Interval, StepList};
 use mid_code::Register;
 
-/// What is known of a register: the first line that is still to be looked at, and the first and the last line of its interval.
+/// The interval of a register, and whether a barrier crosses it at a line at which it is alive.
+#[derive(Clone, Copy)]
+pub struct Lived {
+    pub interval: Interval,
+    pub crossed: bool,
+}
+
+/// What is known of a register: the first line that is still to be looked at, the first and the last line of its interval, and whether a
+/// barrier crosses it.
 #[derive(Clone, Copy)]
 pub struct Life {
     pub need: usize,
     pub from: usize,
     pub to: usize,
+    pub crossed: bool,
 }
 
 /// The interval of a register whose points are in one, with all lines at which it is alive along paths forwards, and from heads of
-/// loops at which it is alive up to the last lines from which one comes back to them.
+/// loops at which it is alive up to the last lines from which one comes back to them; and whether a barrier at one of these lines crosses it.
 pub fn life_of(
     steps: &StepList,
     heads: &Heads,
+    barriers: &[Barrier],
     register: Register,
     points: Interval,
     marks: &mut [bool],
-) -> Interval
+) -> Lived
     requires heads { AreHeads steps.now heads.now.earliest.items heads.now.latest.items }
     requires floors { AreFloors heads.now.earliest.items heads.now.floors.items }
     requires roofs { AreRoofs heads.now.latest.items heads.now.roofs.items }
@@ -38,8 +50,9 @@ pub fn life_of(
     requires points { (line : ℕ) (s : Step) → slice_get steps.now line ≡ Some s → is_read s register ≡ true → IsWithin (Some points) line }
     requires ends { points.to ≤ length steps.now }
     ensures ahead { (line : ℕ) → alive_ahead steps.now register line ≡ true
-        → (result.from ≤ line) × (slice_index heads.now.latest.items line ≤ result.to) }
-    ensures points { (line : ℕ) → IsWithin (Some points) line → IsWithin (Some result) line }
+        → (result.interval.from ≤ line) × (slice_index heads.now.latest.items line ≤ result.interval.to) }
+    ensures points { (line : ℕ) → IsWithin (Some points) line → IsWithin (Some result.interval) line }
+    ensures crossed { (line : ℕ) → alive_ahead steps.now register line ≡ true → TellsLoop barriers.now heads.now.latest.items register line result.crossed }
 {
     if is_closed(
         steps,
@@ -48,12 +61,18 @@ pub fn life_of(
         register,
         points,
     ) {
-        return points;
+        if !crosses(points, barriers, register) {
+            return Lived {
+                interval: points,
+                crossed: false,
+            };
+        }
     }
     let mut life = Life {
         need: points.from,
         from: points.from,
         to: points.to,
+        crossed: false,
     };
     let mut line = points.to + 1;
     while life.need < line {
@@ -62,6 +81,7 @@ pub fn life_of(
             steps,
             heads.earliest.as_slice(),
             heads.latest.as_slice(),
+            barriers,
             register,
             points.to,
             marks,
@@ -69,9 +89,12 @@ pub fn life_of(
             line,
         );
     }
-    Interval {
-        from: life.from,
-        to: life.to,
+    Lived {
+        interval: Interval {
+            from: life.from,
+            to: life.to,
+        },
+        crossed: life.crossed,
     }
 }
 
@@ -114,6 +137,7 @@ fn look(
     steps: &StepList,
     earliest: &[usize],
     latest: &[usize],
+    barriers: &[Barrier],
     register: Register,
     high: usize,
     marks: &mut [bool],
@@ -125,21 +149,56 @@ fn look(
     requires high { high < length marks.old }
     requires line { line ≤ high }
     requires settled { Settled steps.now earliest.now latest.now register marks.old high life (line + 1) }
+    requires crossings { CrossingsTold barriers.now latest.now register marks.old high life.crossed (line + 1) }
     ensures settled { Settled steps.now earliest.now latest.now register marks.new high result line }
+    ensures crossings { CrossingsTold barriers.now latest.now register marks.new high result.crossed line }
     ensures need { result.need ≤ life.need }
     ensures from { result.from ≤ life.from }
     ensures to { life.to ≤ result.to }
 {
     let is_alive = is_alive(steps, marks, register, line, high);
     marks[line] = is_alive;
-    with_line(life, is_alive, line, earliest[line], latest[line])
+    with_line(
+        life,
+        is_alive,
+        barriers,
+        register,
+        line,
+        earliest[line],
+        latest[line],
+    )
+}
+
+// Whether that was known, or a barrier at some line from one to a last one crosses the register.
+fn is_crossed(known: bool, line: usize, last: usize, barriers: &[Barrier], register: Register) -> bool
+    ensures known { known ≡ true → result ≡ true }
+    ensures crossed { (x : ℕ) → line ≤ x → x ≤ last → Crosses (barrier_at barriers.now x) register → result ≡ true }
+{
+    if known {
+        return true;
+    }
+    let lines = Interval {
+        from: line,
+        to: last,
+    };
+    crosses(lines, barriers, register)
 }
 
 // The life with a line more, if it is marked.
-fn with_line(life: Life, is_marked: bool, line: usize, first: usize, last: usize) -> Life
+fn with_line(
+    life: Life,
+    is_marked: bool,
+    barriers: &[Barrier],
+    register: Register,
+    line: usize,
+    first: usize,
+    last: usize,
+) -> Life
     ensures need { result.need ≤ life.need }
     ensures from { result.from ≤ life.from }
     ensures to { life.to ≤ result.to }
+    ensures known { life.crossed ≡ true → result.crossed ≡ true }
+    ensures crossed { is_marked ≡ true → (x : ℕ) → line ≤ x → x ≤ last → Crosses (barrier_at barriers.now x) register → result.crossed ≡ true }
     ensures marked { is_marked ≡ true → (result.need ≤ line - 1) × (result.need ≤ first) × (result.from ≤ line) × (last ≤ result.to) }
 {
     if is_marked {
@@ -147,6 +206,7 @@ fn with_line(life: Life, is_marked: bool, line: usize, first: usize, last: usize
             need: life.need.min(first).min(line.saturating_sub(1)),
             from: life.from.min(line),
             to: life.to.max(last),
+            crossed: is_crossed(life.crossed, line, last, barriers, register),
         }
     } else {
         life

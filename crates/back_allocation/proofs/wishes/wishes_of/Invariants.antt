@@ -5,5 +5,5 @@ use Rattle.back_allocation.proofs.wishes.wishes_of.Given as goal
 abbrev pub invariant-loop-register : goal.invariant-loop-register
 invariant-loop-register l = record {
   count : length l.wishes ≡ l.register;
-  hold : WishesHold l.all l.barriers l.parameters l.register l.wishes;
+  hold : WishesHold l.all l.told l.parameters l.register l.wishes;
 }

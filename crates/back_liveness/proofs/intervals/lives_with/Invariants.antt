@@ -1,9 +1,11 @@
 use Rattle.std.proofs.Common.{◌≡◌, length}
-use Rattle.back_liveness.specs.Points.{HaveLives}
+use Rattle.back_liveness.specs.Points.{HaveLives, HaveCrossings}
 use Rattle.back_liveness.proofs.intervals.lives_with.Given as goal
 
 abbrev pub invariant-loop-register : goal.invariant-loop-register
 invariant-loop-register l = record {
-  count : length l.found ≡ l.register;
-  lives : HaveLives l.steps l.heads.latest.items l.register l.found;
+  count : length l.intervals ≡ l.register;
+  count_crossed : length l.crossed ≡ l.register;
+  lives : HaveLives l.steps l.heads.latest.items l.register l.intervals;
+  crossings : HaveCrossings l.steps l.barriers l.heads.latest.items l.register l.crossed;
 }

@@ -15,10 +15,25 @@ returns-clause-ahead c k h =
     let l = i.settled.looked k (omega (arith, low, told.0)) told.1 told.2 in
     (l.2, l.3)
 
-pub returns-then-is_closed-clause-ahead : goal.returns-then-is_closed-clause-ahead
-returns-then-is_closed-clause-ahead c k h =
+pub returns-then-not-crosses-clause-ahead : goal.returns-then-not-crosses-clause-ahead
+returns-then-not-crosses-clause-ahead c k h =
     closed_has c.args.steps.now c.args.heads.now.earliest.items c.args.heads.now.latest.items c.as_slice.result.now c.as_slice-2.result.now
     c.args.register c.args.points c.requires.heads
     (subst (λ (f : List ℕ). AreFloors c.args.heads.now.earliest.items f) (sym c.as_slice.ensures.value) c.requires.floors)
     (subst (λ (f : List ℕ). AreRoofs c.args.heads.now.latest.items f) (sym c.as_slice-2.ensures.value) c.requires.roofs)
     (c.is_closed.ensures c.if-is_closed.true) c.requires.points k h
+
+pub returns-then-not-crosses-clause-crossed : goal.returns-then-not-crosses-clause-crossed
+returns-then-not-crosses-clause-crossed c k h x low up crosses =
+    let within = returns-then-not-crosses-clause-ahead c k h in
+    absurd (c.crosses.ensures c.if-not-crosses.true x (omega (arith, within.0, low), omega (arith, within.1, up)) crosses)
+
+pub returns-clause-crossed : goal.returns-clause-crossed
+returns-clause-crossed c k h =
+    let i = c.loop-life.invariant in
+    let low : c.loop-life.line ≤ c.loop-life.life.need = c.loop-life-test.false in
+    let told =
+    all_told c.args.steps.now c.args.heads.now.earliest.items c.args.heads.now.latest.items c.args.register c.loop-life.marks c.args.points.to
+    c.loop-life.line c.loop-life.life c.requires.heads i.settled low c.requires.ends
+    (λ j x e r. let p = c.requires.points j x e r in (omega (arith, p.0, i.need), p.1)) k h in
+    i.crossings k (omega (arith, low, told.0)) told.1 told.2

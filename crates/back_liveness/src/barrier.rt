@@ -1,0 +1,41 @@
+// Barriers: lines at which registers that are alive have to outlast something.
+
+ghost use Rattle.std.specs.Prelude.{◌≡◌, ℕ, false, Some, MatchBool};
+ghost use Rattle.back_liveness.specs.Barriers.{Crosses, barrier_at};
+ghost use Rattle.back_liveness.specs.Liveness.{IsWithin};
+
+use crate::step::Interval;
+use mid_code::Register;
+
+/// Which registers have to outlast something if they are alive at a line: none, all, or all but the result of a call.
+#[derive(Clone, Copy)]
+pub enum Barrier {
+    Open,
+    Closed,
+    ClosedBut(Register),
+}
+
+/// Whether a barrier at some line of the interval crosses the register.
+pub fn crosses(interval: Interval, barriers: &[Barrier], register: Register) -> bool
+    ensures { result ≡ false → (x : ℕ) → IsWithin (Some interval) x → Crosses (barrier_at barriers.now x) register → ⊥ }
+{
+    if interval.to >= barriers.len() {
+        return true;
+    }
+    for x in interval.from..interval.to + 1 {
+        if is_crossed(barriers[x], register) {
+            return true;
+        }
+    }
+    false
+}
+
+fn is_crossed(barrier: Barrier, register: Register) -> bool
+    ensures { MatchBool result (Crosses barrier register) (Crosses barrier register → ⊥) }
+{
+    match barrier {
+        Barrier::Open => false,
+        Barrier::Closed => true,
+        Barrier::ClosedBut(to) => register != to,
+    }
+}
