@@ -1,20 +1,21 @@
 -- Intervals of all registers.
-use Rattle.std.proofs.Common.{◌≡◌, ℕ, ◌+◌, ◌<◌, ◌≤◌, Bool, true, false, List, [], ◌∷◌, ◌++◌, length, get_or, Option, None, Some, Result, Ok, Err, arith}
+use Rattle.std.proofs.Common.{◌≡◌, ℕ, ◌+◌, ◌<◌, ◌≤◌, Bool, true, false, List, [], ◌∷◌, ◌++◌, length, length-append, get_or, Option, None, Some, Result, Ok, Err, sym, subst, ◌∙◌, arith, inl, inr}
 use Rattle.std.specs.Prelude.{slice_get, slice_index, nat_le, IfOk}
-use Rattle.std.proofs.Math.ListN.{get_or-append}
-use Rattle.std.proofs.Math.Seq.{get_or-append_seam}
+use Rattle.std.proofs.lemmas.List.{get_or_append_left, get_or_push}
 use borrow.Author.Tests.{leb-true, le-leb}
 use Rattle.back_liveness.specs.declared.barrier.Barrier.{Barrier}
 use Rattle.back_liveness.specs.declared.intervals.LiveIntervals.{LiveIntervals}
 use Rattle.back_liveness.specs.declared.lives.Life.{Life}
 use Rattle.back_liveness.specs.declared.step.Interval.{Interval}
 use Rattle.back_liveness.specs.declared.step.Step.{Step}
+use Rattle.back_liveness.specs.Barriers.{TellsLoop}
 use Rattle.back_liveness.specs.Liveness.{is_read, IsLive, IsWithin, IsCovered, Covers}
 use Rattle.back_liveness.specs.Ahead.{alive_ahead, alive_around}
 use Rattle.back_liveness.specs.Heads.{AreHeads, AreNested}
 use Rattle.back_liveness.specs.Points.{HasLoop, HaveLives, is_told, HaveCrossings}
 use Rattle.back_liveness.specs.Settled.{Settled}
 use Rattle.back_liveness.proofs.Forwards.{all_told}
+use Rattle.back_liveness.proofs.Lists.{same_or_other}
 use Rattle.back_liveness.proofs.Around.{there_below, around_found, goes_along, law_of_alive}
 
 -- a register that is read nowhere is alive nowhere
@@ -32,13 +33,7 @@ none_alive steps earliest latest v heads none k h =
     let told = all_told steps earliest latest v [] 0 1 life heads s (omega arith) (omega arith) (λ j x e r. absurd (none j x e r)) k h in
     omega (arith, told.0, told.1)
 
--- one interval more
-pub older : (found : List (Option Interval)) (i : Option Interval) (v : ℕ) → v < length found → get_or (found ++ i ∷ []) v None ≡ get_or found v None
-older found i v h = get_or-append found (i ∷ []) None v h
-
-pub newest : (found : List (Option Interval)) (i : Option Interval) → get_or (found ++ i ∷ []) (length found) None ≡ i
-newest found i = get_or-append_seam found i [] None
-
+-- an interval with a loop has its lines
 pub loop_there : (i : Option Interval) (line at last : ℕ) → HasLoop i line last → line ≤ at → at ≤ last → IsWithin i at
 loop_there None line at last h low up = h
 loop_there (Some i) line at last h low up = (omega (arith, h.0), omega (arith, h.1))
@@ -90,3 +85,48 @@ pub if_all_alive :
 if_all_alive steps barriers registers (Ok found) count covers = λ v line h l.
     covers_alive steps barriers found.intervals found.crossed covers v line (omega (arith, count, h)) l
 if_all_alive steps barriers registers (Err e) count covers = tt
+
+-- a list with an item more
+pub count_more : {X : Type 0} (xs : List X) (x : X) (n : ℕ) → length xs ≡ n → length (xs ++ x ∷ []) ≡ n + 1
+count_more xs x n h = length-append xs (x ∷ []) ∙ omega (arith, h)
+
+-- a register more, the next, with its interval
+pub lives_more :
+    (steps : List Step) (latest : List ℕ) (n : ℕ) (found : List (Option Interval)) (i : Option Interval) → length found ≡ n
+    → HaveLives steps latest n found → ((line : ℕ) → alive_ahead steps n line ≡ true → HasLoop i line (slice_index latest line))
+    → ((line : ℕ) (s : Step) → slice_get steps line ≡ Some s → s.written ≡ Some n → IsWithin i (line + 1)) → HaveLives steps latest (n + 1) (found ++ i ∷ [])
+lives_more steps latest n found i count lives ahead written = record {
+  ahead = λ v line h a.
+      elim (same_or_other v n) [
+        | inl q ↦
+            subst (λ o. HasLoop o line (slice_index latest line)) (sym (get_or_push found i None v (omega (arith, count, q))))
+            (ahead line (subst (λ u. alive_ahead steps u line ≡ true) q a))
+        | inr ne ↦
+            subst (λ o. HasLoop o line (slice_index latest line)) (sym (get_or_append_left found (i ∷ []) None v (omega (arith, count, h, ne))))
+            (lives.ahead v line (omega (arith, h, ne)) a)
+      ];
+  written = λ v line s h e w.
+      elim (same_or_other v n) [
+        | inl q ↦
+            subst (λ o. IsWithin o (line + 1)) (sym (get_or_push found i None v (omega (arith, count, q))))
+            (written line s e (subst (λ u. s.written ≡ Some u) q w))
+        | inr ne ↦
+            subst (λ o. IsWithin o (line + 1)) (sym (get_or_append_left found (i ∷ []) None v (omega (arith, count, h, ne))))
+            (lives.written v line s (omega (arith, h, ne)) e w)
+      ];
+}
+
+-- and with whether it is crossed
+pub crossings_more :
+    (steps : List Step) (barriers : List Barrier) (latest : List ℕ) (n : ℕ) (crossed : List Bool) (b : Bool) → length crossed ≡ n
+    → HaveCrossings steps barriers latest n crossed → ((line : ℕ) → alive_ahead steps n line ≡ true → TellsLoop barriers latest n line b)
+    → HaveCrossings steps barriers latest (n + 1) (crossed ++ b ∷ [])
+crossings_more steps barriers latest n crossed b count known told v line h a =
+    elim (same_or_other v n) [
+      | inl q ↦
+          subst (TellsLoop barriers latest v line) (sym (get_or_push crossed b false v (omega (arith, count, q))))
+          (subst (λ u. TellsLoop barriers latest u line b) (sym q) (told line (subst (λ u. alive_ahead steps u line ≡ true) q a)))
+      | inr ne ↦
+          subst (TellsLoop barriers latest v line) (sym (get_or_append_left crossed (b ∷ []) false v (omega (arith, count, h, ne))))
+          (known v line (omega (arith, h, ne)) a)
+    ]

@@ -4,7 +4,7 @@ use Rattle.std.specs.Prelude.{slice_get, slice_index}
 use Rattle.back_liveness.specs.declared.barrier.Barrier.{Barrier}
 use Rattle.back_liveness.specs.declared.lives.Life.{Life}
 use Rattle.back_liveness.specs.declared.step.Step.{Step}
-use Rattle.back_liveness.specs.Barriers.{Crosses, barrier_at, TellsLoop}
+use Rattle.back_liveness.specs.Barriers.{TellsLoop}
 use Rattle.back_liveness.specs.Liveness.{is_read, goes_aside}
 use Rattle.back_liveness.specs.Ahead.{is_written}
 use Rattle.back_liveness.specs.Settled.{is_marked, Settled, CrossingsTold}
