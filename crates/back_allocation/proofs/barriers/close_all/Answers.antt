@@ -1,6 +1,6 @@
 use Rattle.std.proofs.Common.{arith, subst}
 use Rattle.back_liveness.proofs.Lists.{any_index}
-use Rattle.back_allocation.specs.Barriers.{Crosses, barrier_at}
+use Rattle.back_liveness.specs.Barriers.{Crosses, barrier_at}
 use Rattle.back_allocation.proofs.barriers.close_all.Goals as goal
 
 pub returns-clause-landed : goal.returns-clause-landed

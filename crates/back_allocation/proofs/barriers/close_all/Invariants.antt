@@ -1,6 +1,6 @@
 use Rattle.std.proofs.Common.{ℕ, ◌<◌}
 use Rattle.std.specs.Prelude.{slice_index}
-use Rattle.back_allocation.specs.Barriers.{Crosses, barrier_at}
+use Rattle.back_liveness.specs.Barriers.{Crosses, barrier_at}
 use Rattle.back_allocation.proofs.barriers.close_all.Given as goal
 
 abbrev pub invariant-loop-landing : goal.invariant-loop-landing
