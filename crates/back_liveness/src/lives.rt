@@ -170,7 +170,13 @@ fn look(
 }
 
 // Whether that was known, or a barrier at some line from one to a last one crosses the register.
-fn is_crossed(known: bool, line: usize, last: usize, barriers: &[Barrier], register: Register) -> bool
+fn is_crossed(
+    known: bool,
+    line: usize,
+    last: usize,
+    barriers: &[Barrier],
+    register: Register,
+) -> bool
     ensures known { known ≡ true → result ≡ true }
     ensures crossed { (x : ℕ) → line ≤ x → x ≤ last → Crosses (barrier_at barriers.now x) register → result ≡ true }
 {
