@@ -1,5 +1,9 @@
 // The image of a program: made flat, lowered, and emitted.
 
+ghost use Rattle.std.specs.Prelude.{◌≡◌};
+ghost use Rattle.flat_language.specs.Flatten.{flat_program};
+
+use crate::premises::{are_names_asked, do_rows_fit};
 use crate::reading::Read;
 use back_lowered::{LoweredProgram, lower};
 use back_program_code::emit;
@@ -17,17 +21,33 @@ pub struct Built {
     pub sites: PlaceList,
 }
 
-/// The image of a program, which begins with its start.
+/// The image of a program, which begins with its start; none where there is none, which is told.
 pub fn build(got: &mut RowAnswer, read: &Read) -> Option<Built> {
     let flat = got.kept(flatten(got.alloc, &read.program))?;
-    let image = image_of(got, read, &flat)?;
+    let lowered = lowered_of(got, read, &flat);
     let FlatProgram { sites, .. } = flat;
+    let image = emitted(got, lowered?)?;
     Some(Built { image, sites })
 }
 
-fn image_of(got: &mut RowAnswer, read: &Read, flat: &FlatProgram) -> Option<Image> {
-    match lower(got.alloc, &read.names, read.true_name, flat) {
-        Ok(lowered) => emitted(got, lowered),
+fn lowered_of(got: &mut RowAnswer, read: &Read, flat: &FlatProgram) -> Option<LoweredProgram>
+    requires { flat.now ≡ flat_program read.now.program }
+{
+    let Read {
+        program,
+        names,
+        true_name,
+    } = read;
+    if !do_rows_fit(names, *true_name, program, flat) {
+        got.put("rows do not fit");
+        return None;
+    }
+    if !got.kept(are_names_asked(got.alloc, names, flat))? {
+        got.put("names are not in the table");
+        return None;
+    }
+    match lower(got.alloc, names, *true_name, flat) {
+        Ok(lowered) => Some(lowered),
         Err(fault) => {
             got.put_debug(&fault);
             None
@@ -36,17 +56,28 @@ fn image_of(got: &mut RowAnswer, read: &Read, flat: &FlatProgram) -> Option<Imag
 }
 
 fn emitted(got: &mut RowAnswer, lowered: LoweredProgram) -> Option<Image> {
-    let LoweredProgram { procedures, words } = lowered;
+    let LoweredProgram {
+        mut procedures,
+        words,
+    } = lowered;
+    widen(got, &mut procedures);
     let program = MidProgram {
-        procedures: with_own_slots(got, procedures),
+        procedures,
         laid: words.data.arena.words,
     };
-    if !program.check() {
+    let image = image_of(got, &program);
+    drop(program);
+    image
+}
+
+// The image of a program that begins with its last procedure, as lowered programs do.
+fn image_of(got: &mut RowAnswer, program: &MidProgram) -> Option<Image> {
+    let count = program.procedures.len();
+    if count == 0 || !program.check() {
         got.put("not in form");
         return None;
     }
-    let start = program.procedures.len() - 1;
-    match emit(got.alloc, &program, start) {
+    match emit(got.alloc, program, count - 1) {
         Ok(image) => Some(image),
         Err(error) => {
             got.put(error);
@@ -55,19 +86,26 @@ fn emitted(got: &mut RowAnswer, lowered: LoweredProgram) -> Option<Image> {
     }
 }
 
-// A frame has a word for each register, and one for the return address, as long as each register has a slot of its own.
-fn with_own_slots(got: &mut RowAnswer, mut procedures: ProcedureList) -> ProcedureList {
+// Frames have a word for each register and one for the return address, as `emit` asks as long as each register is in a slot of its own.
+fn widen(got: &mut RowAnswer, procedures: &mut ProcedureList) {
     for at in 0..procedures.len() {
-        let empty = MidProcedure {
-            counted: Counted::Turn,
-            parameters: 0,
-            registers: 0,
-            frame: 0,
-            body: Code::new(got.alloc),
-        };
-        let mut procedure = procedures.replace(at, empty);
-        procedure.frame = procedure.frame.max(procedure.registers as u32 + 1);
-        let _ = procedures.replace(at, procedure);
+        let procedure = procedures.replace(at, nothing(got));
+        let _ = procedures.replace(at, widened(procedure));
     }
-    procedures
+}
+
+fn nothing(got: &RowAnswer) -> MidProcedure {
+    MidProcedure {
+        counted: Counted::Turn,
+        parameters: 0,
+        registers: 0,
+        frame: 0,
+        body: Code::new(got.alloc),
+    }
+}
+
+fn widened(mut procedure: MidProcedure) -> MidProcedure {
+    let slots = u32::try_from(procedure.registers).unwrap_or(u32::MAX);
+    procedure.frame = procedure.frame.max(slots.saturating_add(1));
+    procedure
 }

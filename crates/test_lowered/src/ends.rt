@@ -16,36 +16,51 @@ pub enum End {
     Trap(TrapKind, u32),
 }
 
-/// How a run ended, what it printed, and how many instructions it took.
+/// How a run ended, what it printed, and how many instructions it took; 0 of an evaluation.
 #[derive(Drop)]
 pub struct Told {
     pub end: End,
     pub printed: Bytes,
     pub count: u64,
-    pub used: u32,
 }
 
-/// Appends how both runs ended, once and `same` where they did the same.
+/// Appends how the program ends by its meaning, and whether the image did the same: `same`; `within` where words were wanting for the
+/// meaning and the image has printed what it did, and perhaps went on; else what each did.
 pub fn put_compared(got: &mut RowAnswer, meant: &Told, done: &Told) {
     put_end(got, meant.end);
-    if is_same_end(meant.end, done.end) && meant.printed.as_slice() == done.printed.as_slice() {
+    if is_same(meant, done) {
         got.put(" same");
-        return;
+    } else if is_within(meant, done) {
+        got.put(" within");
+    } else {
+        got.put(" different: ");
+        put_end(got, done.end);
+        got.put(" meant=");
+        got.put_bytes(meant.printed.as_slice());
+        got.put(" done=");
+        got.put_bytes(done.printed.as_slice());
     }
-    got.put(" DIFFERENT ");
-    put_end(got, done.end);
-    got.put(" meant=");
-    got.put_bytes(meant.printed.as_slice());
-    got.put(" done=");
-    got.put_bytes(done.printed.as_slice());
 }
 
-fn is_same_end(first: End, second: End) -> bool {
-    match (first, second) {
+fn is_same(meant: &Told, done: &Told) -> bool {
+    is_same_end(meant.end, done.end) && meant.printed.as_slice() == done.printed.as_slice()
+}
+
+fn is_same_end(meant: End, done: End) -> bool {
+    match (meant, done) {
         (End::Value, End::Value) => true,
-        (End::Unhandled(a, p), End::Unhandled(b, q)) => a == b && p == q,
-        (End::Full, End::Full) => true,
+        (End::Unhandled(class, place), End::Unhandled(other, at)) => class == other && place == at,
         (End::More, End::More) => true,
+        _ => false,
+    }
+}
+
+fn is_within(meant: &Told, done: &Told) -> bool {
+    match meant.end {
+        End::Full => done
+            .printed
+            .as_slice()
+            .starts_with(meant.printed.as_slice()),
         _ => false,
     }
 }
@@ -65,7 +80,7 @@ fn put_end(got: &mut RowAnswer, end: End) {
         End::Trap(kind, address) => {
             got.put("trap ");
             got.put_debug(&kind);
-            got.put(" ");
+            got.put(" at ");
             got.put(address);
         }
     }

@@ -1,25 +1,55 @@
 // A program run twice: by its meaning, and as an image on the machine.
 
+ghost use Rattle.std.specs.Prelude.{◌≡◌, IfSome};
+
 use crate::building::Built;
 use crate::ends::{End, Told};
 use crate::reading::Read;
 use base::{Bytes, CallList, MemSink, MemSource, Place};
 use eval_run::evaluate;
 use lang_meaning::EvaluationEnd;
-use rv_machine::{Ending, Machine};
+use rv_machine::{Ending, Image, Machine};
 use test_rows::RowAnswer;
 
 // The bytes that an output keeps.
 const ROOM: usize = 1_048_576;
 
 // The levels of an evaluation.
-const LEVELS: u64 = 50_000_000;
+const LEVELS: u64 = 10_000_000;
 
-/// The words of an arena, and the most instructions of a run.
+// The most words of an arena.
+const MOST_WORDS: u32 = 16_777_216;
+
+/// The words that a program may take beside those of its image, and the most instructions of its run.
 #[derive(Clone, Copy)]
 pub struct Limits {
     pub words: u32,
-    pub instructions: u64,
+    pub instructions: u32,
+}
+
+/// What the program does by its meaning, within so many words.
+pub fn evaluated(got: &mut RowAnswer, read: &Read, words: u32, input: &[u8]) -> Option<Told> {
+    let mut source = source_of(got, input)?;
+    let Some(mut sink) = sink_of(got) else {
+        drop(source);
+        return None;
+    };
+    let ended = evaluate(
+        got.alloc,
+        &read.program,
+        &read.names,
+        LEVELS,
+        u64::from(words),
+        &mut source,
+        &mut sink,
+    );
+    drop(source);
+    let told = match got.kept(ended) {
+        Some(end) => told_of(got, end_of_evaluation(end), &sink, 0),
+        None => None,
+    };
+    drop(sink);
+    told
 }
 
 fn source_of(got: &mut RowAnswer, input: &[u8]) -> Option<MemSource> {
@@ -31,29 +61,12 @@ fn sink_of(got: &mut RowAnswer) -> Option<MemSink> {
     got.kept(MemSink::new(got.alloc, ROOM, CallList::new(got.alloc)))
 }
 
-fn printed(got: &mut RowAnswer, sink: &MemSink) -> Option<Bytes> {
-    got.kept(Bytes::from_slice(got.alloc, sink.bytes()))
-}
-
-/// What the program does by its meaning.
-pub fn evaluated(got: &mut RowAnswer, read: &Read, limits: Limits, input: &[u8]) -> Option<Told> {
-    let mut source = source_of(got, input)?;
-    let mut sink = sink_of(got)?;
-    let ended = evaluate(
-        got.alloc,
-        &read.program,
-        &read.names,
-        LEVELS,
-        u64::from(limits.words),
-        &mut source,
-        &mut sink,
-    );
-    let end = got.kept(ended)?;
+fn told_of(got: &mut RowAnswer, end: End, sink: &MemSink, count: u64) -> Option<Told> {
+    let printed = got.kept(Bytes::from_slice(got.alloc, sink.bytes()))?;
     Some(Told {
-        end: end_of_evaluation(end),
-        printed: printed(got, &sink)?,
-        count: 0,
-        used: 0,
+        end,
+        printed,
+        count,
     })
 }
 
@@ -69,7 +82,7 @@ fn end_of_evaluation(end: EvaluationEnd) -> End {
     }
 }
 
-/// What the image does on the machine.
+/// What the image does on the machine, in an arena with so many words more than it has.
 pub fn machine_run(
     got: &mut RowAnswer,
     built: &Built,
@@ -77,30 +90,45 @@ pub fn machine_run(
     input: &[u8],
 ) -> Option<Told> {
     let mut source = source_of(got, input)?;
-    let mut sink = sink_of(got)?;
-    let mut machine = got.kept(Machine::new(got.alloc, limits.words))?;
-    if machine.load(&built.image).is_err() {
-        got.put("no room for the image");
-        return None;
-    }
-    let ending = machine.run(limits.instructions, &mut source, &mut sink);
-    Some(Told {
-        end: end_of_run(built, ending, machine.register(11)),
-        printed: printed(got, &sink)?,
-        count: machine.count(),
-        used: used_words(&machine),
-    })
+    let told = run_with(got, built, limits, &mut source);
+    drop(source);
+    told
 }
 
-// The words behind the image that are not 0.
-fn used_words(machine: &Machine) -> u32 {
-    let mut used = 0;
-    for word in machine.arena() {
-        if *word != 0 {
-            used += 1;
+fn run_with(
+    got: &mut RowAnswer,
+    built: &Built,
+    limits: Limits,
+    source: &mut MemSource,
+) -> Option<Told> {
+    let mut sink = sink_of(got)?;
+    let Some(mut machine) = loaded(got, &built.image, limits.words) else {
+        drop(sink);
+        return None;
+    };
+    let ending = machine.run(u64::from(limits.instructions), source, &mut sink);
+    let end = end_of_run(built, ending, machine.register(11));
+    let told = told_of(got, end, &sink, machine.count());
+    drop(machine);
+    drop(sink);
+    told
+}
+
+// A machine at the start of the image.
+fn loaded(got: &mut RowAnswer, image: &Image, words: u32) -> Option<Machine>
+    ensures { IfSome result (λ m. m.count ≡ 0) }
+{
+    let count = image.words();
+    let room = words.min(MOST_WORDS - count);
+    let mut machine = got.kept(Machine::new(got.alloc, count + room))?;
+    match machine.load(image) {
+        Ok(()) => Some(machine),
+        Err(_) => {
+            got.put("no room for the image");
+            drop(machine);
+            None
         }
     }
-    used
 }
 
 fn end_of_run(built: &Built, ending: Ending, site: u32) -> End {
@@ -115,12 +143,14 @@ fn end_of_run(built: &Built, ending: Ending, site: u32) -> End {
     }
 }
 
+// The place of a site, by its number from 1.
 fn place_of(built: &Built, site: u32) -> Place {
+    let nowhere = Place { line: 0, column: 0 };
     match (site as usize).checked_sub(1) {
-        None => Place { line: 0, column: 0 },
+        None => nowhere,
         Some(at) => match built.sites.get(at) {
             Some(place) => *place,
-            None => Place { line: 0, column: 0 },
+            None => nowhere,
         },
     }
 }
