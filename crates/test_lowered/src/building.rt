@@ -5,12 +5,13 @@ ghost use Rattle.flat_language.specs.Flatten.{flat_program};
 
 use crate::premises::{are_names_asked, do_rows_fit};
 use crate::reading::Read;
-use back_lowered::{LoweredProgram, lower};
+use back_lowered::{LaidProgram, LoweredProgram, lower};
 use back_program_code::emit;
 use base::PlaceList;
 use flat_conversion::flatten;
 use flat_language::FlatProgram;
 use mid_code::{Code, Counted, MidProcedure, MidProgram, ProcedureList};
+use mid_start::{ArenaWords, StaticData};
 use rv_machine::Image;
 use test_rows::RowAnswer;
 
@@ -61,10 +62,10 @@ fn emitted(got: &mut RowAnswer, lowered: LoweredProgram) -> Option<Image> {
         words,
     } = lowered;
     widen(got, &mut procedures);
-    let program = MidProgram {
-        procedures,
-        laid: words.data.arena.words,
-    };
+    let LaidProgram { data, .. } = words;
+    let StaticData { arena, .. } = data;
+    let ArenaWords { words: laid, .. } = arena;
+    let program = MidProgram { procedures, laid };
     let image = image_of(got, &program);
     drop(program);
     image

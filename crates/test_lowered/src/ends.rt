@@ -1,5 +1,6 @@
 // How a run came to its end and what it printed, and whether two runs did the same.
 
+use crate::reading::Read;
 use base::{Bytes, Place};
 use lang_meaning::ClassId;
 use rv_machine::TrapKind;
@@ -26,15 +27,15 @@ pub struct Told {
 
 /// Appends how the program ends by its meaning, and whether the image did the same: `same`; `within` where words were wanting for the
 /// meaning and the image has printed what it did, and perhaps went on; else what each did.
-pub fn put_compared(got: &mut RowAnswer, meant: &Told, done: &Told) {
-    put_end(got, meant.end);
+pub fn put_compared(got: &mut RowAnswer, read: &Read, meant: &Told, done: &Told) {
+    put_end(got, read, meant.end);
     if is_same(meant, done) {
         got.put(" same");
     } else if is_within(meant, done) {
         got.put(" within");
     } else {
         got.put(" different: ");
-        put_end(got, done.end);
+        put_end(got, read, done.end);
         got.put(" meant=");
         got.put_bytes(meant.printed.as_slice());
         got.put(" done=");
@@ -65,12 +66,12 @@ fn is_within(meant: &Told, done: &Told) -> bool {
     }
 }
 
-fn put_end(got: &mut RowAnswer, end: End) {
+fn put_end(got: &mut RowAnswer, read: &Read, end: End) {
     match end {
         End::Value => got.put("value"),
         End::Unhandled(class, place) => {
             got.put("unhandled ");
-            got.put(class);
+            put_class(got, read, class);
             got.put(" at ");
             got.put_place(place);
         }
@@ -83,5 +84,14 @@ fn put_end(got: &mut RowAnswer, end: End) {
             got.put(" at ");
             got.put(address);
         }
+    }
+}
+
+// The name of a class.
+fn put_class(got: &mut RowAnswer, read: &Read, class: ClassId) {
+    if let Some(row) = read.program.rows().classes.get(class)
+        && let Some(text) = read.names.text(row.name)
+    {
+        got.put_bytes(text);
     }
 }

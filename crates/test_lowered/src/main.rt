@@ -11,11 +11,9 @@ mod reading;
 mod rows;
 mod running;
 
-use rows::{Telling, put_rows};
-use std::{env, fs, io};
-
-// The table of programs.
-const TABLE: &str = "programs.txt";
+use rows::{Programs, Telling};
+use std::{env, io};
+use test_rows::put_table;
 
 fn main(rt: HostRuntime) -> io::Result<()> {
     let telling = if env::args(&rt)?.count() > 1 {
@@ -23,6 +21,12 @@ fn main(rt: HostRuntime) -> io::Result<()> {
     } else {
         Telling::Ends
     };
-    let table = fs::read_to_string(&rt, TABLE)?;
-    put_rows(&rt, table.as_str(), telling)
+    put_table(
+        &rt,
+        "programs.txt",
+        &Programs {
+            files: &rt,
+            telling,
+        },
+    )
 }

@@ -82,7 +82,10 @@ fn is_class_below(class: &ClassRow, count: usize) -> bool
 fn are_slots_below(slots: &SlotRows, count: usize) -> bool
     ensures { result ≡ list_all (is_slot_below count) slots.now }
 {
-    slots.as_slice().iter().all(|slot| is_slot_below(slot, count))
+    slots
+        .as_slice()
+        .iter()
+        .all(|slot| is_slot_below(slot, count))
 }
 
 fn is_slot_below(slot: &SlotRow, count: usize) -> bool

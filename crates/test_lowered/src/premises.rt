@@ -15,12 +15,7 @@ use mid_start::law_whole_rows;
 use std::alloc::Global;
 
 /// Whether the rows of a program that was made flat fit, where t has that name.
-pub fn do_rows_fit(
-    names: &Names,
-    true_name: Name,
-    program: &Program,
-    flat: &FlatProgram,
-) -> bool
+pub fn do_rows_fit(names: &Names, true_name: Name, program: &Program, flat: &FlatProgram) -> bool
     requires { flat.now ≡ flat_program program.now }
     ensures { IsTrue result → RowsFit names.now true_name flat.now.classes flat.now.functions flat.now.literals }
 {

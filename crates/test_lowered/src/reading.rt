@@ -27,10 +27,16 @@ pub fn read_program_of(got: &mut RowAnswer, text: &[u8]) -> Option<Read> {
 
 fn named(got: &mut RowAnswer, whole: Whole) -> Option<Read> {
     let Whole { program, mut names } = whole;
-    let true_name = got.kept(names.intern(b"t"))?;
-    Some(Read {
-        program,
-        names,
-        true_name,
-    })
+    match got.kept(names.intern(b"t")) {
+        Some(true_name) => Some(Read {
+            program,
+            names,
+            true_name,
+        }),
+        None => {
+            drop(names);
+            drop(program);
+            None
+        }
+    }
 }

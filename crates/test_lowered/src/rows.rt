@@ -5,8 +5,8 @@ use crate::ends::{Told, put_compared};
 use crate::reading::{Read, read_program_of};
 use crate::running::{Limits, evaluated, machine_run};
 use std::rt::Files;
-use std::{fs, io};
-use test_rows::RowAnswer;
+use std::{fs, str};
+use test_rows::{RowAnswer, Table};
 
 /// What is told of a run.
 #[derive(Clone, Copy)]
@@ -17,75 +17,63 @@ pub enum Telling {
     Counts,
 }
 
-/// For each row `FILE WORDS INSTRUCTIONS` or `FILE WORDS INSTRUCTIONS INPUT` prints the file's name and what its runs came to. An empty
-/// line, and a line that begins with `#`, is no row.
-pub fn put_rows<R: Files + Print + AllocGlobal>(
-    rt: &R,
-    table: &str,
-    telling: Telling,
-) -> io::Result<()> {
-    for line in table.lines() {
-        if !line.is_empty() && !line.starts_with('#') {
-            put_row(rt, line, telling)?;
-        }
+/// A table of programs, whose files the runtime has. A row is `FILE WORDS INSTRUCTIONS`, with the file of its input behind a blank where it
+/// has one.
+#[derive(Drop)]
+pub struct Programs<'a, R> {
+    pub files: &'a R,
+    pub telling: Telling,
+}
+
+impl<'a, R: Files + AllocGlobal> Table for Programs<'a, R> {
+    fn answer_row(&self, got: &mut RowAnswer, input: &[u8]) -> Option<()> {
+        let row = str::from_utf8(input).ok()?;
+        let (name, given) = row.split_once(' ')?;
+        let (words, given) = given.split_once(' ')?;
+        let (instructions, input) = given.split_once(' ').unwrap_or((given, ""));
+        let limits = Limits {
+            words: words.parse().ok()?,
+            instructions: instructions.parse().ok()?,
+        };
+        let text = fs::read_to_string(self.files, name).ok()?;
+        let told = answer_with(self.files, got, limits, text.as_str(), input, self.telling);
+        drop(text);
+        told
     }
-    Ok(())
 }
 
-fn put_row<R: Files + Print + AllocGlobal>(rt: &R, line: &str, telling: Telling) -> io::Result<()> {
-    let (name, given) = line.split_once(' ').unwrap_or((line, ""));
-    let (words, given) = given.split_once(' ').unwrap_or((given, ""));
-    let (instructions, input) = given.split_once(' ').unwrap_or((given, ""));
-    let text = fs::read_to_string(rt, name)?;
-    let input = input_of(rt, input)?;
-    let mut got = RowAnswer::new(rt.alloc());
-    let is_answered = match limits_of(words, instructions) {
-        Some(limits) => answer(&mut got, limits, text.as_str(), input.as_str(), telling).is_some(),
-        None => false,
-    };
-    let printed = println!(rt; "{name}: {}", got.told(is_answered));
-    drop(got);
-    printed
-}
-
-fn input_of<R: Files + AllocGlobal>(rt: &R, file: &str) -> io::Result<String> {
-    if file.is_empty() {
-        return Ok(String::new(rt.alloc()));
-    }
-    fs::read_to_string(rt, file)
-}
-
-fn limits_of(words: &str, instructions: &str) -> Option<Limits> {
-    Some(Limits {
-        words: words.parse().ok()?,
-        instructions: instructions.parse().ok()?,
-    })
-}
-
-fn answer(
+// The answer of a program's text with the input that a file has; with none where there is no file.
+fn answer_with<R: Files + AllocGlobal>(
+    files: &R,
     got: &mut RowAnswer,
     limits: Limits,
     text: &str,
     input: &str,
     telling: Telling,
 ) -> Option<()> {
-    let read = read_program_of(got, text.as_bytes())?;
-    let told = build_and_run(got, &read, limits, input.as_bytes(), telling);
-    drop(read);
-    told
+    if input.is_empty() {
+        answer(got, limits, text, "", telling);
+        return Some(());
+    }
+    let input = fs::read_to_string(files, input).ok()?;
+    answer(got, limits, text, input.as_str(), telling);
+    drop(input);
+    Some(())
 }
 
-fn build_and_run(
-    got: &mut RowAnswer,
-    read: &Read,
-    limits: Limits,
-    input: &[u8],
-    telling: Telling,
-) -> Option<()> {
-    let built = build(got, read)?;
-    let told = run_both(got, read, &built, limits, input, telling);
-    drop(built);
-    told
+// Each step that gives nothing has told why.
+fn answer(got: &mut RowAnswer, limits: Limits, text: &str, input: &str, telling: Telling) {
+    if let Some(read) = read_program_of(got, text.as_bytes()) {
+        build_and_run(got, &read, limits, input.as_bytes(), telling);
+        drop(read);
+    }
+}
+
+fn build_and_run(got: &mut RowAnswer, read: &Read, limits: Limits, input: &[u8], telling: Telling) {
+    if let Some(built) = build(got, read) {
+        run_both(got, read, &built, limits, input, telling);
+        drop(built);
+    }
 }
 
 fn run_both(
@@ -95,29 +83,30 @@ fn run_both(
     limits: Limits,
     input: &[u8],
     telling: Telling,
-) -> Option<()> {
-    let meant = evaluated(got, read, limits.words, input)?;
-    let told = run_image(got, &meant, built, limits, input, telling);
-    drop(meant);
-    told
+) {
+    if let Some(meant) = evaluated(got, read, limits.words, input) {
+        run_image(got, read, &meant, built, limits, input, telling);
+        drop(meant);
+    }
 }
 
 fn run_image(
     got: &mut RowAnswer,
+    read: &Read,
     meant: &Told,
     built: &Built,
     limits: Limits,
     input: &[u8],
     telling: Telling,
-) -> Option<()> {
-    let done = machine_run(got, built, limits, input)?;
-    put_compared(got, meant, &done);
-    if let Telling::Counts = telling {
-        got.put(" instructions=");
-        got.put(done.count);
-        got.put(" words=");
-        got.put(built.image.words());
+) {
+    if let Some(done) = machine_run(got, built, limits, input) {
+        put_compared(got, read, meant, &done);
+        if let Telling::Counts = telling {
+            got.put(" instructions=");
+            got.put(done.count);
+            got.put(" words=");
+            got.put(built.image.words());
+        }
+        drop(done);
     }
-    drop(done);
-    Some(())
 }

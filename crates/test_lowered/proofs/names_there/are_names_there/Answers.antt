@@ -12,7 +12,7 @@ use Rattle.test_lowered.proofs.names_there.are_names_there.Goals as goal
 pub returns : goal.returns
 returns c = λ h.
     let classes : list_all (is_class_below c.len-count.result) c.args.rows.now.classes ≡ true =
-        sym c.are_classes_below.ensures ∙ c.if-not-are_classes_below.false in
+    sym c.are_classes_below.ensures ∙ c.if-not-are_classes_below.false in
     let same = c.len-count.ensures.len in
     names_there c.args.names.now c.args.true_name c.args.rows.now
     (subst (λ n. list_all (is_class_below n) c.args.rows.now.classes ≡ true) same classes)
