@@ -5,7 +5,7 @@ ghost use Rattle.flat_language.specs.Flatten.{flat_program};
 
 use crate::premises::{are_names_asked, do_rows_fit};
 use crate::reading::Read;
-use back_lowered::{LaidProgram, LoweredProgram, lower};
+use back_lowered::{LaidProgram, LoweredProgram, LoweringFault, lower};
 use back_program_code::emit;
 use base::PlaceList;
 use flat_conversion::flatten;
@@ -24,7 +24,15 @@ pub struct Built {
 
 /// The image of a program, which begins with its start; none where there is none, which is told.
 pub fn build(got: &mut RowAnswer, read: &Read) -> Option<Built> {
-    let flat = got.kept(flatten(got.alloc, &read.program))?;
+    match flatten(got.alloc, &read.program) {
+        Ok(flat) => built_of(got, read, flat),
+        Err(fault) => got.kept(Err(fault)),
+    }
+}
+
+fn built_of(got: &mut RowAnswer, read: &Read, flat: FlatProgram) -> Option<Built>
+    requires { flat ≡ flat_program read.now.program }
+{
     let lowered = lowered_of(got, read, &flat);
     let FlatProgram { sites, .. } = flat;
     let image = emitted(got, lowered?)?;
@@ -43,11 +51,22 @@ fn lowered_of(got: &mut RowAnswer, read: &Read, flat: &FlatProgram) -> Option<Lo
         got.put("rows do not fit");
         return None;
     }
-    if !got.kept(are_names_asked(got.alloc, names, flat))? {
-        got.put("names are not in the table");
-        return None;
+    match are_names_asked(got.alloc, names, flat) {
+        Ok(true) => told_lowered(got, lower(got.alloc, names, *true_name, flat)),
+        Ok(false) => {
+            got.put("names are not in the table");
+            None
+        }
+        Err(fault) => got.kept(Err(fault)),
     }
-    match lower(got.alloc, names, *true_name, flat) {
+}
+
+// The lowered program, or why there is none.
+fn told_lowered(
+    got: &mut RowAnswer,
+    lowered: Result<LoweredProgram, LoweringFault>,
+) -> Option<LoweredProgram> {
+    match lowered {
         Ok(lowered) => Some(lowered),
         Err(fault) => {
             got.put_debug(&fault);
