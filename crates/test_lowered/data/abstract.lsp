@@ -1,0 +1,1 @@
+(defclass <k> () () (:abstractp t)) (create (class <k>))

@@ -1,0 +1,1 @@
+(unwind-protect (error "a") (unwind-protect (error "b") (format (standard-output) "c")))

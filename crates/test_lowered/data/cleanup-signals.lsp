@@ -1,0 +1,1 @@
+(unwind-protect (car 5) (cdr 7))

@@ -1,0 +1,1 @@
+(read-char (standard-input))

@@ -1,0 +1,5 @@
+(defglobal f nil)
+(block a (setq f (lambda () (return-from a 1))))
+(format (standard-output) "before~%")
+(funcall f)
+(format (standard-output) "after~%")

@@ -1,0 +1,1 @@
+(with-handler (lambda (c) (cdr 8)) (car 1))

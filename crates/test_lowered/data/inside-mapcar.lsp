@@ -1,0 +1,1 @@
+(mapcar (lambda (x) (car x)) '((1) 2))

@@ -1,0 +1,1 @@
+(defclass <k> () ((s :reader s-of))) (s-of (create (class <k>)))
