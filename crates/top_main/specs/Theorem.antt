@@ -1,15 +1,15 @@
 -- The theorem of the top call: what stands after `isl_main` has answered, status by status.
 --
--- It names the words of the command (`Command`), the verdict on a text to run (`Verdicts`) and on a text to check or to evaluate
--- (`front_files`) behind the library (`front_library`), the meaning of a program and what an evaluation reads and prints and how it
--- ends by it (`lang_meaning`), the machine and its runs (`rv_machine`), and the lines of statuses (`Lines`), and nothing of how code
--- is made or a program is evaluated.
-use Rattle.std.specs.Prelude.{◌≡◌, ◌≢◌, ⊤, ℕ, ◌≤◌, List, [], length, slice_get, Option, Some, None, IfSome}
+-- It names the words of the command (`Command`), the verdict on a text (`front_files`) behind the library (`front_library`), the meaning of a
+-- program and what an evaluation reads and prints and how it ends by it (`lang_meaning`), the machine and its runs (`rv_machine`), what the image
+-- of a program does by its meaning (`Means` of `back_build`), and the lines of statuses (`Lines`), and nothing of how code is made or a program is
+-- evaluated.
+use Rattle.std.specs.Prelude.{◌≡◌, ⊤, ℕ, ◌<◌, ◌≤◌, List, [], length, slice_get, Option, Some, None, IfSome}
 use Rattle.base.specs.declared.place.Place.{Place}
 use Rattle.base.specs.declared.reason.Refusal.{Refusal}
 use Rattle.rv_machine.specs.declared.image.Image.{Image}
-use Rattle.rv_machine.specs.declared.ending.Ending.TheVariants.{Budget}
-use Rattle.rv_machine.specs.Run.{Ended, run_of, Gave}
+use Rattle.rv_machine.specs.declared.ending.Ending.TheVariants.{Budget, Full}
+use Rattle.rv_machine.specs.Run.{Moment, Ended, run_of, Gave, Feeds}
 use Rattle.front_files.specs.declared.mode.Mode.TheVariants as mode
 use Rattle.front_files.specs.Verdicts.{Accepts as AcceptsWhole, Refuses as RefusesWhole}
 use Rattle.front_library.specs.declared.text.TheConstants.{PRELUDE}
@@ -21,76 +21,15 @@ use Rattle.lang_meaning.specs.declared.evaluation.EvaluationEnd.{EvaluationEnd}
 use Rattle.lang_meaning.specs.declared.evaluation.EvaluationEnd.TheVariants as endings
 use Rattle.lang_meaning.specs.Evaluation.{Evaluation}
 use Rattle.lang_meaning.specs.Evaluates.{Evaluates, BreaksOff}
+use Rattle.mid_arena.specs.Layouts.{AreBytes}
+use Rattle.back_build.specs.Means.{HaltsWith, EndsUnhandled, IsBuilt}
+use Rattle.base.specs.Given.{WasGiven, WasGivenFront}
 use Rattle.top_main.specs.Command.{Request, asked}
 use Rattle.top_main.specs.declared.command.Action.TheVariants.{Run, Check, Plain}
-use Rattle.base.specs.Given.{WasGiven, WasGivenFront}
 use Rattle.top_main.specs.Lines.{usage_line, unhandled_line, refused_line, arena_full_line, budget_line, spent_line, read_fault_line, ok_line}
 use Rattle.top_main.specs.Loads.{IsTextTaken}
-use Rattle.back_first_path.specs.Compiled.{IsPrefixOf, HaltsWith, Compiled}
-use Rattle.back_first_path.specs.Shapes.{names}
-use Rattle.back_first_path.specs.Verdicts.{Accepts, Refuses}
-
--- An image and a program
-
--- the image that was kept is the program's, and fits an arena of so many words
-pub record Built (program : ProgramRows) (kept : Option Image) (arena : ℕ) : Type 0 where
-  pub image : Image
-  pub is_kept : kept ≡ Some image
-  pub compiled : Compiled program image.words image.entry
-  pub fits : length image.words ≤ arena
-
--- Its run in that arena, whatever the input
-
-abbrev pub the_run : Image → (arena steps : ℕ) → List ℕ → Ended
-the_run image arena steps input = run_of image.words image.entry arena input steps
-
--- it halts with the meaning's value and prints what the meaning prints
-abbrev pub Halts : {program : ProgramRows} {kept : Option Image} {arena : ℕ} → Built program kept arena → ℕ → Type 0
-Halts {program} {kept} {arena} built steps =
-    (input : List ℕ) → HaltsWith (the_run built.image arena steps input) (meaning names program input steps unlimited)
-
--- it does not end within so many instructions
-abbrev pub Spends : {program : ProgramRows} {kept : Option Image} {arena : ℕ} → Built program kept arena → ℕ → Type 0
-Spends {program} {kept} {arena} built steps = (input : List ℕ) → (the_run built.image arena steps input).ending ≡ Budget
-
--- what an output was given: before a call and after it, where it can be observed, and in how many writes
-pub record Sent : Type 0 where
-  pub before : Option (List ℕ)
-  pub writes_before : ℕ
-  pub after : Option (List ℕ)
-  pub writes_after : ℕ
-
-abbrev pub sent_to : Option (List ℕ) → ℕ → Option (List ℕ) → ℕ → Sent
-sent_to before writes_before after writes_after = record {
-  before = before;
-  writes_before = writes_before;
-  after = after;
-  writes_after = writes_after;
-}
-
--- an output that is observed was given all that the run printed, each byte by a write of its own
-abbrev pub GivenAll : {program : ProgramRows} {kept : Option Image} {arena : ℕ} → Built program kept arena → ℕ → Sent → Type 0
-GivenAll {program} {kept} {arena} built steps sent =
-    (input : List ℕ) → IfSome sent.after (λ after. Gave sent.before sent.writes_before (the_run built.image arena steps input).at.printed after sent.writes_after)
-
--- an output that is observed was given a prefix of what the run printed, each byte by a write of its own
-abbrev pub GivenPrefix : {program : ProgramRows} {kept : Option Image} {arena : ℕ} → Built program kept arena → ℕ → Sent → Type 0
-GivenPrefix {program} {kept} {arena} built steps sent =
-    (input : List ℕ) → IfSome sent.after (λ after. (first : List ℕ) × IsPrefixOf first (the_run built.image arena steps input).at.printed × Gave sent.before sent.writes_before first after sent.writes_after)
 
 -- The file
-
--- a text that was taken of the file is this program
-pub record Accepted (held : Option (List ℕ)) (program : ProgramRows) : Type 0 where
-  pub text : List ℕ
-  pub taken : IsTextTaken held text
-  pub accepts : Accepts text program
-
--- a text that was taken of the file is refused so
-pub record Declined (held : Option (List ℕ)) (refusal : Refusal) : Type 0 where
-  pub text : List ℕ
-  pub taken : IsTextTaken held text
-  pub refuses : Refuses text refusal.place refusal.reason
 
 -- the library of the language, which stands in front of every file
 abbrev pub library : List ℕ
@@ -114,55 +53,156 @@ pub record Offends (held : Option (List ℕ)) (refusal : Refusal) : Type 0 where
   pub taken : IsTextTaken held text
   pub refuses : RefusesWhole library text mode.Run refusal
 
--- The statuses of `run`. A call has these command words, a shelf that holds these files, where it can be observed, and leaves this image; its
--- output was sent this, and its error output had these bytes before and has those after it.
+-- what an output was given: before a call and after it, where it can be observed, and in how many writes
+pub record Sent : Type 0 where
+  pub before : Option (List ℕ)
+  pub writes_before : ℕ
+  pub after : Option (List ℕ)
+  pub writes_after : ℕ
 
--- Done: the command names a file to run that is a program, the run of its image halts, and all that it prints was given
-pub record IsDone (words : List (List ℕ)) (holds : List ℕ → Option (List ℕ)) (kept : Option Image) (sent : Sent) (said said' : Option (List ℕ)) : Type 0 where
+abbrev pub sent_to : Option (List ℕ) → ℕ → Option (List ℕ) → ℕ → Sent
+sent_to before writes_before after writes_after = record {
+  before = before;
+  writes_before = writes_before;
+  after = after;
+  writes_after = writes_after;
+}
+
+-- An image and a program
+
+-- the image that was kept is that of a whole program: in every arena that has room for it, and with every input, it does what the program means
+pub record Built {text : List ℕ} (whole : IsWhole text) (kept : Option Image) : Type 0 where
+  pub image : Image
+  pub is_kept : kept ≡ Some image
+  pub built : IsBuilt whole.names whole.program image
+
+-- its run in an arena of so many words, for so many instructions
+abbrev pub the_run : Image → (arena steps : ℕ) → List ℕ → Ended
+the_run image arena steps input = run_of image.words image.entry arena input steps
+
+-- an output that is observed was given all these bytes, each by a write of its own, and an input that told this tells what is left
+pub record SaysAll (input : List ℕ) (m : Moment) (left left' : Option (List ℕ)) (sent : Sent) : Type 0 where
+  pub given : IfSome sent.after (λ after. Gave sent.before sent.writes_before m.printed after sent.writes_after)
+  pub rest : left ≡ Some input → left' ≡ Some m.input
+
+-- how a run has ended, beside what the program means with as many levels and with no limit of words
+abbrev pub RunEnds : (names : List (List ℕ)) (program : ProgramRows) → EvaluationEnd → (steps : ℕ) → List ℕ → Ended → Type 0
+RunEnds names program endings.Value steps input x = HaltsWith names program (meaning names program input steps unlimited) x
+RunEnds names program (endings.Unhandled class site) steps input x =
+    (u : EndsUnhandled names program (meaning names program input steps unlimited) x) × (u.class ≡ class) × (u.place ≡ site)
+RunEnds names program (endings.Full asked left) steps input x = x.ending ≡ Full asked left
+RunEnds names program endings.More steps input x = x.ending ≡ Budget
+RunEnds names program endings.Spent steps input x = ⊥
+RunEnds names program endings.ReadFault steps input x = ⊥
+RunEnds names program endings.WriteFault steps input x = ⊥
+
+-- a run that a fault has cut off: fewer instructions had been executed by then, and what these printed was given
+pub record RunIsCut (image : Image) (arena steps : ℕ) (left left' : Option (List ℕ)) (sent : Sent) : Type 0 where
+  pub turns : ℕ
+  pub below : turns < steps
+  pub stood :
+      (input : List ℕ) → AreBytes input → Feeds left input (the_run image arena turns input)
+      → ((the_run image arena turns input).ending ≡ Budget) × SaysAll input (the_run image arena turns input).at left left' sent
+
+-- what stands where a run came to this end
+abbrev pub RunComes : {text : List ℕ} → IsWhole text → Image → (arena steps : ℕ) → (left left' : Option (List ℕ)) → Sent → EvaluationEnd → Type 0
+RunComes whole image arena steps left left' sent endings.ReadFault = RunIsCut image arena steps left left' sent
+RunComes whole image arena steps left left' sent endings.WriteFault = RunIsCut image arena steps left left' sent
+RunComes whole image arena steps left left' sent end =
+    (input : List ℕ) → AreBytes input → Feeds left input (the_run image arena steps input)
+    → RunEnds whole.names whole.program end steps input (the_run image arena steps input)
+    × SaysAll input (the_run image arena steps input).at left left' sent
+
+-- a text that was taken of the file is a whole program, its image was kept and fits the arena, and its run came to this end
+pub record Runs (held : Option (List ℕ)) (kept : Option Image) (arena steps : ℕ) (left left' : Option (List ℕ)) (sent : Sent) (end : EvaluationEnd) : Type 0 where
+  pub text : List ℕ
+  pub taken : IsTextTaken held text
+  pub whole : IsWhole text
+  pub built : Built whole kept
+  pub fits : length built.image.words ≤ arena
+  pub comes : RunComes whole built.image arena steps left left' sent end
+
+-- the same where the image has more words than the arena, so that nothing ran
+pub record DoesNotFit (held : Option (List ℕ)) (kept : Option Image) (arena wanted room : ℕ) : Type 0 where
+  pub text : List ℕ
+  pub taken : IsTextTaken held text
+  pub whole : IsWhole text
+  pub built : Built whole kept
+  pub large : arena < length built.image.words
+  pub wanted_is : wanted ≡ length built.image.words
+  pub room_is : room ≡ arena
+
+-- an end that a line tells
+abbrev pub HasLine : EvaluationEnd → Type 0
+HasLine endings.Value = ⊥
+HasLine (endings.Unhandled class site) = ⊤
+HasLine (endings.Full wanted room) = ⊤
+HasLine endings.More = ⊤
+HasLine endings.Spent = ⊤
+HasLine endings.ReadFault = ⊤
+HasLine endings.WriteFault = ⊥
+
+-- the text of the name of a class of a program with these names; empty where there is no such class
+abbrev pub class_text : List (List ℕ) → ProgramRows → ℕ → List ℕ
+class_text names program class = class_name names (slice_get program.classes class)
+
+-- The statuses of `run`. A call has these command words, a shelf that holds these files, where it can be observed, and leaves this image; its
+-- input had this left before and has that after; its output was sent this, and its error output had these bytes before and has those after it.
+
+-- the command names a file to run that is a whole program, and its run comes to this end
+pub record IsRun (words : List (List ℕ)) (holds : List ℕ → Option (List ℕ)) (kept : Option Image) (left left' : Option (List ℕ)) (sent : Sent) (end : EvaluationEnd) : Type 0 where
   pub command : Request
   pub asked_for : asked words ≡ Some command
   pub is_run : command.action ≡ Run
-  pub program : ProgramRows
-  pub accepted : Accepted (holds command.file) program
-  pub built : Built program kept command.arena
-  pub halts : Halts built command.steps
-  pub printed : GivenAll built command.steps sent
+  pub runs : Runs (holds command.file) kept command.arena command.steps left left' sent end
+
+-- Done: it halts with the program's value, and all that it prints was given
+pub record IsRunDone (words : List (List ℕ)) (holds : List ℕ → Option (List ℕ)) (kept : Option Image) (left left' : Option (List ℕ)) (sent : Sent) (said said' : Option (List ℕ)) : Type 0 where
+  pub ended : IsRun words holds kept left left' sent endings.Value
   pub line : WasGiven said [] said'
 
--- the same with a run that does not end within its instructions, of which a line is still to be written
-pub record IsSpent (words : List (List ℕ)) (holds : List ℕ → Option (List ℕ)) (kept : Option Image) (sent : Sent) : Type 0 where
+-- Unhandled: it ends by a condition that no handler took; the line says of which class, and where it was signalled
+pub record IsRunUnhandled (words : List (List ℕ)) (holds : List ℕ → Option (List ℕ)) (kept : Option Image) (left left' : Option (List ℕ)) (sent : Sent) (said said' : Option (List ℕ)) : Type 0 where
+  pub class : ℕ
+  pub site : Place
+  pub ended : IsRun words holds kept left left' sent (endings.Unhandled class site)
+  pub line : WasGiven said (unhandled_line (class_text ended.runs.whole.names ended.runs.whole.program class) site) said'
+
+-- Arena full: it ends for want of words, or the image has more than the arena; the line says how many were asked for, and how many were left
+pub record IsRunFull (words : List (List ℕ)) (holds : List ℕ → Option (List ℕ)) (kept : Option Image) (left left' : Option (List ℕ)) (sent : Sent) (said said' : Option (List ℕ)) : Type 0 where
+  pub wanted : ℕ
+  pub room : ℕ
+  pub ended : IsRun words holds kept left left' sent (endings.Full wanted room)
+  pub line : WasGiven said (arena_full_line wanted room) said'
+
+pub record IsRunTooLarge (words : List (List ℕ)) (holds : List ℕ → Option (List ℕ)) (kept : Option Image) (said said' : Option (List ℕ)) : Type 0 where
   pub command : Request
   pub asked_for : asked words ≡ Some command
   pub is_run : command.action ≡ Run
-  pub program : ProgramRows
-  pub accepted : Accepted (holds command.file) program
-  pub built : Built program kept command.arena
-  pub spends : Spends built command.steps
-  pub printed : GivenAll built command.steps sent
+  pub wanted : ℕ
+  pub room : ℕ
+  pub large : DoesNotFit (holds command.file) kept command.arena wanted room
+  pub line : WasGiven said (arena_full_line wanted room) said'
 
--- Budget: a run is spent, and the line says after how many instructions
-pub record IsBudget (words : List (List ℕ)) (holds : List ℕ → Option (List ℕ)) (kept : Option Image) (sent : Sent) (said said' : Option (List ℕ)) : Type 0 where
-  pub spent : IsSpent words holds kept sent
-  pub line : WasGiven said (budget_line spent.command.steps) said'
+-- Budget: it does not end within its instructions, and the line says how many there were
+pub record IsRunBudget (words : List (List ℕ)) (holds : List ℕ → Option (List ℕ)) (kept : Option Image) (left left' : Option (List ℕ)) (sent : Sent) (said said' : Option (List ℕ)) : Type 0 where
+  pub ended : IsRun words holds kept left left' sent endings.More
+  pub line : WasGiven said (budget_line ended.command.steps) said'
 
--- Refused: the command names a file to run that is none; the line says where its first offence stands, and which it is
-pub record IsRefused (words : List (List ℕ)) (holds : List ℕ → Option (List ℕ)) (said said' : Option (List ℕ)) : Type 0 where
-  pub command : Request
-  pub asked_for : asked words ≡ Some command
-  pub is_run : command.action ≡ Run
-  pub refusal : Refusal
-  pub declined : Declined (holds command.file) refusal
-  pub line : WasGiven said (refused_line refusal) said'
+-- Read fault: the input failed where the run wanted a byte of it
+pub record IsRunReadFault (words : List (List ℕ)) (holds : List ℕ → Option (List ℕ)) (kept : Option Image) (left left' : Option (List ℕ)) (sent : Sent) (said said' : Option (List ℕ)) : Type 0 where
+  pub ended : IsRun words holds kept left left' sent endings.ReadFault
+  pub line : WasGiven said read_fault_line said'
 
--- Write fault within a run: the output was cut off behind a prefix of what the run prints
-pub record IsCutOff (words : List (List ℕ)) (holds : List ℕ → Option (List ℕ)) (kept : Option Image) (sent : Sent) : Type 0 where
-  pub command : Request
-  pub asked_for : asked words ≡ Some command
-  pub is_run : command.action ≡ Run
-  pub program : ProgramRows
-  pub accepted : Accepted (holds command.file) program
-  pub built : Built program kept command.arena
-  pub printed : GivenPrefix built command.steps sent
+-- Write fault within a run: the output was cut off behind a beginning of what the run prints
+pub record IsRunCutOff (words : List (List ℕ)) (holds : List ℕ → Option (List ℕ)) (kept : Option Image) (left left' : Option (List ℕ)) (sent : Sent) : Type 0 where
+  pub ended : IsRun words holds kept left left' sent endings.WriteFault
+
+-- a run came to an end of which the line is still to be written
+pub record IsRunUntold (words : List (List ℕ)) (holds : List ℕ → Option (List ℕ)) (kept : Option Image) (left left' : Option (List ℕ)) (sent : Sent) : Type 0 where
+  pub end : EvaluationEnd
+  pub has_line : HasLine end
+  pub ended : IsRun words holds kept left left' sent end
 
 -- The statuses of `check`, of which no image is left
 
@@ -176,11 +216,10 @@ pub record IsChecked (words : List (List ℕ)) (holds : List ℕ → Option (Lis
   pub printed : WasGiven sent.before ok_line sent.after
   pub line : WasGiven said [] said'
 
--- Refused: the command names a file to check or to evaluate that is none; the line says where its first offence stands, and which it is
-pub record IsWholeRefused (words : List (List ℕ)) (holds : List ℕ → Option (List ℕ)) (said said' : Option (List ℕ)) : Type 0 where
+-- Refused, by any action: the command names a file that is no whole program; the line says where its first offence stands, and which it is
+pub record IsRefused (words : List (List ℕ)) (holds : List ℕ → Option (List ℕ)) (said said' : Option (List ℕ)) : Type 0 where
   pub command : Request
   pub asked_for : asked words ≡ Some command
-  pub is_whole : command.action ≢ Run
   pub refusal : Refusal
   pub offends : Offends (holds command.file) refusal
   pub line : WasGiven said (refused_line refusal) said'
@@ -214,10 +253,6 @@ pub record PlainBreaks (held : Option (List ℕ)) (levels words : ℕ) (left lef
   pub taken : IsTextTaken held text
   pub whole : IsWhole text
   pub breaks_off : BreaksOff (evaluation whole levels words) left left' sent.before sent.after
-
--- the text of the name of a class of a program with these names; empty where there is no such class
-abbrev pub class_text : List (List ℕ) → ProgramRows → ℕ → List ℕ
-class_text names program class = class_name names (slice_get program.classes class)
 
 -- the command names a file to evaluate that is a whole program, and its evaluation comes to this end
 pub record IsPlain (words : List (List ℕ)) (holds : List ℕ → Option (List ℕ)) (kept : Option Image) (left left' : Option (List ℕ)) (sent : Sent) (end : EvaluationEnd) : Type 0 where
@@ -272,16 +307,6 @@ pub record IsPlainBroken (words : List (List ℕ)) (holds : List ℕ → Option 
   pub is_plain : command.action ≡ Plain
   pub breaks : PlainBreaks (holds command.file) command.steps command.arena left left' sent
   pub unbuilt : kept ≡ None
-
--- an end that a line tells
-abbrev pub HasLine : EvaluationEnd → Type 0
-HasLine endings.Value = ⊥
-HasLine (endings.Unhandled class site) = ⊤
-HasLine (endings.Full wanted room) = ⊤
-HasLine endings.More = ⊤
-HasLine endings.Spent = ⊤
-HasLine endings.ReadFault = ⊤
-HasLine endings.WriteFault = ⊥
 
 -- an evaluation came to such an end, of which the line is still to be written
 pub record IsPlainUntold (words : List (List ℕ)) (holds : List ℕ → Option (List ℕ)) (kept : Option Image) (left left' : Option (List ℕ)) (sent : Sent) : Type 0 where
