@@ -25,6 +25,7 @@ use Rattle.mid_arena.specs.Layouts.{AreBytes}
 use Rattle.back_build.specs.Means.{HaltsWith, EndsUnhandled, IsBuilt}
 use Rattle.base.specs.Given.{WasGiven, WasGivenFront}
 use Rattle.top_main.specs.Command.{Request, asked}
+use Rattle.top_main.specs.declared.command.Action.{Action}
 use Rattle.top_main.specs.declared.command.Action.TheVariants.{Run, Check, Plain}
 use Rattle.top_main.specs.Lines.{usage_line, unhandled_line, refused_line, arena_full_line, budget_line, spent_line, read_fault_line, ok_line}
 use Rattle.top_main.specs.Loads.{IsTextTaken}
@@ -113,24 +114,48 @@ RunComes whole image arena steps left left' sent end =
     → RunEnds whole.names whole.program end steps input (the_run image arena steps input)
     × SaysAll input (the_run image arena steps input).at left left' sent
 
--- a text that was taken of the file is a whole program, its image was kept and fits the arena, and its run came to this end
-pub record Runs (held : Option (List ℕ)) (kept : Option Image) (arena steps : ℕ) (left left' : Option (List ℕ)) (sent : Sent) (end : EvaluationEnd) : Type 0 where
-  pub text : List ℕ
-  pub taken : IsTextTaken held text
-  pub whole : IsWhole text
+-- its image was kept and fits the arena, and its run came to this end
+pub record RunCame {text : List ℕ} (whole : IsWhole text) (kept : Option Image) (arena steps : ℕ) (left left' : Option (List ℕ)) (sent : Sent) (end : EvaluationEnd) : Type 0 where
   pub built : Built whole kept
   pub fits : length built.image.words ≤ arena
   pub comes : RunComes whole built.image arena steps left left' sent end
 
--- the same where the image has more words than the arena, so that nothing ran
-pub record DoesNotFit (held : Option (List ℕ)) (kept : Option Image) (arena wanted room : ℕ) : Type 0 where
+-- An evaluation of a whole program
+
+-- what is evaluated: within so many levels and words
+abbrev pub evaluation : {text : List ℕ} → IsWhole text → (levels arena : ℕ) → Evaluation
+evaluation whole levels arena = record { names = whole.names; program = whole.program; levels = levels; words = arena }
+
+-- How the program of a file came to an end: by `run` its image ran, by `plain` it was evaluated, and no image is left
+
+abbrev pub Came : Action → {text : List ℕ} → IsWhole text → (kept : Option Image) → (arena steps : ℕ) → (left left' : Option (List ℕ)) → Sent → EvaluationEnd → Type 0
+Came Run whole kept arena steps left left' sent end = RunCame whole kept arena steps left left' sent end
+Came Plain whole kept arena steps left left' sent end =
+    (kept ≡ None) × Evaluates (evaluation whole steps arena) left left' sent.before sent.after end
+Came Check whole kept arena steps left left' sent end = ⊥
+
+-- a text that was taken of the file is a whole program, which came to this end
+pub record FileEnds (a : Action) (held : Option (List ℕ)) (kept : Option Image) (arena steps : ℕ) (left left' : Option (List ℕ)) (sent : Sent) (end : EvaluationEnd) : Type 0 where
+  pub text : List ℕ
+  pub taken : IsTextTaken held text
+  pub whole : IsWhole text
+  pub came : Came a whole kept arena steps left left' sent end
+
+-- one whose image has more words than the arena, so that nothing ran
+pub record FileIsTooLarge (held : Option (List ℕ)) (kept : Option Image) (arena : ℕ) : Type 0 where
   pub text : List ℕ
   pub taken : IsTextTaken held text
   pub whole : IsWhole text
   pub built : Built whole kept
   pub large : arena < length built.image.words
-  pub wanted_is : wanted ≡ length built.image.words
-  pub room_is : room ≡ arena
+
+-- one whose evaluation broke off for want of memory
+pub record FileBreaks (held : Option (List ℕ)) (kept : Option Image) (levels words : ℕ) (left left' : Option (List ℕ)) (sent : Sent) : Type 0 where
+  pub text : List ℕ
+  pub taken : IsTextTaken held text
+  pub whole : IsWhole text
+  pub unbuilt : kept ≡ None
+  pub breaks_off : BreaksOff (evaluation whole levels words) left left' sent.before sent.after
 
 -- an end that a line tells
 abbrev pub HasLine : EvaluationEnd → Type 0
@@ -146,63 +171,74 @@ HasLine endings.WriteFault = ⊥
 abbrev pub class_text : List (List ℕ) → ProgramRows → ℕ → List ℕ
 class_text names program class = class_name names (slice_get program.classes class)
 
--- The statuses of `run`. A call has these command words, a shelf that holds these files, where it can be observed, and leaves this image; its
--- input had this left before and has that after; its output was sent this, and its error output had these bytes before and has those after it.
+-- The statuses of `run` and of `plain`. A call has these command words, a shelf that holds these files, where it can be observed, and leaves this
+-- image; its input had this left before and has that after; its output was sent this, and its error output had these bytes before and has those after
+-- it.
 
--- the command names a file to run that is a whole program, and its run comes to this end
-pub record IsRun (words : List (List ℕ)) (holds : List ℕ → Option (List ℕ)) (kept : Option Image) (left left' : Option (List ℕ)) (sent : Sent) (end : EvaluationEnd) : Type 0 where
+-- the command names a file to run or to evaluate that is a whole program, which came to this end
+pub record IsEnded (words : List (List ℕ)) (holds : List ℕ → Option (List ℕ)) (kept : Option Image) (left left' : Option (List ℕ)) (sent : Sent) (end : EvaluationEnd) : Type 0 where
   pub command : Request
   pub asked_for : asked words ≡ Some command
-  pub is_run : command.action ≡ Run
-  pub runs : Runs (holds command.file) kept command.arena command.steps left left' sent end
+  pub ends : FileEnds command.action (holds command.file) kept command.arena command.steps left left' sent end
 
--- Done: it halts with the program's value, and all that it prints was given
-pub record IsRunDone (words : List (List ℕ)) (holds : List ℕ → Option (List ℕ)) (kept : Option Image) (left left' : Option (List ℕ)) (sent : Sent) (said said' : Option (List ℕ)) : Type 0 where
-  pub ended : IsRun words holds kept left left' sent endings.Value
+-- Done: it ended with a value, and all that the program prints was given
+pub record IsDone (words : List (List ℕ)) (holds : List ℕ → Option (List ℕ)) (kept : Option Image) (left left' : Option (List ℕ)) (sent : Sent) (said said' : Option (List ℕ)) : Type 0 where
+  pub ended : IsEnded words holds kept left left' sent endings.Value
   pub line : WasGiven said [] said'
 
--- Unhandled: it ends by a condition that no handler took; the line says of which class, and where it was signalled
-pub record IsRunUnhandled (words : List (List ℕ)) (holds : List ℕ → Option (List ℕ)) (kept : Option Image) (left left' : Option (List ℕ)) (sent : Sent) (said said' : Option (List ℕ)) : Type 0 where
+-- Unhandled: it ended by a condition that no handler took; the line says of which class, and where it was signalled
+pub record IsUnhandled (words : List (List ℕ)) (holds : List ℕ → Option (List ℕ)) (kept : Option Image) (left left' : Option (List ℕ)) (sent : Sent) (said said' : Option (List ℕ)) : Type 0 where
   pub class : ℕ
   pub site : Place
-  pub ended : IsRun words holds kept left left' sent (endings.Unhandled class site)
-  pub line : WasGiven said (unhandled_line (class_text ended.runs.whole.names ended.runs.whole.program class) site) said'
+  pub ended : IsEnded words holds kept left left' sent (endings.Unhandled class site)
+  pub line : WasGiven said (unhandled_line (class_text ended.ends.whole.names ended.ends.whole.program class) site) said'
 
--- Arena full: it ends for want of words, or the image has more than the arena; the line says how many were asked for, and how many were left
-pub record IsRunFull (words : List (List ℕ)) (holds : List ℕ → Option (List ℕ)) (kept : Option Image) (left left' : Option (List ℕ)) (sent : Sent) (said said' : Option (List ℕ)) : Type 0 where
+-- Arena full: it ended for want of words; the line says how many were asked for, and how many were left
+pub record IsArenaFull (words : List (List ℕ)) (holds : List ℕ → Option (List ℕ)) (kept : Option Image) (left left' : Option (List ℕ)) (sent : Sent) (said said' : Option (List ℕ)) : Type 0 where
   pub wanted : ℕ
   pub room : ℕ
-  pub ended : IsRun words holds kept left left' sent (endings.Full wanted room)
+  pub ended : IsEnded words holds kept left left' sent (endings.Full wanted room)
   pub line : WasGiven said (arena_full_line wanted room) said'
 
-pub record IsRunTooLarge (words : List (List ℕ)) (holds : List ℕ → Option (List ℕ)) (kept : Option Image) (said said' : Option (List ℕ)) : Type 0 where
+-- or the image has more words than the arena; the line says how many each has
+pub record IsTooLarge (words : List (List ℕ)) (holds : List ℕ → Option (List ℕ)) (kept : Option Image) (said said' : Option (List ℕ)) : Type 0 where
   pub command : Request
   pub asked_for : asked words ≡ Some command
   pub is_run : command.action ≡ Run
-  pub wanted : ℕ
-  pub room : ℕ
-  pub large : DoesNotFit (holds command.file) kept command.arena wanted room
-  pub line : WasGiven said (arena_full_line wanted room) said'
+  pub large : FileIsTooLarge (holds command.file) kept command.arena
+  pub line : WasGiven said (arena_full_line (length large.built.image.words) command.arena) said'
 
--- Budget: it does not end within its instructions, and the line says how many there were
-pub record IsRunBudget (words : List (List ℕ)) (holds : List ℕ → Option (List ℕ)) (kept : Option Image) (left left' : Option (List ℕ)) (sent : Sent) (said said' : Option (List ℕ)) : Type 0 where
-  pub ended : IsRun words holds kept left left' sent endings.More
+-- Budget: a run did not end within its instructions, or an evaluation ended for want of levels; the line says how many there were
+pub record IsBudget (words : List (List ℕ)) (holds : List ℕ → Option (List ℕ)) (kept : Option Image) (left left' : Option (List ℕ)) (sent : Sent) (said said' : Option (List ℕ)) : Type 0 where
+  pub ended : IsEnded words holds kept left left' sent endings.More
   pub line : WasGiven said (budget_line ended.command.steps) said'
 
--- Read fault: the input failed where the run wanted a byte of it
-pub record IsRunReadFault (words : List (List ℕ)) (holds : List ℕ → Option (List ℕ)) (kept : Option Image) (left left' : Option (List ℕ)) (sent : Sent) (said said' : Option (List ℕ)) : Type 0 where
-  pub ended : IsRun words holds kept left left' sent endings.ReadFault
+-- or an evaluation counted more units than there are forms that may begin
+pub record IsSpent (words : List (List ℕ)) (holds : List ℕ → Option (List ℕ)) (kept : Option Image) (left left' : Option (List ℕ)) (sent : Sent) (said said' : Option (List ℕ)) : Type 0 where
+  pub ended : IsEnded words holds kept left left' sent endings.Spent
+  pub line : WasGiven said spent_line said'
+
+-- Read fault: the input failed where a byte of it was wanted
+pub record IsReadFault (words : List (List ℕ)) (holds : List ℕ → Option (List ℕ)) (kept : Option Image) (left left' : Option (List ℕ)) (sent : Sent) (said said' : Option (List ℕ)) : Type 0 where
+  pub ended : IsEnded words holds kept left left' sent endings.ReadFault
   pub line : WasGiven said read_fault_line said'
 
--- Write fault within a run: the output was cut off behind a beginning of what the run prints
-pub record IsRunCutOff (words : List (List ℕ)) (holds : List ℕ → Option (List ℕ)) (kept : Option Image) (left left' : Option (List ℕ)) (sent : Sent) : Type 0 where
-  pub ended : IsRun words holds kept left left' sent endings.WriteFault
+-- Write fault on the way: the output was cut off behind a beginning of what the program prints
+pub record IsCutOff (words : List (List ℕ)) (holds : List ℕ → Option (List ℕ)) (kept : Option Image) (left left' : Option (List ℕ)) (sent : Sent) : Type 0 where
+  pub ended : IsEnded words holds kept left left' sent endings.WriteFault
 
--- a run came to an end of which the line is still to be written
-pub record IsRunUntold (words : List (List ℕ)) (holds : List ℕ → Option (List ℕ)) (kept : Option Image) (left left' : Option (List ℕ)) (sent : Sent) : Type 0 where
+-- No memory: an evaluation broke off, or the class could not be named; the output was given a beginning of what the program prints
+pub record IsBroken (words : List (List ℕ)) (holds : List ℕ → Option (List ℕ)) (kept : Option Image) (left left' : Option (List ℕ)) (sent : Sent) : Type 0 where
+  pub command : Request
+  pub asked_for : asked words ≡ Some command
+  pub is_plain : command.action ≡ Plain
+  pub breaks : FileBreaks (holds command.file) kept command.steps command.arena left left' sent
+
+-- a run or an evaluation came to an end of which the line is still to be written
+pub record IsUntold (words : List (List ℕ)) (holds : List ℕ → Option (List ℕ)) (kept : Option Image) (left left' : Option (List ℕ)) (sent : Sent) : Type 0 where
   pub end : EvaluationEnd
   pub has_line : HasLine end
-  pub ended : IsRun words holds kept left left' sent end
+  pub ended : IsEnded words holds kept left left' sent end
 
 -- The statuses of `check`, of which no image is left
 
@@ -232,87 +268,6 @@ pub record IsCheckedCutOff (words : List (List ℕ)) (holds : List ℕ → Optio
   pub passes : Passes (holds command.file)
   pub unbuilt : kept ≡ None
   pub printed : WasGivenFront sent.before ok_line sent.after
-
--- The statuses of `plain`, of which no image is left. A call has an input that has this left before and after, where it can be observed
-
--- what is evaluated of a whole program: within so many levels and words
-abbrev pub evaluation : {text : List ℕ} → IsWhole text → (levels arena : ℕ) → Evaluation
-evaluation whole levels arena = record { names = whole.names; program = whole.program; levels = levels; words = arena }
-
--- a text that was taken of the file is a whole program, and it was evaluated so: what was read of the input, and what the output was given, is that of
--- the program's meaning, and so is the end
-pub record PlainRuns (held : Option (List ℕ)) (levels words : ℕ) (left left' : Option (List ℕ)) (sent : Sent) (end : EvaluationEnd) : Type 0 where
-  pub text : List ℕ
-  pub taken : IsTextTaken held text
-  pub whole : IsWhole text
-  pub evaluates : Evaluates (evaluation whole levels words) left left' sent.before sent.after end
-
--- the same where it broke off for want of memory
-pub record PlainBreaks (held : Option (List ℕ)) (levels words : ℕ) (left left' : Option (List ℕ)) (sent : Sent) : Type 0 where
-  pub text : List ℕ
-  pub taken : IsTextTaken held text
-  pub whole : IsWhole text
-  pub breaks_off : BreaksOff (evaluation whole levels words) left left' sent.before sent.after
-
--- the command names a file to evaluate that is a whole program, and its evaluation comes to this end
-pub record IsPlain (words : List (List ℕ)) (holds : List ℕ → Option (List ℕ)) (kept : Option Image) (left left' : Option (List ℕ)) (sent : Sent) (end : EvaluationEnd) : Type 0 where
-  pub command : Request
-  pub asked_for : asked words ≡ Some command
-  pub is_plain : command.action ≡ Plain
-  pub runs : PlainRuns (holds command.file) command.steps command.arena left left' sent end
-  pub unbuilt : kept ≡ None
-
--- Done: it ends with a value, and all that the program prints was given
-pub record IsPlainDone (words : List (List ℕ)) (holds : List ℕ → Option (List ℕ)) (kept : Option Image) (left left' : Option (List ℕ)) (sent : Sent) (said said' : Option (List ℕ)) : Type 0 where
-  pub ended : IsPlain words holds kept left left' sent endings.Value
-  pub line : WasGiven said [] said'
-
--- Unhandled: it ends by a condition that no handler took; the line says of which class, and where it was signalled
-pub record IsUnhandled (words : List (List ℕ)) (holds : List ℕ → Option (List ℕ)) (kept : Option Image) (left left' : Option (List ℕ)) (sent : Sent) (said said' : Option (List ℕ)) : Type 0 where
-  pub class : ℕ
-  pub site : Place
-  pub ended : IsPlain words holds kept left left' sent (endings.Unhandled class site)
-  pub line : WasGiven said (unhandled_line (class_text ended.runs.whole.names ended.runs.whole.program class) site) said'
-
--- Arena full: it ends for want of words; the line says how many were asked for, and how many were left
-pub record IsArenaFull (words : List (List ℕ)) (holds : List ℕ → Option (List ℕ)) (kept : Option Image) (left left' : Option (List ℕ)) (sent : Sent) (said said' : Option (List ℕ)) : Type 0 where
-  pub wanted : ℕ
-  pub room : ℕ
-  pub ended : IsPlain words holds kept left left' sent (endings.Full wanted room)
-  pub line : WasGiven said (arena_full_line wanted room) said'
-
--- Budget: it ends for want of levels, and the line says how many there were
-pub record IsPlainBudget (words : List (List ℕ)) (holds : List ℕ → Option (List ℕ)) (kept : Option Image) (left left' : Option (List ℕ)) (sent : Sent) (said said' : Option (List ℕ)) : Type 0 where
-  pub ended : IsPlain words holds kept left left' sent endings.More
-  pub line : WasGiven said (budget_line ended.command.steps) said'
-
--- or it counts more units than there are forms that may begin
-pub record IsPlainSpent (words : List (List ℕ)) (holds : List ℕ → Option (List ℕ)) (kept : Option Image) (left left' : Option (List ℕ)) (sent : Sent) (said said' : Option (List ℕ)) : Type 0 where
-  pub ended : IsPlain words holds kept left left' sent endings.Spent
-  pub line : WasGiven said spent_line said'
-
--- Read fault: the input failed before its end, and the program takes all that was read, whatever follows
-pub record IsReadFault (words : List (List ℕ)) (holds : List ℕ → Option (List ℕ)) (kept : Option Image) (left left' : Option (List ℕ)) (sent : Sent) (said said' : Option (List ℕ)) : Type 0 where
-  pub ended : IsPlain words holds kept left left' sent endings.ReadFault
-  pub line : WasGiven said read_fault_line said'
-
--- Write fault within an evaluation: the output was cut off behind a beginning of what the program prints
-pub record IsPlainCutOff (words : List (List ℕ)) (holds : List ℕ → Option (List ℕ)) (kept : Option Image) (left left' : Option (List ℕ)) (sent : Sent) : Type 0 where
-  pub ended : IsPlain words holds kept left left' sent endings.WriteFault
-
--- No memory: an evaluation broke off, or the class could not be named; the output was given a beginning of what the program prints
-pub record IsPlainBroken (words : List (List ℕ)) (holds : List ℕ → Option (List ℕ)) (kept : Option Image) (left left' : Option (List ℕ)) (sent : Sent) : Type 0 where
-  pub command : Request
-  pub asked_for : asked words ≡ Some command
-  pub is_plain : command.action ≡ Plain
-  pub breaks : PlainBreaks (holds command.file) command.steps command.arena left left' sent
-  pub unbuilt : kept ≡ None
-
--- an evaluation came to such an end, of which the line is still to be written
-pub record IsPlainUntold (words : List (List ℕ)) (holds : List ℕ → Option (List ℕ)) (kept : Option Image) (left left' : Option (List ℕ)) (sent : Sent) : Type 0 where
-  pub end : EvaluationEnd
-  pub has_line : HasLine end
-  pub ended : IsPlain words holds kept left left' sent end
 
 -- The status of words alone
 
