@@ -24,56 +24,16 @@ abbrev pub answer_of_stop : Stop → CommandAnswer
 answer_of_stop (stop.Refused r) = answer.Refused r
 answer_of_stop stop.NoMemory = answer.NoMemory
 
--- the image that is kept is the program's, its run halts, and all that it prints was given
-pub record RunHalts (program : ProgramRows) (kept : Option Image) (arena steps : ℕ) (sent : Sent) : Type 0 where
-  pub built : Built program kept arena
-  pub halts : Halts built steps
-  pub printed : GivenAll built steps sent
-
--- the same with a run that does not end within so many instructions
-pub record RunSpends (program : ProgramRows) (kept : Option Image) (arena steps : ℕ) (sent : Sent) : Type 0 where
-  pub built : Built program kept arena
-  pub spends : Spends built steps
-  pub printed : GivenAll built steps sent
-
--- the same with a run whose output was cut off
-pub record RunIsCutOff (program : ProgramRows) (kept : Option Image) (arena steps : ℕ) (sent : Sent) : Type 0 where
-  pub built : Built program kept arena
-  pub printed : GivenPrefix built steps sent
-
--- the answer of a program's run: where the output rose in faults, and where it is the same
-abbrev pub RunAnswers : CommandAnswer → ProgramRows → Option Image → (arena steps : ℕ) → Sent → (Rises Same : Type 0) → Type 0
-RunAnswers answer.Done program kept arena steps sent Rises Same = RunHalts program kept arena steps sent
-RunAnswers (answer.Budget n) program kept arena steps sent Rises Same = (n ≡ steps) × RunSpends program kept arena steps sent
-RunAnswers answer.WriteFault program kept arena steps sent Rises Same = Rises × RunIsCutOff program kept arena steps sent
-RunAnswers answer.NoMemory program kept arena steps sent Rises Same = Same × (kept ≡ None)
-RunAnswers answer.Usage program kept arena steps sent Rises Same = ⊥
-RunAnswers (answer.Refused r) program kept arena steps sent Rises Same = ⊥
-RunAnswers answer.FileFault program kept arena steps sent Rises Same = ⊥
-RunAnswers (answer.Unhandled class site) program kept arena steps sent Rises Same = ⊥
-RunAnswers (answer.ArenaFull wanted room) program kept arena steps sent Rises Same = ⊥
-RunAnswers answer.Spent program kept arena steps sent Rises Same = ⊥
-RunAnswers answer.ReadFault program kept arena steps sent Rises Same = ⊥
-
--- the file's text is a program, and that stands of its run
-abbrev pub RunOf : Option (List ℕ) → (ProgramRows → Type 0) → Type 0
-RunOf held Stands = (program : ProgramRows) × (Accepted held program × Stands program)
-
--- the answer for a file to run: where the shelf or the output rose in faults, and where the output is the same
-abbrev pub RunFileAnswers : CommandAnswer → Option (List ℕ) → Option Image → (arena steps : ℕ) → Sent → (ShelfRises Rises Same : Type 0) → Type 0
-RunFileAnswers answer.Done held kept arena steps sent ShelfRises Rises Same = RunOf held (λ program. RunHalts program kept arena steps sent)
-RunFileAnswers (answer.Budget n) held kept arena steps sent ShelfRises Rises Same =
-    (n ≡ steps) × RunOf held (λ program. RunSpends program kept arena steps sent)
-RunFileAnswers (answer.Refused r) held kept arena steps sent ShelfRises Rises Same = Declined held r × Same × (kept ≡ None)
-RunFileAnswers answer.FileFault held kept arena steps sent ShelfRises Rises Same = ShelfRises × Same × (kept ≡ None)
-RunFileAnswers answer.WriteFault held kept arena steps sent ShelfRises Rises Same =
-    Rises × RunOf held (λ program. RunIsCutOff program kept arena steps sent)
-RunFileAnswers answer.NoMemory held kept arena steps sent ShelfRises Rises Same = Same
-RunFileAnswers answer.Usage held kept arena steps sent ShelfRises Rises Same = ⊥
-RunFileAnswers (answer.Unhandled class site) held kept arena steps sent ShelfRises Rises Same = ⊥
-RunFileAnswers (answer.ArenaFull wanted room) held kept arena steps sent ShelfRises Rises Same = ⊥
-RunFileAnswers answer.Spent held kept arena steps sent ShelfRises Rises Same = ⊥
-RunFileAnswers answer.ReadFault held kept arena steps sent ShelfRises Rises Same = ⊥
+-- the answer of a program that came to an end: with these names, within so many levels or instructions; to name a class takes memory
+abbrev pub EndAnswers : CommandAnswer → EvaluationEnd → List (List ℕ) → ProgramRows → (steps : ℕ) → Type 0
+EndAnswers a endings.Value names program steps = a ≡ answer.Done
+EndAnswers a (endings.Unhandled class site) names program steps =
+    (a ≡ answer.Unhandled (class_text names program class) site) ⊎ (a ≡ answer.NoMemory)
+EndAnswers a (endings.Full wanted room) names program steps = a ≡ answer.ArenaFull wanted room
+EndAnswers a endings.More names program steps = a ≡ answer.Budget steps
+EndAnswers a endings.Spent names program steps = a ≡ answer.Spent
+EndAnswers a endings.ReadFault names program steps = a ≡ answer.ReadFault
+EndAnswers a endings.WriteFault names program steps = a ≡ answer.WriteFault
 
 -- the answer for what is checked: where it passes, which refusals it has, what an output was given before and after, where the shelf
 -- or the output rose in faults, and where the output is the same
@@ -89,17 +49,6 @@ CheckAnswers (answer.Unhandled class site) Good Bad given given' ShelfRises Rise
 CheckAnswers (answer.ArenaFull wanted room) Good Bad given given' ShelfRises Rises Same = ⊥
 CheckAnswers answer.Spent Good Bad given given' ShelfRises Rises Same = ⊥
 CheckAnswers answer.ReadFault Good Bad given given' ShelfRises Rises Same = ⊥
-
--- the answer of an evaluation that came to this end: of a program with these names, within so many levels; to name a class takes memory
-abbrev pub EndAnswers : CommandAnswer → EvaluationEnd → List (List ℕ) → ProgramRows → (levels : ℕ) → Type 0
-EndAnswers a endings.Value names program levels = a ≡ answer.Done
-EndAnswers a (endings.Unhandled class site) names program levels =
-    (a ≡ answer.Unhandled (class_text names program class) site) ⊎ (a ≡ answer.NoMemory)
-EndAnswers a (endings.Full wanted room) names program levels = a ≡ answer.ArenaFull wanted room
-EndAnswers a endings.More names program levels = a ≡ answer.Budget levels
-EndAnswers a endings.Spent names program levels = a ≡ answer.Spent
-EndAnswers a endings.ReadFault names program levels = a ≡ answer.ReadFault
-EndAnswers a endings.WriteFault names program levels = a ≡ answer.WriteFault
 
 -- the answer for what is evaluated within so many levels: where it comes to an end, or to a condition whose class has a name, at a site; where it
 -- breaks off, which refusals it has, where the shelf, the source or the output rose in faults, and where the outside is the same

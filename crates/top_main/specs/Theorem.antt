@@ -106,19 +106,19 @@ pub record RunIsCut (image : Image) (arena steps : ℕ) (left left' : Option (Li
       → ((the_run image arena turns input).ending ≡ Budget) × SaysAll input (the_run image arena turns input).at left left' sent
 
 -- what stands where a run came to this end
-abbrev pub RunComes : {text : List ℕ} → IsWhole text → Image → (arena steps : ℕ) → (left left' : Option (List ℕ)) → Sent → EvaluationEnd → Type 0
-RunComes whole image arena steps left left' sent endings.ReadFault = RunIsCut image arena steps left left' sent
-RunComes whole image arena steps left left' sent endings.WriteFault = RunIsCut image arena steps left left' sent
-RunComes whole image arena steps left left' sent end =
+abbrev pub RunComes : (names : List (List ℕ)) (program : ProgramRows) → Image → (arena steps : ℕ) → (left left' : Option (List ℕ)) → Sent → EvaluationEnd → Type 0
+RunComes names program image arena steps left left' sent endings.ReadFault = RunIsCut image arena steps left left' sent
+RunComes names program image arena steps left left' sent endings.WriteFault = RunIsCut image arena steps left left' sent
+RunComes names program image arena steps left left' sent end =
     (input : List ℕ) → AreBytes input → Feeds left input (the_run image arena steps input)
-    → RunEnds whole.names whole.program end steps input (the_run image arena steps input)
+    → RunEnds names program end steps input (the_run image arena steps input)
     × SaysAll input (the_run image arena steps input).at left left' sent
 
 -- its image was kept and fits the arena, and its run came to this end
 pub record RunCame {text : List ℕ} (whole : IsWhole text) (kept : Option Image) (arena steps : ℕ) (left left' : Option (List ℕ)) (sent : Sent) (end : EvaluationEnd) : Type 0 where
   pub built : Built whole kept
   pub fits : length built.image.words ≤ arena
-  pub comes : RunComes whole built.image arena steps left left' sent end
+  pub comes : RunComes whole.names whole.program built.image arena steps left left' sent end
 
 -- An evaluation of a whole program
 
