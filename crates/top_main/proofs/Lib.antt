@@ -3,6 +3,6 @@ pub mod Digits
 pub mod Decimals
 pub mod Ran
 pub mod Checks
-pub mod Plains
+pub mod Ended
 pub mod Ends
 pub mod CommandLine

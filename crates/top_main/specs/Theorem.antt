@@ -9,6 +9,7 @@ use Rattle.base.specs.declared.place.Place.{Place}
 use Rattle.base.specs.declared.reason.Refusal.{Refusal}
 use Rattle.rv_machine.specs.declared.image.Image.{Image}
 use Rattle.rv_machine.specs.declared.ending.Ending.TheVariants.{Budget, Full}
+use Rattle.rv_machine.specs.Step.{environment_call, step_of}
 use Rattle.rv_machine.specs.Run.{Moment, Ended, run_of, Gave, Feeds}
 use Rattle.front_files.specs.declared.mode.Mode.TheVariants as mode
 use Rattle.front_files.specs.Verdicts.{Accepts as AcceptsWhole, Refuses as RefusesWhole}
@@ -19,7 +20,6 @@ use Rattle.lang_meaning.specs.Meaning.{meaning}
 use Rattle.lang_meaning.specs.Primitives.{class_name}
 use Rattle.lang_meaning.specs.declared.evaluation.EvaluationEnd.{EvaluationEnd}
 use Rattle.lang_meaning.specs.declared.evaluation.EvaluationEnd.TheVariants as endings
-use Rattle.lang_meaning.specs.Evaluation.{Evaluation}
 use Rattle.lang_meaning.specs.Evaluates.{Evaluates, BreaksOff}
 use Rattle.mid_arena.specs.Layouts.{AreBytes}
 use Rattle.back_build.specs.Means.{HaltsWith, EndsUnhandled, IsBuilt}
@@ -69,19 +69,24 @@ sent_to before writes_before after writes_after = record {
   writes_after = writes_after;
 }
 
--- An image and a program
+-- A program and its image
 
--- the image that was kept is that of a whole program: in every arena that has room for it, and with every input, it does what the program means
-pub record Built {text : List ℕ} (whole : IsWhole text) (kept : Option Image) : Type 0 where
+-- the image that was kept is that of the program: in every arena that has room for it, and with every input of bytes, it does what the program means
+pub record Built (names : List (List ℕ)) (program : ProgramRows) (kept : Option Image) : Type 0 where
   pub image : Image
   pub is_kept : kept ≡ Some image
-  pub built : IsBuilt whole.names whole.program image
+  pub built : IsBuilt names program image
+
+-- it has more words than the arena, so that nothing runs
+pub record IsLarge (names : List (List ℕ)) (program : ProgramRows) (kept : Option Image) (arena : ℕ) : Type 0 where
+  pub built : Built names program kept
+  pub large : arena < length built.image.words
 
 -- its run in an arena of so many words, for so many instructions
 abbrev pub the_run : Image → (arena steps : ℕ) → List ℕ → Ended
 the_run image arena steps input = run_of image.words image.entry arena input steps
 
--- an output that is observed was given all these bytes, each by a write of its own, and an input that told this tells what is left
+-- an output that is observed was given all that was printed, each byte by a write of its own, and an input that told this tells what is left
 pub record SaysAll (input : List ℕ) (m : Moment) (left left' : Option (List ℕ)) (sent : Sent) : Type 0 where
   pub given : IfSome sent.after (λ after. Gave sent.before sent.writes_before m.printed after sent.writes_after)
   pub rest : left ≡ Some input → left' ≡ Some m.input
@@ -90,72 +95,66 @@ pub record SaysAll (input : List ℕ) (m : Moment) (left left' : Option (List �
 abbrev pub RunEnds : (names : List (List ℕ)) (program : ProgramRows) → EvaluationEnd → (steps : ℕ) → List ℕ → Ended → Type 0
 RunEnds names program endings.Value steps input x = HaltsWith names program (meaning names program input steps unlimited) x
 RunEnds names program (endings.Unhandled class site) steps input x =
-    (u : EndsUnhandled names program (meaning names program input steps unlimited) x) × (u.class ≡ class) × (u.place ≡ site)
-RunEnds names program (endings.Full asked left) steps input x = x.ending ≡ Full asked left
+    (u : EndsUnhandled names program (meaning names program input steps unlimited) x) × ((u.class ≡ class) × (u.place ≡ site))
+RunEnds names program (endings.Full wanted room) steps input x = x.ending ≡ Full wanted room
 RunEnds names program endings.More steps input x = x.ending ≡ Budget
 RunEnds names program endings.Spent steps input x = ⊥
 RunEnds names program endings.ReadFault steps input x = ⊥
 RunEnds names program endings.WriteFault steps input x = ⊥
 
--- a run that a fault has cut off: fewer instructions had been executed by then, and what these printed was given
-pub record RunIsCut (image : Image) (arena steps : ℕ) (left left' : Option (List ℕ)) (sent : Sent) : Type 0 where
+-- a run that a fault has cut off before this environment call: fewer instructions had been executed by then, and what these printed was given
+pub record RunIsCut (call : ℕ) (image : Image) (arena steps : ℕ) (left left' : Option (List ℕ)) (sent : Sent) : Type 0 where
   pub turns : ℕ
   pub below : turns < steps
   pub stood :
       (input : List ℕ) → AreBytes input → Feeds left input (the_run image arena turns input)
-      → ((the_run image arena turns input).ending ≡ Budget) × SaysAll input (the_run image arena turns input).at left left' sent
+      → ((the_run image arena turns input).ending ≡ Budget)
+      × ((step_of (the_run image arena turns input).at.state ≡ environment_call call)
+      × SaysAll input (the_run image arena turns input).at left left' sent)
 
--- what stands where a run came to this end
+-- what stands where a run came to this end: at a fault it was to get a byte, call 2, or to put one, call 1
 abbrev pub RunComes : (names : List (List ℕ)) (program : ProgramRows) → Image → (arena steps : ℕ) → (left left' : Option (List ℕ)) → Sent → EvaluationEnd → Type 0
-RunComes names program image arena steps left left' sent endings.ReadFault = RunIsCut image arena steps left left' sent
-RunComes names program image arena steps left left' sent endings.WriteFault = RunIsCut image arena steps left left' sent
+RunComes names program image arena steps left left' sent endings.ReadFault = RunIsCut 2 image arena steps left left' sent
+RunComes names program image arena steps left left' sent endings.WriteFault = RunIsCut 1 image arena steps left left' sent
 RunComes names program image arena steps left left' sent end =
     (input : List ℕ) → AreBytes input → Feeds left input (the_run image arena steps input)
     → RunEnds names program end steps input (the_run image arena steps input)
     × SaysAll input (the_run image arena steps input).at left left' sent
 
 -- its image was kept and fits the arena, and its run came to this end
-pub record RunCame {text : List ℕ} (whole : IsWhole text) (kept : Option Image) (arena steps : ℕ) (left left' : Option (List ℕ)) (sent : Sent) (end : EvaluationEnd) : Type 0 where
-  pub built : Built whole kept
+pub record RunCame (names : List (List ℕ)) (program : ProgramRows) (kept : Option Image) (arena steps : ℕ) (left left' : Option (List ℕ)) (sent : Sent) (end : EvaluationEnd) : Type 0 where
+  pub built : Built names program kept
   pub fits : length built.image.words ≤ arena
-  pub comes : RunComes whole.names whole.program built.image arena steps left left' sent end
+  pub comes : RunComes names program built.image arena steps left left' sent end
 
--- An evaluation of a whole program
-
--- what is evaluated: within so many levels and words
-abbrev pub evaluation : {text : List ℕ} → IsWhole text → (levels arena : ℕ) → Evaluation
-evaluation whole levels arena = record { names = whole.names; program = whole.program; levels = levels; words = arena }
-
--- How the program of a file came to an end: by `run` its image ran, by `plain` it was evaluated, and no image is left
-
-abbrev pub Came : Action → {text : List ℕ} → IsWhole text → (kept : Option Image) → (arena steps : ℕ) → (left left' : Option (List ℕ)) → Sent → EvaluationEnd → Type 0
-Came Run whole kept arena steps left left' sent end = RunCame whole kept arena steps left left' sent end
-Came Plain whole kept arena steps left left' sent end =
-    (kept ≡ None) × Evaluates (evaluation whole steps arena) left left' sent.before sent.after end
-Came Check whole kept arena steps left left' sent end = ⊥
+-- How a program came to an end: by `run` its image ran; by `plain` it was evaluated, and no image is kept
+abbrev pub Came : Action → (names : List (List ℕ)) (program : ProgramRows) → (kept : Option Image) → (arena steps : ℕ) → (left left' : Option (List ℕ)) → Sent → EvaluationEnd → Type 0
+Came Run names program kept arena steps left left' sent end = RunCame names program kept arena steps left left' sent end
+Came Plain names program kept arena steps left left' sent end =
+    (kept ≡ None) × Evaluates (record { names = names; program = program; levels = steps; words = arena }) left left' sent.before sent.after end
+Came Check names program kept arena steps left left' sent end = ⊥
 
 -- a text that was taken of the file is a whole program, which came to this end
-pub record FileEnds (a : Action) (held : Option (List ℕ)) (kept : Option Image) (arena steps : ℕ) (left left' : Option (List ℕ)) (sent : Sent) (end : EvaluationEnd) : Type 0 where
+pub record FileEnds (action : Action) (held : Option (List ℕ)) (kept : Option Image) (arena steps : ℕ) (left left' : Option (List ℕ)) (sent : Sent) (end : EvaluationEnd) : Type 0 where
   pub text : List ℕ
   pub taken : IsTextTaken held text
   pub whole : IsWhole text
-  pub came : Came a whole kept arena steps left left' sent end
+  pub came : Came action whole.names whole.program kept arena steps left left' sent end
 
--- one whose image has more words than the arena, so that nothing ran
-pub record FileIsTooLarge (held : Option (List ℕ)) (kept : Option Image) (arena : ℕ) : Type 0 where
+-- one whose image has more words than the arena
+pub record FileIsLarge (held : Option (List ℕ)) (kept : Option Image) (arena : ℕ) : Type 0 where
   pub text : List ℕ
   pub taken : IsTextTaken held text
   pub whole : IsWhole text
-  pub built : Built whole kept
-  pub large : arena < length built.image.words
+  pub is_large : IsLarge whole.names whole.program kept arena
 
 -- one whose evaluation broke off for want of memory
-pub record FileBreaks (held : Option (List ℕ)) (kept : Option Image) (levels words : ℕ) (left left' : Option (List ℕ)) (sent : Sent) : Type 0 where
+pub record FileBreaks (held : Option (List ℕ)) (kept : Option Image) (arena levels : ℕ) (left left' : Option (List ℕ)) (sent : Sent) : Type 0 where
   pub text : List ℕ
   pub taken : IsTextTaken held text
   pub whole : IsWhole text
   pub unbuilt : kept ≡ None
-  pub breaks_off : BreaksOff (evaluation whole levels words) left left' sent.before sent.after
+  pub breaks_off : BreaksOff (record { names = whole.names; program = whole.program; levels = levels; words = arena }) left left' sent.before sent.after
 
 -- an end that a line tells
 abbrev pub HasLine : EvaluationEnd → Type 0
@@ -205,8 +204,8 @@ pub record IsTooLarge (words : List (List ℕ)) (holds : List ℕ → Option (Li
   pub command : Request
   pub asked_for : asked words ≡ Some command
   pub is_run : command.action ≡ Run
-  pub large : FileIsTooLarge (holds command.file) kept command.arena
-  pub line : WasGiven said (arena_full_line (length large.built.image.words) command.arena) said'
+  pub large : FileIsLarge (holds command.file) kept command.arena
+  pub line : WasGiven said (arena_full_line (length large.is_large.built.image.words) command.arena) said'
 
 -- Budget: a run did not end within its instructions, or an evaluation ended for want of levels; the line says how many there were
 pub record IsBudget (words : List (List ℕ)) (holds : List ℕ → Option (List ℕ)) (kept : Option Image) (left left' : Option (List ℕ)) (sent : Sent) (said said' : Option (List ℕ)) : Type 0 where
@@ -227,12 +226,18 @@ pub record IsReadFault (words : List (List ℕ)) (holds : List ℕ → Option (L
 pub record IsCutOff (words : List (List ℕ)) (holds : List ℕ → Option (List ℕ)) (kept : Option Image) (left left' : Option (List ℕ)) (sent : Sent) : Type 0 where
   pub ended : IsEnded words holds kept left left' sent endings.WriteFault
 
--- No memory: an evaluation broke off, or the class could not be named; the output was given a beginning of what the program prints
+-- No memory: it ended by a condition whose class could not be named
+pub record IsUnnamed (words : List (List ℕ)) (holds : List ℕ → Option (List ℕ)) (kept : Option Image) (left left' : Option (List ℕ)) (sent : Sent) : Type 0 where
+  pub class : ℕ
+  pub site : Place
+  pub ended : IsEnded words holds kept left left' sent (endings.Unhandled class site)
+
+-- or an evaluation broke off, and the output was given a beginning of what the program prints
 pub record IsBroken (words : List (List ℕ)) (holds : List ℕ → Option (List ℕ)) (kept : Option Image) (left left' : Option (List ℕ)) (sent : Sent) : Type 0 where
   pub command : Request
   pub asked_for : asked words ≡ Some command
   pub is_plain : command.action ≡ Plain
-  pub breaks : FileBreaks (holds command.file) kept command.steps command.arena left left' sent
+  pub breaks : FileBreaks (holds command.file) kept command.arena command.steps left left' sent
 
 -- a run or an evaluation came to an end of which the line is still to be written
 pub record IsUntold (words : List (List ℕ)) (holds : List ℕ → Option (List ℕ)) (kept : Option Image) (left left' : Option (List ℕ)) (sent : Sent) : Type 0 where
