@@ -3,6 +3,6 @@ pub mod Digits
 pub mod Decimals
 pub mod Ran
 pub mod Checks
-pub mod Ended
+pub mod Outcomes
 pub mod Ends
 pub mod CommandLine

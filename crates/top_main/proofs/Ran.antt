@@ -11,7 +11,6 @@ use Rattle.rv_machine.specs.State.{State, Counted, start}
 use Rattle.rv_machine.specs.Step.{environment_call, step_of}
 use Rattle.rv_machine.specs.Run.{Moment, Ended, run_from, first, Feeds, Outside, IsNoFault, StandsAt, CutOff}
 use Rattle.lang_meaning.specs.declared.program.ProgramRows.{ProgramRows}
-use Rattle.lang_meaning.specs.Evaluates.{Tells}
 use Rattle.lang_meaning.specs.Meaning.{Meant, meaning, place_of_site}
 use Rattle.lang_meaning.specs.State.{no_place, unlimited}
 use Rattle.mid_arena.specs.Layouts.{AreBytes}
@@ -20,7 +19,7 @@ use Rattle.top_main.specs.Answers.{site_told, end_told}
 use Rattle.top_main.specs.Theorem.{sent_to, the_run, SaysAll, RunIsCut, RunComes}
 
 -- what the machine says of a run of n instructions of an image in an arena
-pub record Ran (image : Image) (arena steps : ℕ) (ending : Ending) (old new : Counted) (o o' : Outside) : Type 0 where
+pub record Ran (image : Image) (arena steps : ℕ) (ending : Ending) (old new : Counted) (o o' : Outside) : Type 1 where
   pub began : old.state ≡ start image.words image.entry arena
   pub is_ending : IsNoFault ending → (input : List ℕ) → Feeds o.left input (run_from steps (first old.state input)) → ending ≡ (run_from steps (first old.state input)).ending
   pub stands : IsNoFault ending → (input : List ℕ) → Feeds o.left input (run_from steps (first old.state input)) → StandsAt (run_from steps (first old.state input)).at input old new o o'
@@ -124,13 +123,3 @@ module _ (names : List (List ℕ)) (program : ProgramRows) (image : Image) (aren
       absurd (no_trap names program (meaning names program input steps unlimited) (the_run image arena steps input) kind address f.is_ending f.ways)
   comes ReadFault r = cut 2 image arena steps old new o o' r.ReadOther r.began (r.read_fault refl)
   comes WriteFault r = cut 1 image arena steps old new o o' r.WriteOther r.began (r.write_fault refl)
-
--- a fault that is told rose
-pub rose : (sites : List Place) (number : ℕ) (ending : Ending) (SourceRises SinkRises : Type 0) → (ending ≡ ReadFault → SourceRises) → (ending ≡ WriteFault → SinkRises) → Tells (end_told sites number ending) SourceRises SinkRises
-rose sites number ReadFault SourceRises SinkRises r w = r refl
-rose sites number WriteFault SourceRises SinkRises r w = w refl
-rose sites number (Halt word) SourceRises SinkRises r w = tt
-rose sites number (Unhandled class) SourceRises SinkRises r w = tt
-rose sites number (Full wanted room) SourceRises SinkRises r w = tt
-rose sites number Budget SourceRises SinkRises r w = tt
-rose sites number (Trap kind address) SourceRises SinkRises r w = tt

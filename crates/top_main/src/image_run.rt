@@ -3,6 +3,7 @@
 ghost use Rattle.std.specs.Prelude.{◌≡◌, ◌≤◌, ◌<◌, length, slice_index, IfOk, OnErr};
 ghost use Rattle.base.specs.Outside.{Rose};
 ghost use Rattle.lang_meaning.specs.Evaluates.{Tells};
+ghost use Rattle.lang_meaning.specs.Meaning.{place_of_site};
 ghost use Rattle.rv_machine.specs.State.{start};
 ghost use Rattle.back_build.specs.Means.{IsBuilt};
 ghost use Rattle.top_main.specs.Theorem.{RunComes, sent_to};
@@ -11,7 +12,7 @@ ghost use Rattle.top_main.specs.Answers.{end_told, site_told};
 use crate::run::Bounds;
 use base::{NoMemory, Place, Sink, Source};
 use front_files::Whole;
-use lang_meaning::EvaluationEnd;
+use lang_meaning::{EvaluationEnd, SiteId};
 use rv_machine::{Ending, Image, Machine};
 use std::alloc::Global;
 
@@ -68,7 +69,7 @@ fn end_of(whole: &Whole, machine: &Machine, ending: Ending) -> EvaluationEnd
         Ending::Halt(_) => EvaluationEnd::Value,
         Ending::Unhandled(class) => EvaluationEnd::Unhandled {
             class: class as usize,
-            site: place_of(whole, machine.register(SITE_REGISTER)),
+            site: place_told(whole, machine.register(SITE_REGISTER)),
         },
         Ending::Full { asked, left } => EvaluationEnd::Full {
             asked: asked as u64,
@@ -80,14 +81,21 @@ fn end_of(whole: &Whole, machine: &Machine, ending: Ending) -> EvaluationEnd
     }
 }
 
-// The place of the site with that number; 0:0 of number 0, and where there is no such site.
-fn place_of(whole: &Whole, number: u32) -> Place
+// The place of the site with that number; 0:0 of number 0.
+fn place_told(whole: &Whole, number: u32) -> Place
     ensures { result ≡ site_told whole.now.program.sites number }
 {
     if number == 0 {
         return Place { line: 0, column: 0 };
     }
-    match whole.program.rows().sites.get(number as usize - 1) {
+    place_of(whole, number as usize)
+}
+
+// The place of a site; 0:0 where there is no such site.
+fn place_of(whole: &Whole, site: SiteId) -> Place
+    ensures { result ≡ place_of_site whole.now.program.sites site }
+{
+    match whole.program.rows().sites.get(site.saturating_sub(1)) {
         Some(place) => *place,
         None => Place { line: 0, column: 0 },
     }
