@@ -1,5 +1,5 @@
 -- From the end of a run or of an evaluation to the answer for the program, and for its file.
-use Rattle.std.proofs.Common.{◌≡◌, ℕ, ◌<◌, List, length, refl, sym, subst, ◌⊎◌, inl, inr, Some, None}
+use Rattle.std.proofs.Common.{◌≡◌, ℕ, ◌<◌, ◌≤◌, List, length, refl, sym, subst, ◌⊎◌, inl, inr, Some, None}
 use Rattle.std.specs.Prelude.{Option}
 use Rattle.base.specs.declared.place.Place.{Place}
 use Rattle.base.specs.declared.reason.Stop.{Stop}
@@ -86,13 +86,13 @@ of_large names program image wanted arena steps left left' sent SourceRises Rise
       same,
     )
 
--- the stop of a text that is no program
-pub of_stop : (s : Stop) (action : Action) (held : Option (List ℕ)) (text : List ℕ) (arena steps : ℕ) (left left' : Option (List ℕ)) (sent : Sent) (ShelfRises SourceRises Rises Same : Type 0)
-    → IsTextTaken held text → IsNoProgram library text mode.Run s → Same
-    → FileAnswers (answer_of_stop s) action held None arena steps left left' sent ShelfRises SourceRises Rises Same
-of_stop (stop.Refused r) action held text arena steps left left' sent ShelfRises SourceRises Rises Same taken refuses same =
-    (record { text = text; taken = taken; refuses = refuses }, (same, refl))
-of_stop stop.NoMemory action held text arena steps left left' sent ShelfRises SourceRises Rises Same taken refuses same = inl same
+-- the stop of a text that is no program, where no image is kept
+pub of_stop : (s : Stop) (action : Action) (held : Option (List ℕ)) (text : List ℕ) (kept : Option Image) (arena steps : ℕ) (left left' : Option (List ℕ)) (sent : Sent) (ShelfRises SourceRises Rises Same : Type 0)
+    → IsTextTaken held text → IsNoProgram library text mode.Run s → Same → kept ≡ None
+    → FileAnswers (answer_of_stop s) action held kept arena steps left left' sent ShelfRises SourceRises Rises Same
+of_stop (stop.Refused r) action held text kept arena steps left left' sent ShelfRises SourceRises Rises Same taken refuses same none =
+    (record { text = text; taken = taken; refuses = refuses }, (same, none))
+of_stop stop.NoMemory action held text kept arena steps left left' sent ShelfRises SourceRises Rises Same taken refuses same none = inl same
 
 -- the text that is a whole program was taken of the file
 module _ (action : Action) (held : Option (List ℕ)) (text : List ℕ) (whole : IsWhole text) (kept : Option Image) (arena steps : ℕ) (left left' : Option (List ℕ)) (sent : Sent) (ShelfRises SourceRises Rises Same : Type 0) (taken : IsTextTaken held text) where
@@ -102,7 +102,7 @@ module _ (action : Action) (held : Option (List ℕ)) (text : List ℕ) (whole :
   abbrev OfFile : CommandAnswer → Type 0
   OfFile a = FileAnswers a action held kept arena steps left left' sent ShelfRises SourceRises Rises Same
 
-  ends : (end : EvaluationEnd) → Came action whole.names whole.program kept arena steps left left' sent end → FileEnds action held kept arena steps left left' sent end
+  abbrev ends : (end : EvaluationEnd) → Came action whole.names whole.program kept arena steps left left' sent end → FileEnds action held kept arena steps left left' sent end
   ends end h = record { text = text; taken = taken; whole = whole; came = h }
 
   pub of_program : (a : CommandAnswer) → OfProgram a → OfFile a
