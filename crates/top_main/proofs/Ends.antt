@@ -76,7 +76,7 @@ heard v a (was_asked c is (was_plain p k h)) =
 abbrev EndedSo : View → EvaluationEnd → Type 0
 EndedSo v end = IsEnded v.words v.holds v.kept v.left v.left' v.sent end
 
-ended : (v : View) (c : Request) (end : EvaluationEnd) → asked v.words ≡ Some c → FileEnds c.action (v.holds c.file) v.kept c.arena c.steps v.left v.left' v.sent end → EndedSo v end
+abbrev ended : (v : View) (c : Request) (end : EvaluationEnd) → asked v.words ≡ Some c → FileEnds c.action (v.holds c.file) v.kept c.arena c.steps v.left v.left' v.sent end → EndedSo v end
 ended v c end is h = record { command = c; asked_for = is; ends = h }
 
 -- want of memory: nothing was touched, or a class could not be named, or an evaluation broke off
