@@ -13,7 +13,7 @@ use Rattle.rv_machine.specs.declared.image.Image.{Image}
 use Rattle.lang_meaning.specs.declared.evaluation.EvaluationEnd.{EvaluationEnd}
 use Rattle.lang_meaning.specs.declared.evaluation.EvaluationEnd.TheVariants as endings
 use Rattle.top_main.specs.Command.{Request, asked}
-use Rattle.top_main.specs.Answers.{CheckAnswers, FileAnswers, Obeys, was_run, was_check, was_plain, WordsAnswers, was_usage, was_untold, was_asked}
+use Rattle.top_main.specs.Answers.{CheckAnswers, FileAnswers, was_run, was_check, was_plain, WordsAnswers, was_usage, was_untold, was_asked}
 use Rattle.top_main.specs.Lines.{line_of, status_of, unhandled_line, budget_line, refused_line, arena_full_line, spent_line, file_fault_line, read_fault_line, no_memory_line}
 use Rattle.base.specs.Given.{WasGiven}
 use Rattle.top_main.specs.Theorem.{Sent, Passes, Offends, FileEnds, HasLine, IsEnded, IsUsage, IsDone, IsChecked, IsUnhandled, IsArenaFull, IsTooLarge, IsBudget, IsSpent, IsRefused, IsReadFault, IsCutOff, IsCheckedCutOff, IsUnnamed, IsBroken, IsUntold}

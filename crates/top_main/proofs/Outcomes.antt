@@ -1,7 +1,6 @@
 -- From the end of a run or of an evaluation to the answer for the program, and for its file.
-use Rattle.std.proofs.Common.{◌≡◌, ℕ, ◌<◌, ◌≤◌, List, length, refl, sym, subst, ◌⊎◌, inl, inr, Some, None}
+use Rattle.std.proofs.Common.{◌≡◌, ℕ, ◌<◌, ◌≤◌, List, length, refl, sym, subst, inl, inr, Some, None}
 use Rattle.std.specs.Prelude.{Option}
-use Rattle.base.specs.declared.place.Place.{Place}
 use Rattle.base.specs.declared.reason.Stop.{Stop}
 use Rattle.base.specs.declared.reason.Stop.TheVariants as stop
 use Rattle.rv_machine.specs.declared.image.Image.{Image}
