@@ -1,11 +1,7 @@
 -- From the end of a run or of an evaluation to the answer for the program, and for its file.
 use Rattle.std.proofs.Common.{◌≡◌, ℕ, ◌<◌, ◌≤◌, List, length, refl, sym, subst, inl, inr, Some, None}
 use Rattle.std.specs.Prelude.{Option}
-use Rattle.base.specs.declared.reason.Stop.{Stop}
-use Rattle.base.specs.declared.reason.Stop.TheVariants as stop
 use Rattle.rv_machine.specs.declared.image.Image.{Image}
-use Rattle.front_files.specs.declared.mode.Mode.TheVariants as mode
-use Rattle.front_files.specs.Verdicts.{IsNoProgram}
 use Rattle.lang_meaning.specs.declared.program.ProgramRows.{ProgramRows}
 use Rattle.lang_meaning.specs.declared.evaluation.EvaluationEnd.{EvaluationEnd}
 use Rattle.lang_meaning.specs.declared.evaluation.EvaluationEnd.TheVariants as endings
@@ -15,9 +11,9 @@ use Rattle.top_main.specs.declared.command.Action.{Action}
 use Rattle.top_main.specs.declared.command.Action.TheVariants.{Run, Plain}
 use Rattle.top_main.specs.declared.status.CommandAnswer.{CommandAnswer}
 use Rattle.top_main.specs.declared.status.CommandAnswer.TheVariants as answer
-use Rattle.top_main.specs.Answers.{answer_of_stop, EndAnswers, ProgramAnswers, FileAnswers}
+use Rattle.top_main.specs.Answers.{EndAnswers, ProgramAnswers, FileAnswers}
 use Rattle.top_main.specs.Loads.{IsTextTaken}
-use Rattle.top_main.specs.Theorem.{Sent, IsWhole, Came, library, RunComes, FileEnds}
+use Rattle.top_main.specs.Theorem.{Sent, IsWhole, Came, RunComes, FileEnds}
 
 -- the answer of an end is that of the program that came to it
 pub of_end : (a : CommandAnswer) (end : EvaluationEnd) (action : Action) (names : List (List ℕ)) (program : ProgramRows) (kept : Option Image) (arena steps : ℕ) (left left' : Option (List ℕ)) (sent : Sent) (SourceRises Rises Same : Type 0)
@@ -84,14 +80,6 @@ of_large names program image wanted arena steps left left' sent SourceRises Rise
       },
       same,
     )
-
--- the stop of a text that is no program, where no image is kept
-pub of_stop : (s : Stop) (action : Action) (held : Option (List ℕ)) (text : List ℕ) (kept : Option Image) (arena steps : ℕ) (left left' : Option (List ℕ)) (sent : Sent) (ShelfRises SourceRises Rises Same : Type 0)
-    → IsTextTaken held text → IsNoProgram library text mode.Run s → Same → kept ≡ None
-    → FileAnswers (answer_of_stop s) action held kept arena steps left left' sent ShelfRises SourceRises Rises Same
-of_stop (stop.Refused r) action held text kept arena steps left left' sent ShelfRises SourceRises Rises Same taken refuses same none =
-    (record { text = text; taken = taken; refuses = refuses }, (same, none))
-of_stop stop.NoMemory action held text kept arena steps left left' sent ShelfRises SourceRises Rises Same taken refuses same none = inl same
 
 -- the text that is a whole program was taken of the file
 module _ (action : Action) (held : Option (List ℕ)) (text : List ℕ) (whole : IsWhole text) (kept : Option Image) (arena steps : ℕ) (left left' : Option (List ℕ)) (sent : Sent) (ShelfRises SourceRises Rises Same : Type 0) (taken : IsTextTaken held text) where
