@@ -6,11 +6,11 @@ use Rattle.lang_meaning.specs.declared.program.ProgramRows.{ProgramRows}
 use Rattle.lang_meaning.specs.declared.evaluation.EvaluationEnd.{EvaluationEnd}
 use Rattle.lang_meaning.specs.declared.evaluation.EvaluationEnd.TheVariants as endings
 use Rattle.lang_meaning.specs.Evaluates.{Evaluates, BreaksOff, Tells}
-use Rattle.back_build.specs.Means.{IsBuilt}
 use Rattle.top_main.specs.declared.command.Action.{Action}
 use Rattle.top_main.specs.declared.command.Action.TheVariants.{Run, Plain}
 use Rattle.top_main.specs.declared.status.CommandAnswer.{CommandAnswer}
 use Rattle.top_main.specs.declared.status.CommandAnswer.TheVariants as answer
+use Rattle.top_main.specs.Images.{IsImageOf}
 use Rattle.top_main.specs.Answers.{EndAnswers, ProgramAnswers, FileAnswers}
 use Rattle.top_main.specs.Loads.{IsTextTaken}
 use Rattle.top_main.specs.Theorem.{Sent, IsWhole, Came, RunComes, FileEnds}
@@ -57,24 +57,24 @@ of_break names program levels levels' words words' left left' sent SourceRises R
     let same : E levels words = subst (λ n. E n words) l (subst (λ m. E levels' m) w h) in
     inr (inr (record { is_plain = refl; unbuilt = refl; breaks_off = same }))
 
--- of a run of an image that was built
+-- of a run of its image
 pub of_run : (a : CommandAnswer) (end : EvaluationEnd) (names : List (List ℕ)) (program : ProgramRows) (image : Image) (arena steps : ℕ) (left left' : Option (List ℕ)) (sent : Sent) (SourceRises Rises Same : Type 0)
-    → IsBuilt names program image → length image.words ≤ arena → RunComes names program image arena steps left left' sent end
+    → IsImageOf names program image → length image.words ≤ arena → RunComes names program image arena steps left left' sent end
     → Tells end SourceRises Rises → EndAnswers a end names program steps
     → ProgramAnswers a Run names program (Some image) arena steps left left' sent SourceRises Rises Same
-of_run a end names program image arena steps left left' sent SourceRises Rises Same built fits h t is =
+of_run a end names program image arena steps left left' sent SourceRises Rises Same is_image fits h t is =
     of_end a end Run names program (Some image) arena steps left left' sent SourceRises Rises Same
-    (record { built = record { image = image; is_kept = refl; built = built }; fits = fits; comes = h }) t is
+    (record { built = record { image = image; is_kept = refl; is_image = is_image }; fits = fits; comes = h }) t is
 
 -- of an image that is larger than the arena
 pub of_large : (names : List (List ℕ)) (program : ProgramRows) (image : Image) (wanted arena steps : ℕ) (left left' : Option (List ℕ)) (sent : Sent) (SourceRises Rises Same : Type 0)
-    → IsBuilt names program image → wanted ≡ length image.words → arena < wanted → Same
+    → IsImageOf names program image → wanted ≡ length image.words → arena < wanted → Same
     → ProgramAnswers (answer.ArenaFull wanted arena) Run names program (Some image) arena steps left left' sent SourceRises Rises Same
-of_large names program image wanted arena steps left left' sent SourceRises Rises Same built wanted_is large same =
+of_large names program image wanted arena steps left left' sent SourceRises Rises Same is_image wanted_is large same =
     inr (
       record {
         is_run = refl;
-        is_large = record { built = record { image = image; is_kept = refl; built = built }; large = subst (λ n. arena < n) wanted_is large };
+        is_large = record { built = record { image = image; is_kept = refl; is_image = is_image }; large = subst (λ n. arena < n) wanted_is large };
         wanted_is = wanted_is;
         room_is = refl;
       },

@@ -13,8 +13,7 @@ use Rattle.rv_machine.specs.Run.{Moment, Ended, run_from, first, Feeds, Outside,
 use Rattle.lang_meaning.specs.declared.program.ProgramRows.{ProgramRows}
 use Rattle.lang_meaning.specs.Meaning.{Meant, meaning, place_of_site}
 use Rattle.lang_meaning.specs.State.{no_place, unlimited}
-use Rattle.mid_arena.specs.Layouts.{AreBytes}
-use Rattle.back_build.specs.Means.{HaltsWith, EndsUnhandled, EndsFull, IsBuilt}
+use Rattle.top_main.specs.Images.{AreBytes, Halts, Signals, HasNoRoom, IsImageOf}
 use Rattle.top_main.specs.Answers.{site_told, end_told}
 use Rattle.top_main.specs.Theorem.{sent_to, the_run, SaysAll, RunIsCut, RunComes}
 
@@ -52,19 +51,19 @@ cut call image arena steps old new o o' Other began c = record {
 }
 
 -- how a run ends by what the program means: it goes on, or as the program does, or for want of room
-module _ (names : List (List ℕ)) (program : ProgramRows) (m : Meant) (x : Ended) where
+module _ (program : ProgramRows) (m : Meant) (x : Ended) where
   abbrev Ways : Type 0
-  Ways = (x.ending ≡ Budget) ⊎ HaltsWith names program m x ⊎ EndsUnhandled names program m x ⊎ EndsFull names program x
+  Ways = (x.ending ≡ Budget) ⊎ Halts m x ⊎ Signals program m x ⊎ HasNoRoom x
 
   -- so it halts as the program does
-  halts : (word : ℕ) → Halt word ≡ x.ending → Ways → HaltsWith names program m x
+  halts : (word : ℕ) → Halt word ≡ x.ending → Ways → Halts m x
   halts word e (inl b) = let is : Halt word ≡ Budget = e ∙ b in absurd (cc)
   halts word e (inr (inl h)) = h
   halts word e (inr (inr (inl u))) = let is : Halt word ≡ Unhandled u.class = e ∙ u.ending in absurd (cc)
   halts word e (inr (inr (inr f))) = let is : Halt word ≡ Full f.asked f.left = e ∙ f.ending in absurd (cc)
 
   -- or with its condition
-  signals : (class : ℕ) → Unhandled class ≡ x.ending → Ways → (u : EndsUnhandled names program m x) × (u.class ≡ class)
+  signals : (class : ℕ) → Unhandled class ≡ x.ending → Ways → (u : Signals program m x) × (u.class ≡ class)
   signals class e (inl b) = let is : Unhandled class ≡ Budget = e ∙ b in absurd (cc)
   signals class e (inr (inl h)) = let is : Unhandled class ≡ Halt h.word = e ∙ h.ending in absurd (cc)
   signals class e (inr (inr (inl u))) = let is : Unhandled class ≡ Unhandled u.class = e ∙ u.ending in (u, cc)
@@ -78,14 +77,14 @@ module _ (names : List (List ℕ)) (program : ProgramRows) (m : Meant) (x : Ende
   no_trap kind address e (inr (inr (inr f))) = let is : Trap kind address ≡ Full f.asked f.left = e ∙ f.ending in absurd (cc)
 
 -- an image that was built, in a machine at its start
-module _ (names : List (List ℕ)) (program : ProgramRows) (image : Image) (arena steps : ℕ) (built : IsBuilt names program image) (fits : length image.words ≤ arena) (most : arena ≤ 16777216) (below : steps < 4294967296) (old new : Counted) (o o' : Outside) where
+module _ (names : List (List ℕ)) (program : ProgramRows) (image : Image) (arena steps : ℕ) (is_image : IsImageOf names program image) (fits : length image.words ≤ arena) (most : arena ≤ 16777216) (below : steps < 4294967296) (old new : Counted) (o o' : Outside) where
   abbrev Says : List ℕ → Type 0
   Says input = SaysAll input (the_run image arena steps input).at o.left o'.left (sent_to o.given o.writes o'.given o'.writes)
 
   -- what an input that feeds the run tells of it: how it ended, what it printed and left, and where the machine stands
   record Fed (ending : Ending) (input : List ℕ) : Type 0 where
     is_ending : ending ≡ (the_run image arena steps input).ending
-    ways : Ways names program (meaning names program input steps unlimited) (the_run image arena steps input)
+    ways : Ways program (meaning names program input steps unlimited) (the_run image arena steps input)
     says : Says input
     state : new.state ≡ (the_run image arena steps input).at.state
 
@@ -95,7 +94,7 @@ module _ (names : List (List ℕ)) (program : ProgramRows) (image : Image) (aren
       let stands = r.stands plain input there in
       record {
         is_ending = subst (λ (s : State). ending ≡ (run_from steps (first s input)).ending) r.began (r.is_ending plain input there);
-        ways = (built arena input fits most bytes).ends steps below;
+        ways = (is_image arena input fits most bytes).ends steps below;
         says = subst (λ (s : State). SaysAll input (run_from steps (first s input)).at o.left o'.left (sent_to o.given o.writes o'.given o'.writes)) r.began (record { given = stands.given; rest = stands.left });
         state = subst (λ (s : State). new.state ≡ (run_from steps (first s input)).at.state) r.began stands.state;
       }
@@ -105,11 +104,11 @@ module _ (names : List (List ℕ)) (program : ProgramRows) (image : Image) (aren
       → RunComes names program image arena steps o.left o'.left (sent_to o.given o.writes o'.given o'.writes) (end_told program.sites (slice_index new.state.registers 11) ending)
   comes (Halt word) r = λ input bytes feeds.
       let f = fed (Halt word) r tt input bytes feeds in
-      (halts names program (meaning names program input steps unlimited) (the_run image arena steps input) word f.is_ending f.ways, f.says)
+      (halts program (meaning names program input steps unlimited) (the_run image arena steps input) word f.is_ending f.ways, f.says)
   comes (Unhandled class) r = λ input bytes feeds.
       let x : Ended = the_run image arena steps input in
       let f = fed (Unhandled class) r tt input bytes feeds in
-      let u = signals names program (meaning names program input steps unlimited) x class f.is_ending f.ways in
+      let u = signals program (meaning names program input steps unlimited) x class f.is_ending f.ways in
       let site = told program.sites (slice_index x.at.state.registers 11) u.0.place u.0.site_is in
       ((u.0, (u.1, subst (λ (s : State). u.0.place ≡ site_told program.sites (slice_index s.registers 11)) (sym f.state) site)), f.says)
   comes (Full wanted room) r = λ input bytes feeds.
@@ -120,6 +119,6 @@ module _ (names : List (List ℕ)) (program : ProgramRows) (image : Image) (aren
       (sym f.is_ending, f.says)
   comes (Trap kind address) r = λ input bytes feeds.
       let f = fed (Trap kind address) r tt input bytes feeds in
-      absurd (no_trap names program (meaning names program input steps unlimited) (the_run image arena steps input) kind address f.is_ending f.ways)
+      absurd (no_trap program (meaning names program input steps unlimited) (the_run image arena steps input) kind address f.is_ending f.ways)
   comes ReadFault r = cut 2 image arena steps old new o o' r.ReadOther r.began (r.read_fault refl)
   comes WriteFault r = cut 1 image arena steps old new o o' r.WriteOther r.began (r.write_fault refl)

@@ -2,8 +2,7 @@
 --
 -- It names the words of the command (`Command`), the verdict on a text (`front_files`) behind the library (`front_library`), the meaning of a
 -- program and what an evaluation reads and prints and how it ends by it (`lang_meaning`), the machine and its runs (`rv_machine`), what the image
--- of a program does by its meaning (`Means` of `back_build`), and the lines of statuses (`Lines`), and nothing of how code is made or a program is
--- evaluated.
+-- of a program does by its meaning (`Images`), and the lines of statuses (`Lines`), and nothing of how code is made or a program is evaluated.
 use Rattle.std.specs.Prelude.{◌≡◌, ⊤, ℕ, ◌<◌, ◌≤◌, List, [], length, slice_get, Option, Some, None, IfSome}
 use Rattle.base.specs.declared.place.Place.{Place}
 use Rattle.base.specs.declared.reason.Refusal.{Refusal}
@@ -21,10 +20,9 @@ use Rattle.lang_meaning.specs.Primitives.{class_name}
 use Rattle.lang_meaning.specs.declared.evaluation.EvaluationEnd.{EvaluationEnd}
 use Rattle.lang_meaning.specs.declared.evaluation.EvaluationEnd.TheVariants as endings
 use Rattle.lang_meaning.specs.Evaluates.{Evaluates, BreaksOff}
-use Rattle.mid_arena.specs.Layouts.{AreBytes}
-use Rattle.back_build.specs.Means.{HaltsWith, EndsUnhandled, IsBuilt}
 use Rattle.base.specs.Given.{WasGiven, WasGivenFront}
 use Rattle.top_main.specs.Command.{Request, asked}
+use Rattle.top_main.specs.Images.{AreBytes, Halts, Signals, IsImageOf}
 use Rattle.top_main.specs.declared.command.Action.{Action}
 use Rattle.top_main.specs.declared.command.Action.TheVariants.{Run, Check, Plain}
 use Rattle.top_main.specs.Lines.{usage_line, unhandled_line, refused_line, arena_full_line, budget_line, spent_line, read_fault_line, ok_line}
@@ -75,7 +73,7 @@ sent_to before writes_before after writes_after = record {
 pub record Built (names : List (List ℕ)) (program : ProgramRows) (kept : Option Image) : Type 0 where
   pub image : Image
   pub is_kept : kept ≡ Some image
-  pub built : IsBuilt names program image
+  pub is_image : IsImageOf names program image
 
 -- it has more words than the arena, so that nothing runs
 pub record IsLarge (names : List (List ℕ)) (program : ProgramRows) (kept : Option Image) (arena : ℕ) : Type 0 where
@@ -93,9 +91,9 @@ pub record SaysAll (input : List ℕ) (m : Moment) (left left' : Option (List �
 
 -- how a run has ended, beside what the program means with as many levels and with no limit of words
 abbrev pub RunEnds : (names : List (List ℕ)) (program : ProgramRows) → EvaluationEnd → (steps : ℕ) → List ℕ → Ended → Type 0
-RunEnds names program endings.Value steps input x = HaltsWith names program (meaning names program input steps unlimited) x
+RunEnds names program endings.Value steps input x = Halts (meaning names program input steps unlimited) x
 RunEnds names program (endings.Unhandled class site) steps input x =
-    (u : EndsUnhandled names program (meaning names program input steps unlimited) x) × ((u.class ≡ class) × (u.place ≡ site))
+    (u : Signals program (meaning names program input steps unlimited) x) × ((u.class ≡ class) × (u.place ≡ site))
 RunEnds names program (endings.Full wanted room) steps input x = x.ending ≡ Full wanted room
 RunEnds names program endings.More steps input x = x.ending ≡ Budget
 RunEnds names program endings.Spent steps input x = ⊥

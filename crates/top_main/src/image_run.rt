@@ -5,7 +5,7 @@ ghost use Rattle.base.specs.Outside.{Rose};
 ghost use Rattle.lang_meaning.specs.Evaluates.{Tells};
 ghost use Rattle.lang_meaning.specs.Meaning.{place_of_site};
 ghost use Rattle.rv_machine.specs.State.{start};
-ghost use Rattle.back_build.specs.Means.{IsBuilt};
+ghost use Rattle.top_main.specs.Images.{IsImageOf};
 ghost use Rattle.top_main.specs.Theorem.{RunComes, sent_to};
 ghost use Rattle.top_main.specs.Answers.{end_told, site_told};
 
@@ -29,7 +29,7 @@ pub(crate) fn run_image<S: Source, O: Sink>(
     input: &mut S,
     out: &mut O,
 ) -> Result<EvaluationEnd, NoMemory>
-    requires built { IsBuilt whole.now.names whole.now.program image.now }
+    requires is_image { IsImageOf whole.now.names whole.now.program image.now }
     requires fits { length image.now.words ≤ bounds.arena }
     requires most { bounds.arena ≤ 16777216 }
     ensures comes { IfOk result (RunComes whole.now.names whole.now.program image.now bounds.arena bounds.steps

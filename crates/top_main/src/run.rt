@@ -2,7 +2,7 @@
 
 ghost use Rattle.std.specs.Prelude.{◌≡◌, ◌≤◌, Some, None};
 ghost use Rattle.base.specs.Outside.{Rose};
-ghost use Rattle.back_build.specs.Means.{IsBuilt};
+ghost use Rattle.top_main.specs.Images.{IsImageOf};
 ghost use Rattle.top_main.specs.Theorem.{sent_to};
 ghost use Rattle.top_main.specs.Answers.{ProgramAnswers, FileAnswers};
 ghost use Rattle.top_main.specs.declared.command.Action.TheVariants.{Run as ToRun};
@@ -97,7 +97,7 @@ fn run_built<S: Source, O: Sink>(
     out: &mut O,
 ) -> CommandAnswer
     requires most { bounds.arena ≤ 16777216 }
-    requires built { IsBuilt whole.now.names whole.now.program image.now }
+    requires is_image { IsImageOf whole.now.names whole.now.program image.now }
     ensures { ProgramAnswers result ToRun whole.now.names whole.now.program (Some image.now) bounds.arena bounds.steps
         (S.left input.old) (S.left input.new)
         (sent_to (O.given out.old) (O.writes out.old) (O.given out.new) (O.writes out.new))

@@ -27,4 +27,4 @@ returns-clause-comes g c =
     subst
     (RunComes c.args.whole.now.names c.args.whole.now.program c.args.image.now c.args.bounds.arena c.args.bounds.steps left left' (sent_to given writes given' writes'))
     (sym c.end_of-end.ensures)
-    (comes c.args.whole.now.names c.args.whole.now.program c.args.image.now c.args.bounds.arena c.args.bounds.steps c.requires.built c.requires.fits c.requires.most below c.in_ok-machine.machine c.run-ending.new.self (outside left given writes) (outside left' given' writes') c.run-ending.result ran)
+    (comes c.args.whole.now.names c.args.whole.now.program c.args.image.now c.args.bounds.arena c.args.bounds.steps c.requires.is_image c.requires.fits c.requires.most below c.in_ok-machine.machine c.run-ending.new.self (outside left given writes) (outside left' given' writes') c.run-ending.result ran)
