@@ -14,7 +14,12 @@ use std::alloc::Global;
 
 /// The answer of a program that came to this end, within so many instructions or levels; to name the class of a condition takes
 /// memory.
-pub(crate) fn answer_of(alloc: Global, whole: &Whole, steps: u32, end: EvaluationEnd) -> CommandAnswer
+pub(crate) fn answer_of(
+    alloc: Global,
+    whole: &Whole,
+    steps: u32,
+    end: EvaluationEnd,
+) -> CommandAnswer
     ensures { EndAnswers result end whole.now.names whole.now.program steps }
 {
     match end {
