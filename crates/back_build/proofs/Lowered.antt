@@ -1,6 +1,6 @@
 -- A program that was lowered, as a setting: with any limit of words and any number of turns it is laid, as its runs ask.
-use Rattle.std.proofs.Common.{inl, inr, ◌≡◌, ◌⊎◌, ⊤, ℕ, ◌+◌, ◌-◌, ◌*◌, ◌/◌, ◌^◌, ◌<◌, ◌≤◌, List, [], ◌∷◌, ◌++◌, length, refl, sym, ap, subst, ◌∙◌, arith, Some, None, Option}
-use Rattle.std.specs.Prelude.{Bool, true, false, map, slice_get, slice_index, if◌then◌else◌}
+use Rattle.std.proofs.Common.{◌≡◌, ℕ, zero, suc, ◌+◌, ◌-◌, ◌*◌, ◌/◌, ◌^◌, ◌<◌, List, [], ◌∷◌, ◌++◌, length, refl, subst, arith, Some, None, Option}
+use Rattle.std.specs.Prelude.{Bool, true, false, map, replicate, slice_get, slice_index, if◌then◌else◌}
 use Rattle.base.specs.Names.{IsTable}
 use Rattle.lang_meaning.specs.declared.program.ProgramRows.{ProgramRows}
 use Rattle.lang_meaning.specs.Facts.{is_whole}
@@ -41,11 +41,11 @@ laid_low ws first low address w e =
     (λ h. low_word ws.words (address / 4) w low (subst (λ (n : ℕ). word_in (slice_get (front n) (address / 4)) ≡ Some w) first h)) e
   where
     front : ℕ → List (Option ℕ)
-    front n = Rattle.std.specs.Prelude.replicate {A = Option ℕ} (n / 4) None ++ map (λ v. Some v) ws.words
+    front n = replicate {A = Option ℕ} (n / 4) None ++ map (λ v. Some v) ws.words
 
 module _ (names : List (List ℕ)) (program : ProgramRows) (l : LoweredProgram) (is : IsLoweredProgram names (flat_program program) l)
     (leads : ProgramLeads (flat_program program)) (used : List MidProcedure) (frames : FramesWithin l.procedures used) where
-  pub abbrev setting_of : Limit → (turns : ℕ) → Setting
+  abbrev pub setting_of : Limit → (turns : ℕ) → Setting
   setting_of limit turns = record {
     names = names;
     program = flat_program program;
