@@ -57,6 +57,13 @@ line_there [] entry p h = absurd (cc h)
 line_there (q ∷ ps) zero p h = let same : q ≡ p = cc h in ap (λ z. Some (procedure_lines z)) same
 line_there (q ∷ ps) (suc n) p h = line_there ps n p h
 
+-- the last one of so many
+last_one : (count last : ℕ) → count ≡ last + 1 → (count - 1 ≡ last) × (last < count)
+last_one count last e = (omega arith, omega arith)
+
+within : (a b c : ℕ) → a ≤ b → b ≤ c → a ≤ c
+within a b c h k = omega arith
+
 -- the laws that this rests on
 pub record Laws : Type 0 where
   pub compiled : LawOfCompiled
@@ -95,7 +102,7 @@ module _ (laws : Laws) (names : List (List ℕ)) (program : ProgramRows) (l : Lo
       ∙ lowered_long names l.words.placement (flat_program program) (ap (λ p. p.procedures) low.words.placement) (ap (λ p. p.lambdas) low.words.placement)
 
   entry_is : length l.procedures - 1 ≡ entry_of names (flat_program program) l
-  entry_is = let e = long in omega (arith, e)
+  entry_is = (last_one (length l.procedures) (entry_of names (flat_program program) l) long).0
 
   abbrev entry : ℕ
   entry = entry_of names (flat_program program) l
@@ -105,18 +112,16 @@ module _ (laws : Laws) (names : List (List ℕ)) (program : ProgramRows) (l : Lo
     means =
         let d = laws.placed_laid_out code is.made.chosen is.made.places is.made.low in
         let g = d.good in
-        let e = long in
-        let p = entry_there l.procedures entry (omega (arith, e)) in
+        let p = entry_there l.procedures entry (last_one (length l.procedures) entry long).1 in
         let starts : HasStart lines decided (emitted_start code) entry image.words =
         subst (λ ws. HasStart lines decided (emitted_start code) entry ws) (sym (is.made.words ∙ ap (λ n. emitted code is.made.chosen n) entry_is))
         (laws.images lines (placed_decided code is.made.chosen) d.known entry (record { lines = g.lines; entries = g.entries; placed = g.placed; sources = g.sources; targets = g.targets; behind = g.behind; frames = g.frames })
         is.made.low is.made.laid) in
-        let front = front_within lines (placed_decided code is.made.chosen) in
-        let whole_image = starts.whole in
+        let front = within (length l.words.data.arena.words) decided.code_to (length image.words) (front_within lines (placed_decided code is.made.chosen)) starts.whole in
         let first = laws.first_of_image code (length l.procedures - 1) arena image input is.checked is.made fits small (bytes_small input bytes) in
         subst (λ at. ImageMeans names program image.words at arena input) (sym is.made.starts)
         (laws.compiled names program l l.procedures compiled decided d.known d.good (emitted_start code) image.words arena input
-        (procedure_lines p.0) starts (line_there l.procedures entry p.0 p.1) (omega (arith, front, whole_image)) fits small first bytes)
+        (procedure_lines p.0) starts (line_there l.procedures entry p.0 p.1) front fits small first bytes)
 
 pub built_law : Laws → LawOfBuilt
 built_law laws names program l image whole table asked boxes low is arena input fits small bytes =

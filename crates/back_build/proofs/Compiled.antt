@@ -28,7 +28,7 @@ use Rattle.back_build.specs.Built.{code_with, entry_of}
 use Rattle.back_build.specs.Laws.{LawOfWholeMeaning}
 use Rattle.back_build.specs.Means.{Holds, ImageMeans}
 use Rattle.back_build.specs.Compiled.{IsCompiled, LawOfCompiled}
-use Rattle.back_build.proofs.Lowered.{setting_of, is_laid}
+use Rattle.back_build.proofs.Lowered.{setting_of, starts_with, is_laid}
 use Rattle.back_build.proofs.First.{begins_with, room_for}
 
 -- the laws that this rests on
@@ -59,14 +59,12 @@ module _ (laws : Laws) (names : List (List ℕ)) (program : ProgramRows) (l : Lo
 
     begins_free : (turns : ℕ) → ProgramBegins (setting unlimited turns) input world y
     begins_free turns =
-        let laid = is_laid names program l is.lowered leads used is.frames is.whole is.boxes is.table is.asked is.low unlimited turns in
-        laws.beginnings (setting unlimited turns) l.words.data laid.starts is.table (laws.whole_programs program is.whole).0 input y bytes
+        laws.beginnings (setting unlimited turns) l.words.data (starts_with names program l is.lowered leads used is.frames unlimited turns) is.table (laws.whole_programs program is.whole).0 input y bytes
         (begins_with l.words.data.arena image arena input is.lowered.words.start.first front room small) refl tt
 
     begins_in : (charge turns : ℕ) → Holds arena image charge → ProgramBegins (setting (words charge) turns) input world y
     begins_in charge turns holds =
-        let laid = is_laid names program l is.lowered leads used is.frames is.whole is.boxes is.table is.asked is.low (words charge) turns in
-        laws.beginnings (setting (words charge) turns) l.words.data laid.starts is.table (laws.whole_programs program is.whole).0 input y bytes
+        laws.beginnings (setting (words charge) turns) l.words.data (starts_with names program l is.lowered leads used is.frames (words charge) turns) is.table (laws.whole_programs program is.whole).0 input y bytes
         (begins_with l.words.data.arena image arena input is.lowered.words.start.first front room small) refl
         (room_for l.words.data.arena image arena input is.lowered.words.start.first front room small charge (at_start (setting (words charge) turns) input).state holds)
 

@@ -43,6 +43,10 @@ laid_low ws first low address w e =
     front : ℕ → List (Option ℕ)
     front n = replicate {A = Option ℕ} (n / 4) None ++ map (λ v. Some v) ws.words
 
+-- words that end where all do, begin at a word
+aligned_end : (at words first all : ℕ) → at + 4 * words ≡ first + 4 * all → first ≡ 0 → (n : ℕ) × (at ≡ 4 * n)
+aligned_end at words first all e none = (all - words, omega arith)
+
 module _ (names : List (List ℕ)) (program : ProgramRows) (l : LoweredProgram) (is : IsLoweredProgram names (flat_program program) l)
     (leads : ProgramLeads (flat_program program)) (used : List MidProcedure) (frames : FramesWithin l.procedures used) where
   abbrev pub setting_of : Limit → (turns : ℕ) → Setting
@@ -60,6 +64,13 @@ module _ (names : List (List ℕ)) (program : ProgramRows) (l : LoweredProgram) 
     turns_each = turns;
   }
 
+  abbrev pub starts_with : (limit : Limit) (turns : ℕ) → StartsWith (setting_of limit turns) l.words.data
+  starts_with limit turns = record {
+    words = record { placement = is.words.placement; variables = refl; further = is.words.further_is };
+    start = is.words.start;
+    at = refl;
+  }
+
   module _ (whole : is_whole program ≡ true) (boxes : ProgramBoxes (flat_program program)) (table : IsTable names) (asked : NamesAsked names (flat_program program))
       (low : (i : ℕ) → slice_index l.words.data.arena.words i < 2 ^ 32) where
     pub is_laid : (limit : Limit) (turns : ℕ) → IsLaid program (setting_of limit turns) l.words.data
@@ -69,16 +80,10 @@ module _ (names : List (List ℕ)) (program : ProgramRows) (l : LoweredProgram) 
       flat = refl;
       table = table;
       names = asked;
-      starts = record {
-        words = record { placement = is.words.placement; variables = refl; further = is.words.further_is };
-        start = is.words.start;
-        at = refl;
-      };
+      starts = starts_with limit turns;
       further = record {
-        aligned =
-            let e = is.words.start.further_end in
-            let f = is.words.start.first in
-            (length l.words.data.arena.words - length is.words.further, omega (arith, e, f));
+        aligned = aligned_end is.words.start.further_at (length is.words.further) l.words.data.arena.first (length l.words.data.arena.words)
+            is.words.start.further_end is.words.start.first;
         words = λ i word h. laid_low l.words.data.arena is.words.start.first low _ word (is.words.start.own.further_words i word h);
       };
       symbols = is.words.symbols;
