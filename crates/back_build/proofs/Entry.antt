@@ -3,13 +3,15 @@ use Rattle.std.proofs.Common.{◌≡◌, ℕ, zero, suc, ◌+◌, List, [], ◌�
 use Rattle.std.specs.Prelude.{map}
 use Rattle.std.proofs.Math.ListN.{length-append}
 use Rattle.std.proofs.lemmas.List.{length-map}
+use Rattle.lang_meaning.specs.model.ShapeCode.{primitive_at}
 use Rattle.flat_language.specs.declared.program.FlatProcedure.{FlatProcedure}
 use Rattle.flat_language.specs.declared.program.FlatProgram.{FlatProgram}
 use Rattle.mid_code.specs.declared.program.MidProcedure.{MidProcedure}
+use Rattle.mid_arena.specs.Codes.{procedure_of}
 use Rattle.back_lowering.specs.declared.placement.Placement.{Placement}
 use Rattle.back_lowering.specs.Placement.{primitive_count}
 use Rattle.back_lowering.specs.Routines.{routine_count}
-use Rattle.back_lowering.specs.Program.{entries_from, lambda_entries_from, bodies_from, lambda_bodies, main_form, routines, primitives, numbers_below, start, lowered, start_number}
+use Rattle.back_lowering.specs.Program.{itself, body_of, entries_from, lambda_entries_from, bodies_from, lambda_bodies, main_form, routines, primitives, numbers_below, start, lowered, start_number}
 
 -- eight lists, one behind the other
 together_long : {X : Type 0} (a b c d e f g h : List X)
@@ -41,7 +43,7 @@ module _ (names : List (List ℕ)) (at : Placement) (program : FlatProgram) wher
   numbers_long (suc n) = length-append (numbers_below names at program n) (n ∷ []) ∙ ap (λ m. m + 1) (numbers_long n) ∙ omega arith
 
   primitives_long : length (primitives names at program) ≡ primitive_count
-  primitives_long = length-map (numbers_below names at program primitive_count) _ ∙ numbers_long primitive_count
+  primitives_long = length-map (numbers_below names at program primitive_count) (λ (n : ℕ). procedure_of (primitive_at n)) ∙ numbers_long primitive_count
 
   routines_long : length (routines names at program) ≡ routine_count
   routines_long = refl
@@ -57,7 +59,7 @@ module _ (names : List (List ℕ)) (at : Placement) (program : FlatProgram) wher
       let e1 = entries_long 0 program.procedures in
       let e2 = lambda_entries_long (length program.procedures) program.lambdas in
       let e3 = bodies_long 0 program.procedures in
-      let e4 : length (lambda_bodies names at program program.lambdas) ≡ length program.lambdas = length-map program.lambdas _ in
+      let e4 : length (lambda_bodies names at program program.lambdas) ≡ length program.lambdas = length-map program.lambdas (body_of names at program itself) in
       let e5 = primitives_long in
       let e6 = routines_long in
       let e7 = length-map program.main (main_form names at program) in
