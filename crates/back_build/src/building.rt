@@ -59,7 +59,8 @@ fn build_flat(
     if !boxes_are_captured(flat) {
         return Err(BuildFault::NotInForm);
     }
-    if !are_names_asked(alloc, names, flat)? {
+    let asked = are_names_asked(alloc, names, flat)?;
+    if !asked {
         return Err(BuildFault::NotInForm);
     }
     let lowered = lower(alloc, names, true_name, flat)?;

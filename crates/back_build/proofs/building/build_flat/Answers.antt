@@ -14,6 +14,6 @@ returns c =
     IfOk-weaker c.image_of.result (λ image. IsImageMade c.in_ok-lowered.lowered image)
     (λ image. (program : ProgramRows) → is_whole program ≡ true → c.args.flat.now ≡ flat_program program → IsBuilt c.args.names.now program image)
     (λ image made. built_of c.law_built.ensures c.args.names.now c.args.flat.now c.in_ok-lowered.lowered image c.len-count.ensures.table
-    (c.in_ok-are_names_asked.ensures c.if-not-are_names_asked.false) (c.boxes_are_captured.ensures c.if-not-boxes_are_captured.false)
+    (c.in_ok-asked.ensures c.if-not-asked.false) (c.boxes_are_captured.ensures c.if-not-boxes_are_captured.false)
     c.in_ok-lowered.ensures.lowered made)
     c.image_of.ensures
