@@ -1,5 +1,5 @@
 -- An image that was made of the code of a whole program does what the program means.
-use Rattle.std.proofs.Common.{inl, inr, ◌≡◌, ◌⊎◌, ℕ, zero, suc, ◌+◌, ◌-◌, ◌*◌, ◌^◌, ◌<◌, ◌≤◌, List, [], ◌∷◌, length, refl, sym, ap, subst, ◌∙◌, arith, Some, None}
+use Rattle.std.proofs.Common.{inl, inr, ◌≡◌, ℕ, zero, suc, ◌+◌, ◌-◌, ◌^◌, ◌<◌, ◌≤◌, List, [], ◌∷◌, length, refl, sym, ap, subst, ◌∙◌, arith, Some}
 use Rattle.std.specs.Prelude.{true, slice_get, slice_index, map}
 use Rattle.std.proofs.lemmas.Bool.{cases_lt}
 use Rattle.std.proofs.lemmas.List.{get_or_past}
@@ -21,13 +21,13 @@ use Rattle.back_layout.specs.ChosenPlaces.{placed_decided, placed_laid_out}
 use Rattle.back_layout.specs.Laws.{LawOfPlacedLaidOut}
 use Rattle.back_places.specs.Places.{Located}
 use Rattle.back_images.specs.Laws.{emitted, emitted_start, LawOfImages}
-use Rattle.back_program_code.specs.Made.{IsImageOf, LawOfFirstOfImage}
+use Rattle.back_program_code.specs.Made.{LawOfFirstOfImage}
 use Rattle.back_runs.specs.Images.{HasStart}
 use Rattle.back_words.specs.Asked.{NamesAsked}
 use Rattle.back_lowered.specs.declared.lowering.LoweredProgram.{LoweredProgram}
 use Rattle.back_lowered.specs.Lowered.{IsLoweredProgram}
 use Rattle.back_build.specs.Built.{code_with, entry_of}
-use Rattle.back_build.specs.Means.{ImageMeans, IsBuilt}
+use Rattle.back_build.specs.Means.{ImageMeans}
 use Rattle.back_build.specs.Compiled.{IsCompiled, IsImageMade, LawOfCompiled, LawOfBuilt}
 use Rattle.back_build.proofs.Entry.{lowered_long}
 

@@ -1,6 +1,6 @@
 -- The image of a whole program does what the program means.
-use Rattle.std.proofs.Common.{◌≡◌, ℕ, ◌+◌, ◌*◌, ◌^◌, ◌<◌, ◌≤◌, List, length, refl, sym, subst, ◌∙◌, arith, Some}
-use Rattle.std.specs.Prelude.{Bool, true, slice_get, slice_index}
+use Rattle.std.proofs.Common.{◌≡◌, ℕ, ◌*◌, ◌^◌, ◌≤◌, List, length, refl, Some}
+use Rattle.std.specs.Prelude.{Bool, slice_get}
 use Rattle.lang_meaning.specs.declared.program.ProgramRows.{ProgramRows}
 use Rattle.lang_meaning.specs.State.{Limit, words, unlimited}
 use Rattle.flat_language.specs.Flatten.{flat_program}

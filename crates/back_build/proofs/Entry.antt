@@ -6,7 +6,6 @@ use Rattle.std.proofs.lemmas.List.{length-map}
 use Rattle.lang_meaning.specs.model.ShapeCode.{primitive_at}
 use Rattle.flat_language.specs.declared.program.FlatProcedure.{FlatProcedure}
 use Rattle.flat_language.specs.declared.program.FlatProgram.{FlatProgram}
-use Rattle.mid_code.specs.declared.program.MidProcedure.{MidProcedure}
 use Rattle.mid_arena.specs.Codes.{procedure_of}
 use Rattle.back_lowering.specs.declared.placement.Placement.{Placement}
 use Rattle.back_lowering.specs.Placement.{primitive_count}

@@ -1,11 +1,10 @@
 -- The state with which a run of an image begins, as one that begins with the words that were laid.
-use Rattle.std.proofs.Common.{◌≡◌, ℕ, ◌+◌, ◌-◌, ◌*◌, ◌/◌, ◌%◌, ◌^◌, ◌<◌, ◌≤◌, List, [], ◌++◌, length, refl, sym, ap, subst, ◌∙◌, arith, Some, None, Option}
+use Rattle.std.proofs.Common.{◌≡◌, ℕ, ◌-◌, ◌/◌, ◌^◌, ◌≤◌, List, ◌++◌, length, refl, sym, ap, arith, Some, None, Option}
 use Rattle.std.specs.Prelude.{map, replicate}
 use Rattle.std.proofs.lemmas.Grind.{common_steps}
 use Rattle.lang_meaning.specs.State.{State, words}
-use Rattle.mid_code.specs.State.{MidState}
 use Rattle.mid_start.specs.declared.words.ArenaWords.{ArenaWords}
-use Rattle.mid_start.specs.LaidArena.{memory_of, end_address}
+use Rattle.mid_start.specs.LaidArena.{memory_of}
 use Rattle.mid_start.specs.StaticData.{BeginsWithData}
 use Rattle.back_relation.specs.Around.{RoomFor}
 use Rattle.back_claims.specs.Program.{start_words}

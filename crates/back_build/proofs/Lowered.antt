@@ -5,21 +5,16 @@ use Rattle.base.specs.Names.{IsTable}
 use Rattle.lang_meaning.specs.declared.program.ProgramRows.{ProgramRows}
 use Rattle.lang_meaning.specs.Facts.{is_whole}
 use Rattle.lang_meaning.specs.State.{Limit}
-use Rattle.flat_language.specs.declared.program.FlatProgram.{FlatProgram}
 use Rattle.flat_language.specs.Flatten.{flat_program}
 use Rattle.flat_language.specs.FlatExits.{ProgramLeads}
-use Rattle.flat_language.specs.FlatNodes.{tables}
 use Rattle.flat_boxes.specs.Boxes.{ProgramBoxes}
 use Rattle.mid_code.specs.declared.program.MidProcedure.{MidProcedure}
-use Rattle.mid_code.specs.Arena.{Arena, word_at, is_lent, word_in}
+use Rattle.mid_code.specs.Arena.{word_at, is_lent, word_in}
 use Rattle.mid_start.specs.declared.words.ArenaWords.{ArenaWords}
 use Rattle.mid_start.specs.LaidArena.{memory_of, arena_of}
-use Rattle.mid_start.specs.StaticData.{IsStaticData}
 use Rattle.back_relation.specs.Setting.{Setting, FramesWithin}
-use Rattle.back_lowering.specs.Program.{lowered}
 use Rattle.back_words.specs.Asked.{NamesAsked}
-use Rattle.back_words.specs.Laws.{FurtherStand}
-use Rattle.back_words.specs.Start.{StartsWith, laid_symbols, literals_from}
+use Rattle.back_words.specs.Start.{StartsWith}
 use Rattle.back_words.specs.Variables.{variable_count}
 use Rattle.back_lowered.specs.declared.lowering.LoweredProgram.{LoweredProgram}
 use Rattle.back_lowered.specs.Lowered.{IsLoweredProgram}

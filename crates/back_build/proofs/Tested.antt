@@ -1,5 +1,5 @@
 -- From what was tested of a program to what its lowering asks, and to its image.
-use Rattle.std.proofs.Common.{◌≡◌, ℕ, List, sym, subst, ◌∙◌}
+use Rattle.std.proofs.Common.{◌≡◌, ℕ, List, sym, subst}
 use Rattle.std.specs.Prelude.{true}
 use Rattle.base.specs.Names.{IsTable}
 use Rattle.base.specs.declared.datum.Name.{Name}
