@@ -6,3 +6,4 @@ mod First
 mod Entry
 mod Compiled
 mod Built
+mod Tested

@@ -1,25 +1,20 @@
 -- A program that was lowered, as a setting: with any limit of words and any number of turns it is laid, as its runs ask.
-use Rattle.std.proofs.Common.{inl, inr, ◌≡◌, ◌⊎◌, ⊤, ℕ, ◌+◌, ◌-◌, ◌*◌, ◌/◌, ◌^◌, ◌<◌, ◌≤◌, List, [], ◌∷◌, ◌++◌, length, refl, sym, ap, subst, ◌∙◌, arith, Some, None, Option}
-use Rattle.std.specs.Prelude.{Bool, true, false, map, slice_get, slice_index, if◌then◌else◌}
+use Rattle.std.proofs.Common.{◌≡◌, ℕ, zero, suc, ◌+◌, ◌-◌, ◌*◌, ◌/◌, ◌^◌, ◌<◌, List, [], ◌∷◌, ◌++◌, length, refl, subst, arith, Some, None, Option}
+use Rattle.std.specs.Prelude.{Bool, true, false, map, replicate, slice_get, slice_index, if◌then◌else◌}
 use Rattle.base.specs.Names.{IsTable}
 use Rattle.lang_meaning.specs.declared.program.ProgramRows.{ProgramRows}
 use Rattle.lang_meaning.specs.Facts.{is_whole}
 use Rattle.lang_meaning.specs.State.{Limit}
-use Rattle.flat_language.specs.declared.program.FlatProgram.{FlatProgram}
 use Rattle.flat_language.specs.Flatten.{flat_program}
 use Rattle.flat_language.specs.FlatExits.{ProgramLeads}
-use Rattle.flat_language.specs.FlatNodes.{tables}
 use Rattle.flat_boxes.specs.Boxes.{ProgramBoxes}
 use Rattle.mid_code.specs.declared.program.MidProcedure.{MidProcedure}
-use Rattle.mid_code.specs.Arena.{Arena, word_at, is_lent, word_in}
+use Rattle.mid_code.specs.Arena.{word_at, is_lent, word_in}
 use Rattle.mid_start.specs.declared.words.ArenaWords.{ArenaWords}
 use Rattle.mid_start.specs.LaidArena.{memory_of, arena_of}
-use Rattle.mid_start.specs.StaticData.{IsStaticData}
 use Rattle.back_relation.specs.Setting.{Setting, FramesWithin}
-use Rattle.back_lowering.specs.Program.{lowered}
 use Rattle.back_words.specs.Asked.{NamesAsked}
-use Rattle.back_words.specs.Laws.{FurtherStand}
-use Rattle.back_words.specs.Start.{StartsWith, laid_symbols, literals_from}
+use Rattle.back_words.specs.Start.{StartsWith}
 use Rattle.back_words.specs.Variables.{variable_count}
 use Rattle.back_lowered.specs.declared.lowering.LoweredProgram.{LoweredProgram}
 use Rattle.back_lowered.specs.Lowered.{IsLoweredProgram}
@@ -41,11 +36,15 @@ laid_low ws first low address w e =
     (λ h. low_word ws.words (address / 4) w low (subst (λ (n : ℕ). word_in (slice_get (front n) (address / 4)) ≡ Some w) first h)) e
   where
     front : ℕ → List (Option ℕ)
-    front n = Rattle.std.specs.Prelude.replicate {A = Option ℕ} (n / 4) None ++ map (λ v. Some v) ws.words
+    front n = replicate {A = Option ℕ} (n / 4) None ++ map (λ v. Some v) ws.words
+
+-- words that end where all do, begin at a word
+aligned_end : (at words first all : ℕ) → at + 4 * words ≡ first + 4 * all → first ≡ 0 → (n : ℕ) × (at ≡ 4 * n)
+aligned_end at words first all e none = (all - words, omega arith)
 
 module _ (names : List (List ℕ)) (program : ProgramRows) (l : LoweredProgram) (is : IsLoweredProgram names (flat_program program) l)
     (leads : ProgramLeads (flat_program program)) (used : List MidProcedure) (frames : FramesWithin l.procedures used) where
-  pub abbrev setting_of : Limit → (turns : ℕ) → Setting
+  abbrev pub setting_of : Limit → (turns : ℕ) → Setting
   setting_of limit turns = record {
     names = names;
     program = flat_program program;
@@ -60,6 +59,13 @@ module _ (names : List (List ℕ)) (program : ProgramRows) (l : LoweredProgram) 
     turns_each = turns;
   }
 
+  abbrev pub starts_with : (limit : Limit) (turns : ℕ) → StartsWith (setting_of limit turns) l.words.data
+  starts_with limit turns = record {
+    words = record { placement = is.words.placement; variables = refl; further = is.words.further_is };
+    start = is.words.start;
+    at = refl;
+  }
+
   module _ (whole : is_whole program ≡ true) (boxes : ProgramBoxes (flat_program program)) (table : IsTable names) (asked : NamesAsked names (flat_program program))
       (low : (i : ℕ) → slice_index l.words.data.arena.words i < 2 ^ 32) where
     pub is_laid : (limit : Limit) (turns : ℕ) → IsLaid program (setting_of limit turns) l.words.data
@@ -69,16 +75,10 @@ module _ (names : List (List ℕ)) (program : ProgramRows) (l : LoweredProgram) 
       flat = refl;
       table = table;
       names = asked;
-      starts = record {
-        words = record { placement = is.words.placement; variables = refl; further = is.words.further_is };
-        start = is.words.start;
-        at = refl;
-      };
+      starts = starts_with limit turns;
       further = record {
-        aligned =
-            let e = is.words.start.further_end in
-            let f = is.words.start.first in
-            (length l.words.data.arena.words - length is.words.further, omega (arith, e, f));
+        aligned = aligned_end is.words.start.further_at (length is.words.further) l.words.data.arena.first (length l.words.data.arena.words)
+            is.words.start.further_end is.words.start.first;
         words = λ i word h. laid_low l.words.data.arena is.words.start.first low _ word (is.words.start.own.further_words i word h);
       };
       symbols = is.words.symbols;

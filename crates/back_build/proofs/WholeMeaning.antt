@@ -89,7 +89,7 @@ module _ (closures : LawOfClosures) (program : ProgramRows) (base : Setting) (wh
   }
 
   prefix : (n : ℕ) → n < 2 ^ 32 → IsPrefix (the_run n).at.printed (whole_meaning n unlimited).printed
-  prefix n few = subst (λ printed. IsPrefix (the_run n).at.printed printed) (same n unlimited).printed (runs.prefix n few)
+  prefix n few = subst (λ printed. IsPrefix (the_run n).at.printed printed) (same n unlimited).printed (runs.prefix n)
 
   well : (n turns : ℕ) → EndsWell (with_limits base unlimited turns) input n y (the_run n)
       → HaltsWith names program (whole_meaning n unlimited) (the_run n) ⊎ EndsUnhandled names program (whole_meaning n unlimited) (the_run n) ⊎ EndsFull names program (the_run n)
@@ -113,7 +113,7 @@ module _ (closures : LawOfClosures) (program : ProgramRows) (base : Setting) (wh
       → IsFull names program (whole_meaning k (words charge))
   full n few f charge k holds le =
       is_full k (turns_for n k charge) (words charge) _ refl
-      (runs.full n f.asked f.left few f.ending charge k (turns_for n k charge) (begins charge (turns_for n k charge) holds) (omega arith) le (omega arith))
+      (runs.full n f.asked f.left f.ending charge k (turns_for n k charge) (begins charge (turns_for n k charge) holds) (omega arith) le (omega arith))
 
   module _ (charge k n : ℕ) (holds : Holds arena image charge) (low : bound (whole_meaning k (words charge)).units < 2 ^ 32)
       (paid : bound (whole_meaning k (words charge)).units ≤ n) where
@@ -142,7 +142,7 @@ module _ (closures : LawOfClosures) (program : ProgramRows) (base : Setting) (wh
 pub whole_meaning_law : LawOfClosures → LawOfWholeMeaning
 whole_meaning_law closures program base whole flat at image arena input w y begins runs = record {
   prefix = prefix closures program base whole flat at image arena input w y begins runs;
-  ends = λ n few. elim (runs.ends n few) [
+  ends = λ n few. elim (runs.ends n) [
     | inl budget ↦ inl budget
     | inr (turns, well_ended) ↦ inr (well closures program base whole flat at image arena input w y begins runs n turns well_ended)
   ];

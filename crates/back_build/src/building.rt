@@ -59,7 +59,8 @@ fn build_flat(
     if !boxes_are_captured(flat) {
         return Err(BuildFault::NotInForm);
     }
-    if !are_names_asked(alloc, names, flat)? {
+    let asked = are_names_asked(alloc, names, flat)?;
+    if !asked {
         return Err(BuildFault::NotInForm);
     }
     let lowered = lower(alloc, names, true_name, flat)?;
@@ -80,10 +81,10 @@ fn image_of(alloc: Global, lowered: LoweredProgram) -> Result<Image, BuildFault>
     ensures { IfOk result (λ image. IsImageMade lowered image) }
 {
     let LoweredProgram { procedures, words } = lowered;
-    let program = MidProgram {
-        procedures,
-        laid: words.data.arena.words,
-    };
+    let data = words.data;
+    let arena = data.arena;
+    let laid = arena.words;
+    let program = MidProgram { procedures, laid };
     let count = program.procedures.len();
     if count == 0 || !program.check() {
         return Err(BuildFault::NotInForm);

@@ -3,6 +3,12 @@
 ghost use Rattle.back_build.specs.Laws.{LawOfWholeMeaning};
 ghost use Rattle.back_build.specs.Compiled.{LawOfCompiled, LawOfBuilt};
 
+use back_images::law_images;
+use back_layout::law_placed_laid_out;
+use back_levels::laws::{law_lowering, law_right_programs};
+use back_meant::law_meant_runs;
+use back_program_code::law_first_of_image;
+use back_words::laws::{law_beginnings, law_whole_programs};
 use flat_language::laws::{law_closures, law_flat_programs};
 
 /// An image that does what a flat program means does what the whole program means that was made flat.
@@ -17,14 +23,21 @@ pub fn law_whole_meaning()
 pub fn law_compiled()
     ensures { LawOfCompiled }
 {
-    law_closures();
     law_flat_programs();
+    law_whole_programs();
+    law_right_programs();
+    law_beginnings();
+    law_lowering();
+    law_meant_runs();
+    law_whole_meaning();
 }
 
 /// An image that was made of the code of a whole program does what the program means.
 pub fn law_built()
     ensures { LawOfBuilt }
 {
-    law_closures();
-    law_flat_programs();
+    law_placed_laid_out();
+    law_images();
+    law_first_of_image();
+    law_compiled();
 }
