@@ -1,11 +1,10 @@
-// The rows of tables of both ends of the way: of files, put to the call that reads one, and of instructions, the machine and images.
+// The rows of tables of both ends of the way: of files, put to the call that reads one, and of instructions and the machine.
 #![tactic(auto)]
 
 mod definitions;
 mod fields;
 mod files;
 mod forms;
-mod images;
 mod instructions;
 mod machine;
 mod primitives;

@@ -1,6 +1,6 @@
 // The tables, and the calls that their inputs are put to.
 
-use crate::{fields, images, runs, words};
+use crate::{fields, runs, words};
 use std::str;
 use test_rows::{RowAnswer, Table};
 
@@ -9,7 +9,6 @@ pub enum MachineTable {
     Words,
     Fields,
     Runs,
-    Images,
 }
 
 impl Table for MachineTable {
@@ -19,7 +18,6 @@ impl Table for MachineTable {
             MachineTable::Words => words::answer_row(got, line),
             MachineTable::Fields => fields::answer_row(got, line),
             MachineTable::Runs => runs::answer_row(got, line),
-            MachineTable::Images => images::answer_row(got, line),
         }
     }
 }

@@ -62,12 +62,11 @@ const PRELUDE_TABLES: &[(&str, Preludes)] = &[
     ("definitions.txt", Preludes(Told::Definitions)),
 ];
 
-// The file of each table of instructions, the machine and images.
+// The file of each table of instructions and the machine.
 const MACHINE_TABLES: &[(&str, MachineTable)] = &[
     ("words.txt", MachineTable::Words),
     ("fields.txt", MachineTable::Fields),
     ("runs.txt", MachineTable::Runs),
-    ("images.txt", MachineTable::Images),
 ];
 
 fn main(rt: HostRuntime) -> io::Result<()> {

@@ -62,7 +62,7 @@ unless_within : (k : Kinds) (o : Option Request) (c : Request) → asked_unless 
 unless_within [] o c e = e
 unless_within (k ∷ ks) o c e = absurd (cc)
 
--- the arena of a command is one that a machine may have, and that every image of the first path fits
+-- the arena of a command is one that a machine may have
 pub asked_within : (words : List Text) (c : Request) → asked words ≡ Some c → (65536 ≤ c.arena) × (c.arena ≤ 16777216)
 asked_within words c e =
     let rows = given words in

@@ -1,22 +1,22 @@
 -- How the status that is answered comes from the answer to the words.
 use Rattle.std.proofs.Common.{◌≡◌, ◌≢◌, ℕ, List, [], refl, sym, ap, subst, ◌∙◌, ◌⊎◌, inl, inr, Some, None}
-use Rattle.std.specs.Prelude.{Option, ⊤}
+use Rattle.std.specs.Prelude.{Option, ⊤, length}
 use Rattle.base.specs.declared.place.Place.{Place}
 use Rattle.base.specs.declared.reason.Refusal.{Refusal}
 use Rattle.top_main.specs.declared.status.Status.{Status}
 use Rattle.top_main.specs.declared.status.Status.TheVariants.{Done, Unhandled, Usage, Refused, ArenaFull, Budget, FileFault, ReadFault, WriteFault, NoMemory}
 use Rattle.top_main.specs.declared.status.CommandAnswer.{CommandAnswer}
 use Rattle.top_main.specs.declared.status.CommandAnswer.TheVariants as answer
-use Rattle.top_main.specs.declared.command.Action.TheVariants.{Plain}
+use Rattle.top_main.specs.declared.command.Action.{Action}
+use Rattle.top_main.specs.declared.command.Action.TheVariants.{Run, Check, Plain}
 use Rattle.rv_machine.specs.declared.image.Image.{Image}
-use Rattle.lang_meaning.specs.declared.program.ProgramRows.{ProgramRows}
 use Rattle.lang_meaning.specs.declared.evaluation.EvaluationEnd.{EvaluationEnd}
 use Rattle.lang_meaning.specs.declared.evaluation.EvaluationEnd.TheVariants as endings
 use Rattle.top_main.specs.Command.{Request, asked}
-use Rattle.top_main.specs.Answers.{RunAnswers, RunFileAnswers, was_run, was_check, was_plain, WordsAnswers, was_usage, was_untold, was_asked}
+use Rattle.top_main.specs.Answers.{CheckAnswers, FileAnswers, was_run, was_check, was_plain, WordsAnswers, was_usage, was_untold, was_asked}
 use Rattle.top_main.specs.Lines.{line_of, status_of, unhandled_line, budget_line, refused_line, arena_full_line, spent_line, file_fault_line, read_fault_line, no_memory_line}
 use Rattle.base.specs.Given.{WasGiven}
-use Rattle.top_main.specs.Theorem.{Sent, Accepted, IsDone, IsSpent, IsBudget, IsRefused, IsCutOff, IsUsage, IsChecked, IsWholeRefused, IsCheckedCutOff, PlainRuns, IsPlain, IsPlainDone, IsUnhandled, IsArenaFull, IsPlainBudget, IsPlainSpent, IsReadFault, IsPlainCutOff, IsPlainBroken, HasLine, IsPlainUntold}
+use Rattle.top_main.specs.Theorem.{Sent, Passes, Offends, FileEnds, HasLine, IsEnded, IsUsage, IsDone, IsChecked, IsUnhandled, IsArenaFull, IsTooLarge, IsBudget, IsSpent, IsRefused, IsReadFault, IsCutOff, IsCheckedCutOff, IsUnnamed, IsBroken, IsUntold}
 
 -- a status is a write fault or that of the answer
 settled : (r s : Status) → (r ≢ WriteFault → r ≡ s) → (r ≡ s) ⊎ (r ≡ WriteFault)
@@ -28,22 +28,6 @@ first_status : (a : CommandAnswer) (r : Status) → (a ≡ answer.Usage) ⊎ (a 
 first_status a r (inl e) (inl k) = inl (k ∙ ap status_of e)
 first_status a r (inr e) (inl k) = inr (inr (k ∙ ap status_of e))
 first_status a r w (inr k) = inr (inl k)
-
--- the answer for a file to run whose text is a program is that of the program's run
-pub of_run :
-    (a : CommandAnswer) (program : ProgramRows) (held : Option (List ℕ)) (kept : Option Image) (arena steps : ℕ) (sent : Sent) (ShelfRises Rises Same : Type 0)
-    → Accepted held program → RunAnswers a program kept arena steps sent Rises Same → RunFileAnswers a held kept arena steps sent ShelfRises Rises Same
-of_run answer.Done program held kept arena steps sent ShelfRises Rises Same accepted h = (program, (accepted, h))
-of_run (answer.Unhandled class site) program held kept arena steps sent ShelfRises Rises Same accepted h = absurd h
-of_run (answer.ArenaFull wanted room) program held kept arena steps sent ShelfRises Rises Same accepted h = absurd h
-of_run (answer.Budget n) program held kept arena steps sent ShelfRises Rises Same accepted h = (h.0, (program, (accepted, h.1)))
-of_run answer.Spent program held kept arena steps sent ShelfRises Rises Same accepted h = absurd h
-of_run answer.WriteFault program held kept arena steps sent ShelfRises Rises Same accepted h = (h.0, (program, (accepted, h.1)))
-of_run answer.NoMemory program held kept arena steps sent ShelfRises Rises Same accepted h = h.0
-of_run answer.Usage program held kept arena steps sent ShelfRises Rises Same accepted h = h
-of_run (answer.Refused r) program held kept arena steps sent ShelfRises Rises Same accepted h = absurd h
-of_run answer.FileFault program held kept arena steps sent ShelfRises Rises Same accepted h = absurd h
-of_run answer.ReadFault program held kept arena steps sent ShelfRises Rises Same accepted h = absurd h
 
 -- the words of a call, the shelf that they name files of, the image that is kept, what is left of the input and what the output was sent, and where
 -- the shelf, the input and the output rose in faults or are the same
@@ -64,14 +48,48 @@ pub record View : Type 1 where
 abbrev pub Told : View → CommandAnswer → Type 0
 Told v a = WordsAnswers a v.words v.holds v.kept v.left v.left' v.sent v.ShelfRises v.SourceRises v.Rises v.Same v.InputSame v.ShelfSame
 
--- want of memory: nothing was touched, or an evaluation broke off
-wanting : (v : View) → Told v answer.NoMemory → (v.Same × v.InputSame) ⊎ IsPlainBroken v.words v.holds v.kept v.left v.left' v.sent
-wanting v (was_usage e none shelf same i k) = absurd (cc)
-wanting v (was_untold e shelf same i k) = inl (same, i)
-wanting v (was_asked c is (was_run r i h)) = inl (h, i)
-wanting v (was_asked c is (was_check r i k h)) = inl (h, i)
-wanting v (was_asked c is (was_plain p k (inl h))) = inl h
-wanting v (was_asked c is (was_plain p k (inr h))) = inr (record { command = c; asked_for = is; is_plain = p; breaks = h; unbuilt = k })
+-- the answer for the file of a command that is run or evaluated, or checked
+abbrev Ended : View → CommandAnswer → Request → Type 0
+Ended v a c = FileAnswers a c.action (v.holds c.file) v.kept c.arena c.steps v.left v.left' v.sent v.ShelfRises v.SourceRises v.Rises (v.Same × v.InputSame)
+
+abbrev Checked : View → CommandAnswer → Request → Type 0
+Checked v a c = CheckAnswers a (Passes (v.holds c.file)) (Offends (v.holds c.file)) v.sent.before v.sent.after v.ShelfRises v.Rises v.Same
+
+-- the answer to the words, where a run and an evaluation are told alike
+data Heard (v : View) (a : CommandAnswer) : Type 0 where
+  is_usage : a ≡ answer.Usage → asked v.words ≡ None → v.Same × v.InputSame → Heard v a
+  is_untold : a ≡ answer.NoMemory → v.Same × v.InputSame → Heard v a
+  is_checked : (c : Request) → asked v.words ≡ Some c → c.action ≡ Check → v.InputSame → v.kept ≡ None → Checked v a c → Heard v a
+  is_ended : (c : Request) → asked v.words ≡ Some c → Ended v a c → Heard v a
+
+heard : (v : View) (a : CommandAnswer) → Told v a → Heard v a
+heard v a (was_usage e none shelf same i k) = is_usage e none (same, i)
+heard v a (was_untold e shelf same i k) = is_untold e (same, i)
+heard v a (was_asked c is (was_check r i k h)) = is_checked c is r i k h
+heard v a (was_asked c is (was_run r h)) =
+    is_ended c is (subst (λ (x : Action). FileAnswers a x (v.holds c.file) v.kept c.arena c.steps v.left v.left' v.sent v.ShelfRises v.SourceRises v.Rises (v.Same × v.InputSame)) (sym r) h)
+heard v a (was_asked c is (was_plain p k h)) =
+    let F : Action → Option Image → Type 0 = λ x kept. FileAnswers a x (v.holds c.file) kept c.arena c.steps v.left v.left' v.sent v.ShelfRises v.SourceRises v.Rises (v.Same × v.InputSame) in
+    is_ended c is (subst (λ x. F x v.kept) (sym p) (subst (λ kept. F Plain kept) (sym k) h))
+
+-- a call whose program came to this end
+abbrev EndedSo : View → EvaluationEnd → Type 0
+EndedSo v end = IsEnded v.words v.holds v.kept v.left v.left' v.sent end
+
+abbrev ended : (v : View) (c : Request) (end : EvaluationEnd) → asked v.words ≡ Some c → FileEnds c.action (v.holds c.file) v.kept c.arena c.steps v.left v.left' v.sent end → EndedSo v end
+ended v c end is h = record { command = c; asked_for = is; ends = h }
+
+-- want of memory: nothing was touched, or a class could not be named, or an evaluation broke off
+abbrev Wanting : View → Type 0
+Wanting v = (v.Same × v.InputSame) ⊎ (IsUnnamed v.words v.holds v.kept v.left v.left' v.sent ⊎ IsBroken v.words v.holds v.kept v.left v.left' v.sent)
+
+wanting : (v : View) → Heard v answer.NoMemory → Wanting v
+wanting v (is_usage e none same) = absurd (cc)
+wanting v (is_untold e same) = inl same
+wanting v (is_checked c is r i k h) = inl (h, i)
+wanting v (is_ended c is (inl same)) = inl same
+wanting v (is_ended c is (inr (inl h))) = inr (inl (record { class = h.0; site = h.1.0; ended = ended v c (endings.Unhandled h.0 h.1.0) is h.1.1 }))
+wanting v (is_ended c is (inr (inr h))) = inr (inr (record { command = c; asked_for = is; is_plain = h.0; breaks = h.1 }))
 
 -- what the answer to the words says, with its line
 module _ (v : View) (said said' : Option (List ℕ)) where
@@ -80,117 +98,94 @@ module _ (v : View) (said said' : Option (List ℕ)) where
 
   -- what stands at a status that is no write fault
   abbrev Says : Status → Type 0
-  Says Done = IsDone v.words v.holds v.kept v.sent said said' ⊎ (IsChecked v.words v.holds v.kept v.sent said said' ⊎ IsPlainDone v.words v.holds v.kept v.left v.left' v.sent said said')
+  Says Done = IsDone v.words v.holds v.kept v.left v.left' v.sent said said' ⊎ IsChecked v.words v.holds v.kept v.sent said said'
   Says Unhandled = IsUnhandled v.words v.holds v.kept v.left v.left' v.sent said said'
   Says Usage = IsUsage v.words said said' × v.InputSame
-  Says Refused = (IsRefused v.words v.holds said said' ⊎ IsWholeRefused v.words v.holds said said') × v.Same × v.InputSame × (v.kept ≡ None)
-  Says ArenaFull = IsArenaFull v.words v.holds v.kept v.left v.left' v.sent said said'
-  Says Budget = IsBudget v.words v.holds v.kept v.sent said said' ⊎ (IsPlainBudget v.words v.holds v.kept v.left v.left' v.sent said said' ⊎ IsPlainSpent v.words v.holds v.kept v.left v.left' v.sent said said')
+  Says Refused = IsRefused v.words v.holds said said' × v.Same × v.InputSame × (v.kept ≡ None)
+  Says ArenaFull =
+      IsArenaFull v.words v.holds v.kept v.left v.left' v.sent said said' ⊎ (IsTooLarge v.words v.holds v.kept said said' × (v.Same × v.InputSame))
+  Says Budget = IsBudget v.words v.holds v.kept v.left v.left' v.sent said said' ⊎ IsSpent v.words v.holds v.kept v.left v.left' v.sent said said'
   Says FileFault = v.ShelfRises × v.Same × v.InputSame × (v.kept ≡ None) × Line file_fault_line
   Says ReadFault = v.SourceRises × IsReadFault v.words v.holds v.kept v.left v.left' v.sent said said'
   Says WriteFault = ⊤
-  Says NoMemory = ((v.Same × v.InputSame) ⊎ IsPlainBroken v.words v.holds v.kept v.left v.left' v.sent) × Line no_memory_line
+  Says NoMemory = Wanting v × Line no_memory_line
 
-  abbrev plainly : (c : Request) (end : EvaluationEnd) → asked v.words ≡ Some c → c.action ≡ Plain → v.kept ≡ None → PlainRuns (v.holds c.file) c.steps c.arena v.left v.left' v.sent end → IsPlain v.words v.holds v.kept v.left v.left' v.sent end
-  plainly c end is p k h = record { command = c; asked_for = is; is_plain = p; runs = h; unbuilt = k }
+  done : Heard v answer.Done → Line [] → Says Done
+  done (is_usage e none same) line = absurd (cc)
+  done (is_untold e same) line = absurd (cc)
+  done (is_checked c is r i k h) line =
+      inr (record { command = c; asked_for = is; is_check = r; passes = h.0; unbuilt = k; printed = h.1; line = line })
+  done (is_ended c is h) line = inl (record { ended = ended v c endings.Value is h; line = line })
 
-  done : Told v answer.Done → Line [] → Says Done
-  done (was_usage e none shelf same i k) line = absurd (cc)
-  done (was_untold e shelf same i k) line = absurd (cc)
-  done (was_asked c is (was_run r i h)) line = inl (record {
-    command = c;
-    asked_for = is;
-    is_run = r;
-    program = h.0;
-    accepted = h.1.0;
-    built = h.1.1.built;
-    halts = h.1.1.halts;
-    printed = h.1.1.printed;
-    line = line;
-  })
-  done (was_asked c is (was_check r i k h)) line =
-      inr (inl (record { command = c; asked_for = is; is_check = r; passes = h.0; unbuilt = k; printed = h.1; line = line }))
-  done (was_asked c is (was_plain p k h)) line = inr (inr (record { ended = plainly c endings.Value is p k h; line = line }))
-
-  unhandled : (class : List ℕ) (site : Place) → Told v (answer.Unhandled class site) → Line (unhandled_line class site) → Says Unhandled
-  unhandled class site (was_usage e none shelf same i k) line = absurd (cc)
-  unhandled class site (was_untold e shelf same i k) line = absurd (cc)
-  unhandled class site (was_asked c is (was_run r i h)) line = absurd h
-  unhandled class site (was_asked c is (was_check r i k h)) line = absurd h
-  unhandled class site (was_asked c is (was_plain p k h)) line =
+  unhandled : (class : List ℕ) (site : Place) → Heard v (answer.Unhandled class site) → Line (unhandled_line class site) → Says Unhandled
+  unhandled class site (is_usage e none same) line = absurd (cc)
+  unhandled class site (is_untold e same) line = absurd (cc)
+  unhandled class site (is_checked c is r i k h) line = absurd h
+  unhandled class site (is_ended c is h) line =
       let P : List ℕ → Type 0 = λ n. WasGiven said (unhandled_line n site) said' in
-      record { class = h.class; site = site; ended = plainly c (endings.Unhandled h.class site) is p k h.runs; line = subst P h.named line }
+      record { class = h.class; site = site; ended = ended v c (endings.Unhandled h.class site) is h.ends; line = subst P h.named line }
 
-  usage : Told v answer.Usage → Line (line_of answer.Usage) → Says Usage
-  usage (was_usage e none shelf same i k) line = (record { asked_for = none; line = line }, i)
-  usage (was_untold e shelf same i k) line = absurd (cc)
-  usage (was_asked c is (was_run r i h)) line = absurd h
-  usage (was_asked c is (was_check r i k h)) line = absurd h
-  usage (was_asked c is (was_plain p k h)) line = absurd h
+  usage : Heard v answer.Usage → Line (line_of answer.Usage) → Says Usage
+  usage (is_usage e none same) line = (record { asked_for = none; line = line }, same.1)
+  usage (is_untold e same) line = absurd (cc)
+  usage (is_checked c is r i k h) line = absurd h
+  usage (is_ended c is h) line = absurd h
 
-  refused : (x : Refusal) → Told v (answer.Refused x) → Line (refused_line x) → Says Refused
-  refused x (was_usage e none shelf same i k) line = absurd (cc)
-  refused x (was_untold e shelf same i k) line = absurd (cc)
-  refused x (was_asked c is (was_run r i h)) line =
-      (inl (record { command = c; asked_for = is; is_run = r; refusal = x; declined = h.0; line = line }), h.1, i, h.2)
-  refused x (was_asked c is (was_check r i k h)) line =
-      (inr (record { command = c; asked_for = is; is_whole = λ e. cc; refusal = x; offends = h.0; line = line }), h.1, i, k)
-  refused x (was_asked c is (was_plain p k h)) line =
-      (inr (record { command = c; asked_for = is; is_whole = λ e. cc; refusal = x; offends = h.0; line = line }), h.1.0, h.1.1, k)
+  refused : (x : Refusal) → Heard v (answer.Refused x) → Line (refused_line x) → Says Refused
+  refused x (is_usage e none same) line = absurd (cc)
+  refused x (is_untold e same) line = absurd (cc)
+  refused x (is_checked c is r i k h) line =
+      (record { command = c; asked_for = is; refusal = x; offends = h.0; line = line }, h.1, i, k)
+  refused x (is_ended c is h) line =
+      (record { command = c; asked_for = is; refusal = x; offends = h.0; line = line }, h.1.0.0, h.1.0.1, h.1.1)
 
-  arena_full : (wanted room : ℕ) → Told v (answer.ArenaFull wanted room) → Line (arena_full_line wanted room) → Says ArenaFull
-  arena_full wanted room (was_usage e none shelf same i k) line = absurd (cc)
-  arena_full wanted room (was_untold e shelf same i k) line = absurd (cc)
-  arena_full wanted room (was_asked c is (was_run r i h)) line = absurd h
-  arena_full wanted room (was_asked c is (was_check r i k h)) line = absurd h
-  arena_full wanted room (was_asked c is (was_plain p k h)) line =
-      record { wanted = wanted; room = room; ended = plainly c (endings.Full wanted room) is p k h; line = line }
-
-  budget : (n : ℕ) → Told v (answer.Budget n) → Line (budget_line n) → Says Budget
-  budget n (was_usage e none shelf same i k) line = absurd (cc)
-  budget n (was_untold e shelf same i k) line = absurd (cc)
-  budget n (was_asked c is (was_run r i h)) line =
-      let P : ℕ → Type 0 = λ m. WasGiven said (budget_line m) said' in
-      inl (record {
-        spent = record {
+  arena_full : (wanted room : ℕ) → Heard v (answer.ArenaFull wanted room) → Line (arena_full_line wanted room) → Says ArenaFull
+  arena_full wanted room (is_usage e none same) line = absurd (cc)
+  arena_full wanted room (is_untold e same) line = absurd (cc)
+  arena_full wanted room (is_checked c is r i k h) line = absurd h
+  arena_full wanted room (is_ended c is (inl h)) line =
+      inl (record { wanted = wanted; room = room; ended = ended v c (endings.Full wanted room) is h; line = line })
+  arena_full wanted room (is_ended c is (inr h)) line =
+      let words : ℕ = length h.0.large.is_large.built.image.words in
+      let P : ℕ → ℕ → Type 0 = λ n m. WasGiven said (arena_full_line n m) said' in
+      inr (
+        record {
           command = c;
           asked_for = is;
-          is_run = r;
-          program = h.1.0;
-          accepted = h.1.1.0;
-          built = h.1.1.1.built;
-          spends = h.1.1.1.spends;
-          printed = h.1.1.1.printed;
-        };
-        line = subst P h.0 line;
-      })
-  budget n (was_asked c is (was_check r i k h)) line = absurd h
-  budget n (was_asked c is (was_plain p k h)) line =
+          is_run = h.0.is_run;
+          large = h.0.large;
+          line = subst (λ m. P words m) h.0.room_is (subst (λ n. P n room) h.0.wanted_is line);
+        },
+        h.1,
+      )
+
+  budget : (n : ℕ) → Heard v (answer.Budget n) → Line (budget_line n) → Says Budget
+  budget n (is_usage e none same) line = absurd (cc)
+  budget n (is_untold e same) line = absurd (cc)
+  budget n (is_checked c is r i k h) line = absurd h
+  budget n (is_ended c is h) line =
       let P : ℕ → Type 0 = λ m. WasGiven said (budget_line m) said' in
-      inr (inl (record { ended = plainly c endings.More is p k h.1; line = subst P h.0 line }))
+      inl (record { ended = ended v c endings.More is h.1; line = subst P h.0 line })
 
-  spent : Told v answer.Spent → Line spent_line → Says Budget
-  spent (was_usage e none shelf same i k) line = absurd (cc)
-  spent (was_untold e shelf same i k) line = absurd (cc)
-  spent (was_asked c is (was_run r i h)) line = absurd h
-  spent (was_asked c is (was_check r i k h)) line = absurd h
-  spent (was_asked c is (was_plain p k h)) line = inr (inr (record { ended = plainly c endings.Spent is p k h; line = line }))
+  spent : Heard v answer.Spent → Line spent_line → Says Budget
+  spent (is_usage e none same) line = absurd (cc)
+  spent (is_untold e same) line = absurd (cc)
+  spent (is_checked c is r i k h) line = absurd h
+  spent (is_ended c is h) line = inr (record { ended = ended v c endings.Spent is h; line = line })
 
-  file_fault : Told v answer.FileFault → Line file_fault_line → Says FileFault
-  file_fault (was_usage e none shelf same i k) line = absurd (cc)
-  file_fault (was_untold e shelf same i k) line = absurd (cc)
-  file_fault (was_asked c is (was_run r i h)) line = (h.0, h.1, i, h.2, line)
-  file_fault (was_asked c is (was_check r i k h)) line = (h.0, h.1, i, k, line)
-  file_fault (was_asked c is (was_plain p k h)) line = (h.0, h.1.0, h.1.1, k, line)
+  file_fault : Heard v answer.FileFault → Line file_fault_line → Says FileFault
+  file_fault (is_usage e none same) line = absurd (cc)
+  file_fault (is_untold e same) line = absurd (cc)
+  file_fault (is_checked c is r i k h) line = (h.0, h.1, i, k, line)
+  file_fault (is_ended c is h) line = (h.0, h.1.0.0, h.1.0.1, h.1.1, line)
 
-  read_fault : Told v answer.ReadFault → Line read_fault_line → Says ReadFault
-  read_fault (was_usage e none shelf same i k) line = absurd (cc)
-  read_fault (was_untold e shelf same i k) line = absurd (cc)
-  read_fault (was_asked c is (was_run r i h)) line = absurd h
-  read_fault (was_asked c is (was_check r i k h)) line = absurd h
-  read_fault (was_asked c is (was_plain p k h)) line = (h.0, record { ended = plainly c endings.ReadFault is p k h.1; line = line })
+  read_fault : Heard v answer.ReadFault → Line read_fault_line → Says ReadFault
+  read_fault (is_usage e none same) line = absurd (cc)
+  read_fault (is_untold e same) line = absurd (cc)
+  read_fault (is_checked c is r i k h) line = absurd h
+  read_fault (is_ended c is h) line = (h.0, record { ended = ended v c endings.ReadFault is h.1; line = line })
 
-  says : (a : CommandAnswer) → Told v a → Line (line_of a) → Says (status_of a)
+  says : (a : CommandAnswer) → Heard v a → Line (line_of a) → Says (status_of a)
   says answer.Done w line = done w line
   says (answer.Unhandled class site) w line = unhandled class site w line
   says answer.Usage w line = usage w line
@@ -207,113 +202,97 @@ module _ (v : View) (said said' : Option (List ℕ)) where
 module _ (v : View) where
   -- the outside was cut off, or is untouched, or had its part
   abbrev Cut : Type 0
-  Cut = IsCutOff v.words v.holds v.kept v.sent ⊎ (IsCheckedCutOff v.words v.holds v.kept v.sent ⊎ IsPlainCutOff v.words v.holds v.kept v.left v.left' v.sent)
+  Cut = IsCutOff v.words v.holds v.kept v.left v.left' v.sent ⊎ IsCheckedCutOff v.words v.holds v.kept v.sent
 
   abbrev Untold : Type 0
-  Untold = IsSpent v.words v.holds v.kept v.sent ⊎ (IsPlainUntold v.words v.holds v.kept v.left v.left' v.sent ⊎ IsPlainBroken v.words v.holds v.kept v.left v.left' v.sent)
+  Untold = IsUntold v.words v.holds v.kept v.left v.left' v.sent ⊎ IsBroken v.words v.holds v.kept v.left v.left' v.sent
 
-  plain_untold : (c : Request) (end : EvaluationEnd) → HasLine end → asked v.words ≡ Some c → c.action ≡ Plain → v.kept ≡ None → PlainRuns (v.holds c.file) c.steps c.arena v.left v.left' v.sent end → Untold
-  plain_untold c end l is p k h = inr (inl (record { end = end; has_line = l; ended = record { command = c; asked_for = is; is_plain = p; runs = h; unbuilt = k } }))
+  untold : (end : EvaluationEnd) → HasLine end → EndedSo v end → Untold
+  untold end l h = inl (record { end = end; has_line = l; ended = h })
 
-  cut : Told v answer.WriteFault → v.Rises × Cut
-  cut (was_usage e none shelf same i k) = absurd (cc)
-  cut (was_untold e shelf same i k) = absurd (cc)
-  cut (was_asked c is (was_run r i h)) =
-      (h.0, inl (record { command = c; asked_for = is; is_run = r; program = h.1.0; accepted = h.1.1.0; built = h.1.1.1.built; printed = h.1.1.1.printed }))
-  cut (was_asked c is (was_check r i k h)) =
-      (h.0, inr (inl (record { command = c; asked_for = is; is_check = r; passes = h.1.0; unbuilt = k; printed = h.1.1 })))
-  cut (was_asked c is (was_plain p k h)) =
-      (h.0, inr (inr (record { ended = record { command = c; asked_for = is; is_plain = p; runs = h.1; unbuilt = k } })))
+  cut : Heard v answer.WriteFault → v.Rises × Cut
+  cut (is_usage e none same) = absurd (cc)
+  cut (is_untold e same) = absurd (cc)
+  cut (is_checked c is r i k h) =
+      (h.0, inr (record { command = c; asked_for = is; is_check = r; passes = h.1.0; unbuilt = k; printed = h.1.1 }))
+  cut (is_ended c is h) = (h.0, inl (record { ended = ended v c endings.WriteFault is h.1 }))
 
   -- the outside stays where the words or the text are refused, or the shelf fails
-  usage_same : Told v answer.Usage → v.Same × v.InputSame
-  usage_same (was_usage e none shelf same i k) = (same, i)
-  usage_same (was_untold e shelf same i k) = absurd (cc)
-  usage_same (was_asked c is (was_run r i h)) = absurd h
-  usage_same (was_asked c is (was_check r i k h)) = absurd h
-  usage_same (was_asked c is (was_plain p k h)) = absurd h
+  usage_same : Heard v answer.Usage → v.Same × v.InputSame
+  usage_same (is_usage e none same) = same
+  usage_same (is_untold e same) = same
+  usage_same (is_checked c is r i k h) = absurd h
+  usage_same (is_ended c is h) = absurd h
 
-  refused_same : (x : Refusal) → Told v (answer.Refused x) → v.Same × v.InputSame
-  refused_same x (was_usage e none shelf same i k) = (same, i)
-  refused_same x (was_untold e shelf same i k) = (same, i)
-  refused_same x (was_asked c is (was_run r i h)) = (h.1, i)
-  refused_same x (was_asked c is (was_check r i k h)) = (h.1, i)
-  refused_same x (was_asked c is (was_plain p k h)) = h.1
+  refused_same : (x : Refusal) → Heard v (answer.Refused x) → v.Same × v.InputSame
+  refused_same x (is_usage e none same) = same
+  refused_same x (is_untold e same) = same
+  refused_same x (is_checked c is r i k h) = (h.1, i)
+  refused_same x (is_ended c is h) = h.1.0
 
-  file_fault_same : Told v answer.FileFault → v.Same × v.InputSame
-  file_fault_same (was_usage e none shelf same i k) = (same, i)
-  file_fault_same (was_untold e shelf same i k) = (same, i)
-  file_fault_same (was_asked c is (was_run r i h)) = (h.1, i)
-  file_fault_same (was_asked c is (was_check r i k h)) = (h.1, i)
-  file_fault_same (was_asked c is (was_plain p k h)) = h.1
-
-  -- a run or an evaluation came to an end of which a line is still to be written
-  unhandled_untold : (class : List ℕ) (site : Place) → Told v (answer.Unhandled class site) → Untold
-  unhandled_untold class site (was_usage e none shelf same i k) = absurd (cc)
-  unhandled_untold class site (was_untold e shelf same i k) = absurd (cc)
-  unhandled_untold class site (was_asked c is (was_run r i h)) = absurd h
-  unhandled_untold class site (was_asked c is (was_check r i k h)) = absurd h
-  unhandled_untold class site (was_asked c is (was_plain p k h)) = plain_untold c (endings.Unhandled h.class site) tt is p k h.runs
-
-  full_untold : (wanted room : ℕ) → Told v (answer.ArenaFull wanted room) → Untold
-  full_untold wanted room (was_usage e none shelf same i k) = absurd (cc)
-  full_untold wanted room (was_untold e shelf same i k) = absurd (cc)
-  full_untold wanted room (was_asked c is (was_run r i h)) = absurd h
-  full_untold wanted room (was_asked c is (was_check r i k h)) = absurd h
-  full_untold wanted room (was_asked c is (was_plain p k h)) = plain_untold c (endings.Full wanted room) tt is p k h
-
-  budget_untold : (n : ℕ) → Told v (answer.Budget n) → Untold
-  budget_untold n (was_usage e none shelf same i k) = absurd (cc)
-  budget_untold n (was_untold e shelf same i k) = absurd (cc)
-  budget_untold n (was_asked c is (was_run r i h)) = inl (record {
-    command = c;
-    asked_for = is;
-    is_run = r;
-    program = h.1.0;
-    accepted = h.1.1.0;
-    built = h.1.1.1.built;
-    spends = h.1.1.1.spends;
-    printed = h.1.1.1.printed;
-  })
-  budget_untold n (was_asked c is (was_check r i k h)) = absurd h
-  budget_untold n (was_asked c is (was_plain p k h)) = plain_untold c endings.More tt is p k h.1
-
-  spent_untold : Told v answer.Spent → Untold
-  spent_untold (was_usage e none shelf same i k) = absurd (cc)
-  spent_untold (was_untold e shelf same i k) = absurd (cc)
-  spent_untold (was_asked c is (was_run r i h)) = absurd h
-  spent_untold (was_asked c is (was_check r i k h)) = absurd h
-  spent_untold (was_asked c is (was_plain p k h)) = plain_untold c endings.Spent tt is p k h
-
-  read_fault_untold : Told v answer.ReadFault → Untold
-  read_fault_untold (was_usage e none shelf same i k) = absurd (cc)
-  read_fault_untold (was_untold e shelf same i k) = absurd (cc)
-  read_fault_untold (was_asked c is (was_run r i h)) = absurd h
-  read_fault_untold (was_asked c is (was_check r i k h)) = absurd h
-  read_fault_untold (was_asked c is (was_plain p k h)) = plain_untold c endings.ReadFault tt is p k h.1
+  file_fault_same : Heard v answer.FileFault → v.Same × v.InputSame
+  file_fault_same (is_usage e none same) = same
+  file_fault_same (is_untold e same) = same
+  file_fault_same (is_checked c is r i k h) = (h.1, i)
+  file_fault_same (is_ended c is h) = h.1.0
 
   -- a write fault is one of a line with nothing touched before it, one of the run, of the evaluation or of the line `ok`, or one
-  -- of the line of a run that was spent or of an evaluation
+  -- of the line of a run or of an evaluation
   abbrev Faults : Type 0 → Type 0
   Faults ErrRises = (ErrRises × (v.Same × v.InputSame)) ⊎ ((v.Rises × Cut) ⊎ (ErrRises × Untold))
 
-  by_line : (ErrRises : Type 0) → ErrRises → (v.Same × v.InputSame) ⊎ IsPlainBroken v.words v.holds v.kept v.left v.left' v.sent → Faults ErrRises
-  by_line ErrRises f (inl same) = inl (f, same)
-  by_line ErrRises f (inr b) = inr (inr (f, inr (inr b)))
+  -- a run or an evaluation came to an end of which a line is still to be written, or nothing was touched
+  unhandled_untold : (ErrRises : Type 0) (class : List ℕ) (site : Place) → ErrRises → Heard v (answer.Unhandled class site) → Faults ErrRises
+  unhandled_untold ErrRises class site f (is_usage e none same) = inl (f, same)
+  unhandled_untold ErrRises class site f (is_untold e same) = inl (f, same)
+  unhandled_untold ErrRises class site f (is_checked c is r i k h) = absurd h
+  unhandled_untold ErrRises class site f (is_ended c is h) =
+      inr (inr (f, untold (endings.Unhandled h.class site) tt (ended v c (endings.Unhandled h.class site) is h.ends)))
 
-  write_fault : (a : CommandAnswer) (r : Status) (ErrRises : Type 0) → Told v a → r ≡ WriteFault → (r ≡ WriteFault → status_of a ≢ WriteFault → ErrRises) → (line_of a ≡ [] → r ≡ status_of a) → Faults ErrRises
+  full_untold : (ErrRises : Type 0) (wanted room : ℕ) → ErrRises → Heard v (answer.ArenaFull wanted room) → Faults ErrRises
+  full_untold ErrRises wanted room f (is_usage e none same) = inl (f, same)
+  full_untold ErrRises wanted room f (is_untold e same) = inl (f, same)
+  full_untold ErrRises wanted room f (is_checked c is r i k h) = absurd h
+  full_untold ErrRises wanted room f (is_ended c is (inl h)) =
+      inr (inr (f, untold (endings.Full wanted room) tt (ended v c (endings.Full wanted room) is h)))
+  full_untold ErrRises wanted room f (is_ended c is (inr h)) = inl (f, h.1)
+
+  budget_untold : (ErrRises : Type 0) (n : ℕ) → ErrRises → Heard v (answer.Budget n) → Faults ErrRises
+  budget_untold ErrRises n f (is_usage e none same) = inl (f, same)
+  budget_untold ErrRises n f (is_untold e same) = inl (f, same)
+  budget_untold ErrRises n f (is_checked c is r i k h) = absurd h
+  budget_untold ErrRises n f (is_ended c is h) = inr (inr (f, untold endings.More tt (ended v c endings.More is h.1)))
+
+  spent_untold : (ErrRises : Type 0) → ErrRises → Heard v answer.Spent → Faults ErrRises
+  spent_untold ErrRises f (is_usage e none same) = inl (f, same)
+  spent_untold ErrRises f (is_untold e same) = inl (f, same)
+  spent_untold ErrRises f (is_checked c is r i k h) = absurd h
+  spent_untold ErrRises f (is_ended c is h) = inr (inr (f, untold endings.Spent tt (ended v c endings.Spent is h)))
+
+  read_fault_untold : (ErrRises : Type 0) → ErrRises → Heard v answer.ReadFault → Faults ErrRises
+  read_fault_untold ErrRises f (is_usage e none same) = inl (f, same)
+  read_fault_untold ErrRises f (is_untold e same) = inl (f, same)
+  read_fault_untold ErrRises f (is_checked c is r i k h) = absurd h
+  read_fault_untold ErrRises f (is_ended c is h) = inr (inr (f, untold endings.ReadFault tt (ended v c endings.ReadFault is h.1)))
+
+  by_line : (ErrRises : Type 0) → ErrRises → Wanting v → Faults ErrRises
+  by_line ErrRises f (inl same) = inl (f, same)
+  by_line ErrRises f (inr (inl h)) = inr (inr (f, untold (endings.Unhandled h.class h.site) tt h.ended))
+  by_line ErrRises f (inr (inr b)) = inr (inr (f, inr b))
+
+  write_fault : (a : CommandAnswer) (r : Status) (ErrRises : Type 0) → Heard v a → r ≡ WriteFault → (r ≡ WriteFault → status_of a ≢ WriteFault → ErrRises) → (line_of a ≡ [] → r ≡ status_of a) → Faults ErrRises
   write_fault answer.Done r ErrRises w e fault quiet = absurd (done_is_none (sym (quiet refl) ∙ e))
     where
       done_is_none : Done ≡ WriteFault → ⊥
       done_is_none h = cc
-  write_fault (answer.Unhandled class site) r ErrRises w e fault quiet = inr (inr (fault e (λ h. cc), unhandled_untold class site w))
+  write_fault (answer.Unhandled class site) r ErrRises w e fault quiet = unhandled_untold ErrRises class site (fault e (λ h. cc)) w
   write_fault answer.Usage r ErrRises w e fault quiet = inl (fault e (λ h. cc), usage_same w)
   write_fault (answer.Refused x) r ErrRises w e fault quiet = inl (fault e (λ h. cc), refused_same x w)
-  write_fault (answer.ArenaFull wanted room) r ErrRises w e fault quiet = inr (inr (fault e (λ h. cc), full_untold wanted room w))
-  write_fault (answer.Budget n) r ErrRises w e fault quiet = inr (inr (fault e (λ h. cc), budget_untold n w))
-  write_fault answer.Spent r ErrRises w e fault quiet = inr (inr (fault e (λ h. cc), spent_untold w))
+  write_fault (answer.ArenaFull wanted room) r ErrRises w e fault quiet = full_untold ErrRises wanted room (fault e (λ h. cc)) w
+  write_fault (answer.Budget n) r ErrRises w e fault quiet = budget_untold ErrRises n (fault e (λ h. cc)) w
+  write_fault answer.Spent r ErrRises w e fault quiet = spent_untold ErrRises (fault e (λ h. cc)) w
   write_fault answer.FileFault r ErrRises w e fault quiet = inl (fault e (λ h. cc), file_fault_same w)
-  write_fault answer.ReadFault r ErrRises w e fault quiet = inr (inr (fault e (λ h. cc), read_fault_untold w))
+  write_fault answer.ReadFault r ErrRises w e fault quiet = read_fault_untold ErrRises (fault e (λ h. cc)) w
   write_fault answer.WriteFault r ErrRises w e fault quiet = inr (inl (cut w))
   write_fault answer.NoMemory r ErrRises w e fault quiet = by_line ErrRises (fault e (λ h. cc)) (wanting v w)
 
@@ -329,15 +308,19 @@ module _ (v : View) where
       let u = untouched a w h in
       (first_status a r u.0 (settled r (status_of a) written), u.1, u.2, u.3, u.4)
 
-  -- where the command is not to evaluate, the input is as it was
-  input_same : (a : CommandAnswer) → Told v a → (command : Request) → asked v.words ≡ Some command → command.action ≢ Plain → v.InputSame
-  input_same a (was_usage e none shelf same i k) command h other = i
-  input_same a (was_untold e shelf same i k) command h other = i
-  input_same a (was_asked c is (was_run r i o)) command h other = i
-  input_same a (was_asked c is (was_check r i k o)) command h other = i
-  input_same a (was_asked c is (was_plain p k o)) command h other =
+  -- where the command is to check, the input is as it was
+  input_same : (a : CommandAnswer) → Told v a → (command : Request) → asked v.words ≡ Some command → command.action ≡ Check → v.InputSame
+  input_same a (was_usage e none shelf same i k) command h check = i
+  input_same a (was_untold e shelf same i k) command h check = i
+  input_same a (was_asked c is (was_check r i k o)) command h check = i
+  input_same a (was_asked c is (was_run r o)) command h check =
       let same : command ≡ c = cc in
-      absurd (other (ap (λ (x : Request). x.action) same ∙ p))
+      let both : Check ≡ Run = sym check ∙ (ap (λ (x : Request). x.action) same ∙ r) in
+      absurd (cc)
+  input_same a (was_asked c is (was_plain p k o)) command h check =
+      let same : command ≡ c = cc in
+      let both : Check ≡ Plain = sym check ∙ (ap (λ (x : Request). x.action) same ∙ p) in
+      absurd (cc)
 
 -- a call that answered a and ended with the status r, whose line was written
 pub record CallEnded (v : View) (ErrRises : Type 0) (said said' : Option (List ℕ)) (a : CommandAnswer) (r : Status) : Type 0 where
@@ -352,7 +335,7 @@ module _ {v : View} {ErrRises : Type 0} {said said' : Option (List ℕ)} {a : Co
   ends : (t : Status) → r ≡ t → t ≢ WriteFault → Says v said said' t
   ends t e other =
       let no_fault : r ≢ WriteFault = λ h. other (sym e ∙ h) in
-      subst (Says v said said') (sym (c.written no_fault) ∙ e) (says v said said' a c.told (c.line no_fault))
+      subst (Says v said said') (sym (c.written no_fault) ∙ e) (says v said said' a (heard v a c.told) (c.line no_fault))
 
   pub ends_usage : r ≡ Usage → IsUsage v.words said said' × v.InputSame
   ends_usage e = ends Usage e (λ h. cc)
@@ -360,19 +343,19 @@ module _ {v : View} {ErrRises : Type 0} {said said' : Option (List ℕ)} {a : Co
   pub ends_words_first : asked v.words ≡ None → ((r ≡ Usage) ⊎ ((r ≡ WriteFault) ⊎ (r ≡ NoMemory))) × v.ShelfSame × v.Same × v.InputSame × (v.kept ≡ None)
   ends_words_first none = words_first v a r c.told c.written none
 
-  pub ends_done : r ≡ Done → IsDone v.words v.holds v.kept v.sent said said' ⊎ (IsChecked v.words v.holds v.kept v.sent said said' ⊎ IsPlainDone v.words v.holds v.kept v.left v.left' v.sent said said')
+  pub ends_done : r ≡ Done → IsDone v.words v.holds v.kept v.left v.left' v.sent said said' ⊎ IsChecked v.words v.holds v.kept v.sent said said'
   ends_done e = ends Done e (λ h. cc)
 
   pub ends_unhandled : r ≡ Unhandled → IsUnhandled v.words v.holds v.kept v.left v.left' v.sent said said'
   ends_unhandled e = ends Unhandled e (λ h. cc)
 
-  pub ends_refused : r ≡ Refused → (IsRefused v.words v.holds said said' ⊎ IsWholeRefused v.words v.holds said said') × v.Same × v.InputSame × (v.kept ≡ None)
+  pub ends_refused : r ≡ Refused → IsRefused v.words v.holds said said' × v.Same × v.InputSame × (v.kept ≡ None)
   ends_refused e = ends Refused e (λ h. cc)
 
-  pub ends_arena_full : r ≡ ArenaFull → IsArenaFull v.words v.holds v.kept v.left v.left' v.sent said said'
+  pub ends_arena_full : r ≡ ArenaFull → IsArenaFull v.words v.holds v.kept v.left v.left' v.sent said said' ⊎ (IsTooLarge v.words v.holds v.kept said said' × (v.Same × v.InputSame))
   ends_arena_full e = ends ArenaFull e (λ h. cc)
 
-  pub ends_budget : r ≡ Budget → IsBudget v.words v.holds v.kept v.sent said said' ⊎ (IsPlainBudget v.words v.holds v.kept v.left v.left' v.sent said said' ⊎ IsPlainSpent v.words v.holds v.kept v.left v.left' v.sent said said')
+  pub ends_budget : r ≡ Budget → IsBudget v.words v.holds v.kept v.left v.left' v.sent said said' ⊎ IsSpent v.words v.holds v.kept v.left v.left' v.sent said said'
   ends_budget e = ends Budget e (λ h. cc)
 
   pub ends_file_fault : r ≡ FileFault → v.ShelfRises × v.Same × v.InputSame × (v.kept ≡ None) × WasGiven said file_fault_line said'
@@ -382,14 +365,14 @@ module _ {v : View} {ErrRises : Type 0} {said said' : Option (List ℕ)} {a : Co
   ends_read_fault e = ends ReadFault e (λ h. cc)
 
   pub ends_write_fault : r ≡ WriteFault
-      → (ErrRises × (v.Same × v.InputSame)) ⊎ ((v.Rises × (IsCutOff v.words v.holds v.kept v.sent ⊎ (IsCheckedCutOff v.words v.holds v.kept v.sent ⊎ IsPlainCutOff v.words v.holds v.kept v.left v.left' v.sent))) ⊎ (ErrRises × (IsSpent v.words v.holds v.kept v.sent ⊎ (IsPlainUntold v.words v.holds v.kept v.left v.left' v.sent ⊎ IsPlainBroken v.words v.holds v.kept v.left v.left' v.sent))))
-  ends_write_fault e = write_fault v a r ErrRises c.told e c.fault c.quiet
+      → (ErrRises × (v.Same × v.InputSame)) ⊎ ((v.Rises × (IsCutOff v.words v.holds v.kept v.left v.left' v.sent ⊎ IsCheckedCutOff v.words v.holds v.kept v.sent)) ⊎ (ErrRises × (IsUntold v.words v.holds v.kept v.left v.left' v.sent ⊎ IsBroken v.words v.holds v.kept v.left v.left' v.sent)))
+  ends_write_fault e = write_fault v a r ErrRises (heard v a c.told) e c.fault c.quiet
 
-  pub ends_no_memory : r ≡ NoMemory → ((v.Same × v.InputSame) ⊎ IsPlainBroken v.words v.holds v.kept v.left v.left' v.sent) × WasGiven said no_memory_line said'
+  pub ends_no_memory : r ≡ NoMemory → ((v.Same × v.InputSame) ⊎ (IsUnnamed v.words v.holds v.kept v.left v.left' v.sent ⊎ IsBroken v.words v.holds v.kept v.left v.left' v.sent)) × WasGiven said no_memory_line said'
   ends_no_memory e = ends NoMemory e (λ h. cc)
 
   pub ends_line : r ≢ WriteFault → (told : CommandAnswer) × ((r ≡ status_of told) × WasGiven said (line_of told) said')
   ends_line other = (a, (c.written other, c.line other))
 
-  pub ends_input : (command : Request) → asked v.words ≡ Some command → command.action ≢ Plain → v.InputSame
-  ends_input command is other = input_same v a c.told command is other
+  pub ends_input : (command : Request) → asked v.words ≡ Some command → command.action ≡ Check → v.InputSame
+  ends_input command is check = input_same v a c.told command is check

@@ -1,8 +1,9 @@
 pub mod Loading
 pub mod Digits
 pub mod Decimals
+pub mod Seen
 pub mod Ran
 pub mod Checks
-pub mod Plains
+pub mod Outcomes
 pub mod Ends
 pub mod CommandLine

@@ -1,108 +1,124 @@
--- From what the machine's run says to what a run of the program says.
-use Rattle.std.proofs.Common.{◌≡◌, ℕ, ◌+◌, ◌≤◌, List, [], ◌++◌, length, refl, sym, ap, ◌∙◌, subst, arith, inr, Some, None}
-use Rattle.std.specs.Prelude.{Option, IfSome}
+-- From what the machine's run of an image says to what a run of the program says.
+use Rattle.std.proofs.Common.{◌≡◌, ℕ, ◌<◌, ◌≤◌, List, length, refl, sym, subst, ◌∙◌, ◌⊎◌, inl, inr, arith, ◌==◌, false}
+use Rattle.std.proofs.lemmas.Bool.{ne_eqb}
+use Rattle.std.specs.Prelude.{slice_index}
+use Rattle.base.specs.declared.place.Place.{Place}
 use Rattle.rv_machine.specs.declared.image.Image.{Image}
-use Rattle.std.proofs.Common.{⊎_elim}
 use Rattle.rv_machine.specs.declared.ending.Ending.{Ending}
 use Rattle.rv_machine.specs.declared.ending.Ending.TheVariants.{Halt, Unhandled, Full, Budget, Trap, ReadFault, WriteFault}
+use Rattle.rv_machine.specs.declared.ending.TrapKind.{TrapKind}
 use Rattle.rv_machine.specs.State.{State, Counted, start}
-use Rattle.rv_machine.specs.Step.{Result, environment_call, step_of}
-use Rattle.rv_machine.specs.Run.{Moment, Ended, act, stop, run_from, first, Feeds, Outside, IsNoFault, Gave, CutOff}
+use Rattle.rv_machine.specs.Step.{environment_call, step_of}
+use Rattle.rv_machine.specs.Run.{Moment, Ended, run_from, first, Feeds, Outside, IsNoFault, StandsAt, CutOff}
 use Rattle.lang_meaning.specs.declared.program.ProgramRows.{ProgramRows}
-use Rattle.back_first_path.specs.Limits.{most_arena_words}
-use Rattle.back_first_path.specs.Compiled.{IsPrefixOf, Compiled}
-use Rattle.top_main.specs.Theorem.{the_run, Built, Halts, Spends, GivenAll, GivenPrefix, sent_to}
+use Rattle.lang_meaning.specs.Meaning.{Meant, meaning, place_of_site}
+use Rattle.lang_meaning.specs.State.{no_place, unlimited}
+use Rattle.top_main.specs.Images.{AreBytes, Halts, Signals, HasNoRoom, IsImageOf}
+use Rattle.top_main.specs.Answers.{site_told, end_told}
+use Rattle.top_main.specs.Theorem.{sent_to, the_run, SaysAll, RunIsCut, RunComes}
 
--- the laws of runs that the machine's crate proves
-pub record Laws : Type 0 where
-  pub printed : (j n : ℕ) (m : Moment) → j ≤ n → (rest : List ℕ) × ((run_from j m).at.printed ++ rest ≡ (run_from n m).at.printed)
-  pub split : (j k : ℕ) (m : Moment) → (run_from j m).ending ≡ Budget → run_from (j + k) m ≡ run_from k (run_from j m).at
+-- what the machine says of a run of n instructions of an image in an arena
+pub record Ran (image : Image) (arena steps : ℕ) (ending : Ending) (old new : Counted) (o o' : Outside) : Type 1 where
+  pub began : old.state ≡ start image.words image.entry arena
+  pub is_ending : IsNoFault ending → (input : List ℕ) → Feeds o.left input (run_from steps (first old.state input)) → ending ≡ (run_from steps (first old.state input)).ending
+  pub stands : IsNoFault ending → (input : List ℕ) → Feeds o.left input (run_from steps (first old.state input)) → StandsAt (run_from steps (first old.state input)).at input old new o o'
+  pub ReadOther : Moment → Type 0
+  pub read_fault : ending ≡ ReadFault → CutOff 2 steps old new o o' ReadOther
+  pub WriteOther : Moment → Type 0
+  pub write_fault : ending ≡ WriteFault → CutOff 1 steps old new o o' WriteOther
 
--- an image that is the program's and fits the arena is kept
-pub built : (program : ProgramRows) (image : Image) (arena : ℕ) → Compiled program image.words image.entry → length image.words ≤ arena → Built program (Some image) arena
-built program image arena compiled fits = record { image = image; is_kept = refl; compiled = compiled; fits = fits }
+-- the place of a site is that which is told of its number
+told : (sites : List Place) (number : ℕ) (place : Place) → ((number ≡ 0) × (place ≡ no_place)) ⊎ ((1 ≤ number) × (place_of_site sites number ≡ place)) → place ≡ site_told sites number
+told sites number place (inl h) = rw h.0 h.1
+told sites number place (inr h) =
+    let test : (number == 0) ≡ false = ne_eqb number 0 (λ f. omega (arith, f, h.0)) in
+    rw test (sym h.1)
 
-with_prefix : (given given' : Option (List ℕ)) (writes writes' : ℕ) (first whole : List ℕ) → IsPrefixOf first whole → IfSome given' (λ after. Gave given writes first after writes') → IfSome given' (λ after. (f : List ℕ) × IsPrefixOf f whole × Gave given writes f after writes')
-with_prefix given None writes writes' first whole p g = tt
-with_prefix given (Some after) writes writes' first whole p g = (first, p, g)
+-- a call that cuts a run off
+cut : (call : ℕ) (image : Image) (arena steps : ℕ) (old new : Counted) (o o' : Outside) (Other : Moment → Type 0) → old.state ≡ start image.words image.entry arena → CutOff call steps old new o o' Other
+    → RunIsCut call image arena steps o.left o'.left (sent_to o.given o.writes o'.given o'.writes)
+cut call image arena steps old new o o' Other began c = record {
+  turns = c.turns;
+  below = c.below;
+  stood = λ input bytes feeds.
+      let fed : Feeds o.left input (run_from c.turns (first old.state input)) = subst (λ (s : State). Feeds o.left input (run_from c.turns (first s input))) (sym began) feeds in
+      let stood = c.stands input fed in
+      let here : step_of (run_from c.turns (first old.state input)).at.state ≡ environment_call call = subst (λ (s : State). step_of s ≡ environment_call call) stood.1.state c.before in
+      let says : SaysAll input (run_from c.turns (first old.state input)).at o.left o'.left (sent_to o.given o.writes o'.given o'.writes) = record { given = stood.1.given; rest = stood.1.left } in
+      subst
+      (λ (s : State). ((run_from c.turns (first s input)).ending ≡ Budget) × ((step_of (run_from c.turns (first s input)).at.state ≡ environment_call call) × SaysAll input (run_from c.turns (first s input)).at o.left o'.left (sent_to o.given o.writes o'.given o'.writes)))
+      began (stood.0, (here, says));
+}
 
-after_get : (r : Result) (m : Moment) → r ≡ environment_call 2 → (act stop r m).at.gets ≡ m.gets + 1
-after_get r m e = rw e refl
+-- how a run ends by what the program means: it goes on, or as the program does, or for want of room
+module _ (program : ProgramRows) (m : Meant) (x : Ended) where
+  abbrev Ways : Type 0
+  Ways = (x.ending ≡ Budget) ⊎ Halts m x ⊎ Signals program m x ⊎ HasNoRoom x
 
-one_more : (m : Moment) → step_of m.state ≡ environment_call 2 → (run_from 1 m).at.gets ≡ m.gets + 1
-unfolding run_from
-one_more m e = after_get (step_of m.state) m e
+  -- so it halts as the program does
+  halts : (word : ℕ) → Halt word ≡ x.ending → Ways → Halts m x
+  halts word e (inl b) = let is : Halt word ≡ Budget = e ∙ b in absurd (cc)
+  halts word e (inr (inl h)) = h
+  halts word e (inr (inr (inl u))) = let is : Halt word ≡ Unhandled u.class = e ∙ u.ending in absurd (cc)
+  halts word e (inr (inr (inr f))) = let is : Halt word ≡ Full f.asked f.left = e ∙ f.ending in absurd (cc)
 
--- an image that is the program's, in a machine at its start
-module _ (program : ProgramRows) (image : Image) (arena : ℕ) (compiled : Compiled program image.words image.entry) (fits : length image.words ≤ arena) (most : arena ≤ most_arena_words) (state : State) (begin : state ≡ start image.words image.entry arena) where
-  -- it reads nothing
-  pub unread : (n : ℕ) (input : List ℕ) → (run_from n (first state input)).at.gets ≡ 0
-  unread n input =
-      let f = compiled arena n input fits most in
-      subst (λ s. (run_from n (first s input)).at.gets ≡ 0) (sym begin) f.unread
+  -- or with its condition
+  signals : (class : ℕ) → Unhandled class ≡ x.ending → Ways → (u : Signals program m x) × (u.class ≡ class)
+  signals class e (inl b) = let is : Unhandled class ≡ Budget = e ∙ b in absurd (cc)
+  signals class e (inr (inl h)) = let is : Unhandled class ≡ Halt h.word = e ∙ h.ending in absurd (cc)
+  signals class e (inr (inr (inl u))) = let is : Unhandled class ≡ Unhandled u.class = e ∙ u.ending in (u, cc)
+  signals class e (inr (inr (inr f))) = let is : Unhandled class ≡ Full f.asked f.left = e ∙ f.ending in absurd (cc)
 
-  -- so any input feeds it
-  pub fed : (left : Option (List ℕ)) (n : ℕ) (input : List ℕ) → Feeds left input (run_from n (first state input))
-  fed left n input = inr (unread n input)
+  -- and does not trap
+  no_trap : (kind : TrapKind) (address : ℕ) → Trap kind address ≡ x.ending → Ways → ⊥
+  no_trap kind address e (inl b) = let is : Trap kind address ≡ Budget = e ∙ b in absurd (cc)
+  no_trap kind address e (inr (inl h)) = let is : Trap kind address ≡ Halt h.word = e ∙ h.ending in absurd (cc)
+  no_trap kind address e (inr (inr (inl u))) = let is : Trap kind address ≡ Unhandled u.class = e ∙ u.ending in absurd (cc)
+  no_trap kind address e (inr (inr (inr f))) = let is : Trap kind address ≡ Full f.asked f.left = e ∙ f.ending in absurd (cc)
 
-  -- and it does not stop before a get-byte
-  pub no_read_fault : (laws : Laws) (steps : ℕ) (old new : Counted) (o o' : Outside) (Other : Moment → Type 0) → old.state ≡ state → CutOff 2 steps old new o o' Other → ⊥
-  no_read_fault laws steps old new o o' Other here c =
-      let m : Moment = first state [] in
-      let same : run_from c.turns (first old.state []) ≡ run_from c.turns m = ap (λ s. run_from c.turns (first s [])) here in
-      let feeds : Feeds o.left [] (run_from c.turns (first old.state [])) = subst (λ (s : State). Feeds o.left [] (run_from c.turns (first s []))) (sym here) (fed o.left c.turns []) in
-      let stood = c.stands [] feeds in
-      let goes_on : (run_from c.turns m).ending ≡ Budget = sym (ap (λ (e : Ended). e.ending) same) ∙ stood.0 in
-      let at_state : new.state ≡ (run_from c.turns m).at.state = stood.1.state ∙ ap (λ (e : Ended). e.at.state) same in
-      let call : step_of (run_from c.turns m).at.state ≡ environment_call 2 = subst (λ s. step_of s ≡ environment_call 2) at_state c.before in
-      let longer = ap (λ (e : Ended). e.at.gets) (laws.split c.turns 1 m goes_on) ∙ one_more (run_from c.turns m).at call in
-      let none = unread (c.turns + 1) [] in
-      absurd (omega arith)
+-- an image that was built, in a machine at its start
+module _ (names : List (List ℕ)) (program : ProgramRows) (image : Image) (arena steps : ℕ) (is_image : IsImageOf names program image) (fits : length image.words ≤ arena) (most : arena ≤ 16777216) (below : steps < 4294967296) (old new : Counted) (o o' : Outside) where
+  abbrev Says : List ℕ → Type 0
+  Says input = SaysAll input (the_run image arena steps input).at o.left o'.left (sent_to o.given o.writes o'.given o'.writes)
 
-  -- the whole run: what was given, how it ended where it halted, and where it was spent
-  pub whole : (steps : ℕ) (given given' : Option (List ℕ)) (writes writes' : ℕ) → ((input : List ℕ) → IfSome given' (λ after. Gave given writes (run_from steps (first state input)).at.printed after writes')) → GivenAll (built program image arena compiled fits) steps (sent_to given writes given' writes')
-  unfolding built
-  whole steps given given' writes writes' g =
-      λ input. subst (λ (s : State). IfSome given' (λ after. Gave given writes (run_from steps (first s input)).at.printed after writes')) begin (g input)
+  -- what an input that feeds the run tells of it: how it ended, what it printed and left, and where the machine stands
+  record Fed (ending : Ending) (input : List ℕ) : Type 0 where
+    is_ending : ending ≡ (the_run image arena steps input).ending
+    ways : Ways program (meaning names program input steps unlimited) (the_run image arena steps input)
+    says : Says input
+    state : new.state ≡ (the_run image arena steps input).at.state
 
-  pub halted : (steps word : ℕ) → ((input : List ℕ) → Halt word ≡ (run_from steps (first state input)).ending) → Halts (built program image arena compiled fits) steps
-  unfolding built
-  halted steps word h =
-      λ input. (compiled arena steps input fits most).halt word (sym (subst (λ (s : State). Halt word ≡ (run_from steps (first s input)).ending) begin (h input)))
+  fed : (ending : Ending) → Ran image arena steps ending old new o o' → IsNoFault ending → (input : List ℕ) → AreBytes input → Feeds o.left input (the_run image arena steps input) → Fed ending input
+  fed ending r plain input bytes feeds =
+      let there : Feeds o.left input (run_from steps (first old.state input)) = subst (λ (s : State). Feeds o.left input (run_from steps (first s input))) (sym r.began) feeds in
+      let stands = r.stands plain input there in
+      record {
+        is_ending = subst (λ (s : State). ending ≡ (run_from steps (first s input)).ending) r.began (r.is_ending plain input there);
+        ways = (is_image arena input fits most bytes).ends steps below;
+        says = subst (λ (s : State). SaysAll input (run_from steps (first s input)).at o.left o'.left (sent_to o.given o.writes o'.given o'.writes)) r.began (record { given = stands.given; rest = stands.left });
+        state = subst (λ (s : State). new.state ≡ (run_from steps (first s input)).at.state) r.began stands.state;
+      }
 
-  pub spent : (steps : ℕ) → ((input : List ℕ) → Budget ≡ (run_from steps (first state input)).ending) → Spends (built program image arena compiled fits) steps
-  unfolding built
-  spent steps h =
-      λ input. sym (subst (λ (s : State). Budget ≡ (run_from steps (first s input)).ending) begin (h input))
-
-  -- it ends in no other way
-  pub only : (steps : ℕ) (e : Ending) → ((input : List ℕ) → e ≡ (run_from steps (first state input)).ending) → ((w : ℕ) → e ≡ Halt w → ⊥) → (e ≡ Budget → ⊥) → ⊥
-  only steps e h no_halt no_budget =
-      let same = subst (λ (s : State). e ≡ (run_from steps (first s [])).ending) begin (h []) in
-      ⊎_elim
-      (λ b. no_budget (same ∙ b))
-      (λ p. no_halt p.0 (same ∙ p.1))
-      (compiled arena steps [] fits most).only
-
-  -- the prefix that was given where a write cut it off
-  pub cut_off : (laws : Laws) (steps : ℕ) (old new : Counted) (o o' : Outside) (Other : Moment → Type 0) → old.state ≡ state → CutOff 1 steps old new o o' Other → GivenPrefix (built program image arena compiled fits) steps (sent_to o.given o.writes o'.given o'.writes)
-  unfolding built
-  cut_off laws steps old new o o' Other here c =
-      λ input.
-      let feeds : Feeds o.left input (run_from c.turns (first old.state input)) = subst (λ (s : State). Feeds o.left input (run_from c.turns (first s input))) (sym here) (fed o.left c.turns input) in
-      let stood = c.stands input feeds in
-      let p = laws.printed c.turns steps (first old.state input) (omega (arith, c.below)) in
-      let whole = subst (λ (s : State). IsPrefixOf (run_from c.turns (first old.state input)).at.printed (run_from steps (first s input)).at.printed) (here ∙ begin) p in
-      with_prefix o.given o'.given o.writes o'.writes (run_from c.turns (first old.state input)).at.printed (the_run image arena steps input).at.printed whole stood.1.given
-
-  -- what a cut run says of the source where nothing was read
-  pub cut_other : (steps : ℕ) (old new : Counted) (o o' : Outside) (Same : Type 0) → old.state ≡ state → CutOff 1 steps old new o o' (λ m. m.gets ≡ 0 → Same) → Same
-  cut_other steps old new o o' Same here c =
-      let none : (run_from c.turns (first old.state [])).at.gets ≡ 0 = subst (λ (s : State). (run_from c.turns (first s [])).at.gets ≡ 0) (sym here) (unread c.turns []) in
-      (c.stands [] (inr none)).2 none
-
--- an ending that is neither fault
-pub no_fault : (e : Ending) → (e ≡ ReadFault → ⊥) → (e ≡ WriteFault → ⊥) → IsNoFault e
-no_fault ReadFault r w = r refl
-no_fault WriteFault r w = w refl
-no_fault other r w = tt
+  -- the end that is told of its run is the one that it came to
+  pub comes : (ending : Ending) → Ran image arena steps ending old new o o'
+      → RunComes names program image arena steps o.left o'.left (sent_to o.given o.writes o'.given o'.writes) (end_told program.sites (slice_index new.state.registers 11) ending)
+  comes (Halt word) r = λ input bytes feeds.
+      let f = fed (Halt word) r tt input bytes feeds in
+      (halts program (meaning names program input steps unlimited) (the_run image arena steps input) word f.is_ending f.ways, f.says)
+  comes (Unhandled class) r = λ input bytes feeds.
+      let x : Ended = the_run image arena steps input in
+      let f = fed (Unhandled class) r tt input bytes feeds in
+      let u = signals program (meaning names program input steps unlimited) x class f.is_ending f.ways in
+      let site = told program.sites (slice_index x.at.state.registers 11) u.0.place u.0.site_is in
+      ((u.0, (u.1, subst (λ (s : State). u.0.place ≡ site_told program.sites (slice_index s.registers 11)) (sym f.state) site)), f.says)
+  comes (Full wanted room) r = λ input bytes feeds.
+      let f = fed (Full wanted room) r tt input bytes feeds in
+      (sym f.is_ending, f.says)
+  comes Budget r = λ input bytes feeds.
+      let f = fed Budget r tt input bytes feeds in
+      (sym f.is_ending, f.says)
+  comes (Trap kind address) r = λ input bytes feeds.
+      let f = fed (Trap kind address) r tt input bytes feeds in
+      absurd (no_trap program (meaning names program input steps unlimited) (the_run image arena steps input) kind address f.is_ending f.ways)
+  comes ReadFault r = cut 2 image arena steps old new o o' r.ReadOther r.began (r.read_fault refl)
+  comes WriteFault r = cut 1 image arena steps old new o o' r.WriteOther r.began (r.write_fault refl)

@@ -1,79 +1,43 @@
 -- What a run or an evaluation of a program answers, what a run, a check or an evaluation of a file does, what the words do, and what stands
 -- then.
-use Rattle.std.specs.Prelude.{◌≡◌, ◌⊎◌, ℕ, List, Option, Some, None}
+use Rattle.std.specs.Prelude.{◌≡◌, ◌⊎◌, ◌==◌, if◌then◌else◌, ℕ, List, length, Option, Some, None}
 use Rattle.base.specs.declared.place.Place.{Place}
 use Rattle.base.specs.declared.reason.Refusal.{Refusal}
 use Rattle.base.specs.declared.reason.Stop.{Stop}
 use Rattle.base.specs.declared.reason.Stop.TheVariants as stop
+use Rattle.rv_machine.specs.declared.ending.Ending.{Ending}
+use Rattle.rv_machine.specs.declared.ending.Ending.TheVariants as machine
 use Rattle.rv_machine.specs.declared.image.Image.{Image}
 use Rattle.lang_meaning.specs.declared.program.ProgramRows.{ProgramRows}
 use Rattle.lang_meaning.specs.declared.evaluation.EvaluationEnd.{EvaluationEnd}
 use Rattle.lang_meaning.specs.declared.evaluation.EvaluationEnd.TheVariants as endings
-use Rattle.lang_meaning.specs.Evaluation.{Evaluation}
-use Rattle.lang_meaning.specs.Evaluates.{Evaluates, BreaksOff}
+use Rattle.lang_meaning.specs.Evaluates.{BreaksOff}
+use Rattle.lang_meaning.specs.Meaning.{place_of_site}
+use Rattle.lang_meaning.specs.State.{no_place}
 use Rattle.top_main.specs.Command.{Request, asked}
 use Rattle.base.specs.Given.{WasGiven, WasGivenFront}
 use Rattle.top_main.specs.Lines.{ok_line}
+use Rattle.top_main.specs.declared.command.Action.{Action}
 use Rattle.top_main.specs.declared.command.Action.TheVariants.{Run, Check, Plain}
 use Rattle.top_main.specs.declared.status.CommandAnswer.{CommandAnswer}
 use Rattle.top_main.specs.declared.status.CommandAnswer.TheVariants as answer
-use Rattle.top_main.specs.Theorem.{Sent, Built, Halts, Spends, GivenAll, GivenPrefix, Accepted, Declined, Passes, Offends, PlainRuns, PlainBreaks, class_text}
+use Rattle.top_main.specs.Theorem.{Sent, Passes, Offends, IsLarge, Came, FileEnds, FileIsLarge, FileBreaks, class_text}
 
 -- the answer of a text that is no program
 abbrev pub answer_of_stop : Stop → CommandAnswer
 answer_of_stop (stop.Refused r) = answer.Refused r
 answer_of_stop stop.NoMemory = answer.NoMemory
 
--- the image that is kept is the program's, its run halts, and all that it prints was given
-pub record RunHalts (program : ProgramRows) (kept : Option Image) (arena steps : ℕ) (sent : Sent) : Type 0 where
-  pub built : Built program kept arena
-  pub halts : Halts built steps
-  pub printed : GivenAll built steps sent
-
--- the same with a run that does not end within so many instructions
-pub record RunSpends (program : ProgramRows) (kept : Option Image) (arena steps : ℕ) (sent : Sent) : Type 0 where
-  pub built : Built program kept arena
-  pub spends : Spends built steps
-  pub printed : GivenAll built steps sent
-
--- the same with a run whose output was cut off
-pub record RunIsCutOff (program : ProgramRows) (kept : Option Image) (arena steps : ℕ) (sent : Sent) : Type 0 where
-  pub built : Built program kept arena
-  pub printed : GivenPrefix built steps sent
-
--- the answer of a program's run: where the output rose in faults, and where it is the same
-abbrev pub RunAnswers : CommandAnswer → ProgramRows → Option Image → (arena steps : ℕ) → Sent → (Rises Same : Type 0) → Type 0
-RunAnswers answer.Done program kept arena steps sent Rises Same = RunHalts program kept arena steps sent
-RunAnswers (answer.Budget n) program kept arena steps sent Rises Same = (n ≡ steps) × RunSpends program kept arena steps sent
-RunAnswers answer.WriteFault program kept arena steps sent Rises Same = Rises × RunIsCutOff program kept arena steps sent
-RunAnswers answer.NoMemory program kept arena steps sent Rises Same = Same × (kept ≡ None)
-RunAnswers answer.Usage program kept arena steps sent Rises Same = ⊥
-RunAnswers (answer.Refused r) program kept arena steps sent Rises Same = ⊥
-RunAnswers answer.FileFault program kept arena steps sent Rises Same = ⊥
-RunAnswers (answer.Unhandled class site) program kept arena steps sent Rises Same = ⊥
-RunAnswers (answer.ArenaFull wanted room) program kept arena steps sent Rises Same = ⊥
-RunAnswers answer.Spent program kept arena steps sent Rises Same = ⊥
-RunAnswers answer.ReadFault program kept arena steps sent Rises Same = ⊥
-
--- the file's text is a program, and that stands of its run
-abbrev pub RunOf : Option (List ℕ) → (ProgramRows → Type 0) → Type 0
-RunOf held Stands = (program : ProgramRows) × (Accepted held program × Stands program)
-
--- the answer for a file to run: where the shelf or the output rose in faults, and where the output is the same
-abbrev pub RunFileAnswers : CommandAnswer → Option (List ℕ) → Option Image → (arena steps : ℕ) → Sent → (ShelfRises Rises Same : Type 0) → Type 0
-RunFileAnswers answer.Done held kept arena steps sent ShelfRises Rises Same = RunOf held (λ program. RunHalts program kept arena steps sent)
-RunFileAnswers (answer.Budget n) held kept arena steps sent ShelfRises Rises Same =
-    (n ≡ steps) × RunOf held (λ program. RunSpends program kept arena steps sent)
-RunFileAnswers (answer.Refused r) held kept arena steps sent ShelfRises Rises Same = Declined held r × Same × (kept ≡ None)
-RunFileAnswers answer.FileFault held kept arena steps sent ShelfRises Rises Same = ShelfRises × Same × (kept ≡ None)
-RunFileAnswers answer.WriteFault held kept arena steps sent ShelfRises Rises Same =
-    Rises × RunOf held (λ program. RunIsCutOff program kept arena steps sent)
-RunFileAnswers answer.NoMemory held kept arena steps sent ShelfRises Rises Same = Same
-RunFileAnswers answer.Usage held kept arena steps sent ShelfRises Rises Same = ⊥
-RunFileAnswers (answer.Unhandled class site) held kept arena steps sent ShelfRises Rises Same = ⊥
-RunFileAnswers (answer.ArenaFull wanted room) held kept arena steps sent ShelfRises Rises Same = ⊥
-RunFileAnswers answer.Spent held kept arena steps sent ShelfRises Rises Same = ⊥
-RunFileAnswers answer.ReadFault held kept arena steps sent ShelfRises Rises Same = ⊥
+-- the answer of a program that came to an end: with these names, within so many levels or instructions; to name a class takes memory
+abbrev pub EndAnswers : CommandAnswer → EvaluationEnd → List (List ℕ) → ProgramRows → (steps : ℕ) → Type 0
+EndAnswers a endings.Value names program steps = a ≡ answer.Done
+EndAnswers a (endings.Unhandled class site) names program steps =
+    (a ≡ answer.Unhandled (class_text names program class) site) ⊎ (a ≡ answer.NoMemory)
+EndAnswers a (endings.Full wanted room) names program steps = a ≡ answer.ArenaFull wanted room
+EndAnswers a endings.More names program steps = a ≡ answer.Budget steps
+EndAnswers a endings.Spent names program steps = a ≡ answer.Spent
+EndAnswers a endings.ReadFault names program steps = a ≡ answer.ReadFault
+EndAnswers a endings.WriteFault names program steps = a ≡ answer.WriteFault
 
 -- the answer for what is checked: where it passes, which refusals it has, what an output was given before and after, where the shelf
 -- or the output rose in faults, and where the output is the same
@@ -90,61 +54,88 @@ CheckAnswers (answer.ArenaFull wanted room) Good Bad given given' ShelfRises Ris
 CheckAnswers answer.Spent Good Bad given given' ShelfRises Rises Same = ⊥
 CheckAnswers answer.ReadFault Good Bad given given' ShelfRises Rises Same = ⊥
 
--- the answer of an evaluation that came to this end: of a program with these names, within so many levels; to name a class takes memory
-abbrev pub EndAnswers : CommandAnswer → EvaluationEnd → List (List ℕ) → ProgramRows → (levels : ℕ) → Type 0
-EndAnswers a endings.Value names program levels = a ≡ answer.Done
-EndAnswers a (endings.Unhandled class site) names program levels =
-    (a ≡ answer.Unhandled (class_text names program class) site) ⊎ (a ≡ answer.NoMemory)
-EndAnswers a (endings.Full wanted room) names program levels = a ≡ answer.ArenaFull wanted room
-EndAnswers a endings.More names program levels = a ≡ answer.Budget levels
-EndAnswers a endings.Spent names program levels = a ≡ answer.Spent
-EndAnswers a endings.ReadFault names program levels = a ≡ answer.ReadFault
-EndAnswers a endings.WriteFault names program levels = a ≡ answer.WriteFault
+-- the place that is told of a site by its number, where 0 is that of none
+abbrev pub site_told : List Place → ℕ → Place
+site_told sites number = if number == 0 then no_place else place_of_site sites number
 
--- the answer for what is evaluated within so many levels: where it comes to an end, or to a condition whose class has a name, at a site; where it
--- breaks off, which refusals it has, where the shelf, the source or the output rose in faults, and where the outside is the same
-abbrev pub PlainAnswers : CommandAnswer → (levels : ℕ) → (Ends : EvaluationEnd → Type 0) → (Signals : List ℕ → Place → Type 0) → (Breaks : Type 0) → (Bad : Refusal → Type 0) → (ShelfRises SourceRises Rises Same : Type 0) → Type 0
-PlainAnswers answer.Done levels Ends Signals Breaks Bad ShelfRises SourceRises Rises Same = Ends endings.Value
-PlainAnswers (answer.Unhandled class site) levels Ends Signals Breaks Bad ShelfRises SourceRises Rises Same = Signals class site
-PlainAnswers (answer.ArenaFull wanted room) levels Ends Signals Breaks Bad ShelfRises SourceRises Rises Same = Ends (endings.Full wanted room)
-PlainAnswers (answer.Budget n) levels Ends Signals Breaks Bad ShelfRises SourceRises Rises Same = (n ≡ levels) × Ends endings.More
-PlainAnswers answer.Spent levels Ends Signals Breaks Bad ShelfRises SourceRises Rises Same = Ends endings.Spent
-PlainAnswers answer.ReadFault levels Ends Signals Breaks Bad ShelfRises SourceRises Rises Same = SourceRises × Ends endings.ReadFault
-PlainAnswers answer.WriteFault levels Ends Signals Breaks Bad ShelfRises SourceRises Rises Same = Rises × Ends endings.WriteFault
-PlainAnswers (answer.Refused r) levels Ends Signals Breaks Bad ShelfRises SourceRises Rises Same = Bad r × Same
-PlainAnswers answer.FileFault levels Ends Signals Breaks Bad ShelfRises SourceRises Rises Same = ShelfRises × Same
-PlainAnswers answer.NoMemory levels Ends Signals Breaks Bad ShelfRises SourceRises Rises Same = Same ⊎ Breaks
-PlainAnswers answer.Usage levels Ends Signals Breaks Bad ShelfRises SourceRises Rises Same = ⊥
+-- the end that is told of a run that ended so, with this number of a site; one that traps, which no run does of which anything is known, is told as
+-- one that goes on
+abbrev pub end_told : List Place → (site : ℕ) → Ending → EvaluationEnd
+end_told sites site (machine.Halt word) = endings.Value
+end_told sites site (machine.Unhandled class) = endings.Unhandled class (site_told sites site)
+end_told sites site (machine.Full wanted room) = endings.Full wanted room
+end_told sites site machine.Budget = endings.More
+end_told sites site (machine.Trap kind address) = endings.More
+end_told sites site machine.ReadFault = endings.ReadFault
+end_told sites site machine.WriteFault = endings.WriteFault
 
--- a program's evaluation ends by a condition of a class of that name
-pub record ProgramSignals (e : Evaluation) (left left' : Option (List ℕ)) (sent : Sent) (name : List ℕ) (site : Place) : Type 0 where
+-- the answer for a program that is run or evaluated within so many instructions or levels: where it comes to an end, or to a condition whose class
+-- has a name, at a site; where its image is too large, or its evaluation breaks off; which refusals it has; where the shelf, the source or the output
+-- rose in faults; where the outside is the same, and no image is kept
+abbrev pub EndedAnswers : CommandAnswer → (steps : ℕ) → (Ends : EvaluationEnd → Type 0) → (Signals : List ℕ → Place → Type 0) → (Large : ℕ → ℕ → Type 0) → (Breaks : Type 0) → (Bad : Refusal → Type 0) → (ShelfRises SourceRises Rises Same Unkept : Type 0) → Type 0
+EndedAnswers answer.Done steps Ends Signals Large Breaks Bad ShelfRises SourceRises Rises Same Unkept = Ends endings.Value
+EndedAnswers (answer.Unhandled class site) steps Ends Signals Large Breaks Bad ShelfRises SourceRises Rises Same Unkept = Signals class site
+EndedAnswers (answer.ArenaFull wanted room) steps Ends Signals Large Breaks Bad ShelfRises SourceRises Rises Same Unkept =
+    Ends (endings.Full wanted room) ⊎ (Large wanted room × Same)
+EndedAnswers (answer.Budget n) steps Ends Signals Large Breaks Bad ShelfRises SourceRises Rises Same Unkept = (n ≡ steps) × Ends endings.More
+EndedAnswers answer.Spent steps Ends Signals Large Breaks Bad ShelfRises SourceRises Rises Same Unkept = Ends endings.Spent
+EndedAnswers answer.ReadFault steps Ends Signals Large Breaks Bad ShelfRises SourceRises Rises Same Unkept = SourceRises × Ends endings.ReadFault
+EndedAnswers answer.WriteFault steps Ends Signals Large Breaks Bad ShelfRises SourceRises Rises Same Unkept = Rises × Ends endings.WriteFault
+EndedAnswers (answer.Refused r) steps Ends Signals Large Breaks Bad ShelfRises SourceRises Rises Same Unkept = Bad r × (Same × Unkept)
+EndedAnswers answer.FileFault steps Ends Signals Large Breaks Bad ShelfRises SourceRises Rises Same Unkept = ShelfRises × (Same × Unkept)
+EndedAnswers answer.NoMemory steps Ends Signals Large Breaks Bad ShelfRises SourceRises Rises Same Unkept =
+    Same ⊎ (((class : ℕ) × ((site : Place) × Ends (endings.Unhandled class site))) ⊎ Breaks)
+EndedAnswers answer.Usage steps Ends Signals Large Breaks Bad ShelfRises SourceRises Rises Same Unkept = ⊥
+
+-- a program comes to a condition of a class of that name
+pub record ProgramSignals (action : Action) (names : List (List ℕ)) (program : ProgramRows) (kept : Option Image) (arena steps : ℕ) (left left' : Option (List ℕ)) (sent : Sent) (name : List ℕ) (site : Place) : Type 0 where
   pub class : ℕ
-  pub evaluates : Evaluates e left left' sent.before sent.after (endings.Unhandled class site)
-  pub named : name ≡ class_text e.names e.program class
+  pub came : Came action names program kept arena steps left left' sent (endings.Unhandled class site)
+  pub named : name ≡ class_text names program class
 
--- the answer of a program's evaluation
-abbrev pub ProgramAnswers : CommandAnswer → Evaluation → (left left' : Option (List ℕ)) → Sent → (SourceRises Rises : Type 0) → Type 0
-ProgramAnswers a e left left' sent SourceRises Rises =
-    PlainAnswers a e.levels (Evaluates e left left' sent.before sent.after) (ProgramSignals e left left' sent) (BreaksOff e left left' sent.before sent.after) (λ _. ⊥) ⊥ SourceRises Rises ⊥
+-- its image, which was to run, has so many words, and the arena has only so many
+pub record ProgramIsLarge (action : Action) (names : List (List ℕ)) (program : ProgramRows) (kept : Option Image) (arena : ℕ) (wanted room : ℕ) : Type 0 where
+  pub is_run : action ≡ Run
+  pub is_large : IsLarge names program kept arena
+  pub wanted_is : wanted ≡ length is_large.built.image.words
+  pub room_is : room ≡ arena
 
--- the file's text is a whole program, and its evaluation ends by a condition of a class of that name
-pub record PlainSignals (held : Option (List ℕ)) (levels words : ℕ) (left left' : Option (List ℕ)) (sent : Sent) (name : List ℕ) (site : Place) : Type 0 where
+-- its evaluation breaks off
+pub record ProgramBreaks (action : Action) (names : List (List ℕ)) (program : ProgramRows) (kept : Option Image) (arena levels : ℕ) (left left' : Option (List ℕ)) (sent : Sent) : Type 0 where
+  pub is_plain : action ≡ Plain
+  pub unbuilt : kept ≡ None
+  pub breaks_off : BreaksOff (record { names = names; program = program; levels = levels; words = arena }) left left' sent.before sent.after
+
+-- the answer for a program
+abbrev pub ProgramAnswers : CommandAnswer → Action → (names : List (List ℕ)) (program : ProgramRows) → (kept : Option Image) → (arena steps : ℕ) → (left left' : Option (List ℕ)) → Sent → (SourceRises Rises Same : Type 0) → Type 0
+ProgramAnswers a action names program kept arena steps left left' sent SourceRises Rises Same =
+    EndedAnswers a steps (Came action names program kept arena steps left left' sent) (ProgramSignals action names program kept arena steps left left' sent) (ProgramIsLarge action names program kept arena) (ProgramBreaks action names program kept arena steps left left' sent) (λ _. ⊥) ⊥ SourceRises Rises Same ⊥
+
+-- the file's text is a whole program, which comes to a condition of a class of that name
+pub record FileSignals (action : Action) (held : Option (List ℕ)) (kept : Option Image) (arena steps : ℕ) (left left' : Option (List ℕ)) (sent : Sent) (name : List ℕ) (site : Place) : Type 0 where
   pub class : ℕ
-  pub runs : PlainRuns held levels words left left' sent (endings.Unhandled class site)
-  pub named : name ≡ class_text runs.whole.names runs.whole.program class
+  pub ends : FileEnds action held kept arena steps left left' sent (endings.Unhandled class site)
+  pub named : name ≡ class_text ends.whole.names ends.whole.program class
 
--- the answer for a file to evaluate
-abbrev pub PlainFileAnswers : CommandAnswer → Option (List ℕ) → (levels words : ℕ) → (left left' : Option (List ℕ)) → Sent → (ShelfRises SourceRises Rises Same : Type 0) → Type 0
-PlainFileAnswers a held levels words left left' sent ShelfRises SourceRises Rises Same =
-    PlainAnswers a levels (PlainRuns held levels words left left' sent) (PlainSignals held levels words left left' sent) (PlainBreaks held levels words left left' sent) (Offends held) ShelfRises SourceRises Rises Same
+-- one whose image, which was to run, has so many words, and the arena has only so many
+pub record FileIsLargeSo (action : Action) (held : Option (List ℕ)) (kept : Option Image) (arena : ℕ) (wanted room : ℕ) : Type 0 where
+  pub is_run : action ≡ Run
+  pub large : FileIsLarge held kept arena
+  pub wanted_is : wanted ≡ length large.is_large.built.image.words
+  pub room_is : room ≡ arena
 
--- the answer to a command, which is run, checked or evaluated: only to evaluate a file, the input is read
+-- the answer for a file to run or to evaluate
+abbrev pub FileAnswers : CommandAnswer → Action → (held : Option (List ℕ)) → (kept : Option Image) → (arena steps : ℕ) → (left left' : Option (List ℕ)) → Sent → (ShelfRises SourceRises Rises Same : Type 0) → Type 0
+FileAnswers a action held kept arena steps left left' sent ShelfRises SourceRises Rises Same =
+    EndedAnswers a steps (FileEnds action held kept arena steps left left' sent) (FileSignals action held kept arena steps left left' sent) (FileIsLargeSo action held kept arena) ((action ≡ Plain) × FileBreaks held kept arena steps left left' sent) (Offends held) ShelfRises SourceRises Rises Same (kept ≡ None)
+
+-- the answer to a command, which is run, checked or evaluated
 pub data Obeys (a : CommandAnswer) (c : Request) (held : Option (List ℕ)) (kept : Option Image) (left left' : Option (List ℕ)) (sent : Sent) (ShelfRises SourceRises Rises Same InputSame : Type 0) : Type 0 where
-  was_run : c.action ≡ Run → InputSame → RunFileAnswers a held kept c.arena c.steps sent ShelfRises Rises Same
+  was_run : c.action ≡ Run → FileAnswers a Run held kept c.arena c.steps left left' sent ShelfRises SourceRises Rises (Same × InputSame)
       → Obeys a c held kept left left' sent ShelfRises SourceRises Rises Same InputSame
   was_check : c.action ≡ Check → InputSame → kept ≡ None → CheckAnswers a (Passes held) (Offends held) sent.before sent.after ShelfRises Rises Same
       → Obeys a c held kept left left' sent ShelfRises SourceRises Rises Same InputSame
-  was_plain : c.action ≡ Plain → kept ≡ None → PlainFileAnswers a held c.steps c.arena left left' sent ShelfRises SourceRises Rises (Same × InputSame)
+  was_plain : c.action ≡ Plain → kept ≡ None → FileAnswers a Plain held None c.arena c.steps left left' sent ShelfRises SourceRises Rises (Same × InputSame)
       → Obeys a c held kept left left' sent ShelfRises SourceRises Rises Same InputSame
 
 -- the answer to words: they are no command, or memory was wanting to tell, or a command was obeyed

@@ -11,8 +11,7 @@ use Rattle.clap.specs.Walk.{Text, Rule, Row, first_of}
 use Rattle.clap.specs.Simple.{App, new_app, new_rule, with_rule, on_top, matches_of}
 use Rattle.clap.specs.Kinds.{Kinds}
 use Rattle.clap.specs.Faults.{fault_of}
-use Rattle.back_first_path.specs.Limits.{most_arena_words}
-use Rattle.top_main.specs.Limits.{usual_steps, most_steps, usual_arena_words, least_arena_words}
+use Rattle.top_main.specs.Limits.{usual_steps, most_steps, usual_arena_words, least_arena_words, most_arena_words}
 use Rattle.top_main.specs.declared.command.Command.{Command}
 use Rattle.top_main.specs.declared.command.Action.{Action}
 use Rattle.top_main.specs.declared.command.Action.TheVariants.{Run, Check, Plain}

@@ -4,6 +4,8 @@
 mod check;
 pub mod command;
 mod command_line;
+mod ended;
+mod image_run;
 pub mod kept;
 pub mod lines;
 pub mod load;
@@ -13,7 +15,6 @@ mod plain;
 mod run;
 pub mod status;
 
-pub use back_first_path::first_build;
 pub use kept::Kept;
 pub use main_call::isl_main;
 pub use status::{CommandAnswer, Status};

@@ -1,21 +1,22 @@
-// The action `run`: a file compiled and run.
+// The action `run`: a file compiled as a whole program, and its image run.
 
-ghost use Rattle.std.specs.Prelude.{◌≡◌, ◌≤◌, None, IfOk, length};
+ghost use Rattle.std.specs.Prelude.{◌≡◌, ◌≤◌, Some, None};
 ghost use Rattle.base.specs.Outside.{Rose};
-ghost use Rattle.lang_meaning.specs.model.View.{forms};
-ghost use Rattle.rv_machine.specs.State.{start};
-ghost use Rattle.back_first_path.specs.Shapes.{IsFirstPath};
-ghost use Rattle.back_first_path.specs.Code.{program_code};
+ghost use Rattle.top_main.specs.Images.{IsImageOf};
 ghost use Rattle.top_main.specs.Theorem.{sent_to};
-ghost use Rattle.top_main.specs.Answers.{RunAnswers, RunFileAnswers};
+ghost use Rattle.top_main.specs.Answers.{ProgramAnswers, FileAnswers};
+ghost use Rattle.top_main.specs.declared.command.Action.TheVariants.{Run as ToRun};
 
+use crate::ended::answer_of;
+use crate::image_run::run_image;
 use crate::kept::Kept;
 use crate::load::{LoadStop, load};
 use crate::status::CommandAnswer;
-use back_first_path::{first_build, read_program};
+use back_build::build;
 use base::{NoMemory, Shelf, Sink, Source};
-use lang_meaning::ProgramRows;
-use rv_machine::{Ending, Image, Machine, law_budget, law_split};
+use front_files::{Mode, Whole, read_program};
+use front_library::PRELUDE;
+use rv_machine::Image;
 use std::alloc::Global;
 
 /// How many instructions a run may execute, or how many levels an evaluation may have, and the words of its
@@ -26,8 +27,8 @@ pub(crate) struct Bounds {
     pub arena: u32,
 }
 
-/// The file's text read, compiled and run. `WriteFault` only where the count of the sink's faults rose;
-/// nothing is read of the input.
+/// Judges the file's text as a whole program, compiles it, and runs at most so many instructions of its image, which is kept.
+/// `ReadFault` and `WriteFault` only where the count of the source's or the sink's faults rose.
 pub(crate) fn run_file<F: Shelf, S: Source, O: Sink>(
     alloc: Global,
     bounds: Bounds,
@@ -37,78 +38,81 @@ pub(crate) fn run_file<F: Shelf, S: Source, O: Sink>(
     out: &mut O,
     kept: &mut Kept,
 ) -> CommandAnswer
-    requires least { 65536 ≤ bounds.arena }
     requires most { bounds.arena ≤ 16777216 }
     requires empty { kept.old.image ≡ None }
-    ensures answers { RunFileAnswers result (F.holds shelf.old file.now) kept.new.image bounds.arena bounds.steps
+    ensures { FileAnswers result ToRun (F.holds shelf.old file.now) kept.new.image bounds.arena bounds.steps
+        (S.left input.old) (S.left input.new)
         (sent_to (O.given out.old) (O.writes out.old) (O.given out.new) (O.writes out.new))
-        (Rose (F.faults shelf.old) (F.faults shelf.new))
-        (Rose (O.faults out.old) (O.faults out.new)) (out.new ≡ out.old) }
-    ensures input { input.new ≡ input.old }
+        (Rose (F.faults shelf.old) (F.faults shelf.new)) (Rose (S.faults input.old) (S.faults input.new))
+        (Rose (O.faults out.old) (O.faults out.new)) ((out.new ≡ out.old) × (input.new ≡ input.old)) }
 {
     let text = match load(alloc, shelf, file) {
         Ok(text) => text,
         Err(LoadStop::Failed) => return CommandAnswer::FileFault,
         Err(LoadStop::NoMemory) => return CommandAnswer::NoMemory,
     };
-    match read_program(alloc, text.as_slice()) {
-        Ok(program) => {
-            let answer = run(alloc, &program, bounds, input, out, kept);
-            drop(program);
+    match read_program(alloc, text.as_slice(), PRELUDE, Mode::Run) {
+        Ok(whole) => {
+            let answer = run(alloc, &whole, bounds, input, out, kept);
+            drop(whole);
             answer
         }
         Err(stop) => CommandAnswer::of_stop(stop),
     }
 }
 
-// Compiles the program, keeps its image and runs at most so many instructions of it. Nothing is read.
-// `WriteFault` only where the count of the sink's faults rose; after `NoMemory` the sink is as it was.
+// Compiles a whole program, runs its image and keeps it. A program that is not compiled is answered as want of memory.
 fn run<S: Source, O: Sink>(
     alloc: Global,
-    program: &ProgramRows,
+    whole: &Whole,
     bounds: Bounds,
     input: &mut S,
     out: &mut O,
     kept: &mut Kept,
 ) -> CommandAnswer
-    requires first { IsFirstPath program.now }
-    requires small { length (program_code program.now.literals (forms program.now.main)) ≤ bounds.arena }
     requires most { bounds.arena ≤ 16777216 }
-    requires empty { kept.old.image ≡ None }
-    ensures answers { RunAnswers result program.now kept.new.image bounds.arena bounds.steps
+    ensures { ProgramAnswers result ToRun whole.now.names whole.now.program kept.new.image bounds.arena bounds.steps
+        (S.left input.old) (S.left input.new)
         (sent_to (O.given out.old) (O.writes out.old) (O.given out.new) (O.writes out.new))
-        (Rose (O.faults out.old) (O.faults out.new)) (out.new ≡ out.old) }
-    ensures count { O.faults out.old ≤ O.faults out.new }
-    ensures input { input.new ≡ input.old }
+        (Rose (S.faults input.old) (S.faults input.new)) (Rose (O.faults out.old) (O.faults out.new))
+        ((out.new ≡ out.old) × (input.new ≡ input.old)) }
 {
-    law_budget();
-    law_split();
-    let Ok(image) = first_build(alloc, program) else {
-        return CommandAnswer::NoMemory;
-    };
-    let Ok(mut machine) = started(alloc, &image, bounds.arena) else {
-        return CommandAnswer::NoMemory;
-    };
-    let ending = machine.run(bounds.steps as u64, input, out);
-    kept.image = Some(image);
-    match ending {
-        Ending::Halt(_) => CommandAnswer::Done,
-        Ending::Budget => CommandAnswer::Budget(bounds.steps),
-        Ending::WriteFault => CommandAnswer::WriteFault,
-        _ => unreachable!(),
+    match build(alloc, &whole.program, &whole.names) {
+        Ok(image) => {
+            let answer = run_built(alloc, whole, &image, bounds, input, out);
+            kept.image = Some(image);
+            answer
+        }
+        Err(_) => CommandAnswer::NoMemory,
     }
 }
 
-// A machine of that many words at the start of the image.
-fn started(alloc: Global, image: &Image, arena: u32) -> Result<Machine, NoMemory>
-    requires fits { length image.now.words ≤ arena }
-    requires bounded { arena ≤ 16777216 }
-    ensures state { IfOk result (λ m. m.state ≡ start image.now.words image.now.entry arena) }
-    ensures count { IfOk result (λ m. m.count ≡ 0) }
+// Runs the image of a program where the arena has room for it.
+fn run_built<S: Source, O: Sink>(
+    alloc: Global,
+    whole: &Whole,
+    image: &Image,
+    bounds: Bounds,
+    input: &mut S,
+    out: &mut O,
+) -> CommandAnswer
+    requires most { bounds.arena ≤ 16777216 }
+    requires is_image { IsImageOf whole.now.names whole.now.program image.now }
+    ensures { ProgramAnswers result ToRun whole.now.names whole.now.program (Some image.now) bounds.arena bounds.steps
+        (S.left input.old) (S.left input.new)
+        (sent_to (O.given out.old) (O.writes out.old) (O.given out.new) (O.writes out.new))
+        (Rose (S.faults input.old) (S.faults input.new)) (Rose (O.faults out.old) (O.faults out.new))
+        ((out.new ≡ out.old) × (input.new ≡ input.old)) }
 {
-    let mut machine = Machine::new(alloc, arena)?;
-    match machine.load(image) {
-        Ok(()) => Ok(machine),
-        Err(_) => unreachable!(),
+    let words = image.words();
+    if bounds.arena < words {
+        return CommandAnswer::ArenaFull {
+            asked: words as u64,
+            left: bounds.arena as u64,
+        };
+    }
+    match run_image(alloc, whole, image, bounds, input, out) {
+        Ok(end) => answer_of(alloc, whole, bounds.steps, end),
+        Err(NoMemory) => CommandAnswer::NoMemory,
     }
 }

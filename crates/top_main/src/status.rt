@@ -9,16 +9,16 @@ use base::{Bytes, Place, Refusal, Stop};
 /// How a call of the program ended.
 #[derive(Clone, Copy)]
 pub enum Status {
-    /// The program halted, or was evaluated, and all that it printed was written; or the file that was
+    /// The program ended with a value, and all that it printed was written; or the file that was
     /// checked is one.
     Done,
-    /// A condition that no handler took ended the program's evaluation.
+    /// A condition that no handler took ended the program.
     Unhandled,
     /// The words are no command.
     Usage,
     /// The file is outside the profile.
     Refused,
-    /// The evaluation asked for more words than its arena had left.
+    /// The program asked for more words than were left, or its image has more than the arena.
     ArenaFull,
     /// The run's instructions, or the evaluation's levels or forms, were spent before it ended.
     Budget,
@@ -28,7 +28,8 @@ pub enum Status {
     ReadFault,
     /// A sink failed.
     WriteFault,
-    /// Memory was wanting. Only an evaluation may have written to the standard output before.
+    /// Memory was wanting. Only an evaluation, or a run whose condition could not be named, may have written to the
+    /// standard output before.
     NoMemory,
 }
 

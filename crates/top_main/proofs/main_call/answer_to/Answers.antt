@@ -3,9 +3,6 @@ use Rattle.top_main.specs.Answers.{was_asked}
 use Rattle.top_main.proofs.Digits.{asked_within}
 use Rattle.top_main.proofs.main_call.answer_to.Goals as goal
 
-pub obey-answer-requires-clause-least : goal.obey-answer-requires-clause-least
-obey-answer-requires-clause-least g c = let is = rw c.in-Ok-Some.field-0-is at c.in-Ok-Some.ensures in (asked_within c.args.words.now _ is).0
-
 pub obey-answer-requires-clause-most : goal.obey-answer-requires-clause-most
 obey-answer-requires-clause-most g c = let is = rw c.in-Ok-Some.field-0-is at c.in-Ok-Some.ensures in (asked_within c.args.words.now _ is).1
 

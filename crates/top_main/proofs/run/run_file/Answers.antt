@@ -1,19 +1,13 @@
 -- The answer for a file to run, by the verdict on its text.
-use Rattle.std.proofs.Common.{arith, sym, subst}
+use Rattle.std.proofs.Common.{sym, subst}
 use Rattle.top_main.specs.Loads.{IsTextTaken}
-use Rattle.top_main.proofs.Ends.{of_run}
+use Rattle.top_main.proofs.Outcomes.{of_program}
 use Rattle.top_main.proofs.run.run_file.Goals as goal
 
-pub run-answer-requires-clause-small : goal.run-answer-requires-clause-small
-run-answer-requires-clause-small g c =
-    omega (arith, c.requires.least, c.in-Ok-read_program.ensures.small)
-
-pub returns-in-Ok-read_program-clause-answers : goal.returns-in-Ok-read_program-clause-answers
-returns-in-Ok-read_program-clause-answers g c =
-    of_run c.run-answer.result c.in-Ok-read_program.program _ _ _ _ _ _ _ _
-    (record {
-      text = c.as_slice.result.now;
-      taken = subst (IsTextTaken (g.F.Shelf.holds c.args.shelf.now c.args.file.now)) (sym c.as_slice.ensures) c.in-Ok.ensures.taken;
-      accepts = c.in-Ok-read_program.ensures.program;
-    })
-    c.run-answer.ensures.answers
+pub returns-in-Ok-read_program : goal.returns-in-Ok-read_program
+returns-in-Ok-read_program g c =
+    of_program _ _ c.as_slice.result.now
+    (record { names = c.in-Ok-read_program.whole.names; program = c.in-Ok-read_program.whole.program; accepts = c.in-Ok-read_program.ensures.program })
+    _ _ _ _ _ _ _ _ _ _
+    (subst (IsTextTaken (g.F.Shelf.holds c.args.shelf.now c.args.file.now)) (sym c.as_slice.ensures) c.in-Ok.ensures.taken)
+    c.run-answer.result c.run-answer.ensures

@@ -1,0 +1,50 @@
+-- What an image that was built does, as far as it can be seen from outside.
+use Rattle.std.proofs.Common.{◌≡◌, ℕ, List, ◌⊎◌, inl, inr}
+use Rattle.lang_meaning.specs.declared.program.ProgramRows.{ProgramRows}
+use Rattle.lang_meaning.specs.Meaning.{Meant}
+use Rattle.rv_machine.specs.declared.ending.Ending.TheVariants.{Budget}
+use Rattle.rv_machine.specs.declared.image.Image.{Image}
+use Rattle.rv_machine.specs.Run.{Ended}
+use Rattle.back_build.specs.Means.{HaltsWith, EndsUnhandled, EndsFull, IsBuilt}
+use Rattle.top_main.specs.Images.{Halts, Signals, HasNoRoom, IsImageOf}
+
+-- the ends of its runs, without what their words stand for
+module _ (names : List (List ℕ)) (program : ProgramRows) (m : Meant) (x : Ended) where
+  halts : HaltsWith names program m x → Halts m x
+  halts h = record { word = h.word; ending = h.ending; result = h.result; end = h.end; printed = h.printed }
+
+  signals : EndsUnhandled names program m x → Signals program m x
+  signals u = record {
+    class = u.class;
+    ending = u.ending;
+    condition = u.condition;
+    place = u.place;
+    end = u.end;
+    class_is = u.class_is;
+    site_is = u.site_is;
+    printed = u.printed;
+  }
+
+  no_room : EndsFull names program x → HasNoRoom x
+  no_room f = record { asked = f.asked; left = f.left; ending = f.ending }
+
+  ways : (x.ending ≡ Budget) ⊎ HaltsWith names program m x ⊎ EndsUnhandled names program m x ⊎ EndsFull names program x
+      → (x.ending ≡ Budget) ⊎ Halts m x ⊎ Signals program m x ⊎ HasNoRoom x
+  ways (inl b) = inl b
+  ways (inr (inl h)) = inr (inl (halts h))
+  ways (inr (inr (inl u))) = inr (inr (inl (signals u)))
+  ways (inr (inr (inr f))) = inr (inr (inr (no_room f)))
+
+pub seen : (names : List (List ℕ)) (program : ProgramRows) (image : Image) → IsBuilt names program image → IsImageOf names program image
+seen names program image built = λ arena input fits most bytes.
+    let means = built arena input fits most bytes in
+    record {
+      prefix = means.prefix;
+      ends = λ n below. ways names program _ _ (means.ends n below);
+      full = λ n below f charge k holds more.
+          let full = means.full n below (record { asked = f.asked; left = f.left; ending = f.ending }) charge k holds more in
+          record { asked = full.asked; left = full.left; end = full.end };
+      in_time = λ charge k n holds small enough.
+          let ended = means.in_time charge k n holds small enough in
+          (λ v e. halts names program _ _ (ended.0 v e), λ c place e. signals names program _ _ (ended.1 c place e));
+    }

@@ -1,0 +1,30 @@
+-- What the machine's run says, as what a run of the program says.
+use Rattle.std.proofs.Common.{◌<◌, arith, sym, subst}
+use Rattle.rv_machine.specs.Run.{outside}
+use Rattle.top_main.specs.Theorem.{RunComes, sent_to}
+use Rattle.top_main.proofs.Ran.{Ran, comes}
+use Rattle.top_main.proofs.image_run.run_image.Goals as goal
+
+pub returns-clause-comes : goal.returns-clause-comes
+returns-clause-comes g c =
+    let left = g.S.Source.left c.args.input.now in
+    let left' = g.S.Source.left c.run-ending.new.source in
+    let given = g.O.Sink.given c.args.out.now in
+    let given' = g.O.Sink.given c.run-ending.new.sink in
+    let writes = g.O.Sink.writes c.args.out.now in
+    let writes' = g.O.Sink.writes c.run-ending.new.sink in
+    let run = c.run-ending.ensures in
+    let ran : Ran c.args.image.now c.args.bounds.arena c.args.bounds.steps c.run-ending.result c.in_ok-machine.machine c.run-ending.new.self (outside left given writes) (outside left' given' writes') = record {
+      began = c.in_ok-machine.ensures.state;
+      is_ending = run.ending;
+      stands = run.stands;
+      ReadOther = _;
+      read_fault = run.read_fault;
+      WriteOther = _;
+      write_fault = run.write_fault;
+    } in
+    let below : c.args.bounds.steps < 4294967296 = omega arith in
+    subst
+    (RunComes c.args.whole.now.names c.args.whole.now.program c.args.image.now c.args.bounds.arena c.args.bounds.steps left left' (sent_to given writes given' writes'))
+    (sym c.end_of-end.ensures)
+    (comes c.args.whole.now.names c.args.whole.now.program c.args.image.now c.args.bounds.arena c.args.bounds.steps c.requires.is_image c.requires.fits c.requires.most below c.in_ok-machine.machine c.run-ending.new.self (outside left given writes) (outside left' given' writes') c.run-ending.result ran)

@@ -1,0 +1,65 @@
+// From the end of a program's run or evaluation to the answer of the call.
+
+ghost use Rattle.std.specs.Prelude.{◌≡◌, ◌⊎◌};
+ghost use Rattle.lang_meaning.specs.Lookup.{text as text_of};
+ghost use Rattle.top_main.specs.Theorem.{class_text};
+ghost use Rattle.top_main.specs.Answers.{EndAnswers};
+ghost use Rattle.top_main.specs.declared.status.CommandAnswer.TheVariants.{Unhandled as Signalled, NoMemory as WantsMemory};
+
+use crate::status::CommandAnswer;
+use base::{Bytes, Name, Names, NoMemory, Place};
+use front_files::Whole;
+use lang_meaning::{ClassId, EvaluationEnd};
+use std::alloc::Global;
+
+/// The answer of a program that came to this end, within so many instructions or levels; to name the class of a condition takes
+/// memory.
+pub(crate) fn answer_of(
+    alloc: Global,
+    whole: &Whole,
+    steps: u32,
+    end: EvaluationEnd,
+) -> CommandAnswer
+    ensures { EndAnswers result end whole.now.names whole.now.program steps }
+{
+    match end {
+        EvaluationEnd::Value => CommandAnswer::Done,
+        EvaluationEnd::Unhandled { class, site } => unhandled(alloc, whole, class, site),
+        EvaluationEnd::Full { asked, left } => CommandAnswer::ArenaFull { asked, left },
+        EvaluationEnd::More => CommandAnswer::Budget(steps),
+        EvaluationEnd::Spent => CommandAnswer::Spent,
+        EvaluationEnd::ReadFault => CommandAnswer::ReadFault,
+        EvaluationEnd::WriteFault => CommandAnswer::WriteFault,
+    }
+}
+
+// The answer of a condition of that class.
+fn unhandled(alloc: Global, whole: &Whole, class: ClassId, site: Place) -> CommandAnswer
+    ensures { (result ≡ Signalled (class_text whole.now.names whole.now.program class) site)
+        ⊎ (result ≡ WantsMemory) }
+{
+    match Bytes::from_slice(alloc, class_name(whole, class)) {
+        Ok(class) => CommandAnswer::Unhandled { class, site },
+        Err(NoMemory) => CommandAnswer::NoMemory,
+    }
+}
+
+// The text of a class's name; empty where there is no such class.
+fn class_name(whole: &Whole, class: ClassId) -> &[u8]
+    ensures { result.now ≡ class_text whole.now.names whole.now.program class }
+{
+    match whole.program.rows().classes.get(class) {
+        Some(row) => name_text(&whole.names, row.name),
+        None => b"",
+    }
+}
+
+// The text of a name; empty where there is no such name.
+fn name_text(names: &Names, name: Name) -> &[u8]
+    ensures { result.now ≡ text_of names.now name.0 }
+{
+    match names.text(name) {
+        Some(text) => text,
+        None => b"",
+    }
+}
