@@ -1,6 +1,7 @@
 pub mod Loading
 pub mod Digits
 pub mod Decimals
+pub mod WordOf
 pub mod Seen
 pub mod Ran
 pub mod Checks

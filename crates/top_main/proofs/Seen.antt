@@ -1,5 +1,6 @@
--- What an image that was built does, as far as it can be seen from outside.
+-- What an image that was built does, with what its words say of values by themselves.
 use Rattle.std.proofs.Common.{◌≡◌, ℕ, List, ◌⊎◌, inl, inr}
+use Rattle.std.specs.Prelude.{slice_index}
 use Rattle.lang_meaning.specs.declared.program.ProgramRows.{ProgramRows}
 use Rattle.lang_meaning.specs.Meaning.{Meant}
 use Rattle.rv_machine.specs.declared.ending.Ending.TheVariants.{Budget}
@@ -7,11 +8,19 @@ use Rattle.rv_machine.specs.declared.image.Image.{Image}
 use Rattle.rv_machine.specs.Run.{Ended}
 use Rattle.back_build.specs.Means.{HaltsWith, EndsUnhandled, EndsFull, IsBuilt}
 use Rattle.top_main.specs.Images.{Halts, Signals, HasNoRoom, IsImageOf}
+use Rattle.top_main.proofs.WordOf.{word_is}
 
--- the ends of its runs, without what their words stand for
+-- the ends of its runs
 module _ (names : List (List ℕ)) (program : ProgramRows) (m : Meant) (x : Ended) where
   halts : HaltsWith names program m x → Halts m x
-  halts h = record { word = h.word; ending = h.ending; result = h.result; end = h.end; printed = h.printed }
+  halts h = record {
+    word = h.word;
+    ending = h.ending;
+    result = h.result;
+    end = h.end;
+    word_is = word_is names program x h.result h.word h.has_word;
+    printed = h.printed;
+  }
 
   signals : EndsUnhandled names program m x → Signals program m x
   signals u = record {
@@ -22,6 +31,7 @@ module _ (names : List (List ℕ)) (program : ProgramRows) (m : Meant) (x : Ende
     end = u.end;
     class_is = u.class_is;
     site_is = u.site_is;
+    word_is = word_is names program x u.condition (slice_index x.at.state.registers 12) u.has_word;
     printed = u.printed;
   }
 

@@ -1,13 +1,13 @@
--- **What the image of a program does**, as far as it can be seen from outside, in words of what the program means: with an input, in an arena of so
--- many words. That the words with which a run ends stand for its values is said where images are made (`Means` of `back_build`).
-use Rattle.std.specs.Prelude.{◌≡◌, ◌⊎◌, ◌<◌, ◌≤◌, ℕ, ◌+◌, ◌^◌, List, length, slice_index, slice_index_or}
+-- **What the image of a program does**, in words of what the program means: with an input, in an arena of so many words.
+use Rattle.std.specs.Prelude.{◌≡◌, ◌⊎◌, ◌<◌, ◌≤◌, ℕ, ◌+◌, ◌*◌, ◌%◌, ◌^◌, pos, ◌*ℤ◌, List, length, slice_index, slice_index_or}
+use Rattle.base.specs.Arithmetic.{low_word}
 use Rattle.base.specs.declared.place.Place.{Place}
 use Rattle.lang_meaning.specs.declared.program.ProgramRows.{ProgramRows}
 use Rattle.lang_meaning.specs.Counts.{bound}
 use Rattle.lang_meaning.specs.Meaning.{Meant, meaning, ended_value, ended_unhandled, ended_full, class_in, place_of_site}
 use Rattle.lang_meaning.specs.Prefixes.{IsPrefix}
 use Rattle.lang_meaning.specs.State.{no_place, words, unlimited}
-use Rattle.lang_meaning.specs.Values.{Value}
+use Rattle.lang_meaning.specs.Values.{Value, integer, character, symbol, nil, object}
 use Rattle.rv_machine.specs.declared.ending.Ending.TheVariants.{Budget, Halt, Unhandled, Full}
 use Rattle.rv_machine.specs.declared.image.Image.{Image}
 use Rattle.rv_machine.specs.Run.{Ended, run_of}
@@ -24,19 +24,29 @@ unpaid_words = 57
 abbrev pub Holds : (arena : ℕ) (image : List ℕ) (charge : ℕ) → Type 0
 Holds arena image charge = charge + unpaid_words + length image ≤ arena
 
--- a run halted where the program ends with a value, and printed what the program prints
+-- A word and a value. The two lowest bits are the tag: an integer stands above 0, in two's complement; a cons is its address with 1, a symbol or
+-- another object its address with 2; nil is 3, and a character stands above 15.
+abbrev pub IsWordOf : ℕ → Value → Type 0
+IsWordOf word (integer n) = word ≡ low_word (pos 4 *ℤ n)
+IsWordOf word (character c) = word ≡ 256 * c + 15
+IsWordOf word nil = word ≡ 3
+IsWordOf word (symbol s) = word % 4 ≡ 2
+IsWordOf word (object i) = (word % 4 ≡ 1) ⊎ (word % 4 ≡ 2)
+
+-- a run halted with the word of the program's value, and printed what the program prints
 pub record Halts (m : Meant) (x : Ended) : Type 0 where
   pub word : ℕ
   pub ending : x.ending ≡ Halt word
   pub result : Value
   pub end : m.end ≡ ended_value result
+  pub word_is : IsWordOf word result
   pub printed : x.at.printed ≡ m.printed
 
 -- a site by its number; 0 is that of none
 abbrev pub IsSite : ProgramRows → ℕ → Place → Type 0
 IsSite program n place = ((n ≡ 0) × (place ≡ no_place)) ⊎ ((1 ≤ n) × (place_of_site program.sites n ≡ place))
 
--- it ended with the class of the condition that the program did not handle; register 11 has the site
+-- it ended with the class of the condition that the program did not handle; register 11 has the site, and register 12 the condition
 pub record Signals (program : ProgramRows) (m : Meant) (x : Ended) : Type 0 where
   pub class : ℕ
   pub ending : x.ending ≡ Unhandled class
@@ -45,6 +55,7 @@ pub record Signals (program : ProgramRows) (m : Meant) (x : Ended) : Type 0 wher
   pub end : m.end ≡ ended_unhandled condition place
   pub class_is : class ≡ class_in m.store condition
   pub site_is : IsSite program (slice_index x.at.state.registers 11) place
+  pub word_is : IsWordOf (slice_index x.at.state.registers 12) condition
   pub printed : x.at.printed ≡ m.printed
 
 -- it had no room
