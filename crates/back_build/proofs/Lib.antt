@@ -1,5 +1,6 @@
 mod WholeMeaning
 mod Counted
+mod Listed
 mod Named
 mod Lowered
 mod First

@@ -5,7 +5,7 @@ use back_program_code::ImageError;
 use base::NoMemory;
 
 /// Why no image is built: for want of memory; because no arena can have as many words; because a frame has too few words for what has to
-/// outlast the calls in it, as the entry of a function of some twenty parameters; or because a test fails that the profile does not promise
+/// outlast the calls in it, as the entry of a function of hundreds of parameters; or because a test fails that the profile does not promise
 /// yet, though no program of the front is known that does not pass it (names that are in the table, boxes that are captured, code in form).
 #[derive(Clone, Copy, Debug)]
 pub enum BuildFault {

@@ -32,7 +32,7 @@ use Rattle.back_relation.specs.Worlds.{World, Standing}
 use Rattle.back_relation.specs.Around.{RoomFor, CallBegins, SiteStored}
 use Rattle.back_relation.specs.Ends.{SparingCall}
 use Rattle.back_relation.specs.Forms.{below_at, context_at, code_at}
-use Rattle.back_relation.specs.Procedures.{called, mean_inside, body_words, body_credit, ExtraGiven, BodyBegins}
+use Rattle.back_relation.specs.Procedures.{called, mean_inside, body_room, body_credit, ExtraGiven, BodyBegins}
 use Rattle.back_relation.proofs.Growth.{same_flat}
 use Rattle.back_relation.proofs.Straight.{things_units, world_cost, around_cost}
 use Rattle.back_calling.proofs.Entered.{no_level_at}
@@ -118,7 +118,7 @@ module _ (setting : Setting) where
     }
       where
         room_by : (l : Limit) → RoomFor l (n + words_for_handler * length around.handlers) z.state y
-            → RoomFor l (body_words q + routine_words + words_for_handler * length around.handlers) (charged (length vs) (asked size z)).state y
+            → RoomFor l (body_room q + words_for_handler * length around.handlers) (charged (length vs) (asked size z)).state y
         room_by unlimited h = tt
         room_by (words k) h = omega (arith, h, same, homes_count none, reserve)
 

@@ -11,6 +11,7 @@ use Rattle.flat_language.specs.FlatFits.{Fits}
 use Rattle.mid_code.specs.declared.operation.Arithmetic.TheVariants as which
 use Rattle.mid_code.specs.MidCode.{with_block, return_word, end_unhandled, code_of}
 use Rattle.back_lowering.specs.ControlWords.{link_address, landing_address, site_address, end_address, record_serial, record_link, record_words, end_kind}
+use Rattle.back_lowering.specs.Mentions.{own_mentions}
 use Rattle.back_lowering.specs.Registers.{of_code}
 use Rattle.back_lowering.specs.Scope.{registers_from}
 use Rattle.back_lowering.specs.declared.scope.SitePlace.TheVariants.{Known, Held}
@@ -30,7 +31,8 @@ use Rattle.flat_boxes.specs.Boxes.{boxes, captures_itself, BoxesAreCaptured}
 use Rattle.back_frames.specs.Laws.{LawOfBodiesPaid, LawOfMainsPaid}
 use Rattle.back_frames.proofs.Nodes.{nodes_are}
 use Rattle.back_frames.proofs.FormsIn.{forms_in, total_is}
-use Rattle.back_frames.proofs.Bounds.{own_names, bounded}
+use Rattle.back_frames.proofs.Bounds.{own_marks, bounded}
+use Rattle.back_frames.proofs.Mentioned.{marks_are}
 use Rattle.back_frames.proofs.Paid.{all_paid, fit_paid}
 use Rattle.back_frames.proofs.Naming.{Names, Range, narrowed, none, ◌▸◌, ◌⊹◌, either, constants, computes, loads, stores, returns, ends, blocks}
 use Rattle.back_frames.proofs.Surroundings.{SiteAllowed, MethodAllowed, Around, AllPlaces}
@@ -127,7 +129,9 @@ module _ (setting : Setting) (extra : Extra) (q : FlatProcedure) where
       let more = length-append (of_forms s (forms_in q.body)) (registers_from d h) in
       let range = length-range d h in
       let places = forms_few s (forms_in q.body) in
-      let names = total_is own_names q.body in
+      let names = total_is own_marks q.body in
+      let marked = marks_are (forms_in q.body) in
+      let mentioned = total_is own_mentions q.body in
       let captures = total_is captures_itself q.body in
       let counted = nodes_are q.body in
       let enough : 42 ≤ 58 = omega arith in
@@ -208,7 +212,8 @@ module _ (setting : Setting) (f : FlatForm) where
       let more = length-append (of_forms (main_scope setting.names setting.at setting.program) (forms_in f)) (registers_from 8 height_there) in
       let range = length-range 8 height_there in
       let places = forms_few (main_scope setting.names setting.at setting.program) (forms_in f) in
-      let names = total_is own_names f in
+      let names = total_is own_marks f in
+      let marked = marks_are (forms_in f) in
       let counted = nodes_are f in
       let enough : 42 ≤ 54 = omega arith in
       let form = bounded setting.names setting.program 54 enough f (fit_paid setting.program f fits) in

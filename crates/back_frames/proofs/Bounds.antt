@@ -1,6 +1,6 @@
 -- Heights and words of forms are bounded by their nodes.
 use Rattle.std.proofs.Common.{ℕ, ◌+◌, ◌*◌, ◌<◌, ◌≤◌, Bool, true, false, List, ◌++◌, Option, Some, None, arith, length}
-use Rattle.std.specs.Prelude.{slice_get, is_some, if◌then◌else◌}
+use Rattle.std.specs.Prelude.{min, slice_get, is_some, if◌then◌else◌}
 use Rattle.base.specs.AllOf.{AllOf}
 use Rattle.lang_meaning.specs.declared.program.Callee.{Callee}
 use Rattle.lang_meaning.specs.declared.program.Callee.TheVariants.{Procedure, Generic}
@@ -12,6 +12,7 @@ use Rattle.flat_language.specs.FlatForm.{FlatForm, literal, local, set_local, gl
 use Rattle.flat_language.specs.FlatForm.{FlatForms, no_form, form_and, FlatClauses, no_clause, clause_and, FlatBody, no_body, with_body}
 use Rattle.flat_language.specs.FlatForm.{FlatBindings, no_binding, binding_and, FlatDynamics, no_dynamic, dynamic_and}
 use Rattle.flat_language.specs.FlatNodes.{own_nodes, count_forms}
+use Rattle.back_lowering.specs.Mentions.{own_mentions}
 use Rattle.back_relation.specs.Room.{row_of, words_for_literal, words_for_callee, words_for_call, words_for, words_for_forms, words_for_clauses, words_for_body, words_for_values, words_for_dynamics}
 use Rattle.flat_boxes.specs.Totals.{total, total_of_forms, total_of_clauses, total_of_body, total_of_values, total_of_dynamics}
 use Rattle.back_frames.specs.Heights.{height, height_of_forms, height_of_arguments, height_of_clauses, height_of_body, height_of_values, height_of_dynamics}
@@ -27,6 +28,10 @@ own_names (return_from x f) = 2
 own_names (go x segment) = 2
 own_names f = 0
 
+-- the same, with those variables that a form names counted once more: the words of parameters in an entry
+abbrev pub own_marks : FlatForm → ℕ
+own_marks f = own_names f + own_mentions f
+
 -- the forms for which more words than others are needed
 abbrev pub IsPaid : (spare : ℕ) → FlatForm → Type 0
 IsPaid spare (call_value no_form) = 58 ≤ spare
@@ -35,7 +40,7 @@ IsPaid spare f = Unit {0}
 
 -- so many nodes are enough for so many names, a height, and words
 pub record Bounded (spare nodes names height words : ℕ) : Type 0 where
-  pub few : names ≤ 2 * nodes
+  pub few : names + min 1 nodes ≤ 3 * nodes
   pub low : names + height ≤ 6 * nodes
   pub paid : names + words < 16 * nodes + spare
   pub both : names + height + words ≤ 16 * nodes + spare
@@ -95,7 +100,7 @@ module _ (names : List (List ℕ)) (program : FlatProgram) where
 
   module _ (spare : ℕ) (enough : 42 ≤ spare) where
     abbrev pub FormBounded : FlatForm → Type 0
-    FormBounded f = Bounded spare (total own_nodes f) (total own_names f) (height f) (words_for names program f)
+    FormBounded f = Bounded spare (total own_nodes f) (total own_marks f) (height f) (words_for names program f)
 
     mutual
       pub bounded : (f : FlatForm) → AllOf (IsPaid spare) (forms_in f) → FormBounded f
@@ -228,7 +233,7 @@ module _ (names : List (List ℕ)) (program : FlatProgram) where
           let more = some_nodes f in
           record { few = omega arith; low = omega arith; paid = omega arith; both = omega arith }
 
-      pub forms_bounded : (fs : FlatForms) → AllOf (IsPaid spare) (in_forms fs) → Bounded spare (total_of_forms own_nodes fs) (total_of_forms own_names fs) (height_of_forms fs) (words_for_forms names program fs)
+      pub forms_bounded : (fs : FlatForms) → AllOf (IsPaid spare) (in_forms fs) → Bounded spare (total_of_forms own_nodes fs) (total_of_forms own_marks fs) (height_of_forms fs) (words_for_forms names program fs)
       forms_bounded no_form h = record { few = omega arith; low = omega arith; paid = omega arith; both = omega arith }
       forms_bounded (form_and f fs) h =
           let first = bounded f (in_front (IsPaid spare) (forms_in f) (in_forms fs) h) in
@@ -236,7 +241,7 @@ module _ (names : List (List ℕ)) (program : FlatProgram) where
           let some = some_nodes f in
           record { few = omega arith; low = omega arith; paid = omega arith; both = omega arith }
 
-      pub arguments_bounded : (fs : FlatForms) → AllOf (IsPaid spare) (in_forms fs) → Bounded spare (total_of_forms own_nodes fs) (total_of_forms own_names fs) (height_of_arguments fs) (words_for_forms names program fs)
+      pub arguments_bounded : (fs : FlatForms) → AllOf (IsPaid spare) (in_forms fs) → Bounded spare (total_of_forms own_nodes fs) (total_of_forms own_marks fs) (height_of_arguments fs) (words_for_forms names program fs)
       arguments_bounded no_form h = record { few = omega arith; low = omega arith; paid = omega arith; both = omega arith }
       arguments_bounded (form_and f fs) h =
           let first = bounded f (in_front (IsPaid spare) (forms_in f) (in_forms fs) h) in
@@ -244,7 +249,7 @@ module _ (names : List (List ℕ)) (program : FlatProgram) where
           let some = some_nodes f in
           record { few = omega arith; low = omega arith; paid = omega arith; both = omega arith }
 
-      pub values_bounded : (bs : FlatBindings) → AllOf (IsPaid spare) (in_values bs) → Bounded spare (total_of_values own_nodes bs) (total_of_values own_names bs) (height_of_values bs) (words_for_values names program bs)
+      pub values_bounded : (bs : FlatBindings) → AllOf (IsPaid spare) (in_values bs) → Bounded spare (total_of_values own_nodes bs) (total_of_values own_marks bs) (height_of_values bs) (words_for_values names program bs)
       values_bounded no_binding h = record { few = omega arith; low = omega arith; paid = omega arith; both = omega arith }
       values_bounded (binding_and v f bs) h =
           let first = bounded f (in_front (IsPaid spare) (forms_in f) (in_values bs) h) in
@@ -252,7 +257,7 @@ module _ (names : List (List ℕ)) (program : FlatProgram) where
           let some = some_nodes f in
           record { few = omega arith; low = omega arith; paid = omega arith; both = omega arith }
 
-      pub dynamics_bounded : (ds : FlatDynamics) → AllOf (IsPaid spare) (in_dynamics ds) → Bounded spare (total_of_dynamics own_nodes ds) (total_of_dynamics own_names ds) (height_of_dynamics ds) (words_for_dynamics names program ds)
+      pub dynamics_bounded : (ds : FlatDynamics) → AllOf (IsPaid spare) (in_dynamics ds) → Bounded spare (total_of_dynamics own_nodes ds) (total_of_dynamics own_marks ds) (height_of_dynamics ds) (words_for_dynamics names program ds)
       dynamics_bounded no_dynamic h = record { few = omega arith; low = omega arith; paid = omega arith; both = omega arith }
       dynamics_bounded (dynamic_and n f ds) h =
           let first = bounded f (in_front (IsPaid spare) (forms_in f) (in_dynamics ds) h) in
@@ -261,7 +266,7 @@ module _ (names : List (List ℕ)) (program : FlatProgram) where
           record { few = omega arith; low = omega arith; paid = omega arith; both = omega arith }
 
       pub clauses_bounded : (cs : FlatClauses) → AllOf (IsPaid spare) (in_clauses cs)
-          → Bounded spare (1 + total_of_clauses own_nodes cs) (total_of_clauses own_names cs) (height_of_clauses cs) (words_for_clauses names program cs)
+          → Bounded spare (1 + total_of_clauses own_nodes cs) (total_of_clauses own_marks cs) (height_of_clauses cs) (words_for_clauses names program cs)
       clauses_bounded no_clause h = record { few = omega arith; low = omega arith; paid = omega arith; both = omega arith }
       clauses_bounded (clause_and test body cs) h =
           let first = bounded test (in_front (IsPaid spare) (forms_in test) (in_body body ++ in_clauses cs) h) in
@@ -271,6 +276,6 @@ module _ (names : List (List ℕ)) (program : FlatProgram) where
           record { few = omega arith; low = omega arith; paid = omega arith; both = omega arith }
 
       pub body_bounded : (b : FlatBody) → AllOf (IsPaid spare) (in_body b)
-          → Bounded spare (total_of_body own_nodes b) (total_of_body own_names b) (height_of_body b) (words_for_body names program b)
+          → Bounded spare (total_of_body own_nodes b) (total_of_body own_marks b) (height_of_body b) (words_for_body names program b)
       body_bounded no_body h = record { few = omega arith; low = omega arith; paid = omega arith; both = omega arith }
       body_bounded (with_body f) h = bounded f h

@@ -1,6 +1,7 @@
 pub mod Nodes
 pub mod FormsIn
 pub mod Bounds
+pub mod Mentioned
 pub mod Naming
 pub mod Surroundings
 pub mod LeafNames

@@ -44,7 +44,7 @@ use Rattle.back_relation.specs.Around.{CallBegins, SiteStored, RoomFor}
 use Rattle.back_relation.specs.Activation.{SelfHeld, ArgumentsKept, MethodHeld, MethodThere, in_heap, CallHeld}
 use Rattle.back_relation.specs.Ends.{WorldKept, Around, SparingCall}
 use Rattle.back_relation.specs.Forms.{context_at, code_at}
-use Rattle.back_relation.specs.Procedures.{called, as_registers, mean_inside, body_words, body_credit, IsFunction, CapturedFits, ExtraGiven, BodyDoes, ArgumentsGiven, CalledFits}
+use Rattle.back_relation.specs.Procedures.{called, as_registers, mean_inside, body_room, body_credit, IsFunction, CapturedFits, ExtraGiven, BodyDoes, ArgumentsGiven, CalledFits}
 use Rattle.back_relation.specs.Chains.{ChainAt, ChainTakes}
 use Rattle.back_relation.specs.RoutineClaims.{list_credit, argument_credit, level_credit, entry_spare, LevelThere, ListThere, MethodKept}
 use Rattle.back_relation.specs.Placed.{IsPlaced}
@@ -62,6 +62,7 @@ use Rattle.back_calling.proofs.Outward.{captured_later, self_out, method_out}
 use Rattle.back_calling.proofs.Numbers.{behind_front}
 use Rattle.back_calling.proofs.Units.{world_both, around_both, calls_spared, calls_recounted}
 use Rattle.back_calling.proofs.Growing.{tasks_below}
+use Rattle.back_frames.proofs.Mentioned.{mentions_few}
 use Rattle.back_function_entries.proofs.Held.{extra_below, given_values, given_then}
 use Rattle.back_calling.proofs.Applied.{called_grows}
 use Rattle.back_calling.proofs.Levels.{levels_there_at}
@@ -151,7 +152,11 @@ module _ (setting : Setting) (number : ℕ) (extra : Extra) (q : FlatProcedure) 
   req = length q.required
 
   abbrev inside_words : ℕ
-  inside_words = body_words q + routine_words
+  inside_words = body_room q
+
+  -- the reserve is among them
+  reserve_there : routine_words ≤ inside_words
+  reserve_there = let few = mentions_few q.body in omega (arith, few)
 
   -- ---- where the arguments are given, and what else an entry is given is there
 
@@ -517,7 +522,7 @@ module _ (setting : Setting) (number : ℕ) (extra : Extra) (q : FlatProcedure) 
           kept_record (λ v a. meant a) jumping words_there left_over (λ v a. grown_later (meant_later setting j q cs called_as variables around a)) (λ g1 x1. jumping_grows g1 x1)
           (λ t. ap (λ (e : FlatEvaluated). e.outcome) t.outcome) (λ t. t.end)
           (keeps rs valid w around x y7 called_there chain address chain_at takes_them (subst (λ us. ArgumentsGiven setting w y7.arena address us) (sym same_arguments) g.arguments)
-          (fewer_begins routine_words (omega arith) begins7))
+          (fewer_begins routine_words reserve_there begins7))
           (λ t. kept_on t))))
         where
           twice_world : WorldKept setting w w x x y y6
@@ -772,7 +777,7 @@ module _ (setting : Setting) (number : ℕ) (extra : Extra) (q : FlatProcedure) 
           (λ tail after. recorded_body (take req vs ++ tail ∷ []) after) (λ g1 x1. exec code_here (code_of kept_steps) g1 x1) list_there begins32.things (omega (arith, counted)) left_over
           (grown_later listed_later).units (λ tail after. grown_later (recorded_later (take req vs ++ tail ∷ []) after)) (λ g1 x1. steps_grow setting (suc j) n kept_steps g1 x1)
           (λ t. record { outcome = t.returned.outcome; end = t.returned.end; world = t.returned.world; back = t.returned.back; frame = t.returned.frame })
-          (lists_made rs valid w around x y84 tail_values at tail_given (fewer_begins routine_words (omega arith) (cost_begins 52 begins32)))
+          (lists_made rs valid w around x y84 tail_values at tail_given (fewer_begins routine_words reserve_there (cost_begins 52 begins32)))
           (λ t world back. listed_on t world back))))
 
     -- ---- a level is judged

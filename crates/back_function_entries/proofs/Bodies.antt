@@ -34,13 +34,13 @@ use Rattle.back_lowering.specs.Scope.{registers_from}
 use Rattle.back_lowering.specs.Sites.{asks_site}
 use Rattle.back_lowering.specs.Steps.{Steps, load_from}
 use Rattle.back_relation.specs.Setting.{Setting}
-use Rattle.back_relation.specs.Room.{routine_words, words_for, words_for_handler}
+use Rattle.back_relation.specs.Room.{words_for, words_for_handler}
 use Rattle.back_relation.specs.Worlds.{World, Later, Standing}
 use Rattle.back_relation.specs.Around.{CallBegins}
 use Rattle.back_relation.specs.Activation.{IsOwn, ScopeStands, SiteHeld}
 use Rattle.back_relation.specs.Ends.{WorldKept, Around, full_there, stopped, CallEnds, form_credit}
 use Rattle.back_relation.specs.Forms.{Begins, DoesForm, below_at, context_at, code_at}
-use Rattle.back_relation.specs.Procedures.{called, mean_inside, body_words, body_credit, IsFunction, CapturedFits, as_registers, BodyBegins}
+use Rattle.back_relation.specs.Procedures.{called, mean_inside, body_room, body_credit, IsFunction, CapturedFits, as_registers, BodyBegins}
 use Rattle.back_relation.specs.Right.{ProgramIsRight}
 use Rattle.back_relation.specs.Starts.{FlatGrown}
 use Rattle.back_relation.proofs.Activations.{made_by_later, method_later}
@@ -498,8 +498,8 @@ module _ (setting : Setting) (right : ProgramIsRight setting) (k entry : ℕ) (e
       CallEnds setting m setting.turns_each rs valid w around (charged 1 z) y (mean_inside (context_at setting (suc k)) q cs called_as vs around z)
       (called (code_at setting (suc k) turns) (body_of_procedure setting.at entry) (ws ++ more) y))
       sum
-      (levels_entered setting (suc k) turns (body_of_procedure setting.at entry) setting.turns_each (body_words q + routine_words) (words_for setting.names setting.program q.body) body_paid p (ws ++ more) rs
-      valid w around (charged 1 z) y (mean_inside (context_at setting (suc k)) q cs called_as vs around z) stands.there refl all_count stands.paid grown.printed (begins_recounted setting (z.state.units + 1) b.call) (λ e. absurd (cc e))
+      (levels_entered setting (suc k) turns (body_of_procedure setting.at entry) setting.turns_each (body_room q) (words_for setting.names setting.program q.body) body_paid p (ws ++ more) rs
+      valid w around (charged 1 z) y (mean_inside (context_at setting (suc k)) q cs called_as vs around z) stands.there refl all_count (let paid = stands.paid in omega (arith, paid)) grown.printed (begins_recounted setting (z.state.units + 1) b.call) (λ e. absurd (cc e))
       (λ j e.
       let same : k ≡ j = omega (arith, e) in
       subst

@@ -36,14 +36,14 @@ use Rattle.back_lowering.specs.Steps.{Steps, constant, compute, call, if_equal, 
 use Rattle.mid_code.specs.declared.operation.Arithmetic.TheVariants as which
 use Rattle.back_relation.specs.Setting.{Setting}
 use Rattle.back_relation.specs.Placed.{IsPlaced}
-use Rattle.back_relation.specs.Room.{routine_words, entry_words, words_for_handler}
+use Rattle.back_relation.specs.Room.{entry_words, words_for_handler}
 use Rattle.back_relation.specs.Worlds.{World, Standing}
 use Rattle.back_relation.specs.Things.{Things}
 use Rattle.back_relation.specs.Around.{RoomFor, AroundStands, CallBegins}
 use Rattle.back_relation.specs.Activation.{SelfHeld, ArgumentsThere, MethodHeld, MethodThere}
 use Rattle.back_relation.specs.Ends.{done, left_by, full_there, stopped, few_turns, CallEnds, SparingCall}
 use Rattle.back_relation.specs.Forms.{below_at, context_at, code_at}
-use Rattle.back_relation.specs.Procedures.{called, as_registers, mean_inside, body_words, body_credit, entry_credit, IsFunction, CapturedFits, ExtraGiven, BodyDoes, ArgumentsGiven, CalledFits}
+use Rattle.back_relation.specs.Procedures.{called, as_registers, mean_inside, body_words, body_room, body_credit, entry_credit, IsFunction, CapturedFits, ExtraGiven, BodyDoes, ArgumentsGiven, CalledFits}
 use Rattle.back_function_entries.proofs.Ready.{EntryReady, EntryReserve}
 use Rattle.back_relation.proofs.Growth.{same_flat, grown_later}
 use Rattle.back_relation.proofs.Worlds.{later_same, around_again}
@@ -310,13 +310,13 @@ module _ (setting : Setting) where
     entered_ends j does z1 captured begins =
         let later = meant_later j q cs called_as vs around z1 in
         let grown = grown_later later in
-        turns_entered setting (suc j) turns number turns (entry_words + body_words q) (body_words q + routine_words) (credit_inside (body_credit q)) (made number extra q) entry_given rs valid w around (charged 1 z1) y
+        turns_entered setting (suc j) turns number turns (entry_words + body_words q) (body_room q) (credit_inside (body_credit q)) (made number extra q) entry_given rs valid w around (charged 1 z1) y
         (meant j q cs called_as vs around z1) (found number extra q placed function) refl refl (omega arith) (omega (arith, grown.units)) grown.printed (begins_recounted setting (z1.state.units + 1) begins)
         (λ i e y' here.
         inside_ends number extra q no_rest keeps_none rs valid vs self chain address w around many (suc j) i turns (body_credit q) (charged 1 z1) y' (meant j q cs called_as vs around z1) here.call.things
         (values_inside y' here.words)
         (λ ws paid of_values.
-        let inner : CallBegins setting rs valid (body_words q + routine_words) w around z1 y' = begins_recounted setting z1.state.units here.call in
+        let inner : CallBegins setting rs valid (body_room q) w around z1 y' = begins_recounted setting z1.state.units here.call in
         fewer_turns setting.turns_each turns few
         (does rs valid i cs called_as vs ws (given number extra q no_rest keeps_none rs valid vs self chain address w around many) w around z1
         (mid_charged (call_paid number extra q no_rest keeps_none rs valid vs self chain address w around many) (mid_charged paid y')) function fits
@@ -351,7 +351,7 @@ module _ (setting : Setting) where
         let reserve = none refl in
         let enough = reserve.enough in
         without_level (credit_inside 0 + entry_cost 4) (entry_credit (length vs)) refl
-        (turns_entered setting zero turns number turns reserve.count routine_words (credit_inside 0) (made number extra q) entry_given rs valid w around (charged 1 z) y r (found number extra q placed function) refl refl
+        (turns_entered setting zero turns number turns reserve.count 0 (credit_inside 0) (made number extra q) entry_given rs valid w around (charged 1 z) y r (found number extra q placed function) refl refl
         (omega (arith, enough)) (omega arith) (same_flat z).printed (begins_recounted setting (z.state.units + 1) reserve.call)
         (λ i e y' here.
         inside_ends number extra q no_rest keeps_none rs valid vs self chain address w around many zero i turns 0 (charged 1 z) y' r here.call.things (values_inside y' here.words)

@@ -42,7 +42,7 @@ use Rattle.back_relation.specs.Worlds.{World, Standing}
 use Rattle.back_relation.specs.Around.{RoomFor}
 use Rattle.back_relation.specs.Ends.{CallEnds, done, left_by, full_there, stopped, few_turns}
 use Rattle.back_relation.specs.Forms.{FormEnds, below_at, context_at, code_at}
-use Rattle.back_relation.specs.Procedures.{called, mean_inside, body_words, body_credit, BodyDoes, BodyBegins}
+use Rattle.back_relation.specs.Procedures.{called, mean_inside, body_room, body_credit, BodyDoes, BodyBegins}
 use Rattle.back_relation.specs.Starts.{FlatGrown, Start, EndsAt}
 use Rattle.back_relation.proofs.Activations.{activation_later}
 use Rattle.back_relation.proofs.Fitting.{registers_front, registers_behind}
@@ -217,7 +217,7 @@ module _ (setting : Setting) (placed : IsPlaced setting) (a : Start setting) (nu
       z1 = charged (length vs) (asked size a.z)
 
       room_by : (l : Limit) → RoomFor l (a.n + words_for_handler * length a.around.handlers) a.z.state a.y
-          → RoomFor l (body_words q + routine_words + words_for_handler * length a.around.handlers) z1.state a.y
+          → RoomFor l (body_room q + words_for_handler * length a.around.handlers) z1.state a.y
       room_by unlimited h = tt
       room_by (words k) h = omega (arith, h, home_count, enough, reserve)
 
@@ -228,7 +228,7 @@ module _ (setting : Setting) (placed : IsPlaced setting) (a : Start setting) (nu
         valid = a.valid;
         s = a.s;
         d = a.d;
-        n = body_words q + routine_words;
+        n = body_room q;
         w = a.w;
         env = a.env;
         around = a.around;

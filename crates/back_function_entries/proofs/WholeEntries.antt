@@ -31,10 +31,10 @@ use Rattle.back_lowering.specs.RoutineCodes.{level_code}
 use Rattle.back_lowering.specs.Routines.{level_routine, list_routine, method_routine}
 use Rattle.back_lowering.specs.Steps.{Steps, call, constant, compute, if_equal, words_loaded}
 use Rattle.back_lowering.specs.Scope.{registers_from}
-use Rattle.back_relation.specs.Procedures.{mean_inside, called, body_words, body_credit, entry_credit, IsFunction, CapturedFits, BodyDoes, EntryBegins, CalledFits}
+use Rattle.back_relation.specs.Procedures.{mean_inside, called, body_words, body_room, body_credit, entry_credit, IsFunction, CapturedFits, BodyDoes, EntryBegins, CalledFits}
 use Rattle.back_relation.specs.Setting.{Setting}
 use Rattle.back_relation.specs.Placed.{IsPlaced}
-use Rattle.back_relation.specs.Room.{routine_words, entry_words, words_for_handler}
+use Rattle.back_relation.specs.Room.{entry_words, words_for_handler}
 use Rattle.back_relation.specs.Things.{Things}
 use Rattle.back_relation.specs.Worlds.{World, Standing}
 use Rattle.back_relation.specs.Around.{RoomFor, AroundStands, CallBegins}
@@ -104,7 +104,7 @@ module _ (setting : Setting) (turns number : ℕ) (extra : Extra) (q : FlatProce
   -- ---- inside the frame
 
   given_inside :
-      {y' : MidState} → Inside setting rs valid (body_words q + routine_words) (entry_cost 4) w around (charged 1 z1) y y'
+      {y' : MidState} → Inside setting rs valid (body_room q) (entry_cost 4) w around (charged 1 z1) y y'
       → Given setting number extra q rs valid cs called_as vs self chain address around w z1 y' regs0
   given_inside {y'} here =
       record {
@@ -165,7 +165,7 @@ module _ (setting : Setting) (turns number : ℕ) (extra : Extra) (q : FlatProce
         → CallEnds setting (inside_paid + entry_cost 4) turns rs valid w around (charged 1 z1) y (meant_all z1) (called (code_at setting (suc j) turns) number entry_given y)
     entered_ends room =
         let grown = grown_later (meant_all_later z1) in
-        turns_entered setting (suc j) turns number turns (entry_words + body_words q) (body_words q + routine_words) inside_paid made_entry entry_given rs valid w around (charged 1 z1) y (meant_all z1)
+        turns_entered setting (suc j) turns number turns (entry_words + body_words q) (body_room q) inside_paid made_entry entry_given rs valid w around (charged 1 z1) y (meant_all z1)
         (found setting number extra q placed function) refl refl (omega arith) (omega (arith, grown.units)) grown.printed (begins_recounted setting (z1.state.units + 1) (b.begun room))
         (λ i e y' here.
         let all_made = made i e in
@@ -208,7 +208,7 @@ module _ (setting : Setting) (turns number : ℕ) (extra : Extra) (q : FlatProce
       let enough_words = reserve.enough in
       subst (λ p. SparingCall setting credit turns rs valid w around z y p (called (code_at setting zero turns) number entry_given y)) (sym is_none)
       (without_level setting (0 + entry_cost 4) credit refl
-      (turns_entered setting zero turns number turns reserve.count routine_words 0 made_entry entry_given rs valid w around (charged 1 z) y none (found setting number extra q placed function) refl refl
+      (turns_entered setting zero turns number turns reserve.count 0 0 made_entry entry_given rs valid w around (charged 1 z) y none (found setting number extra q placed function) refl refl
       (omega (arith, enough_words)) (omega arith) (same_flat z).printed (begins_recounted setting (z.state.units + 1) reserve.call)
       (λ i e y' here.
       let behind : Steps = behind_level in

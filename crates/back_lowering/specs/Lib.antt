@@ -4,6 +4,7 @@ pub mod Placement
 pub mod Steps
 pub mod Routines
 pub mod Sites
+pub mod Mentions
 pub mod Leaves
 pub mod Primitives
 pub mod Records

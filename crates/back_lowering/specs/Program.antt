@@ -1,6 +1,6 @@
 -- **The lowered program**: the entries and the bodies of all functions, the procedures of primitives, the routines, the main forms, and the
 -- start, which calls them one after another.
-use Rattle.std.specs.Prelude.{ℕ, zero, suc, ◌+◌, ◌*◌, ◌||◌, max, Bool, true, false, List, [], ◌∷◌, ◌++◌, Option, Some, None, length, map, is_some, if◌then◌else◌}
+use Rattle.std.specs.Prelude.{ℕ, zero, suc, ◌+◌, ◌*◌, ◌||◌, max, min, Bool, true, false, List, [], ◌∷◌, ◌++◌, Option, Some, None, length, map, is_some, if◌then◌else◌}
 use Rattle.lang_meaning.specs.model.ShapeCode.{primitive_at}
 use Rattle.flat_language.specs.declared.program.FlatProcedure.{FlatProcedure}
 use Rattle.flat_language.specs.declared.program.FlatProgram.{FlatProgram}
@@ -20,6 +20,7 @@ use Rattle.back_lowering.specs.declared.scope.Scope.{Scope}
 use Rattle.back_lowering.specs.Placement.{functions, primitive_count, routines_from}
 use Rattle.back_lowering.specs.declared.placement.Placement.{Placement}
 use Rattle.back_lowering.specs.Routines.{level_routine, list_routine, method_routine, routine_count}
+use Rattle.back_lowering.specs.Mentions.{mentions}
 use Rattle.back_lowering.specs.Sites.{asks_site}
 use Rattle.back_lowering.specs.Steps.{Steps, move, constant, compute, load, store, call, if_equal, load_from, words_loaded}
 use Rattle.back_lowering.specs.Leaves.{boxes_made}
@@ -73,9 +74,18 @@ extra_count itself = 1
 abbrev pub entry_parameters : ℕ
 entry_parameters = 4
 
--- how many words of the stack are enough for an entry
-abbrev pub entry_frame : ℕ
-entry_frame = 6
+-- The words of the required parameters may be alive across the call of the body, so an entry has a word of the stack for each. But an entry is entered
+-- before it is known whether there is a level for the body, so it has no more of them than what calls it has in reserve; and no more than the body
+-- names variables, since the words that are charged for an application, in which its arguments may have been lent too, pay no others.
+abbrev pub most_parameter_words : ℕ
+most_parameter_words = 52
+
+abbrev pub parameter_words : FlatProcedure → ℕ
+parameter_words q = min most_parameter_words (min (length q.required) (mentions q.body))
+
+-- how many words of the stack an entry has
+abbrev pub entry_frame : FlatProcedure → ℕ
+entry_frame q = 6 + parameter_words q
 
 module _ (names : List (List ℕ)) (at : Placement) (program : FlatProgram) where
   -- ---- entries
@@ -110,7 +120,7 @@ module _ (names : List (List ℕ)) (at : Placement) (program : FlatProgram) wher
     counted = Turn;
     parameters = entry_parameters;
     registers = 7 + length q.required;
-    frame = entry_frame;
+    frame = entry_frame q;
     body =
         level_judged q
         ++ (rest_made q

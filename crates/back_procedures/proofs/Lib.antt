@@ -1,3 +1,4 @@
 mod MainForms
 pub mod Walking
 pub mod Counting
+pub mod MentionsInside

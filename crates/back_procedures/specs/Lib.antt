@@ -1,2 +1,3 @@
 pub mod Extras
 pub mod MainParts
+pub mod Mentioned

@@ -6,6 +6,7 @@ ghost use Rattle.back_lowering.specs.Steps as steps;
 ghost use Rattle.back_procedures.specs.Extras.{meant};
 
 use crate::extra::Extra;
+use crate::mentions::mentions;
 use back_calls::Given;
 use back_leaves::leaves::routine;
 use back_leaves::registers::registers;
@@ -19,6 +20,9 @@ use std::alloc::Global;
 
 /// A function with so many required variables has no entry: there is no memory for code of so many.
 const MOST: usize = 1 << 28;
+
+/// What calls an entry has no more words in reserve for the words of its parameters.
+const MOST_PARAMETER_WORDS: u64 = 52;
 
 // Where it makes a list or keeps a call, a level is judged first.
 fn level_judged(
@@ -116,6 +120,14 @@ fn taken_behind(
     }
 }
 
+// How many words of the stack an entry has.
+fn entry_frame(procedure: &FlatProcedure) -> u32
+    ensures { result ≡ lowering.entry_frame procedure.now }
+{
+    let named = mentions(&procedure.body).min(MOST_PARAMETER_WORDS);
+    6 + named.min(procedure.required.len() as u64) as u32
+}
+
 /// The entry of a function whose body has that number. Fails for want of memory.
 pub fn entry(
     alloc: Global,
@@ -143,7 +155,7 @@ pub fn entry(
         counted: Counted::Turn,
         parameters: 4,
         registers: 7 + required,
-        frame: 6,
+        frame: entry_frame(procedure),
         body: code,
     })
 }

@@ -6,6 +6,7 @@ pub mod entries;
 pub mod extra;
 pub mod frames;
 pub mod mains;
+mod mentions;
 pub mod named;
 
 pub use extra::Extra;

@@ -1,5 +1,5 @@
 -- **What is to be shown of the bodies and the entries of functions.**
-use Rattle.std.specs.Prelude.{◌≡◌, ◌⊎◌, ⊤, ℕ, suc, ◌+◌, ◌*◌, ◌^◌, ◌<◌, ◌≤◌, true, false, List, [], ◌∷◌, ◌++◌, Option, Some, None, length, map, slice_get, is_some}
+use Rattle.std.specs.Prelude.{◌≡◌, ◌⊎◌, ⊤, ℕ, suc, ◌+◌, ◌-◌, ◌*◌, ◌^◌, ◌<◌, ◌≤◌, true, false, List, [], ◌∷◌, ◌++◌, Option, Some, None, length, map, slice_get, is_some}
 use Rattle.lang_meaning.specs.declared.scope.ExitForm.{ExitForm}
 use Rattle.lang_meaning.specs.Objects.{Called}
 use Rattle.lang_meaning.specs.Signals.{takes}
@@ -16,7 +16,7 @@ use Rattle.mid_code.specs.State.{Registers, with_some, MidState, MidOutcome}
 use Rattle.mid_arena.specs.Places.{WordsOf}
 use Rattle.mid_arena.specs.Standing.{ValuesAt}
 use Rattle.back_lowering.specs.Placement.{entry_of_lambda, body_of_procedure}
-use Rattle.back_lowering.specs.Program.{Extra, nothing, its_method, itself, extra_of, body_of}
+use Rattle.back_lowering.specs.Program.{Extra, nothing, its_method, itself, extra_of, body_of, parameter_words}
 use Rattle.back_lowering.specs.Sites.{asks_site}
 use Rattle.back_relation.specs.Setting.{Setting}
 use Rattle.back_relation.specs.Worlds.{World, Plain, Standing}
@@ -42,9 +42,14 @@ mean_inside context q captured called vs around z =
     in_own_frame (λ inner.
     context.below (form q.body) (record no_environment { captured = captured; method = called }) around (with_slots (homes q) vs inner)) ready)
 
--- Of the words that are charged for an application these are for its body; with the others its arguments may have been lent.
+-- Of the words that are charged for an application these are for its body, and for the words of parameters in its entry; with the others its
+-- arguments may have been lent.
 abbrev pub body_words : FlatProcedure → ℕ
 body_words q = 12 + 16 * nodes q.body
+
+-- with the reserve, so many of them are left where the body begins
+abbrev pub body_room : FlatProcedure → ℕ
+body_room q = body_words q + routine_words - parameter_words q
 
 -- What is paid of the cost of a body, and of an entry, beside the units, of the first of which something is left. The units of the arguments pay
 -- what each of them adds.
@@ -55,10 +60,12 @@ abbrev pub entry_credit : (arguments : ℕ) → ℕ
 entry_credit n = form_credit + 520
 
 module _ (setting : Setting) where
-  -- the words that are charged for an application, and the reserve, are enough for the frame of a body and what its code lays
+  -- the words that are charged for an application, and the reserve, are enough for the words of parameters in the entry, for the frame of the body
+  -- and for what its code lays
   abbrev pub BodyPaid : Extra → FlatProcedure → Type 0
   BodyPaid extra q =
-      (body_of setting.names setting.at setting.program extra q).frame + words_for setting.names setting.program q.body ≤ body_words q + routine_words
+      parameter_words q + (body_of setting.names setting.at setting.program extra q).frame + words_for setting.names setting.program q.body
+      ≤ body_words q + routine_words
 
   -- a function of the program by the number of its entry, and what its body takes behind its variables
   abbrev pub IsFunction : (entry : ℕ) → Extra → FlatProcedure → Type 0
@@ -86,7 +93,7 @@ module _ (setting : Setting) where
   -- where the body of a function begins: the words of its frame were charged, the reserve is there, its further arguments are a list, and the call
   -- of its method is kept where it has to be
   pub record BodyBegins (rs valid : List Standing) (extra : Extra) (q : FlatProcedure) (cs : List Captured) (called_as : Option Called) (vs : List Value) (ws more : List ℕ) (w : World) (around : DynamicContext) (z : FlatState) (y : MidState) : Type 0 where
-    pub call : CallBegins setting rs valid (body_words q + routine_words) w around z y
+    pub call : CallBegins setting rs valid (body_room q) w around z y
     pub variables : WordsOf w.places vs ws
     pub variable_count : length vs ≡ length (homes q)
     pub extras : ExtraGiven w z y extra q cs called_as more

@@ -12,8 +12,8 @@ use Rattle.back_relation.specs.Room.{words_for, main_reserve}
 use Rattle.back_relation.specs.Procedures.{BodyPaid}
 
 module _ (setting : Setting) where
-  -- the words that are charged for an application, and the reserve, are enough for the frame of each body and what its code lays; so are those of
-  -- a main form with a reserve of its own
+  -- the words that are charged for an application, and the reserve, are enough for the words of parameters in its entry, for the frame of each body
+  -- and what its code lays; so are those of a main form with a reserve of its own
   pub record FramesPaid : Type 0 where
     pub procedures : (p : ℕ) (q : FlatProcedure) → slice_get setting.program.procedures p ≡ Some q → BodyPaid setting (extra_of setting.names setting.at setting.program p) q
     pub lambdas : AllOf (BodyPaid setting itself) setting.program.lambdas
