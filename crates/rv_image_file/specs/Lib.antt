@@ -1,0 +1,2 @@
+pub mod ImageText
+pub mod BadText
