@@ -1,1 +1,2 @@
 pub mod NumberBytes
+pub mod PartBytes

@@ -55,11 +55,10 @@ four a b c d ha hb hc hd =
     cc
 
 -- bytes
-pub AreBytes : List ℕ → Type 0
+abbrev pub AreBytes : List ℕ → Type 0
 AreBytes bytes = (i : ℕ) → get_or bytes i 0 < 256
 
 number_first : (xs : List ℕ) → 4 ≤ length xs → AreBytes xs → xs ≡ bytes_of_number 4 (little_endian (take 4 xs)) ++ drop 4 xs
-unfolding AreBytes
 number_first [] h fit = absurd (omega arith)
 number_first (a ∷ []) h fit = absurd (omega arith)
 number_first (a ∷ b ∷ []) h fit = absurd (omega arith)
@@ -70,7 +69,7 @@ number_first (a ∷ b ∷ c ∷ d ∷ rest) h fit = ap (λ l. l ++ rest) (sym (f
 pub number_next :
     (bytes : List ℕ) (from : ℕ) → from + 4 ≤ length bytes → AreBytes bytes
     → drop from bytes ≡ bytes_of_number 4 (number_in bytes from) ++ drop (from + 4) bytes
-unfolding number_in AreBytes
+unfolding number_in
 number_next bytes from h fit =
     let long : 4 ≤ length (drop from bytes) = omega (arith, length-drop from bytes) in
     let bytes_there : (i : ℕ) → get_or (drop from bytes) i 0 < 256 = λ i. omega (arith, get_or-drop from bytes i 0, fit (from + i)) in

@@ -89,7 +89,7 @@ BadText bytes reason = NoneBefore bytes reason × Row bytes reason
 
 -- none of the five holds
 pub record HasNoFault (bytes : List ℕ) : Type 0 where
-  pub magic : ¬ HasBadMagic bytes
+  pub begins : take 4 bytes ≡ magic
   pub version : ¬ HasBadVersion bytes
   pub whole : ¬ IsShort bytes
   pub ended : ¬ IsLong bytes

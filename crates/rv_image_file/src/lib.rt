@@ -2,7 +2,14 @@
 #![tactic(auto)]
 
 pub mod faults;
+pub mod laws;
 mod numbers;
+mod parts;
+pub mod reading;
 mod rows;
+pub mod writing;
 
 pub use faults::{BadImage, ImageStop};
+pub use laws::law_one_reading;
+pub use reading::{ImageFile, read_image};
+pub use writing::write_image;

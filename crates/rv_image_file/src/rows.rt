@@ -1,7 +1,8 @@
 // The five tests of bytes, a row each, and the first that finds a fault.
 
-ghost use Rattle.std.specs.Prelude.{◌≡◌, ◌+◌, ◌^◌, ◌<◌, ◌≤◌, ◌↔◌, length, IsTrue, MatchOption};
-ghost use Rattle.rv_image_file.specs.BadText.{version_in, words_end as words_end_of, sites_end as sites_end_of, text_end as text_end_of, HasBadMagic, HasBadVersion, LacksSites, LacksWords, IsShort, HasManySites, IsLong, HasBadEntry, BadText, HasNoFault};
+ghost use Rattle.std.specs.Prelude.{◌≡◌, ◌+◌, ◌^◌, ◌<◌, ◌≤◌, ◌↔◌, length, take, IsTrue, MatchOption};
+ghost use Rattle.rv_image_file.specs.ImageText.{magic};
+ghost use Rattle.rv_image_file.specs.BadText.{version_in, words_end as words_end_of, sites_end as sites_end_of, text_end as text_end_of, HasBadVersion, LacksSites, LacksWords, IsShort, HasManySites, IsLong, HasBadEntry, BadText, HasNoFault};
 
 use crate::faults::BadImage;
 use crate::numbers::number_at;
@@ -14,7 +15,7 @@ const MOST_SITES: u32 = 100_000;
 pub(crate) fn fault_of(bytes: &[u8]) -> Option<BadImage>
     ensures { MatchOption result (HasNoFault bytes.now) (λ reason. BadText bytes.now reason) }
 {
-    if has_bad_magic(bytes) {
+    if !has_magic(bytes) {
         Some(BadImage::Magic)
     } else if has_bad_version(bytes) {
         Some(BadImage::Version)
@@ -29,11 +30,11 @@ pub(crate) fn fault_of(bytes: &[u8]) -> Option<BadImage>
     }
 }
 
-// The first four bytes are missing or differ.
-fn has_bad_magic(bytes: &[u8]) -> bool
-    ensures { IsTrue result ↔ HasBadMagic bytes.now }
+// The first four bytes are `ISLI`.
+fn has_magic(bytes: &[u8]) -> bool
+    ensures { IsTrue result ↔ (take 4 bytes.now ≡ magic) }
 {
-    bytes.len() < 4 || bytes[0] != b'I' || bytes[1] != b'S' || bytes[2] != b'L' || bytes[3] != b'I'
+    bytes.len() >= 4 && bytes[0] == b'I' && bytes[1] == b'S' && bytes[2] == b'L' && bytes[3] == b'I'
 }
 
 // Bytes 4 to 7 are missing, or neither 1 nor 2.
