@@ -1,0 +1,1 @@
+-- Bytes with no fault are the text of the words and sites that are read of them.
