@@ -1,11 +1,10 @@
 -- The bytes of lists of words and of sites, one more at a time.
-use Rattle.std.proofs.Common.{◌≡◌, ℕ, zero, suc, ◌+◌, ◌*◌, ◌/◌, ◌%◌, ◌^◌, ◌<◌, ◌≤◌, List, [], ◌∷◌, ◌++◌, length, take, drop, get_or, refl, sym, ap, ◌∙◌, arith, append_assoc}
-use Rattle.std.specs.Prelude.{All}
-use Rattle.std.proofs.lemmas.List.{take_more, take_all, drop_all, append-nil}
+use Rattle.std.proofs.Common.{◌≡◌, ℕ, ◌+◌, ◌*◌, ◌<◌, ◌≤◌, List, [], ◌∷◌, ◌++◌, length, take, drop, get_or, refl, sym, ap, ◌∙◌, arith, append_assoc}
+use Rattle.std.proofs.lemmas.List.{take_more, drop_all, append-nil}
 use Rattle.base.specs.declared.place.Place.{Place}
 use Rattle.rv_machine.specs.Memory.{bytes_of_number, bytes_of}
 use Rattle.rv_machine.specs.Words.{bytes_of-append}
-use Rattle.rv_image_file.specs.ImageText.{site_numbers, IsNumber, IsSite}
+use Rattle.rv_image_file.specs.ImageText.{site_numbers}
 use Rattle.rv_image_file.specs.BadText.{number_in}
 use Rattle.rv_image_file.proofs.NumberBytes.{AreBytes, number_next}
 

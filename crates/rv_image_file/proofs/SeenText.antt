@@ -1,5 +1,5 @@
 -- What is read of the text of an image, which has none of the five faults.
-use Rattle.std.proofs.Common.{◌≡◌, ℕ, zero, suc, ◌+◌, ◌*◌, ◌/◌, ◌%◌, ◌^◌, ◌<◌, ◌≤◌, ◌⊎◌, Bool, true, false, List, [], ◌∷◌, ◌++◌, length, take, drop, refl, sym, ap, ◌∙◌, arith, ⊎_elim, inl, inr, length-append}
+use Rattle.std.proofs.Common.{◌≡◌, ℕ, suc, ◌+◌, ◌*◌, ◌%◌, ◌^◌, ◌<◌, ◌≤◌, ◌⊎◌, true, false, List, [], ◌∷◌, ◌++◌, length, take, drop, refl, sym, ap, ◌∙◌, arith, ⊎_elim, inl, inr, length-append}
 use Rattle.std.specs.Prelude.{if◌then◌else◌, ◌==◌}
 use Rattle.std.proofs.lemmas.Bool.Decides.{nat_tests}
 use Rattle.std.proofs.lemmas.List.{drop_at}
@@ -8,8 +8,8 @@ use Rattle.base.specs.declared.place.Place.{Place}
 use Rattle.rv_machine.specs.declared.image.Image.{Image}
 use Rattle.rv_machine.specs.Memory.{little_endian, bytes_of_number, bytes_of}
 use Rattle.rv_machine.specs.Words.{length-bytes_of, drop-bytes_of}
-use Rattle.rv_image_file.specs.ImageText.{magic, site_numbers, site_part, image_numbers, image_text, most_words, most_sites, ImageText}
-use Rattle.rv_image_file.specs.BadText.{number_in, version_in, entry_in, count_in, words_end, sites_in, sites_end, text_end, IsShort, IsLong, HasBadVersion, HasBadEntry, BadText, HasNoFault}
+use Rattle.rv_image_file.specs.ImageText.{magic, site_numbers, site_part, most_words, most_sites, ImageText}
+use Rattle.rv_image_file.specs.BadText.{number_in, version_in, entry_in, count_in, words_end, sites_in, sites_end, text_end, BadText, HasNoFault}
 use Rattle.rv_image_file.specs.declared.faults.BadImage.{BadImage}
 use Rattle.rv_image_file.specs.declared.faults.BadImage.TheVariants.{Magic, Version, Short, Long, Entry}
 
