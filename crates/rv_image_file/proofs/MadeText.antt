@@ -21,9 +21,9 @@ in_a_row m a b c w d s = simp append_assoc
 parts_of_text :
     (e n count : ℕ) (words numbers : List ℕ)
     → magic
-      ++ (bytes_of_number 4 2
-      ++ (bytes_of_number 4 e ++ (bytes_of_number 4 n ++ (bytes_of words ++ (bytes_of_number 4 count ++ bytes_of numbers)))))
-      ≡ magic ++ bytes_of (2 ∷ e ∷ n ∷ (words ++ count ∷ numbers))
+    ++ (bytes_of_number 4 2
+    ++ (bytes_of_number 4 e ++ (bytes_of_number 4 n ++ (bytes_of words ++ (bytes_of_number 4 count ++ bytes_of numbers)))))
+    ≡ magic ++ bytes_of (2 ∷ e ∷ n ∷ (words ++ count ∷ numbers))
 unfolding bytes_of
 parts_of_text e n count words numbers =
     ap (λ l. magic ++ (bytes_of_number 4 2 ++ (bytes_of_number 4 e ++ (bytes_of_number 4 n ++ l)))) (sym (bytes_of-append words (count ∷ numbers)))
@@ -49,12 +49,14 @@ written image sites places begun t1 t2 t3 t4 t5 text words count number e0 e1 e2
           ∙ in_a_row magic one entry counted_so (bytes_of image.words) numbered (bytes_of (site_numbers sites))
           ∙ parts_of_text image.entry (length image.words) (length sites) image.words (site_numbers sites);
       version_is = inr refl;
-      aligned = image.aligned;
-      inside = image.inside;
-      bounded = image.bounded;
-      few = few;
-      words_fit = All-same IsNumber image.words words (sym w) words_fit;
-      sites_fit = All-same IsSite sites places (sym p) sites_fit;
+      in_range = record {
+        aligned = image.aligned;
+        inside = image.inside;
+        bounded = image.bounded;
+        few = few;
+        words_fit = All-same IsNumber image.words words (sym w) words_fit;
+        sites_fit = All-same IsSite sites places (sym p) sites_fit;
+      };
     }
 
 -- What bytes with no fault have.
@@ -75,11 +77,11 @@ sound bytes n =
     let header : 16 ≤ length bytes = let no : length bytes < 16 → ⊥ = λ h. n.whole (inl h) in omega arith in
     let bounded : count_in bytes ≤ most_words = let no : most_words < count_in bytes → ⊥ = λ h. n.ended (inl h) in omega arith in
     let room : words_end bytes ≤ length bytes =
-        let no : length bytes < words_end bytes → ⊥ = λ h. n.whole (inr (bounded, inl h)) in omega arith in
+    let no : length bytes < words_end bytes → ⊥ = λ h. n.whole (inr (bounded, inl h)) in omega arith in
     let room_for_sites : version_in bytes ≡ 2 → words_end bytes + 4 ≤ length bytes =
-        λ two. let no : length bytes < words_end bytes + 4 → ⊥ = λ h. n.whole (inr (bounded, inr (two, inl h))) in omega arith in
+    λ two. let no : length bytes < words_end bytes + 4 → ⊥ = λ h. n.whole (inr (bounded, inr (two, inl h))) in omega arith in
     let few : version_in bytes ≡ 2 → sites_in bytes ≤ most_sites =
-        λ two. let no : most_sites < sites_in bytes → ⊥ = λ h. n.ended (inr (inl (two, h))) in omega arith in
+    λ two. let no : most_sites < sites_in bytes → ⊥ = λ h. n.ended (inr (inl (two, h))) in omega arith in
     let no_more : text_end bytes < length bytes → ⊥ = λ h. n.ended (inr (inr h)) in
     record {
       header = header;
@@ -108,10 +110,10 @@ unfolding bytes_of
 spelled bytes words tail long fit begins w t =
     let count = 4 * count_in bytes in
     let body : drop 16 bytes ≡ bytes_of (words ++ tail) =
-        sym (take-append-drop count (drop 16 bytes))
-        ∙ ap (λ l. l ++ drop count (drop 16 bytes)) w
-        ∙ ap (λ l. bytes_of words ++ l) (drop-drop count 16 bytes ∙ t)
-        ∙ sym (bytes_of-append words tail) in
+    sym (take-append-drop count (drop 16 bytes))
+    ∙ ap (λ l. l ++ drop count (drop 16 bytes)) w
+    ∙ ap (λ l. bytes_of words ++ l) (drop-drop count 16 bytes ∙ t)
+    ∙ sym (bytes_of-append words tail) in
     sym (take-append-drop 4 bytes)
     ∙ ap (λ l. l ++ drop 4 bytes) begins
     ∙ ap (λ l. magic ++ l) (number_next bytes 4 (omega arith) fit)
@@ -154,10 +156,11 @@ pub with_sites :
     → take (length bytes - (end + 4)) (drop (end + 4) bytes) ≡ bytes_of (site_numbers read) → All IsSite read → sites ≡ read
     → SitesRead bytes sites
 with_sites bytes version end sites read v two e t fit is =
-    inl
-    (sym v ∙ two,
-     ap (λ k. drop (k + 4) bytes) (sym e) ∙ sym (take_rest bytes (end + 4)) ∙ t ∙ ap (λ l. bytes_of (site_numbers l)) (sym is),
-     All-same IsSite sites read is fit)
+    inl (
+      sym v ∙ two,
+      ap (λ k. drop (k + 4) bytes) (sym e) ∙ sym (take_rest bytes (end + 4)) ∙ t ∙ ap (λ l. bytes_of (site_numbers l)) (sym is),
+      All-same IsSite sites read is fit,
+    )
 
 pub with_no_sites :
     (bytes : List ℕ) (version : ℕ) (sites read : List Place) → version ≡ version_in bytes → (version ≡ 2 → ⊥) → read ≡ [] → sites ≡ read
@@ -177,33 +180,33 @@ behind bytes sites n fit read =
     let s = sound bytes n in
     ⊎_elim
     (λ p.
-      let two : version_in bytes ≡ 2 = p.0 in
-      let end : length bytes ≡ sites_end bytes = s.ends_by_sites two in
-      let few : sites_in bytes ≤ most_sites = s.few two in
-      let lengths : length (drop (words_end bytes + 4) bytes) ≡ 4 * length (site_numbers sites) =
-          ap length p.1 ∙ length-bytes_of (site_numbers sites) in
-      let count : sites_in bytes ≡ length sites =
-          omega (arith, length-drop (words_end bytes + 4) bytes, lengths, length-site_numbers sites) in
-      record {
-        spelled_so =
-            number_next bytes (words_end bytes) (s.room_for_sites two) fit
-            ∙ ap (λ l. bytes_of_number 4 (sites_in bytes) ++ l) p.1
-            ∙ ap (λ k. bytes_of_number 4 k ++ bytes_of (site_numbers sites)) count
-            ∙ ap (λ v. bytes_of (site_part v sites)) (sym two);
-        few = omega arith;
-        fit = p.2;
-        version_is = inr two;
-      })
+    let two : version_in bytes ≡ 2 = p.0 in
+    let end : length bytes ≡ sites_end bytes = s.ends_by_sites two in
+    let few : sites_in bytes ≤ most_sites = s.few two in
+    let lengths : length (drop (words_end bytes + 4) bytes) ≡ 4 * length (site_numbers sites) =
+    ap length p.1 ∙ length-bytes_of (site_numbers sites) in
+    let count : sites_in bytes ≡ length sites =
+    omega (arith, length-drop (words_end bytes + 4) bytes, lengths, length-site_numbers sites) in
+    record {
+      spelled_so =
+          number_next bytes (words_end bytes) (s.room_for_sites two) fit
+          ∙ ap (λ l. bytes_of_number 4 (sites_in bytes) ++ l) p.1
+          ∙ ap (λ k. bytes_of_number 4 k ++ bytes_of (site_numbers sites)) count
+          ∙ ap (λ v. bytes_of (site_part v sites)) (sym two);
+      few = omega arith;
+      fit = p.2;
+      version_is = inr two;
+    })
     (λ p.
-      let one : version_in bytes ≡ 1 = ⊎_elim (λ e. e) (λ two. absurd (p.0 two)) s.version_is in
-      let end : length bytes ≡ words_end bytes = s.ends_by_words p.0 in
-      record {
-        spelled_so =
-            drop_all (words_end bytes) bytes (omega arith) ∙ ap (λ v. bytes_of (site_part v sites)) (sym one);
-        few = let e : length sites ≡ 0 = ap length p.1 in omega arith;
-        fit = All-same IsSite sites [] p.1 (All-nil IsSite);
-        version_is = inl (one, p.1);
-      })
+    let one : version_in bytes ≡ 1 = ⊎_elim (λ e. e) (λ two. absurd (p.0 two)) s.version_is in
+    let end : length bytes ≡ words_end bytes = s.ends_by_words p.0 in
+    record {
+      spelled_so =
+          drop_all (words_end bytes) bytes (omega arith) ∙ ap (λ v. bytes_of (site_part v sites)) (sym one);
+      few = let e : length sites ≡ 0 = ap length p.1 in omega arith;
+      fit = All-same IsSite sites [] p.1 (All-nil IsSite);
+      version_is = inl (one, p.1);
+    })
     read
 
 -- **Bytes with no fault are the text of what is read of them.**
@@ -217,7 +220,7 @@ made bytes words end image sites n fit e w words_fit is entry read =
     let count : length image.words ≡ count_in bytes = ap length is ∙ counted bytes words end n e w in
     let size : end - 16 ≡ 4 * count_in bytes = omega arith in
     let there : take (4 * count_in bytes) (drop 16 bytes) ≡ bytes_of image.words =
-        ap (λ k. take k (drop 16 bytes)) (sym size) ∙ w ∙ ap bytes_of (sym is) in
+    ap (λ k. take k (drop 16 bytes)) (sym size) ∙ w ∙ ap bytes_of (sym is) in
     let tail = site_part (version_in bytes) sites in
     record {
       spelled =
@@ -225,10 +228,12 @@ made bytes words end image sites n fit e w words_fit is entry read =
           ∙ ap (λ i. magic ++ bytes_of (version_in bytes ∷ i ∷ count_in bytes ∷ (image.words ++ tail))) (sym entry)
           ∙ ap (λ k. magic ++ bytes_of (version_in bytes ∷ image.entry ∷ k ∷ (image.words ++ tail))) (sym count);
       version_is = b.version_is;
-      aligned = image.aligned;
-      inside = image.inside;
-      bounded = image.bounded;
-      few = b.few;
-      words_fit = All-same IsNumber image.words words is words_fit;
-      sites_fit = b.fit;
+      in_range = record {
+        aligned = image.aligned;
+        inside = image.inside;
+        bounded = image.bounded;
+        few = b.few;
+        words_fit = All-same IsNumber image.words words is words_fit;
+        sites_fit = b.fit;
+      };
     }

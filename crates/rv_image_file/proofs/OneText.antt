@@ -6,7 +6,7 @@ use Rattle.std.proofs.lemmas.List.Elements.{All-nil, All-cons, All-head, All-tai
 use Rattle.base.specs.declared.place.Place.{Place}
 use Rattle.rv_machine.specs.declared.image.Image.{Image}
 use Rattle.rv_machine.specs.Memory.{bytes_of_number, bytes_of}
-use Rattle.rv_image_file.specs.ImageText.{magic, site_numbers, site_part, image_numbers, IsVersion, IsNumber, IsSite, ImageText}
+use Rattle.rv_image_file.specs.ImageText.{magic, site_numbers, site_part, image_numbers, IsVersion, IsNumber, IsSite, IsInRange, ImageText, image_text}
 
 -- words of 32 bits are told by their bytes
 one_list : (xs ys : List ℕ) → All IsNumber xs → All IsNumber ys → bytes_of xs ≡ bytes_of ys → xs ≡ ys
@@ -79,17 +79,17 @@ numbers_fit :
     (bytes : List ℕ) (version : ℕ) (image : Image) (sites : List Place) → ImageText bytes version image sites
     → All IsNumber (image_numbers version image sites)
 numbers_fit bytes version image sites h =
-    let bounded = h.bounded in
-    let inside = h.inside in
-    let few = h.few in
+    let bounded = h.in_range.bounded in
+    let inside = h.in_range.inside in
+    let few = h.in_range.few in
     let part : All IsNumber (site_part version sites) =
-        chosen_fit (version == 2) (length sites ∷ site_numbers sites)
-        (All-cons IsNumber (length sites) (site_numbers sites) (omega arith) (site_numbers_fit sites h.sites_fit)) in
+    chosen_fit (version == 2) (length sites ∷ site_numbers sites)
+    (All-cons IsNumber (length sites) (site_numbers sites) (omega arith) (site_numbers_fit sites h.in_range.sites_fit)) in
     let tail = image.words ++ site_part version sites in
     All-cons IsNumber version (image.entry ∷ length image.words ∷ tail) (version_fits version sites h.version_is)
     (All-cons IsNumber image.entry (length image.words ∷ tail) (omega arith)
     (All-cons IsNumber (length image.words) tail (omega arith)
-    (All-append IsNumber image.words (site_part version sites) h.words_fit part)))
+    (All-append IsNumber image.words (site_part version sites) h.in_range.words_fit part)))
 
 one_part :
     (version : ℕ) (sites others : List Place) → IsVersion version sites → IsVersion version others
@@ -98,10 +98,10 @@ one_part version sites others p q e =
     ⊎_elim
     (λ a. ⊎_elim (λ b. a.1 ∙ sym b.1) (λ b. let one : version ≡ 1 = a.0 in let two : version ≡ 2 = b in absurd (omega arith)) q)
     (λ a.
-      let same : length sites ∷ site_numbers sites ≡ length others ∷ site_numbers others =
-          sym (ap (λ n. site_part n sites) a) ∙ e ∙ ap (λ n. site_part n others) a in
-      let tails : site_numbers sites ≡ site_numbers others = cc in
-      one_list_of_sites sites others tails)
+    let same : length sites ∷ site_numbers sites ≡ length others ∷ site_numbers others =
+    sym (ap (λ n. site_part n sites) a) ∙ e ∙ ap (λ n. site_part n others) a in
+    let tails : site_numbers sites ≡ site_numbers others = cc in
+    one_list_of_sites sites others tails)
     p
 
 pub one_text :
@@ -109,9 +109,9 @@ pub one_text :
     → (v ≡ w) × (image.entry ≡ other.entry) × (image.words ≡ other.words) × (sites ≡ others)
 one_text bytes v w image other sites others p q =
     let same : bytes_of (image_numbers v image sites) ≡ bytes_of (image_numbers w other others) =
-        append_cancel_left magic _ _ (sym p.spelled ∙ q.spelled) in
+    append_cancel_left magic _ _ (sym p.spelled ∙ q.spelled) in
     let numbers : image_numbers v image sites ≡ image_numbers w other others =
-        one_list _ _ (numbers_fit bytes v image sites p) (numbers_fit bytes w other others q) same in
+    one_list _ _ (numbers_fit bytes v image sites p) (numbers_fit bytes w other others q) same in
     let versions : v ≡ w = cc in
     let entries : image.entry ≡ other.entry = cc in
     let counts : length image.words ≡ length other.words = cc in
@@ -120,3 +120,11 @@ one_text bytes v w image other sites others p q =
     let P : ℕ → Type 0 = λ n. IsVersion n others in
     let of_other : IsVersion v others = subst P (sym versions) q.version_is in
     (versions, entries, parts.0, one_part v sites others p.version_is of_other (parts.1 ∙ ap (λ n. site_part n others) (sym versions)))
+
+pub one_written :
+    (version w : ℕ) (image other : Image) (sites others : List Place) → IsVersion version sites → IsInRange image sites
+    → ImageText (image_text version image sites) w other others
+    → (w ≡ version) × (other.entry ≡ image.entry) × (other.words ≡ image.words) × (others ≡ sites)
+one_written version w image other sites others is range read =
+    one_text (image_text version image sites) w version other image others sites read
+    (record { spelled = refl; version_is = is; in_range = range })

@@ -21,7 +21,7 @@ site_numbers-push (s ∷ sites) site = ap (λ l. s.line ∷ s.column ∷ l) (sit
 pub bytes_of_sites-push :
     (sites : List Place) (site : Place)
     → bytes_of (site_numbers (sites ++ site ∷ []))
-      ≡ (bytes_of (site_numbers sites) ++ bytes_of_number 4 site.line) ++ bytes_of_number 4 site.column
+    ≡ (bytes_of (site_numbers sites) ++ bytes_of_number 4 site.line) ++ bytes_of_number 4 site.column
 unfolding bytes_of bytes_of_number
 bytes_of_sites-push sites site =
     ap bytes_of (site_numbers-push sites site)

@@ -88,9 +88,9 @@ seen bytes version image sites h =
     let words = image.words in
     let count = length words in
     let tail = site_part version sites in
-    let bounded = h.bounded in
-    let inside = h.inside in
-    let few = h.few in
+    let bounded = h.in_range.bounded in
+    let inside = h.in_range.inside in
+    let few = h.in_range.few in
     let e = h.spelled in
     let small : version < 2 ^ 32 = ⊎_elim (λ p. let one : version ≡ 1 = p.0 in omega arith) (λ two. omega (arith, two)) h.version_is in
     let c : count_in bytes ≡ count = ap count_in e ∙ seen_count version image.entry count (words ++ tail) (omega arith) in
@@ -127,15 +127,15 @@ no_fault bytes version entry words sites s is aligned inside bounded few =
       whole = λ h.
           ⊎_elim (λ a. omega (arith, a))
           (λ p. ⊎_elim (λ a. omega (arith, a))
-            (λ q.
-              let two : version ≡ 2 = sym v ∙ q.0 in
-              ⊎_elim (λ a. omega (arith, a, s.long two)) (λ r. omega (arith, r.1, s.long two, s.sites_are two)) q.1) p.1) h;
+          (λ q.
+          let two : version ≡ 2 = sym v ∙ q.0 in
+          ⊎_elim (λ a. omega (arith, a, s.long two)) (λ r. omega (arith, r.1, s.long two, s.sites_are two)) q.1) p.1) h;
       ended = λ h.
           ⊎_elim (λ a. omega (arith, a))
           (λ p. ⊎_elim (λ q. let two : version ≡ 2 = sym v ∙ q.0 in omega (arith, q.1, s.sites_are two))
-            (λ more.
-              ⊎_elim (λ one. omega (arith, more, s.short one, text_end-without bytes (λ two. omega (arith, one, two))))
-              (λ two. omega (arith, more, s.long two, s.sites_are two, text_end-with_sites bytes (v ∙ two))) is) p) h;
+          (λ more.
+          ⊎_elim (λ one. omega (arith, more, s.short one, text_end-without bytes (λ two. omega (arith, one, two))))
+          (λ two. omega (arith, more, s.long two, s.sites_are two, text_end-with_sites bytes (v ∙ two))) is) p) h;
       entry = λ h. let e = s.entry_is in ⊎_elim (λ a. a (ap (λ n. n % 4) e ∙ aligned)) (λ a. omega (arith, a)) h;
     }
 
@@ -143,7 +143,7 @@ pub whole_text :
     (bytes : List ℕ) (version : ℕ) (image : Image) (sites : List Place) → ImageText bytes version image sites → HasNoFault bytes
 whole_text bytes version image sites h =
     no_fault bytes version image.entry (length image.words) (length sites) (seen bytes version image sites h)
-    (⊎_elim (λ p. inl p.0) (λ two. inr two) h.version_is) h.aligned h.inside h.bounded h.few
+    (⊎_elim (λ p. inl p.0) (λ two. inr two) h.version_is) h.in_range.aligned h.in_range.inside h.in_range.bounded h.in_range.few
 
 -- bytes with no fault have none
 pub not_bad : (bytes : List ℕ) (reason : BadImage) → HasNoFault bytes → BadText bytes reason → ⊥

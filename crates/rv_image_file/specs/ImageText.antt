@@ -42,13 +42,17 @@ IsNumber n = n < 2 ^ 32
 abbrev pub IsSite : Place → Type 0
 IsSite site = IsNumber site.line × IsNumber site.column
 
--- **The bytes are the text of the image and its sites in that version**, and all is in range.
-pub record ImageText (bytes : List ℕ) (version : ℕ) (image : Image) (sites : List Place) : Type 0 where
-  pub spelled : bytes ≡ image_text version image sites
-  pub version_is : IsVersion version sites
+-- The image and its sites are in range: the entry among the words, words and sites not too many, and all numbers of 32 bits.
+pub record IsInRange (image : Image) (sites : List Place) : Type 0 where
   pub aligned : image.entry % 4 ≡ 0
   pub inside : image.entry < 4 * length image.words
   pub bounded : length image.words ≤ most_words
   pub few : length sites ≤ most_sites
   pub words_fit : All IsNumber image.words
   pub sites_fit : All IsSite sites
+
+-- **The bytes are the text of the image and its sites in that version.**
+pub record ImageText (bytes : List ℕ) (version : ℕ) (image : Image) (sites : List Place) : Type 0 where
+  pub spelled : bytes ≡ image_text version image sites
+  pub version_is : IsVersion version sites
+  pub in_range : IsInRange image sites

@@ -10,6 +10,6 @@ mod rows;
 pub mod writing;
 
 pub use faults::{BadImage, ImageStop};
-pub use laws::law_one_reading;
+pub use laws::{law_one_reading, law_round_trip};
 pub use reading::{ImageFile, read_image};
 pub use writing::write_image;

@@ -1,6 +1,6 @@
 // From the bytes of an image file to the image and its sites.
 
-ghost use Rattle.std.specs.Prelude.{◌≡◌, ℕ, List, Err, IfOk, MatchResult};
+ghost use Rattle.std.specs.Prelude.{◌≡◌, ◌↔◌, ℕ, List, Err, IfOk, MatchResult};
 ghost use Rattle.base.specs.declared.place.Place.{Place as AnyPlace};
 ghost use Rattle.rv_machine.specs.declared.image.Image.{Image as AnyImage};
 ghost use Rattle.rv_image_file.specs.declared.faults.BadImage.{BadImage as AnyBadImage};
@@ -28,15 +28,12 @@ pub struct ImageFile {
 /// memory is taken.
 pub fn read_image(alloc: Global, bytes: &[u8]) -> Result<ImageFile, ImageStop>
     ensures read { IfOk result (λ file. (version : ℕ) × ImageText bytes.now version file.image file.sites) }
-    ensures bad { (reason : AnyBadImage) → result ≡ Err (stop.Bad reason) → BadText bytes.now reason }
-
-    // So want of memory is told of no text that is bad, and bad is no text of an image.
-    ensures every_bad { (reason : AnyBadImage) → BadText bytes.now reason → result ≡ Err (stop.Bad reason) }
+    ensures bad { (reason : AnyBadImage) → (result ≡ Err (stop.Bad reason)) ↔ BadText bytes.now reason }
     ensures every_image { (version : ℕ) (image : AnyImage) (sites : List AnyPlace) →
         ImageText bytes.now version image sites →
         MatchResult result
-            (λ file. (file.image.entry ≡ image.entry) × (file.image.words ≡ image.words) × (file.sites ≡ sites))
-            (λ e. e ≡ stop.NoMemory) }
+        (λ file. (file.image.entry ≡ image.entry) × (file.image.words ≡ image.words) × (file.sites ≡ sites))
+        (λ e. e ≡ stop.NoMemory) }
 {
     if let Some(reason) = fault_of(bytes) {
         return Err(ImageStop::Bad(reason));

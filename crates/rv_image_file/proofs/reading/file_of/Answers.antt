@@ -21,12 +21,12 @@ returns c =
     let bytes = c.args.bytes.now in
     let sites = c.if-number_at-eq2.sites in
     let read : SitesRead bytes sites =
-        elim c.if-number_at-eq2.branch [
-          | then-number_at-eq2+in_ok-sites w ↦
-            with_sites bytes c.number_at.result c.words_end-end.result sites w.in_ok-sites.sites c.number_at.ensures w.if-number_at-eq2.true
-            c.words_end-end.ensures.exact w.in_ok-sites.ensures.spelled w.in_ok-sites.ensures.fit w.sites-is
-          | else-number_at-eq2 w ↦
-            with_no_sites bytes c.number_at.result sites w.new-sites.result c.number_at.ensures w.if-number_at-eq2.false w.new-sites.ensures w.sites-is
-        ] in
+    elim c.if-number_at-eq2.branch [
+      | then-number_at-eq2+in_ok-sites w ↦
+          with_sites bytes c.number_at.result c.words_end-end.result sites w.in_ok-sites.sites c.number_at.ensures w.if-number_at-eq2.true
+          c.words_end-end.ensures.exact w.in_ok-sites.ensures.spelled w.in_ok-sites.ensures.fit w.sites-is
+      | else-number_at-eq2 w ↦
+          with_no_sites bytes c.number_at.result sites w.new-sites.result c.number_at.ensures w.if-number_at-eq2.false w.new-sites.ensures w.sites-is
+    ] in
     made bytes c.in_ok-words.words c.words_end-end.result _ sites c.requires (λ i. omega (arith, c.type_inv.bytes i))
     c.words_end-end.ensures.exact c.in_ok-words.ensures.spelled c.in_ok-words.ensures.fit refl c.number_at-entry.ensures read
