@@ -81,6 +81,15 @@ fn is_long(bytes: &[u8]) -> bool
     number_at(bytes, 12) > MOST_WORDS || has_many_sites(bytes) || text_end(bytes) < bytes.len()
 }
 
+// In version 2 there are too many sites.
+fn has_many_sites(bytes: &[u8]) -> bool
+    requires header { 16 ≤ length bytes.now }
+    requires sites { version_in bytes.now ≡ 2 → words_end_of bytes.now + 4 ≤ length bytes.now }
+    ensures { IsTrue result ↔ HasManySites bytes.now }
+{
+    number_at(bytes, 4) == 2 && number_at(bytes, words_end(bytes)) > MOST_SITES
+}
+
 // The entry is not a multiple of 4, or not in the words.
 fn has_bad_entry(bytes: &[u8]) -> bool
     requires { 16 ≤ length bytes.now }
@@ -120,13 +129,4 @@ fn text_end(bytes: &[u8]) -> usize
     } else {
         words_end(bytes)
     }
-}
-
-// In version 2 there are too many sites.
-fn has_many_sites(bytes: &[u8]) -> bool
-    requires header { 16 ≤ length bytes.now }
-    requires sites { version_in bytes.now ≡ 2 → words_end_of bytes.now + 4 ≤ length bytes.now }
-    ensures { IsTrue result ↔ HasManySites bytes.now }
-{
-    number_at(bytes, 4) == 2 && number_at(bytes, words_end(bytes)) > MOST_SITES
 }
