@@ -1,0 +1,5 @@
+pub mod NumberBytes
+pub mod PartBytes
+pub mod OneText
+pub mod SeenText
+pub mod MadeText

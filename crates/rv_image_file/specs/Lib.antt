@@ -1,0 +1,3 @@
+pub mod ImageText
+pub mod BadText
+pub mod Reasons
