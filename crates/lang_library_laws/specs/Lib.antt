@@ -1,0 +1,4 @@
+pub mod Lists
+pub mod Applications
+pub mod ListBodies
+pub mod Laws
