@@ -1,5 +1,5 @@
 -- Applications of procedures: from a body inside its application to what the application gives, and calls of such functions.
-use Rattle.std.proofs.Common.{◌≡◌, ◌<◌, ℕ, zero, suc, ◌+◌, Bool, true, false, List, [], ◌∷◌, ◌++◌, refl, sym, ap, subst, ◌∙◌, Option, Some, None, length, append_assoc, append-nil, add-zero, slice_get, if◌then◌else◌, arith}
+use Rattle.std.proofs.Common.{◌≡◌, ◌<◌, ℕ, zero, suc, ◌+◌, Bool, true, false, List, [], ◌++◌, refl, sym, ap, subst, ◌∙◌, Option, Some, None, length, append_assoc, append-nil, add-zero, slice_get, if◌then◌else◌, arith}
 use Rattle.base.specs.declared.datum.Name.{Name}
 use Rattle.lang_meaning.specs.declared.program.ProgramRows.{ProgramRows}
 use Rattle.lang_meaning.specs.declared.program.Procedure.{Procedure}
@@ -7,7 +7,7 @@ use Rattle.lang_meaning.specs.Form.{Form, Forms, parameters, call}
 use Rattle.lang_meaning.specs.Counts.{nodes, application_words}
 use Rattle.lang_meaning.specs.Values.{Value, nil}
 use Rattle.lang_meaning.specs.Objects.{Object, Environment, no_environment, program_error_class}
-use Rattle.lang_meaning.specs.State.{State, DynamicContext, Outcome, value, exit, full, more, Evaluated, gives, Limit, charged, go_on, with_words, with_stack, in_frame, request}
+use Rattle.lang_meaning.specs.State.{State, DynamicContext, Outcome, value, exit, full, more, Evaluated, gives, Limit, charged, go_on, with_words, with_stack, in_frame}
 use Rattle.lang_meaning.specs.Lookup.{text, numbered, with_variables, with_values}
 use Rattle.lang_meaning.specs.Captured.{has_box}
 use Rattle.lang_meaning.specs.Literals.{function_row}
@@ -16,7 +16,7 @@ use Rattle.lang_meaning.specs.Meaning.{charged_for, mean, meaning_at}
 use Rattle.lang_library_laws.specs.Applications.{IsExtended, Keeps, EndsAs, Gives, IsLimited, at_level, IsNamed}
 use Rattle.lang_library_laws.specs.ListBodies.{a_procedure}
 use Rattle.lang_library_laws.proofs.Frames.{nothing_added, added_more, Places, numbered_shifted, Setting, at, InFrame, kept_in_frame, Runs, RunsAs, After, Comes, a_form}
-use Rattle.lang_library_laws.proofs.Evaluates.{requests, Arguments, below_one}
+use Rattle.lang_library_laws.proofs.Evaluates.{requests, without_boxes, Arguments, below_one}
 
 -- states that keep what was there
 pub keeps_itself : (z : State) → Keeps z z
@@ -62,14 +62,6 @@ gives_back {s} {Q} stack r h = record { ends = by r.outcome r.state h.ends }
     by (exit e v landing) z g = absurd g
     by (full asked left) z g = (g.0, keeps_under stack g.1)
     by more z g = (g.0, keeps_under stack g.1)
-
--- where no variable has a box
-without_boxes : (limit : Limit) (vars : List ℕ) (body : Form) (z : State) (next : State → Evaluated) → ((v : ℕ) → has_box v body ≡ false)
-    → with_boxes limit vars body z next ≡ next z
-without_boxes limit [] body z next none = refl
-without_boxes limit (v ∷ vars) body z next none =
-    ap (λ (b : Bool). if b then request limit 1 0 z (λ entered. with_boxes limit vars body (charged 1 entered) next) else with_boxes limit vars body z next) (none v)
-    ∙ without_boxes limit vars body z next none
 
 -- there is a level
 a_level : (names : List (List ℕ)) (program : ProgramRows) (limit : Limit) (k : ℕ) (env : Environment) (around : DynamicContext) (z : State)

@@ -1,22 +1,23 @@
 -- How the forms of a function's body are evaluated inside its application: one rule a form.
-use Rattle.std.proofs.Common.{◌≡◌, ℕ, zero, suc, ◌+◌, Bool, true, false, List, [], ◌∷◌, ◌++◌, refl, sym, ap, subst, ◌∙◌, Option, Some, None, length, slice_get, slice_set, slice_index_or, if◌then◌else◌}
+use Rattle.std.proofs.Common.{◌≡◌, ℕ, zero, suc, ◌+◌, Bool, true, false, List, [], ◌∷◌, ◌++◌, refl, sym, ap, subst, ◌∙◌, Option, Some, None, length, slice_get, slice_set, slice_index_or, if◌then◌else◌, ◌⊎◌, ⊎_elim, length-append, append_assoc}
 use Rattle.std.proofs.lemmas.List.{get_or-append-add}
 use Rattle.base.specs.Data as datum
 use Rattle.lang_meaning.specs.declared.primitive.Primitive.{Primitive}
 use Rattle.lang_meaning.specs.declared.program.ProgramRows.{ProgramRows}
 use Rattle.lang_meaning.specs.declared.program.LiteralRow.TheVariants as row
-use Rattle.lang_meaning.specs.Form.{Form, Forms, no_form, form_and, ClauseForms, no_clause, clause_and, MaybeForm, with_body, literal, local, set_local, sequence, clauses, prim, while_form}
+use Rattle.lang_meaning.specs.Form.{Form, Forms, no_form, form_and, ClauseForms, no_clause, clause_and, MaybeForm, with_body, literal, local, set_local, sequence, clauses, prim, while_form, BindingForms, no_binding, binding_and, let_form}
 use Rattle.lang_meaning.specs.Values.{Value, nil, object, integer, character, symbol, is_true}
 use Rattle.lang_meaning.specs.Objects.{Object, Environment, cons}
-use Rattle.lang_meaning.specs.State.{State, DynamicContext, Evaluated, gives, go_on, Limit, words, unlimited, has_room, room_left, request, with_words, full}
-use Rattle.lang_meaning.specs.Lookup.{under_number, value_at, set_at}
+use Rattle.lang_meaning.specs.State.{State, DynamicContext, Evaluated, gives, go_on, Limit, words, unlimited, has_room, room_left, request, charged, with_words, full}
+use Rattle.lang_meaning.specs.Lookup.{under_number, value_at, set_at, numbered, with_variables, with_values}
+use Rattle.lang_meaning.specs.Captured.{has_box}
 use Rattle.lang_meaning.specs.Classes.{fetch}
 use Rattle.lang_meaning.specs.InitialHeap.{literal_value}
 use Rattle.lang_meaning.specs.Primitives.{result, primitive}
-use Rattle.lang_meaning.specs.Signals.{Evaluation, form, answered}
-use Rattle.lang_meaning.specs.Meaning.{charged_for, meaning_at, mean, mean_literal, mean_arguments, mean_clauses, mean_body}
+use Rattle.lang_meaning.specs.Signals.{Evaluation, form, answered, with_boxes}
+use Rattle.lang_meaning.specs.Meaning.{charged_for, meaning_at, mean, mean_literal, mean_arguments, mean_clauses, mean_body, mean_bindings, bound_variables}
 use Rattle.lang_library_laws.specs.Applications.{Keeps, IsLimited, at_level}
-use Rattle.lang_library_laws.proofs.Frames.{set_behind, Places, shifted, found_shifted, Setting, at, InFrame, kept_in_frame, Runs, After, on, Comes, a_form, in_order, some_clauses, a_body, one_below, given}
+use Rattle.lang_library_laws.proofs.Frames.{set_behind, Places, shifted, numbered_shifted, found_shifted, Setting, at, InFrame, kept_in_frame, Runs, After, on, Comes, a_form, in_order, some_clauses, a_body, one_below, given}
 
 -- the meaning of a form at a level
 meaning_is : (names : List (List ℕ)) (program : ProgramRows) (limit : Limit) (k : ℕ) (f : Form)
@@ -179,30 +180,23 @@ module _ {s : Setting} {places : Places} {k : ℕ} {frame : List Value} {store :
   unfolding mean
   no_clause_left q = record { runs = λ env around z e h. given nil z h q }
 
-  -- loops: a test that is nil ends them; after another one they go on one level below
-  pub while_ends : {test body : Form} → Comes s places (a_form k test) frame store (λ v fr st. (is_true v ≡ false) × Q nil fr st)
+  -- loops: a test that is nil ends them; after another one and a turn they go on one level below
+  pub while_runs : {test body : Form}
+      → Comes s places (a_form k test) frame store (λ v fr st.
+      ((is_true v ≡ true) × Comes s places (a_form k body) fr st (λ ignored fr st. Comes s places (one_below k (while_form test body)) fr st Q))
+      ⊎ ((is_true v ≡ false) × Q nil fr st))
       → Comes s places (a_form k (while_form test body)) frame store Q
   unfolding mean
-  while_ends {test} {body} c = record {
+  while_runs {test} {body} c = record {
     runs = λ env around z e h.
+        let choose : Value → State → Bool → Evaluated = λ v after b.
+        if b then go_on (mean (at s k) body env around after) (λ ignored again. (at s k).below (form (while_form test body)) env around again) else gives nil after in
         on (mean (at s k) test env around (charged_for (while_form test body) z)) (c.runs env around (charged_for (while_form test body) z) e h) (λ v after a.
-        subst (λ (b : Bool). Runs s (After s Q)
-        (if b then go_on (mean (at s k) body env around after) (λ ignored again. (at s k).below (form (while_form test body)) env around again) else gives nil after))
-        (sym a.is.0) (given nil after a.holds a.is.1));
-  }
-
-  pub while_goes_on : {test body : Form}
-      → Comes s places (a_form k test) frame store (λ v fr st. (is_true v ≡ true)
-      × Comes s places (a_form k body) fr st (λ ignored fr st. Comes s places (one_below k (while_form test body)) fr st Q))
-      → Comes s places (a_form k (while_form test body)) frame store Q
-  unfolding mean
-  while_goes_on {test} {body} c = record {
-    runs = λ env around z e h.
-        on (mean (at s k) test env around (charged_for (while_form test body) z)) (c.runs env around (charged_for (while_form test body) z) e h) (λ v after a.
-        subst (λ (b : Bool). Runs s (After s Q)
-        (if b then go_on (mean (at s k) body env around after) (λ ignored again. (at s k).below (form (while_form test body)) env around again) else gives nil after))
-        (sym a.is.0)
-        (on (mean (at s k) body env around after) (a.is.1.runs env around after e a.holds) (λ ignored again b. b.is.runs env around again e b.holds)));
+        ⊎_elim
+        (λ t. subst (λ b. Runs s (After s Q) (choose v after b)) (sym t.0)
+        (on (mean (at s k) body env around after) (t.1.runs env around after e a.holds) (λ ignored again b. b.is.runs env around again e b.holds)))
+        (λ n. subst (λ b. Runs s (After s Q) (choose v after b)) (sym n.0) (given nil after a.holds n.1))
+        a.is);
   }
 
   -- arguments
@@ -238,3 +232,61 @@ module _ {s : Setting} {places : Places} {k : ℕ} {frame : List Value} {store :
 pub none_to_go_below : {s : Setting} {places : Places} {f : Form} {frame : List Value} {store : List Object} {Q : Value → List Value → List Object → Type 0}
     → s.short → Comes s places (one_below zero f) frame store Q
 none_to_go_below {s} {places} {f} {frame} {store} {Q} short = record { runs = λ env around z e h. record { ends = (short, kept_in_frame h) } }
+
+-- bindings from left to right, behind those that were evaluated, and the body where all of them are bound
+pub record Bindings (s : Setting) (places : Places) (k : ℕ) (bs : BindingForms) (done : List Value) (vars : List ℕ) (body : Form) (frame : List Value) (store : List Object) (Q : Value → List Value → List Object → Type 0) : Type 0 where
+  pub runs : (env : Environment) (around : DynamicContext) (z : State) → env.variables ≡ shifted (length s.base.variables) places
+      → InFrame s frame store z → Runs s (After s Q) (mean_bindings (at s k) bs done env around z (λ vs after.
+      with_boxes s.limit vars body after (λ ready. mean (at s k) body (with_variables vars ready env) around (with_values vs ready))))
+
+-- where no variable has a box
+pub without_boxes : (limit : Limit) (vars : List ℕ) (body : Form) (z : State) (next : State → Evaluated) → ((v : ℕ) → has_box v body ≡ false)
+    → with_boxes limit vars body z next ≡ next z
+without_boxes limit [] body z next none = refl
+without_boxes limit (v ∷ vars) body z next none =
+    ap (λ (b : Bool). if b then request limit 1 0 z (λ entered. with_boxes limit vars body (charged 1 entered) next) else with_boxes limit vars body z next) (none v)
+    ∙ without_boxes limit vars body z next none
+
+shifted_both : (n : ℕ) (ps qs : Places) → shifted n (ps ++ qs) ≡ shifted n ps ++ shifted n qs
+shifted_both n [] qs = refl
+shifted_both n (p ∷ ps) qs = ap (λ us. (p.0, n + p.1) ∷ us) (shifted_both n ps qs)
+
+module _ {s : Setting} {places : Places} {k : ℕ} {frame : List Value} {store : List Object} {Q : Value → List Value → List Object → Type 0} where
+  pub no_bindings_left : {done : List Value} {vars : List ℕ} {body : Form} → ((v : ℕ) → has_box v body ≡ false)
+      → Comes s (numbered vars (length frame) ++ places) (a_form k body) (frame ++ done) store Q
+      → Bindings s places k no_binding done vars body frame store Q
+  unfolding mean
+  no_bindings_left {done} {vars} {body} none c = record {
+    runs = λ env around z e h.
+        let size : length z.variables ≡ length s.base.variables + length frame = ap length h.variables_are ∙ length-append s.base.variables frame in
+        subst (λ r. Runs s (After s Q) r) (sym (without_boxes s.limit vars body z (λ ready. mean (at s k) body (with_variables vars ready env) around (with_values done ready)) none))
+        (c.runs (with_variables vars z env) around (with_values done z)
+        (ap (λ n. numbered vars n ++ env.variables) size
+        ∙ ap (λ us. us ++ env.variables) (numbered_shifted vars (length s.base.variables) (length frame))
+        ∙ ap (λ us. shifted (length s.base.variables) (numbered vars (length frame)) ++ us) e
+        ∙ sym (shifted_both (length s.base.variables) (numbered vars (length frame)) places))
+        (record {
+          objects_are = h.objects_are;
+          extended = h.extended;
+          variables_are = ap (λ vs. vs ++ done) h.variables_are ∙ append_assoc s.base.variables frame done;
+          printed_are = h.printed_are;
+          input_is = h.input_is;
+          globals_are = h.globals_are;
+          dynamics_are = h.dynamics_are;
+          symbols_are = h.symbols_are;
+        }));
+  }
+
+  pub value_and : {x : ℕ} {f : Form} {bs : BindingForms} {done : List Value} {vars : List ℕ} {body : Form}
+      → Comes s places (a_form k f) frame store (λ v fr st. Bindings s places k bs (done ++ v ∷ []) vars body fr st Q)
+      → Bindings s places k (binding_and x f bs) done vars body frame store Q
+  unfolding mean
+  value_and {x} {f} {bs} {done} {vars} {body} c = record {
+    runs = λ env around z e h.
+        on (mean (at s k) f env around z) (c.runs env around z e h) (λ v after a. a.is.runs env around after e a.holds);
+  }
+
+  pub comes_let : {bs : BindingForms} {body : Form} → Bindings s places k bs [] (bound_variables bs) body frame store Q
+      → Comes s places (a_form k (let_form bs body)) frame store Q
+  unfolding mean
+  comes_let {bs} {body} c = record { runs = λ env around z e h. c.runs env around (charged_for (let_form bs body) z) e h }

@@ -167,3 +167,8 @@ weaker {s} {places} {part} {frame} {store} {P} {Q} c w = record {
     by (exit e v landing) z g = absurd g
     by (full asked left) z g = g
     by more z g = g
+
+-- the same frame
+pub at_frame : {s : Setting} {places : Places} {part : Part} {frame other : List Value} {store : List Object} {Q : Value → List Value → List Object → Type 0}
+    → frame ≡ other → Comes s places part other store Q → Comes s places part frame store Q
+at_frame {s} {places} {part} {frame} {other} {store} {Q} e c = subst (λ fr. Comes s places part fr store Q) (sym e) c

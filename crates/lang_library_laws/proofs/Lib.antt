@@ -5,3 +5,4 @@ pub mod Loops
 pub mod Applies
 pub mod ListsKept
 pub mod Reverse
+pub mod Length

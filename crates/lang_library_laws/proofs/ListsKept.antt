@@ -32,6 +32,10 @@ later_number v n h = grind (arith, nat_tests, h)
 pub here : (v i : ℕ) (ps : Places) → under_number v ((v, i) ∷ ps) ≡ Some i
 here v i ps = ap (λ (b : Bool). if b then Some i else under_number v ps) (same_number v)
 
+-- a variable that is another one than the first
+pub elsewhere : (v w i : ℕ) (ps : Places) {j : ℕ} → (v == w) ≡ false → under_number v ps ≡ Some j → under_number v ((w, i) ∷ ps) ≡ Some j
+elsewhere v w i ps {j} h e = ap (λ (b : Bool). if b then Some i else under_number v ps) h ∙ e
+
 -- the n-th variable behind the first
 pub behind_first : (v n i : ℕ) (ps : Places) {j : ℕ} → 0 < n → under_number (v + n) ps ≡ Some j → under_number (v + n) ((v, i) ∷ ps) ≡ Some j
-behind_first v n i ps {j} h e = ap (λ (b : Bool). if b then Some i else under_number (v + n) ps) (later_number v n h) ∙ e
+behind_first v n i ps h e = elsewhere (v + n) v i ps (later_number v n h) e

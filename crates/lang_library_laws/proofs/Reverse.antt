@@ -1,5 +1,5 @@
 -- `reverse`, and the loop that it is.
-use Rattle.std.proofs.Common.{◌≡◌, ◌≤◌, ◌<◌, ℕ, suc, ◌+◌, true, false, List, [], ◌∷◌, ◌++◌, refl, sym, ap, subst, ◌∙◌, Option, Some, None, length, reverse, slice_get, arith, append_assoc, append-nil, le_of_eq, le_trans}
+use Rattle.std.proofs.Common.{inl, ◌≡◌, ◌≤◌, ◌<◌, ℕ, suc, ◌+◌, List, [], ◌∷◌, ◌++◌, refl, sym, ap, subst, ◌∙◌, Option, Some, None, length, reverse, slice_get, arith, append_assoc, append-nil, le_of_eq, le_trans}
 use Rattle.std.proofs.lemmas.Grind.{reverse_onto}
 use Rattle.base.specs.Data as datum
 use Rattle.base.specs.declared.datum.Name.{Name}
@@ -15,7 +15,7 @@ use Rattle.lang_library_laws.specs.Applications as Applied
 use Rattle.lang_library_laws.specs.Applications.{IsExtended, at_level, IsNamed}
 use Rattle.lang_library_laws.specs.ListBodies.{one, two, not_null, turn_copy_turn, turn_copy_loop, turn_copy_onto}
 use Rattle.lang_library_laws.specs.Laws.{LawOfReverse}
-use Rattle.lang_library_laws.proofs.Frames.{put_behind, get_last, Places, Setting, Comes, a_form, in_order}
+use Rattle.lang_library_laws.proofs.Frames.{put_behind, get_last, Places, Setting, Comes, a_form, in_order, at_frame}
 use Rattle.lang_library_laws.proofs.Evaluates.{comes_local, comes_set, comes_literal, comes_sequence, then_nothing, first_then, no_arguments_left, argument_and}
 use Rattle.lang_library_laws.proofs.OfPrimitives.{comes_car, comes_cdr, comes_null, comes_cons}
 use Rattle.lang_library_laws.proofs.Loops.{Turns, Stops, loops}
@@ -90,17 +90,14 @@ module _ (s : Setting) (v first : ℕ) (all : List Value) where
       (ends : (end : Value) (store : List Object) → IsListFrom first store end all → Q nil (nil ∷ end ∷ []) store) where
     turns : Turns s vars (not_null (local v)) (turn_copy_turn v) Value 0 Turned Q
     turns k x xs frame store short h =
-        subst (λ fr. Comes s vars (a_form k (not_null (local v))) fr store (λ u fr st. (is_true u ≡ true)
-        × Comes s vars (a_form k (turn_copy_turn v)) fr st (λ ignored fr st. Turned xs fr st))) (sym h.frame_is)
-        (tests h.list h.end store _ (
+        at_frame h.frame_is (tests h.list h.end store _ (inl (
           ap (λ u. is_true (truth (same (truth (same u nil)) nil))) h.in_front.2,
           turn x xs h.list h.end h.done store h.in_front h.behind h.first_is h.all_is,
-        ))
+        )))
 
     stops : Stops s vars (not_null (local v)) (turn_copy_turn v) Value 0 Turned Q
     stops k frame store short h =
-        subst (λ fr. Comes s vars (a_form k (not_null (local v))) fr store (λ u fr st. (is_true u ≡ false) × Q nil fr st)) (sym h.frame_is)
-        (tests h.list h.end store _ (
+        at_frame h.frame_is (tests h.list h.end store _ (
           ap (λ u. is_true (truth (same (truth (same u nil)) nil))) h.in_front,
           subst (λ u. Q nil (u ∷ h.end ∷ []) store) (sym h.in_front)
               (ends h.end store (subst (λ vs. IsListFrom first store h.end vs) h.all_is h.behind)),
@@ -131,7 +128,7 @@ turn_copy_gives names program limit z name v number there first items done list 
     items done list end z.store (λ g. omega (arith, g)) l b f (turned_is_reverse items done))
 
 pub law_of_reverse : LawOfReverse
-law_of_reverse names program name name' v v' onto no_items number place named constant there limit k wrong around z list items l =
+law_of_reverse names program name name' v v' onto no_items number named constant there limit k wrong around z list items l =
     let all : List Value = reverse items ++ [] in
     let Gives : Value → List Object → Type 0 = λ w store. IsListFrom (length z.store) store w all in
     let enough : suc (suc (length items)) ≡ length items + 2 = omega arith in
@@ -143,7 +140,7 @@ law_of_reverse names program name name' v v' onto no_items number place named co
     (list ∷ []) Gives there (λ u. refl) refl
     (λ levels.
     comes_sequence (first_then (comes_call (argument_and (comes_local v 0 (here v 0 []) (argument_and
-    (comes_literal no_items (datum.item place datum.nil) nil constant refl (no_arguments_left
+    (comes_literal no_items (datum.item constant.0 datum.nil) nil constant.1 refl (no_arguments_left
     (called Gives (suc (length items)) (λ g. omega (arith, g)) (λ w more now e g. then_nothing g)
     onto (turn_copy_onto name' v') named (list ∷ nil ∷ []) (λ now h wrong around.
     turn_copy_gives names program limit now name' v' named.number named.there (length z.store) items [] list nil

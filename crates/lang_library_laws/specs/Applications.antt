@@ -1,5 +1,9 @@
 -- What the application of a function comes to, with any number of levels and of words.
 use Rattle.std.specs.Prelude.{◌≡◌, ◌<◌, ⊤, ℕ, zero, suc, List, ◌++◌, Some, slice_get}
+use Rattle.base.specs.Data as datum
+use Rattle.base.specs.declared.datum.Symbol.{Symbol}
+use Rattle.base.specs.declared.place.Place.{Place}
+use Rattle.lang_meaning.specs.declared.program.LiteralRow.TheVariants as row
 use Rattle.lang_meaning.specs.declared.program.Procedure.{Procedure}
 use Rattle.lang_meaning.specs.declared.program.FunctionRow.{FunctionRow}
 use Rattle.lang_meaning.specs.declared.program.ProgramRows.{ProgramRows}
@@ -57,6 +61,13 @@ below_level names program limit (suc k) = meaning_at names program limit k
 
 abbrev pub at_level : List (List ℕ) → ProgramRows → Limit → ℕ → Context
 at_level names program limit k = context_of names program limit (below_level names program limit k)
+
+-- the literal is that datum, or the symbol t, which is any symbol here
+abbrev pub HasLiteral : ProgramRows → ℕ → datum.Content → Type 0
+HasLiteral program id content = (place : Place) × (slice_get program.literals id ≡ Some (row.Datum (datum.item place content)))
+
+abbrev pub HasTruth : ProgramRows → ℕ → Type 0
+HasTruth program id = (x : Symbol) × HasLiteral program id (datum.symbol x)
 
 -- the name is that of a function which is this procedure
 pub record IsNamed (names : List (List ℕ)) (program : ProgramRows) (name : ℕ) (procedure : Procedure) : Type 0 where
