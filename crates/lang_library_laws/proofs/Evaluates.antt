@@ -5,7 +5,7 @@ use Rattle.base.specs.Data as datum
 use Rattle.lang_meaning.specs.declared.primitive.Primitive.{Primitive}
 use Rattle.lang_meaning.specs.declared.program.ProgramRows.{ProgramRows}
 use Rattle.lang_meaning.specs.declared.program.LiteralRow.TheVariants as row
-use Rattle.lang_meaning.specs.Form.{Form, Forms, no_form, form_and, ClauseForms, no_clause, clause_and, MaybeForm, with_body, literal, local, set_local, sequence, clauses, prim, while_form, BindingForms, no_binding, binding_and, let_form}
+use Rattle.lang_meaning.specs.Form.{Form, Forms, no_form, form_and, ClauseForms, no_clause, clause_and, MaybeForm, no_body, with_body, literal, local, set_local, sequence, clauses, prim, while_form, BindingForms, no_binding, binding_and, let_form}
 use Rattle.lang_meaning.specs.Values.{Value, nil, object, integer, character, symbol, is_true}
 use Rattle.lang_meaning.specs.Objects.{Object, Environment, cons}
 use Rattle.lang_meaning.specs.State.{State, DynamicContext, Evaluated, gives, go_on, Limit, words, unlimited, has_room, room_left, request, charged, with_words, full}
@@ -175,6 +175,10 @@ module _ {s : Setting} {places : Places} {k : ℕ} {frame : List Value} {store :
   pub body_form : {v : Value} {f : Form} → Comes s places (a_form k f) frame store Q → Comes s places (a_body k v (with_body f)) frame store Q
   unfolding mean
   body_form {v} {f} c = record { runs = λ env around z e h. c.runs env around z e h }
+
+  pub test_value : {v : Value} → Q v frame store → Comes s places (a_body k v no_body) frame store Q
+  unfolding mean
+  test_value {v} q = record { runs = λ env around z e h. given v z h q }
 
   pub no_clause_left : Q nil frame store → Comes s places (some_clauses k no_clause) frame store Q
   unfolding mean

@@ -6,3 +6,6 @@ pub mod Applies
 pub mod ListsKept
 pub mod Reverse
 pub mod Length
+pub mod Seek
+pub mod Member
+pub mod Assoc

@@ -3,7 +3,7 @@
 use Rattle.std.specs.Prelude.{ℕ, ◌+◌, List, [], ◌∷◌, Option, None}
 use Rattle.base.specs.declared.datum.Name.{Name}
 use Rattle.lang_meaning.specs.declared.program.Procedure.{Procedure}
-use Rattle.lang_meaning.specs.declared.primitive.Primitive.TheVariants.{Add, IsNull, IsCons, IsString, IsVector, Cons, Car, Cdr, StringLength, VectorLength}
+use Rattle.lang_meaning.specs.declared.primitive.Primitive.TheVariants.{Add, Same, IsNull, IsCons, IsString, IsVector, Cons, Car, Cdr, StringLength, VectorLength}
 use Rattle.lang_meaning.specs.Form.{Form, Forms, no_form, form_and, ClauseForms, no_clause, clause_and, no_body, with_body, no_binding, binding_and}
 use Rattle.lang_meaning.specs.Form.{literal, local, set_local, clauses, sequence, let_form, call, prim, while_form}
 
@@ -16,9 +16,13 @@ two f g = form_and f (form_and g no_form)
 abbrev pub a_procedure : Option Name → List ℕ → Form → Procedure
 a_procedure name required body = record { name = name; required = required; rest = None; body = body }
 
--- (not (null x))
+-- (not f), which is (null f)
+abbrev pub not_form : Form → Form
+not_form f = prim IsNull (one f)
+
+-- (not (null f))
 abbrev pub not_null : Form → Form
-not_null f = prim IsNull (one (prim IsNull (one f)))
+not_null f = not_form (prim IsNull (one f))
 
 -- (test f) in front of other clauses, and (t f), where t is that literal
 abbrev pub clause_of : Form → Form → ClauseForms → ClauseForms
@@ -101,3 +105,43 @@ length_form v truth list_length =
 
 abbrev pub length_function : Option Name → ℕ → (truth list_length : ℕ) → Procedure
 length_function name v truth list_length = a_procedure name (v ∷ []) (sequence (one (length_form v truth list_length)))
+
+-- (while (not (or (null list) (eql object key)))
+--   (setq list (cdr list)))
+-- where the object is the first variable and the list is the second one
+abbrev pub seek_test : ℕ → (truth : ℕ) → (key : Form) → Form
+seek_test v truth key = not_form (or_form truth (prim IsNull (one (local (v + 1)))) (prim Same (two (local v) key)))
+
+abbrev pub seek_turn : ℕ → Form
+seek_turn v = sequence (one (set_local (v + 1) (prim Cdr (one (local (v + 1))))))
+
+abbrev pub seek : ℕ → (truth : ℕ) → (key : Form) → Form
+seek v truth key = while_form (seek_test v truth key) (seek_turn v)
+
+-- (defun %memv (object list)
+--   (while (not (or (null list) (eql object (car list))))
+--     (setq list (cdr list)))
+--   list)
+abbrev pub item_key : ℕ → Form
+item_key v = prim Car (one (local (v + 1)))
+
+abbrev pub memv : Option Name → ℕ → (truth : ℕ) → Procedure
+memv name v truth = a_procedure name (v ∷ (v + 1) ∷ []) (sequence (two (seek v truth (item_key v)) (local (v + 1))))
+
+-- (defun member (object list) (%memv object list))
+abbrev pub member_function : Option Name → ℕ → (memv : ℕ) → Procedure
+member_function name v memv = a_procedure name (v ∷ (v + 1) ∷ []) (sequence (one (call memv (two (local v) (local (v + 1))))))
+
+-- (defun assoc (key list)
+--   (while (not (or (null list) (eql key (car (car list)))))
+--     (setq list (cdr list)))
+--   (if (null list) nil (car list)))
+abbrev pub entry_key : ℕ → Form
+entry_key v = prim Car (one (prim Car (one (local (v + 1)))))
+
+abbrev pub assoc_end : ℕ → (truth no_entry : ℕ) → Form
+assoc_end v truth no_entry = if_form truth (prim IsNull (one (local (v + 1)))) (literal no_entry) (prim Car (one (local (v + 1))))
+
+abbrev pub assoc_function : Option Name → ℕ → (truth truth' no_entry : ℕ) → Procedure
+assoc_function name v truth truth' no_entry =
+    a_procedure name (v ∷ (v + 1) ∷ []) (sequence (two (seek v truth (entry_key v)) (assoc_end v truth' no_entry)))
