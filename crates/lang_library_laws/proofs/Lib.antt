@@ -9,3 +9,5 @@ pub mod Length
 pub mod Seek
 pub mod Member
 pub mod Assoc
+pub mod Worked
+pub mod Enough

@@ -1,15 +1,22 @@
 -- The laws of the library: what a function gives for all proper lists, in any state and in every program that has it, with any number
 -- of levels and of words.
-use Rattle.std.specs.Prelude.{◌≡◌, ◌≤◌, ℕ, ◌+◌, pos, List, [], ◌∷◌, Option, Some, None, length, map, reverse, slice_get}
+use Rattle.std.specs.Prelude.{◌≡◌, ◌≤◌, ⊤, ℕ, ◌+◌, pos, List, [], ◌∷◌, Option, Some, None, length, map, reverse, slice_get}
 use Rattle.base.specs.Data as datum
 use Rattle.base.specs.declared.datum.Name.{Name}
 use Rattle.lang_meaning.specs.declared.program.ProgramRows.{ProgramRows}
 use Rattle.lang_meaning.specs.Values.{Value, integer}
-use Rattle.lang_meaning.specs.State.{State, DynamicContext, Limit}
+use Rattle.lang_meaning.specs.State.{State, DynamicContext, Evaluated, value, Limit, unlimited}
 use Rattle.lang_meaning.specs.Signals.{Signals, apply_procedure}
 use Rattle.lang_library_laws.specs.Lists.{IsListFrom, IsProperList, IsBehind, from_item, HaveKeys, with_key}
-use Rattle.lang_library_laws.specs.Applications.{Gives, at_level, HasLiteral, HasTruth, IsNamed}
+use Rattle.lang_library_laws.specs.Applications.{Keeps, Gives, at_level, HasLiteral, HasTruth, IsNamed}
 use Rattle.lang_library_laws.specs.ListBodies.{turn_copy_onto, reverse_function, list_length, length_function, memv, member_function, assoc_function}
+
+-- with unlimited words and enough levels there is a value, whatever is said of it
+abbrev pub LawOfEnough : Type 0
+LawOfEnough =
+    (levels enough : ℕ) (z : State) (r : Evaluated)
+    → Gives unlimited levels enough z (λ v store. ⊤) r → enough ≤ levels
+    → (v : Value) × (r.outcome ≡ value v) × Keeps z r.state
 
 -- `(reverse list)` is a new list of the items in the other order
 abbrev pub LawOfReverse : Type 0

@@ -2,3 +2,4 @@ pub mod Lists
 pub mod Applications
 pub mod ListBodies
 pub mod Laws
+pub mod Worked
