@@ -1,0 +1,13 @@
+pub mod Frames
+pub mod Evaluates
+pub mod OfPrimitives
+pub mod Loops
+pub mod Applies
+pub mod ListsKept
+pub mod Reverse
+pub mod Length
+pub mod Seek
+pub mod Member
+pub mod Assoc
+pub mod Worked
+pub mod Enough

@@ -1,0 +1,95 @@
+-- How the primitives of lists and of numbers are evaluated inside an application: one rule each.
+use Rattle.std.proofs.Common.{◌≡◌, ℕ, ◌+ℤ◌, Bool, true, List, [], ◌∷◌, ◌++◌, refl, sym, ap, subst, ◌∙◌, length, ℤ, is_some, if◌then◌else◌}
+use Rattle.lang_meaning.specs.declared.primitive.Primitive.{Primitive}
+use Rattle.lang_meaning.specs.declared.primitive.Primitive.TheVariants.{Add, Same, IsNull, IsCons, IsString, IsVector, Cons, Car, Cdr}
+use Rattle.lang_meaning.specs.Form.{Form, prim}
+use Rattle.lang_meaning.specs.Values.{Value, nil, object, integer, truth, same, in_range}
+use Rattle.lang_meaning.specs.Objects.{Object, cons, cons_class, integer_overflow_class}
+use Rattle.lang_meaning.specs.State.{gives, stored, charged, with_words}
+use Rattle.lang_meaning.specs.Primitives.{result, fails, domain_error, primitive, as_cons, as_string, as_vector, needs, says}
+use Rattle.lang_meaning.specs.Signals.{answered}
+use Rattle.lang_library_laws.specs.ListBodies.{one, two}
+use Rattle.lang_library_laws.proofs.Frames.{added_more, put_behind, Places, Setting, at, kept_in_frame, Runs, After, Comes, a_form, given, weaker}
+use Rattle.lang_library_laws.proofs.Evaluates.{requests, Cell, object_in, fetched, cell_in, Results, no_arguments_left, argument_and, comes_prim}
+
+module _ {s : Setting} {places : Places} {k : ℕ} {frame : List Value} {store : List Object} {Q : Value → List Value → List Object → Type 0} where
+  -- a primitive of one argument that has a result
+  pub of_one : {which : Primitive} {f : Form}
+      → Comes s places (a_form k f) frame store (λ x fr st. (y : Value) × Results s fr st which (x ∷ []) y × Q y fr st)
+      → Comes s places (a_form k (prim which (one f))) frame store Q
+  of_one {which} {f} c = comes_prim (argument_and (weaker c (λ x fr st r. no_arguments_left (λ around z h.
+      subst (λ a. Runs s (After s Q) (answered (at s k) a around z)) (sym (r.1 z h)) (given r.0 z h r.2)))))
+
+  -- one of two arguments
+  pub of_two : {which : Primitive} {f g : Form}
+      → Comes s places (a_form k f) frame store (λ x fr st.
+      Comes s places (a_form k g) fr st (λ y fr st. (w : Value) × Results s fr st which (x ∷ y ∷ []) w × Q w fr st))
+      → Comes s places (a_form k (prim which (two f g))) frame store Q
+  of_two {which} {f} {g} c = comes_prim (argument_and (weaker c (λ x fr st d. argument_and (weaker d (λ y fr st r. no_arguments_left (λ around z h.
+      subst (λ a. Runs s (After s Q) (answered (at s k) a around z)) (sym (r.1 z h)) (given r.0 z h r.2)))))))
+
+  pub comes_car : {f : Form} → Comes s places (a_form k f) frame store (λ x fr st. (c : Cell st x) × Q c.first fr st)
+      → Comes s places (a_form k (prim Car (one f))) frame store Q
+  comes_car {f} c = of_one (weaker c (λ x fr st r.
+      (r.0.first, (λ z h. ap (λ o. needs (as_cons o) (domain_error x cons_class z) (λ (p : Value × Value). result p.0 z)) (fetched z h x ∙ cell_in r.0)), r.1)))
+
+  pub comes_cdr : {f : Form} → Comes s places (a_form k f) frame store (λ x fr st. (c : Cell st x) × Q c.rest fr st)
+      → Comes s places (a_form k (prim Cdr (one f))) frame store Q
+  comes_cdr {f} c = of_one (weaker c (λ x fr st r.
+      (r.0.rest, (λ z h. ap (λ o. needs (as_cons o) (domain_error x cons_class z) (λ (p : Value × Value). result p.1 z)) (fetched z h x ∙ cell_in r.0)), r.1)))
+
+  pub comes_null : {f : Form} → Comes s places (a_form k f) frame store (λ x fr st. Q (truth (same x nil)) fr st)
+      → Comes s places (a_form k (prim IsNull (one f))) frame store Q
+  comes_null {f} c = of_one (weaker c (λ x fr st r. (truth (same x nil), (λ z h. refl), r)))
+
+  pub comes_consp : {f : Form} → Comes s places (a_form k f) frame store (λ x fr st. Q (truth (is_some (as_cons (object_in st x)))) fr st)
+      → Comes s places (a_form k (prim IsCons (one f))) frame store Q
+  comes_consp {f} c = of_one (weaker c (λ x fr st r.
+      (truth (is_some (as_cons (object_in st x))), (λ z h. ap (λ o. says (is_some (as_cons o)) z) (fetched z h x)), r)))
+
+  pub comes_stringp : {f : Form} → Comes s places (a_form k f) frame store (λ x fr st. Q (truth (is_some (as_string (object_in st x)))) fr st)
+      → Comes s places (a_form k (prim IsString (one f))) frame store Q
+  comes_stringp {f} c = of_one (weaker c (λ x fr st r.
+      (truth (is_some (as_string (object_in st x))), (λ z h. ap (λ o. says (is_some (as_string o)) z) (fetched z h x)), r)))
+
+  pub comes_vectorp : {f : Form} → Comes s places (a_form k f) frame store (λ x fr st. Q (truth (is_some (as_vector (object_in st x)))) fr st)
+      → Comes s places (a_form k (prim IsVector (one f))) frame store Q
+  comes_vectorp {f} c = of_one (weaker c (λ x fr st r.
+      (truth (is_some (as_vector (object_in st x))), (λ z h. ap (λ o. says (is_some (as_vector o)) z) (fetched z h x)), r)))
+
+  pub comes_same : {f g : Form}
+      → Comes s places (a_form k f) frame store (λ x fr st. Comes s places (a_form k g) fr st (λ y fr st. Q (truth (same x y)) fr st))
+      → Comes s places (a_form k (prim Same (two f g))) frame store Q
+  comes_same {f} {g} c = of_two (weaker c (λ x fr st d. weaker d (λ y fr st r. (truth (same x y), (λ z h. refl), r))))
+
+  -- a sum in range
+  pub comes_sum : {f g : Form}
+      → Comes s places (a_form k f) frame store (λ x fr st. Comes s places (a_form k g) fr st (λ y fr st.
+      (a : ℤ) × (b : ℤ) × (x ≡ integer a) × (y ≡ integer b) × (in_range (a +ℤ b) ≡ true) × Q (integer (a +ℤ b)) fr st))
+      → Comes s places (a_form k (prim Add (two f g))) frame store Q
+  comes_sum {f} {g} c = of_two (weaker c (λ x fr st d. weaker d (λ y fr st r. (
+    integer (r.0 +ℤ r.1),
+    (λ z h. ap (λ v. primitive s.names s.program Add (v ∷ y ∷ []) z) r.2 ∙ ap (λ v. primitive s.names s.program Add (integer r.0 ∷ v ∷ []) z) r.3
+        ∙ ap (λ (b : Bool). if b then result (integer (r.0 +ℤ r.1)) z else fails integer_overflow_class [] z) r.4),
+    r.5,
+  ))))
+
+  -- a new cons
+  pub comes_cons : {f g : Form}
+      → Comes s places (a_form k f) frame store (λ x fr st. Comes s places (a_form k g) fr st (λ y fr st.
+      Q (object (length st)) fr (st ++ cons x y ∷ [])))
+      → Comes s places (a_form k (prim Cons (two f g))) frame store Q
+  comes_cons {f} {g} c = comes_prim (argument_and (weaker c (λ x fr st d. argument_and (weaker d (λ y fr st r. no_arguments_left (λ around z h.
+      requests 2 0 z (λ entered. gives (object (length entered.store)) (stored (cons x y) (charged 2 entered))) (kept_in_frame h)
+      (given (object (length z.store)) (stored (cons x y) (charged 2 (with_words 2 0 z)))
+      (record {
+        objects_are = ap (λ os. os ++ cons x y ∷ []) h.objects_are;
+        extended = added_more h.extended (put_behind st (cons x y ∷ []));
+        variables_are = h.variables_are;
+        printed_are = h.printed_are;
+        input_is = h.input_is;
+        globals_are = h.globals_are;
+        dynamics_are = h.dynamics_are;
+        symbols_are = h.symbols_are;
+      })
+      (subst (λ (n : ℕ). Q (object n) fr (st ++ cons x y ∷ [])) (sym (ap length h.objects_are)) r))))))))

@@ -1,0 +1,78 @@
+-- What the application of a function comes to, with any number of levels and of words.
+use Rattle.std.specs.Prelude.{◌≡◌, ◌<◌, ⊤, ℕ, zero, suc, List, ◌++◌, Some, slice_get}
+use Rattle.base.specs.Data as datum
+use Rattle.base.specs.declared.datum.Symbol.{Symbol}
+use Rattle.base.specs.declared.place.Place.{Place}
+use Rattle.lang_meaning.specs.declared.program.LiteralRow.TheVariants as row
+use Rattle.lang_meaning.specs.declared.program.Procedure.{Procedure}
+use Rattle.lang_meaning.specs.declared.program.FunctionRow.{FunctionRow}
+use Rattle.lang_meaning.specs.declared.program.ProgramRows.{ProgramRows}
+use Rattle.lang_meaning.specs.declared.program.Callee.TheVariants as callee
+use Rattle.lang_meaning.specs.Values.{Value}
+use Rattle.lang_meaning.specs.Objects.{Object}
+use Rattle.lang_meaning.specs.State.{State, Outcome, value, exit, full, more, Evaluated, Limit, words, unlimited}
+use Rattle.lang_meaning.specs.Lookup.{text}
+use Rattle.lang_meaning.specs.Literals.{function_row}
+use Rattle.lang_meaning.specs.Signals.{Context, Task, Evaluation}
+use Rattle.lang_meaning.specs.Meaning.{none_below, context_of, meaning_at}
+
+-- others may stand behind those that were there
+pub record IsExtended (X : Type 0) (before after : List X) : Type 0 where
+  pub added : List X
+  pub is : after ≡ before ++ added
+
+-- a later state, in which all objects and variables that were there are as they were, nothing was printed or read, and
+-- nothing was defined
+pub record Keeps (before after : State) : Type 0 where
+  pub objects : IsExtended Object before.store after.store
+  pub variables : IsExtended Value before.variables after.variables
+  pub printed : after.printed ≡ before.printed
+  pub input : after.input ≡ before.input
+  pub globals : after.globals ≡ before.globals
+  pub dynamics : after.dynamics ≡ before.dynamics
+  pub symbols : after.symbols ≡ before.symbols
+
+-- an evaluation has a value of which that holds, or it is full or ran out of levels, and that holds then; it makes no transfer
+abbrev pub EndsAs : (at_full at_more : State → Type 0) → (Value → State → Type 0) → Outcome → State → Type 0
+EndsAs at_full at_more Q (value v) z = Q v z
+EndsAs at_full at_more Q (exit e v landing) z = ⊥
+EndsAs at_full at_more Q (full asked left) z = at_full z
+EndsAs at_full at_more Q more z = at_more z
+
+abbrev pub Ends : (at_full at_more : State → Type 0) → (Value → State → Type 0) → Evaluated → Type 0
+Ends at_full at_more Q r = EndsAs at_full at_more Q r.outcome r.state
+
+-- there are only so many words
+abbrev pub IsLimited : Limit → Type 0
+IsLimited (words w) = ⊤
+IsLimited unlimited = ⊥
+
+-- from a state, with so many levels: a value of which that holds in the store behind; or it is full, where words are limited, or
+-- runs out of levels, where they are not enough. All that was there is kept.
+abbrev pub Gives : Limit → (levels enough : ℕ) → State → (Value → List Object → Type 0) → Evaluated → Type 0
+Gives limit levels enough z Q r =
+    Ends (λ after. IsLimited limit × Keeps z after) (λ after. (levels < enough) × Keeps z after)
+    (λ v after. Keeps z after × Q v after.store) r
+
+-- the meaning below a level, and what a form is evaluated in with so many levels
+abbrev pub below_level : List (List ℕ) → ProgramRows → Limit → ℕ → Task → Evaluation
+below_level names program limit zero = none_below
+below_level names program limit (suc k) = meaning_at names program limit k
+
+abbrev pub at_level : List (List ℕ) → ProgramRows → Limit → ℕ → Context
+at_level names program limit k = context_of names program limit (below_level names program limit k)
+
+-- the literal is that datum, or the symbol t, which is any symbol here
+abbrev pub HasLiteral : ProgramRows → ℕ → datum.Content → Type 0
+HasLiteral program id content = (place : Place) × (slice_get program.literals id ≡ Some (row.Datum (datum.item place content)))
+
+abbrev pub HasTruth : ProgramRows → ℕ → Type 0
+HasTruth program id = (x : Symbol) × HasLiteral program id (datum.symbol x)
+
+-- the name is that of a function which is this procedure
+pub record IsNamed (names : List (List ℕ)) (program : ProgramRows) (name : ℕ) (procedure : Procedure) : Type 0 where
+  pub row : FunctionRow
+  pub number : ℕ
+  pub found : function_row names program.functions (text names name) ≡ Some row
+  pub callee : row.callee ≡ callee.Procedure number
+  pub there : slice_get program.procedures number ≡ Some procedure

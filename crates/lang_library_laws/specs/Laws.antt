@@ -1,0 +1,68 @@
+-- The laws of the library: what a function gives for all proper lists, in any state and in every program that has it, with any number
+-- of levels and of words.
+use Rattle.std.specs.Prelude.{◌≡◌, ◌≤◌, ⊤, ℕ, ◌+◌, pos, List, [], ◌∷◌, Option, Some, None, length, map, reverse, slice_get}
+use Rattle.base.specs.Data as datum
+use Rattle.base.specs.declared.datum.Name.{Name}
+use Rattle.lang_meaning.specs.declared.program.ProgramRows.{ProgramRows}
+use Rattle.lang_meaning.specs.Values.{Value, integer}
+use Rattle.lang_meaning.specs.State.{State, DynamicContext, Evaluated, value, Limit, unlimited}
+use Rattle.lang_meaning.specs.Signals.{Signals, apply_procedure}
+use Rattle.lang_library_laws.specs.Lists.{IsListFrom, IsProperList, IsBehind, from_item, HaveKeys, with_key}
+use Rattle.lang_library_laws.specs.Applications.{Keeps, Gives, at_level, HasLiteral, HasTruth, IsNamed}
+use Rattle.lang_library_laws.specs.ListBodies.{turn_copy_onto, reverse_function, list_length, length_function, memv, member_function, assoc_function}
+
+-- with unlimited words and enough levels there is a value, whatever is said of it
+abbrev pub LawOfEnough : Type 0
+LawOfEnough =
+    (levels enough : ℕ) (z : State) (r : Evaluated)
+    → Gives unlimited levels enough z (λ v store. ⊤) r → enough ≤ levels
+    → (v : Value) × (r.outcome ≡ value v) × Keeps z r.state
+
+-- `(reverse list)` is a new list of the items in the other order
+abbrev pub LawOfReverse : Type 0
+LawOfReverse =
+    (names : List (List ℕ)) (program : ProgramRows) (name name' : Option Name) (v v' : ℕ) (turn no_items number : ℕ)
+    → IsNamed names program turn (turn_copy_onto name' v')
+    → HasLiteral program no_items datum.nil
+    → slice_get program.procedures number ≡ Some (reverse_function name v turn no_items)
+    → (limit : Limit) (k : ℕ) (wrong : Signals) (around : DynamicContext) (z : State) (list : Value) (items : List Value)
+    → IsProperList z.store list items
+    → Gives limit k (length items + 2) z (λ w store. IsListFrom (length z.store) store w (reverse items))
+    (apply_procedure (at_level names program limit k) wrong number None (list ∷ []) around z)
+
+-- `(length list)` is the number of items, where it is an integer of this profile
+abbrev pub LawOfLength : Type 0
+LawOfLength =
+    (names : List (List ℕ)) (program : ProgramRows) (name name' : Option Name) (v v' : ℕ)
+    (none increment truth truth' list_class domain_error list_length_name number : ℕ)
+    → HasLiteral program none (datum.integer (pos 0)) → HasLiteral program increment (datum.integer (pos 1))
+    → HasTruth program truth
+    → IsNamed names program list_length_name (list_length name' v' none increment truth' list_class domain_error)
+    → slice_get program.procedures number ≡ Some (length_function name v truth list_length_name)
+    → (limit : Limit) (k : ℕ) (wrong : Signals) (around : DynamicContext) (z : State) (list : Value) (items : List Value)
+    → IsProperList z.store list items → length items ≤ 536870911
+    → Gives limit k (length items + 2) z (λ w store. w ≡ integer (pos (length items)))
+    (apply_procedure (at_level names program limit k) wrong number None (list ∷ []) around z)
+
+-- `(member object list)` is what of the list begins with the object: no copy, but the list behind so many of its conses
+abbrev pub LawOfMember : Type 0
+LawOfMember =
+    (names : List (List ℕ)) (program : ProgramRows) (name name' : Option Name) (v v' : ℕ) (truth memv_name number : ℕ)
+    → HasTruth program truth
+    → IsNamed names program memv_name (memv name' v' truth)
+    → slice_get program.procedures number ≡ Some (member_function name v memv_name)
+    → (limit : Limit) (k : ℕ) (wrong : Signals) (around : DynamicContext) (z : State) (sought list : Value) (items : List Value)
+    → IsProperList z.store list items
+    → Gives limit k (length items + 2) z (λ w store. (n : ℕ) × IsBehind store n list w × IsProperList store w (from_item sought items))
+    (apply_procedure (at_level names program limit k) wrong number None (sought ∷ list ∷ []) around z)
+
+-- `(assoc key list)` is the first cons of the list with that key
+abbrev pub LawOfAssoc : Type 0
+LawOfAssoc =
+    (names : List (List ℕ)) (program : ProgramRows) (name : Option Name) (v : ℕ) (truth truth' no_entry number : ℕ)
+    → HasTruth program truth → HasTruth program truth' → HasLiteral program no_entry datum.nil
+    → slice_get program.procedures number ≡ Some (assoc_function name v truth truth' no_entry)
+    → (limit : Limit) (k : ℕ) (wrong : Signals) (around : DynamicContext) (z : State) (key list : Value) (entries : List (Value × Value))
+    → IsProperList z.store list (map (λ e. e.0) entries) → HaveKeys z.store entries
+    → Gives limit k (length entries + 1) z (λ w store. w ≡ with_key key entries)
+    (apply_procedure (at_level names program limit k) wrong number None (key ∷ list ∷ []) around z)

@@ -1,0 +1,5 @@
+pub mod Lists
+pub mod Applications
+pub mod ListBodies
+pub mod Laws
+pub mod Worked

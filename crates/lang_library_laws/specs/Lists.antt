@@ -1,0 +1,36 @@
+-- How a proper list lies in the store (ISO/IEC 13816:2007, 21).
+use Rattle.std.specs.Prelude.{◌≡◌, ◌≤◌, ⊤, ℕ, zero, suc, List, [], ◌∷◌, Some, slice_get, if◌then◌else◌}
+use Rattle.lang_meaning.specs.Values.{Value, nil, object, same}
+use Rattle.lang_meaning.specs.Objects.{Object, cons}
+
+-- a proper list of these items whose conses have that number or a later one: nil, or a cons of the first item and of a
+-- proper list of the others
+abbrev pub IsListFrom : ℕ → List Object → Value → List Value → Type 0
+IsListFrom first store v [] = v ≡ nil
+IsListFrom first store v (x ∷ xs) =
+    (i : ℕ) × (d : Value) × (v ≡ object i) × (first ≤ i) × (slice_get store i ≡ Some (cons x d)) × IsListFrom first store d xs
+
+-- a proper list of these items, whatever objects its conses are
+abbrev pub IsProperList : List Object → Value → List Value → Type 0
+IsProperList = IsListFrom 0
+
+-- the value behind so many conses of a list
+abbrev pub IsBehind : List Object → ℕ → Value → Value → Type 0
+IsBehind store zero v w = w ≡ v
+IsBehind store (suc n) v w =
+    (i : ℕ) × (a : Value) × (d : Value) × (v ≡ object i) × (slice_get store i ≡ Some (cons a d)) × IsBehind store n d w
+
+-- what of some items begins with the object
+abbrev pub from_item : Value → List Value → List Value
+from_item sought [] = []
+from_item sought (x ∷ xs) = if same sought x then x ∷ xs else from_item sought xs
+
+-- items that are conses, each with its key, which is its first part
+abbrev pub HaveKeys : List Object → List (Value × Value) → Type 0
+HaveKeys store [] = ⊤
+HaveKeys store (e ∷ es) = ((i : ℕ) × (d : Value) × (e.0 ≡ object i) × (slice_get store i ≡ Some (cons e.1 d))) × HaveKeys store es
+
+-- the first item with that key, and nil where there is none
+abbrev pub with_key : Value → List (Value × Value) → Value
+with_key key [] = nil
+with_key key (e ∷ es) = if same key e.1 then e.0 else with_key key es

@@ -1,0 +1,35 @@
+// What functions of the library give for all proper lists, as the contracts of functions that do nothing.
+
+ghost use Rattle.lang_library_laws.specs.Laws.{LawOfAssoc, LawOfEnough, LawOfLength, LawOfMember, LawOfReverse};
+ghost use Rattle.lang_library_laws.specs.Worked.{IsMet, Works};
+
+/// What a law says that an application gives, it gives where words are unlimited and levels are enough.
+pub fn law_enough()
+    ensures { LawOfEnough }
+{}
+
+/// The law of `reverse`: of a proper list it gives a new list of the items in the other order.
+pub fn law_reverse()
+    ensures { LawOfReverse }
+{}
+
+/// The law of `length`: of a proper list it gives the number of items.
+pub fn law_length()
+    ensures { LawOfLength }
+{}
+
+/// The law of `member`: it gives what of a proper list begins with an object, which is the list behind some of its conses.
+pub fn law_member()
+    ensures { LawOfMember }
+{}
+
+/// The law of `assoc`: of a proper list of conses it gives the first one with a key, and nil where none has it.
+pub fn law_assoc()
+    ensures { LawOfAssoc }
+{}
+
+/// A program that is written out has what the laws ask for, and its functions, computed, give what the laws say.
+pub fn worked_functions()
+    ensures is_met { IsMet }
+    ensures works { Works }
+{}
