@@ -1,1 +1,2 @@
-(format-char (standard-output) "hello")
+(format-char (standard-output) #\h)
+(return-from nowhere 1)

@@ -1,4 +1,4 @@
-; Judged as a whole program by `isl check`: functions of the library, which it calls, are not there to be run yet.
+; Judged as a whole program by `isl check`, which runs nothing.
 (defclass <shape> () ((name :initarg name :reader name-of)) (:abstractp t))
 (defclass <square> (<shape>) ((side :initarg side :accessor side-of)))
 
