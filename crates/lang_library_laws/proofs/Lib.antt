@@ -1,9 +1,9 @@
 pub mod Frames
 pub mod Evaluates
 pub mod OfPrimitives
+pub mod ListsKept
 pub mod Loops
 pub mod Applies
-pub mod ListsKept
 pub mod Reverse
 pub mod Length
 pub mod Seek
@@ -11,3 +11,4 @@ pub mod Member
 pub mod Assoc
 pub mod Worked
 pub mod Enough
+pub mod ListOf

@@ -9,7 +9,7 @@ use Rattle.lang_meaning.specs.State.{gives, stored, charged, with_words}
 use Rattle.lang_meaning.specs.Primitives.{result, fails, domain_error, primitive, as_cons, as_string, as_vector, needs, says}
 use Rattle.lang_meaning.specs.Signals.{answered}
 use Rattle.lang_library_laws.specs.ListBodies.{one, two}
-use Rattle.lang_library_laws.proofs.Frames.{added_more, put_behind, Places, Setting, at, kept_in_frame, Runs, After, Comes, a_form, given, weaker}
+use Rattle.lang_library_laws.proofs.Frames.{one_more, Places, Setting, at, kept_in_frame, Runs, After, Comes, a_form, given, weaker}
 use Rattle.lang_library_laws.proofs.Evaluates.{requests, Cell, object_in, fetched, cell_in, Results, no_arguments_left, argument_and, comes_prim}
 
 module _ {s : Setting} {places : Places} {k : ℕ} {frame : List Value} {store : List Object} {Q : Value → List Value → List Object → Type 0} where
@@ -81,15 +81,5 @@ module _ {s : Setting} {places : Places} {k : ℕ} {frame : List Value} {store :
       → Comes s places (a_form k (prim Cons (two f g))) frame store Q
   comes_cons {f} {g} c = comes_prim (argument_and (weaker c (λ x fr st d. argument_and (weaker d (λ y fr st r. no_arguments_left (λ around z h.
       requests 2 0 z (λ entered. gives (object (length entered.store)) (stored (cons x y) (charged 2 entered))) (kept_in_frame h)
-      (given (object (length z.store)) (stored (cons x y) (charged 2 (with_words 2 0 z)))
-      (record {
-        objects_are = ap (λ os. os ++ cons x y ∷ []) h.objects_are;
-        extended = added_more h.extended (put_behind st (cons x y ∷ []));
-        variables_are = h.variables_are;
-        printed_are = h.printed_are;
-        input_is = h.input_is;
-        globals_are = h.globals_are;
-        dynamics_are = h.dynamics_are;
-        symbols_are = h.symbols_are;
-      })
+      (given (object (length z.store)) (stored (cons x y) (charged 2 (with_words 2 0 z))) (one_more (cons x y) z h)
       (subst (λ (n : ℕ). Q (object n) fr (st ++ cons x y ∷ [])) (sym (ap length h.objects_are)) r))))))))

@@ -15,7 +15,7 @@ use Rattle.lang_library_laws.specs.Applications as Applied
 use Rattle.lang_library_laws.specs.Applications.{IsExtended, at_level, IsNamed}
 use Rattle.lang_library_laws.specs.ListBodies.{one, two, not_null, turn_copy_turn, turn_copy_loop, turn_copy_onto}
 use Rattle.lang_library_laws.specs.Laws.{LawOfReverse}
-use Rattle.lang_library_laws.proofs.Frames.{put_behind, get_last, Places, Setting, Comes, a_form, in_order, at_frame}
+use Rattle.lang_library_laws.proofs.Frames.{nothing_added, same_objects, put_behind, get_last, Places, Setting, Comes, a_form, in_order, at_frame}
 use Rattle.lang_library_laws.proofs.Evaluates.{comes_local, comes_set, comes_literal, comes_sequence, then_nothing, first_then, no_arguments_left, argument_and}
 use Rattle.lang_library_laws.proofs.OfPrimitives.{comes_car, comes_cdr, comes_null, comes_cons}
 use Rattle.lang_library_laws.proofs.Loops.{Turns, Stops, loops}
@@ -118,13 +118,13 @@ module _ (s : Setting) (v first : ℕ) (all : List Value) where
 turn_copy_gives : (names : List (List ℕ)) (program : ProgramRows) (limit : Limit) (z : State) (name : Option Name) (v number : ℕ)
     → slice_get program.procedures number ≡ Some (turn_copy_onto name v)
     → (first : ℕ) (items done : List Value) (list end : Value) → IsProperList z.store list items → IsListFrom first z.store end done
-    → first ≤ length z.store → (k : ℕ) (wrong : Signals) (around : DynamicContext)
-    → Applied.Gives limit k (suc (length items)) z (λ w store. IsListFrom first store w (reverse items ++ done))
+    → first ≤ length z.store → (kept : List Object) → IsExtended Object kept z.store → (k : ℕ) (wrong : Signals) (around : DynamicContext)
+    → Applied.GivesKeeping kept limit k (suc (length items)) z (λ w store. IsListFrom first store w (reverse items ++ done))
     (apply_procedure (at_level names program limit k) wrong number None (list ∷ end ∷ []) around z)
-turn_copy_gives names program limit z name v number there first items done list end l b f =
-    applies names program limit z (length items) number name (v ∷ (v + 1) ∷ []) (sequence (two (turn_copy_loop v) (local (v + 1))))
-    (list ∷ end ∷ []) (λ w store. IsListFrom first store w (reverse items ++ done)) there (λ u. refl) refl
-    (λ levels. body_comes (setting names program limit z (suc levels) (suc (length items))) v first (reverse items ++ done) levels
+turn_copy_gives names program limit z name v number there first items done list end l b f kept e =
+    applies names program limit z kept (length items) number name (v ∷ (v + 1) ∷ []) (sequence (two (turn_copy_loop v) (local (v + 1))))
+    (list ∷ end ∷ []) (λ w store. IsListFrom first store w (reverse items ++ done)) e there (λ u. refl) refl
+    (λ levels. body_comes (setting names program limit z kept (suc levels) (suc (length items))) v first (reverse items ++ done) levels
     items done list end z.store (λ g. omega (arith, g)) l b f (turned_is_reverse items done))
 
 pub law_of_reverse : LawOfReverse
@@ -136,14 +136,14 @@ law_of_reverse names program name name' v v' onto no_items number named constant
     (apply_procedure (at_level names program limit k) wrong number None (list ∷ []) around z)) enough
     (subst (λ vs. Applied.Gives limit k (suc (suc (length items))) z (λ w store. IsListFrom (length z.store) store w vs)
     (apply_procedure (at_level names program limit k) wrong number None (list ∷ []) around z)) (append-nil (reverse items))
-    (applies names program limit z (suc (length items)) number name (v ∷ []) (sequence (one (call onto (two (local v) (literal no_items)))))
-    (list ∷ []) Gives there (λ u. refl) refl
+    (applies names program limit z z.store (suc (length items)) number name (v ∷ []) (sequence (one (call onto (two (local v) (literal no_items)))))
+    (list ∷ []) Gives (nothing_added z.store) there (λ u. refl) refl
     (λ levels.
     comes_sequence (first_then (comes_call (argument_and (comes_local v 0 (here v 0 []) (argument_and
     (comes_literal no_items (datum.item constant.0 datum.nil) nil constant.1 refl (no_arguments_left
-    (called Gives (suc (length items)) (λ g. omega (arith, g)) (λ w more now e g. then_nothing g)
+    (called Gives (suc (length items)) (λ g. omega (arith, g)) z.store (nothing_added z.store) (λ w more now e g. then_nothing g)
     onto (turn_copy_onto name' v') named (list ∷ nil ∷ []) (λ now h wrong around.
     turn_copy_gives names program limit now name' v' named.number named.there (length z.store) items [] list nil
     (subst (λ os. IsProperList os list items) (sym h.objects_are) l) refl
-    (le_of_eq (ap length (sym h.objects_are))) levels wrong around))))))))))
+    (le_of_eq (ap length (sym h.objects_are))) z.store (same_objects (sym h.objects_are)) levels wrong around))))))))))
     k wrong around))

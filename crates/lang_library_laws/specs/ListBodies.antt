@@ -1,6 +1,6 @@
 -- Functions of the library as procedures: what their texts are read as. A procedure's variables are numbered from one on, and names and literals
 -- have the numbers that they happen to have.
-use Rattle.std.specs.Prelude.{ℕ, ◌+◌, List, [], ◌∷◌, Option, None}
+use Rattle.std.specs.Prelude.{ℕ, ◌+◌, List, [], ◌∷◌, Option, Some, None}
 use Rattle.base.specs.declared.datum.Name.{Name}
 use Rattle.lang_meaning.specs.declared.program.Procedure.{Procedure}
 use Rattle.lang_meaning.specs.declared.primitive.Primitive.TheVariants.{Add, Same, IsNull, IsCons, IsString, IsVector, Cons, Car, Cdr, StringLength, VectorLength}
@@ -15,6 +15,10 @@ two f g = form_and f (form_and g no_form)
 
 abbrev pub a_procedure : Option Name → List ℕ → Form → Procedure
 a_procedure name required body = record { name = name; required = required; rest = None; body = body }
+
+-- (defun list (:rest items) items)
+abbrev pub list_function : Option Name → ℕ → Procedure
+list_function name v = record { name = name; required = []; rest = Some v; body = sequence (one (local v)) }
 
 -- (not f), which is (null f)
 abbrev pub not_form : Form → Form
