@@ -4,6 +4,8 @@ pub mod OfPrimitives
 pub mod ListsKept
 pub mod Loops
 pub mod Applies
+pub mod Falling
+pub mod TurnCopy
 pub mod Reverse
 pub mod Length
 pub mod Seek
