@@ -14,3 +14,4 @@ pub mod Assoc
 pub mod Worked
 pub mod Enough
 pub mod ListOf
+pub mod TurnOnto
