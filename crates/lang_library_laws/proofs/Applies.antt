@@ -1,27 +1,29 @@
 -- Applications of procedures: from a body inside its application to what the application gives, and calls of such functions.
-use Rattle.std.proofs.Common.{◌≡◌, ◌<◌, ℕ, zero, suc, ◌+◌, Bool, true, false, List, [], ◌++◌, refl, sym, ap, subst, ◌∙◌, Option, Some, None, length, append_assoc, append-nil, add-zero, slice_get, if◌then◌else◌, arith}
+use Rattle.std.proofs.Common.{◌≡◌, ◌<◌, ℕ, zero, suc, ◌+◌, Bool, true, false, List, [], ◌∷◌, ◌++◌, is_some, refl, sym, ap, subst, ◌∙◌, Option, Some, None, length, append_assoc, append-nil, add-zero, take, drop, ◌≤◌, slice_get, if◌then◌else◌, arith}
 use Rattle.base.specs.declared.datum.Name.{Name}
 use Rattle.lang_meaning.specs.declared.program.ProgramRows.{ProgramRows}
 use Rattle.lang_meaning.specs.declared.program.Procedure.{Procedure}
 use Rattle.lang_meaning.specs.Form.{Form, Forms, parameters, call}
 use Rattle.lang_meaning.specs.Counts.{nodes, application_words}
-use Rattle.lang_meaning.specs.Values.{Value, nil}
-use Rattle.lang_meaning.specs.Objects.{Object, Environment, no_environment, program_error_class}
-use Rattle.lang_meaning.specs.State.{State, DynamicContext, Outcome, value, exit, full, more, Evaluated, gives, Limit, charged, go_on, with_words, with_stack, in_frame}
+use Rattle.lang_meaning.specs.Values.{Value, nil, object}
+use Rattle.lang_meaning.specs.Objects.{Object, cons, Environment, no_environment, program_error_class}
+use Rattle.lang_meaning.specs.State.{State, DynamicContext, Outcome, value, exit, full, more, Evaluated, gives, Limit, charged, go_on, make, stored, with_words, with_stack, in_frame}
 use Rattle.lang_meaning.specs.Lookup.{text, numbered, with_variables, with_values}
 use Rattle.lang_meaning.specs.Captured.{has_box}
 use Rattle.lang_meaning.specs.Literals.{function_row}
-use Rattle.lang_meaning.specs.Signals.{Signals, nothing, form, takes, with_some, with_boxes, enter, apply_procedure, apply_row, apply_callee, signal}
+use Rattle.lang_meaning.specs.Signals.{Signals, nothing, form, takes, with_some, with_boxes, gathered, make_list, enter, apply_procedure, apply_row, apply_callee, signal}
 use Rattle.lang_meaning.specs.Meaning.{charged_for, mean, meaning_at}
-use Rattle.lang_library_laws.specs.Applications.{IsExtended, Keeps, EndsAs, Gives, IsLimited, at_level, IsNamed}
+use Rattle.lang_library_laws.specs.Lists.{IsListFrom}
+use Rattle.lang_library_laws.specs.Applications.{GivesKeeping, IsExtended, Keeps, EndsAs, IsLimited, at_level, IsNamed}
 use Rattle.lang_library_laws.specs.ListBodies.{a_procedure}
-use Rattle.lang_library_laws.proofs.Frames.{nothing_added, added_more, Places, numbered_shifted, Setting, at, InFrame, kept_in_frame, Runs, RunsAs, After, Comes, a_form}
+use Rattle.lang_library_laws.proofs.Frames.{nothing_added, added_more, put_behind, get_last, one_more, at_frame, at_store, Places, numbered_shifted, Setting, at, InFrame, kept_in_frame, Runs, RunsAs, After, Comes, a_form}
 use Rattle.lang_library_laws.proofs.Evaluates.{requests, without_boxes, Arguments, below_one}
+use Rattle.lang_library_laws.proofs.ListsKept.{list_kept, no_shorter}
 
 -- states that keep what was there
-pub keeps_itself : (z : State) → Keeps z z
-keeps_itself z = record {
-  objects = nothing_added z.store;
+pub keeps_itself : {kept : List Object} (z : State) → IsExtended Object kept z.store → Keeps kept z z
+keeps_itself {kept} z e = record {
+  objects = e;
   variables = nothing_added z.variables;
   printed = refl;
   input = refl;
@@ -30,9 +32,9 @@ keeps_itself z = record {
   symbols = refl;
 }
 
-pub keeps_both : {x y z : State} → Keeps x y → Keeps y z → Keeps x z
-keeps_both {x} {y} {z} a b = record {
-  objects = added_more a.objects b.objects;
+pub keeps_both : {kept also : List Object} {x y z : State} → IsExtended Object kept also → Keeps kept x y → Keeps also y z → Keeps kept x z
+keeps_both {kept} {also} {x} {y} {z} e a b = record {
+  objects = added_more e b.objects;
   variables = added_more a.variables b.variables;
   printed = b.printed ∙ a.printed;
   input = b.input ∙ a.input;
@@ -41,8 +43,8 @@ keeps_both {x} {y} {z} a b = record {
   symbols = b.symbols ∙ a.symbols;
 }
 
-keeps_under : {z after : State} (stack : ℕ) → Keeps z after → Keeps z (record after { stack = stack })
-keeps_under {z} {after} stack h = record {
+keeps_under : {kept : List Object} {z after : State} (stack : ℕ) → Keeps kept z after → Keeps kept z (record after { stack = stack })
+keeps_under {kept} {z} {after} stack h = record {
   objects = h.objects;
   variables = h.variables;
   printed = h.printed;
@@ -70,71 +72,126 @@ unfolding meaning_at
 a_level names program limit zero env around z = refl
 a_level names program limit (suc k) env around z = refl
 
--- the setting of an application from a state with so many levels, of which that many are enough
-abbrev pub setting : List (List ℕ) → ProgramRows → Limit → State → (levels enough : ℕ) → Setting
-setting names program limit z levels enough = record { names = names; program = program; limit = limit; base = z; short = levels < enough }
+-- a list is made
+makes_list : {s : Setting} {frame : List Value} {store : List Object} {Q : Value → State → Type 0} (vs : List Value) (z : State) (next : Value → State → Evaluated)
+    → InFrame s frame store z
+    → ((tail : Value) (now : List Object) (after : State) → InFrame s frame now after → IsListFrom (length store) now tail vs → IsExtended Object store now → Runs s Q (next tail after))
+    → Runs s Q (make_list s.limit vs z next)
+makes_list {s} {frame} {store} {Q} [] z next h c = c nil store z h refl (nothing_added store)
+makes_list {s} {frame} {store} {Q} (v ∷ vs) z next h c =
+    makes_list vs z (λ tail after. make s.limit 2 0 (cons v tail) after next) h (λ tail now after g l e.
+    let made : Object = cons v tail in
+    let grown : IsExtended Object now (now ++ made ∷ []) = put_behind now (made ∷ []) in
+    let size : length after.store ≡ length now = ap length g.objects_are in
+    requests 2 0 after (λ entered. next (object (length entered.store)) (stored made (charged 2 entered))) (kept_in_frame g)
+    (c (object (length after.store)) (now ++ made ∷ []) (stored made (charged 2 (with_words 2 0 after))) (one_more made after g) (
+      length after.store,
+      tail,
+      refl,
+      subst (λ n. length store ≤ n) (sym size) (no_shorter e),
+      subst (λ n. slice_get (now ++ made ∷ []) n ≡ Some made) (sym size) (get_last now made),
+      list_kept grown (length store) tail vs l,
+    )
+    (added_more e grown)))
 
-module _ (s : Setting) (wrong : Signals) (required : List ℕ) (body : Form) (vs : List Value)
+-- the arguments as the variables' values: as they are, or those behind the required ones in a list
+abbrev pub Gathers : List Object → ℕ → Option ℕ → List Value → (ws : List Value) → (now : List Object) → Type 0
+Gathers store required None vs ws now = (ws ≡ vs) × (now ≡ store)
+Gathers store required (Some rest) vs ws now =
+    (tail : Value) × (ws ≡ take required vs ++ tail ∷ []) × IsListFrom (length store) now tail (drop required vs) × IsExtended Object store now
+
+gathers : {s : Setting} {store : List Object} {Q : Value → State → Type 0} (required : ℕ) (rest : Option ℕ) (vs : List Value) (z : State) (next : List Value → State → Evaluated)
+    → InFrame s [] store z
+    → ((ws : List Value) (now : List Object) (after : State) → InFrame s [] now after → Gathers store required rest vs ws now → Runs s Q (next ws after))
+    → Runs s Q (gathered s.limit required rest vs z next)
+gathers {s} {store} {Q} required None vs z next h c = c vs store z h (refl, refl)
+gathers {s} {store} {Q} required (Some rest) vs z next h c =
+    makes_list (drop required vs) z (λ tail after. next (take required vs ++ tail ∷ []) after) h (λ tail now after g l e.
+    c (take required vs ++ tail ∷ []) now after g (tail, refl, l, e))
+
+-- the setting of an application from a state with so many levels, of which that many are enough
+abbrev pub setting : List (List ℕ) → ProgramRows → Limit → State → (kept : List Object) → (levels enough : ℕ) → Setting
+setting names program limit z kept levels enough =
+    record { names = names; program = program; limit = limit; base = z; kept = kept; short = levels < enough }
+
+module _ (s : Setting) (wrong : Signals) (required : List ℕ) (rest : Option ℕ) (body : Form) (vs : List Value)
     (Q : Value → List Value → List Object → Type 0) (k : ℕ) where
-  pub enters : ((v : ℕ) → has_box v body ≡ false) → takes (length required) false (length vs) ≡ true
-      → Comes s (numbered (parameters required None) 0) (a_form k body) vs s.base.store Q
+  pub enters : IsExtended Object s.kept s.base.store
+      → ((v : ℕ) → has_box v body ≡ false) → takes (length required) (is_some rest) (length vs) ≡ true
+      → ((ws : List Value) (now : List Object) → Gathers s.base.store (length required) rest vs ws now
+      → Comes s (numbered (parameters required rest) 0) (a_form k body) ws now Q)
       → (around : DynamicContext)
-      → Runs s (After s Q) (enter (at s (suc k)) wrong required None body no_environment None vs around s.base)
-  enters none count c around =
+      → Runs s (After s Q) (enter (at s (suc k)) wrong required rest body no_environment None vs around s.base)
+  enters kept none count c around =
       let size : ℕ = application_words (nodes body) + length vs in
       let env : Environment = no_environment in
-      let vars : List ℕ = parameters required None in
-      let inside : (z : State) → Evaluated = λ entered.
-      with_boxes s.limit vars body (charged (length vs) entered) (λ ready.
-      (at s (suc k)).below (form body) (with_variables vars ready env) around (with_values vs ready)) in
+      let vars : List ℕ = parameters required rest in
+      let within : List Value → State → Evaluated = λ ws gone.
+      with_boxes s.limit vars body gone (λ ready.
+      (at s (suc k)).below (form body) (with_variables vars ready env) around (with_values ws ready)) in
+      let inside : (z : State) → Evaluated = λ entered. gathered s.limit (length required) rest vs (charged (length vs) entered) within in
       subst (λ (b : Bool). Runs s (After s Q) (if b then in_frame s.limit size inside s.base else wrong program_error_class [] around s.base)) (sym count)
-      (requests 0 size s.base (λ entered. with_stack s.base.stack (inside entered)) (keeps_itself s.base)
+      (requests 0 size s.base (λ entered. with_stack s.base.stack (inside entered)) (keeps_itself s.base kept)
       (gives_back s.base.stack (inside (with_words 0 size s.base))
-      (let ready : State = charged (length vs) (with_words 0 size s.base) in
-      subst (λ r. Runs s (After s Q) r) (sym (without_boxes s.limit vars body ready (λ ready.
-      (at s (suc k)).below (form body) (with_variables vars ready env) around (with_values vs ready)) none))
-      ((below_one c).runs (with_variables vars ready env) around (with_values vs ready)
-      (append-nil (numbered vars (length s.base.variables)) ∙ ap (numbered vars) (sym (add-zero (length s.base.variables)))
-      ∙ numbered_shifted vars (length s.base.variables) 0)
+      (gathers (length required) rest vs (charged (length vs) (with_words 0 size s.base)) within
       (record {
         objects_are = refl;
-        extended = nothing_added s.base.store;
-        variables_are = refl;
+        extended = kept;
+        variables_are = sym (append-nil s.base.variables);
         printed_are = refl;
         input_is = refl;
         globals_are = refl;
         dynamics_are = refl;
         symbols_are = refl;
-      })))))
+      })
+      (λ ws now ready h g.
+      let same : ready.variables ≡ s.base.variables = h.variables_are ∙ append-nil s.base.variables in
+      subst (λ r. Runs s (After s Q) r) (sym (without_boxes s.limit vars body ready (λ ready.
+      (at s (suc k)).below (form body) (with_variables vars ready env) around (with_values ws ready)) none))
+      ((below_one (c ws now g)).runs (with_variables vars ready env) around (with_values ws ready)
+      (append-nil (numbered vars (length ready.variables)) ∙ ap (λ us. numbered vars (length us)) same
+      ∙ ap (numbered vars) (sym (add-zero (length s.base.variables))) ∙ numbered_shifted vars (length s.base.variables) 0)
+      (record {
+        objects_are = h.objects_are;
+        extended = h.extended;
+        variables_are = ap (λ us. us ++ ws) same;
+        printed_are = h.printed_are;
+        input_is = h.input_is;
+        globals_are = h.globals_are;
+        dynamics_are = h.dynamics_are;
+        symbols_are = h.symbols_are;
+      }))))))
 
 -- what a value inside is outside
 outside : {s : Setting} {P : Value → List Object → Type 0} (r : Evaluated) → Runs s (After s (λ v frame store. P v store)) r
-    → EndsAs (λ after. IsLimited s.limit × Keeps s.base after) (λ after. s.short × Keeps s.base after)
-    (λ v after. Keeps s.base after × P v after.store) r.outcome r.state
+    → EndsAs (λ after. IsLimited s.limit × Keeps s.kept s.base after) (λ after. s.short × Keeps s.kept s.base after)
+    (λ v after. Keeps s.kept s.base after × P v after.store) r.outcome r.state
 outside {s} {P} r h = by r.outcome r.state h.ends
   where
     by : (o : Outcome) (z : State) → RunsAs s (After s (λ v frame store. P v store)) o z
-        → EndsAs (λ after. IsLimited s.limit × Keeps s.base after) (λ after. s.short × Keeps s.base after)
-        (λ v after. Keeps s.base after × P v after.store) o z
+        → EndsAs (λ after. IsLimited s.limit × Keeps s.kept s.base after) (λ after. s.short × Keeps s.kept s.base after)
+        (λ v after. Keeps s.kept s.base after × P v after.store) o z
     by (value v) z g = (kept_in_frame g.holds, subst (λ store. P v store) (sym g.holds.objects_are) g.is)
     by (exit e v landing) z g = g
     by (full asked left) z g = g
     by more z g = g
 
 -- a procedure gives what its body comes to from its arguments, one level below
-pub applies : (names : List (List ℕ)) (program : ProgramRows) (limit : Limit) (z : State) (enough : ℕ) (number : ℕ)
-    (name : Option Name) (required : List ℕ) (body : Form) (vs : List Value) (P : Value → List Object → Type 0)
-    → slice_get program.procedures number ≡ Some (a_procedure name required body)
-    → ((v : ℕ) → has_box v body ≡ false) → takes (length required) false (length vs) ≡ true
-    → ((levels : ℕ) → Comes (setting names program limit z (suc levels) (suc enough)) (numbered (parameters required None) 0) (a_form levels body) vs z.store (λ v frame store. P v store))
+pub applies_to : (names : List (List ℕ)) (program : ProgramRows) (limit : Limit) (z : State) (kept : List Object) (enough : ℕ) (number : ℕ)
+    (name : Option Name) (required : List ℕ) (rest : Option ℕ) (body : Form) (vs : List Value) (P : Value → List Object → Type 0)
+    → IsExtended Object kept z.store
+    → slice_get program.procedures number ≡ Some (record { name = name; required = required; rest = rest; body = body })
+    → ((v : ℕ) → has_box v body ≡ false) → takes (length required) (is_some rest) (length vs) ≡ true
+    → ((levels : ℕ) (ws : List Value) (now : List Object) → Gathers z.store (length required) rest vs ws now
+    → Comes (setting names program limit z kept (suc levels) (suc enough)) (numbered (parameters required rest) 0) (a_form levels body) ws now (λ v frame store. P v store))
     → (k : ℕ) (wrong : Signals) (around : DynamicContext)
-    → Gives limit k (suc enough) z P (apply_procedure (at_level names program limit k) wrong number None vs around z)
-applies names program limit z enough number name required body vs P there none count c zero wrong around = (omega arith, keeps_itself z)
-applies names program limit z enough number name required body vs P there none count c (suc k) wrong around =
-    let s : Setting = setting names program limit z (suc k) (suc enough) in
-    let e : Evaluated = enter (at s (suc k)) wrong required None body no_environment None vs around z in
-    let a : Runs s (After s (λ v frame store. P v store)) e =
-    enters s wrong required body vs (λ v frame store. P v store) k none count (c k) around in
+    → GivesKeeping kept limit k (suc enough) z P (apply_procedure (at_level names program limit k) wrong number None vs around z)
+applies_to names program limit z kept enough number name required rest body vs P e there none count c zero wrong around = (omega arith, keeps_itself z e)
+applies_to names program limit z kept enough number name required rest body vs P e there none count c (suc k) wrong around =
+    let s : Setting = setting names program limit z kept (suc k) (suc enough) in
+    let r : Evaluated = enter (at s (suc k)) wrong required rest body no_environment None vs around z in
+    let a : Runs s (After s (λ v frame store. P v store)) r =
+    enters s wrong required rest body vs (λ v frame store. P v store) k e none count (c k) around in
     outside (apply_procedure (at_level names program limit (suc k)) wrong number None vs around z)
     (subst (λ r. Runs s (After s (λ v frame store. P v store)) (go_on r (λ v after.
     with_some (slice_get program.procedures number) (λ a y. gives nil y)
@@ -144,23 +201,36 @@ applies names program limit z enough number name required body vs P there none c
     (λ p. enter (at s (suc k)) wrong p.required p.rest p.body (record no_environment { method = None }) None vs) around z))
     (sym there) a))
 
+-- one without a rest variable
+pub applies : (names : List (List ℕ)) (program : ProgramRows) (limit : Limit) (z : State) (kept : List Object) (enough : ℕ) (number : ℕ)
+    (name : Option Name) (required : List ℕ) (body : Form) (vs : List Value) (P : Value → List Object → Type 0)
+    → IsExtended Object kept z.store
+    → slice_get program.procedures number ≡ Some (a_procedure name required body)
+    → ((v : ℕ) → has_box v body ≡ false) → takes (length required) false (length vs) ≡ true
+    → ((levels : ℕ) → Comes (setting names program limit z kept (suc levels) (suc enough)) (numbered (parameters required None) 0) (a_form levels body) vs z.store (λ v frame store. P v store))
+    → (k : ℕ) (wrong : Signals) (around : DynamicContext)
+    → GivesKeeping kept limit k (suc enough) z P (apply_procedure (at_level names program limit k) wrong number None vs around z)
+applies names program limit z kept enough number name required body vs P e there none count c =
+    applies_to names program limit z kept enough number name required None body vs P e there none count
+    (λ levels ws now g. at_frame g.0 (at_store g.1 (c levels)))
+
 -- what a function gives to whoever calls it
 module _ {s : Setting} {k : ℕ} {frame : List Value} {store : List Object} {Q : Value → List Value → List Object → Type 0}
     (P : Value → List Object → Type 0) (enough : ℕ) (short : k < enough → s.short)
-    (goes_on : (w : Value) (more : List Value) (now : List Object) → IsExtended Object store now → P w now → Q w (frame ++ more) now) where
-  inside : (z : State) → InFrame s frame store z → (r : Evaluated) → Gives s.limit k enough z P r → Runs s (After s Q) r
+    (kept : List Object) (also : IsExtended Object s.kept kept)
+    (goes_on : (w : Value) (more : List Value) (now : List Object) → IsExtended Object kept now → P w now → Q w (frame ++ more) now) where
+  inside : (z : State) → InFrame s frame store z → (r : Evaluated) → GivesKeeping kept s.limit k enough z P r → Runs s (After s Q) r
   inside z h r g = record { ends = by r.outcome r.state g }
     where
-      by : (o : Outcome) (after : State) → EndsAs (λ after. IsLimited s.limit × Keeps z after) (λ after. (k < enough) × Keeps z after)
-          (λ v after. Keeps z after × P v after.store) o after → RunsAs s (After s Q) o after
+      by : (o : Outcome) (after : State) → EndsAs (λ after. IsLimited s.limit × Keeps kept z after) (λ after. (k < enough) × Keeps kept z after)
+          (λ v after. Keeps kept z after × P v after.store) o after → RunsAs s (After s Q) o after
       by (value v) after g =
-          let behind : IsExtended Object store after.store = record { added = g.0.objects.added; is = g.0.objects.is ∙ ap (λ os. os ++ g.0.objects.added) h.objects_are } in
           record {
             frame = frame ++ g.0.variables.added;
             store = after.store;
             holds = record {
               objects_are = refl;
-              extended = added_more h.extended behind;
+              extended = added_more also g.0.objects;
               variables_are = g.0.variables.is ∙ ap (λ vs. vs ++ g.0.variables.added) h.variables_are ∙ append_assoc s.base.variables frame g.0.variables.added;
               printed_are = g.0.printed ∙ h.printed_are;
               input_is = g.0.input ∙ h.input_is;
@@ -168,16 +238,16 @@ module _ {s : Setting} {k : ℕ} {frame : List Value} {store : List Object} {Q :
               dynamics_are = g.0.dynamics ∙ h.dynamics_are;
               symbols_are = g.0.symbols ∙ h.symbols_are;
             };
-            is = goes_on v g.0.variables.added after.store behind g.1;
+            is = goes_on v g.0.variables.added after.store g.0.objects g.1;
           }
       by (exit e v landing) after g = absurd g
-      by (full asked left) after g = (g.0, keeps_both (kept_in_frame h) g.1)
-      by more after g = (short g.0, keeps_both (kept_in_frame h) g.1)
+      by (full asked left) after g = (g.0, keeps_both also (kept_in_frame h) g.1)
+      by more after g = (short g.0, keeps_both also (kept_in_frame h) g.1)
 
   -- the call of a name, behind its arguments
   pub called : (n : ℕ) (procedure : Procedure) (named : IsNamed s.names s.program n procedure) (vs : List Value)
       → ((z : State) → InFrame s frame store z → (wrong : Signals) (around : DynamicContext)
-      → Gives s.limit k enough z P (apply_procedure (at s k) wrong named.number None vs around z))
+      → GivesKeeping kept s.limit k enough z P (apply_procedure (at s k) wrong named.number None vs around z))
       → (around : DynamicContext) (z : State) → InFrame s frame store z
       → Runs s (After s Q) (apply_row (at s k) (signal (at s k)) (text s.names n) (function_row s.names s.program.functions (text s.names n)) vs around z)
   called n procedure named vs g around z h =

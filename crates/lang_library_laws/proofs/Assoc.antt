@@ -10,7 +10,7 @@ use Rattle.lang_library_laws.specs.Lists.{IsProperList, HaveKeys, with_key}
 use Rattle.lang_library_laws.specs.Applications.{Gives, at_level, HasLiteral, HasTruth}
 use Rattle.lang_library_laws.specs.ListBodies.{two, seek, entry_key, assoc_end}
 use Rattle.lang_library_laws.specs.Laws.{LawOfAssoc}
-use Rattle.lang_library_laws.proofs.Frames.{Setting, Comes, a_form, weaker, at_frame}
+use Rattle.lang_library_laws.proofs.Frames.{nothing_added, Setting, Comes, a_form, weaker, at_frame}
 use Rattle.lang_library_laws.proofs.Evaluates.{comes_local, comes_literal, comes_sequence, then_nothing, first_then, comes_clauses, clause_taken, clause_passed, body_form}
 use Rattle.lang_library_laws.proofs.OfPrimitives.{comes_car, comes_null}
 use Rattle.lang_library_laws.proofs.Applies.{setting, applies}
@@ -69,10 +69,10 @@ pub law_of_assoc : LawOfAssoc
 law_of_assoc names program name v truth truth' no_entry number is_truth is_truth' is_nil there limit k wrong around z key list es l keys =
     let enough : suc (length es) ≡ length es + 1 = omega arith in
     subst (λ n. Gives limit k n z (λ w store. w ≡ with_key key es) (apply_procedure (at_level names program limit k) wrong number None (key ∷ list ∷ []) around z)) enough
-    (applies names program limit z (length es) number name (v ∷ (v + 1) ∷ []) (sequence (two (seek v truth (entry_key v)) (assoc_end v truth' no_entry)))
-    (key ∷ list ∷ []) (λ w store. w ≡ with_key key es) there (λ u. refl) refl
+    (applies names program limit z z.store (length es) number name (v ∷ (v + 1) ∷ []) (sequence (two (seek v truth (entry_key v)) (assoc_end v truth' no_entry)))
+    (key ∷ list ∷ []) (λ w store. w ≡ with_key key es) (nothing_added z.store) there (λ u. refl) refl
     (λ levels.
-    let s : Setting = setting names program limit z (suc levels) (suc (length es)) in
+    let s : Setting = setting names program limit z z.store (suc levels) (suc (length es)) in
     comes_sequence (first_then (weaker
     (seeks s v truth (entry_key v) is_truth key list IsFirst (entry_key_comes s v key) (from_key key es) levels es z.store
     (λ g. omega (arith, g)) l (keyed z.store es keys) refl)

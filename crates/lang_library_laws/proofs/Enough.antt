@@ -9,8 +9,8 @@ use Rattle.lang_library_laws.specs.Laws.{LawOfEnough}
 pub law_of_enough : LawOfEnough
 law_of_enough levels enough z r g e = by r.outcome g
   where
-    by : (o : Outcome) → EndsAs (λ after. IsLimited unlimited × Keeps z after) (λ after. (levels < enough) × Keeps z after) (λ v after. Keeps z after × ⊤) o r.state
-        → (v : Value) × (o ≡ value v) × Keeps z r.state
+    by : (o : Outcome) → EndsAs (λ after. IsLimited unlimited × Keeps z.store z after) (λ after. (levels < enough) × Keeps z.store z after) (λ v after. Keeps z.store z after × ⊤) o r.state
+        → (v : Value) × (o ≡ value v) × Keeps z.store z r.state
     by (value v) h = (v, refl, h.0)
     by (exit x v landing) h = absurd h
     by (full asked left) h = absurd h.0

@@ -31,7 +31,7 @@ limited : (l : Limit) (n : ℕ) → has_room l n ≡ false → IsLimited l
 limited (words w) n h = tt
 limited unlimited n h = absurd (cc h)
 
-pub requests : {s : Setting} {Q : Value → State → Type 0} (heap stack : ℕ) (z : State) (next : State → Evaluated) → Keeps s.base z
+pub requests : {s : Setting} {Q : Value → State → Type 0} (heap stack : ℕ) (z : State) (next : State → Evaluated) → Keeps s.kept s.base z
     → Runs s Q (next (with_words heap stack z)) → Runs s Q (request s.limit heap stack z next)
 requests {s} {Q} heap stack z next kept r =
     by (has_room s.limit (z.heap + z.stack + heap + stack)) refl

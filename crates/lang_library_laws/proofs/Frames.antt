@@ -3,7 +3,7 @@ use Rattle.std.proofs.Common.{◌≡◌, ℕ, zero, suc, ◌+◌, ◌==◌, Bool
 use Rattle.lang_meaning.specs.declared.program.ProgramRows.{ProgramRows}
 use Rattle.lang_meaning.specs.Values.{Value}
 use Rattle.lang_meaning.specs.Objects.{Object, Environment}
-use Rattle.lang_meaning.specs.State.{State, DynamicContext, Evaluated, Limit, gives, go_on, go_on_from, Outcome, value, exit, full, more}
+use Rattle.lang_meaning.specs.State.{State, DynamicContext, Evaluated, Limit, charged, stored, with_words, gives, go_on, go_on_from, Outcome, value, exit, full, more}
 use Rattle.lang_meaning.specs.Lookup.{under_number, numbered}
 use Rattle.lang_meaning.specs.Form.{Form, Forms, ClauseForms, MaybeForm}
 use Rattle.lang_meaning.specs.Signals.{Context, Evaluation, form}
@@ -13,6 +13,9 @@ use Rattle.lang_library_laws.specs.Applications.{IsExtended, Keeps, EndsAs, Ends
 -- nothing behind, and more behind more
 pub nothing_added : {X : Type 0} (xs : List X) → IsExtended X xs xs
 nothing_added xs = record { added = []; is = sym (append-nil xs) }
+
+pub same_objects : {store other : List Object} → other ≡ store → IsExtended Object other store
+same_objects {store} {other} e = record { added = []; is = sym e ∙ sym (append-nil other) }
 
 pub added_more : {X : Type 0} {xs ys zs : List X} → IsExtended X xs ys → IsExtended X ys zs → IsExtended X xs zs
 added_more {X} {xs} {ys} {zs} a b = record {
@@ -64,13 +67,14 @@ found_shifted v n (p ∷ ps) i h = by (v == p.0) refl (found_shifted v n ps i) h
     by true e others g = let same : p.1 ≡ i = cc g in ap (λ m. Some (n + m)) same
     by false e others g = others g
 
--- what an application is evaluated in: the program, the words there are, the state at its begin, and what it means that its levels
--- are too few
+-- what an application is evaluated in: the program, the words there are, the state at its begin, the objects that it keeps, and what it
+-- means that its levels are too few
 pub record Setting : Type 1 where
   pub names : List (List ℕ)
   pub program : ProgramRows
   pub limit : Limit
   pub base : State
+  pub kept : List Object
   pub short : Type 0
 
 abbrev pub at : Setting → ℕ → Context
@@ -80,7 +84,7 @@ at s k = at_level s.names s.program s.limit k
 -- changed but charges
 pub record Holds (s : Setting) (frame : List Value) (store : List Object) (objects : List Object) (variables : List Value) (printed input : List ℕ) (globals dynamics : List (List ℕ × Value)) (symbols : ℕ) : Type 0 where
   pub objects_are : objects ≡ store
-  pub extended : IsExtended Object s.base.store store
+  pub extended : IsExtended Object s.kept store
   pub variables_are : variables ≡ s.base.variables ++ frame
   pub printed_are : printed ≡ s.base.printed
   pub input_is : input ≡ s.base.input
@@ -91,9 +95,9 @@ pub record Holds (s : Setting) (frame : List Value) (store : List Object) (objec
 abbrev pub InFrame : Setting → List Value → List Object → State → Type 0
 InFrame s frame store z = Holds s frame store z.store z.variables z.printed z.input z.globals z.dynamics z.symbols
 
-pub kept_in_frame : {s : Setting} {frame : List Value} {store : List Object} {z : State} → InFrame s frame store z → Keeps s.base z
+pub kept_in_frame : {s : Setting} {frame : List Value} {store : List Object} {z : State} → InFrame s frame store z → Keeps s.kept s.base z
 kept_in_frame {s} {frame} {store} {z} h = record {
-  objects = subst (IsExtended Object s.base.store) (sym h.objects_are) h.extended;
+  objects = subst (IsExtended Object s.kept) (sym h.objects_are) h.extended;
   variables = record { added = frame; is = h.variables_are };
   printed = h.printed_are;
   input = h.input_is;
@@ -104,10 +108,10 @@ kept_in_frame {s} {frame} {store} {z} h = record {
 
 -- how an evaluation inside the application may end
 pub record Runs (s : Setting) (Q : Value → State → Type 0) (r : Evaluated) : Type 0 where
-  pub ends : Ends (λ after. IsLimited s.limit × Keeps s.base after) (λ after. s.short × Keeps s.base after) Q r
+  pub ends : Ends (λ after. IsLimited s.limit × Keeps s.kept s.base after) (λ after. s.short × Keeps s.kept s.base after) Q r
 
 abbrev pub RunsAs : Setting → (Value → State → Type 0) → Outcome → State → Type 0
-RunsAs s Q o z = EndsAs (λ after. IsLimited s.limit × Keeps s.base after) (λ after. s.short × Keeps s.base after) Q o z
+RunsAs s Q o z = EndsAs (λ after. IsLimited s.limit × Keeps s.kept s.base after) (λ after. s.short × Keeps s.kept s.base after) Q o z
 
 -- a value, in a frame
 pub record After (s : Setting) (Q : Value → List Value → List Object → Type 0) (v : Value) (z : State) : Type 0 where
@@ -172,3 +176,22 @@ weaker {s} {places} {part} {frame} {store} {P} {Q} c w = record {
 pub at_frame : {s : Setting} {places : Places} {part : Part} {frame other : List Value} {store : List Object} {Q : Value → List Value → List Object → Type 0}
     → frame ≡ other → Comes s places part other store Q → Comes s places part frame store Q
 at_frame {s} {places} {part} {frame} {other} {store} {Q} e c = subst (λ fr. Comes s places part fr store Q) (sym e) c
+
+-- the same store
+pub at_store : {s : Setting} {places : Places} {part : Part} {frame : List Value} {store other : List Object} {Q : Value → List Value → List Object → Type 0}
+    → store ≡ other → Comes s places part frame other Q → Comes s places part frame store Q
+at_store {s} {places} {part} {frame} {store} {other} {Q} e c = subst (λ st. Comes s places part frame st Q) (sym e) c
+
+-- a new object of two words
+pub one_more : {s : Setting} {frame : List Value} {store : List Object} (o : Object) (z : State) → InFrame s frame store z
+    → InFrame s frame (store ++ o ∷ []) (stored o (charged 2 (with_words 2 0 z)))
+one_more {s} {frame} {store} o z h = record {
+  objects_are = ap (λ os. os ++ o ∷ []) h.objects_are;
+  extended = added_more h.extended (put_behind store (o ∷ []));
+  variables_are = h.variables_are;
+  printed_are = h.printed_are;
+  input_is = h.input_is;
+  globals_are = h.globals_are;
+  dynamics_are = h.dynamics_are;
+  symbols_are = h.symbols_are;
+}

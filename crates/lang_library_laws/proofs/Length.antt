@@ -14,10 +14,10 @@ use Rattle.lang_meaning.specs.Literals.{symbol_of}
 use Rattle.lang_meaning.specs.Primitives.{as_cons, as_string, as_vector}
 use Rattle.lang_meaning.specs.Signals.{Signals, apply_procedure}
 use Rattle.lang_library_laws.specs.Lists.{IsProperList}
-use Rattle.lang_library_laws.specs.Applications.{Gives, at_level, HasLiteral}
+use Rattle.lang_library_laws.specs.Applications.{GivesKeeping, IsExtended, Gives, at_level, HasLiteral}
 use Rattle.lang_library_laws.specs.ListBodies.{one, count_test, count_turn, count_end, count_body, list_length_form, list_length, length_form}
 use Rattle.lang_library_laws.specs.Laws.{LawOfLength}
-use Rattle.lang_library_laws.proofs.Frames.{Places, Setting, Comes, a_form, in_order, weaker, at_frame}
+use Rattle.lang_library_laws.proofs.Frames.{nothing_added, same_objects, Places, Setting, Comes, a_form, in_order, weaker, at_frame}
 use Rattle.lang_library_laws.proofs.Evaluates.{object_in, cell_in, comes_local, comes_set, comes_literal, comes_sequence, then_nothing, first_then, comes_clauses, clause_taken, clause_passed, body_form, no_arguments_left, argument_and, no_bindings_left, value_and, comes_let}
 use Rattle.lang_library_laws.proofs.OfPrimitives.{comes_cdr, comes_null, comes_consp, comes_stringp, comes_vectorp, comes_sum}
 use Rattle.lang_library_laws.proofs.Loops.{Turns, Stops, loops}
@@ -122,14 +122,14 @@ list_length_gives : (names : List (List ℕ)) (program : ProgramRows) (limit : L
     → HasLiteral program none (datum.integer (pos 0)) → HasLiteral program increment (datum.integer (pos 1))
     → slice_get program.procedures number ≡ Some (list_length name v none increment truth list_class domain_error)
     → (list : Value) (items : List Value) → IsProperList z.store list items → length items ≤ 536870911
-    → (k : ℕ) (wrong : Signals) (around : DynamicContext)
-    → Gives limit k (suc (length items)) z (λ w store. w ≡ integer (pos (length items)))
+    → (kept : List Object) → IsExtended Object kept z.store → (k : ℕ) (wrong : Signals) (around : DynamicContext)
+    → GivesKeeping kept limit k (suc (length items)) z (λ w store. w ≡ integer (pos (length items)))
     (apply_procedure (at_level names program limit k) wrong number None (list ∷ []) around z)
-list_length_gives names program limit z name v number none increment truth list_class domain_error is_none is_one there list items l small =
-    applies names program limit z (length items) number name (v ∷ []) (sequence (one (list_length_form v none increment truth list_class domain_error)))
-    (list ∷ []) (λ w store. w ≡ integer (pos (length items))) there (no_boxes v none increment truth list_class domain_error) refl
+list_length_gives names program limit z name v number none increment truth list_class domain_error is_none is_one there list items l small kept e =
+    applies names program limit z kept (length items) number name (v ∷ []) (sequence (one (list_length_form v none increment truth list_class domain_error)))
+    (list ∷ []) (λ w store. w ≡ integer (pos (length items))) e there (no_boxes v none increment truth list_class domain_error) refl
     (λ levels.
-    let s : Setting = setting names program limit z (suc levels) (suc (length items)) in
+    let s : Setting = setting names program limit z kept (suc levels) (suc (length items)) in
     comes_sequence (first_then (comes_let (value_and (comes_local v 0 (here v 0 []) (value_and
     (comes_literal none (datum.item is_none.0 (datum.integer (pos 0))) (integer (pos 0)) is_none.1 refl
     (no_bindings_left (λ u. refl) (weaker
@@ -150,8 +150,8 @@ law_of_length names program name name' v v' none increment truth truth' list_cla
     let IsLength : Value → List Object → Type 0 = λ w store. w ≡ integer (pos (length items)) in
     let enough : suc (suc (length items)) ≡ length items + 2 = omega arith in
     subst (λ n. Gives limit k n z IsLength (apply_procedure (at_level names program limit k) wrong number None (list ∷ []) around z)) enough
-    (applies names program limit z (suc (length items)) number name (v ∷ []) (sequence (one (length_form v truth list_length_name)))
-    (list ∷ []) IsLength there (λ u. refl) refl
+    (applies names program limit z z.store (suc (length items)) number name (v ∷ []) (sequence (one (length_form v truth list_length_name)))
+    (list ∷ []) IsLength (nothing_added z.store) there (λ u. refl) refl
     (λ levels.
     comes_sequence (first_then (comes_clauses
     (clause_passed (comes_stringp (comes_local v 0 (here v 0 []) (
@@ -161,10 +161,10 @@ law_of_length names program name name' v v' none increment truth truth' list_cla
         clause_taken (comes_literal truth (datum.item is_truth.1.0 (datum.symbol is_truth.0)) (symbol (symbol_of names is_truth.0)) is_truth.1.1 refl (
           refl,
           body_form (comes_sequence (first_then (comes_call (argument_and (comes_local v 0 (here v 0 []) (no_arguments_left
-              (called IsLength (suc (length items)) (λ g. omega (arith, g)) (λ w more now e g. then_nothing (then_nothing g))
+              (called IsLength (suc (length items)) (λ g. omega (arith, g)) z.store (nothing_added z.store) (λ w more now e g. then_nothing (then_nothing g))
               list_length_name (list_length name' v' none increment truth' list_class domain_error) named (list ∷ []) (λ now h wrong around.
               list_length_gives names program limit now name' v' named.number none increment truth' list_class domain_error is_none is_one named.there list items
-              (subst (λ os. IsProperList os list items) (sym h.objects_are) l) small levels wrong around)))))))),
+              (subst (λ os. IsProperList os list items) (sym h.objects_are) l) small z.store (same_objects (sym h.objects_are)) levels wrong around)))))))),
         )),
       ))),
     )))))))

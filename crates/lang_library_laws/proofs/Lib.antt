@@ -1,9 +1,11 @@
 pub mod Frames
 pub mod Evaluates
 pub mod OfPrimitives
+pub mod ListsKept
 pub mod Loops
 pub mod Applies
-pub mod ListsKept
+pub mod Falling
+pub mod TurnCopy
 pub mod Reverse
 pub mod Length
 pub mod Seek
@@ -11,3 +13,5 @@ pub mod Member
 pub mod Assoc
 pub mod Worked
 pub mod Enough
+pub mod ListOf
+pub mod TurnOnto

@@ -8,10 +8,10 @@ use Rattle.lang_meaning.specs.Objects.{Object}
 use Rattle.lang_meaning.specs.State.{State, DynamicContext, Limit}
 use Rattle.lang_meaning.specs.Signals.{Signals, apply_procedure}
 use Rattle.lang_library_laws.specs.Lists.{IsProperList, IsBehind, from_item}
-use Rattle.lang_library_laws.specs.Applications.{Gives, at_level, HasTruth}
+use Rattle.lang_library_laws.specs.Applications.{GivesKeeping, IsExtended, Gives, at_level, HasTruth}
 use Rattle.lang_library_laws.specs.ListBodies.{one, two, seek, item_key, memv}
 use Rattle.lang_library_laws.specs.Laws.{LawOfMember}
-use Rattle.lang_library_laws.proofs.Frames.{Setting, Comes, a_form, weaker, at_frame}
+use Rattle.lang_library_laws.proofs.Frames.{nothing_added, same_objects, Setting, Comes, a_form, weaker, at_frame}
 use Rattle.lang_library_laws.proofs.Evaluates.{comes_local, comes_sequence, then_nothing, first_then, no_arguments_left, argument_and}
 use Rattle.lang_library_laws.proofs.OfPrimitives.{comes_car}
 use Rattle.lang_library_laws.proofs.Applies.{setting, applies, called, comes_call}
@@ -55,16 +55,16 @@ IsMember sought list items w store = (n : ℕ) × IsBehind store n list w × IsP
 memv_gives : (names : List (List ℕ)) (program : ProgramRows) (limit : Limit) (z : State) (name : Option Name) (v truth number : ℕ)
     → HasTruth program truth → slice_get program.procedures number ≡ Some (memv name v truth)
     → (sought list : Value) (items : List Value) → IsProperList z.store list items
-    → (k : ℕ) (wrong : Signals) (around : DynamicContext)
-    → Gives limit k (suc (length items)) z (IsMember sought list items)
+    → (kept : List Object) → IsExtended Object kept z.store → (k : ℕ) (wrong : Signals) (around : DynamicContext)
+    → GivesKeeping kept limit k (suc (length items)) z (IsMember sought list items)
     (apply_procedure (at_level names program limit k) wrong number None (sought ∷ list ∷ []) around z)
-memv_gives names program limit z name v truth number is_truth there sought list items l =
+memv_gives names program limit z name v truth number is_truth there sought list items l kept e =
     let es : List (Value × Value) = with_themselves items in
     let size : length es ≡ length items = themselves_length items in
-    applies names program limit z (length items) number name (v ∷ (v + 1) ∷ []) (sequence (two (seek v truth (item_key v)) (local (v + 1))))
-    (sought ∷ list ∷ []) (IsMember sought list items) there (λ u. refl) refl
+    applies names program limit z kept (length items) number name (v ∷ (v + 1) ∷ []) (sequence (two (seek v truth (item_key v)) (local (v + 1))))
+    (sought ∷ list ∷ []) (IsMember sought list items) e there (λ u. refl) refl
     (λ levels.
-    let s : Setting = setting names program limit z (suc levels) (suc (length items)) in
+    let s : Setting = setting names program limit z kept (suc levels) (suc (length items)) in
     comes_sequence (first_then (weaker
     (seeks s v truth (item_key v) is_truth sought list IsItself (item_key_comes s v sought) (from_key sought es) levels es z.store
     (λ g. omega (arith, g, size)) (subst (λ us. IsProperList z.store list us) (sym (items_themselves items)) l) (keyed z.store items) refl)
@@ -80,12 +80,12 @@ law_of_member names program name name' v v' truth memv_name number is_truth name
     let P : Value → List Object → Type 0 = IsMember sought list items in
     let enough : suc (suc (length items)) ≡ length items + 2 = omega arith in
     subst (λ n. Gives limit k n z P (apply_procedure (at_level names program limit k) wrong number None (sought ∷ list ∷ []) around z)) enough
-    (applies names program limit z (suc (length items)) number name (v ∷ (v + 1) ∷ []) (sequence (one (call memv_name (two (local v) (local (v + 1))))))
-    (sought ∷ list ∷ []) P there (λ u. refl) refl
+    (applies names program limit z z.store (suc (length items)) number name (v ∷ (v + 1) ∷ []) (sequence (one (call memv_name (two (local v) (local (v + 1))))))
+    (sought ∷ list ∷ []) P (nothing_added z.store) there (λ u. refl) refl
     (λ levels.
     comes_sequence (first_then (comes_call (argument_and (comes_local v 0 (at_object v) (argument_and (comes_local (v + 1) 1 (at_list v) (no_arguments_left
-    (called P (suc (length items)) (λ g. omega (arith, g)) (λ w more now e g. then_nothing g)
+    (called P (suc (length items)) (λ g. omega (arith, g)) z.store (nothing_added z.store) (λ w more now e g. then_nothing g)
     memv_name (memv name' v' truth) named (sought ∷ list ∷ []) (λ now h wrong around.
     memv_gives names program limit now name' v' truth named.number is_truth named.there sought list items
-    (subst (λ os. IsProperList os list items) (sym h.objects_are) l) levels wrong around))))))))))
+    (subst (λ os. IsProperList os list items) (sym h.objects_are) l) z.store (same_objects (sym h.objects_are)) levels wrong around))))))))))
     k wrong around)

@@ -1,15 +1,16 @@
 -- How the primitives of lists and of numbers are evaluated inside an application: one rule each.
-use Rattle.std.proofs.Common.{◌≡◌, ℕ, ◌+ℤ◌, Bool, true, List, [], ◌∷◌, ◌++◌, refl, sym, ap, subst, ◌∙◌, length, ℤ, is_some, if◌then◌else◌}
+use Rattle.std.proofs.Common.{slice_set, ◌≡◌, ℕ, ◌+ℤ◌, Bool, true, List, [], ◌∷◌, ◌++◌, refl, sym, ap, subst, ◌∙◌, length, ℤ, is_some, if◌then◌else◌}
 use Rattle.lang_meaning.specs.declared.primitive.Primitive.{Primitive}
-use Rattle.lang_meaning.specs.declared.primitive.Primitive.TheVariants.{Add, Same, IsNull, IsCons, IsString, IsVector, Cons, Car, Cdr}
+use Rattle.lang_meaning.specs.declared.primitive.Primitive.TheVariants.{Add, Same, SetCdr, IsNull, IsCons, IsString, IsVector, Cons, Car, Cdr}
 use Rattle.lang_meaning.specs.Form.{Form, prim}
 use Rattle.lang_meaning.specs.Values.{Value, nil, object, integer, truth, same, in_range}
 use Rattle.lang_meaning.specs.Objects.{Object, cons, cons_class, integer_overflow_class}
-use Rattle.lang_meaning.specs.State.{gives, stored, charged, with_words}
-use Rattle.lang_meaning.specs.Primitives.{result, fails, domain_error, primitive, as_cons, as_string, as_vector, needs, says}
+use Rattle.lang_meaning.specs.State.{changed, gives, stored, charged, with_words}
+use Rattle.lang_meaning.specs.Primitives.{change, result, fails, domain_error, primitive, as_cons, as_string, as_vector, needs, says}
 use Rattle.lang_meaning.specs.Signals.{answered}
+use Rattle.lang_library_laws.specs.Applications.{IsExtended}
 use Rattle.lang_library_laws.specs.ListBodies.{one, two}
-use Rattle.lang_library_laws.proofs.Frames.{added_more, put_behind, Places, Setting, at, kept_in_frame, Runs, After, Comes, a_form, given, weaker}
+use Rattle.lang_library_laws.proofs.Frames.{one_more, Places, Setting, at, kept_in_frame, Runs, After, Comes, a_form, given, weaker}
 use Rattle.lang_library_laws.proofs.Evaluates.{requests, Cell, object_in, fetched, cell_in, Results, no_arguments_left, argument_and, comes_prim}
 
 module _ {s : Setting} {places : Places} {k : ℕ} {frame : List Value} {store : List Object} {Q : Value → List Value → List Object → Type 0} where
@@ -81,10 +82,24 @@ module _ {s : Setting} {places : Places} {k : ℕ} {frame : List Value} {store :
       → Comes s places (a_form k (prim Cons (two f g))) frame store Q
   comes_cons {f} {g} c = comes_prim (argument_and (weaker c (λ x fr st d. argument_and (weaker d (λ y fr st r. no_arguments_left (λ around z h.
       requests 2 0 z (λ entered. gives (object (length entered.store)) (stored (cons x y) (charged 2 entered))) (kept_in_frame h)
-      (given (object (length z.store)) (stored (cons x y) (charged 2 (with_words 2 0 z)))
+      (given (object (length z.store)) (stored (cons x y) (charged 2 (with_words 2 0 z))) (one_more (cons x y) z h)
+      (subst (λ (n : ℕ). Q (object n) fr (st ++ cons x y ∷ [])) (sym (ap length h.objects_are)) r))))))))
+
+  -- another second part of a cons, which is none of those that are kept
+  pub comes_set_cdr : {f g : Form}
+      → Comes s places (a_form k f) frame store (λ x fr st. Comes s places (a_form k g) fr st (λ y fr st.
+      (c : Cell st y) × IsExtended Object s.kept (slice_set st c.number (cons c.first x)) × Q x fr (slice_set st c.number (cons c.first x))))
+      → Comes s places (a_form k (prim SetCdr (two f g))) frame store Q
+  comes_set_cdr {f} {g} c = comes_prim (argument_and (weaker c (λ x fr st d. argument_and (weaker d (λ y fr st r. no_arguments_left (λ around z h.
+      let now : Object = cons r.0.first x in
+      let is : primitive s.names s.program SetCdr (x ∷ y ∷ []) z ≡ result x (changed r.0.number now z) =
+      ap (λ o. needs (as_cons o) (domain_error y cons_class z) (λ (p : Value × Value). result x (change y (cons p.0 x) z))) (fetched z h y ∙ cell_in r.0)
+      ∙ ap (λ u. result x (change u now z)) r.0.is in
+      subst (λ a. Runs s (After s Q) (answered (at s k) a around z)) (sym is)
+      (given x (changed r.0.number now z)
       (record {
-        objects_are = ap (λ os. os ++ cons x y ∷ []) h.objects_are;
-        extended = added_more h.extended (put_behind st (cons x y ∷ []));
+        objects_are = ap (λ os. slice_set os r.0.number now) h.objects_are;
+        extended = r.1;
         variables_are = h.variables_are;
         printed_are = h.printed_are;
         input_is = h.input_is;
@@ -92,4 +107,4 @@ module _ {s : Setting} {places : Places} {k : ℕ} {frame : List Value} {store :
         dynamics_are = h.dynamics_are;
         symbols_are = h.symbols_are;
       })
-      (subst (λ (n : ℕ). Q (object n) fr (st ++ cons x y ∷ [])) (sym (ap length h.objects_are)) r))))))))
+      r.2)))))))

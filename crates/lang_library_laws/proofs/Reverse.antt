@@ -1,149 +1,44 @@
--- `reverse`, and the loop that it is.
-use Rattle.std.proofs.Common.{inl, ◌≡◌, ◌≤◌, ◌<◌, ℕ, suc, ◌+◌, List, [], ◌∷◌, ◌++◌, refl, sym, ap, subst, ◌∙◌, Option, Some, None, length, reverse, slice_get, arith, append_assoc, append-nil, le_of_eq, le_trans}
-use Rattle.std.proofs.lemmas.Grind.{reverse_onto}
+-- `reverse`, by the loop that turns copies.
+use Rattle.std.proofs.Common.{◌≡◌, ℕ, suc, ◌+◌, List, [], ◌∷◌, refl, sym, ap, subst, ◌∙◌, None, length, reverse, arith, append-nil, le_of_eq}
 use Rattle.base.specs.Data as datum
-use Rattle.base.specs.declared.datum.Name.{Name}
-use Rattle.lang_meaning.specs.declared.program.ProgramRows.{ProgramRows}
 use Rattle.lang_meaning.specs.Form.{literal, local, call, sequence}
-use Rattle.lang_meaning.specs.Values.{Value, nil, object, is_true, truth, same}
-use Rattle.lang_meaning.specs.Objects.{Object, cons}
-use Rattle.lang_meaning.specs.State.{State, DynamicContext, Limit}
-use Rattle.lang_meaning.specs.Lookup.{under_number}
-use Rattle.lang_meaning.specs.Signals.{Signals, apply_procedure}
+use Rattle.lang_meaning.specs.Values.{Value, nil}
+use Rattle.lang_meaning.specs.Objects.{Object}
+use Rattle.lang_meaning.specs.Signals.{apply_procedure}
 use Rattle.lang_library_laws.specs.Lists.{IsListFrom, IsProperList}
 use Rattle.lang_library_laws.specs.Applications as Applied
 use Rattle.lang_library_laws.specs.Applications.{IsExtended, at_level, IsNamed}
-use Rattle.lang_library_laws.specs.ListBodies.{one, two, not_null, turn_copy_turn, turn_copy_loop, turn_copy_onto}
+use Rattle.lang_library_laws.specs.ListBodies.{one, two, turn_copy_onto}
 use Rattle.lang_library_laws.specs.Laws.{LawOfReverse}
-use Rattle.lang_library_laws.proofs.Frames.{put_behind, get_last, Places, Setting, Comes, a_form, in_order, at_frame}
-use Rattle.lang_library_laws.proofs.Evaluates.{comes_local, comes_set, comes_literal, comes_sequence, then_nothing, first_then, no_arguments_left, argument_and}
-use Rattle.lang_library_laws.proofs.OfPrimitives.{comes_car, comes_cdr, comes_null, comes_cons}
-use Rattle.lang_library_laws.proofs.Loops.{Turns, Stops, loops}
-use Rattle.lang_library_laws.proofs.Applies.{setting, applies, called, comes_call}
-use Rattle.lang_library_laws.proofs.ListsKept.{cell_of, list_kept, no_shorter, here, behind_first}
+use Rattle.lang_library_laws.proofs.Frames.{nothing_added, same_objects}
+use Rattle.lang_library_laws.proofs.Evaluates.{comes_local, comes_literal, comes_sequence, then_nothing, first_then, no_arguments_left, argument_and}
+use Rattle.lang_library_laws.proofs.Applies.{applies, called, comes_call}
+use Rattle.lang_library_laws.proofs.Falling.{turned_onto, turned_is_reverse, IsFalling, falling_list}
+use Rattle.lang_library_laws.proofs.TurnCopy.{turn_copy_gives}
+use Rattle.lang_library_laws.proofs.ListsKept.{here}
 
--- items in the other order in front of others
-abbrev turned_onto : List Value → List Value → List Value
-turned_onto [] ys = ys
-turned_onto (x ∷ xs) ys = turned_onto xs (x ∷ ys)
-
-turned_is_reverse : (xs ys : List Value) → turned_onto xs ys ≡ reverse xs ++ ys
-turned_is_reverse [] ys = refl
-turned_is_reverse (x ∷ xs) ys =
-    turned_is_reverse xs (x ∷ ys) ∙ sym (ap (λ us. us ++ ys) (reverse_onto xs x []) ∙ append_assoc (reverse xs) (x ∷ []) ys)
-
-module _ (s : Setting) (v first : ℕ) (all : List Value) where
-  abbrev vars : Places
-  vars = (v, 0) ∷ (v + 1, 1) ∷ []
-
-  at_list : under_number v vars ≡ Some 0
-  at_list = here v 0 ((v + 1, 1) ∷ [])
-
-  at_end : under_number (v + 1) vars ≡ Some 1
-  at_end = behind_first v 1 0 ((v + 1, 1) ∷ []) (omega arith) (here (v + 1) 1 [])
-
-  -- before each turn the items that are left, turned onto those that are done, are all
-  pub record Turned (left : List Value) (frame : List Value) (store : List Object) : Type 0 where
-    pub list : Value
-    pub end : Value
-    pub done : List Value
-    pub frame_is : frame ≡ list ∷ end ∷ []
-    pub in_front : IsProperList store list left
-    pub behind : IsListFrom first store end done
-    pub first_is : first ≤ length store
-    pub all_is : turned_onto left done ≡ all
-
-  tests : {k : ℕ} (list end : Value) (store : List Object) (Q : Value → List Value → List Object → Type 0)
-      → Q (truth (same (truth (same list nil)) nil)) (list ∷ end ∷ []) store
-      → Comes s vars (a_form k (not_null (local v))) (list ∷ end ∷ []) store Q
-  tests {k} list end store Q q = comes_null (comes_null (comes_local v 0 at_list q))
-
-  turn : {k : ℕ} (x : Value) (xs : List Value) (list end : Value) (done : List Value) (store : List Object)
-      → IsProperList store list (x ∷ xs) → IsListFrom first store end done → first ≤ length store → turned_onto xs (x ∷ done) ≡ all
-      → Comes s vars (a_form k (turn_copy_turn v)) (list ∷ end ∷ []) store (λ ignored fr st. Turned xs fr st)
-  turn {k} x xs list end done store l b f a =
-      let made : Object = cons x end in
-      let now : List Object = store ++ made ∷ [] in
-      let grown : IsExtended Object store now = put_behind store (made ∷ []) in
-      let l' : IsProperList now list (x ∷ xs) = list_kept grown 0 list (x ∷ xs) l in
-      comes_sequence (first_then (comes_set (v + 1) 1 at_end
-      (comes_cons (comes_car (comes_local v 0 at_list (
-        cell_of 0 list x xs l,
-        comes_local (v + 1) 1 at_end
-            (first_then (comes_set v 0 at_list
-            (comes_cdr (comes_local v 0 at_list (
-              cell_of 0 list x xs l',
-              then_nothing (record {
-                list = l'.1;
-                end = object (length store);
-                done = x ∷ done;
-                frame_is = refl;
-                in_front = l'.5;
-                behind = (length store, end, refl, f, get_last store made, list_kept grown first end done b);
-                first_is = le_trans f (no_shorter grown);
-                all_is = a;
-              }),
-            ))))),
-      ))))))
-
-  module _ (Q : Value → List Value → List Object → Type 0)
-      (ends : (end : Value) (store : List Object) → IsListFrom first store end all → Q nil (nil ∷ end ∷ []) store) where
-    turns : Turns s vars (not_null (local v)) (turn_copy_turn v) Value 0 Turned Q
-    turns k x xs frame store short h =
-        at_frame h.frame_is (tests h.list h.end store _ (inl (
-          ap (λ u. is_true (truth (same (truth (same u nil)) nil))) h.in_front.2,
-          turn x xs h.list h.end h.done store h.in_front h.behind h.first_is h.all_is,
-        )))
-
-    stops : Stops s vars (not_null (local v)) (turn_copy_turn v) Value 0 Turned Q
-    stops k frame store short h =
-        at_frame h.frame_is (tests h.list h.end store _ (
-          ap (λ u. is_true (truth (same (truth (same u nil)) nil))) h.in_front,
-          subst (λ u. Q nil (u ∷ h.end ∷ []) store) (sym h.in_front)
-              (ends h.end store (subst (λ vs. IsListFrom first store h.end vs) h.all_is h.behind)),
-        ))
-
-  body_comes : (k : ℕ) (items done : List Value) (list end : Value) (store : List Object) → (k < length items → s.short)
-      → IsProperList store list items → IsListFrom first store end done → first ≤ length store → turned_onto items done ≡ all
-      → Comes s vars (a_form k (sequence (two (turn_copy_loop v) (local (v + 1))))) (list ∷ end ∷ []) store (λ w fr st. IsListFrom first st w all)
-  body_comes k items done list end store short l b f a =
-      let Q : Value → List Value → List Object → Type 0 = λ u fr st. Comes s vars (in_order k u (one (local (v + 1)))) fr st (λ w fr st. IsListFrom first st w all) in
-      let ends : (end : Value) (store : List Object) → IsListFrom first store end all → Q nil (nil ∷ end ∷ []) store =
-      λ end store g. first_then (comes_local (v + 1) 1 at_end (then_nothing g)) in
-      comes_sequence (first_then (loops s vars (not_null (local v)) (turn_copy_turn v) Value 0 Turned Q (turns Q ends) (stops Q ends)
-      items k (list ∷ end ∷ []) store (λ g. short (omega (arith, g)))
-      (record { list = list; end = end; done = done; frame_is = refl; in_front = l; behind = b; first_is = f; all_is = a })))
-
--- what the loop gives
-turn_copy_gives : (names : List (List ℕ)) (program : ProgramRows) (limit : Limit) (z : State) (name : Option Name) (v number : ℕ)
-    → slice_get program.procedures number ≡ Some (turn_copy_onto name v)
-    → (first : ℕ) (items done : List Value) (list end : Value) → IsProperList z.store list items → IsListFrom first z.store end done
-    → first ≤ length z.store → (k : ℕ) (wrong : Signals) (around : DynamicContext)
-    → Applied.Gives limit k (suc (length items)) z (λ w store. IsListFrom first store w (reverse items ++ done))
-    (apply_procedure (at_level names program limit k) wrong number None (list ∷ end ∷ []) around z)
-turn_copy_gives names program limit z name v number there first items done list end l b f =
-    applies names program limit z (length items) number name (v ∷ (v + 1) ∷ []) (sequence (two (turn_copy_loop v) (local (v + 1))))
-    (list ∷ end ∷ []) (λ w store. IsListFrom first store w (reverse items ++ done)) there (λ u. refl) refl
-    (λ levels. body_comes (setting names program limit z (suc levels) (suc (length items))) v first (reverse items ++ done) levels
-    items done list end z.store (λ g. omega (arith, g)) l b f (turned_is_reverse items done))
+-- what is turned onto nothing is in the other order
+reversed : (first : ℕ) (store : List Object) (w : Value) (items : List Value) → IsFalling first (length store) store w (turned_onto items [])
+    → IsListFrom first store w (reverse items)
+reversed first store w items h =
+    subst (λ vs. IsListFrom first store w vs) (turned_is_reverse items [] ∙ append-nil (reverse items))
+    (falling_list store first (length store) w (turned_onto items []) h)
 
 pub law_of_reverse : LawOfReverse
 law_of_reverse names program name name' v v' onto no_items number named constant there limit k wrong around z list items l =
-    let all : List Value = reverse items ++ [] in
-    let Gives : Value → List Object → Type 0 = λ w store. IsListFrom (length z.store) store w all in
+    let IsReverse : Value → List Object → Type 0 = λ w store. IsListFrom (length z.store) store w (reverse items) in
+    let IsTurned : Value → List Object → Type 0 = λ w store. IsFalling (length z.store) (length store) store w (turned_onto items []) in
     let enough : suc (suc (length items)) ≡ length items + 2 = omega arith in
-    subst (λ n. Applied.Gives limit k n z (λ w store. IsListFrom (length z.store) store w (reverse items))
-    (apply_procedure (at_level names program limit k) wrong number None (list ∷ []) around z)) enough
-    (subst (λ vs. Applied.Gives limit k (suc (suc (length items))) z (λ w store. IsListFrom (length z.store) store w vs)
-    (apply_procedure (at_level names program limit k) wrong number None (list ∷ []) around z)) (append-nil (reverse items))
-    (applies names program limit z (suc (length items)) number name (v ∷ []) (sequence (one (call onto (two (local v) (literal no_items)))))
-    (list ∷ []) Gives there (λ u. refl) refl
+    subst (λ n. Applied.Gives limit k n z IsReverse (apply_procedure (at_level names program limit k) wrong number None (list ∷ []) around z)) enough
+    (applies names program limit z z.store (suc (length items)) number name (v ∷ []) (sequence (one (call onto (two (local v) (literal no_items)))))
+    (list ∷ []) IsReverse (nothing_added z.store) there (λ u. refl) refl
     (λ levels.
     comes_sequence (first_then (comes_call (argument_and (comes_local v 0 (here v 0 []) (argument_and
     (comes_literal no_items (datum.item constant.0 datum.nil) nil constant.1 refl (no_arguments_left
-    (called Gives (suc (length items)) (λ g. omega (arith, g)) (λ w more now e g. then_nothing g)
+    (called IsTurned (suc (length items)) (λ g. omega (arith, g)) z.store (nothing_added z.store)
+    (λ w more now e g. then_nothing (reversed (length z.store) now w items g))
     onto (turn_copy_onto name' v') named (list ∷ nil ∷ []) (λ now h wrong around.
     turn_copy_gives names program limit now name' v' named.number named.there (length z.store) items [] list nil
     (subst (λ os. IsProperList os list items) (sym h.objects_are) l) refl
-    (le_of_eq (ap length (sym h.objects_are))) levels wrong around))))))))))
-    k wrong around))
+    (le_of_eq (ap length (sym h.objects_are))) z.store (same_objects (sym h.objects_are)) levels wrong around))))))))))
+    k wrong around)

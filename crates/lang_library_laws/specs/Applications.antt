@@ -21,10 +21,10 @@ pub record IsExtended (X : Type 0) (before after : List X) : Type 0 where
   pub added : List X
   pub is : after ≡ before ++ added
 
--- a later state, in which all objects and variables that were there are as they were, nothing was printed or read, and
+-- a later state, in which these objects and all variables that were there are as they were, nothing was printed or read, and
 -- nothing was defined
-pub record Keeps (before after : State) : Type 0 where
-  pub objects : IsExtended Object before.store after.store
+pub record Keeps (kept : List Object) (before after : State) : Type 0 where
+  pub objects : IsExtended Object kept after.store
   pub variables : IsExtended Value before.variables after.variables
   pub printed : after.printed ≡ before.printed
   pub input : after.input ≡ before.input
@@ -48,11 +48,15 @@ IsLimited (words w) = ⊤
 IsLimited unlimited = ⊥
 
 -- from a state, with so many levels: a value of which that holds in the store behind; or it is full, where words are limited, or
--- runs out of levels, where they are not enough. All that was there is kept.
+-- runs out of levels, where they are not enough. These objects are kept.
+abbrev pub GivesKeeping : List Object → Limit → (levels enough : ℕ) → State → (Value → List Object → Type 0) → Evaluated → Type 0
+GivesKeeping kept limit levels enough z Q r =
+    Ends (λ after. IsLimited limit × Keeps kept z after) (λ after. (levels < enough) × Keeps kept z after)
+    (λ v after. Keeps kept z after × Q v after.store) r
+
+-- the same, where all objects that were there are kept
 abbrev pub Gives : Limit → (levels enough : ℕ) → State → (Value → List Object → Type 0) → Evaluated → Type 0
-Gives limit levels enough z Q r =
-    Ends (λ after. IsLimited limit × Keeps z after) (λ after. (levels < enough) × Keeps z after)
-    (λ v after. Keeps z after × Q v after.store) r
+Gives limit levels enough z Q r = GivesKeeping z.store limit levels enough z Q r
 
 -- the meaning below a level, and what a form is evaluated in with so many levels
 abbrev pub below_level : List (List ℕ) → ProgramRows → Limit → ℕ → Task → Evaluation

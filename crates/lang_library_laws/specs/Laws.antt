@@ -9,14 +9,23 @@ use Rattle.lang_meaning.specs.State.{State, DynamicContext, Evaluated, value, Li
 use Rattle.lang_meaning.specs.Signals.{Signals, apply_procedure}
 use Rattle.lang_library_laws.specs.Lists.{IsListFrom, IsProperList, IsBehind, from_item, HaveKeys, with_key}
 use Rattle.lang_library_laws.specs.Applications.{Keeps, Gives, at_level, HasLiteral, HasTruth, IsNamed}
-use Rattle.lang_library_laws.specs.ListBodies.{turn_copy_onto, reverse_function, list_length, length_function, memv, member_function, assoc_function}
+use Rattle.lang_library_laws.specs.ListBodies.{list_function, turn_copy_onto, reverse_function, list_length, length_function, memv, member_function, assoc_function}
 
 -- with unlimited words and enough levels there is a value, whatever is said of it
 abbrev pub LawOfEnough : Type 0
 LawOfEnough =
     (levels enough : ℕ) (z : State) (r : Evaluated)
     → Gives unlimited levels enough z (λ v store. ⊤) r → enough ≤ levels
-    → (v : Value) × (r.outcome ≡ value v) × Keeps z r.state
+    → (v : Value) × (r.outcome ≡ value v) × Keeps z.store z r.state
+
+-- `(list object ..)` is a new list of the objects
+abbrev pub LawOfList : Type 0
+LawOfList =
+    (names : List (List ℕ)) (program : ProgramRows) (name : Option Name) (v number : ℕ)
+    → slice_get program.procedures number ≡ Some (list_function name v)
+    → (limit : Limit) (k : ℕ) (wrong : Signals) (around : DynamicContext) (z : State) (items : List Value)
+    → Gives limit k 1 z (λ w store. IsListFrom (length z.store) store w items)
+    (apply_procedure (at_level names program limit k) wrong number None items around z)
 
 -- `(reverse list)` is a new list of the items in the other order
 abbrev pub LawOfReverse : Type 0

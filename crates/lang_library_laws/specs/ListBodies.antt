@@ -1,9 +1,9 @@
 -- Functions of the library as procedures: what their texts are read as. A procedure's variables are numbered from one on, and names and literals
 -- have the numbers that they happen to have.
-use Rattle.std.specs.Prelude.{ℕ, ◌+◌, List, [], ◌∷◌, Option, None}
+use Rattle.std.specs.Prelude.{ℕ, ◌+◌, List, [], ◌∷◌, Option, Some, None}
 use Rattle.base.specs.declared.datum.Name.{Name}
 use Rattle.lang_meaning.specs.declared.program.Procedure.{Procedure}
-use Rattle.lang_meaning.specs.declared.primitive.Primitive.TheVariants.{Add, Same, IsNull, IsCons, IsString, IsVector, Cons, Car, Cdr, StringLength, VectorLength}
+use Rattle.lang_meaning.specs.declared.primitive.Primitive.TheVariants.{Add, Same, IsNull, IsCons, IsString, IsVector, Cons, Car, Cdr, SetCdr, StringLength, VectorLength}
 use Rattle.lang_meaning.specs.Form.{Form, Forms, no_form, form_and, ClauseForms, no_clause, clause_and, no_body, with_body, no_binding, binding_and}
 use Rattle.lang_meaning.specs.Form.{literal, local, set_local, clauses, sequence, let_form, call, prim, while_form}
 
@@ -15,6 +15,10 @@ two f g = form_and f (form_and g no_form)
 
 abbrev pub a_procedure : Option Name → List ℕ → Form → Procedure
 a_procedure name required body = record { name = name; required = required; rest = None; body = body }
+
+-- (defun list (:rest items) items)
+abbrev pub list_function : Option Name → ℕ → Procedure
+list_function name v = record { name = name; required = []; rest = Some v; body = sequence (one (local v)) }
 
 -- (not f), which is (null f)
 abbrev pub not_form : Form → Form
@@ -54,6 +58,27 @@ turn_copy_loop v = while_form (not_null (local v)) (turn_copy_turn v)
 
 abbrev pub turn_copy_onto : Option Name → ℕ → Procedure
 turn_copy_onto name v = a_procedure name (v ∷ (v + 1) ∷ []) (sequence (two (turn_copy_loop v) (local (v + 1))))
+
+-- (defun %turn-onto (list end)
+--   (while (not (null list))
+--     (let ((rest (cdr list)))
+--       (set-cdr end list)
+--       (setq end list)
+--       (setq list rest)))
+--   end)
+abbrev pub turn_rest : ℕ → Form
+turn_rest v =
+    sequence (form_and (prim SetCdr (two (local (v + 1)) (local v)))
+    (two (set_local (v + 1) (local v)) (set_local v (local (v + 2)))))
+
+abbrev pub turn_turn : ℕ → Form
+turn_turn v = sequence (one (let_form (binding_and (v + 2) (prim Cdr (one (local v))) no_binding) (turn_rest v)))
+
+abbrev pub turn_loop : ℕ → Form
+turn_loop v = while_form (not_null (local v)) (turn_turn v)
+
+abbrev pub turn_onto : Option Name → ℕ → Procedure
+turn_onto name v = a_procedure name (v ∷ (v + 1) ∷ []) (sequence (two (turn_loop v) (local (v + 1))))
 
 -- (defun reverse (list) (%turn-copy-onto list nil))
 abbrev pub reverse_function : Option Name → ℕ → (turn_copy_onto no_items : ℕ) → Procedure

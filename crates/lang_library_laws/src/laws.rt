@@ -1,11 +1,16 @@
 // What functions of the library give for all proper lists, as the contracts of functions that do nothing.
 
-ghost use Rattle.lang_library_laws.specs.Laws.{LawOfAssoc, LawOfEnough, LawOfLength, LawOfMember, LawOfReverse};
+ghost use Rattle.lang_library_laws.specs.Laws.{LawOfAssoc, LawOfEnough, LawOfLength, LawOfList, LawOfMember, LawOfReverse};
 ghost use Rattle.lang_library_laws.specs.Worked.{IsMet, Works};
 
 /// What a law says that an application gives, it gives where words are unlimited and levels are enough.
 pub fn law_enough()
     ensures { LawOfEnough }
+{}
+
+/// The law of `list`: it gives a new list of its arguments.
+pub fn law_list()
+    ensures { LawOfList }
 {}
 
 /// The law of `reverse`: of a proper list it gives a new list of the items in the other order.
