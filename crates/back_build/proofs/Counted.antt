@@ -14,9 +14,9 @@ module _ {X : Type 0} (count : List X → ℕ) (one : X → ℕ) (next : (x : X)
   at_next : (xs : List X) (i : ℕ) (x : X) → slice_get xs i ≡ Some x → count (drop i xs) ≡ one x + count (drop (i + 1) xs)
   at_next xs i x here = ap count (there xs i x here) ∙ next x (drop (suc i) xs) ∙ sym (ap (λ (k : ℕ). one x + count (drop k xs)) (add-one i))
 
-  -- one more is counted
-  pub more_counted : (xs : List X) (i : ℕ) (x : X) (n m sum : ℕ) → slice_get xs i ≡ Some x → m ≡ one x → sum ≡ n + m
-      → n + count (drop i xs) ≡ count xs → sum + count (drop (i + 1) xs) ≡ count xs
+  -- no more than there is
+  pub more_counted : (xs : List X) (i : ℕ) (x : X) (n m sum : ℕ) → slice_get xs i ≡ Some x → m ≤ one x → sum ≤ n + m
+      → n + count (drop i xs) ≤ count xs → sum + count (drop (i + 1) xs) ≤ count xs
   more_counted xs i x n m sum here h s before = let e = at_next xs i x here in omega (arith, e, h, s, before)
 
   -- just what there is

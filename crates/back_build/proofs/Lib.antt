@@ -1,6 +1,5 @@
 mod WholeMeaning
 mod Counted
-mod Listed
 mod Named
 mod Lowered
 mod First

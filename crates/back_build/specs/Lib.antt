@@ -4,5 +4,4 @@ pub mod Built
 pub mod Compiled
 pub mod Inside
 pub mod Named
-pub mod Counted
 pub mod Faults
