@@ -14,7 +14,6 @@ use Rattle.mid_code.specs.declared.program.MidProgram.{MidProgram}
 use Rattle.mid_arena.specs.Layouts.{AreBytes}
 use Rattle.mid_lines.specs.Flattened.{program_lines, procedure_lines}
 use Rattle.mid_lines.specs.declared.line.LineProgram.{LineProgram}
-use Rattle.back_lowering.specs.Program.{lowered}
 use Rattle.back_relation.specs.Setting.{FramesWithin}
 use Rattle.back_layout.specs.Layout.{laid_out}
 use Rattle.back_layout.specs.ChosenPlaces.{placed_decided, placed_laid_out}

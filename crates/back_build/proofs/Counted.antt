@@ -1,5 +1,5 @@
 -- What is counted of a list, item by item: what was counted, and what is left.
-use Rattle.std.proofs.Common.{◌≡◌, ℕ, suc, ◌+◌, ◌≤◌, List, [], ◌∷◌, ◌++◌, Some, length, drop, slice_get, refl, ap, sym, ◌∙◌, add-one, arith}
+use Rattle.std.proofs.Common.{◌≡◌, ℕ, suc, ◌+◌, ◌≤◌, List, [], ◌∷◌, ◌++◌, Some, length, drop, slice_get, ap, sym, ◌∙◌, add-one, arith}
 use Rattle.flat_language.specs.declared.flat_core.FlatClause.{FlatClause}
 use Rattle.flat_language.specs.declared.place.Home.{Home}
 use Rattle.flat_language.specs.declared.place.Home.TheVariants.{Slot, Boxed}
@@ -14,9 +14,9 @@ module _ {X : Type 0} (count : List X → ℕ) (one : X → ℕ) (next : (x : X)
   at_next : (xs : List X) (i : ℕ) (x : X) → slice_get xs i ≡ Some x → count (drop i xs) ≡ one x + count (drop (i + 1) xs)
   at_next xs i x here = ap count (there xs i x here) ∙ next x (drop (suc i) xs) ∙ sym (ap (λ (k : ℕ). one x + count (drop k xs)) (add-one i))
 
-  -- no more than there is
-  pub more_counted : (xs : List X) (i : ℕ) (x : X) (n m sum : ℕ) → slice_get xs i ≡ Some x → m ≤ one x → sum ≤ n + m
-      → n + count (drop i xs) ≤ count xs → sum + count (drop (i + 1) xs) ≤ count xs
+  -- one more is counted
+  pub more_counted : (xs : List X) (i : ℕ) (x : X) (n m sum : ℕ) → slice_get xs i ≡ Some x → m ≡ one x → sum ≡ n + m
+      → n + count (drop i xs) ≡ count xs → sum + count (drop (i + 1) xs) ≡ count xs
   more_counted xs i x n m sum here h s before = let e = at_next xs i x here in omega (arith, e, h, s, before)
 
   -- just what there is

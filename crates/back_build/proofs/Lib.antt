@@ -1,5 +1,6 @@
 mod WholeMeaning
 mod Counted
+mod Listed
 mod Named
 mod Lowered
 mod First
@@ -7,3 +8,4 @@ mod Entry
 mod Compiled
 mod Built
 mod Tested
+mod Failing

@@ -1,11 +1,11 @@
 -- What an image does in words of a flat program's meaning, in words of the whole program that was made flat.
-use Rattle.std.proofs.Common.{inl, inr, ◌≡◌, ◌⊎◌, ℕ, ◌+◌, ◌*◌, ◌^◌, ◌<◌, ◌≤◌, List, length, refl, sym, ap, subst, ◌∙◌, arith, Some}
+use Rattle.std.proofs.Common.{inl, inr, ◌≡◌, ◌⊎◌, ℕ, ◌+◌, ◌*◌, ◌^◌, ◌<◌, ◌≤◌, List, length, refl, sym, ap, subst, ◌∙◌, arith}
 use Rattle.std.specs.Prelude.{true, slice_index}
 use Rattle.base.specs.declared.place.Place.{Place}
 use Rattle.lang_meaning.specs.declared.program.ProgramRows.{ProgramRows}
 use Rattle.lang_meaning.specs.Counts.{bound}
 use Rattle.lang_meaning.specs.Facts.{is_whole}
-use Rattle.lang_meaning.specs.Meaning.{Meant, End, meaning, ended_value, ended_unhandled, ended_full, ended_more, class_in, place_of_site}
+use Rattle.lang_meaning.specs.Meaning.{Meant, End, meaning, ended_value, ended_unhandled, ended_full, ended_more, place_of_site}
 use Rattle.lang_meaning.specs.Prefixes.{IsPrefix}
 use Rattle.lang_meaning.specs.State.{Limit, words, unlimited}
 use Rattle.lang_meaning.specs.Values.{Value}
@@ -14,15 +14,15 @@ use Rattle.flat_language.specs.FlatMeaning.{flat_meaning}
 use Rattle.flat_language.specs.FlatNodes.{tables}
 use Rattle.flat_language.specs.declared.program.FlatProgram.{FlatProgram}
 use Rattle.flat_language.specs.Law.{SameRun, LawOfClosures}
-use Rattle.rv_machine.specs.declared.ending.Ending.TheVariants.{Budget, Halt, Unhandled, Full}
+use Rattle.rv_machine.specs.declared.ending.Ending.TheVariants.{Halt, Unhandled}
 use Rattle.rv_machine.specs.Run.{Ended, run_of}
 use Rattle.mid_code.specs.State.{MidState}
 use Rattle.mid_arena.specs.Represents.{Represents}
 use Rattle.back_relation.specs.Setting.{Setting}
 use Rattle.back_relation.specs.Worlds.{World}
 use Rattle.back_claims.specs.Program.{ProgramBegins, meant_by, the_meaning, IsFullEnd}
-use Rattle.back_meant.specs.Laws.{with_limits, HaltsAs, UnhandledAs, EndsWell, HasTurns, MeantRuns}
-use Rattle.back_build.specs.Means.{Holds, HasWord, HaltsWith, EndsUnhandled, EndsFull, IsFull, ImageMeans}
+use Rattle.back_meant.specs.Laws.{with_limits, HaltsAs, UnhandledAs, EndsWell, MeantRuns}
+use Rattle.back_build.specs.Means.{Holds, HaltsWith, EndsUnhandled, EndsFull, IsFull}
 use Rattle.back_build.specs.Laws.{LawOfWholeMeaning}
 
 module _ (closures : LawOfClosures) (program : ProgramRows) (base : Setting) (whole : is_whole program ≡ true) (flat : base.program ≡ flat_program program)

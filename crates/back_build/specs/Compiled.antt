@@ -3,7 +3,6 @@ use Rattle.std.specs.Prelude.{◌≡◌, ◌<◌, ◌≤◌, ℕ, ◌-◌, ◌*�
 use Rattle.base.specs.Names.{IsTable}
 use Rattle.lang_meaning.specs.declared.program.ProgramRows.{ProgramRows}
 use Rattle.lang_meaning.specs.Facts.{is_whole}
-use Rattle.lang_meaning.specs.State.{words}
 use Rattle.flat_language.specs.Flatten.{flat_program}
 use Rattle.flat_boxes.specs.Boxes.{ProgramBoxes}
 use Rattle.mid_code.specs.declared.program.MidProcedure.{MidProcedure}

@@ -4,4 +4,5 @@ pub mod Built
 pub mod Compiled
 pub mod Inside
 pub mod Named
+pub mod Counted
 pub mod Faults

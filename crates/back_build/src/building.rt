@@ -1,12 +1,13 @@
 // A whole program compiled to an image.
 
-ghost use Rattle.std.specs.Prelude.{◌≡◌, true, IsTrue, IfOk};
+ghost use Rattle.std.specs.Prelude.{◌≡◌, ◌≤◌, ◌↔◌, true, length, IsTrue, IfOk, IfErr};
 ghost use Rattle.lang_meaning.specs.declared.program.ProgramRows.{ProgramRows as program_rows};
 ghost use Rattle.lang_meaning.specs.Facts.{is_whole};
 ghost use Rattle.flat_language.specs.Flatten.{flat_program};
 ghost use Rattle.mid_start.specs.Rows.{RowsFit};
 ghost use Rattle.back_words.specs.Asked.{NamesAsked};
 ghost use Rattle.back_build.specs.Compiled.{IsImageMade};
+ghost use Rattle.back_build.specs.Faults.{Fails, FailsFlat, FailsLowered};
 ghost use Rattle.back_build.specs.Means.{IsBuilt};
 
 use crate::boxes::boxes_are_captured;
@@ -26,16 +27,21 @@ use mid_start::law_whole_rows;
 use rv_machine::Image;
 use std::alloc::Global;
 
-/// The image of a program with these names: in every arena that has room for it, it does what the program means.
+/// The image of a program with these names: in every arena that has room for it, it does what the program means. `TooLarge`: a part of the
+/// words laid beside the code is too large, or the image would have 2^24 words or more. `FrameTooSmall`: a frame of the lowered program has not
+/// a word for each register. `NotInForm`: a name is not in the table, has the text of nil, or none has that of t; more variables have boxes
+/// than functions capture; or the lowered code is not in form.
 pub fn build(alloc: Global, program: &Program, names: &Names) -> Result<Image, BuildFault>
-    ensures { IfOk result (λ image. IsBuilt names.now program.now image) }
+    ensures image { IfOk result (λ image. IsBuilt names.now program.now image) }
+    ensures fault { IfErr result (λ e. Fails names.now program.now e) }
 {
     law_whole_rows();
     let rows = program.rows();
     let Some(true_name) = name_of_true(names) else {
         return Err(BuildFault::NotInForm);
     };
-    if !are_names_there(names, true_name, rows) {
+    let are = are_names_there(names, true_name, rows)?;
+    if !are {
         return Err(BuildFault::NotInForm);
     }
     let flat = flatten(alloc, program)?;
@@ -52,11 +58,13 @@ fn build_flat(
     flat: &FlatProgram,
 ) -> Result<Image, BuildFault>
     requires { RowsFit names.now true_name flat.now.classes flat.now.functions flat.now.literals }
-    ensures { IfOk result (λ image. (program : program_rows) → is_whole program ≡ true → flat.now ≡ flat_program program → IsBuilt names.now program image) }
+    ensures image { IfOk result (λ image. (program : program_rows) → is_whole program ≡ true → flat.now ≡ flat_program program → IsBuilt names.now program image) }
+    ensures fault { IfErr result (λ e. FailsFlat names.now flat.now e) }
 {
     law_built();
     let _count = names.len();
-    if !boxes_are_captured(flat) {
+    let captured = boxes_are_captured(flat)?;
+    if !captured {
         return Err(BuildFault::NotInForm);
     }
     let asked = are_names_asked(alloc, names, flat)?;
@@ -69,7 +77,7 @@ fn build_flat(
 
 // Whether the names that forms use are in the table.
 fn are_names_asked(alloc: Global, names: &Names, flat: &FlatProgram) -> Result<bool, NoMemory>
-    ensures { IfOk result (λ are. IsTrue are → NamesAsked names.now flat.now) }
+    ensures { IfOk result (λ are. IsTrue are ↔ NamesAsked names.now flat.now) }
 {
     let tables = tables_of(alloc, names, flat)?;
     let used = used_names(alloc, names, flat, &tables.rows, tables.unnamed)?;
@@ -78,7 +86,9 @@ fn are_names_asked(alloc: Global, names: &Names, flat: &FlatProgram) -> Result<b
 
 // The image of a program that was lowered; its start is the last of its procedures.
 fn image_of(alloc: Global, lowered: LoweredProgram) -> Result<Image, BuildFault>
-    ensures { IfOk result (λ image. IsImageMade lowered image) }
+    requires { 1 ≤ length lowered.procedures }
+    ensures image { IfOk result (λ image. IsImageMade lowered image) }
+    ensures fault { IfErr result (λ e. FailsLowered lowered e) }
 {
     let LoweredProgram { procedures, words } = lowered;
     let data = words.data;
@@ -86,7 +96,7 @@ fn image_of(alloc: Global, lowered: LoweredProgram) -> Result<Image, BuildFault>
     let laid = arena.words;
     let program = MidProgram { procedures, laid };
     let count = program.procedures.len();
-    if count == 0 || !program.check() {
+    if !program.check() {
         return Err(BuildFault::NotInForm);
     }
     Ok(emit(alloc, &program, count - 1)?)

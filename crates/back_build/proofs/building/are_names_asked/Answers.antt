@@ -6,4 +6,4 @@ pub used_names-requires : goal.used_names-requires
 used_names-requires c = functions_tabled c.args.names.now c.args.flat.now c.in_ok-tables.tables c.in_ok-tables.ensures
 
 pub returns : goal.returns
-returns c = (c.are_in_table.ensures c.args.flat.now c.in_ok-used.ensures).0
+returns c = c.are_in_table.ensures c.args.flat.now c.in_ok-used.ensures

@@ -14,27 +14,27 @@ use Rattle.back_build.proofs.captured.+captured.Goals as goal
 pub captured_in_forms-loop-at-preserved : goal.captured_in_forms-loop-at-preserved
 captured_in_forms-loop-at-preserved t c =
     more_counted (λ (xs : List FlatForm). total_of_forms captures_itself (forms xs)) captured_variables (λ x xs. refl) c.args.list.now c.loop-at.at
-    c.in-Some.form.now c.loop-at.count c.captured_in.result c.saturating_add-count.result c.in-Some.ensures c.captured_in.ensures
-    (omega (arith, c.saturating_add-count.ensures)) c.loop-at.invariant
+    c.in-Some.form.now c.loop-at.count c.in_ok-captured.captured c.in_ok-count.count c.in-Some.ensures c.in_ok-captured.ensures
+    c.in_ok-count.ensures c.loop-at.invariant
 
 pub captured_in_bindings-loop-at-preserved : goal.captured_in_bindings-loop-at-preserved
 captured_in_bindings-loop-at-preserved t c =
     more_counted (λ (xs : List FlatBinding). total_of_values captures_itself (bindings_of xs)) (λ (b : FlatBinding). captured_variables b.value) (λ x xs. refl)
-    c.args.list.now c.loop-at.at c.in-Some.binding.now c.loop-at.count c.captured_in.result c.saturating_add-count.result c.in-Some.ensures
-    c.captured_in.ensures (omega (arith, c.saturating_add-count.ensures)) c.loop-at.invariant
+    c.args.list.now c.loop-at.at c.in-Some.binding.now c.loop-at.count c.in_ok-captured.captured c.in_ok-count.count c.in-Some.ensures
+    c.in_ok-captured.ensures c.in_ok-count.ensures c.loop-at.invariant
 
 pub captured_in_dynamics-loop-at-preserved : goal.captured_in_dynamics-loop-at-preserved
 captured_in_dynamics-loop-at-preserved t c =
     more_counted (λ (xs : List FlatDynBinding). total_of_dynamics captures_itself (dynamics_of xs)) (λ (b : FlatDynBinding). captured_variables b.value)
-    (λ x xs. refl) c.args.list.now c.loop-at.at c.in-Some.binding.now c.loop-at.count c.captured_in.result c.saturating_add-count.result c.in-Some.ensures
-    c.captured_in.ensures (omega (arith, c.saturating_add-count.ensures)) c.loop-at.invariant
+    (λ x xs. refl) c.args.list.now c.loop-at.at c.in-Some.binding.now c.loop-at.count c.in_ok-captured.captured c.in_ok-count.count c.in-Some.ensures
+    c.in_ok-captured.ensures c.in_ok-count.ensures c.loop-at.invariant
 
-pub captured_in_clauses-captured_in_body-body-requires : goal.captured_in_clauses-captured_in_body-body-requires
-captured_in_clauses-captured_in_body-body-requires t c = (omega (arith, clause_in_smaller c.args.list.now c.loop-at.at c.in-Some.clause.now c.in-Some.ensures), tt)
+pub captured_in_clauses-captured_in_body-requires : goal.captured_in_clauses-captured_in_body-requires
+captured_in_clauses-captured_in_body-requires t c = (omega (arith, clause_in_smaller c.args.list.now c.loop-at.at c.in-Some.clause.now c.in-Some.ensures), tt)
 
 pub captured_in_clauses-loop-at-preserved : goal.captured_in_clauses-loop-at-preserved
 captured_in_clauses-loop-at-preserved t c =
     more_counted (λ (xs : List FlatClause). total_of_clauses captures_itself (clauses_of xs)) of_clause next_clause
-    c.args.list.now c.loop-at.at c.in-Some.clause.now c.loop-at.count c.saturating_add.result c.saturating_add-count.result c.in-Some.ensures
-    (omega (arith, c.saturating_add.ensures, c.captured_in-test.ensures, c.captured_in_body-body.ensures)) (omega (arith, c.saturating_add-count.ensures))
+    c.args.list.now c.loop-at.at c.in-Some.clause.now c.loop-at.count c.in_ok-clause.clause c.in_ok-count.count c.in-Some.ensures
+    (omega (arith, c.in_ok-clause.ensures, c.in_ok-test.ensures, c.in_ok-body.ensures)) c.in_ok-count.ensures
     c.loop-at.invariant

@@ -1,5 +1,5 @@
--- The sizes of the forms fall; what was counted, with what is left, is no more than there is.
-use Rattle.std.proofs.Common.{◌+◌, ◌≤◌, drop}
+-- The sizes of the forms fall; what was counted, with what is left, is what there is.
+use Rattle.std.proofs.Common.{◌≡◌, ◌+◌, drop}
 use Rattle.flat_language.specs.FlatForm.{form_size, forms_size, clauses_size, body_size, bindings_size, dynamics_size}
 use Rattle.flat_language.specs.model.View.{forms, clauses_of, bindings_of, dynamics_of, maybe_form}
 use Rattle.flat_boxes.specs.Totals.{total_of_forms, total_of_clauses, total_of_values, total_of_dynamics}
@@ -26,16 +26,16 @@ decreases-captured_in_dynamics l = dynamics_size (dynamics_of l.list.now)
 
 abbrev pub invariant-captured_in_forms-loop-at : goal.invariant-captured_in_forms-loop-at
 invariant-captured_in_forms-loop-at l =
-    l.count + total_of_forms captures_itself (forms (drop l.at l.list)) ≤ total_of_forms captures_itself (forms l.list)
+    l.count + total_of_forms captures_itself (forms (drop l.at l.list)) ≡ total_of_forms captures_itself (forms l.list)
 
 abbrev pub invariant-captured_in_clauses-loop-at : goal.invariant-captured_in_clauses-loop-at
 invariant-captured_in_clauses-loop-at l =
-    l.count + total_of_clauses captures_itself (clauses_of (drop l.at l.list)) ≤ total_of_clauses captures_itself (clauses_of l.list)
+    l.count + total_of_clauses captures_itself (clauses_of (drop l.at l.list)) ≡ total_of_clauses captures_itself (clauses_of l.list)
 
 abbrev pub invariant-captured_in_bindings-loop-at : goal.invariant-captured_in_bindings-loop-at
 invariant-captured_in_bindings-loop-at l =
-    l.count + total_of_values captures_itself (bindings_of (drop l.at l.list)) ≤ total_of_values captures_itself (bindings_of l.list)
+    l.count + total_of_values captures_itself (bindings_of (drop l.at l.list)) ≡ total_of_values captures_itself (bindings_of l.list)
 
 abbrev pub invariant-captured_in_dynamics-loop-at : goal.invariant-captured_in_dynamics-loop-at
 invariant-captured_in_dynamics-loop-at l =
-    l.count + total_of_dynamics captures_itself (dynamics_of (drop l.at l.list)) ≤ total_of_dynamics captures_itself (dynamics_of l.list)
+    l.count + total_of_dynamics captures_itself (dynamics_of (drop l.at l.list)) ≡ total_of_dynamics captures_itself (dynamics_of l.list)
