@@ -6,7 +6,7 @@ ghost use Rattle.rv_machine.specs.declared.image.Image.{Image as AnyImage};
 ghost use Rattle.rv_image_file.specs.declared.faults.BadImage.{BadImage as AnyBadImage};
 ghost use Rattle.rv_image_file.specs.declared.faults.ImageStop.TheVariants as stop;
 ghost use Rattle.rv_image_file.specs.ImageText.{ImageText};
-ghost use Rattle.rv_image_file.specs.BadText.{version_in, words_end as words_end_of, BadText, HasNoFault};
+ghost use Rattle.rv_image_file.specs.BadText.{version_in, BadText, HasNoFault};
 
 use crate::faults::ImageStop;
 use crate::numbers::number_at;
