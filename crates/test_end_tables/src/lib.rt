@@ -5,6 +5,7 @@ mod definitions;
 mod fields;
 mod files;
 mod forms;
+mod images;
 mod instructions;
 mod machine;
 mod primitives;

@@ -62,11 +62,12 @@ const PRELUDE_TABLES: &[(&str, Preludes)] = &[
     ("definitions.txt", Preludes(Told::Definitions)),
 ];
 
-// The file of each table of instructions and the machine.
+// The file of each table of instructions, the machine and image files.
 const MACHINE_TABLES: &[(&str, MachineTable)] = &[
     ("words.txt", MachineTable::Words),
     ("fields.txt", MachineTable::Fields),
     ("runs.txt", MachineTable::Runs),
+    ("images.txt", MachineTable::Images),
 ];
 
 fn main(rt: HostRuntime) -> io::Result<()> {
