@@ -4,27 +4,77 @@ ghost use Rattle.std.specs.Prelude.{◌≡◌, ◌≤◌, length, None, IfOk};
 
 use crate::fault_count::FaultCount;
 use base::{Failed, Shelf};
+use std::alloc::Global;
 use std::io::{Read, Seek, SeekFrom};
 use std::rt::Files;
 use std::{fs, io};
 
-/// The files that a runtime reaches, each under its path. It tells no content. A file is open within
-/// a call alone; one that is missing, or is no file that can be read from a place on, is a fault.
+/// The files that a runtime reaches, each under its path. It tells no content. The file that was asked for last stays
+/// open, and is read on from where the last call ended, so a pipe is read too; a call that goes elsewhere seeks. One
+/// that is missing, or where a call goes elsewhere and it cannot be sought in, is a fault, behind which it is opened
+/// anew.
 #[derive(Drop)]
 pub struct FileShelf<'a, R: Files> {
     files: &'a R,
+    alloc: Global,
+    last: Option<OpenFile<R::File>>,
     faults: FaultCount,
 }
 
+// A file that is open under its name, and the place from which it is read on. Where memory for the name was wanting, it
+// has none, and is opened anew by the next call.
+#[derive(Drop)]
+struct OpenFile<F: Drop> {
+    name: Option<String>,
+    file: F,
+    at: u64,
+}
+
+impl<F: Drop> OpenFile<F> {
+    fn is_named(&self, name: &str) -> bool {
+        match &self.name {
+            Some(own) => own.as_str() == name,
+            None => false,
+        }
+    }
+}
+
 impl<'a, R: Files> FileShelf<'a, R> {
-    /// The files of that runtime; no call has failed yet.
-    pub fn new(files: &'a R) -> FileShelf<'a, R>
+    /// The files of that runtime; no call has failed yet, and no file is open.
+    pub fn new(files: &'a R, alloc: Global) -> FileShelf<'a, R>
         ensures { result.faults.raised ≡ 0 }
     {
         FileShelf {
             files,
+            alloc,
+            last: None,
             faults: FaultCount::new(),
         }
+    }
+
+    // Reads once from that place of the named file, which then stays open.
+    fn read_at(&mut self, name: &str, at: u64, buf: &mut [u8]) -> io::Result<usize>
+        ensures count { self.new.faults ≡ self.old.faults }
+        ensures bound { IfOk result (λ n. n ≤ length buf.old) }
+    {
+        let mut open = match self.last.take() {
+            Some(open) if open.is_named(name) => open,
+            other => {
+                drop(other);
+                OpenFile {
+                    name: String::from_str(self.alloc, name).ok(),
+                    file: fs::open(self.files, name)?,
+                    at: 0,
+                }
+            }
+        };
+        if open.at != at {
+            open.file.seek(SeekFrom::Start(at))?;
+        }
+        let count = open.file.read(buf)?;
+        open.at = at.saturating_add(count as u64);
+        self.last = Some(open);
+        Ok(count)
     }
 }
 
@@ -34,18 +84,9 @@ impl<'a, R: Files> Shelf for FileShelf<'a, R> {
     ghost faults = { λ s. s.faults.raised };
 
     fn read(&mut self, name: &str, at: u64, buf: &mut [u8]) -> Result<usize, Failed> {
-        match read_at(self.files, name, at, buf) {
+        match self.read_at(name, at, buf) {
             Ok(count) => Ok(count),
             Err(_) => Err(self.faults.raise()),
         }
     }
-}
-
-// Opens the file, goes to that place and reads once.
-fn read_at<R: Files>(files: &R, name: &str, at: u64, buf: &mut [u8]) -> io::Result<usize>
-    ensures { IfOk result (λ n. n ≤ length buf.old) }
-{
-    let mut file = fs::open(files, name)?;
-    file.seek(SeekFrom::Start(at))?;
-    file.read(buf)
 }
