@@ -4,6 +4,8 @@
 (defun twice (n) (* 2 n))
 (defglobal list '(1 2))
 (format (standard-output) "~S~%" (list (length list) 'list))
+(format (standard-output) "~S~%" (list "say \"a\"" "a\nb" '|A \| b|))
+(format (standard-output) "~S~%" (list (length "é") (convert #\newline <integer>) (eq 'Done 'done) (eq '|Done| 'done)))
 (defdynamic depth 1)
 (defun seen () (dynamic depth))
 (format (standard-output) "~S~%" (dynamic-let ((depth 2)) (seen)))
