@@ -1,0 +1,1 @@
+(funcall (block b (lambda () (return-from b 1))))

@@ -1,0 +1,1 @@
+(with-handler (lambda (c) 5) (car nil))

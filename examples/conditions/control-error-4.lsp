@@ -1,0 +1,1 @@
+(continue-condition (create (class <error>)))

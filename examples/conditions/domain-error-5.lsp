@@ -1,0 +1,1 @@
+(convert "12" <integer>)

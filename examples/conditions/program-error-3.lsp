@@ -1,0 +1,1 @@
+(format (standard-output) "~D")

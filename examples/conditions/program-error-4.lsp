@@ -1,0 +1,1 @@
+(create (class <list>))

@@ -1,0 +1,1 @@
+(domain-error-object (create (class <domain-error>)))

@@ -1,0 +1,1 @@
+(signal-condition (create (class <storage-exhausted>)) nil)

@@ -1,0 +1,1 @@
+(setq count 0)

@@ -1,0 +1,1 @@
+(report-condition 5 (standard-output))

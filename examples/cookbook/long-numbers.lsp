@@ -1,0 +1,18 @@
+; Numbers of any length: a list of digits, the last one first. What is carried never passes 30 bits.
+(defun times (digits n)
+  (let ((product nil) (carried 0))
+    (mapc (lambda (digit)
+            (let ((part (+ (* digit n) carried)))
+              (setq product (cons (mod part 10) product))
+              (setq carried (div part 10))))
+          digits)
+    (while (> carried 0)
+      (setq product (cons (mod carried 10) product))
+      (setq carried (div carried 10)))
+    (reverse product)))
+
+(for ((n 1 (+ n 1)) (factorial (list 1) (times factorial n)))
+     ((> n 25)
+      (format (standard-output) "25! is ")
+      (mapc (lambda (digit) (format (standard-output) "~D" digit)) (reverse factorial))
+      (format (standard-output) "~%")))

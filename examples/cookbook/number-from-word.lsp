@@ -1,0 +1,15 @@
+; The number that a word spells, nil where it spells none. It is put together below 0, since -536870912 has no opposite.
+(defun number-of (word)
+  (let* ((is-negative (and (> (length word) 0) (char= (elt word 0) #\-)))
+         (start (if is-negative 1 0))
+         (number (if (= start (length word)) nil 0)))
+    (for ((i start (+ i 1)))
+         ((or (null number) (= i (length word))))
+      (let ((digit (char-index (elt word i) "0123456789")))
+        (setq number (if digit (- (* 10 number) digit) nil))))
+    (cond ((null number) nil)
+          (is-negative number)
+          (t (- number)))))
+
+(mapc (lambda (word) (format (standard-output) "~S: ~S~%" word (number-of word)))
+      '("42" "-7" "007" "-536870912" "" "-" "4x" "x4"))
