@@ -1,0 +1,8 @@
+// The laws of the sizes of code, as the contracts of functions that do nothing.
+
+ghost use Rattle.back_code_sizes.specs.Laws.{LawOfFormSizes};
+
+/// The code of a form costs at most so many words for each of its nodes.
+pub fn law_form_sizes()
+    ensures { LawOfFormSizes }
+{}
