@@ -5,3 +5,5 @@ pub mod Calls
 pub mod Primitives
 pub mod Codes
 pub mod Forms
+pub mod Routines
+pub mod Programs
