@@ -1,5 +1,5 @@
 -- Whole programs: entries, bodies and main forms.
-use Rattle.std.proofs.Common.{◌≡◌, ℕ, zero, suc, ◌+◌, ◌*◌, ◌≤◌, Bool, true, false, List, [], ◌∷◌, ◌++◌, Option, Some, None, length, is_some, map, refl, arith, length-append}
+use Rattle.std.proofs.Common.{◌≡◌, ℕ, ◌+◌, ◌*◌, ◌≤◌, Bool, true, false, List, [], ◌∷◌, ◌++◌, length, is_some, map, arith, length-append}
 use Rattle.std.specs.Prelude.{if◌then◌else◌, sum_by, ◌||◌, option_to_list}
 use Rattle.std.proofs.lemmas.List.Sums.{sum_by-cons, sum_by-append}
 use Rattle.base.specs.AllOf.{AllOf}
@@ -7,9 +7,9 @@ use Rattle.flat_language.specs.declared.program.FlatProcedure.{FlatProcedure}
 use Rattle.flat_language.specs.declared.program.FlatProgram.{FlatProgram}
 use Rattle.flat_language.specs.FlatForm.{FlatForm}
 use Rattle.flat_language.specs.FlatFits.{Fits, ProgramFits}
-use Rattle.flat_language.specs.FlatNodes.{homes, nodes}
+use Rattle.flat_language.specs.FlatNodes.{homes}
 use Rattle.mid_code.specs.declared.program.MidProcedure.{MidProcedure}
-use Rattle.mid_code.specs.MidCode.{return_word, halt_with, code_of}
+use Rattle.mid_code.specs.MidCode.{return_word, halt_with}
 use Rattle.mid_arena.specs.CodeCosts.{procedure_cost}
 use Rattle.back_lowering.specs.ControlWords.{site_address}
 use Rattle.back_lowering.specs.Scope.{registers_from}
@@ -20,7 +20,7 @@ use Rattle.back_lowering.specs.Steps.{Steps, call, load_from, words_loaded}
 use Rattle.back_lowering.specs.Leaves.{boxes_made}
 use Rattle.back_lowering.specs.Codes.{lower}
 use Rattle.back_lowering.specs.Program.{Extra, nothing, its_method, itself, extra_count, level_judged, rest_made, method_kept, entry_extras, rest_register, entry, site_register, scope_of, site_taken, body_of, extra_of, entries_from, lambda_entries_from, bodies_from, lambda_bodies, main_scope, main_form, mains_called, mains_from, start, primitives, routines, lowered}
-use Rattle.back_code_sizes.specs.Sizes.{words_of_node, words_of_parameter, words_of_function, words_of_main, words_of_routines, functions_of, function_words, words_of_code}
+use Rattle.back_code_sizes.specs.Sizes.{form_words, function_words, main_words, program_words}
 use Rattle.back_code_sizes.specs.Laws.{procedures_cost, LawOfCodeSizes}
 use Rattle.back_code_sizes.proofs.Costs.{cost, append_cost, if_cost, load_from_cost, words_loaded_cost}
 use Rattle.back_code_sizes.proofs.Leaves.{boxes_cost}
@@ -94,7 +94,7 @@ module _ (names : List (List ℕ)) (at : Placement) (program : FlatProgram) wher
 
   body_costs :
       (extra : Extra) (q : FlatProcedure) → Fits program q.body
-      → procedure_cost (body_of names at program extra q) ≤ 66 + 46 * length (homes q) + words_of_node * nodes q.body
+      → procedure_cost (body_of names at program extra q) ≤ 66 + 46 * length (homes q) + form_words q.body
   body_costs extra q h =
       let r = site_register names at program extra q in
       let inside : Steps = (lower names at program (scope_of names at program extra q) (r + 1) q.body).value in
@@ -112,7 +112,7 @@ module _ (names : List (List ℕ)) (at : Placement) (program : FlatProgram) wher
         extras_count extra,
       )
 
-  main_costs : (f : FlatForm) → Fits program f → procedure_cost (main_form names at program f) ≤ 258 + words_of_node * nodes f
+  main_costs : (f : FlatForm) → Fits program f → procedure_cost (main_form names at program f) ≤ 258 + form_words f
   main_costs f h =
       let w = form_within names at program (main_scope names at program) 8 f h in
       omega (arith, w.value, append_cost (lower names at program (main_scope names at program) 8 f).value (return_word 8 ∷ []))
@@ -149,9 +149,9 @@ module _ (names : List (List ℕ)) (at : Placement) (program : FlatProgram) wher
 
   mains_cost :
       (fs : List FlatForm) → AllOf (Fits program) fs
-      → procedures_cost (map (main_form names at program) fs) ≤ words_of_node * sum_by nodes fs + 258 * length fs
+      → procedures_cost (map (main_form names at program) fs) + 40 * length fs ≤ sum_by main_words fs
   mains_cost [] h = omega arith
-  mains_cost (f ∷ fs) h = omega (arith, main_costs f h.0, mains_cost fs h.1, sum_by-cons nodes f fs)
+  mains_cost (f ∷ fs) h = omega (arith, main_costs f h.0, mains_cost fs h.1, sum_by-cons main_words f fs)
 
   mains_called_cost : (n : ℕ) (fs : List FlatForm) → cost (mains_called names at program n fs) ≡ 40 * length fs
   mains_called_cost n [] = omega arith
@@ -163,7 +163,7 @@ module _ (names : List (List ℕ)) (at : Placement) (program : FlatProgram) wher
       omega (arith, append_cost called (halt_with 0 ∷ []), mains_called_cost (mains_from names at program) program.main)
 
   -- all together
-  all_cost : ProgramFits program → procedures_cost (lowered names at program) ≤ words_of_code program
+  all_cost : ProgramFits program → procedures_cost (lowered names at program) ≤ program_words program
   unfolding lowered
   all_cost h =
       let entries = entries_from names at program 0 program.procedures in

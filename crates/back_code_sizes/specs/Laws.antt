@@ -1,9 +1,8 @@
 -- How many words the code of a flat program costs at most.
-use Rattle.std.specs.Prelude.{◌≤◌, ℕ, ◌+◌, ◌*◌, List, [], ◌∷◌}
+use Rattle.std.specs.Prelude.{◌≤◌, ℕ, ◌+◌, List, [], ◌∷◌}
 use Rattle.flat_language.specs.declared.program.FlatProgram.{FlatProgram}
 use Rattle.flat_language.specs.FlatForm.{FlatForm}
 use Rattle.flat_language.specs.FlatFits.{Fits, ProgramFits}
-use Rattle.flat_language.specs.FlatNodes.{nodes}
 use Rattle.mid_code.specs.declared.program.MidProcedure.{MidProcedure}
 use Rattle.mid_code.specs.MidCode.{code_of}
 use Rattle.mid_arena.specs.CodeCosts.{code_cost, procedure_cost}
@@ -11,13 +10,13 @@ use Rattle.back_lowering.specs.declared.placement.Placement.{Placement}
 use Rattle.back_lowering.specs.declared.scope.Scope.{Scope}
 use Rattle.back_lowering.specs.Codes.{lower}
 use Rattle.back_lowering.specs.Program.{lowered}
-use Rattle.back_code_sizes.specs.Sizes.{words_of_node, words_of_code}
+use Rattle.back_code_sizes.specs.Sizes.{form_words, program_words}
 
--- the code of a form, wherever words are laid and whatever is around it
+-- the code of a form costs no more than its words, wherever words are laid and whatever is around it
 abbrev pub LawOfFormSizes : Type 0
 LawOfFormSizes =
     (names : List (List ℕ)) (at : Placement) (program : FlatProgram) (s : Scope) (d : ℕ) (f : FlatForm) → Fits program f
-    → code_cost (code_of (lower names at program s d f).value) ≤ words_of_node * nodes f
+    → code_cost (code_of (lower names at program s d f).value) ≤ form_words f
 
 -- TEMPORARY: that of back_sizes
 abbrev pub procedures_cost : List MidProcedure → ℕ
@@ -28,4 +27,4 @@ procedures_cost (p ∷ more) = procedure_cost p + procedures_cost more
 abbrev pub LawOfCodeSizes : Type 0
 LawOfCodeSizes =
     (names : List (List ℕ)) (at : Placement) (program : FlatProgram) → ProgramFits program
-    → procedures_cost (lowered names at program) ≤ words_of_code program
+    → procedures_cost (lowered names at program) ≤ program_words program

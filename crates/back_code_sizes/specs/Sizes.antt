@@ -1,23 +1,63 @@
--- **How many words code costs**: for each node of a form, and for the functions, the main forms and the routines around forms. This is the one place
--- where these numbers stand.
+-- **How many words code costs at most**: for each form besides its parts, and for functions, main forms and what does not depend on the program. This is
+-- the one place where these numbers stand.
 use Rattle.std.specs.Prelude.{ℕ, ◌+◌, ◌*◌, List, ◌++◌, length, sum_by}
 use Rattle.flat_language.specs.declared.program.FlatProcedure.{FlatProcedure}
 use Rattle.flat_language.specs.declared.program.FlatProgram.{FlatProgram}
-use Rattle.flat_language.specs.FlatNodes.{homes, nodes}
+use Rattle.flat_language.specs.FlatForm.{FlatForm, literal, local, set_local, global, set_global, def_global, clauses, sequence, let_form, make_function, call, call_value, apply, prim, while_form, block, return_from, tagbody, go, catch_form, throw, unwind, dynamic_let, dynamic, set_dynamic, def_dynamic, with_handler, signal_form, continue_form, next_method, has_next, sited}
+use Rattle.flat_language.specs.FlatNodes.{homes, count_forms, count_clauses, count_bindings, count_dynamics}
+use Rattle.flat_boxes.specs.Totals.{total}
+
+-- the code of a form besides that of the forms in it
+abbrev pub own_words : FlatForm → ℕ
+own_words (literal i) = 84
+own_words (local p) = 32
+own_words (set_local p f) = 32
+own_words (global n) = 120
+own_words (set_global n f) = 134
+own_words (def_global n f) = 20
+own_words (clauses cs) = 6 + 22 * count_clauses cs
+own_words (sequence fs) = 6
+own_words (let_form bs body) = 6 + 40 * count_bindings bs
+own_words (make_function p parts) = 70 + 62 * length parts
+own_words (call n fs) = 156 + 58 * count_forms fs
+own_words (call_value fs) = 142 + 24 * count_forms fs
+own_words (apply f list) = 72
+own_words (prim which fs) = 122 + 126 * count_forms fs
+own_words (while_form test body) = 26
+own_words (block body) = 242
+own_words (return_from x f) = 108
+own_words (tagbody segments) = 330 + 3 * count_forms segments
+own_words (go x segment) = 114
+own_words (catch_form tag body) = 250
+own_words (throw tag f) = 72
+own_words (unwind f cleanup) = 304
+own_words (dynamic_let ds body) = 106 + 94 * count_dynamics ds
+own_words (dynamic n) = 166
+own_words (set_dynamic n f) = 174
+own_words (def_dynamic n f) = 20
+own_words (with_handler handler body) = 268
+own_words (signal_form condition mark) = 72
+own_words (continue_form condition f) = 72
+own_words (next_method m) = 162
+own_words (has_next m) = 162
+own_words (sited site f) = 0
+
+-- that of a form with all forms in it
+abbrev pub form_words : FlatForm → ℕ
+form_words f = total own_words f
 
 -- A form pays so many words of code for each of its nodes. All forms but three kinds cost at most 160 for each of theirs. A tagbody of one segment
--- has two nodes, and its records, its loop and its switch cost 333; `call-next-method` and `next-method-p` have one node, and cost 162 where their
+-- has two nodes, and its record, its loop and its switch cost 333; `call-next-method` and `next-method-p` have one node, and cost 162 where their
 -- method's call was captured and stands more than 2,047 bytes behind the function.
 abbrev pub words_of_node : ℕ
 words_of_node = 167
 
--- a parameter: it is loaded, handed on, taken and boxed
-abbrev pub words_of_parameter : ℕ
-words_of_parameter = 76
-
--- the entry of a function and what is around the form in its body
+-- the entry of a function and what is around the form in its body; and for each parameter: it is loaded, handed on, taken and boxed
 abbrev pub words_of_function : ℕ
 words_of_function = 392
+
+abbrev pub words_of_parameter : ℕ
+words_of_parameter = 76
 
 -- a main form: the record of the end of the program is laid around it, and the start calls it
 abbrev pub words_of_main : ℕ
@@ -32,10 +72,11 @@ abbrev pub functions_of : FlatProgram → List FlatProcedure
 functions_of program = program.procedures ++ program.lambdas
 
 abbrev pub function_words : FlatProcedure → ℕ
-function_words q = words_of_function + words_of_parameter * length (homes q) + words_of_node * nodes q.body
+function_words q = words_of_function + words_of_parameter * length (homes q) + form_words q.body
 
--- the words that the code of a program costs at most
-abbrev pub words_of_code : FlatProgram → ℕ
-words_of_code program =
-    sum_by function_words (functions_of program)
-    + (words_of_node * sum_by nodes program.main + words_of_main * length program.main + words_of_routines)
+abbrev pub main_words : FlatForm → ℕ
+main_words f = words_of_main + form_words f
+
+-- the code of a whole program
+abbrev pub program_words : FlatProgram → ℕ
+program_words program = sum_by function_words (functions_of program) + sum_by main_words program.main + words_of_routines
