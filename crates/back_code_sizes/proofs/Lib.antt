@@ -7,3 +7,4 @@ pub mod Codes
 pub mod Forms
 pub mod Routines
 pub mod Programs
+pub mod Nodes

@@ -1,7 +1,8 @@
 -- How many words the code of a flat program costs at most.
-use Rattle.std.specs.Prelude.{◌≤◌, ℕ, ◌+◌, List, [], ◌∷◌}
+use Rattle.std.specs.Prelude.{◌≤◌, ℕ, ◌+◌, ◌*◌, List, [], ◌∷◌}
 use Rattle.flat_language.specs.declared.program.FlatProgram.{FlatProgram}
 use Rattle.flat_language.specs.FlatForm.{FlatForm}
+use Rattle.flat_language.specs.FlatNodes.{nodes}
 use Rattle.flat_language.specs.FlatFits.{Fits, ProgramFits}
 use Rattle.mid_code.specs.declared.program.MidProcedure.{MidProcedure}
 use Rattle.mid_code.specs.MidCode.{code_of}
@@ -10,13 +11,17 @@ use Rattle.back_lowering.specs.declared.placement.Placement.{Placement}
 use Rattle.back_lowering.specs.declared.scope.Scope.{Scope}
 use Rattle.back_lowering.specs.Codes.{lower}
 use Rattle.back_lowering.specs.Program.{lowered}
-use Rattle.back_code_sizes.specs.Sizes.{form_words, program_words}
+use Rattle.back_code_sizes.specs.Sizes.{form_words, words_of_node, program_words}
 
 -- the code of a form costs no more than its words, wherever words are laid and whatever is around it
 abbrev pub LawOfFormSizes : Type 0
 LawOfFormSizes =
     (names : List (List ℕ)) (at : Placement) (program : FlatProgram) (s : Scope) (d : ℕ) (f : FlatForm) → Fits program f
     → code_cost (code_of (lower names at program s d f).value) ≤ form_words f
+
+-- and a form has no more words than its nodes pay
+abbrev pub LawOfNodeSizes : Type 0
+LawOfNodeSizes = (program : FlatProgram) (f : FlatForm) → Fits program f → form_words f ≤ words_of_node * nodes f
 
 -- TEMPORARY: that of back_sizes
 abbrev pub procedures_cost : List MidProcedure → ℕ
