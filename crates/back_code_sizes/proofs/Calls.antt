@@ -58,7 +58,7 @@ module _ (at : Placement) (program : FlatProgram) where
 
   pub enter_cost :
       (p : ℕ) (q : FlatProcedure) (variables : List ℕ) (d t : ℕ) (site : SitePlace)
-      → cost (enter_body at program p q variables d t site) ≤ 84 + 6 * length variables
+      → cost (enter_body at program p q variables d t site) ≤ 87 + 7 * length variables
   enter_cost p q variables d t site =
       let own = no_method (is_method program p) t in
       omega (
@@ -69,12 +69,12 @@ module _ (at : Placement) (program : FlatProgram) where
         no_method_count (is_method program p) t,
       )
 
-  wrong_cost : (d : ℕ) (site : SitePlace) → cost (wrong_number at program d site) ≤ 112
+  wrong_cost : (d : ℕ) (site : SitePlace) → cost (wrong_number at program d site) ≤ 113
   wrong_cost d site = omega (arith, failing_cost at site d program_error_class)
 
   rest_cost :
       (p : ℕ) (q : FlatProcedure) (count d : ℕ) (site : SitePlace) → length q.required ≤ count
-      → cost (call_with_rest at program p q count d site) ≤ 136 + 58 * count
+      → cost (call_with_rest at program p q count d site) ≤ 140 + 58 * count
   rest_cost p q count d site h =
       let required = length q.required in
       let variables = registers_from d required ++ (d + count) ∷ [] in
@@ -90,19 +90,19 @@ module _ (at : Placement) (program : FlatProgram) where
       )
 
   procedure_call_cost :
-      (p : ℕ) (q : Option FlatProcedure) (count d : ℕ) (site : SitePlace) → cost (call_procedure at program p q count d site) ≤ 156 + 58 * count
+      (p : ℕ) (q : Option FlatProcedure) (count d : ℕ) (site : SitePlace) → cost (call_procedure at program p q count d site) ≤ 159 + 58 * count
   procedure_call_cost p None count d site = omega arith
   procedure_call_cost p (Some q) count d site = by (is_some q.rest) (takes (length q.required) (is_some q.rest) count) refl
     where
       by : (more taken : Bool) → takes (length q.required) more count ≡ taken
           → cost (if taken then (if more then call_with_rest at program p q count d site else enter_body at program p q (registers_from d count) d (d + count) site) else wrong_number at program d site)
-          ≤ 156 + 58 * count
+          ≤ 159 + 58 * count
       by more false e = omega (arith, wrong_cost d site)
       by false true e = omega (arith, enter_cost p q (registers_from d count) d (d + count) site, registers_count d count)
       by true true e = omega (arith, rest_cost p q count d site (takes_with_rest (length q.required) count e))
 
   generic_call_cost :
-      (g : ℕ) (row : Option GenericRow) (count d : ℕ) (site : SitePlace) → cost (call_generic at program g row count d site) ≤ 156 + 58 * count
+      (g : ℕ) (row : Option GenericRow) (count d : ℕ) (site : SitePlace) → cost (call_generic at program g row count d site) ≤ 159 + 58 * count
   generic_call_cost g None count d site = omega arith
   generic_call_cost g (Some row) count d site = by (takes row.required row.rest count)
     where
@@ -113,7 +113,7 @@ module _ (at : Placement) (program : FlatProgram) where
 
       by : (taken : Bool)
           → cost (if taken then with_words at program count d (site_stored site (d + count + 1) (d + count + 2) ++ asked) else failing at site d program_error_class)
-          ≤ 156 + 58 * count
+          ≤ 159 + 58 * count
       by false = omega (arith, failing_cost at site d program_error_class)
       by true =
           omega (
@@ -124,15 +124,15 @@ module _ (at : Placement) (program : FlatProgram) where
           )
 
   pub name_cost :
-      (name : ℕ) (f : Option FunctionRow) (count d : ℕ) (site : SitePlace) → cost (call_name at program name f count d site) ≤ 156 + 58 * count
+      (name : ℕ) (f : Option FunctionRow) (count d : ℕ) (site : SitePlace) → cost (call_name at program name f count d site) ≤ 159 + 58 * count
   name_cost name None count d site = omega (arith, failing_with_cost at site d undefined_function_class (symbol_word at name))
   name_cost name (Some f) count d site = by f.callee
     where
-      by : (c : Callee) → cost (call_callee at program c count d site) ≤ 156 + 58 * count
+      by : (c : Callee) → cost (call_callee at program c count d site) ≤ 159 + 58 * count
       by (callee.Procedure p) = procedure_call_cost p (slice_get program.procedures p) count d site
       by (callee.Generic g) = generic_call_cost g (slice_get program.generics g) count d site
 
-  pub value_call_cost : (count d : ℕ) (site : SitePlace) → cost (call_value_code at program count d site) ≤ 142 + 24 * count
+  pub value_call_cost : (count d : ℕ) (site : SitePlace) → cost (call_value_code at program count d site) ≤ 145 + 24 * count
   value_call_cost count d site =
       let asked : Steps = constant (d + count + 2) count ∷ call d (function_routine at) (d ∷ (d + count + 2) ∷ (d + 1 + count) ∷ []) ∷ [] in
       omega (

@@ -37,20 +37,20 @@ use Rattle.back_code_sizes.proofs.Records.{by_serial_cost, to_own_cost}
 module _ (names : List (List ℕ)) (at : Placement) (program : FlatProgram) where
   named_cost :
       (site : SitePlace) (d i : ℕ) (name : Name) (f : Option FunctionRow) → function_row names program.functions (text names name.0) ≡ f
-      → cost (literal_code names at program site d i (Some (row.Function name))) ≤ 84
+      → cost (literal_code names at program site d i (Some (row.Function name))) ≤ 86
   named_cost site d i name (Some f) e = rw e (omega arith)
   named_cost site d i name None e = rw e (failing_with_cost at site d undefined_function_class (symbol_word at name.0))
 
-  pub literal_cost : (site : SitePlace) (d i : ℕ) (l : Option LiteralRow) → cost (literal_code names at program site d i l) ≤ 84
+  pub literal_cost : (site : SitePlace) (d i : ℕ) (l : Option LiteralRow) → cost (literal_code names at program site d i l) ≤ 86
   literal_cost site d i (Some (row.Function name)) = named_cost site d i name (function_row names program.functions (text names name.0)) refl
   literal_cost site d i (Some (row.Datum x)) = omega arith
   literal_cost site d i (Some (row.Class c)) = omega arith
   literal_cost site d i None = omega arith
 
-  bound_cost : (site : SitePlace) (d name : ℕ) → cost (if_bound names at program site d name) ≤ 106
+  bound_cost : (site : SitePlace) (d name : ℕ) → cost (if_bound names at program site d name) ≤ 108
   bound_cost site d name = omega (arith, failing_with_cost at site d unbound_variable_class (symbol_word at name))
 
-  pub global_cost : (site : SitePlace) (d name : ℕ) → cost (global_code names at program site d name) ≤ 120
+  pub global_cost : (site : SitePlace) (d name : ℕ) → cost (global_code names at program site d name) ≤ 122
   global_cost site d name =
       omega (
         arith,
@@ -59,7 +59,7 @@ module _ (names : List (List ℕ)) (at : Placement) (program : FlatProgram) wher
         bound_cost site d name,
       )
 
-  pub set_global_cost : (site : SitePlace) (d name : ℕ) → cost (set_global_code names at program site d name) ≤ 134
+  pub set_global_cost : (site : SitePlace) (d name : ℕ) → cost (set_global_code names at program site d name) ≤ 136
   set_global_cost site d name =
       let unbound = failing_with at site d unbound_variable_class (symbol_word at name) in
       let set = store_to d (d + 1) (global_address at name) in
@@ -79,10 +79,10 @@ module _ (names : List (List ℕ)) (at : Placement) (program : FlatProgram) wher
         store_to_cost d (d + 1) (global_address at name),
       )
 
-  pub dynamic_cost : (site : SitePlace) (d name : ℕ) → cost (dynamic_code names at program site d name) ≤ 166
+  pub dynamic_cost : (site : SitePlace) (d name : ℕ) → cost (dynamic_code names at program site d name) ≤ 169
   dynamic_cost site d name = omega (arith, bound_cost site d name)
 
-  pub set_dynamic_cost : (site : SitePlace) (d name : ℕ) → cost (set_dynamic_code names at program site d name) ≤ 174
+  pub set_dynamic_cost : (site : SitePlace) (d name : ℕ) → cost (set_dynamic_code names at program site d name) ≤ 177
   set_dynamic_cost site d name = omega (arith, failing_with_cost at site d unbound_variable_class (symbol_word at name))
 
   pub def_dynamic_cost : (d name : ℕ) → cost (def_dynamic_code names at program d name) ≤ 20
@@ -142,7 +142,7 @@ module _ (names : List (List ℕ)) (at : Placement) (program : FlatProgram) wher
         captured_cost s (t + 2) n,
       )
 
-  pub next_cost : (s : Scope) (d : ℕ) (m : MethodPlace) → cost (next_code names at program s d m) ≤ 162
+  pub next_cost : (s : Scope) (d : ℕ) (m : MethodPlace) → cost (next_code names at program s d m) ≤ 165
   next_cost s d m =
       let asked : Steps = steps.call d (next_routine at) (d ∷ (d + 1) ∷ (d + 2) ∷ []) ∷ [] in
       omega (
@@ -168,11 +168,11 @@ module _ (names : List (List ℕ)) (at : Placement) (program : FlatProgram) wher
 
   -- exits
 
-  own_exit_cost : (s : Scope) (d landing n : ℕ) (x : Option OwnExit) → slice_get s.exits n ≡ x → cost (exit_code names at program s d landing (exit_place.Own n)) ≤ 108
+  own_exit_cost : (s : Scope) (d landing n : ℕ) (x : Option OwnExit) → slice_get s.exits n ≡ x → cost (exit_code names at program s d landing (exit_place.Own n)) ≤ 111
   own_exit_cost s d landing n None e = rw e (omega (arith, by_serial_cost at s.site (constant (d + 1) 0 ∷ []) d (d + 1) landing))
   own_exit_cost s d landing n (Some x) e = rw e (to_own_cost at s.site x d (d + 1) landing)
 
-  pub exit_cost : (s : Scope) (d landing : ℕ) (x : ExitPlace) → cost (exit_code names at program s d landing x) ≤ 108
+  pub exit_cost : (s : Scope) (d landing : ℕ) (x : ExitPlace) → cost (exit_code names at program s d landing x) ≤ 111
   exit_cost s d landing (exit_place.Own n) = own_exit_cost s d landing n (slice_get s.exits n) refl
   exit_cost s d landing (exit_place.Captured n) =
       omega (arith, by_serial_cost at s.site (captured_into s (d + 1) n) d (d + 1) landing, captured_cost s (d + 1) n)
@@ -222,7 +222,7 @@ module _ (names : List (List ℕ)) (at : Placement) (program : FlatProgram) wher
         bindings_cost d (d + count) (d + count + 1) (d + count + 2) 0 ds,
       )
 
-  pub handler_cost : (site : SitePlace) (d : ℕ) (body : Steps) → cost (with_handler_code names at program site d body) ≤ 268 + cost body
+  pub handler_cost : (site : SitePlace) (d : ℕ) (body : Steps) → cost (with_handler_code names at program site d body) ≤ 271 + cost body
   handler_cost site d body =
       let behind : Steps = constant d 0 ∷ store (d + 2) d handlers_address ∷ move d (d + 3) ∷ [] in
       omega (
@@ -232,7 +232,7 @@ module _ (names : List (List ℕ)) (at : Placement) (program : FlatProgram) wher
         domain_cost at site (d + 1) d function_class,
       )
 
-  pub two_cost : (site : SitePlace) (d routine : ℕ) → cost (with_two names at program site d routine) ≤ 72
+  pub two_cost : (site : SitePlace) (d routine : ℕ) → cost (with_two names at program site d routine) ≤ 74
   two_cost site d routine =
       omega (
         arith,

@@ -1,13 +1,14 @@
--- What lists of steps cost, and short steps with far and near offsets.
+-- What lists of steps cost, with one more for each argument that their calls pass, and short steps with far and near offsets.
 use Rattle.std.proofs.Common.{◌≡◌, ℕ, zero, suc, ◌+◌, ◌*◌, ◌≤◌, Bool, true, false, [], ◌∷◌, ◌++◌, arith}
 use Rattle.std.specs.Prelude.{if◌then◌else◌, nat_le}
 use Rattle.mid_code.specs.declared.operation.Arithmetic.TheVariants as which
 use Rattle.mid_code.specs.MidCode.{code_of}
 use Rattle.mid_arena.specs.CodeCosts.{code_cost}
+use Rattle.back_code_sizes.specs.Passed.{code_passes}
 use Rattle.back_lowering.specs.Steps.{Steps, constant, compute, load, store, most_offset, load_from, store_to, load_far, store_far, words_stored, words_loaded}
 
 abbrev pub cost : Steps → ℕ
-cost steps = code_cost (code_of steps)
+cost steps = code_cost (code_of steps) + code_passes (code_of steps)
 
 pub append_cost : (a b : Steps) → cost (a ++ b) ≡ cost a + cost b
 append_cost [] b = omega arith

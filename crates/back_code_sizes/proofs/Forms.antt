@@ -23,6 +23,7 @@ use Rattle.back_lowering.specs.Primitives.{Judged, value_judged}
 use Rattle.back_lowering.specs.Records.{block_code, catch_code, tagbody_code, unwind_code}
 use Rattle.back_lowering.specs.Codes.{Lowered, by_value, behind_arguments, exit_code, dynamic_let_code, with_handler_code, lower, lower_sequence, lower_behind, lower_arguments, lower_call_value, lower_segments, lower_clauses, lower_bindings, lower_dynamics}
 use Rattle.flat_boxes.specs.Totals.{total_of_forms, total_of_clauses, total_of_values, total_of_dynamics}
+use Rattle.back_code_sizes.specs.Passed.{codes_pass}
 use Rattle.back_code_sizes.specs.Sizes.{own_words, form_words}
 use Rattle.back_code_sizes.specs.Laws.{LawOfFormSizes}
 use Rattle.back_code_sizes.proofs.Costs.{cost, append_cost}
@@ -71,12 +72,12 @@ catch_within d l k n m v w =
     (omega (arith, v.value, w.value, append_cost l.value (catch_code d k.value), catch_cost d k.value))
 
 unwind_within :
-    (at : Placement) (d : ℕ) (l k : Lowered) (n m : ℕ) → Within l n → Within k m → Within (by_value d (unwind_code at d l.value k.value)) (304 + (n + m))
+    (at : Placement) (d : ℕ) (l k : Lowered) (n m : ℕ) → Within l n → Within k m → Within (by_value d (unwind_code at d l.value k.value)) (306 + (n + m))
 unwind_within at d l k n m v w =
-    by_value_within d (unwind_code at d l.value k.value) (304 + (n + m)) (omega (arith, v.value, w.value, unwind_cost at d l.value k.value))
+    by_value_within d (unwind_code at d l.value k.value) (306 + (n + m)) (omega (arith, v.value, w.value, unwind_cost at d l.value k.value))
 
 tagbody_within :
-    (d count : ℕ) (bodies : MidCodes) (n : ℕ) → codes_cost bodies ≤ n + 3 * count → Within (by_value d (tagbody_code d count bodies)) (330 + 3 * count + n)
+    (d count : ℕ) (bodies : MidCodes) (n : ℕ) → codes_cost bodies + codes_pass bodies ≤ n + 3 * count → Within (by_value d (tagbody_code d count bodies)) (330 + 3 * count + n)
 tagbody_within d count bodies n h =
     by_value_within d (tagbody_code d count bodies) (330 + 3 * count + n) (omega (arith, h, tagbody_cost d count bodies))
 
@@ -88,8 +89,8 @@ while_within d l k n m v w =
     (omega (arith, v.judged, w.value))
 
 prim_within :
-    (arguments applied : Steps) (judged : Judged) (n count : ℕ) → cost arguments ≤ n → cost applied ≤ 122 + 126 * count
-    → cost judged.ready ≤ 128 + 126 * count → Within (behind_arguments arguments applied judged) (122 + 126 * count + n)
+    (arguments applied : Steps) (judged : Judged) (n count : ℕ) → cost arguments ≤ n → cost applied ≤ 122 + 128 * count
+    → cost judged.ready ≤ 128 + 128 * count → Within (behind_arguments arguments applied judged) (122 + 128 * count + n)
 prim_within arguments applied judged n count f g h = record {
   value = omega (arith, f, g, append_cost arguments applied);
   judged = omega (arith, f, h, append_cost arguments judged.ready);
@@ -118,10 +119,10 @@ dynamic_let_within d values code l m n count f g w =
     by_value_within d (values ++ code l.value) (106 + 94 * count + (m + n)) (omega (arith, f, g l.value, w.value, append_cost values (code l.value)))
 
 handler_within :
-    (d : ℕ) (l : Lowered) (code : Steps → Steps) (k : Lowered) (n m : ℕ) → Within l n → ((body : Steps) → cost (code body) ≤ 268 + cost body)
-    → Within k m → Within (by_value d (l.value ++ code k.value)) (268 + (n + m))
+    (d : ℕ) (l : Lowered) (code : Steps → Steps) (k : Lowered) (n m : ℕ) → Within l n → ((body : Steps) → cost (code body) ≤ 271 + cost body)
+    → Within k m → Within (by_value d (l.value ++ code k.value)) (271 + (n + m))
 handler_within d l code k n m v g w =
-    by_value_within d (l.value ++ code k.value) (268 + (n + m)) (omega (arith, v.value, g k.value, w.value, append_cost l.value (code k.value)))
+    by_value_within d (l.value ++ code k.value) (271 + (n + m)) (omega (arith, v.value, g k.value, w.value, append_cost l.value (code k.value)))
 
 homes_count : (bs : FlatBindings) → length (binding_homes bs) ≡ count_bindings bs
 homes_count no_binding = refl
@@ -133,8 +134,8 @@ first_and l rest n m w h = omega (arith, w.value, h, append_cost l.value rest)
 
 -- a value that is called with others
 called :
-    (l : Lowered) (arguments : Steps) (n m count : ℕ) (applied : Steps) → Within l n → cost arguments ≤ m → cost applied ≤ 142 + 24 * count
-    → cost (l.value ++ (arguments ++ applied)) ≤ 142 + 24 * (count + 1) + (n + m)
+    (l : Lowered) (arguments : Steps) (n m count : ℕ) (applied : Steps) → Within l n → cost arguments ≤ m → cost applied ≤ 145 + 24 * count
+    → cost (l.value ++ (arguments ++ applied)) ≤ 145 + 24 * (count + 1) + (n + m)
 called l arguments n m count applied w f g = omega (arith, w.value, f, g, append_cost l.value (arguments ++ applied), append_cost arguments applied)
 
 -- clauses in front of others
@@ -161,11 +162,11 @@ module _ (names : List (List ℕ)) (at : Placement) (program : FlatProgram) wher
     unfolding lower
 
     pub form_within : (s : Scope) (d : ℕ) (f : FlatForm) → Fits program f → Within (lower names at program s d f) (form_words f)
-    form_within s d (literal i) h = by_value_within d _ 84 (literal_cost names at program s.site d i (slice_get program.literals i))
+    form_within s d (literal i) h = by_value_within d _ 86 (literal_cost names at program s.site d i (slice_get program.literals i))
     form_within s d (local p) h = by_value_within d _ 32 (variable_into_cost s d p)
     form_within s d (set_local p f) h = behind_one d _ _ 32 _ (form_within s d f h) (variable_from_cost s d (d + 1) p)
-    form_within s d (global n) h = by_value_within d _ 120 (global_cost names at program s.site d n)
-    form_within s d (set_global n f) h = behind_one d _ _ 134 _ (form_within s d f h) (set_global_cost names at program s.site d n)
+    form_within s d (global n) h = by_value_within d _ 122 (global_cost names at program s.site d n)
+    form_within s d (set_global n f) h = behind_one d _ _ 136 _ (form_within s d f h) (set_global_cost names at program s.site d n)
     form_within s d (def_global n f) h = behind_one d _ _ 20 _ (form_within s d f h) (def_global_cost names at program d n)
     form_within s d (clauses cs) h = by_value_within d _ _ (clauses_cost s d cs h)
     form_within s d (sequence fs) h = by_value_within d _ _ (sequence_cost s d fs h)
@@ -178,42 +179,42 @@ module _ (names : List (List ℕ)) (at : Placement) (program : FlatProgram) wher
         (form_within (with_slots (registers_from d n) s) (d + n) body h.1)
     form_within s d (make_function p parts) h = by_value_within d _ (70 + 62 * length parts) (function_cost names at program s d p parts)
     form_within s d (call n fs) h =
-        behind_all d _ _ _ (156 + 58 * count_forms fs) (arguments_cost s d fs h)
+        behind_all d _ _ _ (159 + 58 * count_forms fs) (arguments_cost s d fs h)
         (name_cost at program n (function_row names program.functions (text names n)) (count_forms fs) d s.site)
     form_within s d (call_value fs) h = by_value_within d _ _ (called_cost s d fs h.1)
     form_within s d (apply f list) h =
-        behind_two d _ _ _ _ 72 _ (form_within s d f h.0) (form_within s (d + 1) list h.1) (two_cost names at program s.site d (apply_routine at))
+        behind_two d _ _ _ _ 74 _ (form_within s d f h.0) (form_within s (d + 1) list h.1) (two_cost names at program s.site d (apply_routine at))
     form_within s d (prim which fs) h =
         prim_within _ _ _ _ (count_forms fs) (arguments_cost s d fs h.1) (applied_cost at program.literals which fs (count_forms fs) d s.site h.0)
         (judged_cost at program.literals which fs (count_forms fs) d s.site h.0)
     form_within s d (while_form test body) h = while_within d _ _ _ _ (form_within s d test h.0) (form_within s d body h.1)
     form_within s d (block body) h = block_within d _ _ (form_within (with_exit d (d + 1) s) (d + 6) body h)
-    form_within s d (return_from x f) h = behind_one d _ _ 108 _ (form_within s d f h) (exit_cost names at program s d 0 x)
+    form_within s d (return_from x f) h = behind_one d _ _ 111 _ (form_within s d f h) (exit_cost names at program s d 0 x)
     form_within s d (tagbody segments) h =
         tagbody_within d (count_forms segments) _ _ (segments_cost (with_exit d (d + 1) s) (d + 7) segments h.1)
     form_within s d (go x segment) h =
-        by_value_within d (constant d nil_word ∷ exit_code names at program s d segment x) 114
+        by_value_within d (constant d nil_word ∷ exit_code names at program s d segment x) 117
         (let c = exit_cost names at program s d segment x in omega (arith, c))
     form_within s d (catch_form tag body) h = catch_within d _ _ _ _ (form_within s d tag h.0) (form_within s (d + 6) body h.1)
     form_within s d (throw tag f) h =
-        behind_two d _ _ _ _ 72 _ (form_within s d tag h.0) (form_within s (d + 1) f h.1) (two_cost names at program s.site d (throw_routine at))
+        behind_two d _ _ _ _ 74 _ (form_within s d tag h.0) (form_within s (d + 1) f h.1) (two_cost names at program s.site d (throw_routine at))
     form_within s d (unwind f cleanup) h =
         unwind_within at d _ _ _ _ (form_within (inside_cleanup s) (d + 6) f h.0) (form_within (in_cleanup s) (d + 3) cleanup h.1)
     form_within s d (dynamic_let ds body) h =
         dynamic_let_within d _ (dynamic_let_code names at program d (count_dynamics ds) ds) _ _ _ (count_dynamics ds) (dynamics_cost s d ds h.0)
         (dynamic_let_cost names at program d (count_dynamics ds) ds)
         (form_within s (d + count_dynamics ds + 2) body h.1)
-    form_within s d (dynamic n) h = by_value_within d _ 166 (dynamic_cost names at program s.site d n)
-    form_within s d (set_dynamic n f) h = behind_one d _ _ 174 _ (form_within s d f h) (set_dynamic_cost names at program s.site d n)
+    form_within s d (dynamic n) h = by_value_within d _ 169 (dynamic_cost names at program s.site d n)
+    form_within s d (set_dynamic n f) h = behind_one d _ _ 177 _ (form_within s d f h) (set_dynamic_cost names at program s.site d n)
     form_within s d (def_dynamic n f) h = behind_one d _ _ 20 _ (form_within s d f h) (def_dynamic_cost names at program d n)
     form_within s d (with_handler handler body) h =
         handler_within d _ (with_handler_code names at program s.site d) _ _ _ (form_within s d handler h.0) (handler_cost names at program s.site d)
         (form_within s (d + 3) body h.1)
     form_within s d (signal_form condition mark) h =
-        behind_two d _ _ _ _ 72 _ (form_within s d condition h.0) (form_within s (d + 1) mark h.1) (two_cost names at program s.site d (signal_routine at))
+        behind_two d _ _ _ _ 74 _ (form_within s d condition h.0) (form_within s (d + 1) mark h.1) (two_cost names at program s.site d (signal_routine at))
     form_within s d (continue_form condition f) h =
-        behind_two d _ _ _ _ 72 _ (form_within s d condition h.0) (form_within s (d + 1) f h.1) (two_cost names at program s.site d (continue_routine at))
-    form_within s d (next_method m) h = by_value_within d _ 162 (next_cost names at program s d m)
+        behind_two d _ _ _ _ 74 _ (form_within s d condition h.0) (form_within s (d + 1) f h.1) (two_cost names at program s.site d (continue_routine at))
+    form_within s d (next_method m) h = by_value_within d _ 165 (next_cost names at program s d m)
     form_within s d (has_next m) h = by_value_within d _ 162 (has_next_cost names at program s d m)
     form_within s d (sited site f) h = same_within _ _ (form_within (at_site site s) d f h.2)
 
@@ -236,14 +237,15 @@ module _ (names : List (List ℕ)) (at : Placement) (program : FlatProgram) wher
 
     called_cost :
         (s : Scope) (d : ℕ) (fs : FlatForms) → FitForms program fs
-        → cost (lower_call_value names at program s d fs) ≤ 142 + 24 * count_forms fs + total_of_forms own_words fs
+        → cost (lower_call_value names at program s d fs) ≤ 145 + 24 * count_forms fs + total_of_forms own_words fs
     called_cost s d no_form h = omega arith
     called_cost s d (form_and f fs) h =
         called _ _ _ _ (count_forms fs) _ (form_within s d f h.0) (arguments_cost s (d + 1) fs h.1) (value_call_cost at program (count_forms fs) d s.site)
 
     segments_cost :
         (s : Scope) (d : ℕ) (fs : FlatForms) → FitForms program fs
-        → codes_cost (lower_segments names at program s d fs) ≤ total_of_forms own_words fs + 3 * count_forms fs
+        → codes_cost (lower_segments names at program s d fs) + codes_pass (lower_segments names at program s d fs)
+        ≤ total_of_forms own_words fs + 3 * count_forms fs
     segments_cost s d no_form h = omega arith
     segments_cost s d (form_and f fs) h = let w = form_within s d f h.0 in omega (arith, w.value, segments_cost s d fs h.1)
 

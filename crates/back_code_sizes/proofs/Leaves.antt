@@ -23,7 +23,7 @@ site_cost (Held r) d t = omega (arith, store_to_cost r t site_address)
 
 -- conditions that are signalled
 
-pub failing_cost : (at : Placement) (site : SitePlace) (d class : ℕ) → cost (failing at site d class) ≤ 72
+pub failing_cost : (at : Placement) (site : SitePlace) (d class : ℕ) → cost (failing at site d class) ≤ 73
 failing_cost at site d class =
     omega (
       arith,
@@ -31,7 +31,7 @@ failing_cost at site d class =
       site_cost site d (d + 1),
     )
 
-pub failing_with_cost : (at : Placement) (site : SitePlace) (d class word : ℕ) → cost (failing_with at site d class word) ≤ 84
+pub failing_with_cost : (at : Placement) (site : SitePlace) (d class word : ℕ) → cost (failing_with at site d class word) ≤ 86
 failing_with_cost at site d class word =
     omega (
       arith,
@@ -39,7 +39,7 @@ failing_with_cost at site d class word =
       site_cost site d (d + 1),
     )
 
-pub domain_cost : (at : Placement) (site : SitePlace) (d of class : ℕ) → cost (domain_error at site d of class) ≤ 78
+pub domain_cost : (at : Placement) (site : SitePlace) (d of class : ℕ) → cost (domain_error at site d of class) ≤ 80
 domain_cost at site d of class =
     omega (
       arith,

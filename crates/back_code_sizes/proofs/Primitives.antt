@@ -19,11 +19,12 @@ use Rattle.back_lowering.specs.Routines.{pending_routine}
 use Rattle.back_lowering.specs.Steps.{Steps, move, constant, compute, load, call, test_of, where_so, if_true}
 use Rattle.back_lowering.specs.Leaves.{site_stored}
 use Rattle.back_lowering.specs.Primitives.{truth_where, where_integers, asked_integers, second_known, by_procedure, sum_where, difference_where, element_where, behind_first, apply_primitive, value_judged, comparison_judged, judge_primitive}
+use Rattle.back_code_sizes.specs.Passed.{step_passes}
 use Rattle.back_code_sizes.proofs.Costs.{cost, append_cost, load_from_cost}
 use Rattle.back_code_sizes.proofs.Leaves.{site_cost}
 use Rattle.back_code_sizes.proofs.Calls.{registers_count}
 
-procedure_way_cost : (at : Placement) (which : Primitive) (count d : ℕ) (site : SitePlace) → cost (by_procedure at which count d site) ≤ 122 + 6 * count
+procedure_way_cost : (at : Placement) (which : Primitive) (count d : ℕ) (site : SitePlace) → cost (by_procedure at which count d site) ≤ 122 + 7 * count
 procedure_way_cost at which count d site =
     omega (
       arith,
@@ -40,7 +41,9 @@ integers_cost [] t first second = omega arith
 integers_cost (r ∷ []) t first second = omega arith
 integers_cost (r ∷ q ∷ more) t first second = omega arith
 
-step_if_cost : (n : ℕ) (b : Bool) (x y : MidStep) → step_cost x ≤ n → step_cost y ≤ n → step_cost (if b then x else y) ≤ n
+step_if_cost :
+    (n : ℕ) (b : Bool) (x y : MidStep) → step_cost x + step_passes x ≤ n → step_cost y + step_passes y ≤ n
+    → step_cost (if b then x else y) + step_passes (if b then x else y) ≤ n
 step_if_cost n true x y g h = g
 step_if_cost n false x y g h = h
 
@@ -75,7 +78,7 @@ element_cost asked d t slow =
 -- a comparison in line, or by its procedure
 compared_cost :
     (at : Placement) (p : Primitive) (asked : List ℕ) (how : Comparison) (count d a b t : ℕ) (site : SitePlace) → count ≡ 2
-    → cost (where_integers asked t (truth_where how d a b) (by_procedure at p count d site)) ≤ 122 + 126 * count
+    → cost (where_integers asked t (truth_where how d a b) (by_procedure at p count d site)) ≤ 122 + 128 * count
 compared_cost at p asked how count d a b t site e =
     omega (
       arith,
@@ -88,7 +91,7 @@ compared_cost at p asked how count d a b t site e =
 -- where two integers compare, and else two words that compare as the procedure says
 decided_cost :
     (at : Placement) (p : Primitive) (test : Test) (so other : ℕ × ℕ) (asked : List ℕ) (count d t : ℕ) (site : SitePlace) → count ≡ 2
-    → cost (comparison_judged test so other asked d t (by_procedure at p count d site)).ready ≤ 128 + 126 * count
+    → cost (comparison_judged test so other asked d t (by_procedure at p count d site)).ready ≤ 128 + 128 * count
 decided_cost at p test so other asked count d t site e =
     let slow = by_procedure at p count d site in
     let words = if_true d t (constant d so.0 ∷ constant (d + 1) so.1 ∷ []) (constant d other.0 ∷ constant (d + 1) other.1 ∷ []) in
@@ -97,7 +100,7 @@ decided_cost at p test so other asked count d t site e =
 module _ (at : Placement) (literals : List LiteralRow) where
   pub applied_cost :
       (p : Primitive) (fs : FlatForms) (count d : ℕ) (site : SitePlace) → count ≡ arity p
-      → cost (apply_primitive at literals p fs count d site) ≤ 122 + 126 * count
+      → cost (apply_primitive at literals p fs count d site) ≤ 122 + 128 * count
   applied_cost primitive.Add fs count d site e =
       let slow = by_procedure at primitive.Add count d site in
       let quick = sum_where (second_known at literals fs) d (d + count) slow in
@@ -149,7 +152,7 @@ module _ (at : Placement) (literals : List LiteralRow) where
   -- what is judged where a form branches on it
   pub judged_cost :
       (p : Primitive) (fs : FlatForms) (count d : ℕ) (site : SitePlace) → count ≡ arity p
-      → cost (judge_primitive at literals p fs count d site).ready ≤ 128 + 126 * count
+      → cost (judge_primitive at literals p fs count d site).ready ≤ 128 + 128 * count
   judged_cost primitive.NumberEqual fs count d site e =
       decided_cost at primitive.NumberEqual (test_of Equal d (d + 1)) (0, 0) (0, 1) (asked_integers at literals d fs) count d (d + count) site e
   judged_cost primitive.NumberNotEqual fs count d site e =

@@ -22,13 +22,21 @@ use Rattle.back_lowering.specs.Codes.{lower}
 use Rattle.back_lowering.specs.Program.{Extra, nothing, its_method, itself, extra_count, level_judged, rest_made, method_kept, entry_extras, rest_register, entry, site_register, scope_of, site_taken, body_of, extra_of, entries_from, lambda_entries_from, bodies_from, lambda_bodies, main_scope, main_form, mains_called, mains_from, start, primitives, routines, lowered}
 use Rattle.back_code_sizes.specs.Sizes.{form_words, function_words, main_words, program_words}
 use Rattle.back_code_sizes.specs.Laws.{procedures_cost, LawOfCodeSizes}
+use Rattle.back_code_sizes.specs.Passed.{procedure_passes, procedures_pass}
 use Rattle.back_code_sizes.proofs.Costs.{cost, append_cost, if_cost, load_from_cost, words_loaded_cost}
 use Rattle.back_code_sizes.proofs.Leaves.{boxes_cost}
 use Rattle.back_code_sizes.proofs.Calls.{registers_count}
 use Rattle.back_code_sizes.proofs.Forms.{form_within}
 use Rattle.back_code_sizes.proofs.Routines.{primitives_cost, routines_cost}
 
-both_cost : (ps qs : List MidProcedure) → procedures_cost (ps ++ qs) ≡ procedures_cost ps + procedures_cost qs
+-- what a procedure, and procedures, cost, with one more for each argument that they take and pass
+abbrev full : MidProcedure → ℕ
+full p = procedure_cost p + procedure_passes p
+
+abbrev all_full : List MidProcedure → ℕ
+all_full ps = procedures_cost ps + procedures_pass ps
+
+both_cost : (ps qs : List MidProcedure) → all_full (ps ++ qs) ≡ all_full ps + all_full qs
 both_cost [] qs = omega arith
 both_cost (p ∷ ps) qs = let h = both_cost ps qs in omega (arith, h)
 
@@ -51,11 +59,11 @@ module _ (names : List (List ℕ)) (at : Placement) (program : FlatProgram) wher
   level_cost : (q : FlatProcedure) → cost (level_judged names at program q) ≤ 40
   level_cost q = if_there 40 (is_some q.rest || q.keeps_method) _ (omega arith)
 
-  rest_cost : (q : FlatProcedure) → cost (rest_made names at program q) ≤ 84
-  rest_cost q = if_there 84 (is_some q.rest) _ (omega arith)
+  rest_cost : (q : FlatProcedure) → cost (rest_made names at program q) ≤ 86
+  rest_cost q = if_there 86 (is_some q.rest) _ (omega arith)
 
-  method_cost : (q : FlatProcedure) → cost (method_kept names at program q) ≤ 80
-  method_cost q = if_there 80 q.keeps_method _ (omega arith)
+  method_cost : (q : FlatProcedure) → cost (method_kept names at program q) ≤ 83
+  method_cost q = if_there 83 q.keeps_method _ (omega arith)
 
   rest_register_count : (q : FlatProcedure) → length (rest_register names at program q) ≤ 1
   rest_register_count q = by (is_some q.rest)
@@ -64,7 +72,7 @@ module _ (names : List (List ℕ)) (at : Placement) (program : FlatProgram) wher
       by true = omega arith
       by false = omega arith
 
-  entry_costs : (body : ℕ) (extra : Extra) (q : FlatProcedure) → procedure_cost (entry names at program body extra q) ≤ 326 + 30 * length (homes q)
+  entry_costs : (body : ℕ) (extra : Extra) (q : FlatProcedure) → full (entry names at program body extra q) ≤ 339 + 31 * length (homes q)
   entry_costs body extra q =
       let handed : List ℕ = registers_from 7 (length q.required) ++ (rest_register names at program q ++ entry_extras names at program extra) in
       let last : Steps = call 4 body handed ∷ return_word 4 ∷ [] in
@@ -94,7 +102,7 @@ module _ (names : List (List ℕ)) (at : Placement) (program : FlatProgram) wher
 
   body_costs :
       (extra : Extra) (q : FlatProcedure) → Fits program q.body
-      → procedure_cost (body_of names at program extra q) ≤ 66 + 46 * length (homes q) + form_words q.body
+      → full (body_of names at program extra q) ≤ 69 + 47 * length (homes q) + form_words q.body
   body_costs extra q h =
       let r = site_register names at program extra q in
       let inside : Steps = (lower names at program (scope_of names at program extra q) (r + 1) q.body).value in
@@ -112,7 +120,7 @@ module _ (names : List (List ℕ)) (at : Placement) (program : FlatProgram) wher
         extras_count extra,
       )
 
-  main_costs : (f : FlatForm) → Fits program f → procedure_cost (main_form names at program f) ≤ 258 + form_words f
+  main_costs : (f : FlatForm) → Fits program f → full (main_form names at program f) ≤ 258 + form_words f
   main_costs f h =
       let w = form_within names at program (main_scope names at program) 8 f h in
       omega (arith, w.value, append_cost (lower names at program (main_scope names at program) 8 f).value (return_word 8 ∷ []))
@@ -121,7 +129,7 @@ module _ (names : List (List ℕ)) (at : Placement) (program : FlatProgram) wher
 
   procedures_cost_within :
       (p : ℕ) (qs : List FlatProcedure) → AllOf (λ q. Fits program q.body) qs
-      → procedures_cost (entries_from names at program p qs) + procedures_cost (bodies_from names at program p qs) ≤ sum_by function_words qs
+      → all_full (entries_from names at program p qs) + all_full (bodies_from names at program p qs) ≤ sum_by function_words qs
   procedures_cost_within p [] h = omega arith
   procedures_cost_within p (q ∷ qs) h =
       omega (
@@ -134,7 +142,7 @@ module _ (names : List (List ℕ)) (at : Placement) (program : FlatProgram) wher
 
   lambdas_cost_within :
       (p : ℕ) (qs : List FlatProcedure) → AllOf (λ q. Fits program q.body) qs
-      → procedures_cost (lambda_entries_from names at program p qs) + procedures_cost (lambda_bodies names at program qs) ≤ sum_by function_words qs
+      → all_full (lambda_entries_from names at program p qs) + all_full (lambda_bodies names at program qs) ≤ sum_by function_words qs
   lambdas_cost_within p [] h = omega arith
   lambdas_cost_within p (q ∷ qs) h =
       omega (
@@ -149,7 +157,7 @@ module _ (names : List (List ℕ)) (at : Placement) (program : FlatProgram) wher
 
   mains_cost :
       (fs : List FlatForm) → AllOf (Fits program) fs
-      → procedures_cost (map (main_form names at program) fs) + 40 * length fs ≤ sum_by main_words fs
+      → all_full (map (main_form names at program) fs) + 40 * length fs ≤ sum_by main_words fs
   mains_cost [] h = omega arith
   mains_cost (f ∷ fs) h = omega (arith, main_costs f h.0, mains_cost fs h.1, sum_by-cons main_words f fs)
 
@@ -157,13 +165,13 @@ module _ (names : List (List ℕ)) (at : Placement) (program : FlatProgram) wher
   mains_called_cost n [] = omega arith
   mains_called_cost n (f ∷ fs) = let h = mains_called_cost (n + 1) fs in omega (arith, h)
 
-  start_cost : procedure_cost (start names at program) ≡ 32 + 40 * length program.main
+  start_cost : full (start names at program) ≡ 32 + 40 * length program.main
   start_cost =
       let called : Steps = mains_called names at program (mains_from names at program) program.main in
       omega (arith, append_cost called (halt_with 0 ∷ []), mains_called_cost (mains_from names at program) program.main)
 
   -- all together
-  all_cost : ProgramFits program → procedures_cost (lowered names at program) ≤ program_words program
+  all_cost : ProgramFits program → all_full (lowered names at program) ≤ program_words program
   unfolding lowered
   all_cost h =
       let entries = entries_from names at program 0 program.procedures in

@@ -12,6 +12,7 @@ use Rattle.back_lowering.specs.Routines.{transfer_routine, leave_routine}
 use Rattle.back_lowering.specs.Steps.{Steps, move, constant, store, call, if_different}
 use Rattle.back_lowering.specs.Leaves.{site_stored}
 use Rattle.back_lowering.specs.Records.{record_left, block_code, catch_code, tagbody_code, unwind_code, by_serial, to_own}
+use Rattle.back_code_sizes.specs.Passed.{codes_pass}
 use Rattle.back_code_sizes.proofs.Costs.{cost, append_cost}
 use Rattle.back_code_sizes.proofs.Leaves.{site_cost}
 
@@ -22,10 +23,10 @@ pub catch_cost : (d : ℕ) (body : Steps) → cost (catch_code d body) ≡ 250 +
 catch_cost d body = omega (arith, append_cost body (record_left (d + 1) (d + 7) ++ (move d (d + 6) ∷ [])))
 
 -- each segment costs its word in the table and its jump besides
-pub tagbody_cost : (d segments : ℕ) (bodies : MidCodes) → cost (tagbody_code d segments bodies) ≡ 330 + codes_cost bodies
+pub tagbody_cost : (d segments : ℕ) (bodies : MidCodes) → cost (tagbody_code d segments bodies) ≡ 330 + (codes_cost bodies + codes_pass bodies)
 tagbody_cost d segments bodies = omega arith
 
-pub unwind_cost : (at : Placement) (d : ℕ) (form cleanup : Steps) → cost (unwind_code at d form cleanup) ≡ 304 + cost form + cost cleanup
+pub unwind_cost : (at : Placement) (d : ℕ) (form cleanup : Steps) → cost (unwind_code at d form cleanup) ≡ 306 + cost form + cost cleanup
 unwind_cost at d form cleanup =
     omega (
       arith,
@@ -40,7 +41,7 @@ unwind_cost at d form cleanup =
 -- ways to exits
 
 pub by_serial_cost :
-    (at : Placement) (site : SitePlace) (serial : Steps) (d t landing : ℕ) → cost (by_serial at site serial d t landing) ≤ 84 + cost serial
+    (at : Placement) (site : SitePlace) (serial : Steps) (d t landing : ℕ) → cost (by_serial at site serial d t landing) ≤ 87 + cost serial
 by_serial_cost at site serial d t landing =
     let last : Steps = constant (t + 1) landing ∷ call d (leave_routine at) (t ∷ d ∷ (t + 1) ∷ []) ∷ [] in
     omega (
@@ -50,10 +51,10 @@ by_serial_cost at site serial d t landing =
       site_cost site (t + 1) (t + 2),
     )
 
-pub to_own_cost : (at : Placement) (site : SitePlace) (x : OwnExit) (d t landing : ℕ) → cost (to_own at site x d t landing) ≤ 108
+pub to_own_cost : (at : Placement) (site : SitePlace) (x : OwnExit) (d t landing : ℕ) → cost (to_own at site x d t landing) ≤ 111
 to_own_cost at site x d t landing = by x.reach
   where
-    by : (r : Reach) → cost (to_own at site (record x { reach = r }) d t landing) ≤ 108
+    by : (r : Reach) → cost (to_own at site (record x { reach = r }) d t landing) ≤ 111
     by AtOnce = omega arith
     by ByTransfer = omega arith
     by BySearch = omega (arith, by_serial_cost at site (move t x.serial ∷ []) d t landing)
