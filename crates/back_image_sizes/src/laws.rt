@@ -1,0 +1,13 @@
+// The laws of the sizes of images, as the contracts of functions that do nothing.
+
+ghost use Rattle.back_image_sizes.specs.Laws.{LawOfFurtherSizes, LawOfUseSizes};
+
+/// A form has no more nodes than pay its code and the words that are laid for the names that it uses.
+pub fn law_use_sizes()
+    ensures { LawOfUseSizes }
+{}
+
+/// The words behind all objects are so many at most.
+pub fn law_further_sizes()
+    ensures { LawOfFurtherSizes }
+{}
