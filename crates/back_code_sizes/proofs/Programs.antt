@@ -21,7 +21,8 @@ use Rattle.back_lowering.specs.Leaves.{boxes_made}
 use Rattle.back_lowering.specs.Codes.{lower}
 use Rattle.back_lowering.specs.Program.{Extra, nothing, its_method, itself, extra_count, level_judged, rest_made, method_kept, entry_extras, rest_register, entry, site_register, scope_of, site_taken, body_of, extra_of, entries_from, lambda_entries_from, bodies_from, lambda_bodies, main_scope, main_form, mains_called, mains_from, start, primitives, routines, lowered}
 use Rattle.back_code_sizes.specs.Sizes.{form_words, function_words, main_words, program_words}
-use Rattle.back_code_sizes.specs.Laws.{procedures_cost, LawOfCodeSizes}
+use Rattle.back_sizes.specs.Laws.{procedures_cost}
+use Rattle.back_code_sizes.specs.Laws.{LawOfCodeSizes}
 use Rattle.back_code_sizes.specs.Passed.{procedure_passes, procedures_pass}
 use Rattle.back_code_sizes.proofs.Costs.{cost, append_cost, if_cost, load_from_cost, words_loaded_cost}
 use Rattle.back_code_sizes.proofs.Leaves.{boxes_cost}

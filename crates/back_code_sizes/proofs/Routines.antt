@@ -6,7 +6,7 @@ use Rattle.back_lowering.specs.declared.placement.Placement.{Placement}
 use Rattle.back_lowering.specs.Program.{primitives, routines}
 use Rattle.back_lowering.specs.RoutineCodes.{transfer_code, leave_code, throw_code, continue_code, raise_code, signal_code, pending_code, failing_code, failing_with_code, domain_code, function_code, apply_code, generic_code, chain_code, next_code, level_code, list_code, method_code, binding_code, is_function_code, class_code}
 use Rattle.back_code_sizes.specs.Passed.{procedures_pass}
-use Rattle.back_code_sizes.specs.Laws.{procedures_cost}
+use Rattle.back_sizes.specs.Laws.{procedures_cost}
 
 module _ (names : List (List ℕ)) (at : Placement) (program : FlatProgram) where
   pub primitives_cost : procedures_cost (primitives names at program) + procedures_pass (primitives names at program) ≡ 27687

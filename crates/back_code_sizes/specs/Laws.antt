@@ -1,16 +1,16 @@
 -- How many words the code of a flat program costs at most.
-use Rattle.std.specs.Prelude.{◌≤◌, ℕ, ◌+◌, ◌*◌, List, [], ◌∷◌}
+use Rattle.std.specs.Prelude.{◌≤◌, ℕ, ◌+◌, ◌*◌, List}
 use Rattle.flat_language.specs.declared.program.FlatProgram.{FlatProgram}
 use Rattle.flat_language.specs.FlatForm.{FlatForm}
 use Rattle.flat_language.specs.FlatNodes.{nodes}
 use Rattle.flat_language.specs.FlatFits.{Fits, ProgramFits}
-use Rattle.mid_code.specs.declared.program.MidProcedure.{MidProcedure}
 use Rattle.mid_code.specs.MidCode.{code_of}
-use Rattle.mid_arena.specs.CodeCosts.{code_cost, procedure_cost}
+use Rattle.mid_arena.specs.CodeCosts.{code_cost}
 use Rattle.back_lowering.specs.declared.placement.Placement.{Placement}
 use Rattle.back_lowering.specs.declared.scope.Scope.{Scope}
 use Rattle.back_lowering.specs.Codes.{lower}
 use Rattle.back_lowering.specs.Program.{lowered}
+use Rattle.back_sizes.specs.Laws.{procedures_cost}
 use Rattle.back_code_sizes.specs.Passed.{code_passes, procedures_pass}
 use Rattle.back_code_sizes.specs.Sizes.{form_words, words_of_node, program_words}
 
@@ -23,11 +23,6 @@ LawOfFormSizes =
 -- and a form has no more words than its nodes pay
 abbrev pub LawOfNodeSizes : Type 0
 LawOfNodeSizes = (program : FlatProgram) (f : FlatForm) → Fits program f → form_words f ≤ words_of_node * nodes f
-
--- TEMPORARY: that of back_sizes
-abbrev pub procedures_cost : List MidProcedure → ℕ
-procedures_cost [] = 0
-procedures_cost (p ∷ more) = procedure_cost p + procedures_cost more
 
 -- the code of all procedures of a lowered program, wherever its words are laid
 abbrev pub LawOfCodeSizes : Type 0

@@ -1,2 +1,5 @@
 pub mod Uses
 pub mod Further
+pub mod Arguments
+pub mod Programs
+pub mod Images
