@@ -1,14 +1,13 @@
 -- The words of arguments: the longest call passes no more than all calls together.
-use Rattle.std.proofs.Common.{◌≡◌, ℕ, ◌+◌, ◌≤◌, List, [], ◌∷◌, ◌++◌, length, map, arith}
-use Rattle.mid_code.specs.declared.operation.Operation.{Operation}
-use Rattle.mid_code.specs.declared.operation.Operation.TheVariants.{Move, Constant, Compute, Load, Store, Request, Draw, Put, Get, Call}
+use Rattle.std.proofs.Common.{◌≡◌, ℕ, ◌+◌, ◌≤◌, List, [], ◌∷◌, ◌++◌, map, arith}
+use Rattle.mid_code.specs.declared.operation.Operation.TheVariants.{Call}
 use Rattle.mid_code.specs.declared.program.MidProcedure.{MidProcedure}
 use Rattle.mid_code.specs.MidCode.{MidStep, perform, choose, switch, repeat, with_block, lend, return_word, cut_to, halt_with, end_unhandled, MidCode, no_step, step_and, MidCodes, no_code, code_and, code_of}
 use Rattle.mid_lines.specs.declared.line.Line.{Line}
 use Rattle.mid_lines.specs.declared.line.Line.TheVariants.{Branch, Jump, Landed, GiveBack, GiveBackLent}
 use Rattle.mid_lines.specs.Flattened.{step_line_count, line_count, codes_line_count, step_lines, code_lines, codes_lines, procedure_lines}
 use Rattle.back_layout.specs.ChosenPlaces.{arguments_passed, most_in_lines, most_arguments}
-use Rattle.back_code_sizes.specs.Passed.{operation_passes, step_passes, code_passes, codes_pass, procedures_pass}
+use Rattle.back_code_sizes.specs.Passed.{step_passes, code_passes, codes_pass, procedures_pass}
 
 abbrev lines_pass : List Line → ℕ
 lines_pass [] = 0

@@ -11,14 +11,13 @@ use Rattle.lang_meaning.specs.Cells.{chain_length, tuple_cells}
 use Rattle.lang_meaning.specs.Classes.{chain}
 use Rattle.lang_meaning.specs.Objects.{Chain}
 use Rattle.lang_dispatch.specs.Tables.{tuples_of}
-use Rattle.flat_language.specs.declared.program.FlatProgram.{FlatProgram}
 use Rattle.flat_language.specs.FlatNodes.{tables}
-use Rattle.back_relation.specs.Chains.{ahead_words, method_words, chain_words, Specialised, specialised_words}
+use Rattle.back_relation.specs.Chains.{ahead_words, method_words, specialised_words}
 use Rattle.back_lowering.specs.ControlWords.{around_method, before_method, after_method, primary_method, chain_end}
 use Rattle.back_words.specs.Blocks.{blocks, block_addresses}
-use Rattle.back_words.specs.Generics.{specialised_arguments, map_word, map_words, specialised_at, tuple_chains, words_of_chain, all_chain_words, chain_cells, cells_at, maps_at, chains_at, generic_words}
-use Rattle.back_words.specs.Words.{arity_of, arity_words, generic_words_from, symbol_among, further_words}
-use Rattle.back_image_sizes.specs.Sizes.{table_words, most_further_words}
+use Rattle.back_words.specs.Generics.{specialised_arguments, map_word, map_words, specialised_at, tuple_chains, words_of_chain, all_chain_words, chain_cells, maps_at, chains_at, generic_words}
+use Rattle.back_words.specs.Words.{arity_of, arity_words, generic_words_from, symbol_among}
+use Rattle.back_image_sizes.specs.Sizes.{table_words}
 use Rattle.back_image_sizes.specs.Laws.{LawOfFurtherSizes}
 
 -- chains

@@ -1,26 +1,22 @@
 -- **How many words an image has**: all together.
-use Rattle.std.proofs.Common.{◌≡◌, ℕ, zero, suc, ◌+◌, ◌*◌, ◌≤◌, List, [], ◌∷◌, ◌++◌, length, map, replicate, refl, arith, length-append}
-use Rattle.std.specs.Prelude.{sum_by, flat_map}
+use Rattle.std.proofs.Common.{◌≡◌, ℕ, ◌+◌, ◌*◌, ◌≤◌, List, [], ◌∷◌, ◌++◌, length, map, refl, arith, length-append}
+use Rattle.std.specs.Prelude.{flat_map}
 use Rattle.std.proofs.lemmas.List.{length-map, length-replicate}
 use Rattle.std.proofs.lemmas.List.Sums.{sum_by-append}
 use Rattle.lang_meaning.specs.declared.program.GenericRow.{GenericRow}
 use Rattle.lang_meaning.specs.Lookup.{text}
-use Rattle.lang_meaning.specs.model.ShapeCode.{primitive_at}
 use Rattle.flat_language.specs.declared.program.FlatProcedure.{FlatProcedure}
 use Rattle.flat_language.specs.declared.program.FlatProgram.{FlatProgram}
-use Rattle.flat_language.specs.FlatFits.{ProgramFits}
-use Rattle.flat_nodes.specs.ProgramNodes.{function_nodes}
 use Rattle.mid_code.specs.declared.program.MidProcedure.{MidProcedure}
 use Rattle.mid_arena.specs.Tags.{unbound_word}
 use Rattle.mid_start.specs.Rows.{unit_words}
-use Rattle.back_lowering.specs.ControlWords.{control_words}
 use Rattle.back_lowering.specs.declared.placement.Placement.{Placement}
-use Rattle.back_lowering.specs.Program.{itself, body_of, entries_from, lambda_entries_from, bodies_from, lambda_bodies, main_form, start, numbers_below, primitives, routines, lowered}
+use Rattle.back_lowering.specs.Program.{itself, body_of, entries_from, lambda_entries_from, bodies_from, lambda_bodies, main_form, start, primitives, routines, lowered}
 use Rattle.back_sizes.proofs.Sizes.{law_of_placed_size}
-use Rattle.back_code_sizes.specs.Sizes.{function_words, functions_of}
+use Rattle.back_code_sizes.specs.Sizes.{function_words}
 use Rattle.back_code_sizes.proofs.Programs.{law_of_code_sizes}
 use Rattle.back_words.specs.Uses.{as_symbol, globals_among, dynamics_among, symbols_among, uses, program_uses}
-use Rattle.back_words.specs.Variables.{global_names, dynamic_names, variable_count, low_words}
+use Rattle.back_words.specs.Variables.{variable_count, low_words}
 use Rattle.back_words.specs.Start.{wanted_names}
 use Rattle.back_image_sizes.specs.Sizes.{uses_words}
 use Rattle.back_image_sizes.specs.Laws.{code_beside, LawOfImageSizes}

@@ -1,5 +1,5 @@
 -- The words of the names that forms use, by the forms that use them, and what forms pay by their nodes.
-use Rattle.std.proofs.Common.{◌≡◌, ℕ, ◌+◌, ◌*◌, ◌≤◌, Bool, true, false, List, [], ◌∷◌, ◌++◌, Option, Some, None, is_some, slice_get, refl, arith}
+use Rattle.std.proofs.Common.{◌≡◌, ℕ, ◌+◌, ◌*◌, ◌≤◌, Bool, true, false, List, [], ◌∷◌, ◌++◌, Option, Some, None, is_some, slice_get, arith}
 use Rattle.std.specs.Prelude.{if◌then◌else◌}
 use Rattle.lang_meaning.specs.declared.program.LiteralRow.{LiteralRow}
 use Rattle.lang_meaning.specs.declared.program.LiteralRow.TheVariants as row
@@ -8,14 +8,14 @@ use Rattle.lang_meaning.specs.Lookup.{text}
 use Rattle.flat_language.specs.declared.program.FlatProgram.{FlatProgram}
 use Rattle.flat_language.specs.FlatFits.{Fits}
 use Rattle.flat_language.specs.FlatForm.{FlatForm, literal, local, set_local, global, set_global, def_global, clauses, sequence, let_form, make_function, call, call_value, apply, prim, while_form, block, return_from, tagbody, go, catch_form, throw, unwind, dynamic_let, dynamic, set_dynamic, def_dynamic, with_handler, signal_form, continue_form, next_method, has_next, sited}
-use Rattle.flat_language.specs.FlatForm.{FlatForms, no_form, form_and, FlatClauses, no_clause, clause_and, FlatBody, no_body, with_body}
+use Rattle.flat_language.specs.FlatForm.{FlatForms, no_form, form_and, FlatClauses, no_clause, clause_and, no_body, with_body}
 use Rattle.flat_language.specs.FlatForm.{FlatBindings, no_binding, binding_and, FlatDynamics, no_dynamic, dynamic_and}
-use Rattle.flat_language.specs.FlatNodes.{own_nodes, nodes, count_dynamics}
+use Rattle.flat_language.specs.FlatNodes.{own_nodes, count_dynamics}
 use Rattle.flat_boxes.specs.Totals.{total, total_of_forms, total_of_clauses, total_of_values, total_of_dynamics}
 use Rattle.mid_start.specs.Rows.{unit_words}
 use Rattle.back_code_sizes.specs.Sizes.{own_words, words_of_node}
 use Rattle.back_code_sizes.proofs.Nodes.{nodes_total, total_of_both, total_paid}
-use Rattle.back_words.specs.Uses.{Use, as_symbol, of_global, of_dynamic, of_function, of_literal, uses, uses_of_forms, uses_of_clauses, uses_of_body, uses_of_values, uses_of_dynamics}
+use Rattle.back_words.specs.Uses.{Use, as_symbol, of_function, of_literal, uses, uses_of_forms, uses_of_clauses, uses_of_values, uses_of_dynamics}
 use Rattle.back_image_sizes.specs.Sizes.{uses_words}
 use Rattle.back_image_sizes.specs.Laws.{LawOfUseSizes}
 

@@ -1,7 +1,10 @@
 // The laws of the sizes of images, as the contracts of functions that do nothing.
 
 ghost use Rattle.back_image_sizes.specs.Laws.{
-    LawOfFurtherSizes, LawOfImageSizes, LawOfProgramImageSizes, LawOfUseSizes,
+  LawOfFurtherSizes,
+  LawOfImageSizes,
+  LawOfProgramImageSizes,
+  LawOfUseSizes,
 };
 
 /// A form has no more nodes than pay its code and the words that are laid for the names that it uses.
