@@ -1,5 +1,5 @@
 -- More symbols behind all that was laid: the words before the first form are those still.
-use Rattle.std.proofs.Common.{◌≡◌, ℕ, zero, suc, ◌+◌, ◌*◌, ◌<◌, Bool, true, false, List, [], ◌∷◌, ◌++◌, length, take, Option, Some, None, refl, sym, ◌∙◌, ap, subst, append-nil, arith, ⊎_elim}
+use Rattle.std.proofs.Common.{◌≡◌, ℕ, ◌<◌, Bool, true, false, List, [], ◌∷◌, ◌++◌, length, Some, refl, sym, ◌∙◌, ap, subst, append-nil, arith, ⊎_elim}
 use Rattle.std.specs.Prelude.{slice_get, if◌then◌else◌}
 use Rattle.base.specs.Names.{IsTable, slice_get-push}
 use Rattle.base.specs.declared.datum.Name.{Name}
@@ -9,8 +9,8 @@ use Rattle.lang_meaning.specs.declared.program.ProgramRows.{ProgramRows}
 use Rattle.lang_meaning.specs.Objects.{Object}
 use Rattle.lang_meaning.specs.Values.{object}
 use Rattle.lang_meaning.specs.InitialHeap.{objects_at_start, class_value, function_value, literal_value}
-use Rattle.mid_arena.specs.FixedWords.{low_address, nil_text, FixedStand}
-use Rattle.mid_arena.specs.Places.{Spot, Places, Owner, of_object, of_other, spot_of}
+use Rattle.mid_arena.specs.FixedWords.{nil_text, FixedStand}
+use Rattle.mid_arena.specs.Places.{Spot, Places, Owner, of_other, spot_of}
 use Rattle.mid_arena.specs.Standing.{SameWords}
 use Rattle.mid_arena.proofs.Keeping.{PlacesExtend}
 use Rattle.mid_arena.proofs.Representing.{fixed_kept}
@@ -19,12 +19,12 @@ use Rattle.mid_start.specs.declared.words.ArenaWords.{ArenaWords}
 use Rattle.mid_start.specs.declared.static_data.StaticData.{StaticData}
 use Rattle.mid_start.specs.LaidArena.{end_address, arena_of}
 use Rattle.mid_start.specs.LaidWell.{LaidWell}
-use Rattle.mid_start.specs.Laying.{Grown, Longer}
+use Rattle.mid_start.specs.Laying.{Grown}
 use Rattle.mid_start.specs.Lists.{IsBeginning}
 use Rattle.mid_start.specs.Making.{IsWord, AreNumbered, Makes}
 use Rattle.mid_start.specs.NamedSymbols.{HaveSymbols, StandsWith, LaysSymbols}
 use Rattle.mid_start.specs.Recipes.{name_recipe}
-use Rattle.mid_start.specs.StaticData.{fixed_spot, spot_for, OwnWordsAt, IsStaticData}
+use Rattle.mid_start.specs.StaticData.{fixed_spot, OwnWordsAt, IsStaticData}
 use Rattle.mid_start.specs.Symbols.{is_same_symbol, word_of_symbol}
 use Rattle.mid_start.proofs.FixedFront.{no_nil_there}
 use Rattle.mid_start.proofs.FurtherWords.{with_arena}

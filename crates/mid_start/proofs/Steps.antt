@@ -14,7 +14,7 @@ use Rattle.lang_meaning.specs.declared.program.SlotRow.{SlotRow}
 use Rattle.lang_meaning.specs.declared.program.LiteralRow.{LiteralRow}
 use Rattle.lang_meaning.specs.declared.program.LiteralRow.TheVariants as row
 use Rattle.lang_meaning.specs.ProgramCounts.{row_nodes, slot_nodes, class_nodes}
-use Rattle.mid_start.specs.Rows.{literal_size, slot_size, slots_size, class_size}
+use Rattle.mid_start.specs.Rows.{literal_size, slot_size, slots_size, class_size, most_literal_words, most_slot_words, most_slots_words, most_class_words}
 use Rattle.mid_start.specs.Settling.{slot_words, precedence_words}
 
 pub if_ok : {X E : Type 0} (r : Result X E) (P Q : X → Type 0) → ((x : X) → P x → Q x) → IfOk r P → IfOk r Q
@@ -51,21 +51,21 @@ sum_within f xs i x e =
 
 pub room_next :
     {X : Type 0} (f : X → ℕ) (xs : List X) (i : ℕ) (x : X) (before now : ArenaWords) → slice_get xs i ≡ Some x
-    → HasRoom before (160 * sum_by f xs) → IsWithin before now (160 * sum_by f (take i xs)) → HasRoom now (160 * f x)
+    → HasRoom before (sum_by f xs) → IsWithin before now (sum_by f (take i xs)) → HasRoom now (f x)
 room_next f xs i x before now e room within =
     let some = sum_within f xs i x e in
     omega (arith, room, within.first, within.count)
 
 pub within_next :
     {X : Type 0} (f : X → ℕ) (xs : List X) (i : ℕ) (x : X) (before now after : ArenaWords) → slice_get xs i ≡ Some x
-    → IsWithin before now (160 * sum_by f (take i xs)) → IsWithin now after (160 * f x) → IsWithin before after (160 * sum_by f (take (i + 1) xs))
+    → IsWithin before now (sum_by f (take i xs)) → IsWithin now after (f x) → IsWithin before after (sum_by f (take (i + 1) xs))
 within_next f xs i x before now after e p q =
     let more = sum_next f xs i x e in
     record { first = q.first ∙ p.first; count = omega (arith, p.count, q.count) }
 
 pub within_all : {X : Type 0} (f : X → ℕ) (xs : List X) (i : ℕ) (before now : ArenaWords) → length xs ≤ i
-    → IsWithin before now (160 * sum_by f (take i xs)) → IsWithin before now (160 * sum_by f xs)
-within_all f xs i before now h p = subst (λ ys. IsWithin before now (160 * sum_by f ys)) (take_all i xs h) p
+    → IsWithin before now (sum_by f (take i xs)) → IsWithin before now (sum_by f xs)
+within_all f xs i before now h p = subst (λ ys. IsWithin before now (sum_by f ys)) (take_all i xs h) p
 
 -- what was laid for a datum
 pub within_grown : (before after : ArenaWords) (n : ℕ) → Grown before after → length after.words ≤ length before.words + n → IsWithin before after n
@@ -126,3 +126,35 @@ all_classes_within [] = omega arith
 all_classes_within (c ∷ cs) =
     let others : sum_by slots_size cs + sum_by class_size cs ≤ 4 * sum_by class_nodes cs + 2 * length cs = all_classes_within cs in
     omega (arith, others, slots_of_class c.slots, sum_by-cons slots_size c cs, sum_by-cons class_size c cs, sum_by-cons class_nodes c cs)
+
+-- and so are their words, at 160 for each unit of their sizes
+pub literal_words_within : (ls : List LiteralRow) → sum_by most_literal_words ls ≤ 160 * sum_by row_nodes ls
+literal_words_within [] = omega arith
+literal_words_within (l ∷ ls) =
+    let others : sum_by most_literal_words ls ≤ 160 * sum_by row_nodes ls = literal_words_within ls in
+    omega (arith, others, one l, sum_by-cons most_literal_words l ls, sum_by-cons row_nodes l ls)
+  where
+    one : (l : LiteralRow) → most_literal_words l ≤ 160 * row_nodes l
+    one (row.Datum d) = omega arith
+    one (row.Class c) = omega arith
+    one (row.Function name) = omega arith
+
+slot_words_within : (ss : List SlotRow) → sum_by most_slot_words ss + 3 * length ss ≤ 160 * sum_by slot_nodes ss
+slot_words_within [] = omega arith
+slot_words_within (s ∷ ss) =
+    let others : sum_by most_slot_words ss + 3 * length ss ≤ 160 * sum_by slot_nodes ss = slot_words_within ss in
+    omega (arith, others, sum_by-cons most_slot_words s ss, sum_by-cons slot_nodes s ss)
+
+pub class_words_within :
+    (cs : List ClassRow) → sum_by most_slots_words cs + sum_by most_class_words cs ≤ 160 * sum_by class_nodes cs + 77 * length cs
+class_words_within [] = omega arith
+class_words_within (c ∷ cs) =
+    let others : sum_by most_slots_words cs + sum_by most_class_words cs ≤ 160 * sum_by class_nodes cs + 77 * length cs = class_words_within cs in
+    omega (
+      arith,
+      others,
+      slot_words_within c.slots,
+      sum_by-cons most_slots_words c cs,
+      sum_by-cons most_class_words c cs,
+      sum_by-cons class_nodes c cs,
+    )

@@ -41,6 +41,31 @@ abbrev pub static_size : List ClassRow → List FunctionRow → List LiteralRow 
 static_size classes functions literals =
     2 + length functions + sum_by row_nodes literals + 4 * sum_by class_nodes classes + 2 * length classes
 
+-- ---- words: what rows make takes at most so many
+
+-- a symbol, or a unit of the size of a datum
+abbrev pub unit_words : ℕ
+unit_words = 70
+
+abbrev pub most_literal_words : LiteralRow → ℕ
+most_literal_words l = unit_words * literal_size l
+
+-- a slot's name, the list of its initargs, and the function of its initform
+abbrev pub most_slot_words : SlotRow → ℕ
+most_slot_words s = unit_words + 2 + 2 * unit_words * length s.initargs
+
+abbrev pub most_slots_words : ClassRow → ℕ
+most_slots_words c = sum_by most_slot_words c.slots
+
+-- a class, with its name, and three words for each slot
+abbrev pub most_class_words : ClassRow → ℕ
+most_class_words c = unit_words + 7 + length c.precedence + 3 * length c.slots
+
+-- all together, with the symbol t and the streams
+abbrev pub most_static_words : List ClassRow → List FunctionRow → List LiteralRow → ℕ
+most_static_words classes functions literals =
+    unit_words + 2 + 2 * length functions + sum_by most_literal_words literals + (sum_by most_slots_words classes + sum_by most_class_words classes)
+
 -- ---- rows
 
 -- the number of what a name calls is no greater than any program's

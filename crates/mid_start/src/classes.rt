@@ -7,7 +7,7 @@ ghost use Rattle.lang_meaning.specs.declared.program.ClassRow.{ClassRow};
 ghost use Rattle.lang_meaning.specs.Objects.{Object, class_object, input_stream, output_stream};
 ghost use Rattle.mid_start.specs.Laying.{HasRoom};
 ghost use Rattle.mid_start.specs.Making.{IsWithin};
-ghost use Rattle.mid_start.specs.Rows.{ClassFits, class_size};
+ghost use Rattle.mid_start.specs.Rows.{ClassFits, most_class_words};
 ghost use Rattle.mid_start.specs.Settling as settling;
 ghost use Rattle.mid_start.specs.Settling.{truth_word, slot_words, precedence_words, class_heading, class_words, SlotsAreCounted, Settles, ClassGiven, ClassesSettle};
 
@@ -58,8 +58,8 @@ pub fn lay_classes(
     requires fits { (i : ℕ) (c : ClassRow) → slice_get rows.now i ≡ Some c → ClassFits (length names.now) (length rows.now) c }
     requires many { length rows.now < 2 ^ 28 }
     requires counted { SlotsAreCounted rows.now slots.now }
-    requires room { HasRoom words.old (160 * sum_by class_size rows.now) }
-    ensures within { OnOk result (IsWithin words.old words.new (160 * sum_by class_size rows.now)) }
+    requires room { HasRoom words.old (sum_by most_class_words rows.now) }
+    ensures within { OnOk result (IsWithin words.old words.new (sum_by most_class_words rows.now)) }
     ensures many { IfOk result (λ ws. length ws ≡ length rows.now) }
     ensures settle { IfOk result (λ ws. (program : ProgramRows) → program.classes ≡ rows.now
         → ClassesSettle names.now program truth slots.now words.old words.new (length rows.now) ws) }
@@ -91,8 +91,8 @@ fn lay_class(
     requires fits { (count : ℕ) × (ClassFits (length names.now) count row.now × (count < 2 ^ 28)) }
     requires number { class < 2 ^ 28 }
     requires slots { length slots.now ≡ length row.now.slots }
-    requires room { HasRoom words.old (160 * class_size row.now) }
-    ensures within { OnOk result (IsWithin words.old words.new (160 * class_size row.now)) }
+    requires room { HasRoom words.old (most_class_words row.now) }
+    ensures within { OnOk result (IsWithin words.old words.new (most_class_words row.now)) }
     ensures settles { IfOk result (λ w. (program : ProgramRows) → slice_get program.classes class ≡ Some row.now
         → Settles names.now program (class_object class) (ClassGiven names.now program class row.now truth slots.now) words.old words.new w) }
 {

@@ -16,8 +16,8 @@ use std::alloc::Global;
 /// The function of a procedure, with its number, or a generic function is laid; its word.
 pub fn lay_function(callee: Callee, words: &mut ArenaWords) -> Result<u32, NoMemory>
     requires fits { CalleeFits callee }
-    requires room { HasRoom words.old 160 }
-    ensures within { OnOk result (IsWithin words.old words.new 160) }
+    requires room { HasRoom words.old 2 }
+    ensures within { OnOk result (IsWithin words.old words.new 2) }
     ensures made { IfOk result (λ w. (names : List (List ℕ)) → Makes names IsWord (callee_recipe callee) words.old words.new w) }
 {
     let word = words.end_address() + OBJECT;
@@ -41,8 +41,8 @@ pub fn lay_functions(
     words: &mut ArenaWords,
 ) -> Result<WordList, NoMemory>
     requires fits { (i : ℕ) (f : FunctionRow) → slice_get rows.now i ≡ Some f → CalleeFits f.callee }
-    requires room { HasRoom words.old (160 * length rows.now) }
-    ensures within { OnOk result (IsWithin words.old words.new (160 * length rows.now)) }
+    requires room { HasRoom words.old (2 * length rows.now) }
+    ensures within { OnOk result (IsWithin words.old words.new (2 * length rows.now)) }
     ensures made { IfOk result (λ ws. (names : List (List ℕ)) → Makes names (EachStandsFor IsWord) (in_turn function_recipe rows.now) words.old words.new ws) }
 {
     let mut laid = WordList::new(alloc);

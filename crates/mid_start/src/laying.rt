@@ -32,9 +32,9 @@ pub fn lay_datum(
     words: &mut ArenaWords,
 ) -> Result<u32, NoMemory>
     requires good { WellFormed (length names.now) datum.now }
-    requires room { HasRoom words.old (160 * size_of datum.now) }
+    requires room { HasRoom words.old (70 * size_of datum.now) }
     ensures grown { OnOk result (Grown words.old words.new) }
-    ensures count { OnOk result (length words.new.words ≤ length words.old.words + 160 * size_of datum.now) }
+    ensures count { OnOk result (length words.new.words ≤ length words.old.words + 70 * size_of datum.now) }
     ensures lays { IfOk result (λ w. Lays names.now (literals.lay names.now datum.now) words.old words.new w) }
     ensures err { OnErr result (words.new ≡ words.old) }
 {
@@ -58,9 +58,9 @@ fn lay_item(
     words: &mut ArenaWords,
 ) -> Result<u32, NoMemory>
     requires good { WellFormed (length names.now) datum.now }
-    requires room { HasRoom words.old (160 * size_of datum.now) }
+    requires room { HasRoom words.old (70 * size_of datum.now) }
     ensures grown { Grown words.old words.new }
-    ensures count { OnOk result (length words.new.words + 2 ≤ length words.old.words + 160 * size_of datum.now) }
+    ensures count { OnOk result (length words.new.words + 2 ≤ length words.old.words + 70 * size_of datum.now) }
     ensures lays { IfOk result (λ w. Lays names.now (literals.lay names.now datum.now) words.old words.new w) }
 {
     match &datum.kind {
@@ -77,7 +77,7 @@ fn lay_item(
 // A symbol is laid where it is not there.
 fn lay_symbol(symbol: Symbol, names: &Names, words: &mut ArenaWords) -> Result<u32, NoMemory>
     requires named { SymbolBelow (length names.now) symbol }
-    requires room { HasRoom words.old 160 }
+    requires room { HasRoom words.old 70 }
     ensures grown { Grown words.old words.new }
     ensures count { OnOk result (length words.new.words ≤ length words.old.words + 68) }
     ensures lays { IfOk result (λ w. Lays names.now (literals.lay_content names.now (data_specs.symbol symbol)) words.old words.new w) }
@@ -93,7 +93,7 @@ fn lay_new_symbol(symbol: Symbol, names: &Names, words: &mut ArenaWords) -> Resu
     requires table { IsTable names.now }
     requires named { SymbolBelow (length names.now) symbol }
     requires new { word_of_symbol symbol words.old.symbols ≡ None }
-    requires room { HasRoom words.old 160 }
+    requires room { HasRoom words.old 70 }
     ensures grown { Grown words.old words.new }
     ensures count { OnOk result (length words.new.words ≤ length words.old.words + 68) }
     ensures lays { IfOk result (λ w. Lays names.now (literals.lay_content names.now (data_specs.symbol symbol)) words.old words.new w) }
@@ -123,9 +123,9 @@ fn lay_vector(
     words: &mut ArenaWords,
 ) -> Result<u32, NoMemory>
     requires good { AllOf (WellFormed (length names.now)) items.now }
-    requires room { HasRoom words.old (160 + 160 * sizes_of (items_of items.now)) }
+    requires room { HasRoom words.old (70 + 70 * sizes_of (items_of items.now)) }
     ensures grown { Grown words.old words.new }
-    ensures count { OnOk result (length words.new.words ≤ length words.old.words + 2 + 160 * sizes_of (items_of items.now)) }
+    ensures count { OnOk result (length words.new.words ≤ length words.old.words + 2 + 70 * sizes_of (items_of items.now)) }
     ensures lays { IfOk result (λ w. Lays names.now (literals.lay_content names.now (vector (items_of items.now))) words.old words.new w) }
 {
     let elements = lay_items(alloc, items, names, words)?;
@@ -144,10 +144,10 @@ fn lay_items(
     words: &mut ArenaWords,
 ) -> Result<WordList, NoMemory>
     requires good { AllOf (WellFormed (length names.now)) items.now }
-    requires room { HasRoom words.old (160 * sizes_of (items_of items.now)) }
+    requires room { HasRoom words.old (70 * sizes_of (items_of items.now)) }
     ensures grown { Grown words.old words.new }
     ensures each { IfOk result (λ ws. length ws ≡ length items.now) }
-    ensures count { OnOk result (length words.new.words + 2 * length items.now ≤ length words.old.words + 160 * sizes_of (items_of items.now)) }
+    ensures count { OnOk result (length words.new.words + 2 * length items.now ≤ length words.old.words + 70 * sizes_of (items_of items.now)) }
     ensures lays { IfOk result (λ ws. LaysAll names.now (literals.lay_items names.now (items_of items.now)) words.old words.new ws) }
 {
     let mut laid = WordList::new(alloc);
@@ -172,10 +172,10 @@ fn lay_list(
 ) -> Result<u32, NoMemory>
     requires good { AllOf (WellFormed (length names.now)) items.now }
     requires tail { OfDotted (WellFormed (length names.now)) (tail_of tail.now) }
-    requires room { HasRoom words.old (160 * (sizes_of (items_of items.now) + size_of_tail (tail_of tail.now))) }
+    requires room { HasRoom words.old (70 * (sizes_of (items_of items.now) + size_of_tail (tail_of tail.now))) }
     ensures grown { Grown words.old words.new }
     ensures count { OnOk result (length words.new.words
-        ≤ length words.old.words + 160 * (sizes_of (items_of items.now) + size_of_tail (tail_of tail.now))) }
+        ≤ length words.old.words + 70 * (sizes_of (items_of items.now) + size_of_tail (tail_of tail.now))) }
     ensures lays { IfOk result (λ w. Lays names.now (literals.lay_content names.now (list (items_of items.now) (tail_of tail.now)))
         words.old words.new w) }
 {
@@ -192,9 +192,9 @@ fn lay_tail(
     words: &mut ArenaWords,
 ) -> Result<u32, NoMemory>
     requires good { OfDotted (WellFormed (length names.now)) (tail_of tail.now) }
-    requires room { HasRoom words.old (160 * size_of_tail (tail_of tail.now)) }
+    requires room { HasRoom words.old (70 * size_of_tail (tail_of tail.now)) }
     ensures grown { Grown words.old words.new }
-    ensures count { OnOk result (length words.new.words ≤ length words.old.words + 160 * size_of_tail (tail_of tail.now)) }
+    ensures count { OnOk result (length words.new.words ≤ length words.old.words + 70 * size_of_tail (tail_of tail.now)) }
     ensures lays { IfOk result (λ w. Lays names.now (literals.lay_tail names.now (tail_of tail.now)) words.old words.new w) }
 {
     match tail {

@@ -6,7 +6,7 @@ ghost use Rattle.lang_meaning.specs.declared.program.LiteralRow.{LiteralRow};
 ghost use Rattle.mid_start.specs.Laying.{HasRoom};
 ghost use Rattle.lang_meaning.specs.Recipes.{literal_recipe, in_turn};
 ghost use Rattle.mid_start.specs.Making.{IsWord, EachStandsFor, Makes, IsWithin};
-ghost use Rattle.mid_start.specs.Rows.{LiteralFits, literal_size};
+ghost use Rattle.mid_start.specs.Rows.{LiteralFits, most_literal_words};
 
 use crate::{ArenaWords, lay_datum};
 use base::{Names, NoMemory, WordList};
@@ -22,8 +22,8 @@ pub fn lay_literals(
     words: &mut ArenaWords,
 ) -> Result<WordList, NoMemory>
     requires fits { (i : ℕ) (l : LiteralRow) → slice_get rows.now i ≡ Some l → LiteralFits (length names.now) l }
-    requires room { HasRoom words.old (160 * sum_by literal_size rows.now) }
-    ensures within { OnOk result (IsWithin words.old words.new (160 * sum_by literal_size rows.now)) }
+    requires room { HasRoom words.old (sum_by most_literal_words rows.now) }
+    ensures within { OnOk result (IsWithin words.old words.new (sum_by most_literal_words rows.now)) }
     ensures made { IfOk result (λ ws. Makes names.now (EachStandsFor IsWord) (in_turn (literal_recipe names.now) rows.now) words.old words.new ws) }
 {
     let mut laid = WordList::new(alloc);
@@ -45,8 +45,8 @@ fn lay_literal(
     words: &mut ArenaWords,
 ) -> Result<u32, NoMemory>
     requires fits { LiteralFits (length names.now) row.now }
-    requires room { HasRoom words.old (160 * literal_size row.now) }
-    ensures within { OnOk result (IsWithin words.old words.new (160 * literal_size row.now)) }
+    requires room { HasRoom words.old (most_literal_words row.now) }
+    ensures within { OnOk result (IsWithin words.old words.new (most_literal_words row.now)) }
     ensures made { IfOk result (λ w. Makes names.now IsWord (literal_recipe names.now row.now) words.old words.new w) }
 {
     match row {

@@ -30,6 +30,7 @@ pub fn lay_symbols(
     ensures kept { IfOk result (λ s. s ≡ record laid { arena = s.arena }) }
     ensures first { IfOk result (λ s. s.arena.first ≡ 0) }
     ensures size { IfOk result (λ s. length s.arena.words ≤ 2 ^ 24) }
+    ensures within { IfOk result (λ s. length s.arena.words ≤ length laid.arena.words + 70 * length wanted.now) }
     ensures too_large { result ≡ Err StaticDataFault.TooLarge → 2 ^ 24 < length laid.arena.words + 160 * length wanted.now }
 {
     let StaticData {
@@ -61,8 +62,8 @@ fn lay_names(
     words: &mut ArenaWords,
 ) -> Result<(), NoMemory>
     requires named { AreNamed names.now wanted.now }
-    requires room { HasRoom words.old (160 * length wanted.now) }
-    ensures within { OnOk result (IsWithin words.old words.new (160 * length wanted.now)) }
+    requires room { HasRoom words.old (70 * length wanted.now) }
+    ensures within { OnOk result (IsWithin words.old words.new (70 * length wanted.now)) }
     ensures lays { OnOk result (LaysSymbols names.now wanted.now words.old words.new) }
 {
     let _ = names.len();

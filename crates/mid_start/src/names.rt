@@ -23,9 +23,9 @@ pub fn lay_name(
     words: &mut ArenaWords,
 ) -> Result<u32, NoMemory>
     requires named { name.0 < length names.now }
-    requires room { HasRoom words.old 160 }
+    requires room { HasRoom words.old 70 }
     ensures grown { OnOk result (Grown words.old words.new) }
-    ensures within { OnOk result (IsWithin words.old words.new 160) }
+    ensures within { OnOk result (IsWithin words.old words.new 70) }
     ensures made { IfOk result (λ w. Makes names.now IsWord (name_recipe names.now name) words.old words.new w) }
 {
     let symbol = symbol_of_name(name);

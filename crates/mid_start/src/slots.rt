@@ -14,7 +14,7 @@ ghost use Rattle.lang_meaning.specs.Recipes.{initargs_recipe, initform_recipe, i
 ghost use Rattle.mid_start.specs.Recipes.{slot_recipe, slots_recipe};
 ghost use Rattle.mid_start.specs.Making.{IsWord, IsSlot, EachStandsFor, Makes, IsWithin};
 ghost use Rattle.mid_start.specs.Settling.{SlotsAreCounted};
-ghost use Rattle.mid_start.specs.Rows.{SlotFits, slot_size, slots_size};
+ghost use Rattle.mid_start.specs.Rows.{SlotFits, most_slot_words, most_slots_words};
 
 use crate::functions::lay_function;
 use crate::names::{NOWHERE, lay_name, symbol_of_name};
@@ -45,8 +45,8 @@ pub fn lay_slots(
 ) -> Result<ItemList<SlotWordsList>, NoMemory>
     requires fits { (c : ℕ) (row : ClassRow) (i : ℕ) (s : SlotRow) → slice_get classes.now c ≡ Some row → slice_get row.slots i ≡ Some s
         → SlotFits (length names.now) s }
-    requires room { HasRoom words.old (160 * sum_by slots_size classes.now) }
-    ensures within { OnOk result (IsWithin words.old words.new (160 * sum_by slots_size classes.now)) }
+    requires room { HasRoom words.old (sum_by most_slots_words classes.now) }
+    ensures within { OnOk result (IsWithin words.old words.new (sum_by most_slots_words classes.now)) }
     ensures counted { IfOk result (λ wss. SlotsAreCounted classes.now wss) }
     ensures made { IfOk result (λ wss. Makes names.now (EachStandsFor (EachStandsFor IsSlot)) (in_turn (slots_recipe names.now) classes.now) words.old words.new wss) }
 {
@@ -69,8 +69,8 @@ fn lay_slots_of(
     words: &mut ArenaWords,
 ) -> Result<SlotWordsList, NoMemory>
     requires fits { (i : ℕ) (s : SlotRow) → slice_get rows.now i ≡ Some s → SlotFits (length names.now) s }
-    requires room { HasRoom words.old (160 * sum_by slot_size rows.now) }
-    ensures within { OnOk result (IsWithin words.old words.new (160 * sum_by slot_size rows.now)) }
+    requires room { HasRoom words.old (sum_by most_slot_words rows.now) }
+    ensures within { OnOk result (IsWithin words.old words.new (sum_by most_slot_words rows.now)) }
     ensures many { IfOk result (λ ws. length ws ≡ length rows.now) }
     ensures made { IfOk result (λ ws. Makes names.now (EachStandsFor IsSlot) (in_turn (slot_recipe names.now) rows.now) words.old words.new ws) }
 {
@@ -92,8 +92,8 @@ fn lay_slot(
     words: &mut ArenaWords,
 ) -> Result<SlotWords, NoMemory>
     requires fits { SlotFits (length names.now) row.now }
-    requires room { HasRoom words.old (160 * slot_size row.now) }
-    ensures within { OnOk result (IsWithin words.old words.new (160 * slot_size row.now)) }
+    requires room { HasRoom words.old (most_slot_words row.now) }
+    ensures within { OnOk result (IsWithin words.old words.new (most_slot_words row.now)) }
     ensures made { IfOk result (λ s. Makes names.now IsSlot (slot_recipe names.now row.now) words.old words.new s) }
 {
     let name = lay_name(alloc, row.name, names, words)?;
@@ -114,8 +114,8 @@ fn lay_initargs(
     words: &mut ArenaWords,
 ) -> Result<u32, NoMemory>
     requires fits { (i : ℕ) (a : Name) → slice_get row.now.initargs i ≡ Some a → a.0 < length names.now }
-    requires room { HasRoom words.old (160 * (1 + length row.now.initargs)) }
-    ensures within { OnOk result (IsWithin words.old words.new (160 * (1 + length row.now.initargs))) }
+    requires room { HasRoom words.old (140 * length row.now.initargs) }
+    ensures within { OnOk result (IsWithin words.old words.new (140 * length row.now.initargs)) }
     ensures made { IfOk result (λ w. Makes names.now IsWord (initargs_recipe names.now row.now) words.old words.new w) }
 {
     if row.initargs.len() == 0 {
@@ -143,8 +143,8 @@ fn list_of_names(alloc: Global, list: &NameList) -> Result<Datum, NoMemory>
 // The function of an initform, if there is one.
 fn lay_initform(initform: Option<ProcedureId>, words: &mut ArenaWords) -> Result<u32, NoMemory>
     requires fits { (p : ℕ) → initform ≡ Some p → p < 2 ^ 28 }
-    requires room { HasRoom words.old 160 }
-    ensures within { OnOk result (IsWithin words.old words.new 160) }
+    requires room { HasRoom words.old 2 }
+    ensures within { OnOk result (IsWithin words.old words.new 2) }
     ensures made { IfOk result (λ w. (names : List (List ℕ)) → Makes names IsWord (initform_recipe initform) words.old words.new w) }
 {
     match initform {

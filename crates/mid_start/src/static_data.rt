@@ -2,7 +2,7 @@
 
 ghost use Rattle.std.specs.Prelude.{◌≡◌, ◌+◌, ◌*◌, ◌^◌, ◌<◌, ◌≤◌, [], ◌++◌, Err, length, min, IfOk};
 ghost use Rattle.lang_meaning.specs.declared.program.ProgramRows.{ProgramRows};
-ghost use Rattle.mid_start.specs.Rows.{RowsFit, static_size};
+ghost use Rattle.mid_start.specs.Rows.{RowsFit, static_size, most_static_words};
 ghost use Rattle.mid_start.specs.StaticData.{IsStaticData};
 
 use crate::ArenaWords;
@@ -60,6 +60,7 @@ pub fn lay_static_data(
     requires { RowsFit names.now true_name rows.now.classes rows.now.functions rows.now.literals }
     ensures start { IfOk result (λ s. IsStaticData names.now rows.now low [] s) }
     ensures size { IfOk result (λ s. length s.arena.words ≤ 2 ^ 24) }
+    ensures within { IfOk result (λ s. length s.arena.words ≤ 46 + length low + most_static_words rows.now.classes rows.now.functions rows.now.literals) }
     ensures too_large { result ≡ Err StaticDataFault.TooLarge → 2 ^ 24 < 46 + length low + 160 * static_size rows.now.classes rows.now.functions rows.now.literals }
 {
     lay_rows(
@@ -87,6 +88,7 @@ pub fn lay_rows(
     ensures start { IfOk result (λ s. (program : ProgramRows) → program.classes ≡ classes.now → program.functions ≡ functions.now
         → program.literals ≡ literals.now → IsStaticData names.now program low [] s) }
     ensures size { IfOk result (λ s. length s.arena.words ≤ 2 ^ 24) }
+    ensures within { IfOk result (λ s. length s.arena.words ≤ 46 + length low + most_static_words classes.now functions.now literals.now) }
     ensures too_large { result ≡ Err StaticDataFault.TooLarge → 2 ^ 24 < 46 + length low + 160 * static_size classes.now functions.now literals.now }
 {
     if low.len() > MOST_LOW {
@@ -133,6 +135,7 @@ fn lay_all(
     ensures start { IfOk result (λ s. (program : ProgramRows) → program.classes ≡ classes.now → program.functions ≡ functions.now
         → program.literals ≡ literals.now → IsStaticData names.now program low [] s) }
     ensures count { IfOk result (λ s. length s.arena.words ≤ 46 + length low + 160 * static_size classes.now functions.now literals.now) }
+    ensures within { IfOk result (λ s. length s.arena.words ≤ 46 + length low + most_static_words classes.now functions.now literals.now) }
 {
     let mut words = ArenaWords::new(alloc, FIXED_END + 4 * low.len() as u32);
     let function_words = lay_functions(alloc, functions, &mut words)?;

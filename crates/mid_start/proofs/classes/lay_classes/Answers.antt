@@ -1,7 +1,7 @@
 -- One class more.
 use Rattle.std.proofs.Common.{◌≡◌, ◌≤◌, [], ◌∷◌, Some, length, ap, ◌∙◌, subst, length-append, arith}
 use Rattle.std.specs.Prelude.{slice_get}
-use Rattle.mid_start.specs.Rows.{class_size}
+use Rattle.mid_start.specs.Rows.{most_class_words}
 use Rattle.mid_start.specs.Settling.{ClassesSettle}
 use Rattle.mid_start.proofs.ClassSteps.{settle_more}
 use Rattle.mid_start.proofs.Steps.{room_next, within_next, within_all}
@@ -9,11 +9,11 @@ use Rattle.mid_start.proofs.classes.lay_classes.Goals as goal
 
 pub lay_class-requires-clause-room : goal.lay_class-requires-clause-room
 lay_class-requires-clause-room c =
-    room_next class_size c.args.rows.now c.loop-class.class c.in-Some.row.now c.args.words.now c.loop-class.words c.in-Some.ensures c.requires.room c.loop-class.invariant.within
+    room_next most_class_words c.args.rows.now c.loop-class.class c.in-Some.row.now c.args.words.now c.loop-class.words c.in-Some.ensures c.requires.room c.loop-class.invariant.within
 
 pub loop-class-preserved : goal.loop-class-preserved
 loop-class-preserved c = record {
-  within = within_next class_size c.args.rows.now c.loop-class.class c.in-Some.row.now c.args.words.now c.loop-class.words c.lay_class.new.words c.in-Some.ensures
+  within = within_next most_class_words c.args.rows.now c.loop-class.class c.in-Some.row.now c.args.words.now c.loop-class.words c.lay_class.new.words c.in-Some.ensures
       c.loop-class.invariant.within c.in_ok-word.ensures.within;
   many = omega (arith, ap (λ xs. length xs) c.in_ok-push.ensures.ok, length-append c.loop-class.laid (c.in_ok-word.word ∷ []), c.loop-class.invariant.many);
   settle = λ program same.
@@ -25,7 +25,7 @@ loop-class-preserved c = record {
 pub returns-clause-within : goal.returns-clause-within
 returns-clause-within c =
     let past : length c.args.rows.now ≤ c.loop-class.class = omega (arith, c.len-class-end.ensures) in
-    within_all class_size c.args.rows.now c.loop-class.class c.args.words.now c.loop-class.words past c.loop-class.invariant.within
+    within_all most_class_words c.args.rows.now c.loop-class.class c.args.words.now c.loop-class.words past c.loop-class.invariant.within
 
 pub returns-clause-settle : goal.returns-clause-settle
 returns-clause-settle c program same =

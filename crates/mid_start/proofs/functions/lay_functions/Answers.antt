@@ -8,7 +8,7 @@ use Rattle.mid_start.proofs.functions.lay_functions.Goals as goal
 
 pub loop-at-preserved : goal.loop-at-preserved
 loop-at-preserved c = record {
-  within = within_both c.args.words.now c.loop-at.words c.lay_function.new.words (160 * c.loop-at.at) 160 (160 * (c.loop-at.at + 1))
+  within = within_both c.args.words.now c.loop-at.words c.lay_function.new.words (2 * c.loop-at.at) 2 (2 * (c.loop-at.at + 1))
       (omega arith) c.loop-at.invariant.within c.in_ok-word.ensures.within;
   made = λ names.
       turns_more names IsWord function_recipe c.args.rows.now c.loop-at.at c.in-Some.row.now c.args.words.now c.loop-at.words c.lay_function.new.words

@@ -6,6 +6,6 @@ use Rattle.mid_start.proofs.functions.lay_functions.Given as goal
 
 abbrev pub invariant-loop-at : goal.invariant-loop-at
 invariant-loop-at l = record {
-  within : IsWithin l.fn.words l.words (160 * l.at);
+  within : IsWithin l.fn.words l.words (2 * l.at);
   made : (names : List (List ℕ)) → Makes names (EachStandsFor IsWord) (in_turn function_recipe (take l.at l.rows)) l.fn.words l.words l.laid;
 }

@@ -27,6 +27,6 @@ invariant-lay_items-loop-at l = record {
   grown : Grown l.fn.words l.words;
   each : length l.laid ≡ l.at;
   count :
-      length l.words.words + 2 * l.at + 160 * sizes_of (items_of (drop l.at l.items)) ≤ length l.fn.words.words + 160 * sizes_of (items_of l.items);
+      length l.words.words + 2 * l.at + 70 * sizes_of (items_of (drop l.at l.items)) ≤ length l.fn.words.words + 70 * sizes_of (items_of l.items);
   laid : LaysAll l.names (literals.lay_items l.names (items_of (take l.at l.items))) l.fn.words l.words l.laid;
 }

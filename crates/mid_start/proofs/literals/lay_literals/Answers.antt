@@ -3,18 +3,18 @@ use Rattle.std.proofs.Common.{◌≤◌, length, subst, arith}
 use Rattle.std.proofs.lemmas.List.{take_all}
 use Rattle.lang_meaning.specs.Recipes.{literal_recipe, in_turn}
 use Rattle.mid_start.specs.Making.{IsWord, EachStandsFor, Makes}
-use Rattle.mid_start.specs.Rows.{literal_size}
+use Rattle.mid_start.specs.Rows.{most_literal_words}
 use Rattle.mid_start.proofs.Joins.{lasts_word, turns_more}
 use Rattle.mid_start.proofs.Steps.{room_next, within_next, within_all}
 use Rattle.mid_start.proofs.literals.lay_literals.Goals as goal
 
 pub lay_literal-requires-clause-room : goal.lay_literal-requires-clause-room
 lay_literal-requires-clause-room c =
-    room_next literal_size c.args.rows.now c.loop-at.at c.in-Some.row.now c.args.words.now c.loop-at.words c.in-Some.ensures c.requires.room c.loop-at.invariant.within
+    room_next most_literal_words c.args.rows.now c.loop-at.at c.in-Some.row.now c.args.words.now c.loop-at.words c.in-Some.ensures c.requires.room c.loop-at.invariant.within
 
 pub loop-at-preserved : goal.loop-at-preserved
 loop-at-preserved c = record {
-  within = within_next literal_size c.args.rows.now c.loop-at.at c.in-Some.row.now c.args.words.now c.loop-at.words c.lay_literal.new.words c.in-Some.ensures c.loop-at.invariant.within
+  within = within_next most_literal_words c.args.rows.now c.loop-at.at c.in-Some.row.now c.args.words.now c.loop-at.words c.lay_literal.new.words c.in-Some.ensures c.loop-at.invariant.within
       c.in_ok-word.ensures.within;
   made =
       turns_more c.args.names.now IsWord (literal_recipe c.args.names.now) c.args.rows.now c.loop-at.at c.in-Some.row.now c.args.words.now c.loop-at.words c.lay_literal.new.words
@@ -24,7 +24,7 @@ loop-at-preserved c = record {
 pub returns-clause-within : goal.returns-clause-within
 returns-clause-within c =
     let past : length c.args.rows.now ≤ c.loop-at.at = omega (arith, c.len-at-end.ensures) in
-    within_all literal_size c.args.rows.now c.loop-at.at c.args.words.now c.loop-at.words past c.loop-at.invariant.within
+    within_all most_literal_words c.args.rows.now c.loop-at.at c.args.words.now c.loop-at.words past c.loop-at.invariant.within
 
 pub returns-clause-made : goal.returns-clause-made
 returns-clause-made c =

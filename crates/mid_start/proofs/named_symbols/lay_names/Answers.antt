@@ -8,7 +8,7 @@ use Rattle.mid_start.proofs.named_symbols.lay_names.Goals as goal
 
 pub loop-at-preserved : goal.loop-at-preserved
 loop-at-preserved c = record {
-  within = within_both c.args.words.now c.loop-at.words c.lay_name.new.words (160 * c.loop-at.at) 160 (160 * (c.loop-at.at + 1))
+  within = within_both c.args.words.now c.loop-at.words c.lay_name.new.words (70 * c.loop-at.at) 70 (70 * (c.loop-at.at + 1))
       (omega arith) c.loop-at.invariant.within c.in_ok-lay_name.ensures.within;
   lays =
       subst (λ ns. LaysSymbols c.args.names.now ns c.args.words.now c.lay_name.new.words)

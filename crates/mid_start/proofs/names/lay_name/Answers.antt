@@ -23,9 +23,9 @@ pub returns-clause-within : goal.returns-clause-within
 returns-clause-within c =
     let size : size_of c.symbol_of_name-symbol.result ≡ 1 = ap size_of c.symbol_of_name-symbol.ensures ∙ symbol_size c.args.name in
     on_ok_both c.lay_datum.result (Grown c.args.words.now c.lay_datum.new.words)
-    (length c.lay_datum.new.words.words ≤ length c.args.words.now.words + 160 * size_of c.symbol_of_name-symbol.result)
-    (IsWithin c.args.words.now c.lay_datum.new.words 160)
-    (λ g h. within_grown c.args.words.now c.lay_datum.new.words 160 g (omega (arith, size, h))) c.lay_datum.ensures.grown c.lay_datum.ensures.count
+    (length c.lay_datum.new.words.words ≤ length c.args.words.now.words + 70 * size_of c.symbol_of_name-symbol.result)
+    (IsWithin c.args.words.now c.lay_datum.new.words 70)
+    (λ g h. within_grown c.args.words.now c.lay_datum.new.words 70 g (omega (arith, size, h))) c.lay_datum.ensures.grown c.lay_datum.ensures.count
 
 pub returns-clause-made : goal.returns-clause-made
 returns-clause-made c =

@@ -1,5 +1,5 @@
 -- The datum is a list of at least one symbol.
-use Rattle.std.proofs.Common.{◌≡◌, ◌+◌, ◌*◌, ◌≤◌, length, ap, ◌∙◌, arith}
+use Rattle.std.proofs.Common.{◌≡◌, ◌+◌, ◌*◌, ◌≤◌, List, length, ap, ◌∙◌, arith}
 use Rattle.base.specs.DataMeasures.{size_of}
 use Rattle.lang_meaning.specs.Literals.{lay}
 use Rattle.mid_start.specs.Laying.{Lays, Grown}
@@ -10,6 +10,10 @@ use Rattle.mid_start.proofs.NameData.{name_list, list_good, list_size}
 use Rattle.mid_start.proofs.Steps.{if_ok_on, on_ok_both, within_grown}
 use Rattle.mid_start.proofs.slots.lay_initargs.Goals as goal
 
+-- a list that is not empty has an item
+some_initargs : {X : Type 0} (xs : List X) → (length xs ≡ 0 → ⊥) → 1 ≤ length xs
+some_initargs xs h = omega arith
+
 pub lay_datum-requires-clause-good : goal.lay_datum-requires-clause-good
 lay_datum-requires-clause-good c =
     let list : c.in_ok-list.list ≡ name_list c.args.row.now.initargs = c.in_ok-list.ensures in
@@ -18,15 +22,17 @@ lay_datum-requires-clause-good c =
 pub lay_datum-requires-clause-room : goal.lay_datum-requires-clause-room
 lay_datum-requires-clause-room c =
     let size : size_of c.in_ok-list.list ≡ 1 + length c.args.row.now.initargs = ap size_of c.in_ok-list.ensures ∙ list_size c.args.row.now.initargs in
-    omega (arith, size, c.requires.room)
+    let some : 1 ≤ length c.args.row.now.initargs = some_initargs c.args.row.now.initargs (λ e. c.if-len-eq0.false (c.len.ensures ∙ e)) in
+    omega (arith, size, some, c.requires.room)
 
 pub returns-clause-within : goal.returns-clause-within
 returns-clause-within c =
     let size : size_of c.in_ok-list.list ≡ 1 + length c.args.row.now.initargs = ap size_of c.in_ok-list.ensures ∙ list_size c.args.row.now.initargs in
+    let some : 1 ≤ length c.args.row.now.initargs = some_initargs c.args.row.now.initargs (λ e. c.if-len-eq0.false (c.len.ensures ∙ e)) in
     on_ok_both c.lay_datum.result (Grown c.args.words.now c.lay_datum.new.words)
-    (length c.lay_datum.new.words.words ≤ length c.args.words.now.words + 160 * size_of c.in_ok-list.list)
-    (IsWithin c.args.words.now c.lay_datum.new.words (160 * (1 + length c.args.row.now.initargs)))
-    (λ g h. within_grown c.args.words.now c.lay_datum.new.words (160 * (1 + length c.args.row.now.initargs)) g (omega (arith, size, h))) c.lay_datum.ensures.grown c.lay_datum.ensures.count
+    (length c.lay_datum.new.words.words ≤ length c.args.words.now.words + 70 * size_of c.in_ok-list.list)
+    (IsWithin c.args.words.now c.lay_datum.new.words (140 * length c.args.row.now.initargs))
+    (λ g h. within_grown c.args.words.now c.lay_datum.new.words (140 * length c.args.row.now.initargs) g (omega (arith, size, h, some))) c.lay_datum.ensures.grown c.lay_datum.ensures.count
 
 pub returns-clause-made : goal.returns-clause-made
 returns-clause-made c =

@@ -4,7 +4,7 @@ use Rattle.std.proofs.lemmas.List.{take_all}
 use Rattle.lang_meaning.specs.Recipes.{in_turn}
 use Rattle.mid_start.specs.Recipes.{slots_recipe}
 use Rattle.mid_start.specs.Making.{IsSlot, EachStandsFor, Makes}
-use Rattle.mid_start.specs.Rows.{slots_size}
+use Rattle.mid_start.specs.Rows.{most_slots_words}
 use Rattle.mid_start.proofs.Joins.{lasts_slot, lasts_each, turns_more}
 use Rattle.mid_start.proofs.Steps.{room_next, within_next, within_all}
 use Rattle.mid_start.proofs.SlotCounts.{counted_more}
@@ -12,11 +12,11 @@ use Rattle.mid_start.proofs.slots.lay_slots.Goals as goal
 
 pub lay_slots_of-requires-clause-room : goal.lay_slots_of-requires-clause-room
 lay_slots_of-requires-clause-room c =
-    room_next slots_size c.args.classes.now c.loop-at.at c.in-Some.class.now c.args.words.now c.loop-at.words c.in-Some.ensures c.requires.room c.loop-at.invariant.within
+    room_next most_slots_words c.args.classes.now c.loop-at.at c.in-Some.class.now c.args.words.now c.loop-at.words c.in-Some.ensures c.requires.room c.loop-at.invariant.within
 
 pub loop-at-preserved : goal.loop-at-preserved
 loop-at-preserved c = record {
-  within = within_next slots_size c.args.classes.now c.loop-at.at c.in-Some.class.now c.args.words.now c.loop-at.words c.lay_slots_of.new.words c.in-Some.ensures c.loop-at.invariant.within
+  within = within_next most_slots_words c.args.classes.now c.loop-at.at c.in-Some.class.now c.args.words.now c.loop-at.words c.lay_slots_of.new.words c.in-Some.ensures c.loop-at.invariant.within
       c.in_ok-slots.ensures.within;
   many = omega (arith, ap (λ xs. length xs) c.in_ok-push.ensures.ok, length-append c.loop-at.laid (c.in_ok-slots.slots ∷ []), c.loop-at.invariant.many);
   each = λ class row ss here there.
@@ -30,7 +30,7 @@ loop-at-preserved c = record {
 pub returns-clause-within : goal.returns-clause-within
 returns-clause-within c =
     let past : length c.args.classes.now ≤ c.loop-at.at = omega (arith, c.len-at-end.ensures) in
-    within_all slots_size c.args.classes.now c.loop-at.at c.args.words.now c.loop-at.words past c.loop-at.invariant.within
+    within_all most_slots_words c.args.classes.now c.loop-at.at c.args.words.now c.loop-at.words past c.loop-at.invariant.within
 
 pub returns-clause-made : goal.returns-clause-made
 returns-clause-made c =

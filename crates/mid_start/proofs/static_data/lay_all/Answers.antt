@@ -1,5 +1,5 @@
 -- Part by part.
-use Rattle.std.proofs.Common.{◌≡◌, ℕ, ◌+◌, ◌*◌, ◌≤◌, ◌++◌, length, sym, ◌∙◌, ap, subst, length-append, arith}
+use Rattle.std.proofs.Common.{◌≡◌, ◌+◌, ◌*◌, ◌≤◌, ◌++◌, length, sym, ◌∙◌, ap, subst, length-append, arith}
 use Rattle.std.proofs.lemmas.Option.{slice_get_within}
 use Rattle.lang_meaning.specs.Recipes.{in_turn, function_recipe, literal_recipe}
 use Rattle.mid_start.specs.Recipes.{slots_recipe}
@@ -7,7 +7,7 @@ use Rattle.mid_start.specs.Making.{IsWord, IsSlot, EachStandsFor, Makes}
 use Rattle.mid_start.specs.Settling.{SlotsAreCounted, ClassesSettle}
 use Rattle.mid_start.proofs.Chain.{enough_classes, starts}
 use Rattle.mid_start.proofs.FixedFront.{fixed_count}
-use Rattle.mid_start.proofs.Steps.{classes_within, literals_within, all_classes_within}
+use Rattle.mid_start.proofs.Steps.{classes_within, all_classes_within, literal_words_within, class_words_within}
 use Rattle.mid_start.proofs.static_data.lay_all.Goals as goal
 
 pub lay_literals-requires-clause-room : goal.lay_literals-requires-clause-room
@@ -16,8 +16,8 @@ lay_literals-requires-clause-room c =
       arith,
       c.requires.size,
       c.requires.low,
-      literals_within c.args.literals.now,
-      all_classes_within c.args.classes.now,
+      literal_words_within c.args.literals.now,
+      class_words_within c.args.classes.now,
       c.new-words.ensures.first,
       ap (λ xs. length xs) c.new-words.ensures.words,
       c.in_ok-function_words.ensures.within.first,
@@ -30,8 +30,8 @@ lay_slots-requires-clause-room c =
       arith,
       c.requires.size,
       c.requires.low,
-      literals_within c.args.literals.now,
-      all_classes_within c.args.classes.now,
+      literal_words_within c.args.literals.now,
+      class_words_within c.args.classes.now,
       c.new-words.ensures.first,
       ap (λ xs. length xs) c.new-words.ensures.words,
       c.in_ok-function_words.ensures.within.first,
@@ -46,8 +46,8 @@ lay_name-requires-clause-room c =
       arith,
       c.requires.size,
       c.requires.low,
-      literals_within c.args.literals.now,
-      all_classes_within c.args.classes.now,
+      literal_words_within c.args.literals.now,
+      class_words_within c.args.classes.now,
       c.new-words.ensures.first,
       ap (λ xs. length xs) c.new-words.ensures.words,
       c.in_ok-function_words.ensures.within.first,
@@ -64,8 +64,8 @@ lay_input-requires c =
       arith,
       c.requires.size,
       c.requires.low,
-      literals_within c.args.literals.now,
-      all_classes_within c.args.classes.now,
+      literal_words_within c.args.literals.now,
+      class_words_within c.args.classes.now,
       c.new-words.ensures.first,
       ap (λ xs. length xs) c.new-words.ensures.words,
       c.in_ok-function_words.ensures.within.first,
@@ -84,8 +84,8 @@ lay_output-requires c =
       arith,
       c.requires.size,
       c.requires.low,
-      literals_within c.args.literals.now,
-      all_classes_within c.args.classes.now,
+      literal_words_within c.args.literals.now,
+      class_words_within c.args.classes.now,
       c.new-words.ensures.first,
       ap (λ xs. length xs) c.new-words.ensures.words,
       c.in_ok-function_words.ensures.within.first,
@@ -106,8 +106,8 @@ lay_classes-requires-clause-room c =
       arith,
       c.requires.size,
       c.requires.low,
-      literals_within c.args.literals.now,
-      all_classes_within c.args.classes.now,
+      literal_words_within c.args.literals.now,
+      class_words_within c.args.classes.now,
       c.new-words.ensures.first,
       ap (λ xs. length xs) c.new-words.ensures.words,
       c.in_ok-function_words.ensures.within.first,
@@ -175,8 +175,30 @@ returns-clause-count c =
     ap (λ xs. length xs) c.in_ok-fixed.ensures ∙ fixed_count c.in_ok-class_words.class_words c.in_ok-input.input c.in_ok-output.output c.in_ok-truth.truth many in
     omega (
       arith,
-      literals_within c.args.literals.now,
-      all_classes_within c.args.classes.now,
+      literal_words_within c.args.literals.now,
+      class_words_within c.args.classes.now,
+      ap (λ xs. length xs) c.in_ok-arena.ensures.words,
+      length-append (c.in_ok-fixed.fixed ++ c.args.low) c.lay_classes.new.words.words,
+      length-append c.in_ok-fixed.fixed c.args.low,
+      fixed,
+      ap (λ xs. length xs) c.new-words.ensures.words,
+      c.in_ok-function_words.ensures.within.count,
+      c.in_ok-literal_words.ensures.within.count,
+      c.in_ok-slots.ensures.within.count,
+      c.in_ok-truth.ensures.within.count,
+      c.in_ok-input.ensures.within.count,
+      c.in_ok-output.ensures.within.count,
+      c.in_ok-class_words.ensures.within.count,
+    )
+
+pub returns-clause-within : goal.returns-clause-within
+returns-clause-within c =
+    let enough = enough_classes c.args.classes.now c.requires.fits.built_in in
+    let many : 34 ≤ length c.in_ok-class_words.class_words = omega (arith, enough, c.in_ok-class_words.ensures.many) in
+    let fixed : length c.in_ok-fixed.fixed ≡ 46 =
+    ap (λ xs. length xs) c.in_ok-fixed.ensures ∙ fixed_count c.in_ok-class_words.class_words c.in_ok-input.input c.in_ok-output.output c.in_ok-truth.truth many in
+    omega (
+      arith,
       ap (λ xs. length xs) c.in_ok-arena.ensures.words,
       length-append (c.in_ok-fixed.fixed ++ c.args.low) c.lay_classes.new.words.words,
       length-append c.in_ok-fixed.fixed c.args.low,

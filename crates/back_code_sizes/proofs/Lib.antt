@@ -1,0 +1,10 @@
+pub mod Costs
+pub mod Leaves
+pub mod Records
+pub mod Calls
+pub mod Primitives
+pub mod Codes
+pub mod Forms
+pub mod Routines
+pub mod Programs
+pub mod Nodes

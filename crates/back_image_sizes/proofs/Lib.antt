@@ -1,0 +1,6 @@
+pub mod Uses
+pub mod Further
+pub mod Arguments
+pub mod Programs
+pub mod Images
+pub mod Flat

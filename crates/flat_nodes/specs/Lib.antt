@@ -1,0 +1,2 @@
+pub mod ProgramNodes
+pub mod Laws
