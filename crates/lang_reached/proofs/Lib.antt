@@ -1,0 +1,10 @@
+pub mod Live
+pub mod States
+pub mod Agreeing
+pub mod Chains
+pub mod Applying
+pub mod Answering
+pub mod Parts
+pub mod Forms
+pub mod Starting
+pub mod Levels
