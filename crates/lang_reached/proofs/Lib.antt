@@ -8,3 +8,4 @@ pub mod Parts
 pub mod Forms
 pub mod Starting
 pub mod Levels
+pub mod Whole

@@ -3,4 +3,4 @@
 
 pub mod laws;
 
-pub use laws::law_reached;
+pub use laws::{law_reached, law_whole};
