@@ -19,7 +19,8 @@ use Rattle.lang_meaning.specs.Literals.{function_row}
 use Rattle.lang_meaning.specs.Lookup.{text, with_variables, with_values}
 use Rattle.lang_meaning.specs.Classes.{class_of, fetch, chain}
 use Rattle.lang_meaning.specs.Signals.{Context, Task, form, methods, Evaluation, Signals, with_some, takes, marked, marked_at, enter, apply_procedure, apply_closure, apply_method, apply_each, run_primary, run_around, run_chain, apply_chain, apply_generic_row, apply_generic, apply_object, apply_value, apply_callee, apply_row, undefined_function, signal_domain_error, new_condition, signal_under, signal, is_catch, is_signal, is_continuable, to_exit, transfer, throw_to, continue_with}
-use Rattle.lang_reached.specs.LeftOut.{Kept, IsClosed, KeepsProcedure, KeepsGeneric, KeepsCallee, KeepsRow, KeepsMethods, without_others}
+use Rattle.lang_reached.specs.declared.kept.Kept.{Kept}
+use Rattle.lang_reached.specs.LeftOut.{IsClosed, KeepsProcedure, KeepsGeneric, KeepsCallee, KeepsRow, KeepsMethods, without_others}
 use Rattle.lang_reached.proofs.Live.{Setting, is_lost_at, Live, AllLive, SlotLive, Keeps, ChainFine, CalledFine, MethodFine, FormFine, ObjectFine, StateFine, AroundFine, EnvironmentFine}
 use Rattle.lang_reached.proofs.States.{changed_fine, values_fine}
 use Rattle.lang_reached.proofs.Agreeing.{Agrees, Continues, Acts, Within, itself, given, on, tests, catches, some, made, framed, descends, gathers, boxes, records, searches}

@@ -11,7 +11,8 @@ use Rattle.lang_meaning.specs.declared.program.Qualifier.TheVariants.{Primary, A
 use Rattle.lang_meaning.specs.declared.program.ProgramRows.{ProgramRows}
 use Rattle.lang_meaning.specs.Objects.{Chain}
 use Rattle.lang_meaning.specs.Classes.{applies, more_specific, among, ordered, applicable, is_qualifier, of_kind, chain_of, chain}
-use Rattle.lang_reached.specs.LeftOut.{Kept, is_marked, KeepsProcedure, KeepsMethods, emptied, procedures_left}
+use Rattle.lang_reached.specs.declared.kept.Kept.{Kept}
+use Rattle.lang_reached.specs.LeftOut.{is_marked, KeepsProcedure, KeepsMethods, emptied, procedures_left}
 use Rattle.lang_reached.proofs.Live.{Setting, Keeps, ChainFine}
 
 -- a procedure that is kept is as it was

@@ -10,7 +10,8 @@ use Rattle.lang_meaning.specs.State.{State, first_state, main_context, more, Lim
 use Rattle.lang_meaning.specs.InitialHeap.{objects_at_start}
 use Rattle.lang_meaning.specs.Signals.{Task, form}
 use Rattle.lang_meaning.specs.Meaning.{none_below, meaning_at, mean_main, mean_mains, meant, meaning}
-use Rattle.lang_reached.specs.LeftOut.{Kept, IsClosed, without_others}
+use Rattle.lang_reached.specs.declared.kept.Kept.{Kept}
+use Rattle.lang_reached.specs.LeftOut.{IsClosed, without_others}
 use Rattle.lang_reached.specs.Laws.{LawOfReached}
 use Rattle.lang_reached.proofs.Live.{Setting, Live, FormFine, StateFine}
 use Rattle.lang_reached.proofs.Agreeing.{Agrees, Within, itself, given, on, requests}

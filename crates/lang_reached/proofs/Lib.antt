@@ -9,3 +9,4 @@ pub mod Forms
 pub mod Starting
 pub mod Levels
 pub mod Whole
+pub mod Searching

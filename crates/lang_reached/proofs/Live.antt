@@ -9,7 +9,8 @@ use Rattle.lang_meaning.specs.Objects.{Chain, Called, Environment, Object, cons,
 use Rattle.lang_meaning.specs.State.{State, DynamicContext, Outcome, value, exit, full, more}
 use Rattle.lang_meaning.specs.Signals.{Task, nothing, form, turn, methods}
 use Rattle.lang_meaning.specs.Subforms.{forms_list}
-use Rattle.lang_reached.specs.LeftOut.{Kept, is_marked, KeepsProcedure, KeepsGeneric, KeepsForm}
+use Rattle.lang_reached.specs.declared.kept.Kept.{Kept}
+use Rattle.lang_reached.specs.LeftOut.{is_marked, KeepsProcedure, KeepsGeneric, KeepsForm}
 
 -- a program, what is kept of it, and the objects at its start
 pub record Setting : Type 0 where

@@ -25,7 +25,8 @@ use Rattle.lang_meaning.specs.ProgramCounts.{row_nodes, procedure_nodes, class_n
 use Rattle.lang_meaning.specs.Standing.{stands_alone, is_alone}
 use Rattle.lang_meaning.specs.Facts.{body_fits, literal_fits, initform_fits, class_fits, begins_with_built_in, is_congruent, knows_next, method_fits, same_method, generic_fits, callee_fits, same_name, rows_fit, is_of_method, procedures_stand, bodies_stand, is_whole}
 use Rattle.lang_meaning.proofs.Bounds.{first_true, second_true}
-use Rattle.lang_reached.specs.LeftOut.{Kept, is_marked, emptied, procedures_left, without_others}
+use Rattle.lang_reached.specs.declared.kept.Kept.{Kept}
+use Rattle.lang_reached.specs.LeftOut.{is_marked, emptied, procedures_left, without_others}
 use Rattle.lang_reached.specs.Laws.{LawOfWhole}
 
 both_true : (a b : Bool) → a ≡ true → b ≡ true → (a && b) ≡ true

@@ -4,7 +4,8 @@ use Rattle.lang_meaning.specs.declared.program.ProgramRows.{ProgramRows}
 use Rattle.lang_meaning.specs.Facts.{is_whole}
 use Rattle.lang_meaning.specs.Meaning.{meaning}
 use Rattle.lang_meaning.specs.State.{Limit}
-use Rattle.lang_reached.specs.LeftOut.{Kept, IsClosed, without_others}
+use Rattle.lang_reached.specs.declared.kept.Kept.{Kept}
+use Rattle.lang_reached.specs.LeftOut.{IsClosed, without_others}
 
 -- with every input, at every level and with any number of words the program means the same: its end, its bytes, its units and all its objects
 abbrev pub LawOfReached : Type 0

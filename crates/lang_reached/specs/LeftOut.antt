@@ -1,6 +1,6 @@
 -- **A program without what is not reached.** Some procedures and generic functions are kept: at least those that the main forms mention, directly or
 -- through others. Of a procedure that is not kept the body is left out; it takes as many arguments as before.
-use Rattle.std.specs.Prelude.{◌≡◌, ⊤, ℕ, ◌+◌, Bool, true, false, List, [], ◌∷◌, Option, Some, None, slice_get, slice_index_or, if◌then◌else◌}
+use Rattle.std.specs.Prelude.{◌≡◌, ⊤, ℕ, ◌+◌, Bool, true, List, [], ◌∷◌, Option, Some, None, slice_get, slice_index_or, if◌then◌else◌}
 use Rattle.base.specs.AllOf.{AllOf}
 use Rattle.lang_meaning.specs.declared.program.LiteralRow.{LiteralRow}
 use Rattle.lang_meaning.specs.declared.program.LiteralRow.TheVariants as row
@@ -16,14 +16,11 @@ use Rattle.lang_meaning.specs.Inside.{inside_form}
 use Rattle.lang_meaning.specs.Literals.{function_row}
 use Rattle.lang_meaning.specs.Lookup.{text}
 use Rattle.lang_meaning.specs.Reached.{initforms}
+use Rattle.lang_reached.specs.declared.kept.Kept.{Kept}
 
--- which procedures and which generic functions are kept, by their numbers
-pub record Kept : Type 0 where
-  pub procedures : List Bool
-  pub generics : List Bool
-
+-- a number is marked by its flag; one without a flag is marked too
 abbrev pub is_marked : List Bool → ℕ → Bool
-is_marked marks n = slice_index_or marks n false
+is_marked marks n = slice_index_or marks n true
 
 abbrev pub KeepsProcedure : Kept → ℕ → Type 0
 KeepsProcedure kept p = is_marked kept.procedures p ≡ true
