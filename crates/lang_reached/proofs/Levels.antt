@@ -16,7 +16,7 @@ use Rattle.lang_reached.specs.Laws.{LawOfReached}
 use Rattle.lang_reached.proofs.Live.{Setting, Live, FormFine, StateFine}
 use Rattle.lang_reached.proofs.Agreeing.{Agrees, Within, itself, given, on, requests}
 use Rattle.lang_reached.proofs.Applying.{Grounded}
-use Rattle.lang_reached.proofs.Forms.{tasks}
+use Rattle.lang_reached.proofs.FormsAgree.{tasks}
 use Rattle.lang_reached.proofs.Starting.{grounded, start_fine}
 
 module _ {t : Setting} (g : Grounded t) (limit : Limit) where

@@ -5,8 +5,10 @@ pub mod Chains
 pub mod Applying
 pub mod Answering
 pub mod Parts
-pub mod Forms
+pub mod FormsAgree
 pub mod Starting
 pub mod Levels
 pub mod Whole
 pub mod Searching
+pub mod Marking
+pub mod Looking

@@ -82,7 +82,7 @@ pub all_of : {X : Type 0} (P : X → Type 0) (xs : List X) → ((i : ℕ) (x : X
 all_of P [] h = tt
 all_of P (x ∷ xs) h = (h 0 x refl, all_of P xs (λ i y e. h (suc i) y e))
 
-one_item : {X : Type 0} (xs : List X) (i j : ℕ) (x y : X) → i ≡ j → slice_get xs i ≡ Some x → slice_get xs j ≡ Some y → x ≡ y
+pub one_item : {X : Type 0} (xs : List X) (i j : ℕ) (x y : X) → i ≡ j → slice_get xs i ≡ Some x → slice_get xs j ≡ Some y → x ≡ y
 one_item xs i j x y s e f = let same : Some x ≡ Some y = sym e ∙ ap (slice_get xs) s ∙ f in cc
 
 -- ---- steps
@@ -150,8 +150,7 @@ module _ (names : List (List ℕ)) (program : ProgramRows) where
       → Marks names program (λ q. p ≡ q) a (record { kept = record { procedures = flags; generics = a.kept.generics }; pending = pending }) × (is_marked flags p ≡ true)
   marked_one a p h flags pending e f =
       let unmarked = not_true (is_marked a.kept.procedures p) h in
-      let there : AnyOf (λ q. q ≡ p) pending = subst (AnyOf (λ q. q ≡ p)) (sym f) (any_back (λ q. q ≡ p) a.pending (p ∷ []) (inl refl)) in
-      (
+      let there : AnyOf (λ q. q ≡ p) pending = subst (AnyOf (λ q. q ≡ p)) (sym f) (any_back (λ q. q ≡ p) a.pending (p ∷ []) (inl refl)) in (
         record {
           procedures = ap length e ∙ length-set a.kept.procedures p true;
           generics = refl;
@@ -210,8 +209,7 @@ module _ (names : List (List ℕ)) (program : ProgramRows) where
   generic_marked a b n row e h flags f x =
       let unmarked = not_true (is_marked a.kept.generics n) h in
       let set : (m : ℕ) → is_marked a.kept.generics m ≡ true → is_marked flags m ≡ true = λ m k. ap (λ fs. is_marked fs m) f ∙ set_stays a.kept.generics n m unmarked k in
-      let itself : is_marked flags n ≡ true = ap (λ fs. is_marked fs n) f ∙ set_itself a.kept.generics n unmarked in
-      (
+      let itself : is_marked flags n ≡ true = ap (λ fs. is_marked fs n) f ∙ set_itself a.kept.generics n unmarked in (
         record {
           procedures = x.marks.procedures;
           generics = x.marks.generics ∙ ap length f ∙ length-set a.kept.generics n true;
@@ -255,8 +253,7 @@ module _ (names : List (List ℕ)) (program : ProgramRows) where
       → Marks names program (GenericBrings names program (slice_get program.generics n)) a (record { kept = record { procedures = a.kept.procedures; generics = flags }; pending = a.pending })
       × (is_marked flags n ≡ true)
   generic_alone a n l h flags f =
-      let unmarked = not_true (is_marked a.kept.generics n) h in
-      (
+      let unmarked = not_true (is_marked a.kept.generics n) h in (
         record {
           procedures = refl;
           generics = ap length f ∙ length-set a.kept.generics n true;
