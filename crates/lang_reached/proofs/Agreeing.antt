@@ -1,7 +1,7 @@
 -- Two evaluations side by side, which come to the same: one lemma for each combinator of the meaning.
-use Rattle.std.proofs.Common.{◌≡◌, ℕ, ◌+◌, Bool, true, false, List, [], ◌∷◌, ◌++◌, length, refl, sym, ap, subst, Option, Some, None, take, drop}
+use Rattle.std.proofs.Common.{◌≡◌, ℕ, ◌+◌, Bool, true, false, List, [], ◌∷◌, ◌++◌, length, refl, ap, subst, Option, Some, None, take, drop}
 use Rattle.std.specs.Prelude.{◌==◌, if◌then◌else◌}
-use Rattle.base.specs.AllOf.{AllOf, all_both, all_take, all_drop}
+use Rattle.base.specs.AllOf.{all_both, all_take, all_drop}
 use Rattle.lang_meaning.specs.declared.capture.Capture.TheVariants.{Method}
 use Rattle.lang_meaning.specs.Form.{Form}
 use Rattle.lang_meaning.specs.Captured.{captures, has_box}

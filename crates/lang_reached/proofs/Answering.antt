@@ -1,16 +1,16 @@
 -- Primitives: what they answer is live, and does not depend on the bodies of procedures.
-use Rattle.std.proofs.Common.{◌≡◌, ℕ, ◌+◌, Bool, true, false, List, [], ◌∷◌, ◌++◌, length, refl, sym, subst, Option, Some, None}
+use Rattle.std.proofs.Common.{◌≡◌, ℕ, ◌+◌, Bool, true, false, List, [], ◌∷◌, length, refl, subst, Option, Some, None}
 use Rattle.std.specs.List.{position_or_len}
-use Rattle.std.specs.Prelude.{⊤, ℤ, pos, ◌+ℤ◌, ◌-ℤ◌, ◌*ℤ◌, replicate, slice_get, slice_set, if◌then◌else◌}
+use Rattle.std.specs.Prelude.{ℤ, pos, ◌+ℤ◌, ◌-ℤ◌, ◌*ℤ◌, slice_get, slice_set, if◌then◌else◌}
 use Rattle.base.specs.AllOf.{AllOf, all_at}
 use Rattle.lang_meaning.specs.declared.primitive.Primitive.{Primitive}
 use Rattle.lang_meaning.specs.declared.primitive.Primitive.TheVariants.{Add, Subtract, Multiply, Divide, Modulo, NumberEqual, NumberNotEqual, NumberLess, NumberAtMost, NumberGreater, NumberAtLeast, Same, IsNull, IsCons, IsInteger, IsSymbol, IsCharacter, IsString, IsVector, IsFunction, IsGeneric, Cons, Car, Cdr, SetCar, SetCdr, MakeString, MakeVector, StringLength, VectorLength, CharAt, VectorRef, SetCharAt, SetVectorRef, CharCode, CodeChar, SymbolName, SymbolSerial, Gensym, ClassOf, ClassName, IsSubclass, IsInstance, Allocate, SlotCount, SlotPlace, SlotRef, SlotSet, SlotBound, SlotInitargs, SlotInitform, Continuable, StandardInput, StandardOutput, PutChar, IsFreshLine, GetByte, PeekByte}
 use Rattle.lang_meaning.specs.declared.program.SlotRow.{SlotRow}
 use Rattle.lang_meaning.specs.Values.{Value, integer, character, symbol, named, unnamed, nil, object, truth, in_range, int_equal}
 use Rattle.lang_meaning.specs.Objects.{Object, cons, string, vector, instance, fresh_symbol}
-use Rattle.lang_meaning.specs.State.{State, DynamicContext, charged}
+use Rattle.lang_meaning.specs.State.{State, DynamicContext}
 use Rattle.lang_meaning.specs.Classes.{fetch, class_of, slots, is_condition}
-use Rattle.lang_meaning.specs.Primitives.{Answer, result, makes, makes_symbol, fails, domain_error, needs, as_integer, as_character, as_cons, as_string, as_vector, as_class, as_instance, as_stream, as_symbol, integer_result, floor_quotient, floor_remainder, division, index_of, length_of, byte_of, change, first_byte, can_be_made, slot_place, slot_value, a_slot, of_none, of_one, of_two, of_three, of_integers, says, primitive}
+use Rattle.lang_meaning.specs.Primitives.{Answer, result, makes, makes_symbol, fails, domain_error, needs, as_integer, as_character, as_cons, as_string, as_vector, as_class, as_instance, as_stream, as_symbol, integer_result, floor_quotient, floor_remainder, division, index_of, length_of, byte_of, first_byte, can_be_made, slot_place, slot_value, a_slot, of_none, of_one, of_two, of_three, of_integers, says, primitive}
 use Rattle.lang_meaning.specs.Signals.{answered, signal}
 use Rattle.lang_reached.specs.LeftOut.{without_others}
 use Rattle.lang_reached.proofs.Live.{Setting, Live, AllLive, SlotLive, ObjectFine, StateFine, AroundFine, all_set, all_same, all_or}

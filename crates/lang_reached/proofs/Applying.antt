@@ -1,5 +1,5 @@
 -- Applications, signals and transfers side by side, over meanings one level below that agree.
-use Rattle.std.proofs.Common.{◌≡◌, ℕ, zero, suc, ◌+◌, Bool, true, false, List, [], ◌∷◌, ◌++◌, length, refl, sym, ap, subst, ◌∙◌, Option, Some, None, map, take, drop, arith, zero-add}
+use Rattle.std.proofs.Common.{◌≡◌, ℕ, ◌+◌, Bool, false, List, [], ◌∷◌, length, refl, sym, subst, Option, Some, None, map, take, zero-add}
 use Rattle.std.specs.Prelude.{⊤, is_some, slice_get}
 use Rattle.base.specs.AllOf.{AllOf}
 use Rattle.base.specs.Data.{Item}
@@ -8,20 +8,18 @@ use Rattle.lang_meaning.specs.declared.program.GenericRow.{GenericRow}
 use Rattle.lang_meaning.specs.declared.program.FunctionRow.{FunctionRow}
 use Rattle.lang_meaning.specs.declared.program.Callee.{Callee}
 use Rattle.lang_meaning.specs.declared.program.Callee.TheVariants as callee
-use Rattle.lang_meaning.specs.declared.program.ProgramRows.{ProgramRows}
 use Rattle.lang_meaning.specs.Form.{Form, parameters}
 use Rattle.lang_meaning.specs.Counts.{nodes, application_words}
 use Rattle.lang_meaning.specs.Values.{Value, integer, character, symbol, named, nil, object}
 use Rattle.lang_meaning.specs.Objects.{Chain, Called, Environment, no_environment, Object, cons, string, vector, instance, function, closure, generic_function, class_object, input_stream, output_stream, fresh_symbol, function_class, control_error_class, program_error_class, undefined_function_class}
-use Rattle.lang_meaning.specs.State.{State, DynamicContext, Exit, signal_exit, Landing, at_segment, at_site, Evaluated, gives, leaves, Act, inside, exit_made, Limit, charged}
+use Rattle.lang_meaning.specs.State.{State, Exit, signal_exit, Landing, at_segment, at_site, Evaluated, gives, leaves, Act, inside, exit_made, Limit, charged}
 use Rattle.lang_meaning.specs.InitialHeap.{class_value, standard_input, standard_output, initargs_value, initform_value, literal_value, function_value}
 use Rattle.lang_meaning.specs.Literals.{function_row}
 use Rattle.lang_meaning.specs.Lookup.{text, with_variables, with_values}
-use Rattle.lang_meaning.specs.Classes.{class_of, fetch, chain}
+use Rattle.lang_meaning.specs.Classes.{class_of, chain}
 use Rattle.lang_meaning.specs.Signals.{Context, Task, form, methods, Evaluation, Signals, with_some, takes, marked, marked_at, enter, apply_procedure, apply_closure, apply_method, apply_each, run_primary, run_around, run_chain, apply_chain, apply_generic_row, apply_generic, apply_object, apply_value, apply_callee, apply_row, undefined_function, signal_domain_error, new_condition, signal_under, signal, is_catch, is_signal, is_continuable, to_exit, transfer, throw_to, continue_with}
-use Rattle.lang_reached.specs.declared.kept.Kept.{Kept}
 use Rattle.lang_reached.specs.LeftOut.{IsClosed, KeepsProcedure, KeepsGeneric, KeepsCallee, KeepsRow, KeepsMethods, without_others}
-use Rattle.lang_reached.proofs.Live.{Setting, is_lost_at, Live, AllLive, SlotLive, Keeps, ChainFine, CalledFine, MethodFine, FormFine, ObjectFine, StateFine, AroundFine, EnvironmentFine}
+use Rattle.lang_reached.proofs.Live.{Setting, is_lost_at, Live, AllLive, SlotLive, Keeps, ChainFine, CalledFine, MethodFine, FormFine, ObjectFine, StateFine, EnvironmentFine}
 use Rattle.lang_reached.proofs.States.{changed_fine, values_fine}
 use Rattle.lang_reached.proofs.Agreeing.{Agrees, Continues, Acts, Within, itself, given, on, tests, catches, some, made, framed, descends, gathers, boxes, records, searches}
 use Rattle.lang_reached.proofs.Chains.{kept_there, chain_fine}

@@ -1,5 +1,5 @@
 -- The methods of a chain are among those of the generic function.
-use Rattle.std.proofs.Common.{◌≡◌, ℕ, zero, suc, ◌+◌, Bool, true, false, List, [], ◌∷◌, ◌++◌, length, refl, sym, ap, subst, ◌∙◌, Option, Some, None, map, arith, add-zero}
+use Rattle.std.proofs.Common.{◌≡◌, ℕ, zero, suc, ◌+◌, Bool, true, false, List, [], ◌∷◌, refl, sym, subst, Some, map, arith, add-zero}
 use Rattle.std.specs.Prelude.{filter, reverse, cond, slice_get, if◌then◌else◌}
 use Rattle.std.proofs.lemmas.List.{reverse-append}
 use Rattle.base.specs.AllOf.{AllOf, all_both}
@@ -11,8 +11,7 @@ use Rattle.lang_meaning.specs.declared.program.Qualifier.TheVariants.{Primary, A
 use Rattle.lang_meaning.specs.declared.program.ProgramRows.{ProgramRows}
 use Rattle.lang_meaning.specs.Objects.{Chain}
 use Rattle.lang_meaning.specs.Classes.{applies, more_specific, among, ordered, applicable, is_qualifier, of_kind, chain_of, chain}
-use Rattle.lang_reached.specs.declared.kept.Kept.{Kept}
-use Rattle.lang_reached.specs.LeftOut.{is_marked, KeepsProcedure, KeepsMethods, emptied, procedures_left}
+use Rattle.lang_reached.specs.LeftOut.{is_marked, KeepsProcedure, procedures_left}
 use Rattle.lang_reached.proofs.Live.{Setting, Keeps, ChainFine}
 
 -- a procedure that is kept is as it was

@@ -1,29 +1,28 @@
 -- Forms and tasks side by side, over meanings one level below that agree: one line a form.
-use Rattle.std.proofs.Common.{◌≡◌, ℕ, zero, suc, ◌+◌, ◌-◌, Bool, true, false, List, [], ◌∷◌, ◌++◌, refl, sym, subst, Option, Some, None, length}
-use Rattle.std.specs.Prelude.{⊤, slice_get, if◌then◌else◌}
+use Rattle.std.proofs.Common.{◌≡◌, ℕ, zero, suc, ◌+◌, Bool, true, false, List, [], ◌∷◌, ◌++◌, refl, subst, Option, Some, None, length}
+use Rattle.std.specs.Prelude.{slice_get, if◌then◌else◌}
 use Rattle.std.specs.Str.{bytes_eq}
 use Rattle.base.specs.AllOf.{AllOf, all_both}
 use Rattle.lang_meaning.specs.declared.program.FunctionRow.{FunctionRow}
 use Rattle.lang_meaning.specs.declared.program.LiteralRow.{LiteralRow}
 use Rattle.lang_meaning.specs.declared.program.LiteralRow.TheVariants as row
 use Rattle.lang_meaning.specs.Form.{Form, literal, local, set_local, global, set_global, def_global, clauses, sequence, let_form, lambda, call, call_value, apply, prim, while_form, block, return_from, tagbody, go, catch_form, throw, unwind, dynamic_let, dynamic, set_dynamic, def_dynamic, with_handler, signal_form, continue_form, next_method, has_next, sited}
-use Rattle.lang_meaning.specs.Form.{Forms, no_form, form_and, ClauseForms, no_clause, clause_and, MaybeForm, no_body, with_body}
+use Rattle.lang_meaning.specs.Form.{Forms, no_form, form_and, ClauseForms, no_clause, clause_and, no_body, with_body}
 use Rattle.lang_meaning.specs.Form.{BindingForms, no_binding, binding_and, DynamicForms, no_dynamic, dynamic_and}
 use Rattle.lang_meaning.specs.Inside.{inside_form, inside_step}
-use Rattle.lang_meaning.specs.Subforms.{fold_forms, fold_clauses, fold_values, fold_dynamics, clause_list, body_list, value_list, dynamic_value_list}
+use Rattle.lang_meaning.specs.Subforms.{fold_forms, fold_clauses, fold_values, fold_dynamics, clause_list, value_list, dynamic_value_list}
 use Rattle.lang_meaning.specs.Counts.{count_forms, count_clauses, count_bindings, count_dynamics}
-use Rattle.lang_meaning.specs.Values.{Value, integer, character, symbol, named, nil, object, truth, is_true}
+use Rattle.lang_meaning.specs.Values.{Value, symbol, named, nil, object, truth, is_true}
 use Rattle.lang_meaning.specs.Objects.{Called, Environment, Object, cons, closure, function_class, list_class, serious_condition_class, control_error_class, unbound_variable_class}
-use Rattle.lang_meaning.specs.State.{State, DynamicContext, Exit, block_exit, tagbody_exit, catch_exit, at_segment, Evaluated, gives, Act, go_on, inside, exit_made, charged}
+use Rattle.lang_meaning.specs.State.{State, DynamicContext, block_exit, catch_exit, at_segment, Evaluated, Act, inside, exit_made, charged}
 use Rattle.lang_meaning.specs.Lookup.{text, is_in, under_text, under_number, value_at, set_at, numbered, with_variables, with_values, with_exit}
 use Rattle.lang_meaning.specs.Classes.{fetch, is_condition}
 use Rattle.lang_meaning.specs.Literals.{function_row}
-use Rattle.lang_meaning.specs.InitialHeap.{function_value}
 use Rattle.lang_meaning.specs.Primitives.{is_function, primitive}
-use Rattle.lang_meaning.specs.Signals.{Task, nothing, form, turn, methods, signal_domain_error, signal, answered, apply_value, unbound_variable, with_boxes}
-use Rattle.lang_meaning.specs.Meaning.{place_of_site, unless_nil, from_segment, segment_of, bound_variables, bound_names, with_turns, Spread, spread_at, spread, mean_literal, mean_global, set_global_to, mean_dynamic, set_dynamic_to, mean_apply, mean_call_value, mean_signal, with_handler_value, mean_next, turned, mean, mean_sequence, mean_arguments, mean_clauses, mean_body, mean_bindings, mean_dynamics, mean_task}
-use Rattle.lang_reached.specs.LeftOut.{KeepsRow, KeepsLiteral, without_others}
-use Rattle.lang_reached.proofs.Live.{Setting, Live, AllLive, NamedLive, FormFine, FormsFine, MethodFine, ObjectFine, StateFine, AroundFine, EnvironmentFine, OutcomeFine, TaskFine, all_or}
+use Rattle.lang_meaning.specs.Signals.{Task, nothing, form, turn, methods, signal_domain_error, signal, answered, apply_value, unbound_variable}
+use Rattle.lang_meaning.specs.Meaning.{place_of_site, unless_nil, from_segment, segment_of, bound_variables, bound_names, with_turns, Spread, spread_at, spread, mean_literal, mean_global, set_global_to, mean_dynamic, set_dynamic_to, mean_apply, mean_call_value, mean_signal, with_handler_value, mean_next, turned, mean, mean_sequence, mean_arguments, mean_clauses, mean_bindings, mean_dynamics, mean_task}
+use Rattle.lang_reached.specs.LeftOut.{KeepsRow, KeepsLiteral}
+use Rattle.lang_reached.proofs.Live.{Setting, Live, AllLive, NamedLive, FormFine, FormsFine, MethodFine, ObjectFine, StateFine, AroundFine, EnvironmentFine, TaskFine, all_or}
 use Rattle.lang_reached.proofs.States.{set_fine, values_fine, global_fine, dynamic_fine}
 use Rattle.lang_reached.proofs.Agreeing.{Agrees, ContinuesAll, Acts, given, on, tests, lands_on, catches, cleans, some, made, boxes, searches}
 use Rattle.lang_reached.proofs.Applying.{Grounded, Beside, whole, left, Both, domain_signals, undefined, row_applies, value_applies, chain_runs, signals, signals_under, transfers, throws, continues}

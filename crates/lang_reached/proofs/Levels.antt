@@ -1,17 +1,15 @@
 -- Any number of levels, main forms and whole programs: what is left means the same.
-use Rattle.std.proofs.Common.{◌≡◌, ℕ, zero, suc, ◌+◌, List, [], ◌∷◌, refl, sym, ap}
+use Rattle.std.proofs.Common.{ℕ, zero, suc, List, [], ◌∷◌, refl, sym, ap}
 use Rattle.base.specs.AllOf.{AllOf}
-use Rattle.lang_meaning.specs.declared.program.ProgramRows.{ProgramRows}
 use Rattle.lang_meaning.specs.Form.{Form}
 use Rattle.lang_meaning.specs.Counts.{nodes, application_words}
 use Rattle.lang_meaning.specs.Values.{Value, nil}
 use Rattle.lang_meaning.specs.Objects.{no_environment}
 use Rattle.lang_meaning.specs.State.{State, first_state, main_context, more, Limit}
 use Rattle.lang_meaning.specs.InitialHeap.{objects_at_start}
-use Rattle.lang_meaning.specs.Signals.{Task, form}
+use Rattle.lang_meaning.specs.Signals.{form}
 use Rattle.lang_meaning.specs.Meaning.{none_below, meaning_at, mean_main, mean_mains, meant, meaning}
-use Rattle.lang_reached.specs.declared.kept.Kept.{Kept}
-use Rattle.lang_reached.specs.LeftOut.{IsClosed, without_others}
+use Rattle.lang_reached.specs.LeftOut.{without_others}
 use Rattle.lang_reached.specs.Laws.{LawOfReached}
 use Rattle.lang_reached.proofs.Live.{Setting, Live, FormFine, StateFine}
 use Rattle.lang_reached.proofs.Agreeing.{Agrees, Within, itself, given, on, requests}

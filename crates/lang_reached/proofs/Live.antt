@@ -1,9 +1,9 @@
 -- What a run keeps: no value is an object of the start that is not kept, so no function is applied whose body was left out.
-use Rattle.std.proofs.Common.{◌≡◌, ℕ, zero, suc, ◌≤◌, Bool, true, false, List, [], ◌∷◌, ◌++◌, length, refl, Option, Some, None, map, take, drop, arith}
+use Rattle.std.proofs.Common.{◌≡◌, ℕ, zero, suc, ◌≤◌, Bool, false, List, [], ◌∷◌, ◌++◌, length, Option, Some, None}
 use Rattle.std.specs.Prelude.{⊤, not, replicate, slice_get, slice_set, slice_index_or}
-use Rattle.base.specs.AllOf.{AllOf, all_both}
+use Rattle.base.specs.AllOf.{AllOf}
 use Rattle.lang_meaning.specs.declared.program.ProgramRows.{ProgramRows}
-use Rattle.lang_meaning.specs.Form.{Form, Forms, no_form, form_and}
+use Rattle.lang_meaning.specs.Form.{Form, Forms}
 use Rattle.lang_meaning.specs.Values.{Value, integer, character, symbol, nil, object}
 use Rattle.lang_meaning.specs.Objects.{Chain, Called, Environment, Object, cons, vector, instance, function, closure, generic_function}
 use Rattle.lang_meaning.specs.State.{State, DynamicContext, Outcome, value, exit, full, more}

@@ -1,8 +1,7 @@
 -- What forms mention, step by step.
-use Rattle.std.proofs.Common.{◌≡◌, ℕ, ◌≤◌, List, [], ◌∷◌, ◌++◌, refl, sym, ap, subst, ◌∙◌, arith, Some, None, Option, map, ◌⊎◌, inl, inr}
-use Rattle.std.specs.Prelude.{⊤, OnOk, Result, flat_map, slice_get}
+use Rattle.std.proofs.Common.{◌≡◌, ℕ, ◌≤◌, List, [], ◌∷◌, sym, subst, arith, Some, None, Option, map, inl, inr}
+use Rattle.std.specs.Prelude.{flat_map, slice_get}
 use Rattle.base.specs.AllOf.{AllOf, all_both, all_map}
-use Rattle.base.specs.declared.faults.NoMemory.{NoMemory}
 use Rattle.lang_meaning.specs.declared.program.FunctionRow.{FunctionRow}
 use Rattle.lang_meaning.specs.declared.program.LiteralRow.{LiteralRow}
 use Rattle.lang_meaning.specs.declared.program.LiteralRow.TheVariants as row
@@ -16,9 +15,8 @@ use Rattle.lang_meaning.specs.Lookup.{text}
 use Rattle.lang_meaning.specs.Subforms.{outer, inner}
 use Rattle.lang_meaning.specs.bridge.Judged.{inside_folded}
 use Rattle.lang_meaning.specs.bridge.Smaller.{sizes}
-use Rattle.lang_reached.specs.declared.kept.Kept.{Kept}
 use Rattle.lang_reached.specs.declared.search.Search.{Search}
-use Rattle.lang_reached.specs.LeftOut.{KeepsProcedure, KeepsGeneric, KeepsCallee, KeepsRow, KeepsLiteral, KeepsItself, KeepsForm}
+use Rattle.lang_reached.specs.LeftOut.{KeepsCallee, KeepsRow, KeepsLiteral, KeepsItself, KeepsForm}
 use Rattle.lang_reached.specs.Mentioned.{AnyOf, Mentions, MentionsInside}
 use Rattle.lang_reached.specs.Search.{Marks, Stays, MarksItself, MarksForm, MarksForms}
 use Rattle.lang_reached.proofs.Searching.{any_front, any_back, marks_none, marks_then}

@@ -1,12 +1,12 @@
 -- What is kept of a form is kept of its parts.
-use Rattle.std.proofs.Common.{◌≡◌, ℕ, List, [], ◌∷◌, ◌++◌}
+use Rattle.std.proofs.Common.{List, [], ◌∷◌, ◌++◌}
 use Rattle.std.specs.Prelude.{flat_map}
 use Rattle.base.specs.AllOf.{AllOf}
 use Rattle.lang_meaning.specs.Form.{Form}
-use Rattle.lang_meaning.specs.Form.{Forms, no_form, form_and, ClauseForms, no_clause, clause_and, MaybeForm, no_body, with_body}
+use Rattle.lang_meaning.specs.Form.{Forms, no_form, form_and, ClauseForms, no_clause, clause_and, no_body, with_body}
 use Rattle.lang_meaning.specs.Form.{BindingForms, no_binding, binding_and, DynamicForms, no_dynamic, dynamic_and}
 use Rattle.lang_meaning.specs.Inside.{inside_form, inside_step}
-use Rattle.lang_meaning.specs.Subforms.{fold_forms, fold_clauses, fold_values, fold_dynamics, forms_list, clause_list, value_list, dynamic_value_list}
+use Rattle.lang_meaning.specs.Subforms.{fold_forms, fold_clauses, fold_values, fold_dynamics, clause_list, value_list, dynamic_value_list}
 use Rattle.lang_reached.specs.LeftOut.{KeepsItself}
 use Rattle.lang_reached.proofs.Live.{Setting, FormFine, FormsFine, all_front, all_back}
 

@@ -1,11 +1,10 @@
 -- Steps of the search, one behind another.
-use Rattle.std.proofs.Common.{◌≡◌, ℕ, zero, suc, ◌+◌, ◌<◌, ◌≤◌, ◌==◌, Bool, true, false, List, [], ◌∷◌, ◌++◌, length, refl, sym, ap, subst, ◌∙◌, Option, Some, None, take, arith, ◌⊎◌, inl, inr, ⊎_elim}
+use Rattle.std.proofs.Common.{◌≡◌, ℕ, zero, suc, ◌+◌, ◌<◌, ◌≤◌, ◌==◌, Bool, true, false, List, [], ◌∷◌, ◌++◌, length, refl, sym, ap, subst, ◌∙◌, Some, None, arith, ◌⊎◌, inl, inr, ⊎_elim}
 use Rattle.std.proofs.lemmas.Bool.{eqb-true, eq-eqb, cases_lt}
 use Rattle.std.proofs.Math.ListN.{length-set}
 use Rattle.std.proofs.lemmas.Option.{slice_get_within}
-use Rattle.std.specs.Prelude.{not, OnOk, Result, slice_get, slice_set, slice_index_or, if◌then◌else◌}
+use Rattle.std.specs.Prelude.{not, OnOk, Result, slice_get, slice_set, if◌then◌else◌}
 use Rattle.base.specs.AllOf.{AllOf, all_map}
-use Rattle.lang_meaning.specs.declared.program.Procedure.{Procedure}
 use Rattle.lang_meaning.specs.declared.program.GenericRow.{GenericRow}
 use Rattle.lang_meaning.specs.declared.program.MethodRow.{MethodRow}
 use Rattle.lang_meaning.specs.declared.program.FunctionRow.{FunctionRow}
@@ -14,7 +13,6 @@ use Rattle.lang_meaning.specs.Literals.{function_row}
 use Rattle.lang_meaning.specs.Lookup.{text}
 use Rattle.lang_rows.proofs.Filling.{looked_up}
 use Rattle.base.specs.declared.faults.NoMemory.{NoMemory}
-use Rattle.lang_reached.specs.declared.kept.Kept.{Kept}
 use Rattle.lang_reached.specs.declared.search.Search.{Search}
 use Rattle.lang_reached.specs.LeftOut.{is_marked, KeepsProcedure, KeepsGeneric, KeepsCallee, KeepsRow, KeepsNamed, KeepsMethods}
 use Rattle.lang_reached.specs.Mentioned.{AnyOf, OneHas, GenericBrings, CalleeBrings, RowBrings, NameBrings}

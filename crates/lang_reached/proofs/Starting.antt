@@ -1,12 +1,11 @@
 -- The objects at the start are fine, and what stands for classes, streams, literals, slots and kept functions is live.
-use Rattle.std.proofs.Common.{◌≡◌, ℕ, zero, suc, ◌+◌, ◌-◌, ◌≤◌, Bool, true, false, List, [], ◌∷◌, ◌++◌, length, map, refl, sym, ap, subst, ◌∙◌, Option, Some, None, arith, append_assoc, add-zero, le_refl}
+use Rattle.std.proofs.Common.{◌≡◌, ℕ, zero, suc, ◌+◌, ◌-◌, Bool, true, false, List, [], ◌∷◌, ◌++◌, length, map, refl, sym, ap, subst, ◌∙◌, Option, Some, None, arith, append_assoc, add-zero, le_refl}
 use Rattle.std.specs.Prelude.{⊤, not, flat_map, option_to_list, slice_get, if◌then◌else◌}
 use Rattle.std.specs.List.{range_with_len}
 use Rattle.std.specs.Str.{bytes_eq}
 use Rattle.base.specs.AllOf.{AllOf, all_both, all_at}
 use Rattle.base.specs.Data.{Item, Content, Items, Tail, item, no_item, item_and, no_tail, dotted}
 use Rattle.base.specs.Data as datum
-use Rattle.lang_meaning.specs.declared.program.ProgramRows.{ProgramRows}
 use Rattle.lang_meaning.specs.declared.program.FunctionRow.{FunctionRow}
 use Rattle.lang_meaning.specs.declared.program.Callee.{Callee}
 use Rattle.lang_meaning.specs.declared.program.Callee.TheVariants as callee
@@ -14,17 +13,17 @@ use Rattle.lang_meaning.specs.declared.program.ClassRow.{ClassRow}
 use Rattle.lang_meaning.specs.declared.program.SlotRow.{SlotRow}
 use Rattle.lang_meaning.specs.declared.program.LiteralRow.{LiteralRow}
 use Rattle.lang_meaning.specs.declared.program.LiteralRow.TheVariants as row
-use Rattle.lang_meaning.specs.Values.{Value, nil, object}
-use Rattle.lang_meaning.specs.Objects.{Object, cons, string, vector, instance, function, closure, generic_function, class_object, input_stream, output_stream, fresh_symbol, built_in_classes}
+use Rattle.lang_meaning.specs.Values.{object}
+use Rattle.lang_meaning.specs.Objects.{Object, cons, string, vector, instance, function, closure, generic_function, class_object, input_stream, output_stream, built_in_classes}
 use Rattle.lang_meaning.specs.Literals.{Laid, after_parts, lay, lay_content, lay_items, lay_list, lay_tail, function_row, all_slots}
 use Rattle.lang_meaning.specs.Lookup.{text, numbered}
 use Rattle.lang_meaning.specs.Reached.{initforms}
-use Rattle.lang_meaning.specs.InitialHeap.{Key, class, input, output, function_of, literal, initargs, initform, part, same_key, Keyed, Thing, single, class_things, function_object, function_things, literal_objects, literal_things, initargs_list, initform_objects, slot_things, things, keyed, laid_out, under_key, literal_value, function_value}
+use Rattle.lang_meaning.specs.InitialHeap.{Key, class, input, output, function_of, literal, initargs, initform, same_key, Keyed, Thing, single, class_things, function_object, function_things, literal_objects, literal_things, initargs_list, initform_objects, slot_things, things, keyed, laid_out, under_key, literal_value, function_value}
 use Rattle.lang_meaning.proofs.RecipeKeys.{object_under, others_append, others_mapped, others_flat, AreOthers}
 use Rattle.lang_meaning.proofs.RecipeSegments.{objects_in, objects_first, objects_append}
 use Rattle.lang_meaning.proofs.WholeRecipes.{middle}
 use Rattle.lang_reached.specs.LeftOut.{is_marked, KeepsProcedure, KeepsCallee, IsClosed}
-use Rattle.lang_reached.proofs.Live.{Setting, is_lost, is_lost_at, Live, AllLive, ObjectFine, StoreFine, all_front, all_back}
+use Rattle.lang_reached.proofs.Live.{Setting, is_lost, Live, AllLive, ObjectFine, StoreFine, all_front, all_back}
 use Rattle.lang_reached.proofs.Applying.{Grounded}
 
 -- ---- lists

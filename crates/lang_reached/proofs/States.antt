@@ -1,13 +1,13 @@
 -- Each step of a run keeps a state fine.
-use Rattle.std.proofs.Common.{◌≡◌, ℕ, zero, suc, ◌+◌, ◌<◌, ◌≤◌, Bool, true, false, List, [], ◌∷◌, ◌++◌, length, refl, sym, ap, subst, ◌∙◌, Option, Some, None, arith, ◌⊎◌, inl, inr}
+use Rattle.std.proofs.Common.{◌≡◌, ℕ, zero, suc, ◌≤◌, List, [], ◌∷◌, ◌++◌, length, refl, sym, ap, subst, Option, Some, None, arith, ◌⊎◌, inl, inr}
 use Rattle.std.specs.Prelude.{slice_get, slice_set}
-use Rattle.base.specs.AllOf.{AllOf, all_both}
+use Rattle.base.specs.AllOf.{all_both}
 use Rattle.lang_meaning.specs.Values.{Value, integer, character, symbol, nil, object}
 use Rattle.lang_meaning.specs.Objects.{Object}
 use Rattle.lang_meaning.specs.State.{State, stored, changed}
 use Rattle.lang_meaning.specs.Lookup.{with_values, set_at}
 use Rattle.lang_meaning.specs.Primitives.{change}
-use Rattle.lang_reached.proofs.Live.{Setting, is_lost_at, Live, AllLive, ObjectFine, StoreFine, PartsFine, StateFine, all_set}
+use Rattle.lang_reached.proofs.Live.{Setting, Live, AllLive, ObjectFine, StoreFine, StateFine, all_set}
 
 -- no item is behind the end of a list
 pub none_behind : {X : Type 0} (xs : List X) (i : ℕ) → length xs ≤ i → slice_get xs i ≡ None

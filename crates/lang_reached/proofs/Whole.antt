@@ -1,7 +1,7 @@
 -- A whole program stays whole where bodies are left out.
-use Rattle.std.proofs.Common.{◌≡◌, ℕ, zero, suc, ◌+◌, ◌*◌, ◌≤◌, ◌==◌, Bool, true, false, ◌&&◌, ◌||◌, List, [], ◌∷◌, ◌++◌, length, refl, sym, ap, subst, ◌∙◌, Option, Some, None, arith, le_refl}
-use Rattle.std.specs.Prelude.{slice_get, nat_lt, nat_le, not, is_some, if◌then◌else◌}
-use Rattle.std.specs.List.{list_all, list_any, sum_by, fold}
+use Rattle.std.proofs.Common.{◌≡◌, ℕ, zero, suc, ◌+◌, ◌≤◌, ◌==◌, Bool, true, false, ◌&&◌, ◌||◌, List, [], ◌∷◌, length, refl, Option, Some, None, arith, le_refl}
+use Rattle.std.specs.Prelude.{slice_get, nat_lt, nat_le, if◌then◌else◌}
+use Rattle.std.specs.List.{list_all, fold}
 use Rattle.std.proofs.lemmas.Bool.{leb-true, le-leb}
 use Rattle.lang_meaning.specs.declared.program.LiteralRow.{LiteralRow}
 use Rattle.lang_meaning.specs.declared.program.LiteralRow.TheVariants as row
@@ -14,16 +14,16 @@ use Rattle.lang_meaning.specs.declared.program.FunctionRow.{FunctionRow}
 use Rattle.lang_meaning.specs.declared.program.Callee.{Callee}
 use Rattle.lang_meaning.specs.declared.program.Callee.TheVariants as callee
 use Rattle.lang_meaning.specs.declared.program.ProgramRows.{ProgramRows}
-use Rattle.lang_meaning.specs.Form.{Form, literal, sequence, no_form, sited}
+use Rattle.lang_meaning.specs.Form.{Form, literal, sited}
 use Rattle.lang_meaning.specs.Inside.{inside_form}
 use Rattle.lang_meaning.specs.BuiltIn.{built_in_precedence, built_in_slots}
 use Rattle.lang_meaning.specs.Cells.{program_cells}
-use Rattle.lang_meaning.specs.Counts.{all_nodes, depth, parameter_count}
+use Rattle.lang_meaning.specs.Counts.{all_nodes, depth}
 use Rattle.lang_meaning.specs.Fits.{fits_itself, fits}
 use Rattle.lang_meaning.specs.Lookup.{all_differ}
-use Rattle.lang_meaning.specs.ProgramCounts.{row_nodes, procedure_nodes, class_nodes, program_nodes}
+use Rattle.lang_meaning.specs.ProgramCounts.{procedure_nodes, program_nodes}
 use Rattle.lang_meaning.specs.Standing.{stands_alone, is_alone}
-use Rattle.lang_meaning.specs.Facts.{body_fits, literal_fits, initform_fits, class_fits, begins_with_built_in, is_congruent, knows_next, method_fits, same_method, generic_fits, callee_fits, same_name, rows_fit, is_of_method, procedures_stand, bodies_stand, is_whole}
+use Rattle.lang_meaning.specs.Facts.{body_fits, literal_fits, initform_fits, class_fits, begins_with_built_in, is_congruent, knows_next, method_fits, same_method, generic_fits, callee_fits, same_name, rows_fit, is_of_method, procedures_stand, bodies_stand}
 use Rattle.lang_meaning.proofs.Bounds.{first_true, second_true}
 use Rattle.lang_reached.specs.declared.kept.Kept.{Kept}
 use Rattle.lang_reached.specs.LeftOut.{is_marked, emptied, procedures_left, without_others}

@@ -6,12 +6,10 @@ use Rattle.lang_meaning.specs.declared.program.ProgramRows.{ProgramRows}
 use Rattle.lang_reached.specs.declared.search.Search.{Search}
 use Rattle.base.specs.AllOf.{AllOf}
 use Rattle.lang_meaning.specs.declared.program.Procedure.{Procedure}
-use Rattle.lang_meaning.specs.declared.program.FunctionRow.{FunctionRow}
 use Rattle.lang_meaning.specs.declared.program.SlotRow.{SlotRow}
 use Rattle.lang_meaning.specs.Form.{Form}
 use Rattle.lang_rows.specs.Numbered.{AreNumbered}
 use Rattle.lang_reached.specs.declared.given.Given.{Given}
-use Rattle.lang_reached.specs.declared.kept.Kept.{Kept}
 use Rattle.lang_reached.specs.LeftOut.{is_marked, KeepsProcedure, KeepsGeneric, KeepsMethods, KeepsItself, KeepsForm}
 use Rattle.lang_reached.specs.Mentioned.{AnyOf, OneHas, Mentions, MentionsInside, IsReached}
 

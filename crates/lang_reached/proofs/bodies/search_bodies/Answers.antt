@@ -1,7 +1,4 @@
 -- A body that waits is looked at, until none waits.
-use Rattle.std.proofs.Common.{subst}
-use Rattle.std.specs.Prelude.{Option}
-use Rattle.lang_reached.specs.Search.{Takes}
 use Rattle.lang_reached.proofs.Looking.{way_goes_on}
 use Rattle.lang_reached.proofs.bodies.search_bodies.Goals as goal
 

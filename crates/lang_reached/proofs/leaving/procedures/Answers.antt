@@ -5,8 +5,8 @@ use Rattle.lang_reached.proofs.leaving.procedures.Goals as goal
 
 pub loop-at-preserved : goal.loop-at-preserved
 loop-at-preserved c =
-    left_next c.args.marks.now c.args.list.now c.loop-at.at c.in-Some.row.now c.loop-at.left c.push.new.self ? c.is_kept.result c.in-Some.ensures c.loop-at.invariant
-    c.is_kept.ensures ? c.in_ok-push.ensures.ok
+    left_next c.args.marks.now c.args.list.now c.loop-at.at c.in-Some.row.now c.loop-at.left c.push.new.self c.in_ok-procedure.field-0 c.is_kept.result c.in-Some.ensures c.loop-at.invariant
+    c.is_kept.ensures c.in_ok-procedure.ensures c.in_ok-push.ensures.ok
 
 pub returns : goal.returns
 returns c =

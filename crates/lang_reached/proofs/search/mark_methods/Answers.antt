@@ -1,7 +1,6 @@
 -- None is marked at first; then one method more is; and at the end all are.
 use Rattle.std.proofs.Common.{◌≤◌, arith, length}
-use Rattle.lang_reached.specs.Mentioned.{OneHas}
-use Rattle.lang_reached.proofs.Searching.{marks_none, method_more, methods_all}
+use Rattle.lang_reached.proofs.Searching.{method_more, methods_all}
 use Rattle.lang_reached.proofs.search.mark_methods.Goals as goal
 
 pub loop-at-preserved : goal.loop-at-preserved

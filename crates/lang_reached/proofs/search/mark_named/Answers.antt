@@ -1,6 +1,5 @@
 -- The row of the name, by its number.
-use Rattle.std.proofs.Common.{sym, ap, ◌∙◌}
-use Rattle.std.specs.Result.{OnOk}
+use Rattle.std.proofs.Common.{sym, ◌∙◌}
 use Rattle.lang_reached.proofs.Searching.{name_alone, named_so}
 use Rattle.lang_reached.proofs.search.mark_named.Goals as goal
 
