@@ -6,8 +6,8 @@ use Rattle.base.specs.model.DataRest.{rest_at}
 use Rattle.lang_meaning.specs.Lookup.{is_in}
 use Rattle.lang_meaning.specs.Reached.{once}
 use Rattle.back_lowering.specs.Registers.{enough_for}
-use Rattle.back_tables.specs.Marked.{AreFlags, AreMarked}
-use Rattle.back_tables.proofs.Marking.{flags_marked}
+use Rattle.lang_rows.specs.Marked.{AreFlags, AreMarked}
+use Rattle.lang_rows.proofs.Marking.{flags_marked}
 
 -- ---- how many registers are enough
 

@@ -4,13 +4,13 @@ ghost use Rattle.std.specs.Prelude.{◌≡◌, ◌≤◌, [], ◌∷◌, false, 
 ghost use Rattle.lang_meaning.specs.Reached.{once};
 ghost use Rattle.back_lowering.specs.Program as lowering;
 ghost use Rattle.back_lowering.specs.Registers as registers;
-ghost use Rattle.back_tables.specs.Marked.{AreMarked};
+ghost use Rattle.lang_rows.specs.Marked.{AreMarked};
 
 use crate::named::of_code;
 use back_calls::given::{FlagList, flag};
 use back_leaves::steps::word;
 use back_leaves::words::MOST_REGISTERS;
-use back_tables::flags::{mark, no_flags};
+use lang_rows::flags::{mark, no_flags};
 use base::NoMemory;
 use mid_code::{Code, Counted, MidProcedure, Register, RegisterList};
 use std::alloc::Global;

@@ -1,5 +1,2 @@
-pub mod Filling
-pub mod Marking
-pub mod Numbering
 pub mod Passing
 pub mod Tabling

@@ -4,6 +4,7 @@ use Rattle.flat_language.specs.declared.flat_core.FlatClause.{FlatClause}
 use Rattle.flat_language.specs.model.View.{clauses_of, maybe_form}
 use Rattle.back_lowering.specs.Sites.{asks_site, body_asks, clauses_ask}
 use Rattle.back_lowering.proofs.Rests.{there, past}
+use Rattle.lang_rows.proofs.Marking.{either_or_rest}
 
 -- where the question of a list is that of its first item, or else that of the rest
 module _ {X : Type 0} (ask : List X → Bool) (one : X → Bool) (next : (x : X) (xs : List X) → ask (x ∷ xs) ≡ (one x || ask xs)) where
@@ -25,10 +26,6 @@ module _ {X : Type 0} (ask : List X → Bool) (one : X → Bool) (next : (x : X)
 
 abbrev pub clause_asks : FlatClause → Bool
 clause_asks x = asks_site x.test || body_asks (maybe_form x.body)
-
-pub either_or_rest : (a b c : Bool) → (a || (b || c)) ≡ ((a || b) || c)
-either_or_rest true b c = refl
-either_or_rest false b c = refl
 
 pub next_clause : (x : FlatClause) (xs : List FlatClause) → clauses_ask (clauses_of (x ∷ xs)) ≡ (clause_asks x || clauses_ask (clauses_of xs))
 next_clause x xs = either_or_rest (asks_site x.test) (body_asks (maybe_form x.body)) (clauses_ask (clauses_of xs))

@@ -14,9 +14,9 @@ use Rattle.back_lowering.specs.Sites.{asks_site}
 use Rattle.back_calls.specs.Tabled.{IsTabled}
 use Rattle.back_calls.specs.declared.given.Given.{Given}
 use Rattle.back_calls.specs.declared.given.Tables.{Tables}
-use Rattle.back_tables.specs.Marked.{methods_of, AreFlags}
-use Rattle.back_tables.specs.Numbered.{IsNumber, AreNumbered, AreOfNames}
-use Rattle.back_tables.proofs.Numbering.{has_number, number_outside}
+use Rattle.lang_rows.specs.Marked.{methods_of, AreFlags}
+use Rattle.lang_rows.specs.Numbered.{IsNumber, AreNumbered, AreOfNames}
+use Rattle.lang_rows.proofs.Numbering.{has_number, number_outside}
 
 abbrev pub procedure_asks : FlatProcedure → Bool
 procedure_asks q = asks_site q.body

@@ -3,9 +3,7 @@
 
 mod asking;
 mod bodies;
-pub mod flags;
 mod methods;
-mod rows;
 pub mod sites;
 mod tables;
 

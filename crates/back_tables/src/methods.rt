@@ -2,16 +2,16 @@
 
 ghost use Rattle.std.specs.Prelude.{◌≡◌, IfOk, map};
 ghost use Rattle.lang_meaning.specs.declared.program.MethodRow.{MethodRow};
-ghost use Rattle.back_tables.specs.Marked.{AreMarked, AreFlags, methods_of};
+ghost use Rattle.lang_rows.specs.Marked.{AreMarked, AreFlags, methods_of};
 
-use crate::flags::{mark, no_flags};
+use lang_rows::flags::{mark, no_flags};
 use back_calls::given::FlagList;
 use base::NoMemory;
 use lang_meaning::{GenericRows, MethodRows};
 use std::alloc::Global;
 
 // For each of so many procedures, whether it is a method.
-#[tactic(auto, using(crate::proofs::Marking::no_generic_yet))]
+#[tactic(auto, using(lang_rows::proofs::Marking::no_generic_yet))]
 pub(crate) fn method_flags(
     alloc: Global,
     count: usize,
@@ -30,7 +30,7 @@ pub(crate) fn method_flags(
 }
 
 // The procedures of these methods are marked.
-#[tactic(auto, using(crate::proofs::Marking::no_method_yet))]
+#[tactic(auto, using(lang_rows::proofs::Marking::no_method_yet))]
 fn mark_methods(flags: &mut FlagList, methods: &MethodRows)
     ensures { AreMarked flags.old (map (λ (m : MethodRow). m.procedure) methods.now) flags.new }
 {

@@ -6,7 +6,7 @@ ghost use Rattle.back_calls.specs.declared.given.Given.{Given};
 
 use crate::bodies::asking_bodies;
 use crate::methods::method_flags;
-use crate::rows::{row_at, rows_by_numbers, rows_of_names};
+use lang_rows::named::{row_at, rows_by_numbers, rows_of_names};
 use back_calls::given::Tables;
 use base::{Names, NoMemory};
 use flat_language::FlatProgram;

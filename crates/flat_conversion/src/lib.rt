@@ -8,7 +8,6 @@ mod places;
 pub mod program;
 mod progress;
 mod shapes;
-mod tables;
 mod variables;
 
 pub use program::{flat_rows, flatten};

@@ -18,12 +18,12 @@ use crate::binders::binders_of_program;
 use crate::forms::{flat, procedure};
 use crate::places::Places;
 use crate::progress::Progress;
-use crate::tables;
 use crate::variables::BinderList;
 use base::NoMemory;
 use flat_language::laws::{law_closures, law_flat_programs};
 use flat_language::{CapturedKinds, FlatCoreList, FlatProcedureList, FlatProgram};
 use lang_meaning::{CoreList, ProcedureList, Program, ProgramRows};
+use lang_rows::copies;
 use std::alloc::Global;
 
 /// The program made flat, just as the translation has it. For every input, with every number of levels and of words, it
@@ -47,11 +47,11 @@ pub fn flatten(alloc: Global, program: &Program) -> Result<FlatProgram, NoMemory
 pub fn flat_rows(alloc: Global, rows: &ProgramRows) -> Result<FlatProgram, NoMemory>
     ensures { IfOk result (λ flat. flat ≡ flat_program rows.now) }
 {
-    let literals = tables::literals(alloc, &rows.literals)?;
-    let classes = tables::classes(alloc, &rows.classes)?;
-    let generics = tables::generics(alloc, &rows.generics)?;
-    let functions = tables::functions(alloc, &rows.functions)?;
-    let sites = tables::sites(alloc, &rows.sites)?;
+    let literals = copies::literals(alloc, &rows.literals)?;
+    let classes = copies::classes(alloc, &rows.classes)?;
+    let generics = copies::generics(alloc, &rows.generics)?;
+    let functions = copies::functions(alloc, &rows.functions)?;
+    let sites = copies::sites(alloc, &rows.sites)?;
     let Bodies {
         procedures,
         lambdas,

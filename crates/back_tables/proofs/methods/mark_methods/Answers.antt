@@ -1,6 +1,6 @@
 -- A method more is marked.
 use Rattle.std.proofs.Common.{◌-◌, arith}
-use Rattle.back_tables.proofs.Marking.{method_marked}
+use Rattle.lang_rows.proofs.Marking.{method_marked}
 use Rattle.back_tables.proofs.methods.mark_methods.Goals as goal
 
 pub loop-at-preserved : goal.loop-at-preserved

@@ -1,7 +1,7 @@
 -- The methods from one on are marked.
 use Rattle.std.proofs.Common.{map, drop}
 use Rattle.lang_meaning.specs.declared.program.MethodRow.{MethodRow}
-use Rattle.back_tables.specs.Marked.{AreMarked}
+use Rattle.lang_rows.specs.Marked.{AreMarked}
 use Rattle.back_tables.proofs.methods.mark_methods.Given as goal
 
 abbrev pub invariant-loop-at : goal.invariant-loop-at

@@ -1,6 +1,6 @@
 -- The methods of a generic function more are marked.
 use Rattle.std.proofs.Common.{◌-◌, arith}
-use Rattle.back_tables.proofs.Marking.{generic_marked}
+use Rattle.lang_rows.proofs.Marking.{generic_marked}
 use Rattle.back_tables.proofs.methods.method_flags.Goals as goal
 
 pub loop-at-preserved : goal.loop-at-preserved

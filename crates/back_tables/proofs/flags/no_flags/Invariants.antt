@@ -1,7 +1,0 @@
--- No flag so far is set.
-use Rattle.std.proofs.Common.{false}
-use Rattle.back_tables.proofs.Filling.{AreAll}
-use Rattle.back_tables.proofs.flags.no_flags.Given as goal
-
-abbrev pub invariant-loop-number : goal.invariant-loop-number
-invariant-loop-number l = AreAll false l._number l.flags

@@ -1,6 +1,0 @@
--- The functions of the names so far.
-use Rattle.back_tables.specs.Numbered.{AreOfNames}
-use Rattle.back_tables.proofs.rows.rows_of_names.Given as goal
-
-abbrev pub invariant-loop-number : goal.invariant-loop-number
-invariant-loop-number l = AreOfNames l.names l.numbered l.number l.rows

@@ -1,6 +1,0 @@
--- What is passed is copied.
-use Rattle.std.proofs.Common.{◌≡◌, take}
-use Rattle.flat_conversion.proofs.tables.functions.Given as goal
-
-abbrev pub invariant-loop-row : goal.invariant-loop-row
-invariant-loop-row l = l.copied ≡ take l.row-index l.list

@@ -1,0 +1,14 @@
+pub mod Live
+pub mod States
+pub mod Agreeing
+pub mod Chains
+pub mod Applying
+pub mod Answering
+pub mod Parts
+pub mod FormsAgree
+pub mod Starting
+pub mod Levels
+pub mod Whole
+pub mod Searching
+pub mod Marking
+pub mod Looking

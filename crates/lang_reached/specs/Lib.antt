@@ -1,0 +1,4 @@
+pub mod LeftOut
+pub mod Mentioned
+pub mod Laws
+pub mod Search
