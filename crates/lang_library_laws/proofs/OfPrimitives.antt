@@ -10,64 +10,64 @@ use Rattle.lang_meaning.specs.Primitives.{change, result, fails, domain_error, p
 use Rattle.lang_meaning.specs.Signals.{answered}
 use Rattle.lang_library_laws.specs.Applications.{IsExtended}
 use Rattle.lang_library_laws.specs.ListBodies.{one, two}
-use Rattle.lang_library_laws.proofs.Frames.{one_more, Places, Setting, at, kept_in_frame, Runs, After, Comes, a_form, given, weaker}
+use Rattle.lang_library_laws.proofs.Frames.{one_more, Places, Setting, at, kept_in_frame, Runs, After, ComesPrinting, a_form, given, weaker}
 use Rattle.lang_library_laws.proofs.Evaluates.{requests, Cell, object_in, fetched, cell_in, Results, no_arguments_left, argument_and, comes_prim}
 
-module _ {s : Setting} {places : Places} {k : ℕ} {frame : List Value} {store : List Object} {Q : Value → List Value → List Object → Type 0} where
+module _ {s : Setting} {said : List ℕ} {places : Places} {k : ℕ} {frame : List Value} {store : List Object} {Q : Value → List Value → List Object → Type 0} where
   -- a primitive of one argument that has a result
   pub of_one : {which : Primitive} {f : Form}
-      → Comes s places (a_form k f) frame store (λ x fr st. (y : Value) × Results s fr st which (x ∷ []) y × Q y fr st)
-      → Comes s places (a_form k (prim which (one f))) frame store Q
+      → ComesPrinting s said said places (a_form k f) frame store (λ x fr st. (y : Value) × Results s said fr st which (x ∷ []) y × Q y fr st)
+      → ComesPrinting s said said places (a_form k (prim which (one f))) frame store Q
   of_one {which} {f} c = comes_prim (argument_and (weaker c (λ x fr st r. no_arguments_left (λ around z h.
-      subst (λ a. Runs s (After s Q) (answered (at s k) a around z)) (sym (r.1 z h)) (given r.0 z h r.2)))))
+      subst (λ a. Runs s (After s said Q) (answered (at s k) a around z)) (sym (r.1 z h)) (given r.0 z h r.2)))))
 
   -- one of two arguments
   pub of_two : {which : Primitive} {f g : Form}
-      → Comes s places (a_form k f) frame store (λ x fr st.
-      Comes s places (a_form k g) fr st (λ y fr st. (w : Value) × Results s fr st which (x ∷ y ∷ []) w × Q w fr st))
-      → Comes s places (a_form k (prim which (two f g))) frame store Q
+      → ComesPrinting s said said places (a_form k f) frame store (λ x fr st.
+      ComesPrinting s said said places (a_form k g) fr st (λ y fr st. (w : Value) × Results s said fr st which (x ∷ y ∷ []) w × Q w fr st))
+      → ComesPrinting s said said places (a_form k (prim which (two f g))) frame store Q
   of_two {which} {f} {g} c = comes_prim (argument_and (weaker c (λ x fr st d. argument_and (weaker d (λ y fr st r. no_arguments_left (λ around z h.
-      subst (λ a. Runs s (After s Q) (answered (at s k) a around z)) (sym (r.1 z h)) (given r.0 z h r.2)))))))
+      subst (λ a. Runs s (After s said Q) (answered (at s k) a around z)) (sym (r.1 z h)) (given r.0 z h r.2)))))))
 
-  pub comes_car : {f : Form} → Comes s places (a_form k f) frame store (λ x fr st. (c : Cell st x) × Q c.first fr st)
-      → Comes s places (a_form k (prim Car (one f))) frame store Q
+  pub comes_car : {f : Form} → ComesPrinting s said said places (a_form k f) frame store (λ x fr st. (c : Cell st x) × Q c.first fr st)
+      → ComesPrinting s said said places (a_form k (prim Car (one f))) frame store Q
   comes_car {f} c = of_one (weaker c (λ x fr st r.
       (r.0.first, (λ z h. ap (λ o. needs (as_cons o) (domain_error x cons_class z) (λ (p : Value × Value). result p.0 z)) (fetched z h x ∙ cell_in r.0)), r.1)))
 
-  pub comes_cdr : {f : Form} → Comes s places (a_form k f) frame store (λ x fr st. (c : Cell st x) × Q c.rest fr st)
-      → Comes s places (a_form k (prim Cdr (one f))) frame store Q
+  pub comes_cdr : {f : Form} → ComesPrinting s said said places (a_form k f) frame store (λ x fr st. (c : Cell st x) × Q c.rest fr st)
+      → ComesPrinting s said said places (a_form k (prim Cdr (one f))) frame store Q
   comes_cdr {f} c = of_one (weaker c (λ x fr st r.
       (r.0.rest, (λ z h. ap (λ o. needs (as_cons o) (domain_error x cons_class z) (λ (p : Value × Value). result p.1 z)) (fetched z h x ∙ cell_in r.0)), r.1)))
 
-  pub comes_null : {f : Form} → Comes s places (a_form k f) frame store (λ x fr st. Q (truth (same x nil)) fr st)
-      → Comes s places (a_form k (prim IsNull (one f))) frame store Q
+  pub comes_null : {f : Form} → ComesPrinting s said said places (a_form k f) frame store (λ x fr st. Q (truth (same x nil)) fr st)
+      → ComesPrinting s said said places (a_form k (prim IsNull (one f))) frame store Q
   comes_null {f} c = of_one (weaker c (λ x fr st r. (truth (same x nil), (λ z h. refl), r)))
 
-  pub comes_consp : {f : Form} → Comes s places (a_form k f) frame store (λ x fr st. Q (truth (is_some (as_cons (object_in st x)))) fr st)
-      → Comes s places (a_form k (prim IsCons (one f))) frame store Q
+  pub comes_consp : {f : Form} → ComesPrinting s said said places (a_form k f) frame store (λ x fr st. Q (truth (is_some (as_cons (object_in st x)))) fr st)
+      → ComesPrinting s said said places (a_form k (prim IsCons (one f))) frame store Q
   comes_consp {f} c = of_one (weaker c (λ x fr st r.
       (truth (is_some (as_cons (object_in st x))), (λ z h. ap (λ o. says (is_some (as_cons o)) z) (fetched z h x)), r)))
 
-  pub comes_stringp : {f : Form} → Comes s places (a_form k f) frame store (λ x fr st. Q (truth (is_some (as_string (object_in st x)))) fr st)
-      → Comes s places (a_form k (prim IsString (one f))) frame store Q
+  pub comes_stringp : {f : Form} → ComesPrinting s said said places (a_form k f) frame store (λ x fr st. Q (truth (is_some (as_string (object_in st x)))) fr st)
+      → ComesPrinting s said said places (a_form k (prim IsString (one f))) frame store Q
   comes_stringp {f} c = of_one (weaker c (λ x fr st r.
       (truth (is_some (as_string (object_in st x))), (λ z h. ap (λ o. says (is_some (as_string o)) z) (fetched z h x)), r)))
 
-  pub comes_vectorp : {f : Form} → Comes s places (a_form k f) frame store (λ x fr st. Q (truth (is_some (as_vector (object_in st x)))) fr st)
-      → Comes s places (a_form k (prim IsVector (one f))) frame store Q
+  pub comes_vectorp : {f : Form} → ComesPrinting s said said places (a_form k f) frame store (λ x fr st. Q (truth (is_some (as_vector (object_in st x)))) fr st)
+      → ComesPrinting s said said places (a_form k (prim IsVector (one f))) frame store Q
   comes_vectorp {f} c = of_one (weaker c (λ x fr st r.
       (truth (is_some (as_vector (object_in st x))), (λ z h. ap (λ o. says (is_some (as_vector o)) z) (fetched z h x)), r)))
 
   pub comes_same : {f g : Form}
-      → Comes s places (a_form k f) frame store (λ x fr st. Comes s places (a_form k g) fr st (λ y fr st. Q (truth (same x y)) fr st))
-      → Comes s places (a_form k (prim Same (two f g))) frame store Q
+      → ComesPrinting s said said places (a_form k f) frame store (λ x fr st. ComesPrinting s said said places (a_form k g) fr st (λ y fr st. Q (truth (same x y)) fr st))
+      → ComesPrinting s said said places (a_form k (prim Same (two f g))) frame store Q
   comes_same {f} {g} c = of_two (weaker c (λ x fr st d. weaker d (λ y fr st r. (truth (same x y), (λ z h. refl), r))))
 
   -- a sum in range
   pub comes_sum : {f g : Form}
-      → Comes s places (a_form k f) frame store (λ x fr st. Comes s places (a_form k g) fr st (λ y fr st.
+      → ComesPrinting s said said places (a_form k f) frame store (λ x fr st. ComesPrinting s said said places (a_form k g) fr st (λ y fr st.
       (a : ℤ) × (b : ℤ) × (x ≡ integer a) × (y ≡ integer b) × (in_range (a +ℤ b) ≡ true) × Q (integer (a +ℤ b)) fr st))
-      → Comes s places (a_form k (prim Add (two f g))) frame store Q
+      → ComesPrinting s said said places (a_form k (prim Add (two f g))) frame store Q
   comes_sum {f} {g} c = of_two (weaker c (λ x fr st d. weaker d (λ y fr st r. (
     integer (r.0 +ℤ r.1),
     (λ z h. ap (λ v. primitive s.names s.program Add (v ∷ y ∷ []) z) r.2 ∙ ap (λ v. primitive s.names s.program Add (integer r.0 ∷ v ∷ []) z) r.3
@@ -77,9 +77,9 @@ module _ {s : Setting} {places : Places} {k : ℕ} {frame : List Value} {store :
 
   -- a new cons
   pub comes_cons : {f g : Form}
-      → Comes s places (a_form k f) frame store (λ x fr st. Comes s places (a_form k g) fr st (λ y fr st.
+      → ComesPrinting s said said places (a_form k f) frame store (λ x fr st. ComesPrinting s said said places (a_form k g) fr st (λ y fr st.
       Q (object (length st)) fr (st ++ cons x y ∷ [])))
-      → Comes s places (a_form k (prim Cons (two f g))) frame store Q
+      → ComesPrinting s said said places (a_form k (prim Cons (two f g))) frame store Q
   comes_cons {f} {g} c = comes_prim (argument_and (weaker c (λ x fr st d. argument_and (weaker d (λ y fr st r. no_arguments_left (λ around z h.
       requests 2 0 z (λ entered. gives (object (length entered.store)) (stored (cons x y) (charged 2 entered))) (kept_in_frame h)
       (given (object (length z.store)) (stored (cons x y) (charged 2 (with_words 2 0 z))) (one_more (cons x y) z h)
@@ -87,21 +87,22 @@ module _ {s : Setting} {places : Places} {k : ℕ} {frame : List Value} {store :
 
   -- another second part of a cons, which is none of those that are kept
   pub comes_set_cdr : {f g : Form}
-      → Comes s places (a_form k f) frame store (λ x fr st. Comes s places (a_form k g) fr st (λ y fr st.
+      → ComesPrinting s said said places (a_form k f) frame store (λ x fr st. ComesPrinting s said said places (a_form k g) fr st (λ y fr st.
       (c : Cell st y) × IsExtended Object s.kept (slice_set st c.number (cons c.first x)) × Q x fr (slice_set st c.number (cons c.first x))))
-      → Comes s places (a_form k (prim SetCdr (two f g))) frame store Q
+      → ComesPrinting s said said places (a_form k (prim SetCdr (two f g))) frame store Q
   comes_set_cdr {f} {g} c = comes_prim (argument_and (weaker c (λ x fr st d. argument_and (weaker d (λ y fr st r. no_arguments_left (λ around z h.
       let now : Object = cons r.0.first x in
       let is : primitive s.names s.program SetCdr (x ∷ y ∷ []) z ≡ result x (changed r.0.number now z) =
       ap (λ o. needs (as_cons o) (domain_error y cons_class z) (λ (p : Value × Value). result x (change y (cons p.0 x) z))) (fetched z h y ∙ cell_in r.0)
       ∙ ap (λ u. result x (change u now z)) r.0.is in
-      subst (λ a. Runs s (After s Q) (answered (at s k) a around z)) (sym is)
+      subst (λ a. Runs s (After s said Q) (answered (at s k) a around z)) (sym is)
       (given x (changed r.0.number now z)
       (record {
         objects_are = ap (λ os. slice_set os r.0.number now) h.objects_are;
         extended = r.1;
         variables_are = h.variables_are;
         printed_are = h.printed_are;
+        may_be = h.may_be;
         input_is = h.input_is;
         globals_are = h.globals_are;
         dynamics_are = h.dynamics_are;

@@ -21,16 +21,20 @@ pub record IsExtended (X : Type 0) (before after : List X) : Type 0 where
   pub added : List X
   pub is : after ≡ before ++ added
 
--- a later state, in which these objects and all variables that were there are as they were, nothing was printed or read, and
--- nothing was defined
-pub record Keeps (kept : List Object) (before after : State) : Type 0 where
+-- a later state, in which these objects and all variables that were there are as they were, nothing was read, and nothing was
+-- defined. What is printed by then is that.
+pub record KeepsPrinting (IsPrinted : List ℕ → Type 0) (kept : List Object) (before after : State) : Type 0 where
   pub objects : IsExtended Object kept after.store
   pub variables : IsExtended Value before.variables after.variables
-  pub printed : after.printed ≡ before.printed
+  pub printed : IsPrinted after.printed
   pub input : after.input ≡ before.input
   pub globals : after.globals ≡ before.globals
   pub dynamics : after.dynamics ≡ before.dynamics
   pub symbols : after.symbols ≡ before.symbols
+
+-- the same, where nothing is printed
+abbrev pub Keeps : List Object → State → State → Type 0
+Keeps kept before after = KeepsPrinting (λ printed. printed ≡ before.printed) kept before after
 
 -- an evaluation has a value of which that holds, or it is full or ran out of levels, and that holds then; it makes no transfer
 abbrev pub EndsAs : (at_full at_more : State → Type 0) → (Value → State → Type 0) → Outcome → State → Type 0
@@ -48,11 +52,17 @@ IsLimited (words w) = ⊤
 IsLimited unlimited = ⊥
 
 -- from a state, with so many levels: a value of which that holds in the store behind; or it is full, where words are limited, or
--- runs out of levels, where they are not enough. These objects are kept.
+-- runs out of levels, where they are not enough. These objects are kept. With a value all of that text is printed; else what
+-- is printed by then may be that.
+abbrev pub GivesPrinting : (MayBePrinted : List ℕ → Type 0) → (printed : List ℕ) → List Object → Limit → (levels enough : ℕ) → State
+    → (Value → List Object → Type 0) → Evaluated → Type 0
+GivesPrinting MayBePrinted printed kept limit levels enough z Q r =
+    Ends (λ after. IsLimited limit × KeepsPrinting MayBePrinted kept z after) (λ after. (levels < enough) × KeepsPrinting MayBePrinted kept z after)
+    (λ v after. KeepsPrinting (λ text. text ≡ printed) kept z after × Q v after.store) r
+
+-- the same, where nothing is printed
 abbrev pub GivesKeeping : List Object → Limit → (levels enough : ℕ) → State → (Value → List Object → Type 0) → Evaluated → Type 0
-GivesKeeping kept limit levels enough z Q r =
-    Ends (λ after. IsLimited limit × Keeps kept z after) (λ after. (levels < enough) × Keeps kept z after)
-    (λ v after. Keeps kept z after × Q v after.store) r
+GivesKeeping kept limit levels enough z Q r = GivesPrinting (λ text. text ≡ z.printed) z.printed kept limit levels enough z Q r
 
 -- the same, where all objects that were there are kept
 abbrev pub Gives : Limit → (levels enough : ℕ) → State → (Value → List Object → Type 0) → Evaluated → Type 0
