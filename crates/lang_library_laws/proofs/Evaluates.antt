@@ -134,7 +134,6 @@ module _ {s : Setting} {said : List ℕ} {places : Places} {k : ℕ} {frame : Li
         a.is);
   }
 
-
 module _ {s : Setting} {said said' : List ℕ} {places : Places} {k : ℕ} {frame : List Value} {store : List Object} {Q : Value → List Value → List Object → Type 0} where
   -- a variable is set
   pub comes_set : {f : Form} (v : ℕ) (i : ℕ) → under_number v places ≡ Some i

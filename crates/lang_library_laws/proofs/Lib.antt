@@ -6,6 +6,7 @@ pub mod Loops
 pub mod Applies
 pub mod Falling
 pub mod TurnCopy
+pub mod Append
 pub mod Reverse
 pub mod Length
 pub mod Seek

@@ -7,9 +7,9 @@ use Rattle.lang_meaning.specs.declared.program.ProgramRows.{ProgramRows}
 use Rattle.lang_meaning.specs.Values.{Value, integer}
 use Rattle.lang_meaning.specs.State.{State, DynamicContext, Evaluated, value, Limit, unlimited}
 use Rattle.lang_meaning.specs.Signals.{Signals, apply_procedure}
-use Rattle.lang_library_laws.specs.Lists.{IsListFrom, IsProperList, IsBehind, from_item, HaveKeys, with_key}
+use Rattle.lang_library_laws.specs.Lists.{IsListFrom, IsProperList, AreProperLists, joined, IsBehind, from_item, HaveKeys, with_key}
 use Rattle.lang_library_laws.specs.Applications.{Keeps, Gives, at_level, HasLiteral, HasTruth, IsNamed}
-use Rattle.lang_library_laws.specs.ListBodies.{list_function, turn_copy_onto, reverse_function, list_length, length_function, memv, member_function, assoc_function}
+use Rattle.lang_library_laws.specs.ListBodies.{list_function, turn_copy_onto, turn_onto, append_all, append_function, reverse_function, list_length, length_function, memv, member_function, assoc_function}
 
 -- with unlimited words and enough levels there is a value, whatever is said of it
 abbrev pub LawOfEnough : Type 0
@@ -26,6 +26,21 @@ LawOfList =
     → (limit : Limit) (k : ℕ) (wrong : Signals) (around : DynamicContext) (z : State) (items : List Value)
     → Gives limit k 1 z (λ w store. IsListFrom (length z.store) store w items)
     (apply_procedure (at_level names program limit k) wrong number None items around z)
+
+-- `(append list ..)` is a list of the items of all lists, one after another
+abbrev pub LawOfAppend : Type 0
+LawOfAppend =
+    (names : List (List ℕ)) (program : ProgramRows) (name name' copy_name onto_name : Option Name) (v v' copy_v onto_v : ℕ)
+    (ends_in_list no_items truth nothing list_class truth' turn_copy turn domain_error append_all_name number : ℕ)
+    → HasTruth program ends_in_list → HasLiteral program no_items datum.nil → HasTruth program truth → HasLiteral program nothing datum.nil
+    → HasTruth program truth'
+    → IsNamed names program turn_copy (turn_copy_onto copy_name copy_v) → IsNamed names program turn (turn_onto onto_name onto_v)
+    → IsNamed names program append_all_name (append_all name' v' no_items truth nothing list_class truth' turn_copy turn domain_error)
+    → slice_get program.procedures number ≡ Some (append_function name v append_all_name ends_in_list)
+    → (limit : Limit) (k : ℕ) (wrong : Signals) (around : DynamicContext) (z : State) (lists : List (Value × List Value))
+    → AreProperLists z.store lists
+    → Gives limit k (length lists + length (joined lists) + 3) z (λ w store. IsProperList store w (joined lists))
+    (apply_procedure (at_level names program limit k) wrong number None (map (λ l. l.0) lists) around z)
 
 -- `(reverse list)` is a new list of the items in the other order
 abbrev pub LawOfReverse : Type 0

@@ -1,6 +1,6 @@
 // What functions of the library give for all proper lists, as the contracts of functions that do nothing.
 
-ghost use Rattle.lang_library_laws.specs.Laws.{LawOfAssoc, LawOfEnough, LawOfLength, LawOfList, LawOfMember, LawOfReverse};
+ghost use Rattle.lang_library_laws.specs.Laws.{LawOfAppend, LawOfAssoc, LawOfEnough, LawOfLength, LawOfList, LawOfMember, LawOfReverse};
 ghost use Rattle.lang_library_laws.specs.Worked.{IsMet, Works};
 
 /// What a law says that an application gives, it gives where words are unlimited and levels are enough.
@@ -37,4 +37,9 @@ pub fn law_assoc()
 pub fn worked_functions()
     ensures is_met { IsMet }
     ensures works { Works }
+{}
+
+/// The law of `append`: of proper lists it gives a list of the items of all of them, one after another.
+pub fn law_append()
+    ensures { LawOfAppend }
 {}
