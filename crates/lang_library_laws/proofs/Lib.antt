@@ -6,6 +6,8 @@ pub mod Loops
 pub mod Applies
 pub mod Falling
 pub mod TurnCopy
+pub mod Decimals
+pub mod Digits
 pub mod Append
 pub mod Reverse
 pub mod Length

@@ -1,17 +1,21 @@
 -- How the primitives of lists and of numbers are evaluated inside an application: one rule each.
-use Rattle.std.proofs.Common.{slice_set, ◌≡◌, ℕ, ◌+ℤ◌, Bool, true, List, [], ◌∷◌, ◌++◌, refl, sym, ap, subst, ◌∙◌, length, ℤ, is_some, if◌then◌else◌}
+use Rattle.std.proofs.Common.{slice_set, slice_index_or, nat_lt, pos, Option, Some, None, arith, ◌<◌, ◌≡◌, ℕ, ◌+ℤ◌, Bool, true, List, [], ◌∷◌, ◌++◌, refl, sym, ap, subst, ◌∙◌, length, ℤ, is_some, if◌then◌else◌}
+use Rattle.std.proofs.lemmas.Bool.Decides.{nat_tests}
 use Rattle.lang_meaning.specs.declared.primitive.Primitive.{Primitive}
-use Rattle.lang_meaning.specs.declared.primitive.Primitive.TheVariants.{Add, Same, SetCdr, IsNull, IsCons, IsString, IsVector, Cons, Car, Cdr}
+use Rattle.lang_meaning.specs.declared.primitive.Primitive.TheVariants.{Add, Same, SetCdr, IsNull, IsCons, IsString, IsVector, Cons, Car, Cdr, CharAt, PutChar}
 use Rattle.lang_meaning.specs.Form.{Form, prim}
-use Rattle.lang_meaning.specs.Values.{Value, nil, object, integer, truth, same, in_range}
-use Rattle.lang_meaning.specs.Objects.{Object, cons, cons_class, integer_overflow_class}
-use Rattle.lang_meaning.specs.State.{changed, gives, stored, charged, with_words}
-use Rattle.lang_meaning.specs.Primitives.{change, result, fails, domain_error, primitive, as_cons, as_string, as_vector, needs, says}
+use Rattle.lang_meaning.specs.Values.{Value, nil, object, integer, character, truth, same, in_range}
+use Rattle.lang_meaning.specs.Objects.{Object, cons, string, output_stream, cons_class, string_class, stream_class, integer_overflow_class}
+use Rattle.lang_meaning.specs.State.{State, changed, gives, stored, charged, with_words}
+use Rattle.lang_meaning.specs.Primitives.{Answer, change, result, fails, domain_error, program_error, primitive, as_cons, as_string, as_vector, as_stream, a_character, an_integer, an_index, integer_result, needs, says}
 use Rattle.lang_meaning.specs.Signals.{answered}
 use Rattle.lang_library_laws.specs.Applications.{IsExtended}
 use Rattle.lang_library_laws.specs.ListBodies.{one, two}
 use Rattle.lang_library_laws.proofs.Frames.{one_more, Places, Setting, at, kept_in_frame, Runs, After, ComesPrinting, a_form, given, weaker}
 use Rattle.lang_library_laws.proofs.Evaluates.{requests, Cell, object_in, fetched, cell_in, Results, no_arguments_left, argument_and, comes_prim}
+
+tested : (i n : ℕ) → i < n → nat_lt i n ≡ true
+tested i n h = grind (arith, nat_tests)
 
 module _ {s : Setting} {said : List ℕ} {places : Places} {k : ℕ} {frame : List Value} {store : List Object} {Q : Value → List Value → List Object → Type 0} where
   -- a primitive of one argument that has a result
@@ -109,3 +113,66 @@ module _ {s : Setting} {said : List ℕ} {places : Places} {k : ℕ} {frame : Li
         symbols_are = h.symbols_are;
       })
       r.2)))))))
+
+  -- one of two integers that has a result
+  pub comes_integers : {which : Primitive} {f g : Form} (op : ℤ → ℤ → State → Answer)
+      → ((a b : ℤ) (z : State) → primitive s.names s.program which (integer a ∷ integer b ∷ []) z ≡ op a b z)
+      → ComesPrinting s said said places (a_form k f) frame store (λ x fr st. ComesPrinting s said said places (a_form k g) fr st (λ y fr st.
+      (a : ℤ) × (b : ℤ) × (w : Value) × (x ≡ integer a) × (y ≡ integer b) × ((z : State) → op a b z ≡ result w z) × Q w fr st))
+      → ComesPrinting s said said places (a_form k (prim which (two f g))) frame store Q
+  comes_integers {which} {f} {g} op is c = of_two (weaker c (λ x fr st d. weaker d (λ y fr st r. (
+    r.2,
+    (λ z h. ap (λ v. primitive s.names s.program which (v ∷ y ∷ []) z) r.3 ∙ ap (λ v. primitive s.names s.program which (integer r.0 ∷ v ∷ []) z) r.4
+        ∙ is r.0 r.1 z ∙ r.5 z),
+    r.6,
+  ))))
+
+  -- a character of a string
+  pub comes_char_at : {f g : Form}
+      → ComesPrinting s said said places (a_form k f) frame store (λ x fr st. ComesPrinting s said said places (a_form k g) fr st (λ y fr st.
+      (bytes : List ℕ) × (i : ℕ) × (object_in st x ≡ Some (string bytes)) × (y ≡ integer (pos i)) × (i < length bytes)
+      × Q (character (slice_index_or bytes i 0)) fr st))
+      → ComesPrinting s said said places (a_form k (prim CharAt (two f g))) frame store Q
+  comes_char_at {f} {g} c = of_two (weaker c (λ x fr st d. weaker d (λ y fr st r. (
+    character (slice_index_or r.0 r.1 0),
+    (λ z h.
+    let chosen : List ℕ → ℕ → Answer = λ bytes i. result (character (slice_index_or bytes i 0)) z in
+    let within : nat_lt r.1 (length r.0) ≡ true = tested r.1 (length r.0) r.4 in
+    ap (λ o. needs (as_string o) (domain_error x string_class z) (λ bytes. an_integer y z (λ n. an_index n (length bytes) z (chosen bytes)))) (fetched z h x ∙ r.2)
+    ∙ ap (λ v. an_integer v z (λ n. an_index n (length r.0) z (chosen r.0))) r.3
+    ∙ ap (λ (b : Bool). needs (if b then Some r.1 else None) (program_error z) (chosen r.0)) within),
+    r.5,
+  ))))
+
+  -- a character is put
+  pub comes_put : {f g : Form} {c : ℕ} → s.may (said ++ c ∷ [])
+      → ComesPrinting s said said places (a_form k f) frame store (λ x fr st. ComesPrinting s said said places (a_form k g) fr st (λ y fr st.
+      (object_in st x ≡ Some output_stream) × (y ≡ character c) × Q nil fr st))
+      → ComesPrinting s said (said ++ c ∷ []) places (a_form k (prim PutChar (two f g))) frame store Q
+  comes_put {f} {g} {c} may e = comes_prim (argument_and (weaker e (λ x fr st d. argument_and (weaker d (λ y fr st r. no_arguments_left (λ around z h.
+      let is : primitive s.names s.program PutChar (x ∷ y ∷ []) z ≡ result nil (record z { printed = z.printed ++ c ∷ [] }) =
+      ap (λ o. needs (as_stream o) (domain_error x stream_class z) (λ is_output. a_character y z (λ c.
+      if is_output then result nil (record z { printed = z.printed ++ c ∷ [] }) else domain_error x stream_class z))) (fetched z h x ∙ r.0)
+      ∙ ap (λ v. a_character v z (λ c. result nil (record z { printed = z.printed ++ c ∷ [] }))) r.1 in
+      subst (λ a. Runs s (After s (said ++ c ∷ []) Q) (answered (at s k) a around z)) (sym is)
+      (given nil (record z { printed = z.printed ++ c ∷ [] })
+      (record {
+        objects_are = h.objects_are;
+        extended = h.extended;
+        variables_are = h.variables_are;
+        printed_are = ap (λ text. text ++ c ∷ []) h.printed_are;
+        may_be = may;
+        input_is = h.input_is;
+        globals_are = h.globals_are;
+        dynamics_are = h.dynamics_are;
+        symbols_are = h.symbols_are;
+      })
+      r.2)))))))
+
+-- results that are in range
+pub ranged : (n c : ℤ) → n ≡ c → in_range c ≡ true → (z : State) → integer_result n z ≡ result (integer c) z
+ranged n c e r z =
+    ap (λ m. integer_result m z) e ∙ ap (λ (b : Bool). if b then result (integer c) z else fails integer_overflow_class [] z) r
+
+pub said_to_be : (b c : Bool) → b ≡ c → (z : State) → says b z ≡ result (truth c) z
+said_to_be b c e z = ap (λ b. says b z) e

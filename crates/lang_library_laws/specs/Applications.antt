@@ -8,11 +8,12 @@ use Rattle.lang_meaning.specs.declared.program.Procedure.{Procedure}
 use Rattle.lang_meaning.specs.declared.program.FunctionRow.{FunctionRow}
 use Rattle.lang_meaning.specs.declared.program.ProgramRows.{ProgramRows}
 use Rattle.lang_meaning.specs.declared.program.Callee.TheVariants as callee
-use Rattle.lang_meaning.specs.Values.{Value}
-use Rattle.lang_meaning.specs.Objects.{Object}
+use Rattle.lang_meaning.specs.Values.{Value, object}
+use Rattle.lang_meaning.specs.Objects.{Object, string, output_stream}
 use Rattle.lang_meaning.specs.State.{State, Outcome, value, exit, full, more, Evaluated, Limit, words, unlimited}
 use Rattle.lang_meaning.specs.Lookup.{text}
 use Rattle.lang_meaning.specs.Literals.{function_row}
+use Rattle.lang_meaning.specs.InitialHeap.{literal_value}
 use Rattle.lang_meaning.specs.Signals.{Context, Task, Evaluation}
 use Rattle.lang_meaning.specs.Meaning.{none_below, context_of, meaning_at}
 
@@ -60,6 +61,15 @@ GivesPrinting MayBePrinted printed kept limit levels enough z Q r =
     Ends (λ after. IsLimited limit × KeepsPrinting MayBePrinted kept z after) (λ after. (levels < enough) × KeepsPrinting MayBePrinted kept z after)
     (λ v after. KeepsPrinting (λ text. text ≡ printed) kept z after × Q v after.store) r
 
+-- behind a text a beginning of another one
+abbrev pub IsBegun : (before whole : List ℕ) → List ℕ → Type 0
+IsBegun before whole text = (begun : List ℕ) × (others : List ℕ) × (text ≡ before ++ begun) × (begun ++ others ≡ whole)
+
+-- with a value that text is printed, and else a beginning of it
+abbrev pub Prints : List Object → Limit → (levels enough : ℕ) → State → (whole : List ℕ) → Evaluated → Type 0
+Prints kept limit levels enough z whole r =
+    GivesPrinting (IsBegun z.printed whole) (z.printed ++ whole) kept limit levels enough z (λ v store. ⊤) r
+
 -- the same, where nothing is printed
 abbrev pub GivesKeeping : List Object → Limit → (levels enough : ℕ) → State → (Value → List Object → Type 0) → Evaluated → Type 0
 GivesKeeping kept limit levels enough z Q r = GivesPrinting (λ text. text ≡ z.printed) z.printed kept limit levels enough z Q r
@@ -82,6 +92,18 @@ HasLiteral program id content = (place : Place) × (slice_get program.literals i
 
 abbrev pub HasTruth : ProgramRows → ℕ → Type 0
 HasTruth program id = (x : Symbol) × HasLiteral program id (datum.symbol x)
+
+-- the literal is that string, and the object that stands for it is still there as it was made
+pub record HasText (names : List (List ℕ)) (program : ProgramRows) (store : List Object) (id : ℕ) (bytes : List ℕ) : Type 0 where
+  pub place : Place
+  pub number : ℕ
+  pub row : slice_get program.literals id ≡ Some (row.Datum (datum.item place (datum.string bytes)))
+  pub is : literal_value names program id (datum.item place (datum.string bytes)) ≡ object number
+  pub there : slice_get store number ≡ Some (string bytes)
+
+-- the value is the standard output
+abbrev pub IsOutput : List Object → Value → Type 0
+IsOutput store v = (i : ℕ) × (v ≡ object i) × (slice_get store i ≡ Some output_stream)
 
 -- the name is that of a function which is this procedure
 pub record IsNamed (names : List (List ℕ)) (program : ProgramRows) (name : ℕ) (procedure : Procedure) : Type 0 where

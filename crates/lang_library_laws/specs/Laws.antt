@@ -1,15 +1,17 @@
 -- The laws of the library: what a function gives for all proper lists, in any state and in every program that has it, with any number
 -- of levels and of words.
-use Rattle.std.specs.Prelude.{◌≡◌, ◌≤◌, ⊤, ℕ, ◌+◌, pos, List, [], ◌∷◌, Option, Some, None, length, map, reverse, slice_get}
+use Rattle.std.specs.Prelude.{◌≡◌, ◌≤◌, ⊤, ℕ, ◌+◌, ℤ, pos, true, List, [], ◌∷◌, codes, Option, Some, None, length, map, reverse, slice_get}
 use Rattle.base.specs.Data as datum
 use Rattle.base.specs.declared.datum.Name.{Name}
 use Rattle.lang_meaning.specs.declared.program.ProgramRows.{ProgramRows}
-use Rattle.lang_meaning.specs.Values.{Value, integer}
+use Rattle.lang_meaning.specs.Values.{Value, integer, in_range}
 use Rattle.lang_meaning.specs.State.{State, DynamicContext, Evaluated, value, Limit, unlimited}
 use Rattle.lang_meaning.specs.Signals.{Signals, apply_procedure}
 use Rattle.lang_library_laws.specs.Lists.{IsListFrom, IsProperList, AreProperLists, joined, IsBehind, from_item, HaveKeys, with_key}
-use Rattle.lang_library_laws.specs.Applications.{Keeps, Gives, at_level, HasLiteral, HasTruth, IsNamed}
+use Rattle.lang_library_laws.specs.Decimal.{decimal}
+use Rattle.lang_library_laws.specs.Applications.{Keeps, Prints, Gives, at_level, HasLiteral, HasTruth, HasText, IsOutput, IsNamed}
 use Rattle.lang_library_laws.specs.ListBodies.{list_function, turn_copy_onto, turn_onto, append_all, append_function, reverse_function, list_length, length_function, memv, member_function, assoc_function}
+use Rattle.lang_library_laws.specs.NumberBodies.{emit, digit_function, emit_digit, emit_natural, emit_integer}
 
 -- with unlimited words and enough levels there is a value, whatever is said of it
 abbrev pub LawOfEnough : Type 0
@@ -90,3 +92,18 @@ LawOfAssoc =
     → IsProperList z.store list (map (λ e. e.0) entries) → HaveKeys z.store entries
     → Gives limit k (length entries + 1) z (λ w store. w ≡ with_key key entries)
     (apply_procedure (at_level names program limit k) wrong number None (key ∷ list ∷ []) around z)
+
+-- `(%emit-integer stream integer 10)`, by which the library prints integers, puts the decimal digits of an integer of this profile
+abbrev pub LawOfDigits : Type 0
+LawOfDigits =
+    (names : List (List ℕ)) (program : ProgramRows) (name natural_name last_name put_name byte_name : Option Name)
+    (v natural_v last_v put_v byte_v : ℕ) (bound truth minuend minuend' minus least digits put natural last byte number : ℕ)
+    → HasLiteral program bound (datum.integer (pos 0)) → HasTruth program truth → HasLiteral program minuend (datum.integer (pos 0))
+    → HasLiteral program minuend' (datum.integer (pos 0)) → HasLiteral program minus (datum.character 45) → HasLiteral program least (datum.integer (pos 0))
+    → IsNamed names program put (emit put_name put_v) → IsNamed names program byte (digit_function byte_name byte_v digits)
+    → IsNamed names program last (emit_digit last_name last_v put byte) → IsNamed names program natural (emit_natural natural_name natural_v natural last)
+    → slice_get program.procedures number ≡ Some (emit_integer name v bound truth minuend minuend' minus least put natural last)
+    → (limit : Limit) (k : ℕ) (wrong : Signals) (around : DynamicContext) (z : State) (stream : Value) (n : ℤ)
+    → IsOutput z.store stream → HasText names program z.store digits (codes "0123456789ABCDEFGHIJKLMNOPQRSTUVWXYZ") → in_range n ≡ true
+    → Prints z.store limit k (length (decimal n) + 3) z (decimal n)
+    (apply_procedure (at_level names program limit k) wrong number None (stream ∷ integer n ∷ integer (pos 10) ∷ []) around z)

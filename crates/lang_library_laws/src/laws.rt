@@ -1,6 +1,6 @@
 // What functions of the library give for all proper lists, as the contracts of functions that do nothing.
 
-ghost use Rattle.lang_library_laws.specs.Laws.{LawOfAppend, LawOfAssoc, LawOfEnough, LawOfLength, LawOfList, LawOfMember, LawOfReverse};
+ghost use Rattle.lang_library_laws.specs.Laws.{LawOfAppend, LawOfAssoc, LawOfDigits, LawOfEnough, LawOfLength, LawOfList, LawOfMember, LawOfReverse};
 ghost use Rattle.lang_library_laws.specs.Worked.{IsMet, Works};
 
 /// What a law says that an application gives, it gives where words are unlimited and levels are enough.
@@ -42,4 +42,9 @@ pub fn worked_functions()
 /// The law of `append`: of proper lists it gives a list of the items of all of them, one after another.
 pub fn law_append()
     ensures { LawOfAppend }
+{}
+
+/// The law of the digits of an integer: they are printed, behind a minus sign where it is below 0.
+pub fn law_digits()
+    ensures { LawOfDigits }
 {}
