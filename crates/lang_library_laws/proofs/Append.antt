@@ -14,12 +14,13 @@ use Rattle.lang_meaning.specs.Literals.{symbol_of}
 use Rattle.lang_meaning.specs.Primitives.{as_cons}
 use Rattle.lang_meaning.specs.Captured.{has_box}
 use Rattle.lang_meaning.specs.Signals.{Signals, apply_procedure}
+use Rattle.lang_library_laws.specs.Structures.{object_in}
 use Rattle.lang_library_laws.specs.Lists.{IsListFrom, IsProperList, AreProperLists, joined}
 use Rattle.lang_library_laws.specs.Applications.{GivesKeeping, IsExtended, Gives, at_level, HasLiteral, HasTruth, IsNamed}
 use Rattle.lang_library_laws.specs.ListBodies.{one, two, not_form, not_null, clause_of, and_form, is_no_list, turn_copy_onto, turn_onto, append_test, append_turn, append_end, append_body, append_form, append_all}
 use Rattle.lang_library_laws.specs.Laws.{LawOfAppend}
 use Rattle.lang_library_laws.proofs.Frames.{nothing_added, added_more, same_objects, get_kept, Places, Setting, Comes, a_form, in_order, some_clauses, weaker, at_frame}
-use Rattle.lang_library_laws.proofs.Evaluates.{Cell, object_in, cell_in, comes_local, comes_set, comes_literal, comes_sequence, then_nothing, first_then, comes_clauses, clause_taken, clause_passed, body_form, test_value, no_clause_left, while_runs, no_arguments_left, argument_and, no_bindings_left, value_and, comes_let}
+use Rattle.lang_library_laws.proofs.Evaluates.{Cell, cell_in, comes_local, comes_set, comes_literal, comes_sequence, then_nothing, first_then, comes_clauses, clause_taken, clause_passed, body_form, test_value, no_clause_left, while_runs, no_arguments_left, argument_and, no_bindings_left, value_and, comes_let}
 use Rattle.lang_library_laws.proofs.OfPrimitives.{comes_car, comes_cdr, comes_null, comes_consp}
 use Rattle.lang_library_laws.proofs.Loops.{Turn, Turns, Stops, loops}
 use Rattle.lang_library_laws.proofs.Applies.{setting, applies, applies_to, called, comes_call}

@@ -16,6 +16,7 @@ use Rattle.lang_meaning.specs.Literals.{symbol_of, function_row}
 use Rattle.lang_meaning.specs.Captured.{has_box}
 use Rattle.lang_meaning.specs.Primitives.{floor_quotient, floor_remainder, integer_result, division, says}
 use Rattle.lang_meaning.specs.Signals.{Signals, signal, apply_row, takes, apply_procedure}
+use Rattle.lang_library_laws.specs.Structures.{object_in}
 use Rattle.lang_library_laws.specs.Decimal.{digit, digits_within, natural_digits, decimal}
 use Rattle.lang_library_laws.specs.Applications.{GivesPrinting, GivesKeeping, Prints, IsBegun, IsExtended, IsOutput, HasText, HasLiteral, HasTruth, IsNamed, at_level}
 use Rattle.lang_library_laws.specs.ListBodies.{one, two, a_procedure}
@@ -23,7 +24,7 @@ use Rattle.lang_library_laws.specs.NumberBodies.{when, emit, digit_function, emi
 use Rattle.lang_library_laws.specs.Laws.{LawOfDigits}
 use Rattle.lang_library_laws.proofs.Decimals.{begun_none, begun_all, begun_front, begun_behind, digit_is, remainder_is, first_remainder, last_is, sum_is, quotient_is, front_is, minus_range, range_below, range_above, natural_range}
 use Rattle.lang_library_laws.proofs.Frames.{nothing_added, get_kept, Places, Setting, at, ComesPrinting, a_form, in_order, weaker, at_frame, at_store}
-use Rattle.lang_library_laws.proofs.Evaluates.{object_in, Arguments, comes_local, comes_literal, comes_sequence, then_nothing, first_then, comes_clauses, clause_taken, clause_passed, no_clause_left, body_form, no_arguments_left, argument_and, no_bindings_left, value_and, comes_let}
+use Rattle.lang_library_laws.proofs.Evaluates.{Arguments, comes_local, comes_literal, comes_sequence, then_nothing, first_then, comes_clauses, clause_taken, clause_passed, no_clause_left, body_form, no_arguments_left, argument_and, no_bindings_left, value_and, comes_let}
 use Rattle.lang_library_laws.proofs.OfPrimitives.{comes_integers, comes_char_at, comes_put, ranged, said_to_be}
 use Rattle.lang_library_laws.proofs.Applies.{setting_printing, applies, applies_printing, called, called_printing, comes_call}
 use Rattle.lang_library_laws.proofs.ListsKept.{here, elsewhere}

@@ -16,6 +16,7 @@ use Rattle.lang_meaning.specs.InitialHeap.{literal_value}
 use Rattle.lang_meaning.specs.Primitives.{result, primitive}
 use Rattle.lang_meaning.specs.Signals.{Evaluation, form, answered, with_boxes}
 use Rattle.lang_meaning.specs.Meaning.{charged_for, meaning_at, mean, mean_literal, mean_arguments, mean_clauses, mean_body, mean_bindings, bound_variables}
+use Rattle.lang_library_laws.specs.Structures.{object_in}
 use Rattle.lang_library_laws.specs.Applications.{IsLimited, at_level}
 use Rattle.lang_library_laws.proofs.Frames.{set_behind, Places, shifted, numbered_shifted, found_shifted, Setting, at, InFrame, Stays, kept_in_frame, Runs, After, on, ComesPrinting, Comes, a_form, in_order, some_clauses, a_body, one_below, given}
 
@@ -48,14 +49,6 @@ pub record Cell (store : List Object) (x : Value) : Type 0 where
   pub rest : Value
   pub is : x ≡ object number
   pub there : slice_get store number ≡ Some (cons first rest)
-
--- the object of a value in a store
-abbrev pub object_in : List Object → Value → Option Object
-object_in store (object i) = slice_get store i
-object_in store nil = None
-object_in store (integer n) = None
-object_in store (character c) = None
-object_in store (symbol x) = None
 
 pub fetched : {s : Setting} {said : List ℕ} {frame : List Value} {store : List Object} (z : State) → InFrame s said frame store z → (x : Value) → fetch z x ≡ object_in store x
 fetched {s} {said} {frame} {store} z h (object i) = ap (λ os. slice_get os i) h.objects_are

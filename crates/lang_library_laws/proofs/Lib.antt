@@ -6,6 +6,10 @@ pub mod Loops
 pub mod Applies
 pub mod Falling
 pub mod TurnCopy
+pub mod Structures
+pub mod Along
+pub mod Strings
+pub mod Equal
 pub mod Decimals
 pub mod Digits
 pub mod Append

@@ -2,17 +2,18 @@
 use Rattle.std.proofs.Common.{slice_set, slice_index_or, nat_lt, pos, Option, Some, None, arith, ◌<◌, ◌≡◌, ℕ, ◌+ℤ◌, Bool, true, List, [], ◌∷◌, ◌++◌, refl, sym, ap, subst, ◌∙◌, length, ℤ, is_some, if◌then◌else◌}
 use Rattle.std.proofs.lemmas.Bool.Decides.{nat_tests}
 use Rattle.lang_meaning.specs.declared.primitive.Primitive.{Primitive}
-use Rattle.lang_meaning.specs.declared.primitive.Primitive.TheVariants.{Add, Same, SetCdr, IsNull, IsCons, IsString, IsVector, Cons, Car, Cdr, CharAt, PutChar}
+use Rattle.lang_meaning.specs.declared.primitive.Primitive.TheVariants.{Add, Same, SetCdr, IsNull, IsCons, IsString, IsVector, Cons, Car, Cdr, StringLength, VectorLength, CharAt, VectorRef, PutChar}
 use Rattle.lang_meaning.specs.Form.{Form, prim}
 use Rattle.lang_meaning.specs.Values.{Value, nil, object, integer, character, truth, same, in_range}
-use Rattle.lang_meaning.specs.Objects.{Object, cons, string, output_stream, cons_class, string_class, stream_class, integer_overflow_class}
+use Rattle.lang_meaning.specs.Objects.{Object, cons, string, vector, output_stream, cons_class, string_class, vector_class, stream_class, integer_overflow_class}
 use Rattle.lang_meaning.specs.State.{State, changed, gives, stored, charged, with_words}
 use Rattle.lang_meaning.specs.Primitives.{Answer, change, result, fails, domain_error, program_error, primitive, as_cons, as_string, as_vector, as_stream, a_character, an_integer, an_index, integer_result, needs, says}
 use Rattle.lang_meaning.specs.Signals.{answered}
+use Rattle.lang_library_laws.specs.Structures.{object_in}
 use Rattle.lang_library_laws.specs.Applications.{IsExtended}
 use Rattle.lang_library_laws.specs.ListBodies.{one, two}
 use Rattle.lang_library_laws.proofs.Frames.{one_more, Places, Setting, at, kept_in_frame, Runs, After, ComesPrinting, a_form, given, weaker}
-use Rattle.lang_library_laws.proofs.Evaluates.{requests, Cell, object_in, fetched, cell_in, Results, no_arguments_left, argument_and, comes_prim}
+use Rattle.lang_library_laws.proofs.Evaluates.{requests, Cell, fetched, cell_in, Results, no_arguments_left, argument_and, comes_prim}
 
 tested : (i n : ℕ) → i < n → nat_lt i n ≡ true
 tested i n h = grind (arith, nat_tests)
@@ -139,6 +140,40 @@ module _ {s : Setting} {said : List ℕ} {places : Places} {k : ℕ} {frame : Li
     let chosen : List ℕ → ℕ → Answer = λ bytes i. result (character (slice_index_or bytes i 0)) z in
     let within : nat_lt r.1 (length r.0) ≡ true = tested r.1 (length r.0) r.4 in
     ap (λ o. needs (as_string o) (domain_error x string_class z) (λ bytes. an_integer y z (λ n. an_index n (length bytes) z (chosen bytes)))) (fetched z h x ∙ r.2)
+    ∙ ap (λ v. an_integer v z (λ n. an_index n (length r.0) z (chosen r.0))) r.3
+    ∙ ap (λ (b : Bool). needs (if b then Some r.1 else None) (program_error z) (chosen r.0)) within),
+    r.5,
+  ))))
+
+  -- the length of a string and of a vector, and an element of a vector
+  pub comes_string_length : {f : Form} → ComesPrinting s said said places (a_form k f) frame store (λ x fr st.
+      (bytes : List ℕ) × (object_in st x ≡ Some (string bytes)) × Q (integer (pos (length bytes))) fr st)
+      → ComesPrinting s said said places (a_form k (prim StringLength (one f))) frame store Q
+  comes_string_length {f} c = of_one (weaker c (λ x fr st r. (
+    integer (pos (length r.0)),
+    (λ z h. ap (λ o. needs (as_string o) (domain_error x string_class z) (λ bytes. result (integer (pos (length bytes))) z)) (fetched z h x ∙ r.1)),
+    r.2,
+  )))
+
+  pub comes_vector_length : {f : Form} → ComesPrinting s said said places (a_form k f) frame store (λ x fr st.
+      (vs : List Value) × (object_in st x ≡ Some (vector vs)) × Q (integer (pos (length vs))) fr st)
+      → ComesPrinting s said said places (a_form k (prim VectorLength (one f))) frame store Q
+  comes_vector_length {f} c = of_one (weaker c (λ x fr st r. (
+    integer (pos (length r.0)),
+    (λ z h. ap (λ o. needs (as_vector o) (domain_error x vector_class z) (λ vs. result (integer (pos (length vs))) z)) (fetched z h x ∙ r.1)),
+    r.2,
+  )))
+
+  pub comes_vector_ref : {f g : Form}
+      → ComesPrinting s said said places (a_form k f) frame store (λ x fr st. ComesPrinting s said said places (a_form k g) fr st (λ y fr st.
+      (vs : List Value) × (i : ℕ) × (object_in st x ≡ Some (vector vs)) × (y ≡ integer (pos i)) × (i < length vs) × Q (slice_index_or vs i nil) fr st))
+      → ComesPrinting s said said places (a_form k (prim VectorRef (two f g))) frame store Q
+  comes_vector_ref {f} {g} c = of_two (weaker c (λ x fr st d. weaker d (λ y fr st r. (
+    slice_index_or r.0 r.1 nil,
+    (λ z h.
+    let chosen : List Value → ℕ → Answer = λ vs i. result (slice_index_or vs i nil) z in
+    let within : nat_lt r.1 (length r.0) ≡ true = tested r.1 (length r.0) r.4 in
+    ap (λ o. needs (as_vector o) (domain_error x vector_class z) (λ vs. an_integer y z (λ n. an_index n (length vs) z (chosen vs)))) (fetched z h x ∙ r.2)
     ∙ ap (λ v. an_integer v z (λ n. an_index n (length r.0) z (chosen r.0))) r.3
     ∙ ap (λ (b : Bool). needs (if b then Some r.1 else None) (program_error z) (chosen r.0)) within),
     r.5,

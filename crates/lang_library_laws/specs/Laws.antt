@@ -1,16 +1,19 @@
 -- The laws of the library: what a function gives for all proper lists, in any state and in every program that has it, with any number
 -- of levels and of words.
 use Rattle.std.specs.Prelude.{◌≡◌, ◌≤◌, ⊤, ℕ, ◌+◌, ℤ, pos, true, List, [], ◌∷◌, codes, Option, Some, None, length, map, reverse, slice_get}
+use Rattle.std.specs.Str.{bytes_eq}
 use Rattle.base.specs.Data as datum
 use Rattle.base.specs.declared.datum.Name.{Name}
 use Rattle.lang_meaning.specs.declared.program.ProgramRows.{ProgramRows}
-use Rattle.lang_meaning.specs.Values.{Value, integer, in_range}
+use Rattle.lang_meaning.specs.Values.{Value, integer, truth, in_range}
 use Rattle.lang_meaning.specs.State.{State, DynamicContext, Evaluated, value, Limit, unlimited}
 use Rattle.lang_meaning.specs.Signals.{Signals, apply_procedure}
 use Rattle.lang_library_laws.specs.Lists.{IsListFrom, IsProperList, AreProperLists, joined, IsBehind, from_item, HaveKeys, with_key}
+use Rattle.lang_library_laws.specs.Structures.{Structure, text, StandsFor, alike, depth}
 use Rattle.lang_library_laws.specs.Decimal.{decimal}
 use Rattle.lang_library_laws.specs.Applications.{Keeps, Prints, Gives, at_level, HasLiteral, HasTruth, HasText, IsOutput, IsNamed}
 use Rattle.lang_library_laws.specs.ListBodies.{list_function, turn_copy_onto, turn_onto, append_all, append_function, reverse_function, list_length, length_function, memv, member_function, assoc_function}
+use Rattle.lang_library_laws.specs.EqualBodies.{string_equal, equal_vectors, equal_function}
 use Rattle.lang_library_laws.specs.NumberBodies.{emit, digit_function, emit_digit, emit_natural, emit_integer}
 
 -- with unlimited words and enough levels there is a value, whatever is said of it
@@ -107,3 +110,30 @@ LawOfDigits =
     → IsOutput z.store stream → HasText names program z.store digits (codes "0123456789ABCDEFGHIJKLMNOPQRSTUVWXYZ") → in_range n ≡ true
     → Prints z.store limit k (length (decimal n) + 3) z (decimal n)
     (apply_procedure (at_level names program limit k) wrong number None (stream ∷ integer n ∷ integer (pos 10) ∷ []) around z)
+
+-- `(string= first second)` says whether two strings have the same characters
+abbrev pub LawOfStringEqual : Type 0
+LawOfStringEqual =
+    (names : List (List ℕ)) (program : ProgramRows) (name : Option Name) (v none increment number : ℕ)
+    → HasLiteral program none (datum.integer (pos 0)) → HasLiteral program increment (datum.integer (pos 1))
+    → slice_get program.procedures number ≡ Some (string_equal name v none increment)
+    → (limit : Limit) (k : ℕ) (wrong : Signals) (around : DynamicContext) (z : State) (first second : Value) (a b : List ℕ)
+    → StandsFor z.store first (text a) → StandsFor z.store second (text b)
+    → Gives limit k (length a + 1) z (λ w store. w ≡ truth (bytes_eq a b))
+    (apply_procedure (at_level names program limit k) wrong number None (first ∷ second ∷ []) around z)
+
+-- `(equal first second)` says whether two finite data are equal
+abbrev pub LawOfEqual : Type 0
+LawOfEqual =
+    (names : List (List ℕ)) (program : ProgramRows) (name strings_name vectors_name : Option Name) (v strings_v vectors_v : ℕ)
+    (nothing truth_id none increment none' increment' equal strings vectors : ℕ)
+    → HasLiteral program nothing datum.nil → HasTruth program truth_id
+    → HasLiteral program none (datum.integer (pos 0)) → HasLiteral program increment (datum.integer (pos 1))
+    → HasLiteral program none' (datum.integer (pos 0)) → HasLiteral program increment' (datum.integer (pos 1))
+    → IsNamed names program strings (string_equal strings_name strings_v none increment)
+    → IsNamed names program vectors (equal_vectors vectors_name vectors_v none' increment' equal)
+    → (named : IsNamed names program equal (equal_function name v nothing truth_id equal strings vectors))
+    → (limit : Limit) (k : ℕ) (wrong : Signals) (around : DynamicContext) (z : State) (first second : Value) (t r : Structure)
+    → StandsFor z.store first t → StandsFor z.store second r
+    → Gives limit k (depth t + 1) z (λ w store. w ≡ truth (alike t r))
+    (apply_procedure (at_level names program limit k) wrong named.number None (first ∷ second ∷ []) around z)
