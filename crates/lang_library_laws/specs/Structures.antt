@@ -65,14 +65,19 @@ abbrev mutual
   alike_each (structure_and t ts) (structure_and r rs) = alike t r && alike_each ts rs
   alike_each ts rs = false
 
--- levels that are enough to compare a structure with any other one
+-- how many there are
+abbrev pub count_each : Structures → ℕ
+count_each no_structure = 0
+count_each (structure_and t ts) = count_each ts + 1
+
+-- levels that are enough to compare a structure with any other one, beside that of the call
 abbrev mutual
   pub depth : Structure → ℕ
   depth (atom x) = 0
-  depth (pair a d) = depth a + depth d + 2
-  depth (text bytes) = length bytes + 2
-  depth (row ts) = depth_of_each ts + 2
+  depth (pair a d) = depth a + depth d + 1
+  depth (text bytes) = length bytes + 1
+  depth (row ts) = count_each ts + depth_of_each ts + 2
 
   pub depth_of_each : Structures → ℕ
   depth_of_each no_structure = 0
-  depth_of_each (structure_and t ts) = depth t + depth_of_each ts + 2
+  depth_of_each (structure_and t ts) = depth t + depth_of_each ts
