@@ -5,5 +5,6 @@ pub mod Applications
 pub mod ListBodies
 pub mod NumberBodies
 pub mod EqualBodies
+pub mod Pieces
 pub mod Laws
 pub mod Worked
