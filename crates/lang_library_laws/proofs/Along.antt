@@ -101,21 +101,21 @@ module _ (s : Setting) (v increment : ℕ) (same_there : Form) (is_one : HasLite
         refl,
         comes_sequence (first_then (comes_set (v + 2) 2 (along_index v) (comes_integers (λ a b. integer_result (a +ℤ b)) (λ a b z. refl)
             (comes_local (v + 2) 2 (along_index v) (comes_literal increment (datum.item is_one.0 (datum.integer (pos 1))) (integer (pos 1)) is_one.1 refl (
-          pos (length h.done),
-          pos 1,
-          integer (pos (length h.done + 1)),
-          refl,
-          refl,
-          ranged (pos (length h.done + 1)) (pos (length h.done + 1)) refl (natural_range (length h.done + 1) (omega (arith, size, total, small))),
-          then_nothing (record {
-            others = h.others ++ more;
-            done = h.done ++ true ∷ [];
-            frame_is = ap (λ n. frame_at n (h.others ++ more)) (sym next);
-            all_is = append_assoc h.done (true ∷ []) left ∙ h.all_is;
-            so_far = h.so_far;
-            kept = e;
-          }),
-        )))))),
+              pos (length h.done),
+              pos 1,
+              integer (pos (length h.done + 1)),
+              refl,
+              refl,
+              ranged (pos (length h.done + 1)) (pos (length h.done + 1)) refl (natural_range (length h.done + 1) (omega (arith, size, total, small))),
+              then_nothing (record {
+                others = h.others ++ more;
+                done = h.done ++ true ∷ [];
+                frame_is = ap (λ n. frame_at n (h.others ++ more)) (sym next);
+                all_is = append_assoc h.done (true ∷ []) left ∙ h.all_is;
+                so_far = h.so_far;
+                kept = e;
+              }),
+            )))))),
       )
   chosen k false left frame store h more st e =
       let size : length (h.done ++ false ∷ left) ≡ length h.done + length (false ∷ left) = length-append h.done (false ∷ left) in

@@ -213,22 +213,22 @@ module _ (names : List (List ℕ)) (program : ProgramRows) (limit : Limit) (kept
                 body_form (comes_sequence (first_then (comes_call (argument_and (comes_local v 0 (at_stream v ((v + 1, 1) ∷ (v + 2, 2) ∷ []))
                     (argument_and (comes_integers (division floor_quotient) (λ a b z. refl)
                     (comes_local (v + 1) 1 (at_number v ((v + 2, 2) ∷ [])) (comes_local (v + 2) 2 (at_radix v []) (
-                  pos n,
-                  pos 10,
-                  integer (pos (n / 10)),
-                  refl,
-                  refl,
-                  ranged (floor_quotient (pos n) (pos 10)) (pos (n / 10)) refl (natural_range (n / 10) (omega (arith, fits))),
-                  argument_and (comes_local (v + 2) 2 (at_radix v []) (no_arguments_left
-                      (called_printing (IsBegun said front) (said ++ front) (begun_front said front d) (begun_front said front d (said ++ front) (begun_all said front))
-                      (λ w store. ⊤) (length front + 2) (λ few. omega (arith, few)) kept (nothing_added kept)
-                      (λ w more st e done. then_nothing (subst (λ text. ComesPrinting s (said ++ front) text (places_of v)
-                      (in_order levels w (one (emit_last v last))) (stream ∷ integer (pos n) ∷ integer (pos 10) ∷ more) st (λ w fr st. ⊤)) (append_assoc said front d)
-                      (last_comes (IsBegun said whole) z (suc levels) (suc (length front + 2)) levels (said ++ front) n more st w fits
-                      (begun_behind said front d) (λ few. omega (arith, few)))))
-                      natural (emit_natural natural_name v natural last) naturals (stream ∷ integer (pos (n / 10)) ∷ integer (pos 10) ∷ []) (λ y h wrong around.
-                      front_gives y said h.printed_are (subst (IsExtended Object kept) (sym h.objects_are) h.extended) levels wrong around)))),
-                )))))))))),
+                      pos n,
+                      pos 10,
+                      integer (pos (n / 10)),
+                      refl,
+                      refl,
+                      ranged (floor_quotient (pos n) (pos 10)) (pos (n / 10)) refl (natural_range (n / 10) (omega (arith, fits))),
+                      argument_and (comes_local (v + 2) 2 (at_radix v []) (no_arguments_left
+                          (called_printing (IsBegun said front) (said ++ front) (begun_front said front d) (begun_front said front d (said ++ front) (begun_all said front))
+                          (λ w store. ⊤) (length front + 2) (λ few. omega (arith, few)) kept (nothing_added kept)
+                          (λ w more st e done. then_nothing (subst (λ text. ComesPrinting s (said ++ front) text (places_of v)
+                          (in_order levels w (one (emit_last v last))) (stream ∷ integer (pos n) ∷ integer (pos 10) ∷ more) st (λ w fr st. ⊤)) (append_assoc said front d)
+                          (last_comes (IsBegun said whole) z (suc levels) (suc (length front + 2)) levels (said ++ front) n more st w fits
+                          (begun_behind said front d) (λ few. omega (arith, few)))))
+                          natural (emit_natural natural_name v natural last) naturals (stream ∷ integer (pos (n / 10)) ∷ integer (pos 10) ∷ []) (λ y h wrong around.
+                          front_gives y said h.printed_are (subst (IsExtended Object kept) (sym h.objects_are) h.extended) levels wrong around)))),
+                    )))))))))),
               ),
             )))))))) k wrong around)
 
@@ -437,64 +437,64 @@ law_of_digits names program name natural_name last_name put_name byte_name v nat
               (comes_literal minuend (datum.item is_minuend.0 (datum.integer (pos 0))) (integer (pos 0)) is_minuend.1 refl
               (comes_integers (division floor_remainder) (λ a b z. refl)
               (comes_local (v + 1) 1 (at_number v ((v + 2, 2) ∷ [])) (comes_local (v + 2) 2 (at_radix v []) (
-            negsuc n,
-            pos 10,
-            integer (pos (9 - n % 10)),
-            refl,
-            refl,
-            ranged (floor_remainder (negsuc n) (pos 10)) (pos (9 - n % 10)) (first_remainder n) (natural_range (9 - n % 10) (omega arith)),
-            (
-              pos 0,
-              pos (9 - n % 10),
-              integer (pos 0 -ℤ pos (9 - n % 10)),
-              refl,
-              refl,
-              ranged (pos 0 -ℤ pos (9 - n % 10)) (pos 0 -ℤ pos (9 - n % 10)) refl (minus_range (9 - n % 10) (omega arith)),
-              comes_local (v + 2) 2 (at_radix v []) (
-                pos 0 -ℤ pos (9 - n % 10),
+                negsuc n,
                 pos 10,
-                integer (pos (m % 10)),
+                integer (pos (9 - n % 10)),
                 refl,
                 refl,
-                ranged (floor_remainder (pos 0 -ℤ pos (9 - n % 10)) (pos 10)) (pos (m % 10)) (last_is n) (natural_range (m % 10) (omega arith)),
-                no_bindings_left (boxes_inside v minuend' minus least put natural last) (comes_sequence (first_then (comes_let (value_and
-                    (comes_integers (λ a b. integer_result (a -ℤ b)) (λ a b z. refl)
-                    (comes_literal minuend' (datum.item is_minuend'.0 (datum.integer (pos 0))) (integer (pos 0)) is_minuend'.1 refl
-                    (comes_integers (division floor_quotient) (λ a b z. refl)
-                    (comes_integers (λ a b. integer_result (a +ℤ b)) (λ a b z. refl)
-                    (comes_local (v + 1) 1 number_there (comes_local (v + 3) 3 (here (v + 3) 3 ps) (
-                  negsuc n,
-                  pos (m % 10),
-                  integer (pos 0 -ℤ pos (10 * (m / 10))),
+                ranged (floor_remainder (negsuc n) (pos 10)) (pos (9 - n % 10)) (first_remainder n) (natural_range (9 - n % 10) (omega arith)),
+                (
+                  pos 0,
+                  pos (9 - n % 10),
+                  integer (pos 0 -ℤ pos (9 - n % 10)),
                   refl,
                   refl,
-                  ranged (negsuc n +ℤ pos (m % 10)) (pos 0 -ℤ pos (10 * (m / 10))) (sum_is n) (minus_range (10 * (m / 10)) (omega (arith, small))),
-                  comes_local (v + 2) 2 radix_there (
-                    pos 0 -ℤ pos (10 * (m / 10)),
+                  ranged (pos 0 -ℤ pos (9 - n % 10)) (pos 0 -ℤ pos (9 - n % 10)) refl (minus_range (9 - n % 10) (omega arith)),
+                  comes_local (v + 2) 2 (at_radix v []) (
+                    pos 0 -ℤ pos (9 - n % 10),
                     pos 10,
-                    integer (pos 0 -ℤ pos (m / 10)),
+                    integer (pos (m % 10)),
                     refl,
                     refl,
-                    ranged (floor_quotient (pos 0 -ℤ pos (10 * (m / 10))) (pos 10)) (pos 0 -ℤ pos (m / 10)) (quotient_is (m / 10)) (minus_range (m / 10) (omega (arith, small))),
-                    (
-                      pos 0,
-                      pos 0 -ℤ pos (m / 10),
-                      integer (pos (m / 10)),
-                      refl,
-                      refl,
-                      ranged (pos 0 -ℤ (pos 0 -ℤ pos (m / 10))) (pos (m / 10)) (front_is (m / 10)) (natural_range (m / 10) (omega (arith, small))),
-                      no_bindings_left (λ u. simp none_of) (comes_sequence (first_then (comes_let (no_bindings_left (λ u. refl) (comes_sequence (weaker
-                          (sign_behind names program limit z.store stream is_output digits has_text put_name byte_name put_v byte_v put byte puts bytes
-                          last_name natural_name last_v natural_v last natural lasts naturals minus least is_minus is_least v m (omega (arith, small))
-                          (IsBegun z.printed whole) z (suc levels) (suc (length whole + 2)) levels z.printed (integer (negsuc n)) z.store nil
-                          (λ text b. b) (λ few. omega (arith, few)))
-                          (λ w fr st done. then_nothing (then_nothing (then_nothing (then_nothing tt)))))))))),
-                    ),
+                    ranged (floor_remainder (pos 0 -ℤ pos (9 - n % 10)) (pos 10)) (pos (m % 10)) (last_is n) (natural_range (m % 10) (omega arith)),
+                    no_bindings_left (boxes_inside v minuend' minus least put natural last) (comes_sequence (first_then (comes_let (value_and
+                        (comes_integers (λ a b. integer_result (a -ℤ b)) (λ a b z. refl)
+                        (comes_literal minuend' (datum.item is_minuend'.0 (datum.integer (pos 0))) (integer (pos 0)) is_minuend'.1 refl
+                        (comes_integers (division floor_quotient) (λ a b z. refl)
+                        (comes_integers (λ a b. integer_result (a +ℤ b)) (λ a b z. refl)
+                        (comes_local (v + 1) 1 number_there (comes_local (v + 3) 3 (here (v + 3) 3 ps) (
+                          negsuc n,
+                          pos (m % 10),
+                          integer (pos 0 -ℤ pos (10 * (m / 10))),
+                          refl,
+                          refl,
+                          ranged (negsuc n +ℤ pos (m % 10)) (pos 0 -ℤ pos (10 * (m / 10))) (sum_is n) (minus_range (10 * (m / 10)) (omega (arith, small))),
+                          comes_local (v + 2) 2 radix_there (
+                            pos 0 -ℤ pos (10 * (m / 10)),
+                            pos 10,
+                            integer (pos 0 -ℤ pos (m / 10)),
+                            refl,
+                            refl,
+                            ranged (floor_quotient (pos 0 -ℤ pos (10 * (m / 10))) (pos 10)) (pos 0 -ℤ pos (m / 10)) (quotient_is (m / 10)) (minus_range (m / 10) (omega (arith, small))),
+                            (
+                              pos 0,
+                              pos 0 -ℤ pos (m / 10),
+                              integer (pos (m / 10)),
+                              refl,
+                              refl,
+                              ranged (pos 0 -ℤ (pos 0 -ℤ pos (m / 10))) (pos (m / 10)) (front_is (m / 10)) (natural_range (m / 10) (omega (arith, small))),
+                              no_bindings_left (λ u. simp none_of) (comes_sequence (first_then (comes_let (no_bindings_left (λ u. refl) (comes_sequence (weaker
+                                  (sign_behind names program limit z.store stream is_output digits has_text put_name byte_name put_v byte_v put byte puts bytes
+                                  last_name natural_name last_v natural_v last natural lasts naturals minus least is_minus is_least v m (omega (arith, small))
+                                  (IsBegun z.printed whole) z (suc levels) (suc (length whole + 2)) levels z.printed (integer (negsuc n)) z.store nil
+                                  (λ text b. b) (λ few. omega (arith, few)))
+                                  (λ w fr st done. then_nothing (then_nothing (then_nothing (then_nothing tt)))))))))),
+                            ),
+                          ),
+                        ))))))))))),
                   ),
-                ))))))))))),
-              ),
-            ),
-          ))))))))))),
+                ),
+              ))))))))))),
         )),
       ),
     )))))))) k wrong around)

@@ -200,8 +200,11 @@ module _ (names : List (List ℕ)) (program : ProgramRows) (limit : Limit) (kept
       (compare_comes s vectors_v increment' there_form is_one' x y bs small most (length r.1) tests VectorLength none' is_none' (alike_each ts rs) (λ u. refl)
       (λ same. alike_all ts rs (sym size ∙ same ∙ others)) (λ differ. other_counts ts rs (λ same. differ (size ∙ same ∙ sym others)))
       levels z.store (λ few. omega (arith, few)) e
-      (λ Q q. comes_vector_length (comes_local vectors_v 0 (at_first vectors_v) (l.1, there z.store e,
-      subst (λ n. Q (integer (pos n)) (x ∷ y ∷ []) z.store) (size ∙ sym items) q)))
+      (λ Q q. comes_vector_length (comes_local vectors_v 0 (at_first vectors_v) (
+        l.1,
+        there z.store e,
+        subst (λ n. Q (integer (pos n)) (x ∷ y ∷ []) z.store) (size ∙ sym items) q,
+      )))
       (λ Q q. comes_vector_length (comes_local (vectors_v + 1) 1 (along_second vectors_v) (r.1, also_there z.store e, q))))
       (λ w fr st is. then_nothing is))))
       k wrong around)
@@ -277,11 +280,19 @@ module _ (names : List (List ℕ)) (program : ProgramRows) (limit : Limit) (kept
           → is_true (truth_of (is_row t && is_row r)) ≡ false → same x y ≡ alike t r
           → Comes s (arguments v) (a_form k (equal_end v nothing truth strings vectors)) here_frame store (λ w fr st. w ≡ truth_of (alike t r))
       others_compared no_conses no_strings no_vectors is =
-          comes_clauses (clause_passed (both_cons _ (no_conses, clause_passed (both_strings _ (no_strings, clause_passed (both_vectors _ (no_vectors,
-          clause_taken (comes_literal truth (datum.item is_truth.1.0 (datum.symbol is_truth.0)) (symbol (symbol_of names is_truth.0)) is_truth.1.1 refl (
-            refl,
-            body_form (comes_sequence (first_then (comes_same (comes_local v 0 (at_first v) (comes_local (v + 1) 1 (at_second v) (then_nothing (ap truth_of is))))))),
-          )))))))))
+          comes_clauses (clause_passed (both_cons _ (
+            no_conses,
+            clause_passed (both_strings _ (
+              no_strings,
+              clause_passed (both_vectors _ (
+                no_vectors,
+                clause_taken (comes_literal truth (datum.item is_truth.1.0 (datum.symbol is_truth.0)) (symbol (symbol_of names is_truth.0)) is_truth.1.1 refl (
+                  refl,
+                  body_form (comes_sequence (first_then (comes_same (comes_local v 0 (at_first v) (comes_local (v + 1) 1 (at_second v) (then_nothing (ap truth_of is))))))),
+                )),
+              )),
+            )),
+          )))
 
     -- what comes of two structures behind the loop
     end_comes : (k : ℕ) (x y : Value) (others : List Value) (store : List Object) (t r : Structure) → Parts t → IsExtended Object kept store
@@ -360,7 +371,18 @@ module _ (names : List (List ℕ)) (program : ProgramRows) (limit : Limit) (kept
         → Comes s (arguments v) (a_form k loop) (x ∷ y ∷ others) store (λ u fr st. Compared t r u fr st)
     stops_here k x y others store t r ps e l g apart is =
         let at_end : Compared t r nil (x ∷ y ∷ others) store = record {
-          x = x; y = y; others = others; t' = t; r' = r; frame_is = refl; first = l; second = g; parts = ps; is = is; small = omega arith; kept_so = e;
+          x = x;
+          y = y;
+          others = others;
+          t' = t;
+          r' = r;
+          frame_is = refl;
+          first = l;
+          second = g;
+          parts = ps;
+          is = is;
+          small = omega arith;
+          kept_so = e;
         } in
         while_runs (by (is_pair t) refl at_end)
       where

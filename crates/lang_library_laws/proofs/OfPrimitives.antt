@@ -137,11 +137,11 @@ module _ {s : Setting} {said : List ℕ} {places : Places} {k : ℕ} {frame : Li
   comes_char_at {f} {g} c = of_two (weaker c (λ x fr st d. weaker d (λ y fr st r. (
     character (slice_index_or r.0 r.1 0),
     (λ z h.
-    let chosen : List ℕ → ℕ → Answer = λ bytes i. result (character (slice_index_or bytes i 0)) z in
-    let within : nat_lt r.1 (length r.0) ≡ true = tested r.1 (length r.0) r.4 in
-    ap (λ o. needs (as_string o) (domain_error x string_class z) (λ bytes. an_integer y z (λ n. an_index n (length bytes) z (chosen bytes)))) (fetched z h x ∙ r.2)
-    ∙ ap (λ v. an_integer v z (λ n. an_index n (length r.0) z (chosen r.0))) r.3
-    ∙ ap (λ (b : Bool). needs (if b then Some r.1 else None) (program_error z) (chosen r.0)) within),
+        let chosen : List ℕ → ℕ → Answer = λ bytes i. result (character (slice_index_or bytes i 0)) z in
+        let within : nat_lt r.1 (length r.0) ≡ true = tested r.1 (length r.0) r.4 in
+        ap (λ o. needs (as_string o) (domain_error x string_class z) (λ bytes. an_integer y z (λ n. an_index n (length bytes) z (chosen bytes)))) (fetched z h x ∙ r.2)
+        ∙ ap (λ v. an_integer v z (λ n. an_index n (length r.0) z (chosen r.0))) r.3
+        ∙ ap (λ (b : Bool). needs (if b then Some r.1 else None) (program_error z) (chosen r.0)) within),
     r.5,
   ))))
 
@@ -171,11 +171,11 @@ module _ {s : Setting} {said : List ℕ} {places : Places} {k : ℕ} {frame : Li
   comes_vector_ref {f} {g} c = of_two (weaker c (λ x fr st d. weaker d (λ y fr st r. (
     slice_index_or r.0 r.1 nil,
     (λ z h.
-    let chosen : List Value → ℕ → Answer = λ vs i. result (slice_index_or vs i nil) z in
-    let within : nat_lt r.1 (length r.0) ≡ true = tested r.1 (length r.0) r.4 in
-    ap (λ o. needs (as_vector o) (domain_error x vector_class z) (λ vs. an_integer y z (λ n. an_index n (length vs) z (chosen vs)))) (fetched z h x ∙ r.2)
-    ∙ ap (λ v. an_integer v z (λ n. an_index n (length r.0) z (chosen r.0))) r.3
-    ∙ ap (λ (b : Bool). needs (if b then Some r.1 else None) (program_error z) (chosen r.0)) within),
+        let chosen : List Value → ℕ → Answer = λ vs i. result (slice_index_or vs i nil) z in
+        let within : nat_lt r.1 (length r.0) ≡ true = tested r.1 (length r.0) r.4 in
+        ap (λ o. needs (as_vector o) (domain_error x vector_class z) (λ vs. an_integer y z (λ n. an_index n (length vs) z (chosen vs)))) (fetched z h x ∙ r.2)
+        ∙ ap (λ v. an_integer v z (λ n. an_index n (length r.0) z (chosen r.0))) r.3
+        ∙ ap (λ (b : Bool). needs (if b then Some r.1 else None) (program_error z) (chosen r.0)) within),
     r.5,
   ))))
 

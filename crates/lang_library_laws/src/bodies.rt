@@ -2,16 +2,17 @@
 // literals are those of the table in `program`, and names are numbered as the functions are.
 
 use crate::piece::Piece;
-use crate::piece::Piece::{Call, Clause, Clauses, Let, Literal, Local, Prim, Sequence, SetLocal, Test, While};
-use lang_meaning::Primitive::{Add, Car, Cdr, CharAt, Cons, Divide, IsCons, IsNull, IsString, IsVector, Modulo, NumberAtLeast, NumberEqual, NumberGreater, NumberLess, PutChar, Same, SetCdr, StringLength, Subtract, VectorLength, VectorRef};
+use crate::piece::Piece::{
+    Call, Clause, Clauses, Let, Literal, Local, Prim, Sequence, SetLocal, Test, While,
+};
+use lang_meaning::Primitive::{
+    Add, Car, Cdr, CharAt, Cons, Divide, IsCons, IsNull, IsString, IsVector, Modulo, NumberAtLeast,
+    NumberEqual, NumberGreater, NumberLess, PutChar, Same, SetCdr, StringLength, Subtract,
+    VectorLength, VectorRef,
+};
 
 // (defun reverse (list) (%turn-copy-onto list nil))
-pub const REVERSE: [Piece; 4] = [
-    Local(0),
-    Literal(0),
-    Call(1, 2),
-    Sequence(1),
-];
+pub const REVERSE: [Piece; 4] = [Local(0), Literal(0), Call(1, 2), Sequence(1)];
 
 // (defun %turn-copy-onto (list end)
 //   (while (not (null list))
@@ -100,12 +101,7 @@ pub const LIST_LENGTH: [Piece; 28] = [
 ];
 
 // (defun member (object list) (%memv object list))
-pub const MEMBER: [Piece; 4] = [
-    Local(0),
-    Local(1),
-    Call(5, 2),
-    Sequence(1),
-];
+pub const MEMBER: [Piece; 4] = [Local(0), Local(1), Call(5, 2), Sequence(1)];
 
 // (defun %memv (object list)
 //   (while (not (or (null list) (eql object (car list))))
@@ -171,19 +167,11 @@ pub const ASSOC: [Piece; 30] = [
 ];
 
 // (defun list (:rest items) items)
-pub const LIST: [Piece; 2] = [
-    Local(0),
-    Sequence(1),
-];
+pub const LIST: [Piece; 2] = [Local(0), Sequence(1)];
 
 // (defun append (:rest lists)
 //   (%append-all lists t))
-pub const APPEND: [Piece; 4] = [
-    Local(0),
-    Literal(10),
-    Call(9, 2),
-    Sequence(1),
-];
+pub const APPEND: [Piece; 4] = [Local(0), Literal(10), Call(9, 2), Sequence(1)];
 
 // (defun %append-all (lists ends-in-list)
 //   (let ((front nil))
@@ -285,31 +273,15 @@ pub const TURN_ONTO: [Piece; 18] = [
 ];
 
 // (defun %emit (stream character) (%put-char stream character))
-pub const EMIT: [Piece; 4] = [
-    Local(0),
-    Local(1),
-    Prim(PutChar, 2),
-    Sequence(1),
-];
+pub const EMIT: [Piece; 4] = [Local(0), Local(1), Prim(PutChar, 2), Sequence(1)];
 
 // (defun %digit (digit)
 //   (%char-at "0123456789ABCDEFGHIJKLMNOPQRSTUVWXYZ" digit))
-pub const DIGIT: [Piece; 4] = [
-    Literal(16),
-    Local(0),
-    Prim(CharAt, 2),
-    Sequence(1),
-];
+pub const DIGIT: [Piece; 4] = [Literal(16), Local(0), Prim(CharAt, 2), Sequence(1)];
 
 // (defun %emit-digit (stream digit)
 //   (%emit stream (%digit digit)))
-pub const EMIT_DIGIT: [Piece; 5] = [
-    Local(0),
-    Local(1),
-    Call(12, 1),
-    Call(11, 2),
-    Sequence(1),
-];
+pub const EMIT_DIGIT: [Piece; 5] = [Local(0), Local(1), Call(12, 1), Call(11, 2), Sequence(1)];
 
 // (defun %emit-natural (stream number radix)
 //   (if (>= number radix) (%emit-natural stream (div number radix) radix))

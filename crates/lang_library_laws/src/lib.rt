@@ -7,4 +7,6 @@ mod piece;
 mod program;
 
 pub use piece::Piece;
-pub use program::{DIGITS, FUNCTIONS, LawFunction, LawLiteral, LawProcedure, literals, names, procedure};
+pub use program::{
+    DIGITS, FUNCTIONS, LawFunction, LawLiteral, LawProcedure, literals, names, procedure,
+};

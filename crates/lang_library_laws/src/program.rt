@@ -32,6 +32,7 @@ pub enum LawFunction {
 }
 
 /// A function: how many arguments have a variable, whether one more variable has the list of the others, and the body.
+#[derive(Clone, Copy)]
 pub struct LawProcedure {
     pub required: usize,
     pub rest: bool,
@@ -73,7 +74,8 @@ pub const FUNCTIONS: [LawFunction; 19] = [
 ];
 
 /// The names of the functions by their numbers, and behind them those of what they call besides and of t, each in a line.
-pub const NAMES: &[u8] = b"reverse\n%turn-copy-onto\nlength\n%list-length\nmember\n%memv\nassoc\nlist\nappend\n%append-all\n%turn-onto\n%emit\n%digit\n%emit-digit\n%emit-natural\n%emit-integer\nstring=\n%equal-vectors\nequal\n%domain-error\nt\n";
+pub const NAMES: &[u8] =
+    b"reverse\n%turn-copy-onto\nlength\n%list-length\nmember\n%memv\nassoc\nlist\nappend\n%append-all\n%turn-onto\n%emit\n%digit\n%emit-digit\n%emit-natural\n%emit-integer\nstring=\n%equal-vectors\nequal\n%domain-error\nt\n";
 
 /// The digits of all radices.
 pub const DIGITS: &[u8] = b"0123456789ABCDEFGHIJKLMNOPQRSTUVWXYZ";
