@@ -1,19 +1,19 @@
 -- The loop along two strings or two vectors by an index, as long as what stands there is the same.
-use Rattle.std.proofs.Common.{◌≡◌, ◌≤◌, ◌<◌, ℕ, suc, ◌+◌, ◌==◌, ◌+ℤ◌, Bool, true, false, ◌&&◌, List, [], ◌∷◌, ◌++◌, pos, refl, sym, ap, subst, ◌∙◌, ◌⊎◌, inl, inr, Some, length, length-append, append_assoc, arith}
+use Rattle.std.proofs.Common.{◌≡◌, ◌≤◌, ◌<◌, ℕ, ◌+◌, ◌==◌, ◌+ℤ◌, Bool, true, false, ◌&&◌, List, [], ◌∷◌, ◌++◌, pos, refl, sym, ap, ◌∙◌, inl, inr, Some, length, length-append, append_assoc, arith}
 use Rattle.std.specs.Prelude.{int_lt}
 use Rattle.std.proofs.lemmas.Bool.Decides.{nat_tests}
 use Rattle.base.specs.Data as datum
 use Rattle.lang_meaning.specs.declared.primitive.Primitive.{Primitive}
 use Rattle.lang_meaning.specs.declared.primitive.Primitive.TheVariants.{Add, NumberEqual, NumberLess}
 use Rattle.lang_meaning.specs.Form.{Form, no_form, no_clause, local, literal, sequence, set_local, prim}
-use Rattle.lang_meaning.specs.Values.{Value, nil, integer, truth as truth_of, is_true, int_equal}
+use Rattle.lang_meaning.specs.Values.{Value, nil, integer, truth as truth_of, int_equal}
 use Rattle.lang_meaning.specs.Objects.{Object}
 use Rattle.lang_meaning.specs.Lookup.{under_number}
 use Rattle.lang_meaning.specs.Captured.{has_box}
 use Rattle.lang_meaning.specs.Primitives.{integer_result, says}
 use Rattle.lang_library_laws.specs.Applications.{IsExtended, HasLiteral}
 use Rattle.lang_library_laws.specs.ListBodies.{one, two, clause_of, and_form}
-use Rattle.lang_library_laws.specs.EqualBodies.{index_form, end_form, goes_along, along, compare_body, compare}
+use Rattle.lang_library_laws.specs.EqualBodies.{index_form, end_form, along, compare_body, compare}
 use Rattle.lang_library_laws.proofs.Frames.{Places, Setting, Comes, a_form, in_order, some_clauses, weaker, at_frame}
 use Rattle.lang_library_laws.proofs.Evaluates.{comes_local, comes_set, comes_literal, comes_sequence, then_nothing, first_then, comes_clauses, clause_taken, clause_passed, no_clause_left, body_form, no_bindings_left, value_and, comes_let}
 use Rattle.lang_library_laws.proofs.OfPrimitives.{comes_integers, ranged, said_to_be}

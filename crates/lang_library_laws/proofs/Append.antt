@@ -1,11 +1,11 @@
 -- `append`, by the loop that turns copies of all lists but the last one onto each other, and by the one that turns them onto the last one.
-use Rattle.std.proofs.Common.{◌≡◌, ◌≤◌, ◌<◌, ℕ, suc, ◌+◌, ◌==◌, ◌&&◌, ◌||◌, not, Bool, true, false, List, [], ◌∷◌, ◌++◌, map, is_some, refl, sym, ap, subst, ◌∙◌, inl, inr, Option, Some, None, length, slice_get, append-nil, length-append, arith, le_refl, le_of_eq}
+use Rattle.std.proofs.Common.{◌≡◌, ◌≤◌, ◌<◌, ℕ, suc, ◌+◌, ◌==◌, ◌&&◌, ◌||◌, not, Bool, true, false, List, [], ◌∷◌, ◌++◌, map, is_some, refl, sym, ap, subst, ◌∙◌, inl, inr, Option, Some, None, length, slice_get, append-nil, length-append, arith, le_refl}
 use Rattle.std.proofs.lemmas.Bool.Decides.{nat_tests}
 use Rattle.base.specs.Data as datum
 use Rattle.base.specs.declared.datum.Name.{Name}
 use Rattle.lang_meaning.specs.declared.program.ProgramRows.{ProgramRows}
 use Rattle.lang_meaning.specs.declared.primitive.Primitive.TheVariants.{IsCons, Car}
-use Rattle.lang_meaning.specs.Form.{Form, no_form, no_clause, local, literal, call, prim, sequence}
+use Rattle.lang_meaning.specs.Form.{no_form, no_clause, local, literal, call, prim, sequence}
 use Rattle.lang_meaning.specs.Values.{Value, nil, symbol, is_true, truth as truth_of, same}
 use Rattle.lang_meaning.specs.Objects.{Object}
 use Rattle.lang_meaning.specs.State.{State, DynamicContext, Limit}
@@ -15,14 +15,14 @@ use Rattle.lang_meaning.specs.Primitives.{as_cons}
 use Rattle.lang_meaning.specs.Captured.{has_box}
 use Rattle.lang_meaning.specs.Signals.{Signals, apply_procedure}
 use Rattle.lang_library_laws.specs.Structures.{object_in}
-use Rattle.lang_library_laws.specs.Lists.{IsListFrom, IsProperList, AreProperLists, joined}
+use Rattle.lang_library_laws.specs.Lists.{IsProperList, AreProperLists, joined}
 use Rattle.lang_library_laws.specs.Applications.{GivesKeeping, IsExtended, Gives, at_level, HasLiteral, HasTruth, IsNamed}
 use Rattle.lang_library_laws.specs.ListBodies.{one, two, not_form, not_null, clause_of, and_form, is_no_list, turn_copy_onto, turn_onto, append_test, append_turn, append_end, append_body, append_form, append_all}
 use Rattle.lang_library_laws.specs.Laws.{LawOfAppend}
-use Rattle.lang_library_laws.proofs.Frames.{nothing_added, added_more, same_objects, get_kept, Places, Setting, Comes, a_form, in_order, some_clauses, weaker, at_frame}
-use Rattle.lang_library_laws.proofs.Evaluates.{Cell, cell_in, comes_local, comes_set, comes_literal, comes_sequence, then_nothing, first_then, comes_clauses, clause_taken, clause_passed, body_form, test_value, no_clause_left, while_runs, no_arguments_left, argument_and, no_bindings_left, value_and, comes_let}
+use Rattle.lang_library_laws.proofs.Frames.{nothing_added, added_more, same_objects, Places, Setting, Comes, a_form, in_order, some_clauses, weaker, at_frame}
+use Rattle.lang_library_laws.proofs.Evaluates.{cell_in, comes_local, comes_set, comes_literal, comes_sequence, then_nothing, first_then, comes_clauses, clause_taken, clause_passed, body_form, test_value, no_clause_left, while_runs, no_arguments_left, argument_and, no_bindings_left, value_and, comes_let}
 use Rattle.lang_library_laws.proofs.OfPrimitives.{comes_car, comes_cdr, comes_null, comes_consp}
-use Rattle.lang_library_laws.proofs.Loops.{Turn, Turns, Stops, loops}
+use Rattle.lang_library_laws.proofs.Loops.{Turns, Stops, loops}
 use Rattle.lang_library_laws.proofs.Applies.{setting, applies, applies_to, called, comes_call}
 use Rattle.lang_library_laws.proofs.Falling.{turned_onto, IsFalling, IsApart, apart_kept}
 use Rattle.lang_library_laws.proofs.TurnCopy.{turn_copy_gives}

@@ -1,15 +1,14 @@
 -- The digits of an integer: those of a number from its first one on, each printed behind those in front of it.
-use Rattle.std.proofs.Common.{◌≡◌, ◌≤◌, ◌<◌, ℕ, zero, suc, ◌+◌, ◌-◌, ◌*◌, ◌/◌, ◌%◌, ℤ, pos, negsuc, ◌+ℤ◌, ◌-ℤ◌, Bool, true, false, ◌&&◌, List, [], ◌∷◌, ◌++◌, refl, sym, ap, subst, ◌∙◌, Option, Some, None, length, length-append, slice_get, append_assoc, append-nil, nat_lt, arith, if◌then◌else◌}
+use Rattle.std.proofs.Common.{◌≡◌, ◌≤◌, ◌<◌, ℕ, zero, suc, ◌+◌, ◌-◌, ◌*◌, ◌/◌, ◌%◌, pos, negsuc, ◌+ℤ◌, ◌-ℤ◌, Bool, true, false, ◌&&◌, List, [], ◌∷◌, ◌++◌, refl, sym, ap, subst, ◌∙◌, Option, Some, None, length, length-append, slice_get, append_assoc, nat_lt, arith, if◌then◌else◌}
 use Rattle.std.specs.Prelude.{⊤, codes, int_le, int_lt}
 use Rattle.std.proofs.lemmas.Bool.Decides.{nat_tests}
-use Rattle.std.proofs.lemmas.Int.{ints}
 use Rattle.base.specs.Data as datum
 use Rattle.base.specs.declared.datum.Name.{Name}
 use Rattle.lang_meaning.specs.declared.program.ProgramRows.{ProgramRows}
 use Rattle.lang_meaning.specs.declared.primitive.Primitive.TheVariants.{NumberGreater}
 use Rattle.lang_meaning.specs.Form.{Form, no_form, form_and, parameters, local, literal, call, prim, sequence, let_form, no_binding, binding_and}
-use Rattle.lang_meaning.specs.Values.{Value, nil, object, integer, character, symbol, truth as truth_of, is_true, in_range}
-use Rattle.lang_meaning.specs.Objects.{Object, string, output_stream}
+use Rattle.lang_meaning.specs.Values.{Value, nil, object, integer, character, symbol, truth as truth_of}
+use Rattle.lang_meaning.specs.Objects.{Object, output_stream}
 use Rattle.lang_meaning.specs.State.{State, DynamicContext, Evaluated, Limit}
 use Rattle.lang_meaning.specs.Lookup.{text, under_number, numbered}
 use Rattle.lang_meaning.specs.Literals.{symbol_of, function_row}
@@ -17,10 +16,10 @@ use Rattle.lang_meaning.specs.Captured.{has_box}
 use Rattle.lang_meaning.specs.Primitives.{floor_quotient, floor_remainder, integer_result, division, says}
 use Rattle.lang_meaning.specs.Signals.{Signals, signal, apply_row, takes, apply_procedure}
 use Rattle.lang_library_laws.specs.Structures.{object_in}
-use Rattle.lang_library_laws.specs.Decimal.{digit, digits_within, natural_digits, decimal}
-use Rattle.lang_library_laws.specs.Applications.{GivesPrinting, GivesKeeping, Prints, IsBegun, IsExtended, IsOutput, HasText, HasLiteral, HasTruth, IsNamed, at_level}
+use Rattle.lang_library_laws.specs.Decimal.{digit, digits_within, natural_digits}
+use Rattle.lang_library_laws.specs.Applications.{GivesPrinting, GivesKeeping, Prints, IsBegun, IsExtended, IsOutput, HasText, HasLiteral, IsNamed, at_level}
 use Rattle.lang_library_laws.specs.ListBodies.{one, two, a_procedure}
-use Rattle.lang_library_laws.specs.NumberBodies.{when, emit, digit_function, emit_digit, emit_front, emit_last, emit_natural, emit_signed, front_digits, emit_form, emit_integer}
+use Rattle.lang_library_laws.specs.NumberBodies.{when, emit, digit_function, emit_digit, emit_last, emit_natural, emit_signed, front_digits, emit_form}
 use Rattle.lang_library_laws.specs.Laws.{LawOfDigits}
 use Rattle.lang_library_laws.proofs.Decimals.{begun_none, begun_all, begun_front, begun_behind, digit_is, remainder_is, first_remainder, last_is, sum_is, quotient_is, front_is, minus_range, range_below, range_above, natural_range}
 use Rattle.lang_library_laws.proofs.Frames.{nothing_added, get_kept, Places, Setting, at, ComesPrinting, a_form, in_order, weaker, at_frame, at_store}

@@ -1,5 +1,5 @@
 -- `equal`: by induction on the structure, along the second parts of pairs by the loop, and along rows by the loop of vectors.
-use Rattle.std.proofs.Common.{◌≡◌, ◌≤◌, ◌<◌, ℕ, zero, suc, ◌+◌, Bool, true, false, ◌&&◌, List, [], ◌∷◌, ◌++◌, pos, refl, sym, ap, subst, ◌∙◌, ◌⊎◌, inl, inr, Option, Some, None, length, slice_get, slice_index_or, append-nil, is_some, arith}
+use Rattle.std.proofs.Common.{◌≡◌, ◌≤◌, ◌<◌, ℕ, zero, suc, ◌+◌, Bool, true, false, ◌&&◌, List, [], ◌∷◌, ◌++◌, pos, refl, sym, ap, subst, ◌∙◌, ◌⊎◌, inl, inr, Option, Some, None, length, slice_index_or, arith}
 use Rattle.std.specs.Prelude.{⊤}
 use Rattle.std.specs.Str.{bytes_eq}
 use Rattle.base.specs.Data as datum
@@ -7,25 +7,24 @@ use Rattle.base.specs.declared.datum.Name.{Name}
 use Rattle.lang_meaning.specs.declared.program.ProgramRows.{ProgramRows}
 use Rattle.lang_meaning.specs.declared.primitive.Primitive.{Primitive}
 use Rattle.lang_meaning.specs.declared.primitive.Primitive.TheVariants.{IsCons, IsString, IsVector, VectorLength}
-use Rattle.lang_meaning.specs.Form.{Form, local, call, sequence, while_form}
-use Rattle.lang_meaning.specs.Values.{Value, nil, integer, object, symbol, truth as truth_of, is_true, same}
-use Rattle.lang_meaning.specs.Objects.{Object, cons, vector}
+use Rattle.lang_meaning.specs.Form.{Form, sequence, while_form}
+use Rattle.lang_meaning.specs.Values.{Value, nil, integer, symbol, truth as truth_of, is_true, same}
+use Rattle.lang_meaning.specs.Objects.{Object, vector}
 use Rattle.lang_meaning.specs.State.{State, DynamicContext, Limit}
 use Rattle.lang_meaning.specs.Literals.{symbol_of}
 use Rattle.lang_meaning.specs.Captured.{has_box}
-use Rattle.lang_meaning.specs.Primitives.{as_cons, as_string, as_vector}
 use Rattle.lang_meaning.specs.Signals.{Signals, apply_procedure}
 use Rattle.lang_library_laws.specs.Structures.{Structure, Structures, atom, pair, text, row, no_structure, structure_and, object_in, StandsFor, StandForEach, alike, alike_each, count_each, depth, depth_of_each}
 use Rattle.lang_library_laws.specs.Applications.{GivesKeeping, Gives, IsExtended, HasLiteral, HasTruth, IsNamed, at_level}
-use Rattle.lang_library_laws.specs.ListBodies.{one, two}
+use Rattle.lang_library_laws.specs.ListBodies.{one}
 use Rattle.lang_library_laws.specs.EqualBodies.{compare, string_equal, equal_element, equal_vectors, of_first, of_second, of_both, equal_test, equal_turn, equal_end, equal_function}
 use Rattle.lang_library_laws.specs.Laws.{LawOfEqual}
-use Rattle.lang_library_laws.proofs.Frames.{nothing_added, get_kept, Places, Setting, Comes, a_form, one_below, weaker, at_frame}
+use Rattle.lang_library_laws.proofs.Frames.{nothing_added, get_kept, Setting, Comes, a_form, one_below, weaker, at_frame}
 use Rattle.lang_library_laws.proofs.Evaluates.{Cell, comes_local, comes_set, comes_literal, comes_sequence, then_nothing, first_then, comes_clauses, clause_taken, clause_passed, no_clause_left, body_form, while_runs, no_arguments_left, argument_and, below_one, none_to_go_below}
 use Rattle.lang_library_laws.proofs.OfPrimitives.{comes_car, comes_cdr, comes_consp, comes_stringp, comes_vectorp, comes_same, comes_vector_length, comes_vector_ref}
 use Rattle.lang_library_laws.proofs.Applies.{setting, applies, called, comes_call}
 use Rattle.lang_library_laws.proofs.Structures.{stands_kept, is_pair, is_text, is_row, Kinds, kinds, others_differ}
-use Rattle.lang_library_laws.proofs.Along.{all_true, arguments, at_first, at_second, along_places, along_first, along_second, along_index, frame_at, Tests, compare_comes}
+use Rattle.lang_library_laws.proofs.Along.{all_true, arguments, at_first, at_second, along_first, along_second, along_index, frame_at, Tests, compare_comes}
 use Rattle.lang_library_laws.proofs.Strings.{string_equal_gives}
 
 -- whether the structures at each place of the first row are alike

@@ -1,5 +1,5 @@
 -- How the forms of a function's body are evaluated inside its application: one rule a form.
-use Rattle.std.proofs.Common.{◌≡◌, ℕ, zero, suc, ◌+◌, Bool, true, false, List, [], ◌∷◌, ◌++◌, refl, sym, ap, subst, ◌∙◌, Option, Some, None, length, slice_get, slice_set, slice_index_or, if◌then◌else◌, ◌⊎◌, ⊎_elim, length-append, append_assoc}
+use Rattle.std.proofs.Common.{◌≡◌, ℕ, zero, suc, ◌+◌, Bool, true, false, List, [], ◌∷◌, ◌++◌, refl, sym, ap, subst, ◌∙◌, Some, length, slice_get, slice_set, slice_index_or, if◌then◌else◌, ◌⊎◌, ⊎_elim, length-append, append_assoc}
 use Rattle.std.proofs.lemmas.List.{get_or-append-add}
 use Rattle.base.specs.Data as datum
 use Rattle.lang_meaning.specs.declared.primitive.Primitive.{Primitive}
@@ -18,7 +18,7 @@ use Rattle.lang_meaning.specs.Signals.{Evaluation, form, answered, with_boxes}
 use Rattle.lang_meaning.specs.Meaning.{charged_for, meaning_at, mean, mean_literal, mean_arguments, mean_clauses, mean_body, mean_bindings, bound_variables}
 use Rattle.lang_library_laws.specs.Structures.{object_in}
 use Rattle.lang_library_laws.specs.Applications.{IsLimited, at_level}
-use Rattle.lang_library_laws.proofs.Frames.{set_behind, Places, shifted, numbered_shifted, found_shifted, Setting, at, InFrame, Stays, kept_in_frame, Runs, After, on, ComesPrinting, Comes, a_form, in_order, some_clauses, a_body, one_below, given}
+use Rattle.lang_library_laws.proofs.Frames.{set_behind, Places, shifted, numbered_shifted, found_shifted, Setting, at, InFrame, Stays, kept_in_frame, Runs, After, on, ComesPrinting, a_form, in_order, some_clauses, a_body, one_below, given}
 
 -- the meaning of a form at a level
 meaning_is : (names : List (List ℕ)) (program : ProgramRows) (limit : Limit) (k : ℕ) (f : Form)

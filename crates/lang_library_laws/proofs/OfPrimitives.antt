@@ -1,5 +1,5 @@
 -- How the primitives of lists and of numbers are evaluated inside an application: one rule each.
-use Rattle.std.proofs.Common.{slice_set, slice_index_or, nat_lt, pos, Option, Some, None, arith, ◌<◌, ◌≡◌, ℕ, ◌+ℤ◌, Bool, true, List, [], ◌∷◌, ◌++◌, refl, sym, ap, subst, ◌∙◌, length, ℤ, is_some, if◌then◌else◌}
+use Rattle.std.proofs.Common.{slice_set, slice_index_or, nat_lt, pos, Some, None, arith, ◌<◌, ◌≡◌, ℕ, ◌+ℤ◌, Bool, true, List, [], ◌∷◌, ◌++◌, refl, sym, ap, subst, ◌∙◌, length, ℤ, is_some, if◌then◌else◌}
 use Rattle.std.proofs.lemmas.Bool.Decides.{nat_tests}
 use Rattle.lang_meaning.specs.declared.primitive.Primitive.{Primitive}
 use Rattle.lang_meaning.specs.declared.primitive.Primitive.TheVariants.{Add, Same, SetCdr, IsNull, IsCons, IsString, IsVector, Cons, Car, Cdr, StringLength, VectorLength, CharAt, VectorRef, PutChar}

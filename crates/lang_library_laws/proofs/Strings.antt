@@ -1,29 +1,28 @@
 -- `string=`, by the loop along two strings.
-use Rattle.std.proofs.Common.{◌≡◌, ◌≤◌, ◌<◌, ℕ, zero, suc, ◌+◌, ◌==◌, Bool, true, false, ◌&&◌, List, [], ◌∷◌, ◌++◌, pos, refl, sym, ap, subst, ◌∙◌, Option, Some, None, length, slice_get, slice_index_or, append-nil, arith}
-use Rattle.std.proofs.lemmas.Bool.Decides.{nat_tests}
+use Rattle.std.proofs.Common.{◌≡◌, ◌≤◌, ◌<◌, ℕ, suc, ◌+◌, ◌==◌, Bool, true, false, ◌&&◌, List, [], ◌∷◌, ◌++◌, pos, refl, sym, ap, subst, ◌∙◌, Option, Some, None, length, slice_get, slice_index_or, append-nil, arith}
 use Rattle.std.proofs.lemmas.Slice.Eq.{bytes_eq-Decides}
 use Rattle.std.specs.Str.{bytes_eq}
 use Rattle.base.specs.Data as datum
 use Rattle.base.specs.declared.datum.Name.{Name}
 use Rattle.lang_meaning.specs.declared.program.ProgramRows.{ProgramRows}
 use Rattle.lang_meaning.specs.declared.primitive.Primitive.TheVariants.{StringLength}
-use Rattle.lang_meaning.specs.Form.{local, sequence}
-use Rattle.lang_meaning.specs.Values.{Value, nil, integer, character, object, truth as truth_of, same}
+use Rattle.lang_meaning.specs.Form.{sequence}
+use Rattle.lang_meaning.specs.Values.{Value, integer, truth as truth_of}
 use Rattle.lang_meaning.specs.Objects.{Object, string}
 use Rattle.lang_meaning.specs.State.{State, DynamicContext, Limit}
 use Rattle.lang_meaning.specs.Captured.{has_box}
 use Rattle.lang_meaning.specs.Signals.{Signals, apply_procedure}
 use Rattle.lang_library_laws.specs.Structures.{text, object_in, StandsFor}
 use Rattle.lang_library_laws.specs.Applications.{GivesKeeping, Gives, IsExtended, HasLiteral, at_level}
-use Rattle.lang_library_laws.specs.ListBodies.{one, two}
+use Rattle.lang_library_laws.specs.ListBodies.{one}
 use Rattle.lang_library_laws.specs.EqualBodies.{same_character, compare, string_equal}
 use Rattle.lang_library_laws.specs.Laws.{LawOfStringEqual}
-use Rattle.lang_library_laws.proofs.Frames.{nothing_added, get_kept, Setting, Comes, a_form, weaker}
+use Rattle.lang_library_laws.proofs.Frames.{nothing_added, Setting, weaker}
 use Rattle.lang_library_laws.proofs.Evaluates.{comes_local, comes_sequence, then_nothing, first_then}
 use Rattle.lang_library_laws.proofs.OfPrimitives.{comes_same, comes_char_at, comes_string_length}
 use Rattle.lang_library_laws.proofs.Applies.{setting, applies}
 use Rattle.lang_library_laws.proofs.Structures.{stands_kept}
-use Rattle.lang_library_laws.proofs.Along.{all_true, arguments, at_first, at_second, along_places, along_first, along_second, along_index, frame_at, Tests, compare_comes}
+use Rattle.lang_library_laws.proofs.Along.{all_true, at_first, along_first, along_second, along_index, frame_at, Tests, compare_comes}
 
 -- whether the bytes at each index of the first text are the same
 abbrev same_each : List ℕ → List ℕ → List Bool

@@ -1,11 +1,11 @@
 -- Finite data in stores: what kind a value is of, and that values that are the same stand for one structure.
-use Rattle.std.proofs.Common.{◌≡◌, ◌≤◌, ℕ, ℤ, pos, negsuc, Bool, true, false, ◌&&◌, List, [], ◌∷◌, refl, sym, ap, subst, ◌∙◌, Option, Some, None, is_some, length, slice_get, arith}
+use Rattle.std.proofs.Common.{◌≡◌, ℤ, pos, negsuc, Bool, true, false, List, refl, sym, ap, subst, ◌∙◌, Option, Some, None, is_some, slice_get, arith}
 use Rattle.std.proofs.lemmas.Bool.Decides.{nat_tests}
 use Rattle.std.proofs.lemmas.Slice.Eq.{bytes_eq-Decides}
 use Rattle.lang_meaning.specs.Values.{SymbolValue, named, unnamed, Value, nil, integer, character, symbol, object, same, same_symbol}
 use Rattle.lang_meaning.specs.Objects.{Object, cons, string, vector}
 use Rattle.lang_meaning.specs.Primitives.{as_cons, as_string, as_vector}
-use Rattle.lang_library_laws.specs.Structures.{Structure, Structures, atom, pair, text, row, no_structure, structure_and, object_in, HasNoParts, IsAtom, StandsFor, StandForEach, alike, alike_each}
+use Rattle.lang_library_laws.specs.Structures.{Structure, Structures, atom, pair, text, row, no_structure, structure_and, object_in, HasNoParts, IsAtom, StandsFor, StandForEach}
 use Rattle.lang_library_laws.specs.Applications.{IsExtended}
 use Rattle.lang_library_laws.proofs.Frames.{get_kept}
 

@@ -1,5 +1,5 @@
 -- The written program has what the laws ask for, and computes.
-use Rattle.std.proofs.Common.{refl, arith, lit≤}
+use Rattle.std.proofs.Common.{refl, arith}
 use Rattle.lang_meaning.specs.Meaning.{mean, meaning_at}
 use Rattle.lang_meaning.specs.State.{no_place}
 use Rattle.lang_library_laws.specs.Worked.{IsMet, Works}

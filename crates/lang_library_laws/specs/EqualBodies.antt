@@ -1,5 +1,5 @@
 -- `equal` and what it calls as procedures: what their texts are read as.
-use Rattle.std.specs.Prelude.{ℕ, ◌+◌, List, [], ◌∷◌, Option}
+use Rattle.std.specs.Prelude.{ℕ, ◌+◌, [], ◌∷◌, Option}
 use Rattle.base.specs.declared.datum.Name.{Name}
 use Rattle.lang_meaning.specs.declared.program.Procedure.{Procedure}
 use Rattle.lang_meaning.specs.declared.primitive.Primitive.{Primitive}

@@ -1,9 +1,9 @@
 -- Functions that print numbers as procedures: what their texts are read as.
-use Rattle.std.specs.Prelude.{ℕ, ◌+◌, List, [], ◌∷◌, Option}
+use Rattle.std.specs.Prelude.{ℕ, ◌+◌, [], ◌∷◌, Option}
 use Rattle.base.specs.declared.datum.Name.{Name}
 use Rattle.lang_meaning.specs.declared.program.Procedure.{Procedure}
 use Rattle.lang_meaning.specs.declared.primitive.Primitive.TheVariants.{Add, Subtract, Divide, Modulo, NumberGreater, NumberAtLeast, CharAt, PutChar}
-use Rattle.lang_meaning.specs.Form.{Form, form_and, no_form, no_clause, no_binding, binding_and, literal, local, clauses, sequence, let_form, call, prim}
+use Rattle.lang_meaning.specs.Form.{Form, form_and, no_clause, no_binding, binding_and, literal, local, clauses, sequence, let_form, call, prim}
 use Rattle.lang_library_laws.specs.ListBodies.{one, two, a_procedure, clause_of, if_form}
 
 abbrev pub when : Form → Form → Form
