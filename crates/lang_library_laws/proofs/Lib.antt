@@ -9,6 +9,7 @@ pub mod TurnCopy
 pub mod Structures
 pub mod Along
 pub mod Strings
+pub mod Alike
 pub mod Equal
 pub mod Decimals
 pub mod Digits

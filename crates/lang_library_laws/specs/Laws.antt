@@ -122,6 +122,10 @@ LawOfStringEqual =
     → Gives limit k (length a + 1) z (λ w store. w ≡ truth (bytes_eq a b))
     (apply_procedure (at_level names program limit k) wrong number None (first ∷ second ∷ []) around z)
 
+-- that two structures are alike says that they are one and the same
+abbrev pub LawOfAlike : Type 0
+LawOfAlike = (t r : Structure) → (alike t r ≡ true → t ≡ r) × (t ≡ r → alike t r ≡ true)
+
 -- `(equal first second)` says whether two finite data are equal
 abbrev pub LawOfEqual : Type 0
 LawOfEqual =

@@ -1,6 +1,6 @@
 // What functions of the library give for all proper lists, as the contracts of functions that do nothing.
 
-ghost use Rattle.lang_library_laws.specs.Laws.{LawOfAppend, LawOfAssoc, LawOfDigits, LawOfEnough, LawOfEqual, LawOfLength, LawOfList, LawOfMember, LawOfReverse, LawOfStringEqual};
+ghost use Rattle.lang_library_laws.specs.Laws.{LawOfAlike, LawOfAppend, LawOfAssoc, LawOfDigits, LawOfEnough, LawOfEqual, LawOfLength, LawOfList, LawOfMember, LawOfReverse, LawOfStringEqual};
 ghost use Rattle.lang_library_laws.specs.Worked.{IsMet, Works};
 
 /// What a law says that an application gives, it gives where words are unlimited and levels are enough.
@@ -52,6 +52,11 @@ pub fn law_digits()
 /// The law of `string=`: it says whether two strings have the same characters.
 pub fn law_string_equal()
     ensures { LawOfStringEqual }
+{}
+
+/// Structures that are alike are equal.
+pub fn law_alike()
+    ensures { LawOfAlike }
 {}
 
 /// The law of `equal`: it says whether two finite data are equal.
