@@ -59,7 +59,8 @@ impl<'a> Comparison<'a> {
 
     fn is_procedure(&mut self, law: LawProcedure, found: &Procedure) -> bool {
         let mut variables = Pairs::new(self.alloc);
-        let same = are_parameters(&mut variables, &law, found) && self.is_body(&mut variables, law, found);
+        let same = are_parameters(&mut variables, &law, found)
+            && self.is_body(&mut variables, law, found);
         drop(variables);
         same
     }

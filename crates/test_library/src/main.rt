@@ -41,5 +41,9 @@ fn tell_all(rt: &HostRuntime, whole: &Whole) -> io::Result<()> {
 
 // What is said of a comparison.
 fn told(same: bool) -> &'static str {
-    if same { "as in the law" } else { "not as in the law" }
+    if same {
+        "as in the law"
+    } else {
+        "not as in the law"
+    }
 }
