@@ -240,8 +240,9 @@ pub const PRELUDE: &[u8] = br##"; Characters: they are bytes, and compare by the
       (setq front (%turn-copy-onto (car lists) front))
       (setq lists (cdr lists)))
     (cond ((null lists) nil)
-          (t (if ends-in-list (assure <list> (car lists)))
-             (%turn-onto front (car lists))))))
+          ((and ends-in-list (not (consp (car lists))) (not (null (car lists))))
+           (%domain-error (car lists) (class <list>)))
+          (t (%turn-onto front (car lists))))))
 
 ; The items of a list in the other order in front of another list: in new conses, or in its own ones.
 (defun %turn-copy-onto (list end)
@@ -887,6 +888,15 @@ pub const PRELUDE: &[u8] = br##"; Characters: they are bytes, and compare by the
       (setq index (+ index 1)))
     index))
 
+; Whether two strings have the same characters.
+(defun string= (first second)
+  (let ((index 0) (end (%string-length first)))
+    (and (= end (%string-length second))
+         (progn
+           (while (and (< index end) (eql (%char-at first index) (%char-at second index)))
+             (setq index (+ index 1)))
+           (= index end)))))
+
 ; -1, 0 or 1: the first string is less than the second, equal to it or greater.
 (defun %order (first second)
   (let* ((first-end (%string-length first)) (second-end (%string-length second)) (index 0))
@@ -898,7 +908,6 @@ pub const PRELUDE: &[u8] = br##"; Characters: they are bytes, and compare by the
           ((char< (%char-at first index) (%char-at second index)) -1)
           (t 1))))
 
-(defun string= (first second) (= (%order first second) 0))
 (defun string/= (first second) (/= (%order first second) 0))
 (defun string< (first second) (< (%order first second) 0))
 (defun string> (first second) (> (%order first second) 0))

@@ -37,8 +37,9 @@
       (setq front (%turn-copy-onto (car lists) front))
       (setq lists (cdr lists)))
     (cond ((null lists) nil)
-          (t (if ends-in-list (assure <list> (car lists)))
-             (%turn-onto front (car lists))))))
+          ((and ends-in-list (not (consp (car lists))) (not (null (car lists))))
+           (%domain-error (car lists) (class <list>)))
+          (t (%turn-onto front (car lists))))))
 
 ; The items of a list in the other order in front of another list: in new conses, or in its own ones.
 (defun %turn-copy-onto (list end)

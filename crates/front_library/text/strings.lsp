@@ -30,6 +30,15 @@
       (setq index (+ index 1)))
     index))
 
+; Whether two strings have the same characters.
+(defun string= (first second)
+  (let ((index 0) (end (%string-length first)))
+    (and (= end (%string-length second))
+         (progn
+           (while (and (< index end) (eql (%char-at first index) (%char-at second index)))
+             (setq index (+ index 1)))
+           (= index end)))))
+
 ; -1, 0 or 1: the first string is less than the second, equal to it or greater.
 (defun %order (first second)
   (let* ((first-end (%string-length first)) (second-end (%string-length second)) (index 0))
@@ -41,7 +50,6 @@
           ((char< (%char-at first index) (%char-at second index)) -1)
           (t 1))))
 
-(defun string= (first second) (= (%order first second) 0))
 (defun string/= (first second) (/= (%order first second) 0))
 (defun string< (first second) (< (%order first second) 0))
 (defun string> (first second) (> (%order first second) 0))

@@ -8,7 +8,7 @@ use Rattle.lang_meaning.specs.Lookup.{under_number, numbered}
 use Rattle.lang_meaning.specs.Form.{Form, Forms, ClauseForms, MaybeForm}
 use Rattle.lang_meaning.specs.Signals.{Context, Evaluation, form}
 use Rattle.lang_meaning.specs.Meaning.{mean, mean_sequence, mean_clauses, mean_body}
-use Rattle.lang_library_laws.specs.Applications.{IsExtended, Keeps, EndsAs, Ends, IsLimited, at_level}
+use Rattle.lang_library_laws.specs.Applications.{IsExtended, KeepsPrinting, EndsAs, Ends, IsLimited, at_level}
 
 -- nothing behind, and more behind more
 pub nothing_added : {X : Type 0} (xs : List X) → IsExtended X xs xs
@@ -67,8 +67,8 @@ found_shifted v n (p ∷ ps) i h = by (v == p.0) refl (found_shifted v n ps i) h
     by true e others g = let same : p.1 ≡ i = cc g in ap (λ m. Some (n + m)) same
     by false e others g = others g
 
--- what an application is evaluated in: the program, the words there are, the state at its begin, the objects that it keeps, and what it
--- means that its levels are too few
+-- what an application is evaluated in: the program, the words there are, the state at its begin, the objects that it keeps, what it
+-- means that its levels are too few, and what may be printed inside
 pub record Setting : Type 1 where
   pub names : List (List ℕ)
   pub program : ProgramRows
@@ -76,48 +76,58 @@ pub record Setting : Type 1 where
   pub base : State
   pub kept : List Object
   pub short : Type 0
+  pub may : List ℕ → Type 0
 
 abbrev pub at : Setting → ℕ → Context
 at s k = at_level s.names s.program s.limit k
 
--- inside the application its variables have these values, behind those that were there, and these are all objects; nothing else was
--- changed but charges
-pub record Holds (s : Setting) (frame : List Value) (store : List Object) (objects : List Object) (variables : List Value) (printed input : List ℕ) (globals dynamics : List (List ℕ × Value)) (symbols : ℕ) : Type 0 where
+-- inside the application its variables have these values, behind those that were there, these are all objects, and that is printed;
+-- nothing else was changed but charges
+pub record Holds (s : Setting) (said : List ℕ) (frame : List Value) (store : List Object) (objects : List Object) (variables : List Value) (printed input : List ℕ) (globals dynamics : List (List ℕ × Value)) (symbols : ℕ) : Type 0 where
   pub objects_are : objects ≡ store
   pub extended : IsExtended Object s.kept store
   pub variables_are : variables ≡ s.base.variables ++ frame
-  pub printed_are : printed ≡ s.base.printed
+  pub printed_are : printed ≡ said
+  pub may_be : s.may said
   pub input_is : input ≡ s.base.input
   pub globals_are : globals ≡ s.base.globals
   pub dynamics_are : dynamics ≡ s.base.dynamics
   pub symbols_are : symbols ≡ s.base.symbols
 
-abbrev pub InFrame : Setting → List Value → List Object → State → Type 0
-InFrame s frame store z = Holds s frame store z.store z.variables z.printed z.input z.globals z.dynamics z.symbols
+abbrev pub InFrame : Setting → List ℕ → List Value → List Object → State → Type 0
+InFrame s said frame store z = Holds s said frame store z.store z.variables z.printed z.input z.globals z.dynamics z.symbols
 
-pub kept_in_frame : {s : Setting} {frame : List Value} {store : List Object} {z : State} → InFrame s frame store z → Keeps s.kept s.base z
-kept_in_frame {s} {frame} {store} {z} h = record {
+-- what is kept until an evaluation ends without a value
+abbrev pub Stays : Setting → State → Type 0
+Stays s after = KeepsPrinting s.may s.kept s.base after
+
+pub kept_as : {s : Setting} {said : List ℕ} {frame : List Value} {store : List Object} {z : State} (IsPrinted : List ℕ → Type 0) → IsPrinted said
+    → InFrame s said frame store z → KeepsPrinting IsPrinted s.kept s.base z
+kept_as {s} {said} {frame} {store} {z} IsPrinted p h = record {
   objects = subst (IsExtended Object s.kept) (sym h.objects_are) h.extended;
   variables = record { added = frame; is = h.variables_are };
-  printed = h.printed_are;
+  printed = subst IsPrinted (sym h.printed_are) p;
   input = h.input_is;
   globals = h.globals_are;
   dynamics = h.dynamics_are;
   symbols = h.symbols_are;
 }
 
+pub kept_in_frame : {s : Setting} {said : List ℕ} {frame : List Value} {store : List Object} {z : State} → InFrame s said frame store z → Stays s z
+kept_in_frame {s} {said} {frame} {store} {z} h = kept_as s.may h.may_be h
+
 -- how an evaluation inside the application may end
 pub record Runs (s : Setting) (Q : Value → State → Type 0) (r : Evaluated) : Type 0 where
-  pub ends : Ends (λ after. IsLimited s.limit × Keeps s.kept s.base after) (λ after. s.short × Keeps s.kept s.base after) Q r
+  pub ends : Ends (λ after. IsLimited s.limit × Stays s after) (λ after. s.short × Stays s after) Q r
 
 abbrev pub RunsAs : Setting → (Value → State → Type 0) → Outcome → State → Type 0
-RunsAs s Q o z = EndsAs (λ after. IsLimited s.limit × Keeps s.kept s.base after) (λ after. s.short × Keeps s.kept s.base after) Q o z
+RunsAs s Q o z = EndsAs (λ after. IsLimited s.limit × Stays s after) (λ after. s.short × Stays s after) Q o z
 
--- a value, in a frame
-pub record After (s : Setting) (Q : Value → List Value → List Object → Type 0) (v : Value) (z : State) : Type 0 where
+-- a value, in a frame, where that is printed
+pub record After (s : Setting) (said : List ℕ) (Q : Value → List Value → List Object → Type 0) (v : Value) (z : State) : Type 0 where
   pub frame : List Value
   pub store : List Object
-  pub holds : InFrame s frame store z
+  pub holds : InFrame s said frame store z
   pub is : Q v frame store
 
 pub on : {s : Setting} {P Q : Value → State → Type 0} {next : Value → State → Evaluated} (r : Evaluated)
@@ -146,50 +156,56 @@ evaluated s (a_body k v b) = mean_body (at s k) v b
 evaluated s (one_below k f) = (at s k).below (form f)
 
 -- inside the application, where the variables have those places, the part comes from this frame and store to a value, a frame and a
--- store of which that holds
-pub record Comes (s : Setting) (places : Places) (part : Part) (frame : List Value) (store : List Object) (Q : Value → List Value → List Object → Type 0) : Type 0 where
+-- store of which that holds, and from one printed text to another
+pub record ComesPrinting (s : Setting) (said said' : List ℕ) (places : Places) (part : Part) (frame : List Value) (store : List Object) (Q : Value → List Value → List Object → Type 0) : Type 0 where
   pub runs : (env : Environment) (around : DynamicContext) (z : State) → env.variables ≡ shifted (length s.base.variables) places
-      → InFrame s frame store z → Runs s (After s Q) (evaluated s part env around z)
+      → InFrame s said frame store z → Runs s (After s said' Q) (evaluated s part env around z)
+
+-- the same, where nothing is printed
+abbrev pub Comes : Setting → Places → Part → List Value → List Object → (Value → List Value → List Object → Type 0) → Type 0
+Comes s places part frame store Q = ComesPrinting s s.base.printed s.base.printed places part frame store Q
 
 -- a value at once
-pub given : {s : Setting} {frame : List Value} {store : List Object} {Q : Value → List Value → List Object → Type 0} (v : Value) (z : State)
-    → InFrame s frame store z → Q v frame store → Runs s (After s Q) (gives v z)
-given {s} {frame} {store} {Q} v z h q = record { ends = record { frame = frame; store = store; holds = h; is = q } }
+pub given : {s : Setting} {said : List ℕ} {frame : List Value} {store : List Object} {Q : Value → List Value → List Object → Type 0} (v : Value) (z : State)
+    → InFrame s said frame store z → Q v frame store → Runs s (After s said Q) (gives v z)
+given {s} {said} {frame} {store} {Q} v z h q = record { ends = record { frame = frame; store = store; holds = h; is = q } }
 
 -- what holds of more values
-pub weaker : {s : Setting} {places : Places} {part : Part} {frame : List Value} {store : List Object} {P Q : Value → List Value → List Object → Type 0}
-    → Comes s places part frame store P → ((v : Value) (fr : List Value) (st : List Object) → P v fr st → Q v fr st) → Comes s places part frame store Q
-weaker {s} {places} {part} {frame} {store} {P} {Q} c w = record {
+pub weaker : {s : Setting} {said said' : List ℕ} {places : Places} {part : Part} {frame : List Value} {store : List Object} {P Q : Value → List Value → List Object → Type 0}
+    → ComesPrinting s said said' places part frame store P → ((v : Value) (fr : List Value) (st : List Object) → P v fr st → Q v fr st)
+    → ComesPrinting s said said' places part frame store Q
+weaker {s} {said} {said'} {places} {part} {frame} {store} {P} {Q} c w = record {
   runs = λ env around z g h. record {
     ends =
         by (evaluated s part env around z).outcome (evaluated s part env around z).state (c.runs env around z g h).ends;
   };
 }
   where
-    by : (o : Outcome) (z : State) → RunsAs s (After s P) o z → RunsAs s (After s Q) o z
+    by : (o : Outcome) (z : State) → RunsAs s (After s said' P) o z → RunsAs s (After s said' Q) o z
     by (value v) z g = record { frame = g.frame; store = g.store; holds = g.holds; is = w v g.frame g.store g.is }
     by (exit e v landing) z g = absurd g
     by (full asked left) z g = g
     by more z g = g
 
 -- the same frame
-pub at_frame : {s : Setting} {places : Places} {part : Part} {frame other : List Value} {store : List Object} {Q : Value → List Value → List Object → Type 0}
-    → frame ≡ other → Comes s places part other store Q → Comes s places part frame store Q
-at_frame {s} {places} {part} {frame} {other} {store} {Q} e c = subst (λ fr. Comes s places part fr store Q) (sym e) c
+pub at_frame : {s : Setting} {said said' : List ℕ} {places : Places} {part : Part} {frame other : List Value} {store : List Object} {Q : Value → List Value → List Object → Type 0}
+    → frame ≡ other → ComesPrinting s said said' places part other store Q → ComesPrinting s said said' places part frame store Q
+at_frame {s} {said} {said'} {places} {part} {frame} {other} {store} {Q} e c = subst (λ fr. ComesPrinting s said said' places part fr store Q) (sym e) c
 
 -- the same store
-pub at_store : {s : Setting} {places : Places} {part : Part} {frame : List Value} {store other : List Object} {Q : Value → List Value → List Object → Type 0}
-    → store ≡ other → Comes s places part frame other Q → Comes s places part frame store Q
-at_store {s} {places} {part} {frame} {store} {other} {Q} e c = subst (λ st. Comes s places part frame st Q) (sym e) c
+pub at_store : {s : Setting} {said said' : List ℕ} {places : Places} {part : Part} {frame : List Value} {store other : List Object} {Q : Value → List Value → List Object → Type 0}
+    → store ≡ other → ComesPrinting s said said' places part frame other Q → ComesPrinting s said said' places part frame store Q
+at_store {s} {said} {said'} {places} {part} {frame} {store} {other} {Q} e c = subst (λ st. ComesPrinting s said said' places part frame st Q) (sym e) c
 
 -- a new object of two words
-pub one_more : {s : Setting} {frame : List Value} {store : List Object} (o : Object) (z : State) → InFrame s frame store z
-    → InFrame s frame (store ++ o ∷ []) (stored o (charged 2 (with_words 2 0 z)))
-one_more {s} {frame} {store} o z h = record {
+pub one_more : {s : Setting} {said : List ℕ} {frame : List Value} {store : List Object} (o : Object) (z : State) → InFrame s said frame store z
+    → InFrame s said frame (store ++ o ∷ []) (stored o (charged 2 (with_words 2 0 z)))
+one_more {s} {said} {frame} {store} o z h = record {
   objects_are = ap (λ os. os ++ o ∷ []) h.objects_are;
   extended = added_more h.extended (put_behind store (o ∷ []));
   variables_are = h.variables_are;
   printed_are = h.printed_are;
+  may_be = h.may_be;
   input_is = h.input_is;
   globals_are = h.globals_are;
   dynamics_are = h.dynamics_are;

@@ -13,12 +13,13 @@ use Rattle.lang_meaning.specs.Captured.{has_box}
 use Rattle.lang_meaning.specs.Literals.{symbol_of}
 use Rattle.lang_meaning.specs.Primitives.{as_cons, as_string, as_vector}
 use Rattle.lang_meaning.specs.Signals.{Signals, apply_procedure}
+use Rattle.lang_library_laws.specs.Structures.{object_in}
 use Rattle.lang_library_laws.specs.Lists.{IsProperList}
 use Rattle.lang_library_laws.specs.Applications.{GivesKeeping, IsExtended, Gives, at_level, HasLiteral}
 use Rattle.lang_library_laws.specs.ListBodies.{one, count_test, count_turn, count_end, count_body, list_length_form, list_length, length_form}
 use Rattle.lang_library_laws.specs.Laws.{LawOfLength}
 use Rattle.lang_library_laws.proofs.Frames.{nothing_added, same_objects, Places, Setting, Comes, a_form, in_order, weaker, at_frame}
-use Rattle.lang_library_laws.proofs.Evaluates.{object_in, cell_in, comes_local, comes_set, comes_literal, comes_sequence, then_nothing, first_then, comes_clauses, clause_taken, clause_passed, body_form, no_arguments_left, argument_and, no_bindings_left, value_and, comes_let}
+use Rattle.lang_library_laws.proofs.Evaluates.{cell_in, comes_local, comes_set, comes_literal, comes_sequence, then_nothing, first_then, comes_clauses, clause_taken, clause_passed, body_form, no_arguments_left, argument_and, no_bindings_left, value_and, comes_let}
 use Rattle.lang_library_laws.proofs.OfPrimitives.{comes_cdr, comes_null, comes_consp, comes_stringp, comes_vectorp, comes_sum}
 use Rattle.lang_library_laws.proofs.Loops.{Turns, Stops, loops}
 use Rattle.lang_library_laws.proofs.Applies.{setting, applies, called, comes_call}

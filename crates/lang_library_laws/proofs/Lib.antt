@@ -6,6 +6,14 @@ pub mod Loops
 pub mod Applies
 pub mod Falling
 pub mod TurnCopy
+pub mod Structures
+pub mod Along
+pub mod Strings
+pub mod Alike
+pub mod Equal
+pub mod Decimals
+pub mod Digits
+pub mod Append
 pub mod Reverse
 pub mod Length
 pub mod Seek

@@ -1,73 +1,78 @@
 -- How the primitives of lists and of numbers are evaluated inside an application: one rule each.
-use Rattle.std.proofs.Common.{slice_set, ◌≡◌, ℕ, ◌+ℤ◌, Bool, true, List, [], ◌∷◌, ◌++◌, refl, sym, ap, subst, ◌∙◌, length, ℤ, is_some, if◌then◌else◌}
+use Rattle.std.proofs.Common.{slice_set, slice_index_or, nat_lt, pos, Some, None, arith, ◌<◌, ◌≡◌, ℕ, ◌+ℤ◌, Bool, true, List, [], ◌∷◌, ◌++◌, refl, sym, ap, subst, ◌∙◌, length, ℤ, is_some, if◌then◌else◌}
+use Rattle.std.proofs.lemmas.Bool.Decides.{nat_tests}
 use Rattle.lang_meaning.specs.declared.primitive.Primitive.{Primitive}
-use Rattle.lang_meaning.specs.declared.primitive.Primitive.TheVariants.{Add, Same, SetCdr, IsNull, IsCons, IsString, IsVector, Cons, Car, Cdr}
+use Rattle.lang_meaning.specs.declared.primitive.Primitive.TheVariants.{Add, Same, SetCdr, IsNull, IsCons, IsString, IsVector, Cons, Car, Cdr, StringLength, VectorLength, CharAt, VectorRef, PutChar}
 use Rattle.lang_meaning.specs.Form.{Form, prim}
-use Rattle.lang_meaning.specs.Values.{Value, nil, object, integer, truth, same, in_range}
-use Rattle.lang_meaning.specs.Objects.{Object, cons, cons_class, integer_overflow_class}
-use Rattle.lang_meaning.specs.State.{changed, gives, stored, charged, with_words}
-use Rattle.lang_meaning.specs.Primitives.{change, result, fails, domain_error, primitive, as_cons, as_string, as_vector, needs, says}
+use Rattle.lang_meaning.specs.Values.{Value, nil, object, integer, character, truth, same, in_range}
+use Rattle.lang_meaning.specs.Objects.{Object, cons, string, vector, output_stream, cons_class, string_class, vector_class, stream_class, integer_overflow_class}
+use Rattle.lang_meaning.specs.State.{State, changed, gives, stored, charged, with_words}
+use Rattle.lang_meaning.specs.Primitives.{Answer, change, result, fails, domain_error, program_error, primitive, as_cons, as_string, as_vector, as_stream, a_character, an_integer, an_index, integer_result, needs, says}
 use Rattle.lang_meaning.specs.Signals.{answered}
+use Rattle.lang_library_laws.specs.Structures.{object_in}
 use Rattle.lang_library_laws.specs.Applications.{IsExtended}
 use Rattle.lang_library_laws.specs.ListBodies.{one, two}
-use Rattle.lang_library_laws.proofs.Frames.{one_more, Places, Setting, at, kept_in_frame, Runs, After, Comes, a_form, given, weaker}
-use Rattle.lang_library_laws.proofs.Evaluates.{requests, Cell, object_in, fetched, cell_in, Results, no_arguments_left, argument_and, comes_prim}
+use Rattle.lang_library_laws.proofs.Frames.{one_more, Places, Setting, at, kept_in_frame, Runs, After, ComesPrinting, a_form, given, weaker}
+use Rattle.lang_library_laws.proofs.Evaluates.{requests, Cell, fetched, cell_in, Results, no_arguments_left, argument_and, comes_prim}
 
-module _ {s : Setting} {places : Places} {k : ℕ} {frame : List Value} {store : List Object} {Q : Value → List Value → List Object → Type 0} where
+tested : (i n : ℕ) → i < n → nat_lt i n ≡ true
+tested i n h = grind (arith, nat_tests)
+
+module _ {s : Setting} {said : List ℕ} {places : Places} {k : ℕ} {frame : List Value} {store : List Object} {Q : Value → List Value → List Object → Type 0} where
   -- a primitive of one argument that has a result
   pub of_one : {which : Primitive} {f : Form}
-      → Comes s places (a_form k f) frame store (λ x fr st. (y : Value) × Results s fr st which (x ∷ []) y × Q y fr st)
-      → Comes s places (a_form k (prim which (one f))) frame store Q
+      → ComesPrinting s said said places (a_form k f) frame store (λ x fr st. (y : Value) × Results s said fr st which (x ∷ []) y × Q y fr st)
+      → ComesPrinting s said said places (a_form k (prim which (one f))) frame store Q
   of_one {which} {f} c = comes_prim (argument_and (weaker c (λ x fr st r. no_arguments_left (λ around z h.
-      subst (λ a. Runs s (After s Q) (answered (at s k) a around z)) (sym (r.1 z h)) (given r.0 z h r.2)))))
+      subst (λ a. Runs s (After s said Q) (answered (at s k) a around z)) (sym (r.1 z h)) (given r.0 z h r.2)))))
 
   -- one of two arguments
   pub of_two : {which : Primitive} {f g : Form}
-      → Comes s places (a_form k f) frame store (λ x fr st.
-      Comes s places (a_form k g) fr st (λ y fr st. (w : Value) × Results s fr st which (x ∷ y ∷ []) w × Q w fr st))
-      → Comes s places (a_form k (prim which (two f g))) frame store Q
+      → ComesPrinting s said said places (a_form k f) frame store (λ x fr st.
+      ComesPrinting s said said places (a_form k g) fr st (λ y fr st. (w : Value) × Results s said fr st which (x ∷ y ∷ []) w × Q w fr st))
+      → ComesPrinting s said said places (a_form k (prim which (two f g))) frame store Q
   of_two {which} {f} {g} c = comes_prim (argument_and (weaker c (λ x fr st d. argument_and (weaker d (λ y fr st r. no_arguments_left (λ around z h.
-      subst (λ a. Runs s (After s Q) (answered (at s k) a around z)) (sym (r.1 z h)) (given r.0 z h r.2)))))))
+      subst (λ a. Runs s (After s said Q) (answered (at s k) a around z)) (sym (r.1 z h)) (given r.0 z h r.2)))))))
 
-  pub comes_car : {f : Form} → Comes s places (a_form k f) frame store (λ x fr st. (c : Cell st x) × Q c.first fr st)
-      → Comes s places (a_form k (prim Car (one f))) frame store Q
+  pub comes_car : {f : Form} → ComesPrinting s said said places (a_form k f) frame store (λ x fr st. (c : Cell st x) × Q c.first fr st)
+      → ComesPrinting s said said places (a_form k (prim Car (one f))) frame store Q
   comes_car {f} c = of_one (weaker c (λ x fr st r.
       (r.0.first, (λ z h. ap (λ o. needs (as_cons o) (domain_error x cons_class z) (λ (p : Value × Value). result p.0 z)) (fetched z h x ∙ cell_in r.0)), r.1)))
 
-  pub comes_cdr : {f : Form} → Comes s places (a_form k f) frame store (λ x fr st. (c : Cell st x) × Q c.rest fr st)
-      → Comes s places (a_form k (prim Cdr (one f))) frame store Q
+  pub comes_cdr : {f : Form} → ComesPrinting s said said places (a_form k f) frame store (λ x fr st. (c : Cell st x) × Q c.rest fr st)
+      → ComesPrinting s said said places (a_form k (prim Cdr (one f))) frame store Q
   comes_cdr {f} c = of_one (weaker c (λ x fr st r.
       (r.0.rest, (λ z h. ap (λ o. needs (as_cons o) (domain_error x cons_class z) (λ (p : Value × Value). result p.1 z)) (fetched z h x ∙ cell_in r.0)), r.1)))
 
-  pub comes_null : {f : Form} → Comes s places (a_form k f) frame store (λ x fr st. Q (truth (same x nil)) fr st)
-      → Comes s places (a_form k (prim IsNull (one f))) frame store Q
+  pub comes_null : {f : Form} → ComesPrinting s said said places (a_form k f) frame store (λ x fr st. Q (truth (same x nil)) fr st)
+      → ComesPrinting s said said places (a_form k (prim IsNull (one f))) frame store Q
   comes_null {f} c = of_one (weaker c (λ x fr st r. (truth (same x nil), (λ z h. refl), r)))
 
-  pub comes_consp : {f : Form} → Comes s places (a_form k f) frame store (λ x fr st. Q (truth (is_some (as_cons (object_in st x)))) fr st)
-      → Comes s places (a_form k (prim IsCons (one f))) frame store Q
+  pub comes_consp : {f : Form} → ComesPrinting s said said places (a_form k f) frame store (λ x fr st. Q (truth (is_some (as_cons (object_in st x)))) fr st)
+      → ComesPrinting s said said places (a_form k (prim IsCons (one f))) frame store Q
   comes_consp {f} c = of_one (weaker c (λ x fr st r.
       (truth (is_some (as_cons (object_in st x))), (λ z h. ap (λ o. says (is_some (as_cons o)) z) (fetched z h x)), r)))
 
-  pub comes_stringp : {f : Form} → Comes s places (a_form k f) frame store (λ x fr st. Q (truth (is_some (as_string (object_in st x)))) fr st)
-      → Comes s places (a_form k (prim IsString (one f))) frame store Q
+  pub comes_stringp : {f : Form} → ComesPrinting s said said places (a_form k f) frame store (λ x fr st. Q (truth (is_some (as_string (object_in st x)))) fr st)
+      → ComesPrinting s said said places (a_form k (prim IsString (one f))) frame store Q
   comes_stringp {f} c = of_one (weaker c (λ x fr st r.
       (truth (is_some (as_string (object_in st x))), (λ z h. ap (λ o. says (is_some (as_string o)) z) (fetched z h x)), r)))
 
-  pub comes_vectorp : {f : Form} → Comes s places (a_form k f) frame store (λ x fr st. Q (truth (is_some (as_vector (object_in st x)))) fr st)
-      → Comes s places (a_form k (prim IsVector (one f))) frame store Q
+  pub comes_vectorp : {f : Form} → ComesPrinting s said said places (a_form k f) frame store (λ x fr st. Q (truth (is_some (as_vector (object_in st x)))) fr st)
+      → ComesPrinting s said said places (a_form k (prim IsVector (one f))) frame store Q
   comes_vectorp {f} c = of_one (weaker c (λ x fr st r.
       (truth (is_some (as_vector (object_in st x))), (λ z h. ap (λ o. says (is_some (as_vector o)) z) (fetched z h x)), r)))
 
   pub comes_same : {f g : Form}
-      → Comes s places (a_form k f) frame store (λ x fr st. Comes s places (a_form k g) fr st (λ y fr st. Q (truth (same x y)) fr st))
-      → Comes s places (a_form k (prim Same (two f g))) frame store Q
+      → ComesPrinting s said said places (a_form k f) frame store (λ x fr st. ComesPrinting s said said places (a_form k g) fr st (λ y fr st. Q (truth (same x y)) fr st))
+      → ComesPrinting s said said places (a_form k (prim Same (two f g))) frame store Q
   comes_same {f} {g} c = of_two (weaker c (λ x fr st d. weaker d (λ y fr st r. (truth (same x y), (λ z h. refl), r))))
 
   -- a sum in range
   pub comes_sum : {f g : Form}
-      → Comes s places (a_form k f) frame store (λ x fr st. Comes s places (a_form k g) fr st (λ y fr st.
+      → ComesPrinting s said said places (a_form k f) frame store (λ x fr st. ComesPrinting s said said places (a_form k g) fr st (λ y fr st.
       (a : ℤ) × (b : ℤ) × (x ≡ integer a) × (y ≡ integer b) × (in_range (a +ℤ b) ≡ true) × Q (integer (a +ℤ b)) fr st))
-      → Comes s places (a_form k (prim Add (two f g))) frame store Q
+      → ComesPrinting s said said places (a_form k (prim Add (two f g))) frame store Q
   comes_sum {f} {g} c = of_two (weaker c (λ x fr st d. weaker d (λ y fr st r. (
     integer (r.0 +ℤ r.1),
     (λ z h. ap (λ v. primitive s.names s.program Add (v ∷ y ∷ []) z) r.2 ∙ ap (λ v. primitive s.names s.program Add (integer r.0 ∷ v ∷ []) z) r.3
@@ -77,9 +82,9 @@ module _ {s : Setting} {places : Places} {k : ℕ} {frame : List Value} {store :
 
   -- a new cons
   pub comes_cons : {f g : Form}
-      → Comes s places (a_form k f) frame store (λ x fr st. Comes s places (a_form k g) fr st (λ y fr st.
+      → ComesPrinting s said said places (a_form k f) frame store (λ x fr st. ComesPrinting s said said places (a_form k g) fr st (λ y fr st.
       Q (object (length st)) fr (st ++ cons x y ∷ [])))
-      → Comes s places (a_form k (prim Cons (two f g))) frame store Q
+      → ComesPrinting s said said places (a_form k (prim Cons (two f g))) frame store Q
   comes_cons {f} {g} c = comes_prim (argument_and (weaker c (λ x fr st d. argument_and (weaker d (λ y fr st r. no_arguments_left (λ around z h.
       requests 2 0 z (λ entered. gives (object (length entered.store)) (stored (cons x y) (charged 2 entered))) (kept_in_frame h)
       (given (object (length z.store)) (stored (cons x y) (charged 2 (with_words 2 0 z))) (one_more (cons x y) z h)
@@ -87,24 +92,122 @@ module _ {s : Setting} {places : Places} {k : ℕ} {frame : List Value} {store :
 
   -- another second part of a cons, which is none of those that are kept
   pub comes_set_cdr : {f g : Form}
-      → Comes s places (a_form k f) frame store (λ x fr st. Comes s places (a_form k g) fr st (λ y fr st.
+      → ComesPrinting s said said places (a_form k f) frame store (λ x fr st. ComesPrinting s said said places (a_form k g) fr st (λ y fr st.
       (c : Cell st y) × IsExtended Object s.kept (slice_set st c.number (cons c.first x)) × Q x fr (slice_set st c.number (cons c.first x))))
-      → Comes s places (a_form k (prim SetCdr (two f g))) frame store Q
+      → ComesPrinting s said said places (a_form k (prim SetCdr (two f g))) frame store Q
   comes_set_cdr {f} {g} c = comes_prim (argument_and (weaker c (λ x fr st d. argument_and (weaker d (λ y fr st r. no_arguments_left (λ around z h.
       let now : Object = cons r.0.first x in
       let is : primitive s.names s.program SetCdr (x ∷ y ∷ []) z ≡ result x (changed r.0.number now z) =
       ap (λ o. needs (as_cons o) (domain_error y cons_class z) (λ (p : Value × Value). result x (change y (cons p.0 x) z))) (fetched z h y ∙ cell_in r.0)
       ∙ ap (λ u. result x (change u now z)) r.0.is in
-      subst (λ a. Runs s (After s Q) (answered (at s k) a around z)) (sym is)
+      subst (λ a. Runs s (After s said Q) (answered (at s k) a around z)) (sym is)
       (given x (changed r.0.number now z)
       (record {
         objects_are = ap (λ os. slice_set os r.0.number now) h.objects_are;
         extended = r.1;
         variables_are = h.variables_are;
         printed_are = h.printed_are;
+        may_be = h.may_be;
         input_is = h.input_is;
         globals_are = h.globals_are;
         dynamics_are = h.dynamics_are;
         symbols_are = h.symbols_are;
       })
       r.2)))))))
+
+  -- one of two integers that has a result
+  pub comes_integers : {which : Primitive} {f g : Form} (op : ℤ → ℤ → State → Answer)
+      → ((a b : ℤ) (z : State) → primitive s.names s.program which (integer a ∷ integer b ∷ []) z ≡ op a b z)
+      → ComesPrinting s said said places (a_form k f) frame store (λ x fr st. ComesPrinting s said said places (a_form k g) fr st (λ y fr st.
+      (a : ℤ) × (b : ℤ) × (w : Value) × (x ≡ integer a) × (y ≡ integer b) × ((z : State) → op a b z ≡ result w z) × Q w fr st))
+      → ComesPrinting s said said places (a_form k (prim which (two f g))) frame store Q
+  comes_integers {which} {f} {g} op is c = of_two (weaker c (λ x fr st d. weaker d (λ y fr st r. (
+    r.2,
+    (λ z h. ap (λ v. primitive s.names s.program which (v ∷ y ∷ []) z) r.3 ∙ ap (λ v. primitive s.names s.program which (integer r.0 ∷ v ∷ []) z) r.4
+        ∙ is r.0 r.1 z ∙ r.5 z),
+    r.6,
+  ))))
+
+  -- a character of a string
+  pub comes_char_at : {f g : Form}
+      → ComesPrinting s said said places (a_form k f) frame store (λ x fr st. ComesPrinting s said said places (a_form k g) fr st (λ y fr st.
+      (bytes : List ℕ) × (i : ℕ) × (object_in st x ≡ Some (string bytes)) × (y ≡ integer (pos i)) × (i < length bytes)
+      × Q (character (slice_index_or bytes i 0)) fr st))
+      → ComesPrinting s said said places (a_form k (prim CharAt (two f g))) frame store Q
+  comes_char_at {f} {g} c = of_two (weaker c (λ x fr st d. weaker d (λ y fr st r. (
+    character (slice_index_or r.0 r.1 0),
+    (λ z h.
+        let chosen : List ℕ → ℕ → Answer = λ bytes i. result (character (slice_index_or bytes i 0)) z in
+        let within : nat_lt r.1 (length r.0) ≡ true = tested r.1 (length r.0) r.4 in
+        ap (λ o. needs (as_string o) (domain_error x string_class z) (λ bytes. an_integer y z (λ n. an_index n (length bytes) z (chosen bytes)))) (fetched z h x ∙ r.2)
+        ∙ ap (λ v. an_integer v z (λ n. an_index n (length r.0) z (chosen r.0))) r.3
+        ∙ ap (λ (b : Bool). needs (if b then Some r.1 else None) (program_error z) (chosen r.0)) within),
+    r.5,
+  ))))
+
+  -- the length of a string and of a vector, and an element of a vector
+  pub comes_string_length : {f : Form} → ComesPrinting s said said places (a_form k f) frame store (λ x fr st.
+      (bytes : List ℕ) × (object_in st x ≡ Some (string bytes)) × Q (integer (pos (length bytes))) fr st)
+      → ComesPrinting s said said places (a_form k (prim StringLength (one f))) frame store Q
+  comes_string_length {f} c = of_one (weaker c (λ x fr st r. (
+    integer (pos (length r.0)),
+    (λ z h. ap (λ o. needs (as_string o) (domain_error x string_class z) (λ bytes. result (integer (pos (length bytes))) z)) (fetched z h x ∙ r.1)),
+    r.2,
+  )))
+
+  pub comes_vector_length : {f : Form} → ComesPrinting s said said places (a_form k f) frame store (λ x fr st.
+      (vs : List Value) × (object_in st x ≡ Some (vector vs)) × Q (integer (pos (length vs))) fr st)
+      → ComesPrinting s said said places (a_form k (prim VectorLength (one f))) frame store Q
+  comes_vector_length {f} c = of_one (weaker c (λ x fr st r. (
+    integer (pos (length r.0)),
+    (λ z h. ap (λ o. needs (as_vector o) (domain_error x vector_class z) (λ vs. result (integer (pos (length vs))) z)) (fetched z h x ∙ r.1)),
+    r.2,
+  )))
+
+  pub comes_vector_ref : {f g : Form}
+      → ComesPrinting s said said places (a_form k f) frame store (λ x fr st. ComesPrinting s said said places (a_form k g) fr st (λ y fr st.
+      (vs : List Value) × (i : ℕ) × (object_in st x ≡ Some (vector vs)) × (y ≡ integer (pos i)) × (i < length vs) × Q (slice_index_or vs i nil) fr st))
+      → ComesPrinting s said said places (a_form k (prim VectorRef (two f g))) frame store Q
+  comes_vector_ref {f} {g} c = of_two (weaker c (λ x fr st d. weaker d (λ y fr st r. (
+    slice_index_or r.0 r.1 nil,
+    (λ z h.
+        let chosen : List Value → ℕ → Answer = λ vs i. result (slice_index_or vs i nil) z in
+        let within : nat_lt r.1 (length r.0) ≡ true = tested r.1 (length r.0) r.4 in
+        ap (λ o. needs (as_vector o) (domain_error x vector_class z) (λ vs. an_integer y z (λ n. an_index n (length vs) z (chosen vs)))) (fetched z h x ∙ r.2)
+        ∙ ap (λ v. an_integer v z (λ n. an_index n (length r.0) z (chosen r.0))) r.3
+        ∙ ap (λ (b : Bool). needs (if b then Some r.1 else None) (program_error z) (chosen r.0)) within),
+    r.5,
+  ))))
+
+  -- a character is put
+  pub comes_put : {f g : Form} {c : ℕ} → s.may (said ++ c ∷ [])
+      → ComesPrinting s said said places (a_form k f) frame store (λ x fr st. ComesPrinting s said said places (a_form k g) fr st (λ y fr st.
+      (object_in st x ≡ Some output_stream) × (y ≡ character c) × Q nil fr st))
+      → ComesPrinting s said (said ++ c ∷ []) places (a_form k (prim PutChar (two f g))) frame store Q
+  comes_put {f} {g} {c} may e = comes_prim (argument_and (weaker e (λ x fr st d. argument_and (weaker d (λ y fr st r. no_arguments_left (λ around z h.
+      let is : primitive s.names s.program PutChar (x ∷ y ∷ []) z ≡ result nil (record z { printed = z.printed ++ c ∷ [] }) =
+      ap (λ o. needs (as_stream o) (domain_error x stream_class z) (λ is_output. a_character y z (λ c.
+      if is_output then result nil (record z { printed = z.printed ++ c ∷ [] }) else domain_error x stream_class z))) (fetched z h x ∙ r.0)
+      ∙ ap (λ v. a_character v z (λ c. result nil (record z { printed = z.printed ++ c ∷ [] }))) r.1 in
+      subst (λ a. Runs s (After s (said ++ c ∷ []) Q) (answered (at s k) a around z)) (sym is)
+      (given nil (record z { printed = z.printed ++ c ∷ [] })
+      (record {
+        objects_are = h.objects_are;
+        extended = h.extended;
+        variables_are = h.variables_are;
+        printed_are = ap (λ text. text ++ c ∷ []) h.printed_are;
+        may_be = may;
+        input_is = h.input_is;
+        globals_are = h.globals_are;
+        dynamics_are = h.dynamics_are;
+        symbols_are = h.symbols_are;
+      })
+      r.2)))))))
+
+-- results that are in range
+pub ranged : (n c : ℤ) → n ≡ c → in_range c ≡ true → (z : State) → integer_result n z ≡ result (integer c) z
+ranged n c e r z =
+    ap (λ m. integer_result m z) e ∙ ap (λ (b : Bool). if b then result (integer c) z else fails integer_overflow_class [] z) r
+
+pub said_to_be : (b c : Bool) → b ≡ c → (z : State) → says b z ≡ result (truth c) z
+said_to_be b c e z = ap (λ b. says b z) e

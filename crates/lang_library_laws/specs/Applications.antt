@@ -8,11 +8,12 @@ use Rattle.lang_meaning.specs.declared.program.Procedure.{Procedure}
 use Rattle.lang_meaning.specs.declared.program.FunctionRow.{FunctionRow}
 use Rattle.lang_meaning.specs.declared.program.ProgramRows.{ProgramRows}
 use Rattle.lang_meaning.specs.declared.program.Callee.TheVariants as callee
-use Rattle.lang_meaning.specs.Values.{Value}
-use Rattle.lang_meaning.specs.Objects.{Object}
+use Rattle.lang_meaning.specs.Values.{Value, object}
+use Rattle.lang_meaning.specs.Objects.{Object, string, output_stream}
 use Rattle.lang_meaning.specs.State.{State, Outcome, value, exit, full, more, Evaluated, Limit, words, unlimited}
 use Rattle.lang_meaning.specs.Lookup.{text}
 use Rattle.lang_meaning.specs.Literals.{function_row}
+use Rattle.lang_meaning.specs.InitialHeap.{literal_value}
 use Rattle.lang_meaning.specs.Signals.{Context, Task, Evaluation}
 use Rattle.lang_meaning.specs.Meaning.{none_below, context_of, meaning_at}
 
@@ -21,16 +22,20 @@ pub record IsExtended (X : Type 0) (before after : List X) : Type 0 where
   pub added : List X
   pub is : after ≡ before ++ added
 
--- a later state, in which these objects and all variables that were there are as they were, nothing was printed or read, and
--- nothing was defined
-pub record Keeps (kept : List Object) (before after : State) : Type 0 where
+-- a later state, in which these objects and all variables that were there are as they were, nothing was read, and nothing was
+-- defined. What is printed by then is that.
+pub record KeepsPrinting (IsPrinted : List ℕ → Type 0) (kept : List Object) (before after : State) : Type 0 where
   pub objects : IsExtended Object kept after.store
   pub variables : IsExtended Value before.variables after.variables
-  pub printed : after.printed ≡ before.printed
+  pub printed : IsPrinted after.printed
   pub input : after.input ≡ before.input
   pub globals : after.globals ≡ before.globals
   pub dynamics : after.dynamics ≡ before.dynamics
   pub symbols : after.symbols ≡ before.symbols
+
+-- the same, where nothing is printed
+abbrev pub Keeps : List Object → State → State → Type 0
+Keeps kept before after = KeepsPrinting (λ printed. printed ≡ before.printed) kept before after
 
 -- an evaluation has a value of which that holds, or it is full or ran out of levels, and that holds then; it makes no transfer
 abbrev pub EndsAs : (at_full at_more : State → Type 0) → (Value → State → Type 0) → Outcome → State → Type 0
@@ -48,11 +53,26 @@ IsLimited (words w) = ⊤
 IsLimited unlimited = ⊥
 
 -- from a state, with so many levels: a value of which that holds in the store behind; or it is full, where words are limited, or
--- runs out of levels, where they are not enough. These objects are kept.
+-- runs out of levels, where they are not enough. These objects are kept. With a value all of that text is printed; else what
+-- is printed by then may be that.
+abbrev pub GivesPrinting : (MayBePrinted : List ℕ → Type 0) → (printed : List ℕ) → List Object → Limit → (levels enough : ℕ) → State
+    → (Value → List Object → Type 0) → Evaluated → Type 0
+GivesPrinting MayBePrinted printed kept limit levels enough z Q r =
+    Ends (λ after. IsLimited limit × KeepsPrinting MayBePrinted kept z after) (λ after. (levels < enough) × KeepsPrinting MayBePrinted kept z after)
+    (λ v after. KeepsPrinting (λ text. text ≡ printed) kept z after × Q v after.store) r
+
+-- behind a text a beginning of another one
+abbrev pub IsBegun : (before whole : List ℕ) → List ℕ → Type 0
+IsBegun before whole text = (begun : List ℕ) × (others : List ℕ) × (text ≡ before ++ begun) × (begun ++ others ≡ whole)
+
+-- with a value that text is printed, and else a beginning of it
+abbrev pub Prints : List Object → Limit → (levels enough : ℕ) → State → (whole : List ℕ) → Evaluated → Type 0
+Prints kept limit levels enough z whole r =
+    GivesPrinting (IsBegun z.printed whole) (z.printed ++ whole) kept limit levels enough z (λ v store. ⊤) r
+
+-- the same, where nothing is printed
 abbrev pub GivesKeeping : List Object → Limit → (levels enough : ℕ) → State → (Value → List Object → Type 0) → Evaluated → Type 0
-GivesKeeping kept limit levels enough z Q r =
-    Ends (λ after. IsLimited limit × Keeps kept z after) (λ after. (levels < enough) × Keeps kept z after)
-    (λ v after. Keeps kept z after × Q v after.store) r
+GivesKeeping kept limit levels enough z Q r = GivesPrinting (λ text. text ≡ z.printed) z.printed kept limit levels enough z Q r
 
 -- the same, where all objects that were there are kept
 abbrev pub Gives : Limit → (levels enough : ℕ) → State → (Value → List Object → Type 0) → Evaluated → Type 0
@@ -72,6 +92,18 @@ HasLiteral program id content = (place : Place) × (slice_get program.literals i
 
 abbrev pub HasTruth : ProgramRows → ℕ → Type 0
 HasTruth program id = (x : Symbol) × HasLiteral program id (datum.symbol x)
+
+-- the literal is that string, and the object that stands for it is still there as it was made
+pub record HasText (names : List (List ℕ)) (program : ProgramRows) (store : List Object) (id : ℕ) (bytes : List ℕ) : Type 0 where
+  pub place : Place
+  pub number : ℕ
+  pub row : slice_get program.literals id ≡ Some (row.Datum (datum.item place (datum.string bytes)))
+  pub is : literal_value names program id (datum.item place (datum.string bytes)) ≡ object number
+  pub there : slice_get store number ≡ Some (string bytes)
+
+-- the value is the standard output
+abbrev pub IsOutput : List Object → Value → Type 0
+IsOutput store v = (i : ℕ) × (v ≡ object i) × (slice_get store i ≡ Some output_stream)
 
 -- the name is that of a function which is this procedure
 pub record IsNamed (names : List (List ℕ)) (program : ProgramRows) (name : ℕ) (procedure : Procedure) : Type 0 where

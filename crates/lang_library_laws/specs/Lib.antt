@@ -1,5 +1,10 @@
 pub mod Lists
+pub mod Decimal
+pub mod Structures
 pub mod Applications
 pub mod ListBodies
+pub mod NumberBodies
+pub mod EqualBodies
+pub mod Pieces
 pub mod Laws
 pub mod Worked

@@ -42,6 +42,10 @@ if_form truth test f g = clauses (clause_of test f (else_clause truth g))
 abbrev pub or_form : (truth : ℕ) → Form → Form → Form
 or_form truth f g = clauses (clause_and f no_body (else_clause truth g))
 
+-- (and f g), which is (cond (f g))
+abbrev pub and_form : Form → Form → Form
+and_form f g = clauses (clause_of f g no_clause)
+
 -- (defun %turn-copy-onto (list end)
 --   (while (not (null list))
 --     (setq end (cons (car list) end))
@@ -79,6 +83,52 @@ turn_loop v = while_form (not_null (local v)) (turn_turn v)
 
 abbrev pub turn_onto : Option Name → ℕ → Procedure
 turn_onto name v = a_procedure name (v ∷ (v + 1) ∷ []) (sequence (two (turn_loop v) (local (v + 1))))
+
+-- (defun %append-all (lists ends-in-list)
+--   (let ((front nil))
+--     (while (not (or (null lists) (null (cdr lists))))
+--       (setq front (%turn-copy-onto (car lists) front))
+--       (setq lists (cdr lists)))
+--     (cond ((null lists) nil)
+--           ((and ends-in-list (not (consp (car lists))) (not (null (car lists))))
+--            (%domain-error (car lists) (class <list>)))
+--           (t (%turn-onto front (car lists))))))
+-- The literals are those of nil, t, nil, the class and t.
+abbrev pub append_test : ℕ → (truth : ℕ) → Form
+append_test v truth = not_form (or_form truth (prim IsNull (one (local v))) (prim IsNull (one (prim Cdr (one (local v))))))
+
+abbrev pub append_turn : ℕ → (turn_copy : ℕ) → Form
+append_turn v turn_copy =
+    sequence (two
+    (set_local (v + 2) (call turn_copy (two (prim Car (one (local v))) (local (v + 2)))))
+    (set_local v (prim Cdr (one (local v)))))
+
+abbrev pub is_no_list : Form → Form
+is_no_list f = and_form (not_form (prim IsCons (one f))) (not_null f)
+
+abbrev pub append_end : ℕ → (nothing list_class truth turn_onto domain_error : ℕ) → Form
+append_end v nothing list_class truth turn_onto domain_error =
+    clauses (clause_of (prim IsNull (one (local v))) (literal nothing)
+    (clause_of (and_form (local (v + 1)) (is_no_list (prim Car (one (local v)))))
+    (call domain_error (two (prim Car (one (local v))) (literal list_class)))
+    (else_clause truth (call turn_onto (two (local (v + 2)) (prim Car (one (local v))))))))
+
+abbrev pub append_body : ℕ → (truth nothing list_class truth' turn_copy turn_onto domain_error : ℕ) → Form
+append_body v truth nothing list_class truth' turn_copy turn_onto domain_error =
+    sequence (two (while_form (append_test v truth) (append_turn v turn_copy)) (append_end v nothing list_class truth' turn_onto domain_error))
+
+abbrev pub append_form : ℕ → (no_items truth nothing list_class truth' turn_copy turn_onto domain_error : ℕ) → Form
+append_form v no_items truth nothing list_class truth' turn_copy turn_onto domain_error =
+    let_form (binding_and (v + 2) (literal no_items) no_binding) (append_body v truth nothing list_class truth' turn_copy turn_onto domain_error)
+
+abbrev pub append_all : Option Name → ℕ → (no_items truth nothing list_class truth' turn_copy turn_onto domain_error : ℕ) → Procedure
+append_all name v no_items truth nothing list_class truth' turn_copy turn_onto domain_error =
+    a_procedure name (v ∷ (v + 1) ∷ []) (sequence (one (append_form v no_items truth nothing list_class truth' turn_copy turn_onto domain_error)))
+
+-- (defun append (:rest lists) (%append-all lists t))
+abbrev pub append_function : Option Name → ℕ → (append_all ends_in_list : ℕ) → Procedure
+append_function name v append_all ends_in_list =
+    record { name = name; required = []; rest = Some v; body = sequence (one (call append_all (two (local v) (literal ends_in_list)))) }
 
 -- (defun reverse (list) (%turn-copy-onto list nil))
 abbrev pub reverse_function : Option Name → ℕ → (turn_copy_onto no_items : ℕ) → Procedure

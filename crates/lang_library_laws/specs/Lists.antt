@@ -1,5 +1,5 @@
 -- How a proper list lies in the store (ISO/IEC 13816:2007, 21).
-use Rattle.std.specs.Prelude.{◌≡◌, ◌≤◌, ⊤, ℕ, zero, suc, List, [], ◌∷◌, Some, slice_get, if◌then◌else◌}
+use Rattle.std.specs.Prelude.{◌≡◌, ◌≤◌, ⊤, ℕ, zero, suc, List, [], ◌∷◌, ◌++◌, Some, slice_get, if◌then◌else◌}
 use Rattle.lang_meaning.specs.Values.{Value, nil, object, same}
 use Rattle.lang_meaning.specs.Objects.{Object, cons}
 
@@ -13,6 +13,15 @@ IsListFrom first store v (x ∷ xs) =
 -- a proper list of these items, whatever objects its conses are
 abbrev pub IsProperList : List Object → Value → List Value → Type 0
 IsProperList = IsListFrom 0
+
+-- proper lists, each with its items, and the items of all of them
+abbrev pub AreProperLists : List Object → List (Value × List Value) → Type 0
+AreProperLists store [] = ⊤
+AreProperLists store (l ∷ ls) = IsProperList store l.0 l.1 × AreProperLists store ls
+
+abbrev pub joined : List (Value × List Value) → List Value
+joined [] = []
+joined (l ∷ ls) = l.1 ++ joined ls
 
 -- the value behind so many conses of a list
 abbrev pub IsBehind : List Object → ℕ → Value → Value → Type 0

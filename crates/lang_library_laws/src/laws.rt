@@ -1,6 +1,6 @@
 // What functions of the library give for all proper lists, as the contracts of functions that do nothing.
 
-ghost use Rattle.lang_library_laws.specs.Laws.{LawOfAssoc, LawOfEnough, LawOfLength, LawOfList, LawOfMember, LawOfReverse};
+ghost use Rattle.lang_library_laws.specs.Laws.{LawOfAlike, LawOfAppend, LawOfAssoc, LawOfDigits, LawOfEnough, LawOfEqual, LawOfLength, LawOfList, LawOfMember, LawOfReverse, LawOfStringEqual};
 ghost use Rattle.lang_library_laws.specs.Worked.{IsMet, Works};
 
 /// What a law says that an application gives, it gives where words are unlimited and levels are enough.
@@ -37,4 +37,29 @@ pub fn law_assoc()
 pub fn worked_functions()
     ensures is_met { IsMet }
     ensures works { Works }
+{}
+
+/// The law of `append`: of proper lists it gives a list of the items of all of them, one after another.
+pub fn law_append()
+    ensures { LawOfAppend }
+{}
+
+/// The law of the digits of an integer: they are printed, behind a minus sign where it is below 0.
+pub fn law_digits()
+    ensures { LawOfDigits }
+{}
+
+/// The law of `string=`: it says whether two strings have the same characters.
+pub fn law_string_equal()
+    ensures { LawOfStringEqual }
+{}
+
+/// Structures that are alike are equal.
+pub fn law_alike()
+    ensures { LawOfAlike }
+{}
+
+/// The law of `equal`: it says whether two finite data are equal.
+pub fn law_equal()
+    ensures { LawOfEqual }
 {}
