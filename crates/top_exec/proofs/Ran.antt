@@ -48,8 +48,7 @@ module _ (image : Image) (arena steps : ℕ) (old new : Counted) (o o' : Outside
       let count : new.count ≡ (run_from steps (first old.state input)).at.executed = omega (arith, stands.count, r.counted) in
       subst
       (λ (s : State). EndsAs (run_from steps (first s input)) e × SaysAll input (run_from steps (first s input)).at o.left o'.left (sent_to o.given o.writes o'.given o'.writes))
-      r.began
-      (
+      r.began (
         record {
           ending = r.is_ending plain input there;
           site = site_is ∙ ap (λ (s : State). slice_index s.registers 11) stands.state;

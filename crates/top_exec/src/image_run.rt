@@ -45,6 +45,7 @@ pub fn run_image<S: Source, O: Sink>(
     ensures fault { IfOk result (λ end. FaultTells end.ending (Rose (S.faults input.old) (S.faults input.new))
         (Rose (O.faults out.old) (O.faults out.new))) }
     ensures same { OnErr result ((out.new ≡ out.old) × (input.new ≡ input.old)) }
+    ensures count { O.faults out.old ≤ O.faults out.new }
 {
     let mut machine = started(alloc, image, bounds.arena)?;
     let ending = machine.run(bounds.steps as u64, input, out);

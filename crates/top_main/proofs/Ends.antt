@@ -1,9 +1,10 @@
 -- How the status that is answered comes from the answer to the words.
-use Rattle.std.proofs.Common.{◌≡◌, ◌≢◌, ℕ, List, [], refl, sym, ap, subst, ◌∙◌, ◌⊎◌, inl, inr, Some, None}
-use Rattle.std.specs.Prelude.{Option, ⊤, length}
+use Rattle.std.proofs.Common.{◌≡◌, ◌≢◌, ℕ, List, [], ◌∷◌, ◌++◌, refl, sym, ap, subst, ◌∙◌, ◌⊎◌, inl, inr, Some, None}
+use Rattle.std.specs.Prelude.{Option, ⊤, length, codes}
 use Rattle.base.specs.Given.{WasGiven, WasGivenFront}
 use Rattle.base.specs.declared.place.Place.{Place}
 use Rattle.base.specs.declared.reason.Refusal.{Refusal}
+use Rattle.rv_machine.specs.Ends.{trap_number}
 use Rattle.rv_machine.specs.declared.ending.TrapKind.{TrapKind}
 use Rattle.rv_machine.specs.declared.image.Image.{Image}
 use Rattle.rv_image_file.specs.declared.faults.BadImage.{BadImage as ImageFault}
@@ -16,7 +17,7 @@ use Rattle.top_lines.specs.declared.status.Status.{Status}
 use Rattle.top_lines.specs.declared.status.Status.TheVariants.{Done, Unhandled, Usage, Refused, ArenaFull, Budget, FileFault, ReadFault, WriteFault, NoMemory, BadImage, Trap}
 use Rattle.top_lines.specs.declared.status.CommandAnswer.{CommandAnswer}
 use Rattle.top_lines.specs.declared.status.CommandAnswer.TheVariants as answer
-use Rattle.top_lines.specs.Lines.{line_of, status_of, unhandled_line, budget_line, refused_line, arena_full_line, spent_line, file_fault_line, read_fault_line, no_memory_line, bad_image_line}
+use Rattle.top_lines.specs.Lines.{line_of, status_of, unhandled_line, budget_line, refused_line, arena_full_line, spent_line, file_fault_line, read_fault_line, no_memory_line, bad_image_line, labelled, site_text}
 use Rattle.top_exec.specs.Runs.{Sent}
 use Rattle.top_exec.specs.Executes.{ExecAnswers, Executes}
 use Rattle.top_main.specs.Answers.{WriteAnswers, FileAnswers, was_ended, was_plain, was_check, was_build, was_exec, WordsAnswers, was_usage, was_untold, was_asked}
@@ -32,6 +33,11 @@ first_status : (a : CommandAnswer) (r : Status) → (a ≡ answer.Usage) ⊎ (a 
 first_status a r (inl e) (inl k) = inl (k ∙ ap status_of e)
 first_status a r (inr e) (inl k) = inr (inr (k ∙ ap status_of e))
 first_status a r w (inr k) = inr (inl k)
+
+-- a line is not empty
+line_some : (text : List ℕ) → text ++ 10 ∷ [] ≢ []
+line_some [] e = cc
+line_some (x ∷ xs) e = cc
 
 -- the words of a call, the shelf that they name files of, the image that is kept, what is left of the input and what the output was sent, and where
 -- the shelf, the input and the output rose in faults or are the same
@@ -346,7 +352,7 @@ module _ (v : View) where
   class_untold ErrRises class site f (is_written c is i h) = absurd h
   class_untold ErrRises class site f (is_ended c is h) = absurd h
   class_untold ErrRises class site f (is_executed c is x k h) =
-      inr (inr (f, image_untold (answer.UnhandledClass class site) (λ no. cc) (executed v c (answer.UnhandledClass class site) is x k h)))
+      inr (inr (f, image_untold (answer.UnhandledClass class site) (line_some (labelled (codes "unhandled class ") class ++ site_text site)) (executed v c (answer.UnhandledClass class site) is x k h)))
 
   full_untold : (ErrRises : Type 0) (wanted room : ℕ) → ErrRises → Heard v (answer.ArenaFull wanted room) → Faults ErrRises
   full_untold ErrRises wanted room f (is_usage e none same) = inl (f, same)
@@ -388,7 +394,7 @@ module _ (v : View) where
   trap_untold ErrRises kind address f (is_written c is i h) = absurd h
   trap_untold ErrRises kind address f (is_ended c is h) = absurd h
   trap_untold ErrRises kind address f (is_executed c is x k h) =
-      inr (inr (f, image_untold (answer.Trap kind address) (λ no. cc) (executed v c (answer.Trap kind address) is x k h)))
+      inr (inr (f, image_untold (answer.Trap kind address) (line_some (labelled (codes "trap ") (trap_number kind) ++ labelled (codes " ") address)) (executed v c (answer.Trap kind address) is x k h)))
 
   by_line : (ErrRises : Type 0) → ErrRises → Wanting v → Faults ErrRises
   by_line ErrRises f (inl same) = inl (f, same)

@@ -1,6 +1,7 @@
 -- From the answer of a run to that of `make`, which tells the counts behind a value.
-use Rattle.std.proofs.Common.{◌≡◌, ◌≢◌, ℕ, List, length, refl, sym, ap, subst, ◌∙◌, ◌⊎◌, inl, inr, Some, None}
+use Rattle.std.proofs.Common.{◌≡◌, ◌≢◌, ℕ, ◌≤◌, ◌<◌, List, length, refl, sym, ap, subst, ◌∙◌, ◌⊎◌, inl, inr, Some, None, arith}
 use Rattle.std.specs.Prelude.{Option}
+use Rattle.base.specs.Outside.{Rose}
 use Rattle.base.specs.Given.{WasGiven, WasGivenFront}
 use Rattle.base.specs.declared.place.Place.{Place}
 use Rattle.rv_machine.specs.declared.image.Image.{Image}
@@ -85,7 +86,7 @@ module _ (n : ℕ) (names : List (List ℕ)) (program : ProgramRows) (kept : Opt
   of_other (answer.Trap kind address) other h = absurd h
 
 -- the counts were told behind a value: the output was sent what the run printed, and then these
-module _ (n : ℕ) (names : List (List ℕ)) (program : ProgramRows) (kept : Option Image) (arena steps : ℕ) (left left' : Option (List ℕ)) (before : Option (List ℕ)) (writes_before : ℕ) (between : Option (List ℕ)) (writes_between : ℕ) (after : Option (List ℕ)) (writes_after : ℕ) (SourceRises Rises Same : Type 0) where
+module _ (n : ℕ) (names : List (List ℕ)) (program : ProgramRows) (kept : Option Image) (arena steps : ℕ) (left left' : Option (List ℕ)) (before : Option (List ℕ)) (writes_before : ℕ) (between : Option (List ℕ)) (writes_between : ℕ) (after : Option (List ℕ)) (writes_after : ℕ) (SourceRises Fails Rises Same : Type 0) (rise : Fails → Rises) where
   counts : (Given : Option (List ℕ) → List ℕ → Option (List ℕ) → Type 0) (run : ProgramRun) → run.answer ≡ answer.Done → IsCounted kept arena steps left run
       → RunCame names program kept arena steps left left' (sent_to before writes_before between writes_between) endings.Value
       → Given between (counts_line (program_nodes program) run.words run.executed) after
@@ -104,10 +105,10 @@ module _ (n : ℕ) (names : List (List ℕ)) (program : ProgramRows) (kept : Opt
   -- so that is answered
   of_counts : (a : CommandAnswer) (run : ProgramRun) → run.answer ≡ answer.Done → IsCounted kept arena steps left run
       → RunCame names program kept arena steps left left' (sent_to before writes_before between writes_between) endings.Value
-      → BytesAnswers a (counts_line (program_nodes program) run.words run.executed) between after Rises
+      → BytesAnswers a (counts_line (program_nodes program) run.words run.executed) between after Fails
       → ProgramAnswers a (Make n) names program kept arena steps left left' (sent_to before writes_before after writes_after) SourceRises Rises Same
   of_counts answer.Done run done counted ran h = counts WasGiven run done counted ran h
-  of_counts answer.WriteFault run done counted ran h = (h.0, inr (counts WasGivenFront run done counted ran h.1))
+  of_counts answer.WriteFault run done counted ran h = (rise h.0, inr (counts WasGivenFront run done counted ran h.1))
   of_counts (answer.Unhandled class site) run done counted ran h = absurd h
   of_counts (answer.ArenaFull wanted room) run done counted ran h = absurd h
   of_counts (answer.Budget m) run done counted ran h = absurd h
@@ -124,8 +125,13 @@ module _ (n : ℕ) (names : List (List ℕ)) (program : ProgramRows) (kept : Opt
   -- a run that came to a value
   pub of_value : (a : CommandAnswer) (run : ProgramRun) (ThenRises ThenSame : Type 0) → run.answer ≡ answer.Done → IsCounted kept arena steps left run
       → ProgramAnswers run.answer Run names program kept arena steps left left' (sent_to before writes_before between writes_between) SourceRises ThenRises ThenSame
-      → BytesAnswers a (counts_line (program_nodes program) run.words run.executed) between after Rises
+      → BytesAnswers a (counts_line (program_nodes program) run.words run.executed) between after Fails
       → ProgramAnswers a (Make n) names program kept arena steps left left' (sent_to before writes_before after writes_after) SourceRises Rises Same
   of_value a run ThenRises ThenSame done counted ran h =
       let P : CommandAnswer → Type 0 = λ x. ProgramAnswers x Run names program kept arena steps left left' (sent_to before writes_before between writes_between) SourceRises ThenRises ThenSame in
       of_counts a run done counted (subst P done ran) h
+
+-- a count that rose in the second of two calls rose in both
+pub rose_later : (old between new : ℕ) → old ≤ between → Rose between new → Rose old new
+rose_later old between new first (inl rose) = inl (omega arith)
+rose_later old between new first (inr most) = inr most

@@ -91,8 +91,7 @@ of_large names program image wanted arena steps left left' sent SourceRises Rise
     )
 
 -- an answer, where each thing that it may tell is told in other words
-module _ {Ends Ends' : EvaluationEnd → Type 0} {Signals Signals' : List ℕ → Place → Type 0} {Large Large' : ℕ → ℕ → Type 0} {Breaks Breaks' : Type 0} {Bad Bad' : Refusal → Type 0} {ShelfRises ShelfRises' SourceRises Rises Same Unkept Unkept' : Type 0}
-    (ends : (end : EvaluationEnd) → Ends end → Ends' end) (signals : (name : List ℕ) (site : Place) → Signals name site → Signals' name site) (large : (wanted room : ℕ) → Large wanted room → Large' wanted room) (breaks : Breaks → Breaks') (bad : (r : Refusal) → Bad r → Bad' r) (shelf : ShelfRises → ShelfRises') (unkept : Unkept → Unkept') where
+module _ (Ends Ends' : EvaluationEnd → Type 0) (Signals Signals' : List ℕ → Place → Type 0) (Large Large' : ℕ → ℕ → Type 0) (Breaks Breaks' : Type 0) (Bad Bad' : Refusal → Type 0) (ShelfRises ShelfRises' SourceRises Rises Same Unkept Unkept' : Type 0) (ends : (end : EvaluationEnd) → Ends end → Ends' end) (signals : (name : List ℕ) (site : Place) → Signals name site → Signals' name site) (large : (wanted room : ℕ) → Large wanted room → Large' wanted room) (breaks : Breaks → Breaks') (bad : (r : Refusal) → Bad r → Bad' r) (shelf : ShelfRises → ShelfRises') (unkept : Unkept → Unkept') where
   pub retold : (a : CommandAnswer) (steps : ℕ) → EndedAnswers a steps Ends Signals Large Breaks Bad ShelfRises SourceRises Rises Same Unkept → EndedAnswers a steps Ends' Signals' Large' Breaks' Bad' ShelfRises' SourceRises Rises Same Unkept'
   retold answer.Done steps h = ends endings.Value h
   retold (answer.Unhandled class site) steps h = signals class site h
@@ -147,17 +146,14 @@ module _ (action : Action) (held : Option (List ℕ)) (text : List ℕ) (whole :
   breaks : ProgramBreaks action whole.names whole.program kept arena steps left left' sent → (action ≡ Plain) × FileBreaks action held kept arena steps left left' sent
   breaks h = (h.is_plain, record { text = text; is_text = is_text; whole = whole; unbuilt = h.unbuilt; breaks_off = h.breaks_off })
 
-  offends : (r : Refusal) → ⊥ → Offends action held r
-  offends r h = absurd h
-
-  shelf : ⊥ → ShelfRises
-  shelf h = absurd h
-
-  unkept : ⊥ → kept ≡ None
-  unkept h = absurd h
-
   pub of_program : (a : CommandAnswer) → OfProgram a → OfFile a
-  of_program a h = retold ends signals large breaks offends shelf unkept a steps h
+  of_program a h =
+      retold (Came action whole.names whole.program kept arena steps left left' sent) (FileEnds action held kept arena steps left left' sent)
+      (ProgramSignals action whole.names whole.program kept arena steps left left' sent) (FileSignals action held kept arena steps left left' sent)
+      (ProgramIsLarge action whole.names whole.program kept arena) (FileIsLargeSo action held kept arena)
+      (ProgramBreaks action whole.names whole.program kept arena steps left left' sent) ((action ≡ Plain) × FileBreaks action held kept arena steps left left' sent)
+      (λ r. ⊥) (Offends action held) ⊥ ShelfRises SourceRises Rises Same ⊥ (kept ≡ None)
+      ends signals large breaks (λ r x. absurd x) (λ x. absurd x) (λ x. absurd x) a steps h
 
 -- the text is none
 pub of_stop : (a : CommandAnswer) (s : Stop) (action : Action) (m : Mode) (held : Option (List ℕ)) (text : List ℕ) (kept : Option Image) (arena steps : ℕ) (left left' : Option (List ℕ)) (sent : Sent) (ShelfRises SourceRises Rises Same : Type 0)
@@ -176,23 +172,23 @@ module _ (names : List (List ℕ)) (program : ProgramRows) (kept : Option Image)
 
   -- by an action for which a run comes to the same end
   module _ (action : Action) (runs : RunsPrograms action) (ends : (end : EvaluationEnd) → RunCame names program kept arena steps left left' sent end → Came action names program kept arena steps left left' sent end) where
-    signals : (name : List ℕ) (site : Place) → ProgramSignals Run names program kept arena steps left left' sent name site → ProgramSignals action names program kept arena steps left left' sent name site
-    signals name site h = record { class = h.class; came = ends (endings.Unhandled h.class site) h.came; named = h.named }
+    its_signals : (name : List ℕ) (site : Place) → ProgramSignals Run names program kept arena steps left left' sent name site → ProgramSignals action names program kept arena steps left left' sent name site
+    its_signals name site h = record { class = h.class; came = ends (endings.Unhandled h.class site) h.came; named = h.named }
 
-    large : (wanted room : ℕ) → ProgramIsLarge Run names program kept arena wanted room → ProgramIsLarge action names program kept arena wanted room
-    large wanted room h = record { runs = runs; is_large = h.is_large; wanted_is = h.wanted_is; room_is = h.room_is }
+    its_large : (wanted room : ℕ) → ProgramIsLarge Run names program kept arena wanted room → ProgramIsLarge action names program kept arena wanted room
+    its_large wanted room h = record { runs = runs; is_large = h.is_large; wanted_is = h.wanted_is; room_is = h.room_is }
 
-    breaks : ProgramBreaks Run names program kept arena steps left left' sent → ProgramBreaks action names program kept arena steps left left' sent
-    breaks h = let no : Run ≡ Plain = h.is_plain in absurd (cc)
-
-    offends : (r : Refusal) → ⊥ → ⊥
-    offends r h = h
-
-    same : ⊥ → ⊥
-    same h = h
+    its_breaks : ProgramBreaks Run names program kept arena steps left left' sent → ProgramBreaks action names program kept arena steps left left' sent
+    its_breaks h = let no : Run ≡ Plain = h.is_plain in absurd (cc)
 
     pub of_its_run : (a : CommandAnswer) → Answered Run a → Answered action a
-    of_its_run a h = retold ends signals large breaks offends same same a steps h
+    of_its_run a h =
+        retold (RunCame names program kept arena steps left left' sent) (Came action names program kept arena steps left left' sent)
+        (ProgramSignals Run names program kept arena steps left left' sent) (ProgramSignals action names program kept arena steps left left' sent)
+        (ProgramIsLarge Run names program kept arena) (ProgramIsLarge action names program kept arena)
+        (ProgramBreaks Run names program kept arena steps left left' sent) (ProgramBreaks action names program kept arena steps left left' sent)
+        (λ r. ⊥) (λ r. ⊥) ⊥ ⊥ SourceRises Rises Same ⊥ ⊥
+        ends its_signals its_large its_breaks (λ r x. x) (λ x. x) (λ x. x) a steps h
 
   shown : (end : EvaluationEnd) → RunCame names program kept arena steps left left' sent end → Came Show names program kept arena steps left left' sent end
   shown end h = h

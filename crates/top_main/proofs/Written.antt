@@ -19,8 +19,7 @@ use Rattle.top_main.specs.Answers.{Wrote, WrittenAnswers, WriteAnswers, BytesAns
 use Rattle.top_main.specs.Theorem.{library, mode_of, IsTextOf, IsWhole, Offends, IsFileOf, Writes}
 
 -- an answer, where each thing that it may tell is told in other words
-module _ {All All' Front Front' : Type 0} {Bad Bad' : Refusal → Type 0} {ShelfRises ShelfRises' Rises Same Same' Unkept Unkept' : Type 0}
-    (all : All → All') (front : Front → Front') (bad : (r : Refusal) → Bad r → Bad' r) (shelf : ShelfRises → ShelfRises') (same : Same → Same') (unkept : Unkept → Unkept') where
+module _ (All All' Front Front' : Type 0) (Bad Bad' : Refusal → Type 0) (ShelfRises ShelfRises' Rises Same Same' Unkept Unkept' : Type 0) (all : All → All') (front : Front → Front') (bad : (r : Refusal) → Bad r → Bad' r) (shelf : ShelfRises → ShelfRises') (same : Same → Same') (unkept : Unkept → Unkept') where
   pub rewritten : (a : CommandAnswer) → WrittenAnswers a All Front Bad ShelfRises Rises Same Unkept → WrittenAnswers a All' Front' Bad' ShelfRises' Rises Same' Unkept'
   rewritten answer.Done h = all h
   rewritten answer.WriteFault h = (h.0, front h.1)
@@ -37,13 +36,6 @@ module _ {All All' Front Front' : Type 0} {Bad Bad' : Refusal → Type 0} {Shelf
   rewritten (answer.BadImage reason) h = absurd h
   rewritten (answer.Trap kind address) h = absurd h
 
--- what cannot be
-never : {A : Type 0} → ⊥ → A
-never h = absurd h
-
-never_bad : {Bad : Refusal → Type 0} (r : Refusal) → ⊥ → Bad r
-never_bad r h = absurd h
-
 -- these bytes were written, which are to be
 module _ (Bytes : List ℕ → Type 0) (bytes : List ℕ) (are : Bytes bytes) (given given' : Option (List ℕ)) where
   wrote : (Given : Option (List ℕ) → List ℕ → Option (List ℕ) → Type 0) → Given given bytes given' → Wrote Bytes Given given given'
@@ -51,7 +43,9 @@ module _ (Bytes : List ℕ → Type 0) (bytes : List ℕ) (are : Bytes bytes) (g
 
   pub of_bytes : (a : CommandAnswer) (Bad : Refusal → Type 0) (ShelfRises Rises Same Unkept : Type 0) → BytesAnswers a bytes given given' Rises
       → WrittenAnswers a (Wrote Bytes WasGiven given given') (Wrote Bytes WasGivenFront given given') Bad ShelfRises Rises Same Unkept
-  of_bytes a Bad ShelfRises Rises Same Unkept h = rewritten (wrote WasGiven) (wrote WasGivenFront) never_bad never never never a h
+  of_bytes a Bad ShelfRises Rises Same Unkept h =
+      rewritten (WasGiven given bytes given') (Wrote Bytes WasGiven given given') (WasGivenFront given bytes given') (Wrote Bytes WasGivenFront given given') (λ r. ⊥) Bad ⊥ ShelfRises Rises ⊥ Same ⊥ Unkept
+      (wrote WasGiven) (wrote WasGivenFront) (λ r x. absurd x) (λ x. absurd x) (λ x. absurd x) (λ x. absurd x) a h
 
 -- the line `ok` of a text that is a whole program
 pub of_ok : (a : CommandAnswer) (held : Option (List ℕ)) (text : List ℕ) (whole : IsWhole Check text) (given given' : Option (List ℕ)) (ShelfRises Rises Same : Type 0) → IsTextOf Check held text
@@ -71,11 +65,11 @@ module _ (held : Option (List ℕ)) (text : List ℕ) (whole : IsWhole Build tex
   builds : (Given : Option (List ℕ) → List ℕ → Option (List ℕ) → Type 0) → Wrote (IsFileOf whole.names whole.program kept) Given given given' → Wrote (Writes Build held kept) Given given given'
   builds Given h = record { bytes = h.bytes; are = record { text = text; is_text = is_text; whole = whole; is_file_of = h.are }; given_so = h.given_so }
 
-  alike : {A : Type 0} → A → A
-  alike h = h
-
   pub of_built : (a : CommandAnswer) (ShelfRises Rises Same : Type 0) → BuildAnswers a whole.names whole.program kept given given' Rises Same → WriteAnswers a Build held kept given given' ShelfRises Rises Same
-  of_built a ShelfRises Rises Same h = rewritten (builds WasGiven) (builds WasGivenFront) never_bad never alike never a h
+  of_built a ShelfRises Rises Same h =
+      rewritten (Wrote (IsFileOf whole.names whole.program kept) WasGiven given given') (Wrote (Writes Build held kept) WasGiven given given')
+      (Wrote (IsFileOf whole.names whole.program kept) WasGivenFront given given') (Wrote (Writes Build held kept) WasGivenFront given given') (λ r. ⊥) (Offends Build held) ⊥ ShelfRises Rises Same Same ⊥ (kept ≡ None)
+      (builds WasGiven) (builds WasGivenFront) (λ r x. absurd x) (λ x. absurd x) (λ x. x) (λ x. absurd x) a h
 
 -- of a text that is none
 pub of_no_program : (a : CommandAnswer) (s : Stop) (action : Action) (held : Option (List ℕ)) (text : List ℕ) (kept : Option Image) (given given' : Option (List ℕ)) (ShelfRises Rises Same : Type 0)
@@ -89,4 +83,7 @@ of_no_program a stop.NoMemory action held text kept given given' ShelfRises Rise
 -- the text was taken of the shelf
 pub of_shelf : (a : CommandAnswer) (action : Action) (held : Option (List ℕ)) (kept : Option Image) (given given' : Option (List ℕ)) (ShelfRises Rises Same : Type 0)
     → WriteAnswers a action held kept given given' ⊥ Rises Same → WriteAnswers a action held kept given given' ShelfRises Rises Same
-of_shelf a action held kept given given' ShelfRises Rises Same h = rewritten (λ x. x) (λ x. x) (λ r x. x) never (λ x. x) (λ x. x) a h
+of_shelf a action held kept given given' ShelfRises Rises Same h =
+    let All : Type 0 = Wrote (Writes action held kept) WasGiven given given' in
+    let Front : Type 0 = Wrote (Writes action held kept) WasGivenFront given given' in
+    rewritten All All Front Front (Offends action held) (Offends action held) ⊥ ShelfRises Rises Same Same (kept ≡ None) (kept ≡ None) (λ x. x) (λ x. x) (λ r x. x) (λ x. absurd x) (λ x. x) (λ x. x) a h

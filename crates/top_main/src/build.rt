@@ -65,12 +65,7 @@ fn build_text<O: Sink>(alloc: Global, text: &[u8], out: &mut O, kept: &mut Kept)
 }
 
 // Compiles a whole program, writes its image and keeps it. A program that is not compiled is answered as want of memory.
-fn build_whole<O: Sink>(
-    alloc: Global,
-    whole: &Whole,
-    out: &mut O,
-    kept: &mut Kept,
-) -> CommandAnswer
+fn build_whole<O: Sink>(alloc: Global, whole: &Whole, out: &mut O, kept: &mut Kept) -> CommandAnswer
     ensures { BuildAnswers result whole.now.names whole.now.program kept.new.image (O.given out.old) (O.given out.new)
         (Rose (O.faults out.old) (O.faults out.new)) (out.new ≡ out.old) }
 {

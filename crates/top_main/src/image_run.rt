@@ -42,26 +42,27 @@ pub(crate) fn run_program<S: Source, O: Sink>(
     ensures fault { IfOk result (λ e. Tells e.end (Rose (S.faults input.old) (S.faults input.new)) (Rose (O.faults out.old) (O.faults out.new))) }
     ensures executed { IfOk result (Executed image.now bounds.arena bounds.steps (S.left input.old)) }
     ensures same { OnErr result ((out.new ≡ out.old) × (input.new ≡ input.old)) }
+    ensures count { O.faults out.old ≤ O.faults out.new }
 {
-    let run = run_image(alloc, image, bounds, input, out)?;
-    let end = end_of(whole, run);
+    let ended = run_image(alloc, image, bounds, input, out)?;
+    let end = end_of(whole, ended);
     Ok(ProgramEnd {
         end,
-        executed: run.executed,
+        executed: ended.executed,
     })
 }
 
 // The end of a program whose image ran and ended so. No run traps that was fed its input, by what is known of
 // images that were built; but of a run that reads an input which the source does not tell, nothing is known. So a trap is answered
 // as a run that goes on, and all that is claimed of that holds of it: there is no input that feeds such a run.
-fn end_of(whole: &Whole, run: ImageEnd) -> EvaluationEnd
-    ensures { result ≡ end_told whole.now.program.sites run.site run.ending }
+fn end_of(whole: &Whole, ended: ImageEnd) -> EvaluationEnd
+    ensures { result ≡ end_told whole.now.program.sites ended.site ended.ending }
 {
-    match run.ending {
+    match ended.ending {
         Ending::Halt(_) => EvaluationEnd::Value,
         Ending::Unhandled(class) => EvaluationEnd::Unhandled {
             class: class as usize,
-            site: place_told(whole, run.site),
+            site: place_told(whole, ended.site),
         },
         Ending::Full { asked, left } => EvaluationEnd::Full {
             asked: asked as u64,

@@ -17,5 +17,4 @@ mod writing;
 pub use kept::Kept;
 pub use laws::law_agree;
 pub use main_call::isl_main;
-pub use top_lines::lines;
-pub use top_lines::{CommandAnswer, Status};
+pub use top_lines::{CommandAnswer, Status, lines};

@@ -208,16 +208,7 @@ fn obey<F: Shelf, S: Source, O: Sink>(
         arena: command.arena,
     };
     let file = command.file.as_str();
-    act(
-        alloc,
-        command.action,
-        bounds,
-        file,
-        shelf,
-        input,
-        out,
-        kept,
-    )
+    act(alloc, command.action, bounds, file, shelf, input, out, kept)
 }
 
 // The action on the file of that name.

@@ -68,20 +68,20 @@ fn make<S: Source, O: Sink>(
         (Rose (S.faults input.old) (S.faults input.new)) (Rose (O.faults out.old) (O.faults out.new))
         ((out.new ≡ out.old) × (input.new ≡ input.old)) }
 {
-    let run = run(alloc, whole, bounds, input, out, kept);
-    made(whole, run, out)
+    let ran = run(alloc, whole, bounds, input, out, kept);
+    made(whole, ran, out)
 }
 
 // The answer of a run, where behind a value the counts are told.
-fn made<O: Sink>(whole: &Whole, run: ProgramRun, out: &mut O) -> CommandAnswer
-    ensures { MadeAnswers result run (program_nodes whole.now.program) (O.given out.old) (O.given out.new)
+fn made<O: Sink>(whole: &Whole, ran: ProgramRun, out: &mut O) -> CommandAnswer
+    ensures { MadeAnswers result ran (program_nodes whole.now.program) (O.given out.old) (O.given out.new)
         (Rose (O.faults out.old) (O.faults out.new)) (out.new ≡ out.old) }
 {
     let ProgramRun {
         answer,
         words,
         executed,
-    } = run;
+    } = ran;
     match answer {
         CommandAnswer::Done => tell_counts(whole.program.nodes(), u64::from(words), executed, out),
         other => other,

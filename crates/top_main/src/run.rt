@@ -83,12 +83,13 @@ pub(crate) fn run<S: Source, O: Sink>(
         (Rose (S.faults input.old) (S.faults input.new)) (Rose (O.faults out.old) (O.faults out.new))
         ((out.new ≡ out.old) × (input.new ≡ input.old)) }
     ensures counted { IsCounted kept.new.image bounds.arena bounds.steps (S.left input.old) result }
+    ensures count { O.faults out.old ≤ O.faults out.new }
 {
     match build(alloc, &whole.program, &whole.names) {
         Ok(image) => {
-            let run = run_built(alloc, whole, &image, bounds, input, out);
+            let ran = run_built(alloc, whole, &image, bounds, input, out);
             kept.image = Some(image);
-            run
+            ran
         }
         Err(_) => ProgramRun {
             answer: CommandAnswer::NoMemory,
@@ -115,6 +116,7 @@ fn run_built<S: Source, O: Sink>(
         (Rose (S.faults input.old) (S.faults input.new)) (Rose (O.faults out.old) (O.faults out.new))
         ((out.new ≡ out.old) × (input.new ≡ input.old)) }
     ensures counted { IsCounted (Some image.now) bounds.arena bounds.steps (S.left input.old) result }
+    ensures count { O.faults out.old ≤ O.faults out.new }
 {
     let words = image.words();
     if bounds.arena < words {
@@ -128,10 +130,10 @@ fn run_built<S: Source, O: Sink>(
         };
     }
     match run_program(alloc, whole, image, bounds, input, out) {
-        Ok(run) => ProgramRun {
-            answer: answer_of(alloc, whole, bounds.steps, run.end),
+        Ok(ended) => ProgramRun {
+            answer: answer_of(alloc, whole, bounds.steps, ended.end),
             words,
-            executed: run.executed,
+            executed: ended.executed,
         },
         Err(NoMemory) => ProgramRun {
             answer: CommandAnswer::NoMemory,

@@ -7,12 +7,12 @@ pub returns-clause-comes : goal.returns-clause-comes
 returns-clause-comes g c =
     let below : c.args.bounds.steps < 4294967296 = omega arith in
     comes c.args.whole.now.names c.args.whole.now.program c.args.image.now c.args.bounds.arena c.args.bounds.steps c.requires.is_image c.requires.fits c.requires.most below _ _ _
-    c.end_of-end.result c.in_ok-run.run c.end_of-end.ensures c.in_ok-run.ensures.comes
+    c.end_of-end.result c.in_ok-ended.ended c.end_of-end.ensures c.in_ok-ended.ensures.comes
 
 pub returns-clause-fault : goal.returns-clause-fault
 returns-clause-fault g c =
-    faults c.args.whole.now.program.sites c.end_of-end.result c.in_ok-run.run _ _ c.end_of-end.ensures c.in_ok-run.ensures.fault
+    faults c.args.whole.now.program.sites c.end_of-end.result c.in_ok-ended.ended _ _ c.end_of-end.ensures c.in_ok-ended.ensures.fault
 
 pub returns-clause-executed : goal.returns-clause-executed
 returns-clause-executed g c = λ value input bytes feeds.
-    executes c.args.whole.now.program.sites _ _ _ _ _ _ c.end_of-end.result c.in_ok-run.run c.end_of-end.ensures c.in_ok-run.ensures.comes value input feeds
+    executes c.args.whole.now.program.sites _ _ _ _ _ _ c.end_of-end.result c.in_ok-ended.ended c.end_of-end.ensures c.in_ok-ended.ensures.comes value input feeds

@@ -14,5 +14,5 @@ returns-in-Ok-read_program g c = λ held.
 
 pub returns : goal.returns
 returns g c = λ held.
-    of_stop c.of_stop.result c.in-Err.stop (Make c.args.number) _ held c.as_slice.result.now _ _ _ _ _ _ _ _ _ _ c.of_stop.ensures refl (c.as_slice.ensures ∙ c.in-Ok.ensures)
-    c.in-Err.ensures.stops (refl, refl) c.requires.empty
+    of_stop c.of_stop.result c.in-Err-read_program.stop (Make c.args.number) _ held c.as_slice.result.now _ _ _ _ _ _ _ _ _ _ c.of_stop.ensures refl (c.as_slice.ensures ∙ c.in-Ok.ensures)
+    c.in-Err-read_program.ensures.stops (refl, refl) c.requires.empty

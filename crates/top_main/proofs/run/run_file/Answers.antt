@@ -16,7 +16,7 @@ returns-in-Ok-read_program g c =
     (record { names = names; program = program; accepts = subst (λ (m : Mode). Accepts library text m names program) c.mode_of.ensures c.in-Ok-read_program.ensures.program })
     _ _ _ _ _ _ _ _ _ _
     (text_taken c.args.action _ text c.requires.runs (subst (IsTextTaken (g.F.Shelf.holds c.args.shelf.now c.args.file.now)) (sym c.as_slice.ensures) c.in-Ok.ensures.taken))
-    _ (of_action names program _ _ _ _ _ _ _ _ _ c.args.action c.requires.runs c.run.result.answer c.run.ensures.answer)
+    _ (of_action names program _ _ _ _ _ _ _ _ _ c.args.action c.requires.runs c.run-answer.result.answer c.run-answer.ensures.answer)
 
 pub returns : goal.returns
 returns g c =
