@@ -2,7 +2,7 @@
 
 ghost use Rattle.std.specs.Prelude.{◌≡◌, ◌⊎◌, drop, map, string_bytes, IfOk, IfErr};
 ghost use Rattle.std.specs.Vec.Iter.{into_iter_items};
-ghost use Rattle.top_main.specs.declared.status.CommandAnswer.TheVariants.{Usage, NoMemory as WantsMemory};
+ghost use Rattle.top_lines.specs.declared.status.CommandAnswer.TheVariants.{Usage, NoMemory as WantsMemory};
 
 use base::Words;
 use std::alloc::Global;

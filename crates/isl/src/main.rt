@@ -3,11 +3,11 @@
 
 ghost use Rattle.std.specs.Prelude.{◌≡◌, ◌≢◌, ◌⊎◌, None};
 ghost use Rattle.std.specs.Process.{exit_status};
-ghost use Rattle.top_main.specs.Command.{asked};
+ghost use Rattle.top_command.specs.Command.{asked};
 ghost use Rattle.base.specs.Given.{WasGiven};
-ghost use Rattle.top_main.specs.Lines.{line_of, number_of, status_of as status_of_answer};
-ghost use Rattle.top_main.specs.declared.status.CommandAnswer.{CommandAnswer as AnswerValue};
-ghost use Rattle.top_main.specs.declared.status.Status.TheVariants.{Usage, WriteFault, NoMemory as WantsMemory};
+ghost use Rattle.top_lines.specs.Lines.{line_of, number_of, status_of as status_of_answer};
+ghost use Rattle.top_lines.specs.declared.status.CommandAnswer.{CommandAnswer as AnswerValue};
+ghost use Rattle.top_lines.specs.declared.status.Status.TheVariants.{Usage, WriteFault, NoMemory as WantsMemory};
 
 mod command_words;
 mod fault_count;

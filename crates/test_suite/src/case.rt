@@ -1,7 +1,7 @@
 // A case of the table, made line by line.
 
 use crate::given::CallInput;
-use crate::text::append;
+use crate::text::{append, append_hex};
 use base::Bytes;
 use std::alloc::Global;
 
@@ -47,6 +47,11 @@ fn take_given(given: &mut CallInput, key: &str, value: &str) -> Option<()> {
     match key {
         "word" => given.words.push(value).ok(),
         "text" => append(&mut given.text, value),
+        "hex" => append_hex(&mut given.text, value),
+        "built" => {
+            given.is_built = true;
+            Some(())
+        }
         "times" => append_times(&mut given.text, value),
         "input" => append(&mut given.input, value),
         "shelf_fails" => given.shelf_fails.push(value.parse().ok()?).ok(),

@@ -2,20 +2,24 @@
 
 use base::{Bytes, CallList, MemShelf, MemSink, MemSource, NoMemory, Words};
 use std::alloc::Global;
+use std::mem;
 use top_main::{Kept, isl_main};
 
 // The name of the one file of the shelf.
 const NAME: &str = "f";
 
-// The bytes that an output keeps.
+// The bytes that an output keeps, and those of an image file.
 const ROOM: usize = 4096;
 
-/// The words, the text of the file `f`, the input, and which calls of the shelf, the input, the output and the
+const FILE_ROOM: usize = 4_194_304;
+
+/// The words, the text of the file `f`, or of the file that is built to be it, the input, and which calls of the shelf, the input, the output and the
 /// error output fail, counted from 0.
 #[derive(Drop)]
 pub struct CallInput {
     pub words: Words,
     pub text: Bytes,
+    pub is_built: bool,
     pub input: Bytes,
     pub shelf_fails: CallList,
     pub input_fails: CallList,
@@ -29,6 +33,7 @@ impl CallInput {
         CallInput {
             words: Words::new(alloc),
             text: Bytes::new(alloc),
+            is_built: false,
             input: Bytes::new(alloc),
             shelf_fails: CallList::new(alloc),
             input_fails: CallList::new(alloc),
@@ -39,16 +44,27 @@ impl CallInput {
 
     /// The call that is given this.
     pub fn call(self, alloc: Global) -> Result<Call, NoMemory> {
+        let mut given = self;
+        if given.is_built {
+            let text = mem::replace(&mut given.text, Bytes::new(alloc));
+            given.text = built(alloc, text);
+        }
+        given.call_with(alloc, ROOM)
+    }
+
+    // The call that is given this, where the output keeps so many bytes.
+    fn call_with(self, alloc: Global, room: usize) -> Result<Call, NoMemory> {
         let CallInput {
             words,
             text,
+            is_built: _,
             input,
             shelf_fails,
             input_fails,
             out_fails,
             err_fails,
         } = self;
-        let Ok(outputs) = outputs(alloc, out_fails, err_fails) else {
+        let Ok(outputs) = outputs(alloc, room, out_fails, err_fails) else {
             drop((words, input));
             drop((text, shelf_fails));
             drop(input_fails);
@@ -70,13 +86,14 @@ impl CallInput {
     }
 }
 
-// The output and the error output.
+// The output, which keeps so many bytes, and the error output.
 fn outputs(
     alloc: Global,
+    room: usize,
     out_fails: CallList,
     err_fails: CallList,
 ) -> Result<(MemSink, MemSink), NoMemory> {
-    let Ok(out) = MemSink::new(alloc, ROOM, out_fails) else {
+    let Ok(out) = MemSink::new(alloc, room, out_fails) else {
         drop(err_fails);
         return Err(NoMemory);
     };
@@ -85,6 +102,27 @@ fn outputs(
         return Err(NoMemory);
     };
     Ok((out, err))
+}
+
+// What `build` gives of the file of that text; nothing where it does not end well.
+fn built(alloc: Global, text: Bytes) -> Bytes {
+    let mut given = CallInput::nothing(alloc);
+    given.text = text;
+    if given.words.push("build").is_err() || given.words.push(NAME).is_err() {
+        drop(given);
+        return Bytes::new(alloc);
+    }
+    let Ok(mut call) = given.call_with(alloc, FILE_ROOM) else {
+        return Bytes::new(alloc);
+    };
+    let status = call.make(alloc);
+    let bytes = if status == 0 { call.out.bytes() } else { b"" };
+    let file = Bytes::from_slice(alloc, bytes);
+    drop(call);
+    match file {
+        Ok(file) => file,
+        Err(NoMemory) => Bytes::new(alloc),
+    }
 }
 
 // The shelf with the file of that text.

@@ -1,5 +1,7 @@
 // Bytes as the table writes them.
 
+ghost use Rattle.std.specs.Prelude.{◌<◌, IfSome};
+
 use base::Bytes;
 
 /// Appends the bytes that this text stands for: `\n` is byte 10, `\t` byte 9, `\s` a blank, and a
@@ -24,5 +26,39 @@ fn read(letter: u8, is_escaped: bool) -> u8 {
         (true, b't') => b'\t',
         (true, b's') => b' ',
         _ => letter,
+    }
+}
+
+/// Appends the bytes of these hexadecimal digits, two a byte, with blanks between them. None where there are other
+/// letters, or memory was wanting.
+pub fn append_hex(bytes: &mut Bytes, text: &str) -> Option<()> {
+    let mut high = None;
+    for letter in text.as_bytes() {
+        if *letter == b' ' {
+            continue;
+        }
+        let digit = digit_of(*letter)?;
+        match high {
+            None => high = Some(digit),
+            Some(first) => {
+                bytes.push(first * 16 + digit).ok()?;
+                high = None;
+            }
+        }
+    }
+    match high {
+        None => Some(()),
+        Some(_) => None,
+    }
+}
+
+// The number of a hexadecimal digit.
+fn digit_of(letter: u8) -> Option<u8>
+    ensures { IfSome result (λ d. d < 16) }
+{
+    match letter {
+        b'0'..=b'9' => Some(letter - b'0'),
+        b'A'..=b'F' => Some(letter - b'A' + 10),
+        _ => None,
     }
 }

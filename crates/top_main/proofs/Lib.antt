@@ -1,10 +1,8 @@
-pub mod Loading
-pub mod Digits
-pub mod Decimals
 pub mod WordOf
 pub mod Seen
 pub mod Ran
-pub mod Checks
 pub mod Outcomes
+pub mod Made
+pub mod Written
 pub mod Ends
-pub mod CommandLine
+pub mod Agreement

@@ -1,19 +1,28 @@
 -- From the end of a run or of an evaluation to the answer for the program, and for its file.
 use Rattle.std.proofs.Common.{◌≡◌, ℕ, ◌<◌, ◌≤◌, List, length, refl, sym, subst, inl, inr, Some, None}
 use Rattle.std.specs.Prelude.{Option}
+use Rattle.base.specs.declared.place.Place.{Place}
 use Rattle.rv_machine.specs.declared.image.Image.{Image}
 use Rattle.lang_meaning.specs.declared.program.ProgramRows.{ProgramRows}
 use Rattle.lang_meaning.specs.declared.evaluation.EvaluationEnd.{EvaluationEnd}
 use Rattle.lang_meaning.specs.declared.evaluation.EvaluationEnd.TheVariants as endings
 use Rattle.lang_meaning.specs.Evaluates.{Evaluates, BreaksOff, Tells}
-use Rattle.top_main.specs.declared.command.Action.{Action}
-use Rattle.top_main.specs.declared.command.Action.TheVariants.{Run, Plain}
-use Rattle.top_main.specs.declared.status.CommandAnswer.{CommandAnswer}
-use Rattle.top_main.specs.declared.status.CommandAnswer.TheVariants as answer
+use Rattle.top_command.specs.declared.command.Action.{Action}
+use Rattle.top_command.specs.declared.command.Action.TheVariants.{Run, Show, Check, Build, Exec, Plain, Make}
+use Rattle.top_lines.specs.declared.status.CommandAnswer.{CommandAnswer}
+use Rattle.top_lines.specs.declared.status.CommandAnswer.TheVariants as answer
 use Rattle.top_main.specs.Images.{IsImageOf}
-use Rattle.top_main.specs.Answers.{EndAnswers, ProgramAnswers, FileAnswers}
-use Rattle.top_main.specs.Loads.{IsTextTaken}
-use Rattle.top_main.specs.Theorem.{Sent, IsWhole, Came, RunComes, FileEnds}
+use Rattle.base.specs.declared.reason.Refusal.{Refusal}
+use Rattle.base.specs.declared.reason.Stop.{Stop}
+use Rattle.base.specs.declared.reason.Stop.TheVariants as stop
+use Rattle.front_files.specs.declared.mode.Mode.{Mode}
+use Rattle.front_files.specs.Verdicts.{IsNoProgram}
+use Rattle.top_command.specs.Command.{Request}
+use Rattle.top_exec.specs.Loads.{IsTextTaken}
+use Rattle.top_exec.specs.Runs.{Sent}
+use Rattle.top_lines.specs.Lines.{answer_of_stop}
+use Rattle.top_main.specs.Answers.{EndAnswers, EndedAnswers, ProgramSignals, ProgramIsLarge, ProgramBreaks, ProgramAnswers, FileSignals, FileIsLargeSo, FileAnswers, RunsFiles, Obeys, was_ended}
+use Rattle.top_main.specs.Theorem.{library, mode_of, IsTextOf, IsWhole, Offends, RunCame, Came, RunsPrograms, MakesText, RunComes, FileEnds, FileBreaks}
 
 -- the answer of an end is that of the program that came to it
 pub of_end : (a : CommandAnswer) (end : EvaluationEnd) (action : Action) (names : List (List ℕ)) (program : ProgramRows) (kept : Option Image) (arena steps : ℕ) (left left' : Option (List ℕ)) (sent : Sent) (SourceRises Rises Same : Type 0)
@@ -73,7 +82,7 @@ pub of_large : (names : List (List ℕ)) (program : ProgramRows) (image : Image)
 of_large names program image wanted arena steps left left' sent SourceRises Rises Same is_image wanted_is large same =
     inr (
       record {
-        is_run = refl;
+        runs = tt;
         is_large = record { built = record { image = image; is_kept = refl; is_image = is_image }; large = subst (λ n. arena < n) wanted_is large };
         wanted_is = wanted_is;
         room_is = refl;
@@ -81,8 +90,39 @@ of_large names program image wanted arena steps left left' sent SourceRises Rise
       same,
     )
 
--- the text that is a whole program was taken of the file
-module _ (action : Action) (held : Option (List ℕ)) (text : List ℕ) (whole : IsWhole text) (kept : Option Image) (arena steps : ℕ) (left left' : Option (List ℕ)) (sent : Sent) (ShelfRises SourceRises Rises Same : Type 0) (taken : IsTextTaken held text) where
+-- an answer, where each thing that it may tell is told in other words
+module _ (Ends Ends' : EvaluationEnd → Type 0) (Signals Signals' : List ℕ → Place → Type 0) (Large Large' : ℕ → ℕ → Type 0) (Breaks Breaks' : Type 0) (Bad Bad' : Refusal → Type 0) (ShelfRises ShelfRises' SourceRises Rises Same Unkept Unkept' : Type 0) (ends : (end : EvaluationEnd) → Ends end → Ends' end) (signals : (name : List ℕ) (site : Place) → Signals name site → Signals' name site) (large : (wanted room : ℕ) → Large wanted room → Large' wanted room) (breaks : Breaks → Breaks') (bad : (r : Refusal) → Bad r → Bad' r) (shelf : ShelfRises → ShelfRises') (unkept : Unkept → Unkept') where
+  pub retold : (a : CommandAnswer) (steps : ℕ) → EndedAnswers a steps Ends Signals Large Breaks Bad ShelfRises SourceRises Rises Same Unkept → EndedAnswers a steps Ends' Signals' Large' Breaks' Bad' ShelfRises' SourceRises Rises Same Unkept'
+  retold answer.Done steps h = ends endings.Value h
+  retold (answer.Unhandled class site) steps h = signals class site h
+  retold (answer.ArenaFull wanted room) steps (inl h) = inl (ends (endings.Full wanted room) h)
+  retold (answer.ArenaFull wanted room) steps (inr h) = inr (large wanted room h.0, h.1)
+  retold (answer.Budget n) steps h = (h.0, ends endings.More h.1)
+  retold answer.Spent steps h = ends endings.Spent h
+  retold answer.ReadFault steps h = (h.0, ends endings.ReadFault h.1)
+  retold answer.WriteFault steps h = (h.0, ends endings.WriteFault h.1)
+  retold (answer.Refused r) steps h = (bad r h.0, (h.1.0, unkept h.1.1))
+  retold answer.FileFault steps h = (shelf h.0, (h.1.0, unkept h.1.1))
+  retold answer.NoMemory steps (inl same) = inl same
+  retold answer.NoMemory steps (inr (inl h)) = inr (inl (h.0, (h.1.0, ends (endings.Unhandled h.0 h.1.0) h.1.1)))
+  retold answer.NoMemory steps (inr (inr h)) = inr (inr (breaks h))
+  retold answer.Usage steps h = absurd h
+  retold (answer.UnhandledClass class site) steps h = absurd h
+  retold (answer.BadImage reason) steps h = absurd h
+  retold (answer.Trap kind address) steps h = absurd h
+
+-- a text that was taken of a file is that which an action of files judges
+pub text_taken : (action : Action) (held : Option (List ℕ)) (text : List ℕ) → RunsFiles action → IsTextTaken held text → IsTextOf action held text
+text_taken Run held text runs taken = taken
+text_taken Show held text runs taken = taken
+text_taken Check held text runs taken = absurd runs
+text_taken Build held text runs taken = absurd runs
+text_taken Exec held text runs taken = absurd runs
+text_taken Plain held text runs taken = absurd runs
+text_taken (Make n) held text runs taken = absurd runs
+
+-- the text is a whole program
+module _ (action : Action) (held : Option (List ℕ)) (text : List ℕ) (whole : IsWhole action text) (kept : Option Image) (arena steps : ℕ) (left left' : Option (List ℕ)) (sent : Sent) (ShelfRises SourceRises Rises Same : Type 0) (is_text : IsTextOf action held text) where
   abbrev OfProgram : CommandAnswer → Type 0
   OfProgram a = ProgramAnswers a action whole.names whole.program kept arena steps left left' sent SourceRises Rises Same
 
@@ -90,29 +130,101 @@ module _ (action : Action) (held : Option (List ℕ)) (text : List ℕ) (whole :
   OfFile a = FileAnswers a action held kept arena steps left left' sent ShelfRises SourceRises Rises Same
 
   abbrev ends : (end : EvaluationEnd) → Came action whole.names whole.program kept arena steps left left' sent end → FileEnds action held kept arena steps left left' sent end
-  ends end h = record { text = text; taken = taken; whole = whole; came = h }
+  ends end h = record { text = text; is_text = is_text; whole = whole; came = h }
+
+  signals : (name : List ℕ) (site : Place) → ProgramSignals action whole.names whole.program kept arena steps left left' sent name site → FileSignals action held kept arena steps left left' sent name site
+  signals name site h = record { class = h.class; ends = ends (endings.Unhandled h.class site) h.came; named = h.named }
+
+  large : (wanted room : ℕ) → ProgramIsLarge action whole.names whole.program kept arena wanted room → FileIsLargeSo action held kept arena wanted room
+  large wanted room h = record {
+    runs = h.runs;
+    large = record { text = text; is_text = is_text; whole = whole; is_large = h.is_large };
+    wanted_is = h.wanted_is;
+    room_is = h.room_is;
+  }
+
+  breaks : ProgramBreaks action whole.names whole.program kept arena steps left left' sent → (action ≡ Plain) × FileBreaks action held kept arena steps left left' sent
+  breaks h = (h.is_plain, record { text = text; is_text = is_text; whole = whole; unbuilt = h.unbuilt; breaks_off = h.breaks_off })
 
   pub of_program : (a : CommandAnswer) → OfProgram a → OfFile a
-  of_program answer.Done h = ends endings.Value h
-  of_program (answer.Unhandled class site) h = record { class = h.class; ends = ends (endings.Unhandled h.class site) h.came; named = h.named }
-  of_program (answer.ArenaFull wanted room) (inl h) = inl (ends (endings.Full wanted room) h)
-  of_program (answer.ArenaFull wanted room) (inr h) = inr (
-    record {
-      is_run = h.0.is_run;
-      large = record { text = text; taken = taken; whole = whole; is_large = h.0.is_large };
-      wanted_is = h.0.wanted_is;
-      room_is = h.0.room_is;
-    },
-    h.1,
-  )
-  of_program (answer.Budget n) h = (h.0, ends endings.More h.1)
-  of_program answer.Spent h = ends endings.Spent h
-  of_program answer.ReadFault h = (h.0, ends endings.ReadFault h.1)
-  of_program answer.WriteFault h = (h.0, ends endings.WriteFault h.1)
-  of_program (answer.Refused r) h = absurd h.0
-  of_program answer.FileFault h = absurd h.0
-  of_program answer.NoMemory (inl same) = inl same
-  of_program answer.NoMemory (inr (inl h)) = inr (inl (h.0, (h.1.0, ends (endings.Unhandled h.0 h.1.0) h.1.1)))
-  of_program answer.NoMemory (inr (inr h)) =
-      inr (inr (h.is_plain, record { text = text; taken = taken; whole = whole; unbuilt = h.unbuilt; breaks_off = h.breaks_off }))
-  of_program answer.Usage h = absurd h
+  of_program a h =
+      retold (Came action whole.names whole.program kept arena steps left left' sent) (FileEnds action held kept arena steps left left' sent)
+      (ProgramSignals action whole.names whole.program kept arena steps left left' sent) (FileSignals action held kept arena steps left left' sent)
+      (ProgramIsLarge action whole.names whole.program kept arena) (FileIsLargeSo action held kept arena)
+      (ProgramBreaks action whole.names whole.program kept arena steps left left' sent) ((action ≡ Plain) × FileBreaks action held kept arena steps left left' sent)
+      (λ r. ⊥) (Offends action held) ⊥ ShelfRises SourceRises Rises Same ⊥ (kept ≡ None)
+      ends signals large breaks (λ r x. absurd x) (λ x. absurd x) (λ x. absurd x) a steps h
+
+-- the text is none
+pub of_stop : (a : CommandAnswer) (s : Stop) (action : Action) (m : Mode) (held : Option (List ℕ)) (text : List ℕ) (kept : Option Image) (arena steps : ℕ) (left left' : Option (List ℕ)) (sent : Sent) (ShelfRises SourceRises Rises Same : Type 0)
+    → a ≡ answer_of_stop s → m ≡ mode_of action → IsTextOf action held text → IsNoProgram library text m s → Same → kept ≡ None
+    → FileAnswers a action held kept arena steps left left' sent ShelfRises SourceRises Rises Same
+of_stop a (stop.Refused r) action m held text kept arena steps left left' sent ShelfRises SourceRises Rises Same is mode_is is_text refuses same empty =
+    let offends : Offends action held r = record { text = text; is_text = is_text; refuses = subst (λ (x : Mode). IsNoProgram library text x (stop.Refused r)) mode_is refuses } in
+    subst (λ x. FileAnswers x action held kept arena steps left left' sent ShelfRises SourceRises Rises Same) (sym is) (offends, (same, empty))
+of_stop a stop.NoMemory action m held text kept arena steps left left' sent ShelfRises SourceRises Rises Same is mode_is is_text refuses same empty =
+    subst (λ x. FileAnswers x action held kept arena steps left left' sent ShelfRises SourceRises Rises Same) (sym is) (inl same)
+
+-- what is answered of a program that is run is answered of one that is shown
+module _ (names : List (List ℕ)) (program : ProgramRows) (kept : Option Image) (arena steps : ℕ) (left left' : Option (List ℕ)) (sent : Sent) (SourceRises Rises Same : Type 0) where
+  abbrev Answered : Action → CommandAnswer → Type 0
+  Answered action a = ProgramAnswers a action names program kept arena steps left left' sent SourceRises Rises Same
+
+  -- by an action for which a run comes to the same end
+  module _ (action : Action) (runs : RunsPrograms action) (ends : (end : EvaluationEnd) → RunCame names program kept arena steps left left' sent end → Came action names program kept arena steps left left' sent end) where
+    its_signals : (name : List ℕ) (site : Place) → ProgramSignals Run names program kept arena steps left left' sent name site → ProgramSignals action names program kept arena steps left left' sent name site
+    its_signals name site h = record { class = h.class; came = ends (endings.Unhandled h.class site) h.came; named = h.named }
+
+    its_large : (wanted room : ℕ) → ProgramIsLarge Run names program kept arena wanted room → ProgramIsLarge action names program kept arena wanted room
+    its_large wanted room h = record { runs = runs; is_large = h.is_large; wanted_is = h.wanted_is; room_is = h.room_is }
+
+    its_breaks : ProgramBreaks Run names program kept arena steps left left' sent → ProgramBreaks action names program kept arena steps left left' sent
+    its_breaks h = let no : Run ≡ Plain = h.is_plain in absurd (cc)
+
+    pub of_its_run : (a : CommandAnswer) → Answered Run a → Answered action a
+    of_its_run a h =
+        retold (RunCame names program kept arena steps left left' sent) (Came action names program kept arena steps left left' sent)
+        (ProgramSignals Run names program kept arena steps left left' sent) (ProgramSignals action names program kept arena steps left left' sent)
+        (ProgramIsLarge Run names program kept arena) (ProgramIsLarge action names program kept arena)
+        (ProgramBreaks Run names program kept arena steps left left' sent) (ProgramBreaks action names program kept arena steps left left' sent)
+        (λ r. ⊥) (λ r. ⊥) ⊥ ⊥ SourceRises Rises Same ⊥ ⊥
+        ends its_signals its_large its_breaks (λ r x. x) (λ x. x) (λ x. x) a steps h
+
+  shown : (end : EvaluationEnd) → RunCame names program kept arena steps left left' sent end → Came Show names program kept arena steps left left' sent end
+  shown end h = h
+
+  pub of_action : (action : Action) → RunsFiles action → (a : CommandAnswer) → Answered Run a → Answered action a
+  of_action Run runs a h = h
+  of_action Show runs a h = of_its_run Show tt shown a h
+  of_action Check runs a h = absurd runs
+  of_action Build runs a h = absurd runs
+  of_action Exec runs a h = absurd runs
+  of_action Plain runs a h = absurd runs
+  of_action (Make n) runs a h = absurd runs
+
+-- a text for which the shelf was not asked
+pub of_no_shelf : (a : CommandAnswer) (action : Action) (held : Option (List ℕ)) (kept : Option Image) (arena steps : ℕ) (left left' : Option (List ℕ)) (sent : Sent) (ShelfRises SourceRises Rises Same : Type 0)
+    → FileAnswers a action held kept arena steps left left' sent ⊥ SourceRises Rises Same → FileAnswers a action held kept arena steps left left' sent ShelfRises SourceRises Rises Same
+of_no_shelf answer.Done action held kept arena steps left left' sent ShelfRises SourceRises Rises Same h = h
+of_no_shelf (answer.Unhandled class site) action held kept arena steps left left' sent ShelfRises SourceRises Rises Same h = h
+of_no_shelf (answer.ArenaFull wanted room) action held kept arena steps left left' sent ShelfRises SourceRises Rises Same h = h
+of_no_shelf (answer.Budget n) action held kept arena steps left left' sent ShelfRises SourceRises Rises Same h = h
+of_no_shelf answer.Spent action held kept arena steps left left' sent ShelfRises SourceRises Rises Same h = h
+of_no_shelf answer.ReadFault action held kept arena steps left left' sent ShelfRises SourceRises Rises Same h = h
+of_no_shelf answer.WriteFault action held kept arena steps left left' sent ShelfRises SourceRises Rises Same h = h
+of_no_shelf (answer.Refused r) action held kept arena steps left left' sent ShelfRises SourceRises Rises Same h = h
+of_no_shelf answer.FileFault action held kept arena steps left left' sent ShelfRises SourceRises Rises Same h = absurd h.0
+of_no_shelf answer.NoMemory action held kept arena steps left left' sent ShelfRises SourceRises Rises Same h = h
+of_no_shelf answer.Usage action held kept arena steps left left' sent ShelfRises SourceRises Rises Same h = absurd h
+of_no_shelf (answer.UnhandledClass class site) action held kept arena steps left left' sent ShelfRises SourceRises Rises Same h = absurd h
+of_no_shelf (answer.BadImage reason) action held kept arena steps left left' sent ShelfRises SourceRises Rises Same h = absurd h
+of_no_shelf (answer.Trap kind address) action held kept arena steps left left' sent ShelfRises SourceRises Rises Same h = absurd h
+
+-- a command of an action that runs the program of a text was obeyed
+pub obeyed : (a : CommandAnswer) (c : Request) (action : Action) (held : Option (List ℕ)) (kept : Option Image) (left left' : Option (List ℕ)) (sent : Sent) (ShelfRises SourceRises Rises Same InputSame ShelfSame : Type 0)
+    → c.action ≡ action → RunsPrograms action → (MakesText action → ShelfSame)
+    → FileAnswers a action held kept c.arena c.steps left left' sent ShelfRises SourceRises Rises (Same × InputSame)
+    → Obeys a c held kept left left' sent ShelfRises SourceRises Rises Same InputSame ShelfSame
+obeyed a c action held kept left left' sent ShelfRises SourceRises Rises Same InputSame ShelfSame is runs shelf h =
+    was_ended (subst RunsPrograms (sym is) runs) (λ m. shelf (subst MakesText is m))
+    (subst (λ x. FileAnswers a x held kept c.arena c.steps left left' sent ShelfRises SourceRises Rises (Same × InputSame)) (sym is) h)

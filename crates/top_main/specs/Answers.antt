@@ -1,32 +1,31 @@
--- What a run or an evaluation of a program answers, what a run, a check or an evaluation of a file does, what the words do, and what stands
+-- What a run or an evaluation of a program answers, what each action does with its text, what the words do, and what stands
 -- then.
-use Rattle.std.specs.Prelude.{◌≡◌, ◌⊎◌, ◌==◌, if◌then◌else◌, ℕ, List, length, Option, Some, None}
+use Rattle.std.specs.Prelude.{◌≡◌, ◌≢◌, ◌⊎◌, ◌==◌, if◌then◌else◌, ⊤, ℕ, List, length, Option, Some, None}
 use Rattle.base.specs.declared.place.Place.{Place}
 use Rattle.base.specs.declared.reason.Refusal.{Refusal}
-use Rattle.base.specs.declared.reason.Stop.{Stop}
-use Rattle.base.specs.declared.reason.Stop.TheVariants as stop
+use Rattle.base.specs.Given.{WasGiven, WasGivenFront}
 use Rattle.rv_machine.specs.declared.ending.Ending.{Ending}
 use Rattle.rv_machine.specs.declared.ending.Ending.TheVariants as machine
 use Rattle.rv_machine.specs.declared.image.Image.{Image}
+use Rattle.rv_machine.specs.Run.{Feeds}
 use Rattle.lang_meaning.specs.declared.program.ProgramRows.{ProgramRows}
 use Rattle.lang_meaning.specs.declared.evaluation.EvaluationEnd.{EvaluationEnd}
 use Rattle.lang_meaning.specs.declared.evaluation.EvaluationEnd.TheVariants as endings
 use Rattle.lang_meaning.specs.Evaluates.{BreaksOff}
 use Rattle.lang_meaning.specs.Meaning.{place_of_site}
 use Rattle.lang_meaning.specs.State.{no_place}
-use Rattle.top_main.specs.Command.{Request, asked}
-use Rattle.base.specs.Given.{WasGiven, WasGivenFront}
-use Rattle.top_main.specs.Lines.{ok_line}
-use Rattle.top_main.specs.declared.command.Action.{Action}
-use Rattle.top_main.specs.declared.command.Action.TheVariants.{Run, Check, Plain}
-use Rattle.top_main.specs.declared.status.CommandAnswer.{CommandAnswer}
-use Rattle.top_main.specs.declared.status.CommandAnswer.TheVariants as answer
-use Rattle.top_main.specs.Theorem.{Sent, Passes, Offends, IsLarge, Came, FileEnds, FileIsLarge, FileBreaks, class_text}
-
--- the answer of a text that is no program
-abbrev pub answer_of_stop : Stop → CommandAnswer
-answer_of_stop (stop.Refused r) = answer.Refused r
-answer_of_stop stop.NoMemory = answer.NoMemory
+use Rattle.top_command.specs.Command.{Request, asked}
+use Rattle.top_command.specs.declared.command.Action.{Action}
+use Rattle.top_command.specs.declared.command.Action.TheVariants.{Run, Show, Check, Build, Exec, Plain}
+use Rattle.top_lines.specs.declared.status.CommandAnswer.{CommandAnswer}
+use Rattle.top_lines.specs.declared.status.CommandAnswer.TheVariants as answer
+use Rattle.top_lines.specs.Lines.{counts_line}
+use Rattle.top_exec.specs.Runs.{Sent, the_run}
+use Rattle.top_exec.specs.Executes.{ExecAnswers}
+use Rattle.top_main.specs.Theorem.{Offends, IsLarge, Came, RunsPrograms, FileEnds, FileIsLarge, FileBreaks, IsFileOf, Writes, MakesText, class_text}
+use Rattle.top_main.specs.Images.{AreBytes}
+use Rattle.top_main.specs.declared.image_run.ProgramEnd.{ProgramEnd}
+use Rattle.top_main.specs.declared.run.ProgramRun.{ProgramRun}
 
 -- the answer of a program that came to an end: with these names, within so many levels or instructions; to name a class takes memory
 abbrev pub EndAnswers : CommandAnswer → EvaluationEnd → List (List ℕ) → ProgramRows → (steps : ℕ) → Type 0
@@ -39,20 +38,43 @@ EndAnswers a endings.Spent names program steps = a ≡ answer.Spent
 EndAnswers a endings.ReadFault names program steps = a ≡ answer.ReadFault
 EndAnswers a endings.WriteFault names program steps = a ≡ answer.WriteFault
 
--- the answer for what is checked: where it passes, which refusals it has, what an output was given before and after, where the shelf
--- or the output rose in faults, and where the output is the same
-abbrev pub CheckAnswers : CommandAnswer → (Good : Type 0) → (Bad : Refusal → Type 0) → (given given' : Option (List ℕ)) → (ShelfRises Rises Same : Type 0) → Type 0
-CheckAnswers answer.Done Good Bad given given' ShelfRises Rises Same = Good × WasGiven given ok_line given'
-CheckAnswers (answer.Refused r) Good Bad given given' ShelfRises Rises Same = Bad r × Same
-CheckAnswers answer.FileFault Good Bad given given' ShelfRises Rises Same = ShelfRises × Same
-CheckAnswers answer.WriteFault Good Bad given given' ShelfRises Rises Same = Rises × (Good × WasGivenFront given ok_line given')
-CheckAnswers answer.NoMemory Good Bad given given' ShelfRises Rises Same = Same
-CheckAnswers (answer.Budget n) Good Bad given given' ShelfRises Rises Same = ⊥
-CheckAnswers answer.Usage Good Bad given given' ShelfRises Rises Same = ⊥
-CheckAnswers (answer.Unhandled class site) Good Bad given given' ShelfRises Rises Same = ⊥
-CheckAnswers (answer.ArenaFull wanted room) Good Bad given given' ShelfRises Rises Same = ⊥
-CheckAnswers answer.Spent Good Bad given given' ShelfRises Rises Same = ⊥
-CheckAnswers answer.ReadFault Good Bad given given' ShelfRises Rises Same = ⊥
+-- what is to be written, and whether it was given so
+pub record Wrote (Bytes : List ℕ → Type 0) (Given : Option (List ℕ) → List ℕ → Option (List ℕ) → Type 0) (given given' : Option (List ℕ)) : Type 0 where
+  pub bytes : List ℕ
+  pub are : Bytes bytes
+  pub given_so : Given given bytes given'
+
+-- the answer of an action that runs nothing: where all was written, or a front of it; which refusals the text has; where the shelf or the output rose in
+-- faults, where the outside is the same, and where no image is kept
+abbrev pub WrittenAnswers : CommandAnswer → (All Front : Type 0) → (Bad : Refusal → Type 0) → (ShelfRises Rises Same Unkept : Type 0) → Type 0
+WrittenAnswers answer.Done All Front Bad ShelfRises Rises Same Unkept = All
+WrittenAnswers answer.WriteFault All Front Bad ShelfRises Rises Same Unkept = Rises × Front
+WrittenAnswers (answer.Refused r) All Front Bad ShelfRises Rises Same Unkept = Bad r × (Same × Unkept)
+WrittenAnswers answer.FileFault All Front Bad ShelfRises Rises Same Unkept = ShelfRises × (Same × Unkept)
+WrittenAnswers answer.NoMemory All Front Bad ShelfRises Rises Same Unkept = Same
+WrittenAnswers (answer.Budget n) All Front Bad ShelfRises Rises Same Unkept = ⊥
+WrittenAnswers answer.Usage All Front Bad ShelfRises Rises Same Unkept = ⊥
+WrittenAnswers (answer.Unhandled class site) All Front Bad ShelfRises Rises Same Unkept = ⊥
+WrittenAnswers (answer.UnhandledClass class site) All Front Bad ShelfRises Rises Same Unkept = ⊥
+WrittenAnswers (answer.ArenaFull wanted room) All Front Bad ShelfRises Rises Same Unkept = ⊥
+WrittenAnswers answer.Spent All Front Bad ShelfRises Rises Same Unkept = ⊥
+WrittenAnswers answer.ReadFault All Front Bad ShelfRises Rises Same Unkept = ⊥
+WrittenAnswers (answer.BadImage reason) All Front Bad ShelfRises Rises Same Unkept = ⊥
+WrittenAnswers (answer.Trap kind address) All Front Bad ShelfRises Rises Same Unkept = ⊥
+
+-- the answer for a text of which these bytes are to be written
+abbrev pub WriteAnswers : CommandAnswer → Action → (held : Option (List ℕ)) → (kept : Option Image) → (given given' : Option (List ℕ)) → (ShelfRises Rises Same : Type 0) → Type 0
+WriteAnswers a action held kept given given' ShelfRises Rises Same =
+    WrittenAnswers a (Wrote (Writes action held kept) WasGiven given given') (Wrote (Writes action held kept) WasGivenFront given given') (Offends action held) ShelfRises Rises Same (kept ≡ None)
+
+-- the answer where these bytes were written, or a front of them
+abbrev pub BytesAnswers : CommandAnswer → (bytes : List ℕ) → (given given' : Option (List ℕ)) → (Rises : Type 0) → Type 0
+BytesAnswers a bytes given given' Rises = WrittenAnswers a (WasGiven given bytes given') (WasGivenFront given bytes given') (λ r. ⊥) ⊥ Rises ⊥ ⊥
+
+-- the answer for a program of which the bytes of its image file are to be written
+abbrev pub BuildAnswers : CommandAnswer → (names : List (List ℕ)) (program : ProgramRows) → (kept : Option Image) → (given given' : Option (List ℕ)) → (Rises Same : Type 0) → Type 0
+BuildAnswers a names program kept given given' Rises Same =
+    WrittenAnswers a (Wrote (IsFileOf names program kept) WasGiven given given') (Wrote (IsFileOf names program kept) WasGivenFront given given') (λ r. ⊥) ⊥ Rises Same ⊥
 
 -- the place that is told of a site by its number, where 0 is that of none
 abbrev pub site_told : List Place → ℕ → Place
@@ -68,6 +90,20 @@ end_told sites site machine.Budget = endings.More
 end_told sites site (machine.Trap kind address) = endings.More
 end_told sites site machine.ReadFault = endings.ReadFault
 end_told sites site machine.WriteFault = endings.WriteFault
+
+-- how many instructions a run executed, where it came to a value
+abbrev pub Executed : Image → (arena steps : ℕ) → (left : Option (List ℕ)) → ProgramEnd → Type 0
+Executed image arena steps left e =
+    e.end ≡ endings.Value → (input : List ℕ) → AreBytes input → Feeds left input (the_run image arena steps input)
+    → e.executed ≡ (the_run image arena steps input).at.executed
+
+-- how many words the image has that was kept, and how many instructions its run executed, where it came to a value
+abbrev pub IsCounted : (kept : Option Image) → (arena steps : ℕ) → (left : Option (List ℕ)) → ProgramRun → Type 0
+IsCounted kept arena steps left r =
+    r.answer ≡ answer.Done → (image : Image) → kept ≡ Some image
+    → (r.words ≡ length image.words)
+    × ((input : List ℕ) → AreBytes input → Feeds left input (the_run image arena steps input)
+    → r.executed ≡ (the_run image arena steps input).at.executed)
 
 -- the answer for a program that is run or evaluated within so many instructions or levels: where it comes to an end, or to a condition whose class
 -- has a name, at a site; where its image is too large, or its evaluation breaks off; which refusals it has; where the shelf, the source or the output
@@ -86,6 +122,9 @@ EndedAnswers answer.FileFault steps Ends Signals Large Breaks Bad ShelfRises Sou
 EndedAnswers answer.NoMemory steps Ends Signals Large Breaks Bad ShelfRises SourceRises Rises Same Unkept =
     Same ⊎ (((class : ℕ) × ((site : Place) × Ends (endings.Unhandled class site))) ⊎ Breaks)
 EndedAnswers answer.Usage steps Ends Signals Large Breaks Bad ShelfRises SourceRises Rises Same Unkept = ⊥
+EndedAnswers (answer.UnhandledClass class site) steps Ends Signals Large Breaks Bad ShelfRises SourceRises Rises Same Unkept = ⊥
+EndedAnswers (answer.BadImage reason) steps Ends Signals Large Breaks Bad ShelfRises SourceRises Rises Same Unkept = ⊥
+EndedAnswers (answer.Trap kind address) steps Ends Signals Large Breaks Bad ShelfRises SourceRises Rises Same Unkept = ⊥
 
 -- a program comes to a condition of a class of that name
 pub record ProgramSignals (action : Action) (names : List (List ℕ)) (program : ProgramRows) (kept : Option Image) (arena steps : ℕ) (left left' : Option (List ℕ)) (sent : Sent) (name : List ℕ) (site : Place) : Type 0 where
@@ -95,7 +134,7 @@ pub record ProgramSignals (action : Action) (names : List (List ℕ)) (program :
 
 -- its image, which was to run, has so many words, and the arena has only so many
 pub record ProgramIsLarge (action : Action) (names : List (List ℕ)) (program : ProgramRows) (kept : Option Image) (arena : ℕ) (wanted room : ℕ) : Type 0 where
-  pub is_run : action ≡ Run
+  pub runs : RunsPrograms action
   pub is_large : IsLarge names program kept arena
   pub wanted_is : wanted ≡ length is_large.built.image.words
   pub room_is : room ≡ arena
@@ -119,24 +158,40 @@ pub record FileSignals (action : Action) (held : Option (List ℕ)) (kept : Opti
 
 -- one whose image, which was to run, has so many words, and the arena has only so many
 pub record FileIsLargeSo (action : Action) (held : Option (List ℕ)) (kept : Option Image) (arena : ℕ) (wanted room : ℕ) : Type 0 where
-  pub is_run : action ≡ Run
-  pub large : FileIsLarge held kept arena
+  pub runs : RunsPrograms action
+  pub large : FileIsLarge action held kept arena
   pub wanted_is : wanted ≡ length large.is_large.built.image.words
   pub room_is : room ≡ arena
 
 -- the answer for a file to run or to evaluate
 abbrev pub FileAnswers : CommandAnswer → Action → (held : Option (List ℕ)) → (kept : Option Image) → (arena steps : ℕ) → (left left' : Option (List ℕ)) → Sent → (ShelfRises SourceRises Rises Same : Type 0) → Type 0
 FileAnswers a action held kept arena steps left left' sent ShelfRises SourceRises Rises Same =
-    EndedAnswers a steps (FileEnds action held kept arena steps left left' sent) (FileSignals action held kept arena steps left left' sent) (FileIsLargeSo action held kept arena) ((action ≡ Plain) × FileBreaks held kept arena steps left left' sent) (Offends held) ShelfRises SourceRises Rises Same (kept ≡ None)
+    EndedAnswers a steps (FileEnds action held kept arena steps left left' sent) (FileSignals action held kept arena steps left left' sent) (FileIsLargeSo action held kept arena) ((action ≡ Plain) × FileBreaks action held kept arena steps left left' sent) (Offends action held) ShelfRises SourceRises Rises Same (kept ≡ None)
 
--- the answer to a command, which is run, checked or evaluated
-pub data Obeys (a : CommandAnswer) (c : Request) (held : Option (List ℕ)) (kept : Option Image) (left left' : Option (List ℕ)) (sent : Sent) (ShelfRises SourceRises Rises Same InputSame : Type 0) : Type 0 where
-  was_run : c.action ≡ Run → FileAnswers a Run held kept c.arena c.steps left left' sent ShelfRises SourceRises Rises (Same × InputSame)
-      → Obeys a c held kept left left' sent ShelfRises SourceRises Rises Same InputSame
-  was_check : c.action ≡ Check → InputSame → kept ≡ None → CheckAnswers a (Passes held) (Offends held) sent.before sent.after ShelfRises Rises Same
-      → Obeys a c held kept left left' sent ShelfRises SourceRises Rises Same InputSame
+-- the answer of `make` for a program of so many nodes whose run was answered so: behind a value the counts were told, or a front of them
+abbrev pub MadeAnswers : CommandAnswer → ProgramRun → (nodes : ℕ) → (given given' : Option (List ℕ)) → (Rises Same : Type 0) → Type 0
+MadeAnswers a run nodes given given' Rises Same =
+    ((run.answer ≡ answer.Done) × BytesAnswers a (counts_line nodes run.words run.executed) given given' Rises)
+    ⊎ ((run.answer ≢ answer.Done) × ((a ≡ run.answer) × Same))
+
+-- the actions that run the program of a file
+abbrev pub RunsFiles : Action → Type 0
+RunsFiles Run = ⊤
+RunsFiles Show = ⊤
+RunsFiles action = ⊥
+
+-- the answer to a command
+pub data Obeys (a : CommandAnswer) (c : Request) (held : Option (List ℕ)) (kept : Option Image) (left left' : Option (List ℕ)) (sent : Sent) (ShelfRises SourceRises Rises Same InputSame ShelfSame : Type 0) : Type 0 where
+  was_ended : RunsPrograms c.action → (MakesText c.action → ShelfSame) → FileAnswers a c.action held kept c.arena c.steps left left' sent ShelfRises SourceRises Rises (Same × InputSame)
+      → Obeys a c held kept left left' sent ShelfRises SourceRises Rises Same InputSame ShelfSame
   was_plain : c.action ≡ Plain → kept ≡ None → FileAnswers a Plain held None c.arena c.steps left left' sent ShelfRises SourceRises Rises (Same × InputSame)
-      → Obeys a c held kept left left' sent ShelfRises SourceRises Rises Same InputSame
+      → Obeys a c held kept left left' sent ShelfRises SourceRises Rises Same InputSame ShelfSame
+  was_check : c.action ≡ Check → InputSame → kept ≡ None → WriteAnswers a Check held None sent.before sent.after ShelfRises Rises Same
+      → Obeys a c held kept left left' sent ShelfRises SourceRises Rises Same InputSame ShelfSame
+  was_build : c.action ≡ Build → InputSame → WriteAnswers a Build held kept sent.before sent.after ShelfRises Rises Same
+      → Obeys a c held kept left left' sent ShelfRises SourceRises Rises Same InputSame ShelfSame
+  was_exec : c.action ≡ Exec → kept ≡ None → ExecAnswers a held c.arena c.steps left left' sent ShelfRises SourceRises Rises (Same × InputSame)
+      → Obeys a c held kept left left' sent ShelfRises SourceRises Rises Same InputSame ShelfSame
 
 -- the answer to words: they are no command, or memory was wanting to tell, or a command was obeyed
 pub data WordsAnswers (a : CommandAnswer) (words : List (List ℕ)) (holds : List ℕ → Option (List ℕ)) (kept : Option Image) (left left' : Option (List ℕ)) (sent : Sent) (ShelfRises SourceRises Rises Same InputSame ShelfSame : Type 0) : Type 0 where
@@ -144,5 +199,5 @@ pub data WordsAnswers (a : CommandAnswer) (words : List (List ℕ)) (holds : Lis
       → WordsAnswers a words holds kept left left' sent ShelfRises SourceRises Rises Same InputSame ShelfSame
   was_untold : a ≡ answer.NoMemory → ShelfSame → Same → InputSame → kept ≡ None
       → WordsAnswers a words holds kept left left' sent ShelfRises SourceRises Rises Same InputSame ShelfSame
-  was_asked : (c : Request) → asked words ≡ Some c → Obeys a c (holds c.file) kept left left' sent ShelfRises SourceRises Rises Same InputSame
+  was_asked : (c : Request) → asked words ≡ Some c → Obeys a c (holds c.file) kept left left' sent ShelfRises SourceRises Rises Same InputSame ShelfSame
       → WordsAnswers a words holds kept left left' sent ShelfRises SourceRises Rises Same InputSame ShelfSame

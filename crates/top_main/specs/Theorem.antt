@@ -1,15 +1,19 @@
 -- The theorem of the top call: what stands after `isl_main` has answered, status by status.
 --
--- It names the words of the command (`Command`), the verdict on a text (`front_files`) behind the library (`front_library`), the meaning of a
--- program and what an evaluation reads and prints and how it ends by it (`lang_meaning`), the machine and its runs (`rv_machine`), what the image
--- of a program does by its meaning (`Images`), and the lines of statuses (`Lines`), and nothing of how code is made or a program is evaluated.
-use Rattle.std.specs.Prelude.{◌≡◌, ⊤, ℕ, ◌<◌, ◌≤◌, List, [], length, slice_get, Option, Some, None, IfSome}
+-- It names the words of the command (`Command`), the verdict on a text (`front_files`) behind the library (`front_library`), the text of `make`
+-- (`top_made`), the meaning of a program and what an evaluation reads and prints and how it ends by it (`lang_meaning`), the machine and its runs
+-- (`rv_machine`, `Runs`), what the image of a program does by its meaning (`Images`), the bytes of image files (`rv_image_file`) and what is told of one
+-- that is run (`Executes`), and the lines of statuses (`Lines`), and nothing of how code is made or a program is evaluated.
+use Rattle.std.specs.Prelude.{◌≡◌, ◌≢◌, ◌⊎◌, ⊤, ℕ, ◌<◌, ◌≤◌, List, [], length, slice_get, Option, Some, None}
 use Rattle.base.specs.declared.place.Place.{Place}
 use Rattle.base.specs.declared.reason.Refusal.{Refusal}
+use Rattle.base.specs.Given.{WasGiven, WasGivenFront}
 use Rattle.rv_machine.specs.declared.image.Image.{Image}
 use Rattle.rv_machine.specs.declared.ending.Ending.TheVariants.{Budget, Full}
-use Rattle.rv_machine.specs.Step.{environment_call, step_of}
-use Rattle.rv_machine.specs.Run.{Moment, Ended, run_of, Gave, Feeds}
+use Rattle.rv_machine.specs.Run.{Ended, Feeds}
+use Rattle.rv_image_file.specs.ImageText.{ImageText}
+use Rattle.rv_image_file.specs.declared.faults.BadImage.{BadImage as ImageFault}
+use Rattle.front_files.specs.declared.mode.Mode.{Mode}
 use Rattle.front_files.specs.declared.mode.Mode.TheVariants as mode
 use Rattle.front_files.specs.Verdicts.{Accepts as AcceptsWhole, Refuses as RefusesWhole}
 use Rattle.front_library.specs.declared.text.TheConstants.{PRELUDE}
@@ -17,55 +21,55 @@ use Rattle.lang_meaning.specs.declared.program.ProgramRows.{ProgramRows}
 use Rattle.lang_meaning.specs.State.{unlimited}
 use Rattle.lang_meaning.specs.Meaning.{meaning}
 use Rattle.lang_meaning.specs.Primitives.{class_name}
+use Rattle.lang_meaning.specs.ProgramCounts.{program_nodes}
 use Rattle.lang_meaning.specs.declared.evaluation.EvaluationEnd.{EvaluationEnd}
 use Rattle.lang_meaning.specs.declared.evaluation.EvaluationEnd.TheVariants as endings
 use Rattle.lang_meaning.specs.Evaluates.{Evaluates, BreaksOff}
-use Rattle.base.specs.Given.{WasGiven, WasGivenFront}
-use Rattle.top_main.specs.Command.{Request, asked}
+use Rattle.top_command.specs.Command.{Request, asked}
+use Rattle.top_command.specs.declared.command.Action.{Action}
+use Rattle.top_command.specs.declared.command.Action.TheVariants.{Run, Show, Check, Build, Exec, Plain, Make}
+use Rattle.top_lines.specs.declared.status.Status.{Status}
+use Rattle.top_lines.specs.declared.status.CommandAnswer.{CommandAnswer}
+use Rattle.top_lines.specs.Lines.{usage_line, unhandled_line, refused_line, arena_full_line, budget_line, spent_line, read_fault_line, bad_image_line, ok_line, counts_line, line_of, status_of}
+use Rattle.top_made.specs.Text.{text_of as made_text}
+use Rattle.top_exec.specs.Loads.{IsTextTaken}
+use Rattle.top_exec.specs.Runs.{Sent, sent_to, the_run, SaysAll, RunIsCut}
+use Rattle.top_exec.specs.Executes.{Executes, IsLargeFile, IsBadFile}
 use Rattle.top_main.specs.Images.{AreBytes, Halts, Signals, IsImageOf}
-use Rattle.top_main.specs.declared.command.Action.{Action}
-use Rattle.top_main.specs.declared.command.Action.TheVariants.{Run, Check, Plain}
-use Rattle.top_main.specs.Lines.{usage_line, unhandled_line, refused_line, arena_full_line, budget_line, spent_line, read_fault_line, ok_line}
-use Rattle.top_main.specs.Loads.{IsTextTaken}
 
--- The file
+-- The text
 
--- the library of the language, which stands in front of every file
+-- the library of the language, which stands in front of every text
 abbrev pub library : List ℕ
 library = PRELUDE.now
 
--- a text is a whole program of the language behind the library, and nothing is shown
-pub record IsWhole (text : List ℕ) : Type 0 where
+-- how an action judges it: `show` with the value of its last form printed
+abbrev pub mode_of : Action → Mode
+mode_of Show = mode.Show
+mode_of action = mode.Run
+
+-- which text it judges: what was taken of the file, or for `make` that of a number
+abbrev pub IsTextOf : Action → (held : Option (List ℕ)) → List ℕ → Type 0
+IsTextOf (Make n) held text = text ≡ made_text n
+IsTextOf action held text = IsTextTaken held text
+
+-- a text is a whole program of the language behind the library
+pub record IsWhole (action : Action) (text : List ℕ) : Type 0 where
   pub names : List (List ℕ)
   pub program : ProgramRows
-  pub accepts : AcceptsWhole library text mode.Run names program
+  pub accepts : AcceptsWhole library text (mode_of action) names program
 
--- a text that was taken of the file is one
-pub record Passes (held : Option (List ℕ)) : Type 0 where
+-- the text is one
+pub record Passes (action : Action) (held : Option (List ℕ)) : Type 0 where
   pub text : List ℕ
-  pub taken : IsTextTaken held text
-  pub whole : IsWhole text
+  pub is_text : IsTextOf action held text
+  pub whole : IsWhole action text
 
--- a text that was taken of the file is refused so, and is none
-pub record Offends (held : Option (List ℕ)) (refusal : Refusal) : Type 0 where
+-- the text is refused so, and is none
+pub record Offends (action : Action) (held : Option (List ℕ)) (refusal : Refusal) : Type 0 where
   pub text : List ℕ
-  pub taken : IsTextTaken held text
-  pub refuses : RefusesWhole library text mode.Run refusal
-
--- what an output was given: before a call and after it, where it can be observed, and in how many writes
-pub record Sent : Type 0 where
-  pub before : Option (List ℕ)
-  pub writes_before : ℕ
-  pub after : Option (List ℕ)
-  pub writes_after : ℕ
-
-abbrev pub sent_to : Option (List ℕ) → ℕ → Option (List ℕ) → ℕ → Sent
-sent_to before writes_before after writes_after = record {
-  before = before;
-  writes_before = writes_before;
-  after = after;
-  writes_after = writes_after;
-}
+  pub is_text : IsTextOf action held text
+  pub refuses : RefusesWhole library text (mode_of action) refusal
 
 -- A program and its image
 
@@ -80,15 +84,6 @@ pub record IsLarge (names : List (List ℕ)) (program : ProgramRows) (kept : Opt
   pub built : Built names program kept
   pub large : arena < length built.image.words
 
--- its run in an arena of so many words, for so many instructions
-abbrev pub the_run : Image → (arena steps : ℕ) → List ℕ → Ended
-the_run image arena steps input = run_of image.words image.entry arena input steps
-
--- an output that is observed was given all that was printed, each byte by a write of its own, and an input that told this tells what is left
-pub record SaysAll (input : List ℕ) (m : Moment) (left left' : Option (List ℕ)) (sent : Sent) : Type 0 where
-  pub given : IfSome sent.after (λ after. Gave sent.before sent.writes_before m.printed after sent.writes_after)
-  pub rest : left ≡ Some input → left' ≡ Some m.input
-
 -- how a run has ended, beside what the program means with as many levels and with no limit of words
 abbrev pub RunEnds : (names : List (List ℕ)) (program : ProgramRows) → EvaluationEnd → (steps : ℕ) → List ℕ → Ended → Type 0
 RunEnds names program endings.Value steps input x = Halts (meaning names program input steps unlimited) x
@@ -99,16 +94,6 @@ RunEnds names program endings.More steps input x = x.ending ≡ Budget
 RunEnds names program endings.Spent steps input x = ⊥
 RunEnds names program endings.ReadFault steps input x = ⊥
 RunEnds names program endings.WriteFault steps input x = ⊥
-
--- a run that a fault has cut off before this environment call: fewer instructions had been executed by then, and what these printed was given
-pub record RunIsCut (call : ℕ) (image : Image) (arena steps : ℕ) (left left' : Option (List ℕ)) (sent : Sent) : Type 0 where
-  pub turns : ℕ
-  pub below : turns < steps
-  pub stood :
-      (input : List ℕ) → AreBytes input → Feeds left input (the_run image arena turns input)
-      → ((the_run image arena turns input).ending ≡ Budget)
-      × ((step_of (the_run image arena turns input).at.state ≡ environment_call call)
-      × SaysAll input (the_run image arena turns input).at left left' sent)
 
 -- what stands where a run came to this end: at a fault it was to get a byte, call 2, or to put one, call 1
 abbrev pub RunComes : (names : List (List ℕ)) (program : ProgramRows) → Image → (arena steps : ℕ) → (left left' : Option (List ℕ)) → Sent → EvaluationEnd → Type 0
@@ -125,34 +110,80 @@ pub record RunCame (names : List (List ℕ)) (program : ProgramRows) (kept : Opt
   pub fits : length built.image.words ≤ arena
   pub comes : RunComes names program built.image arena steps left left' sent end
 
--- How a program came to an end: by `run` its image ran; by `plain` it was evaluated, and no image is kept
+-- By `make` it came to a value, and then a line of counts was given so: of the nodes of the program, the words of the image, and the
+-- instructions that were executed
+pub record Counts (Given : Option (List ℕ) → List ℕ → Option (List ℕ) → Type 0) (names : List (List ℕ)) (program : ProgramRows) (kept : Option Image) (arena steps : ℕ) (left left' : Option (List ℕ)) (sent : Sent) : Type 0 where
+  pub between : Option (List ℕ)
+  pub writes_between : ℕ
+  pub ran : RunCame names program kept arena steps left left' (sent_to sent.before sent.writes_before between writes_between) endings.Value
+  pub counts :
+      (input : List ℕ) → AreBytes input → Feeds left input (the_run ran.built.image arena steps input)
+      → Given between (counts_line (program_nodes program) (length ran.built.image.words) (the_run ran.built.image arena steps input).at.executed) sent.after
+
+-- by `make` its run came to this end, and behind a value the counts were told; the output may have been cut off in these
+abbrev pub MakeCame : (names : List (List ℕ)) (program : ProgramRows) → (kept : Option Image) → (arena steps : ℕ) → (left left' : Option (List ℕ)) → Sent → EvaluationEnd → Type 0
+MakeCame names program kept arena steps left left' sent endings.Value = Counts WasGiven names program kept arena steps left left' sent
+MakeCame names program kept arena steps left left' sent endings.WriteFault =
+    RunCame names program kept arena steps left left' sent endings.WriteFault ⊎ Counts WasGivenFront names program kept arena steps left left' sent
+MakeCame names program kept arena steps left left' sent end = RunCame names program kept arena steps left left' sent end
+
+-- How a program came to an end: by `run`, `show` and `make` its image ran; by `plain` it was evaluated, and no image is kept
 abbrev pub Came : Action → (names : List (List ℕ)) (program : ProgramRows) → (kept : Option Image) → (arena steps : ℕ) → (left left' : Option (List ℕ)) → Sent → EvaluationEnd → Type 0
 Came Run names program kept arena steps left left' sent end = RunCame names program kept arena steps left left' sent end
+Came Show names program kept arena steps left left' sent end = RunCame names program kept arena steps left left' sent end
+Came (Make n) names program kept arena steps left left' sent end = MakeCame names program kept arena steps left left' sent end
 Came Plain names program kept arena steps left left' sent end =
     (kept ≡ None) × Evaluates (record { names = names; program = program; levels = steps; words = arena }) left left' sent.before sent.after end
 Came Check names program kept arena steps left left' sent end = ⊥
+Came Build names program kept arena steps left left' sent end = ⊥
+Came Exec names program kept arena steps left left' sent end = ⊥
 
--- a text that was taken of the file is a whole program, which came to this end
+-- the actions that run the image of a program
+abbrev pub RunsPrograms : Action → Type 0
+RunsPrograms Run = ⊤
+RunsPrograms Show = ⊤
+RunsPrograms (Make n) = ⊤
+RunsPrograms action = ⊥
+
+-- the text is a whole program, which came to this end
 pub record FileEnds (action : Action) (held : Option (List ℕ)) (kept : Option Image) (arena steps : ℕ) (left left' : Option (List ℕ)) (sent : Sent) (end : EvaluationEnd) : Type 0 where
   pub text : List ℕ
-  pub taken : IsTextTaken held text
-  pub whole : IsWhole text
+  pub is_text : IsTextOf action held text
+  pub whole : IsWhole action text
   pub came : Came action whole.names whole.program kept arena steps left left' sent end
 
 -- one whose image has more words than the arena
-pub record FileIsLarge (held : Option (List ℕ)) (kept : Option Image) (arena : ℕ) : Type 0 where
+pub record FileIsLarge (action : Action) (held : Option (List ℕ)) (kept : Option Image) (arena : ℕ) : Type 0 where
   pub text : List ℕ
-  pub taken : IsTextTaken held text
-  pub whole : IsWhole text
+  pub is_text : IsTextOf action held text
+  pub whole : IsWhole action text
   pub is_large : IsLarge whole.names whole.program kept arena
 
 -- one whose evaluation broke off for want of memory
-pub record FileBreaks (held : Option (List ℕ)) (kept : Option Image) (arena levels : ℕ) (left left' : Option (List ℕ)) (sent : Sent) : Type 0 where
+pub record FileBreaks (action : Action) (held : Option (List ℕ)) (kept : Option Image) (arena levels : ℕ) (left left' : Option (List ℕ)) (sent : Sent) : Type 0 where
   pub text : List ℕ
-  pub taken : IsTextTaken held text
-  pub whole : IsWhole text
+  pub is_text : IsTextOf action held text
+  pub whole : IsWhole action text
   pub unbuilt : kept ≡ None
   pub breaks_off : BreaksOff (record { names = whole.names; program = whole.program; levels = levels; words = arena }) left left' sent.before sent.after
+
+-- these are the bytes of the image file, in version 2, of the image of a program, which was kept, with the sites of the program
+pub record IsFileOf (names : List (List ℕ)) (program : ProgramRows) (kept : Option Image) (bytes : List ℕ) : Type 0 where
+  pub built : Built names program kept
+  pub is_file : ImageText bytes 2 built.image program.sites
+
+-- the text is a whole program, of which they are
+pub record FileBuilds (held : Option (List ℕ)) (kept : Option Image) (bytes : List ℕ) : Type 0 where
+  pub text : List ℕ
+  pub is_text : IsTextOf Build held text
+  pub whole : IsWhole Build text
+  pub is_file_of : IsFileOf whole.names whole.program kept bytes
+
+-- what an action that runs nothing has to give to the output: `check` the line `ok`, where it leaves no image, and `build` an image file
+abbrev pub Writes : Action → (held : Option (List ℕ)) → (kept : Option Image) → (bytes : List ℕ) → Type 0
+Writes Check held kept bytes = Passes Check held × ((kept ≡ None) × (bytes ≡ ok_line))
+Writes Build held kept bytes = FileBuilds held kept bytes
+Writes action held kept bytes = ⊥
 
 -- an end that a line tells
 abbrev pub HasLine : EvaluationEnd → Type 0
@@ -168,17 +199,17 @@ HasLine endings.WriteFault = ⊥
 abbrev pub class_text : List (List ℕ) → ProgramRows → ℕ → List ℕ
 class_text names program class = class_name names (slice_get program.classes class)
 
--- The statuses of `run` and of `plain`. A call has these command words, a shelf that holds these files, where it can be observed, and leaves this
+-- The statuses of `run`, `show`, `make` and `plain`. A call has these command words, a shelf that holds these files, where it can be observed, and leaves this
 -- image; its input had this left before and has that after; its output was sent this, and its error output had these bytes before and has those after
 -- it.
 
--- the command names a file to run or to evaluate that is a whole program, which came to this end
+-- the command names a text to run or to evaluate that is a whole program, which came to this end
 pub record IsEnded (words : List (List ℕ)) (holds : List ℕ → Option (List ℕ)) (kept : Option Image) (left left' : Option (List ℕ)) (sent : Sent) (end : EvaluationEnd) : Type 0 where
   pub command : Request
   pub asked_for : asked words ≡ Some command
   pub ends : FileEnds command.action (holds command.file) kept command.arena command.steps left left' sent end
 
--- Done: it ended with a value, and all that the program prints was given
+-- Done: it ended with a value, and all that the program prints was given, and by `make` the counts
 pub record IsDone (words : List (List ℕ)) (holds : List ℕ → Option (List ℕ)) (kept : Option Image) (left left' : Option (List ℕ)) (sent : Sent) (said said' : Option (List ℕ)) : Type 0 where
   pub ended : IsEnded words holds kept left left' sent endings.Value
   pub line : WasGiven said [] said'
@@ -201,8 +232,8 @@ pub record IsArenaFull (words : List (List ℕ)) (holds : List ℕ → Option (L
 pub record IsTooLarge (words : List (List ℕ)) (holds : List ℕ → Option (List ℕ)) (kept : Option Image) (said said' : Option (List ℕ)) : Type 0 where
   pub command : Request
   pub asked_for : asked words ≡ Some command
-  pub is_run : command.action ≡ Run
-  pub large : FileIsLarge (holds command.file) kept command.arena
+  pub runs : RunsPrograms command.action
+  pub large : FileIsLarge command.action (holds command.file) kept command.arena
   pub line : WasGiven said (arena_full_line (length large.is_large.built.image.words) command.arena) said'
 
 -- Budget: a run did not end within its instructions, or an evaluation ended for want of levels; the line says how many there were
@@ -220,7 +251,7 @@ pub record IsReadFault (words : List (List ℕ)) (holds : List ℕ → Option (L
   pub ended : IsEnded words holds kept left left' sent endings.ReadFault
   pub line : WasGiven said read_fault_line said'
 
--- Write fault on the way: the output was cut off behind a beginning of what the program prints
+-- Write fault on the way: the output was cut off behind a beginning of what the program prints, or by `make` in the counts
 pub record IsCutOff (words : List (List ℕ)) (holds : List ℕ → Option (List ℕ)) (kept : Option Image) (left left' : Option (List ℕ)) (sent : Sent) : Type 0 where
   pub ended : IsEnded words holds kept left left' sent endings.WriteFault
 
@@ -235,7 +266,7 @@ pub record IsBroken (words : List (List ℕ)) (holds : List ℕ → Option (List
   pub command : Request
   pub asked_for : asked words ≡ Some command
   pub is_plain : command.action ≡ Plain
-  pub breaks : FileBreaks (holds command.file) kept command.arena command.steps left left' sent
+  pub breaks : FileBreaks command.action (holds command.file) kept command.arena command.steps left left' sent
 
 -- a run or an evaluation came to an end of which the line is still to be written
 pub record IsUntold (words : List (List ℕ)) (holds : List ℕ → Option (List ℕ)) (kept : Option Image) (left left' : Option (List ℕ)) (sent : Sent) : Type 0 where
@@ -243,34 +274,74 @@ pub record IsUntold (words : List (List ℕ)) (holds : List ℕ → Option (List
   pub has_line : HasLine end
   pub ended : IsEnded words holds kept left left' sent end
 
--- The statuses of `check`, of which no image is left
+-- The statuses of `check` and `build`, which run nothing
 
--- Done: the command names a file to check that is a whole program, and just the line `ok` was given
-pub record IsChecked (words : List (List ℕ)) (holds : List ℕ → Option (List ℕ)) (kept : Option Image) (sent : Sent) (said said' : Option (List ℕ)) : Type 0 where
+-- Done: the command names a file to check or to build that is a whole program, and just the line `ok`, or the bytes of its image file, were given
+pub record IsWritten (words : List (List ℕ)) (holds : List ℕ → Option (List ℕ)) (kept : Option Image) (sent : Sent) (said said' : Option (List ℕ)) : Type 0 where
   pub command : Request
   pub asked_for : asked words ≡ Some command
-  pub is_check : command.action ≡ Check
-  pub passes : Passes (holds command.file)
-  pub unbuilt : kept ≡ None
-  pub printed : WasGiven sent.before ok_line sent.after
+  pub bytes : List ℕ
+  pub writes : Writes command.action (holds command.file) kept bytes
+  pub printed : WasGiven sent.before bytes sent.after
   pub line : WasGiven said [] said'
 
--- Refused, by any action: the command names a file that is no whole program; the line says where its first offence stands, and which it is
+-- Write fault of these, of which a front was given
+pub record IsWrittenCutOff (words : List (List ℕ)) (holds : List ℕ → Option (List ℕ)) (kept : Option Image) (sent : Sent) : Type 0 where
+  pub command : Request
+  pub asked_for : asked words ≡ Some command
+  pub bytes : List ℕ
+  pub writes : Writes command.action (holds command.file) kept bytes
+  pub printed : WasGivenFront sent.before bytes sent.after
+
+-- Refused, by any action that judges a text: it is no whole program; the line says where its first offence stands, and which it is
 pub record IsRefused (words : List (List ℕ)) (holds : List ℕ → Option (List ℕ)) (said said' : Option (List ℕ)) : Type 0 where
   pub command : Request
   pub asked_for : asked words ≡ Some command
   pub refusal : Refusal
-  pub offends : Offends (holds command.file) refusal
+  pub offends : Offends command.action (holds command.file) refusal
   pub line : WasGiven said (refused_line refusal) said'
 
--- Write fault of the line `ok`, of which a front was given
-pub record IsCheckedCutOff (words : List (List ℕ)) (holds : List ℕ → Option (List ℕ)) (kept : Option Image) (sent : Sent) : Type 0 where
+-- The statuses of `exec`, of which no image is left
+
+-- the command names an image file to run, and this is told of its run
+pub record IsExecuted (words : List (List ℕ)) (holds : List ℕ → Option (List ℕ)) (kept : Option Image) (left left' : Option (List ℕ)) (sent : Sent) (told : CommandAnswer) : Type 0 where
   pub command : Request
   pub asked_for : asked words ≡ Some command
-  pub is_check : command.action ≡ Check
-  pub passes : Passes (holds command.file)
-  pub unbuilt : kept ≡ None
-  pub printed : WasGivenFront sent.before ok_line sent.after
+  pub is_exec : command.action ≡ Exec
+  pub unkept : kept ≡ None
+  pub executes : Executes (holds command.file) command.arena command.steps left left' sent told
+
+-- this status, with its line: Done, Unhandled, Arena full, Budget, Trap, or Read fault
+pub record IsExecutedSo (words : List (List ℕ)) (holds : List ℕ → Option (List ℕ)) (kept : Option Image) (left left' : Option (List ℕ)) (sent : Sent) (said said' : Option (List ℕ)) (status : Status) : Type 0 where
+  pub told : CommandAnswer
+  pub executed : IsExecuted words holds kept left left' sent told
+  pub status_is : status ≡ status_of told
+  pub line : WasGiven said (line_of told) said'
+
+-- a run came to an end of which a line is to be written
+pub record IsExecutedUntold (words : List (List ℕ)) (holds : List ℕ → Option (List ℕ)) (kept : Option Image) (left left' : Option (List ℕ)) (sent : Sent) : Type 0 where
+  pub told : CommandAnswer
+  pub has_line : line_of told ≢ []
+  pub executed : IsExecuted words holds kept left left' sent told
+
+-- Arena full too: the image has more words than the arena; the line says how many each has
+pub record IsLargeImage (words : List (List ℕ)) (holds : List ℕ → Option (List ℕ)) (kept : Option Image) (said said' : Option (List ℕ)) : Type 0 where
+  pub command : Request
+  pub asked_for : asked words ≡ Some command
+  pub is_exec : command.action ≡ Exec
+  pub unkept : kept ≡ None
+  pub large : IsLargeFile (holds command.file) command.arena
+  pub line : WasGiven said (arena_full_line (length large.file.image.words) command.arena) said'
+
+-- Bad image: the command names a file to run that is no image file; the line says why
+pub record IsBadImage (words : List (List ℕ)) (holds : List ℕ → Option (List ℕ)) (kept : Option Image) (said said' : Option (List ℕ)) : Type 0 where
+  pub command : Request
+  pub asked_for : asked words ≡ Some command
+  pub is_exec : command.action ≡ Exec
+  pub unkept : kept ≡ None
+  pub reason : ImageFault
+  pub bad : IsBadFile (holds command.file) reason
+  pub line : WasGiven said (bad_image_line reason) said'
 
 -- The status of words alone
 
@@ -278,3 +349,23 @@ pub record IsCheckedCutOff (words : List (List ℕ)) (holds : List ℕ → Optio
 pub record IsUsage (words : List (List ℕ)) (said said' : Option (List ℕ)) : Type 0 where
   pub asked_for : asked words ≡ None
   pub line : WasGiven said usage_line said'
+
+-- What actions never do
+
+-- they do not read the input
+abbrev pub ReadsNothing : Action → Type 0
+ReadsNothing Check = ⊤
+ReadsNothing Build = ⊤
+ReadsNothing action = ⊥
+
+-- they leave no image
+abbrev pub KeepsNothing : Action → Type 0
+KeepsNothing Check = ⊤
+KeepsNothing Exec = ⊤
+KeepsNothing Plain = ⊤
+KeepsNothing action = ⊥
+
+-- they do not touch the shelf
+abbrev pub MakesText : Action → Type 0
+MakesText (Make n) = ⊤
+MakesText action = ⊥

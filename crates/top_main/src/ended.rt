@@ -4,13 +4,13 @@ ghost use Rattle.std.specs.Prelude.{◌≡◌, ◌⊎◌};
 ghost use Rattle.lang_meaning.specs.Lookup.{text as text_of};
 ghost use Rattle.top_main.specs.Theorem.{class_text};
 ghost use Rattle.top_main.specs.Answers.{EndAnswers};
-ghost use Rattle.top_main.specs.declared.status.CommandAnswer.TheVariants.{Unhandled as Signalled, NoMemory as WantsMemory};
+ghost use Rattle.top_lines.specs.declared.status.CommandAnswer.TheVariants.{Unhandled as Signalled, NoMemory as WantsMemory};
 
-use crate::status::CommandAnswer;
 use base::{Bytes, Name, Names, NoMemory, Place};
 use front_files::Whole;
 use lang_meaning::{ClassId, EvaluationEnd};
 use std::alloc::Global;
+use top_lines::CommandAnswer;
 
 /// The answer of a program that came to this end, within so many instructions or levels; to name the class of a condition takes
 /// memory.

@@ -1,75 +1,68 @@
 // A run of the image of a whole program, and how it ends.
 
-ghost use Rattle.std.specs.Prelude.{◌≡◌, ◌≤◌, ◌<◌, length, slice_index, IfOk, OnErr};
+ghost use Rattle.std.specs.Prelude.{◌≡◌, ◌≤◌, length, IfOk, OnErr};
 ghost use Rattle.base.specs.Outside.{Rose};
 ghost use Rattle.lang_meaning.specs.Evaluates.{Tells};
 ghost use Rattle.lang_meaning.specs.Meaning.{place_of_site};
-ghost use Rattle.rv_machine.specs.State.{start};
+ghost use Rattle.top_exec.specs.Runs.{sent_to};
 ghost use Rattle.top_main.specs.Images.{IsImageOf};
-ghost use Rattle.top_main.specs.Theorem.{RunComes, sent_to};
-ghost use Rattle.top_main.specs.Answers.{end_told, site_told};
+ghost use Rattle.top_main.specs.Theorem.{RunComes};
+ghost use Rattle.top_main.specs.Answers.{Executed, end_told, site_told};
 
-use crate::run::Bounds;
 use base::{NoMemory, Place, Sink, Source};
 use front_files::Whole;
 use lang_meaning::{EvaluationEnd, SiteId};
-use rv_machine::{Ending, Image, Machine};
+use rv_machine::{Ending, Image};
 use std::alloc::Global;
+use top_exec::{Bounds, ImageEnd, run_image};
 
-// The register that has the number of a condition's site.
-const SITE_REGISTER: u32 = 11;
+/// How a program came to an end whose image ran, and how many instructions were executed.
+#[derive(Clone, Copy)]
+pub(crate) struct ProgramEnd {
+    pub end: EvaluationEnd,
+    pub executed: u64,
+}
 
 /// Runs at most so many instructions of the image of a program, in an arena of so many words. `ReadFault` and `WriteFault`
 /// only where the count of the source's or the sink's faults rose; after `NoMemory` nothing ran.
-pub(crate) fn run_image<S: Source, O: Sink>(
+pub(crate) fn run_program<S: Source, O: Sink>(
     alloc: Global,
     whole: &Whole,
     image: &Image,
     bounds: Bounds,
     input: &mut S,
     out: &mut O,
-) -> Result<EvaluationEnd, NoMemory>
+) -> Result<ProgramEnd, NoMemory>
     requires is_image { IsImageOf whole.now.names whole.now.program image.now }
     requires fits { length image.now.words ≤ bounds.arena }
     requires most { bounds.arena ≤ 16777216 }
-    ensures comes { IfOk result (RunComes whole.now.names whole.now.program image.now bounds.arena bounds.steps
+    ensures comes { IfOk result (λ e. RunComes whole.now.names whole.now.program image.now bounds.arena bounds.steps
         (S.left input.old) (S.left input.new)
-        (sent_to (O.given out.old) (O.writes out.old) (O.given out.new) (O.writes out.new))) }
-    ensures fault { IfOk result (λ end. Tells end (Rose (S.faults input.old) (S.faults input.new)) (Rose (O.faults out.old) (O.faults out.new))) }
+        (sent_to (O.given out.old) (O.writes out.old) (O.given out.new) (O.writes out.new)) e.end) }
+    ensures fault { IfOk result (λ e. Tells e.end (Rose (S.faults input.old) (S.faults input.new)) (Rose (O.faults out.old) (O.faults out.new))) }
+    ensures executed { IfOk result (Executed image.now bounds.arena bounds.steps (S.left input.old)) }
     ensures same { OnErr result ((out.new ≡ out.old) × (input.new ≡ input.old)) }
+    ensures count { O.faults out.old ≤ O.faults out.new }
 {
-    let mut machine = started(alloc, image, bounds.arena)?;
-    let ending = machine.run(bounds.steps as u64, input, out);
-    let end = end_of(whole, &machine, ending);
-    drop(machine);
-    Ok(end)
+    let ended = run_image(alloc, image, bounds, input, out)?;
+    let end = end_of(whole, ended);
+    Ok(ProgramEnd {
+        end,
+        executed: ended.executed,
+    })
 }
 
-// A machine of that many words at the start of the image.
-fn started(alloc: Global, image: &Image, arena: u32) -> Result<Machine, NoMemory>
-    requires fits { length image.now.words ≤ arena }
-    requires bounded { arena ≤ 16777216 }
-    ensures state { IfOk result (λ m. m.state ≡ start image.now.words image.now.entry arena) }
-    ensures count { IfOk result (λ m. m.count ≡ 0) }
-{
-    let mut machine = Machine::new(alloc, arena)?;
-    match machine.load(image) {
-        Ok(()) => Ok(machine),
-        Err(_) => unreachable!(),
-    }
-}
-
-// The end of a program whose image ran on this machine, and ended so. No run traps that was fed its input, by what is known of
+// The end of a program whose image ran and ended so. No run traps that was fed its input, by what is known of
 // images that were built; but of a run that reads an input which the source does not tell, nothing is known. So a trap is answered
 // as a run that goes on, and all that is claimed of that holds of it: there is no input that feeds such a run.
-fn end_of(whole: &Whole, machine: &Machine, ending: Ending) -> EvaluationEnd
-    ensures { result ≡ end_told whole.now.program.sites (slice_index machine.now.state.registers 11) ending }
+fn end_of(whole: &Whole, ended: ImageEnd) -> EvaluationEnd
+    ensures { result ≡ end_told whole.now.program.sites ended.site ended.ending }
 {
-    match ending {
+    match ended.ending {
         Ending::Halt(_) => EvaluationEnd::Value,
         Ending::Unhandled(class) => EvaluationEnd::Unhandled {
             class: class as usize,
-            site: place_told(whole, machine.register(SITE_REGISTER)),
+            site: place_told(whole, ended.site),
         },
         Ending::Full { asked, left } => EvaluationEnd::Full {
             asked: asked as u64,

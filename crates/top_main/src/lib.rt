@@ -1,20 +1,20 @@
 // The actions of the program: text in, statuses and bytes out.
 #![tactic(auto)]
 
+mod build;
 mod check;
-pub mod command;
-mod command_line;
 mod ended;
 mod image_run;
 pub mod kept;
-pub mod lines;
-pub mod load;
+pub mod laws;
 pub mod main_call;
-mod numbers;
+mod make;
+mod mode;
 mod plain;
 mod run;
-pub mod status;
+mod writing;
 
 pub use kept::Kept;
+pub use laws::law_agree;
 pub use main_call::isl_main;
-pub use status::{CommandAnswer, Status};
+pub use top_lines::{CommandAnswer, Status, lines};

@@ -2,19 +2,18 @@
 
 ghost use Rattle.std.specs.Prelude.{◌≡◌, None};
 ghost use Rattle.base.specs.Outside.{Rose};
-ghost use Rattle.top_main.specs.Theorem.{sent_to};
+ghost use Rattle.top_exec.specs.Runs.{sent_to};
 ghost use Rattle.top_main.specs.Answers.{ProgramAnswers, FileAnswers};
-ghost use Rattle.top_main.specs.declared.command.Action.TheVariants.{Plain as ToEvaluate};
+ghost use Rattle.top_command.specs.declared.command.Action.TheVariants.{Plain as ToEvaluate};
 
 use crate::ended::answer_of;
-use crate::load::{LoadStop, load};
-use crate::run::Bounds;
-use crate::status::CommandAnswer;
-use base::{NoMemory, Shelf, Sink, Source};
+use base::{LONGEST_TEXT, NoMemory, Shelf, Sink, Source};
 use eval_run::evaluate;
 use front_files::{Mode, Whole, read_program};
 use front_library::PRELUDE;
 use std::alloc::Global;
+use top_exec::{Bounds, LoadStop, loading};
+use top_lines::CommandAnswer;
 
 /// Judges the file's text as a whole program, and evaluates it within so many levels and words. `ReadFault` and
 /// `WriteFault` only where the count of the source's or the sink's faults rose.
@@ -32,7 +31,7 @@ pub(crate) fn plain_file<F: Shelf, S: Source, O: Sink>(
         (Rose (F.faults shelf.old) (F.faults shelf.new)) (Rose (S.faults input.old) (S.faults input.new))
         (Rose (O.faults out.old) (O.faults out.new)) ((out.new ≡ out.old) × (input.new ≡ input.old)) }
 {
-    let text = match load(alloc, shelf, file) {
+    let text = match loading::load(alloc, shelf, file, LONGEST_TEXT + 1) {
         Ok(text) => text,
         Err(LoadStop::Failed) => return CommandAnswer::FileFault,
         Err(LoadStop::NoMemory) => return CommandAnswer::NoMemory,

@@ -1,36 +1,41 @@
-// The action `run`: a file compiled as a whole program, and its image run.
+// The actions `run` and `show`: a file compiled as a whole program, and its image run.
 
 ghost use Rattle.std.specs.Prelude.{◌≡◌, ◌≤◌, Some, None};
 ghost use Rattle.base.specs.Outside.{Rose};
+ghost use Rattle.top_command.specs.declared.command.Action.TheVariants.{Run as ToRun};
+ghost use Rattle.top_exec.specs.Runs.{sent_to};
 ghost use Rattle.top_main.specs.Images.{IsImageOf};
-ghost use Rattle.top_main.specs.Theorem.{sent_to};
-ghost use Rattle.top_main.specs.Answers.{ProgramAnswers, FileAnswers};
-ghost use Rattle.top_main.specs.declared.command.Action.TheVariants.{Run as ToRun};
+ghost use Rattle.top_main.specs.Answers.{ProgramAnswers, FileAnswers, IsCounted, RunsFiles};
 
 use crate::ended::answer_of;
-use crate::image_run::run_image;
+use crate::image_run::run_program;
 use crate::kept::Kept;
-use crate::load::{LoadStop, load};
-use crate::status::CommandAnswer;
+use crate::mode::mode_of;
 use back_build::build;
-use base::{NoMemory, Shelf, Sink, Source};
-use front_files::{Mode, Whole, read_program};
+use base::{LONGEST_TEXT, NoMemory, Shelf, Sink, Source};
+use front_files::{Whole, read_program};
 use front_library::PRELUDE;
 use rv_machine::Image;
 use std::alloc::Global;
+use top_command::Action;
+use top_exec::{Bounds, LoadStop, loading};
+use top_lines::CommandAnswer;
 
-/// How many instructions a run may execute, or how many levels an evaluation may have, and the words of its
-/// arena.
-#[derive(Clone, Copy)]
-pub(crate) struct Bounds {
-    pub steps: u32,
-    pub arena: u32,
+/// What is answered of a program whose image ran, how many words the image has, and how many instructions were
+/// executed.
+#[derive(Drop)]
+pub(crate) struct ProgramRun {
+    pub answer: CommandAnswer,
+    pub words: u32,
+    pub executed: u64,
 }
 
-/// Judges the file's text as a whole program, compiles it, and runs at most so many instructions of its image, which is kept.
-/// `ReadFault` and `WriteFault` only where the count of the source's or the sink's faults rose.
+/// Judges the file's text as a whole program, by `show` with the value of its last form printed, compiles it, and runs at most
+/// so many instructions of its image, which is kept. `ReadFault` and `WriteFault` only where the count of the source's or the
+/// sink's faults rose.
 pub(crate) fn run_file<F: Shelf, S: Source, O: Sink>(
     alloc: Global,
+    action: Action,
     bounds: Bounds,
     file: &str,
     shelf: &mut F,
@@ -38,22 +43,23 @@ pub(crate) fn run_file<F: Shelf, S: Source, O: Sink>(
     out: &mut O,
     kept: &mut Kept,
 ) -> CommandAnswer
+    requires runs { RunsFiles action }
     requires most { bounds.arena ≤ 16777216 }
     requires empty { kept.old.image ≡ None }
-    ensures { FileAnswers result ToRun (F.holds shelf.old file.now) kept.new.image bounds.arena bounds.steps
+    ensures { FileAnswers result action (F.holds shelf.old file.now) kept.new.image bounds.arena bounds.steps
         (S.left input.old) (S.left input.new)
         (sent_to (O.given out.old) (O.writes out.old) (O.given out.new) (O.writes out.new))
         (Rose (F.faults shelf.old) (F.faults shelf.new)) (Rose (S.faults input.old) (S.faults input.new))
         (Rose (O.faults out.old) (O.faults out.new)) ((out.new ≡ out.old) × (input.new ≡ input.old)) }
 {
-    let text = match load(alloc, shelf, file) {
+    let text = match loading::load(alloc, shelf, file, LONGEST_TEXT + 1) {
         Ok(text) => text,
         Err(LoadStop::Failed) => return CommandAnswer::FileFault,
         Err(LoadStop::NoMemory) => return CommandAnswer::NoMemory,
     };
-    match read_program(alloc, text.as_slice(), PRELUDE, Mode::Run) {
+    match read_program(alloc, text.as_slice(), PRELUDE, mode_of(action)) {
         Ok(whole) => {
-            let answer = run(alloc, &whole, bounds, input, out, kept);
+            let ProgramRun { answer, .. } = run(alloc, &whole, bounds, input, out, kept);
             drop(whole);
             answer
         }
@@ -61,29 +67,35 @@ pub(crate) fn run_file<F: Shelf, S: Source, O: Sink>(
     }
 }
 
-// Compiles a whole program, runs its image and keeps it. A program that is not compiled is answered as want of memory.
-fn run<S: Source, O: Sink>(
+/// Compiles a whole program, runs its image and keeps it. A program that is not compiled is answered as want of memory.
+pub(crate) fn run<S: Source, O: Sink>(
     alloc: Global,
     whole: &Whole,
     bounds: Bounds,
     input: &mut S,
     out: &mut O,
     kept: &mut Kept,
-) -> CommandAnswer
+) -> ProgramRun
     requires most { bounds.arena ≤ 16777216 }
-    ensures { ProgramAnswers result ToRun whole.now.names whole.now.program kept.new.image bounds.arena bounds.steps
+    ensures answer { ProgramAnswers result.answer ToRun whole.now.names whole.now.program kept.new.image bounds.arena bounds.steps
         (S.left input.old) (S.left input.new)
         (sent_to (O.given out.old) (O.writes out.old) (O.given out.new) (O.writes out.new))
         (Rose (S.faults input.old) (S.faults input.new)) (Rose (O.faults out.old) (O.faults out.new))
         ((out.new ≡ out.old) × (input.new ≡ input.old)) }
+    ensures counted { IsCounted kept.new.image bounds.arena bounds.steps (S.left input.old) result }
+    ensures count { O.faults out.old ≤ O.faults out.new }
 {
     match build(alloc, &whole.program, &whole.names) {
         Ok(image) => {
-            let answer = run_built(alloc, whole, &image, bounds, input, out);
+            let ran = run_built(alloc, whole, &image, bounds, input, out);
             kept.image = Some(image);
-            answer
+            ran
         }
-        Err(_) => CommandAnswer::NoMemory,
+        Err(_) => ProgramRun {
+            answer: CommandAnswer::NoMemory,
+            words: 0,
+            executed: 0,
+        },
     }
 }
 
@@ -95,24 +107,38 @@ fn run_built<S: Source, O: Sink>(
     bounds: Bounds,
     input: &mut S,
     out: &mut O,
-) -> CommandAnswer
+) -> ProgramRun
     requires most { bounds.arena ≤ 16777216 }
     requires is_image { IsImageOf whole.now.names whole.now.program image.now }
-    ensures { ProgramAnswers result ToRun whole.now.names whole.now.program (Some image.now) bounds.arena bounds.steps
+    ensures answer { ProgramAnswers result.answer ToRun whole.now.names whole.now.program (Some image.now) bounds.arena bounds.steps
         (S.left input.old) (S.left input.new)
         (sent_to (O.given out.old) (O.writes out.old) (O.given out.new) (O.writes out.new))
         (Rose (S.faults input.old) (S.faults input.new)) (Rose (O.faults out.old) (O.faults out.new))
         ((out.new ≡ out.old) × (input.new ≡ input.old)) }
+    ensures counted { IsCounted (Some image.now) bounds.arena bounds.steps (S.left input.old) result }
+    ensures count { O.faults out.old ≤ O.faults out.new }
 {
     let words = image.words();
     if bounds.arena < words {
-        return CommandAnswer::ArenaFull {
-            asked: words as u64,
-            left: bounds.arena as u64,
+        return ProgramRun {
+            answer: CommandAnswer::ArenaFull {
+                asked: words as u64,
+                left: bounds.arena as u64,
+            },
+            words,
+            executed: 0,
         };
     }
-    match run_image(alloc, whole, image, bounds, input, out) {
-        Ok(end) => answer_of(alloc, whole, bounds.steps, end),
-        Err(NoMemory) => CommandAnswer::NoMemory,
+    match run_program(alloc, whole, image, bounds, input, out) {
+        Ok(ended) => ProgramRun {
+            answer: answer_of(alloc, whole, bounds.steps, ended.end),
+            words,
+            executed: ended.executed,
+        },
+        Err(NoMemory) => ProgramRun {
+            answer: CommandAnswer::NoMemory,
+            words,
+            executed: 0,
+        },
     }
 }

@@ -1,6 +1,6 @@
 -- The answer to a command's words is that of the command.
 use Rattle.top_main.specs.Answers.{was_asked}
-use Rattle.top_main.proofs.Digits.{asked_within}
+use Rattle.top_command.proofs.Digits.{asked_within}
 use Rattle.top_main.proofs.main_call.answer_to.Goals as goal
 
 pub obey-answer-requires-clause-most : goal.obey-answer-requires-clause-most

@@ -1,13 +1,25 @@
--- The answer for a file to run, by the verdict on its text.
-use Rattle.std.proofs.Common.{sym, subst}
-use Rattle.top_main.specs.Loads.{IsTextTaken}
-use Rattle.top_main.proofs.Outcomes.{of_program}
+-- The answer for a file to run or to show, by the verdict on its text.
+use Rattle.std.proofs.Common.{refl, sym, subst}
+use Rattle.front_files.specs.declared.mode.Mode.{Mode}
+use Rattle.front_files.specs.Verdicts.{Accepts}
+use Rattle.top_exec.specs.Loads.{IsTextTaken}
+use Rattle.top_main.specs.Theorem.{library}
+use Rattle.top_main.proofs.Outcomes.{of_program, of_stop, of_action, text_taken}
 use Rattle.top_main.proofs.run.run_file.Goals as goal
 
 pub returns-in-Ok-read_program : goal.returns-in-Ok-read_program
 returns-in-Ok-read_program g c =
-    of_program _ _ c.as_slice.result.now
-    (record { names = c.in-Ok-read_program.whole.names; program = c.in-Ok-read_program.whole.program; accepts = c.in-Ok-read_program.ensures.program })
+    let names = c.in-Ok-read_program.whole.names in
+    let program = c.in-Ok-read_program.whole.program in
+    let text = c.as_slice.result.now in
+    of_program c.args.action _ text
+    (record { names = names; program = program; accepts = subst (λ (m : Mode). Accepts library text m names program) c.mode_of.ensures c.in-Ok-read_program.ensures.program })
     _ _ _ _ _ _ _ _ _ _
-    (subst (IsTextTaken (g.F.Shelf.holds c.args.shelf.now c.args.file.now)) (sym c.as_slice.ensures) c.in-Ok.ensures.taken)
-    c.run-answer.result c.run-answer.ensures
+    (text_taken c.args.action _ text c.requires.runs (subst (IsTextTaken (g.F.Shelf.holds c.args.shelf.now c.args.file.now)) (sym c.as_slice.ensures) c.in-Ok.ensures.taken))
+    _ (of_action names program _ _ _ _ _ _ _ _ _ c.args.action c.requires.runs c.run-answer.result.answer c.run-answer.ensures.answer)
+
+pub returns : goal.returns
+returns g c =
+    of_stop c.of_stop.result c.in-Err.stop c.args.action c.mode_of.result _ c.as_slice.result.now _ _ _ _ _ _ _ _ _ _ c.of_stop.ensures c.mode_of.ensures
+    (text_taken c.args.action _ c.as_slice.result.now c.requires.runs (subst (IsTextTaken (g.F.Shelf.holds c.args.shelf.now c.args.file.now)) (sym c.as_slice.ensures) c.in-Ok.ensures.taken))
+    c.in-Err.ensures.stops (refl, refl) c.requires.empty

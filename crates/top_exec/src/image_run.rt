@@ -1,0 +1,74 @@
+// A run of an image, and how it ends.
+
+ghost use Rattle.std.specs.Prelude.{◌≡◌, ◌≤◌, length, IfOk, OnErr};
+ghost use Rattle.base.specs.Outside.{Rose};
+ghost use Rattle.rv_machine.specs.State.{start};
+ghost use Rattle.top_exec.specs.Runs.{ImageComes, FaultTells, sent_to};
+
+use base::{NoMemory, Sink, Source};
+use rv_machine::{Ending, Image, Machine};
+use std::alloc::Global;
+
+// The register that has the number of a condition's site.
+const SITE_REGISTER: u32 = 11;
+
+/// How many instructions a run may execute, or how many levels an evaluation may have, and the words of its
+/// arena.
+#[derive(Clone, Copy)]
+pub struct Bounds {
+    pub steps: u32,
+    pub arena: u32,
+}
+
+/// How a run of an image ended, what register 11 then had, which has the number of a condition's site, and how many
+/// instructions were executed.
+#[derive(Clone, Copy)]
+pub struct ImageEnd {
+    pub ending: Ending,
+    pub site: u32,
+    pub executed: u64,
+}
+
+/// Runs at most so many instructions of an image, in an arena of so many words. `ReadFault` and `WriteFault` only where the
+/// count of the source's or the sink's faults rose; after `NoMemory` nothing ran.
+pub fn run_image<S: Source, O: Sink>(
+    alloc: Global,
+    image: &Image,
+    bounds: Bounds,
+    input: &mut S,
+    out: &mut O,
+) -> Result<ImageEnd, NoMemory>
+    requires fits { length image.now.words ≤ bounds.arena }
+    requires most { bounds.arena ≤ 16777216 }
+    ensures comes { IfOk result (ImageComes image.now bounds.arena bounds.steps (S.left input.old) (S.left input.new)
+        (sent_to (O.given out.old) (O.writes out.old) (O.given out.new) (O.writes out.new))) }
+    ensures fault { IfOk result (λ end. FaultTells end.ending (Rose (S.faults input.old) (S.faults input.new))
+        (Rose (O.faults out.old) (O.faults out.new))) }
+    ensures same { OnErr result ((out.new ≡ out.old) × (input.new ≡ input.old)) }
+    ensures count { O.faults out.old ≤ O.faults out.new }
+{
+    let mut machine = started(alloc, image, bounds.arena)?;
+    let ending = machine.run(bounds.steps as u64, input, out);
+    let site = machine.register(SITE_REGISTER);
+    let executed = machine.count();
+    drop(machine);
+    Ok(ImageEnd {
+        ending,
+        site,
+        executed,
+    })
+}
+
+// A machine of that many words at the start of the image.
+fn started(alloc: Global, image: &Image, arena: u32) -> Result<Machine, NoMemory>
+    requires fits { length image.now.words ≤ arena }
+    requires bounded { arena ≤ 16777216 }
+    ensures state { IfOk result (λ m. m.state ≡ start image.now.words image.now.entry arena) }
+    ensures count { IfOk result (λ m. m.count ≡ 0) }
+{
+    let mut machine = Machine::new(alloc, arena)?;
+    match machine.load(image) {
+        Ok(()) => Ok(machine),
+        Err(_) => unreachable!(),
+    }
+}

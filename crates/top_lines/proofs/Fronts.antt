@@ -1,0 +1,28 @@
+-- What is written in pieces, and a front of it.
+use Rattle.std.proofs.Common.{◌≡◌, ℕ, List, ◌++◌, Some, None, Result, Ok, Err, OnErr, sym, ap, ◌∙◌, append_assoc}
+use Rattle.std.specs.Prelude.{Option}
+use Rattle.base.specs.Given.{WasGiven, WasGivenFront}
+
+-- one piece behind the other
+pub given_both : (given between given' : Option (List ℕ)) (first second : List ℕ) → WasGiven given first between → WasGiven between second given' → WasGiven given (first ++ second) given'
+given_both given between None first second h t = tt
+given_both given None (Some after) first second h t = let no : None ≡ Some t.0 = t.1 in absurd (cc)
+given_both given (Some middle) (Some after) first second h t =
+    let told : Some middle ≡ Some t.0 = t.1 in
+    let same : middle ≡ t.0 = cc in
+    (h.0, h.1, t.2 ∙ ap (λ x. x ++ second) (sym same ∙ h.2) ∙ append_assoc h.0 first second)
+
+-- a front of the first piece is one of both
+pub front_of_first : (given given' : Option (List ℕ)) (first second : List ℕ) → WasGivenFront given first given' → WasGivenFront given (first ++ second) given'
+front_of_first given given' first second h =
+    (h.0, h.1 ++ second, (sym (append_assoc h.0 h.1 second) ∙ ap (λ x. x ++ second) h.2.0, h.2.1))
+
+-- and so is the first piece with a front of the second
+pub front_of_second : (given between given' : Option (List ℕ)) (first second : List ℕ) → WasGiven given first between → WasGivenFront between second given' → WasGivenFront given (first ++ second) given'
+front_of_second given between given' first second h t =
+    (first ++ t.0, t.1, (append_assoc first t.0 t.1 ∙ ap (λ x. first ++ x) t.2.0, given_both given between given' first t.0 h t.2.1))
+
+-- what holds anyway holds after an error
+pub after_error : {T E P : Type 0} (r : Result T E) → P → OnErr r P
+after_error (Ok x) p = tt
+after_error (Err e) p = p

@@ -1,0 +1,146 @@
+-- The lines that statuses write to the error sink, and those that `check` and `make` write to the output.
+use Rattle.std.specs.Prelude.{ℕ, ◌==◌, ◌&&◌, if◌then◌else◌, List, [], ◌∷◌, ◌++◌, Option, Some, None, codes}
+use Rattle.std.specs.Fmt.{decimal}
+use Rattle.base.specs.Reason.{number_of as number_of_reason, text_of as name_of_reason}
+use Rattle.base.specs.declared.place.Place.{Place}
+use Rattle.base.specs.declared.reason.Reason.{Reason}
+use Rattle.base.specs.declared.reason.Refusal.{Refusal}
+use Rattle.base.specs.declared.reason.Stop.{Stop}
+use Rattle.base.specs.declared.reason.Stop.TheVariants as stop
+use Rattle.rv_machine.specs.Ends.{trap_number}
+use Rattle.rv_machine.specs.declared.ending.TrapKind.{TrapKind}
+use Rattle.rv_image_file.specs.Reasons.{number_of as number_of_bad_image, text_of as name_of_bad_image}
+use Rattle.rv_image_file.specs.declared.faults.BadImage.{BadImage as ImageFault}
+use Rattle.top_lines.specs.declared.status.Status.{Status}
+use Rattle.top_lines.specs.declared.status.Status.TheVariants.{Done, Unhandled, Usage, Refused, ArenaFull, Budget, FileFault, ReadFault, WriteFault, NoMemory, BadImage, Trap}
+use Rattle.top_lines.specs.declared.status.CommandAnswer.{CommandAnswer}
+use Rattle.top_lines.specs.declared.status.CommandAnswer.TheVariants as answer
+
+abbrev pub line : List ℕ → List ℕ
+line text = text ++ 10 ∷ []
+
+-- a number behind its label
+unfoldable pub labelled : (label : List ℕ) (number : ℕ) → List ℕ
+labelled label number = label ++ decimal number
+
+-- `LINE:COLUMN`
+abbrev pub place_text : Place → List ℕ
+place_text p = (decimal p.line ++ codes ":") ++ decimal p.column
+
+-- ` at LINE:COLUMN`; nothing of the place 0:0
+abbrev pub at_text : Place → List ℕ
+at_text p = if p.line == 0 && p.column == 0 then [] else codes " at " ++ place_text p
+
+-- `unhandled CLASS at LINE:COLUMN`, or `unhandled CLASS`
+abbrev pub unhandled_line : List ℕ → Place → List ℕ
+unhandled_line class site = line ((codes "unhandled " ++ class) ++ at_text site)
+
+-- ` at LINE:COLUMN` of the place of a site, where there is one
+abbrev pub site_text : Option Place → List ℕ
+site_text None = []
+site_text (Some p) = codes " at " ++ place_text p
+
+-- `unhandled class N at LINE:COLUMN`, or `unhandled class N`
+abbrev pub unhandled_class_line : ℕ → Option Place → List ℕ
+unhandled_class_line class site = line (labelled (codes "unhandled class ") class ++ site_text site)
+
+-- `NUMBER NAME`
+abbrev pub reason_text : Reason → List ℕ
+reason_text r = (decimal (number_of_reason r) ++ codes " ") ++ name_of_reason r
+
+-- `LINE:COLUMN: refused NUMBER NAME`
+abbrev pub refused_line : Refusal → List ℕ
+refused_line r =
+    line ((place_text r.place ++ codes ": refused ") ++ reason_text r.reason)
+
+-- `arena full ASKED LEFT`
+abbrev pub arena_full_line : (asked left : ℕ) → List ℕ
+arena_full_line asked left = line (((codes "arena full " ++ decimal asked) ++ codes " ") ++ decimal left)
+
+-- `budget N`
+abbrev pub budget_line : ℕ → List ℕ
+budget_line n = line (codes "budget " ++ decimal n)
+
+-- `bad image NUMBER NAME`
+abbrev pub bad_image_line : ImageFault → List ℕ
+bad_image_line r = line ((labelled (codes "bad image ") (number_of_bad_image r) ++ codes " ") ++ name_of_bad_image r)
+
+-- `trap KIND ADDRESS`
+abbrev pub trap_line : TrapKind → ℕ → List ℕ
+trap_line kind address = line (labelled (codes "trap ") (trap_number kind) ++ labelled (codes " ") address)
+
+-- so many forms of an evaluation may begin
+abbrev pub spent_line : List ℕ
+spent_line = line (codes "spent 9223372036854775808")
+
+abbrev pub usage_line : List ℕ
+usage_line = line (codes "usage: isl [--steps N] [--arena W] ACTION FILE")
+
+-- what `check` writes to the output of a file that is a program
+abbrev pub ok_line : List ℕ
+ok_line = line (codes "ok")
+
+-- what `make` writes to the output behind what its program printed: `nodes A words B instructions C`
+abbrev pub counts_line : (nodes words executed : ℕ) → List ℕ
+counts_line nodes words executed =
+    line ((labelled (codes "nodes ") nodes ++ labelled (codes " words ") words) ++ labelled (codes " instructions ") executed)
+
+abbrev pub file_fault_line : List ℕ
+file_fault_line = line (codes "file fault")
+
+abbrev pub read_fault_line : List ℕ
+read_fault_line = line (codes "read fault")
+
+abbrev pub no_memory_line : List ℕ
+no_memory_line = line (codes "no memory")
+
+abbrev pub line_of : CommandAnswer → List ℕ
+line_of answer.Done = []
+line_of (answer.Unhandled class site) = unhandled_line class site
+line_of answer.Usage = usage_line
+line_of (answer.Refused r) = refused_line r
+line_of (answer.ArenaFull asked left) = arena_full_line asked left
+line_of (answer.Budget n) = budget_line n
+line_of answer.Spent = spent_line
+line_of answer.FileFault = file_fault_line
+line_of answer.ReadFault = read_fault_line
+line_of answer.WriteFault = []
+line_of answer.NoMemory = no_memory_line
+line_of (answer.UnhandledClass class site) = unhandled_class_line class site
+line_of (answer.BadImage fault) = bad_image_line fault
+line_of (answer.Trap kind address) = trap_line kind address
+
+abbrev pub status_of : CommandAnswer → Status
+status_of answer.Done = Done
+status_of (answer.Unhandled class site) = Unhandled
+status_of answer.Usage = Usage
+status_of (answer.Refused r) = Refused
+status_of (answer.ArenaFull asked left) = ArenaFull
+status_of (answer.Budget n) = Budget
+status_of answer.Spent = Budget
+status_of answer.FileFault = FileFault
+status_of answer.ReadFault = ReadFault
+status_of answer.WriteFault = WriteFault
+status_of answer.NoMemory = NoMemory
+status_of (answer.UnhandledClass class site) = Unhandled
+status_of (answer.BadImage fault) = BadImage
+status_of (answer.Trap kind address) = Trap
+
+abbrev pub number_of : Status → ℕ
+number_of Done = 0
+number_of Unhandled = 1
+number_of Usage = 2
+number_of Refused = 3
+number_of ArenaFull = 4
+number_of Budget = 5
+number_of FileFault = 6
+number_of ReadFault = 7
+number_of WriteFault = 8
+number_of NoMemory = 9
+number_of BadImage = 10
+number_of Trap = 11
+
+-- the answer of a text that is no program
+abbrev pub answer_of_stop : Stop → CommandAnswer
+answer_of_stop (stop.Refused r) = answer.Refused r
+answer_of_stop stop.NoMemory = answer.NoMemory

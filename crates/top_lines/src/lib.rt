@@ -1,0 +1,8 @@
+// The statuses that a call ends with, and the lines that tell of them.
+#![tactic(auto)]
+
+pub mod lines;
+pub mod status;
+
+pub use lines::{end_with, write_counts};
+pub use status::{CommandAnswer, Status};

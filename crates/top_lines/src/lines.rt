@@ -1,0 +1,260 @@
+// The lines that statuses write to the error sink, and the line of counts.
+
+ghost use Rattle.std.specs.Prelude.{◌≡◌, ◌≢◌, ◌≤◌, ◌<◌, List, ℕ, OnOk, OnErr, IsOk, ◌++◌, []};
+ghost use Rattle.std.specs.Fmt.{decimal};
+ghost use Rattle.base.specs.Outside.{Rose};
+ghost use Rattle.base.specs.Given.{WasGiven, WasGivenFront};
+ghost use Rattle.top_lines.specs.Lines.{line_of, unhandled_line, at_text, unhandled_class_line, site_text, bad_image_line, trap_line, labelled, counts_line, refused_line, place_text, reason_text, arena_full_line, budget_line, status_of};
+ghost use Rattle.top_lines.specs.declared.status.Status.TheVariants.{WriteFault};
+
+use crate::status::{CommandAnswer, Status};
+use base::{Failed, Place, Reason, Refusal, Sink, write_all};
+use rv_image_file::BadImage;
+use rv_machine::TrapKind;
+
+/// Writes the line of an answer, whose status is then given; `WriteFault` where the line can't be
+/// written whole.
+pub fn end_with<E: Sink>(err: &mut E, answer: CommandAnswer) -> Status
+    ensures written { result ≢ WriteFault → result ≡ status_of answer }
+    ensures line { result ≢ WriteFault → WasGiven (E.given err.old) (line_of answer) (E.given err.new) }
+    ensures quiet { line_of answer ≡ [] → result ≡ status_of answer }
+    ensures fault { result ≡ WriteFault → status_of answer ≢ WriteFault →
+        Rose (E.faults err.old) (E.faults err.new) }
+    ensures count { E.faults err.old ≤ E.faults err.new }
+{
+    let status = status_with(err, &answer);
+    drop(answer);
+    status
+}
+
+// The same of an answer that is kept.
+fn status_with<E: Sink>(err: &mut E, answer: &CommandAnswer) -> Status
+    ensures written { result ≢ WriteFault → result ≡ status_of answer.now }
+    ensures line { result ≢ WriteFault → WasGiven (E.given err.old) (line_of answer.now) (E.given err.new) }
+    ensures quiet { line_of answer.now ≡ [] → result ≡ status_of answer.now }
+    ensures fault { result ≡ WriteFault → status_of answer.now ≢ WriteFault →
+        Rose (E.faults err.old) (E.faults err.new) }
+    ensures count { E.faults err.old ≤ E.faults err.new }
+{
+    match write_line(err, answer) {
+        Ok(()) => answer.status(),
+        Err(Failed) => Status::WriteFault,
+    }
+}
+
+// Writes the line of an answer; nothing for those that have none.
+fn write_line<E: Sink>(err: &mut E, answer: &CommandAnswer) -> Result<(), Failed>
+    ensures given { OnOk result (WasGiven (E.given err.old) (line_of answer.now) (E.given err.new)) }
+    ensures quiet { line_of answer.now ≡ [] → IsOk result }
+    ensures fault { OnErr result (Rose (E.faults err.old) (E.faults err.new)) }
+    ensures count { E.faults err.old ≤ E.faults err.new }
+{
+    match answer {
+        CommandAnswer::Done | CommandAnswer::WriteFault => Ok(()),
+        CommandAnswer::Unhandled { class, site } => write_unhandled(err, class.as_slice(), *site),
+        CommandAnswer::Usage => write_all(err, b"usage: isl [--steps N] [--arena W] ACTION FILE\n"),
+        CommandAnswer::Refused(refusal) => write_refusal(err, *refusal),
+        CommandAnswer::ArenaFull { asked, left } => write_arena_full(err, *asked, *left),
+        CommandAnswer::Budget(steps) => write_budget(err, *steps),
+        CommandAnswer::Spent => write_all(err, b"spent 9223372036854775808\n"),
+        CommandAnswer::FileFault => write_all(err, b"file fault\n"),
+        CommandAnswer::ReadFault => write_all(err, b"read fault\n"),
+        CommandAnswer::NoMemory => write_all(err, b"no memory\n"),
+        CommandAnswer::UnhandledClass { class, site } => write_unhandled_class(err, *class, *site),
+        CommandAnswer::BadImage(fault) => write_bad_image(err, *fault),
+        CommandAnswer::Trap { kind, address } => write_trap(err, *kind, *address),
+    }
+}
+
+// `unhandled CLASS at LINE:COLUMN`, or `unhandled CLASS`
+fn write_unhandled<E: Sink>(err: &mut E, class: &[u8], site: Place) -> Result<(), Failed>
+    ensures given { OnOk result (WasGiven (E.given err.old) (unhandled_line class.now site) (E.given err.new)) }
+    ensures fault { OnErr result (Rose (E.faults err.old) (E.faults err.new)) }
+    ensures count { E.faults err.old ≤ E.faults err.new }
+{
+    write_all(err, b"unhandled ")?;
+    write_all(err, class)?;
+    write_site(err, site)?;
+    write_all(err, b"\n")
+}
+
+// ` at LINE:COLUMN`; nothing of the place 0:0
+fn write_site<E: Sink>(err: &mut E, site: Place) -> Result<(), Failed>
+    ensures given { OnOk result (WasGiven (E.given err.old) (at_text site) (E.given err.new)) }
+    ensures fault { OnErr result (Rose (E.faults err.old) (E.faults err.new)) }
+    ensures count { E.faults err.old ≤ E.faults err.new }
+{
+    if site.line == 0 && site.column == 0 {
+        return Ok(());
+    }
+    write_all(err, b" at ")?;
+    write_place(err, site)
+}
+
+// `unhandled class N at LINE:COLUMN`, or `unhandled class N`
+fn write_unhandled_class<E: Sink>(
+    err: &mut E,
+    class: u32,
+    site: Option<Place>,
+) -> Result<(), Failed>
+    ensures given { OnOk result (WasGiven (E.given err.old) (unhandled_class_line class site) (E.given err.new)) }
+    ensures fault { OnErr result (Rose (E.faults err.old) (E.faults err.new)) }
+    ensures count { E.faults err.old ≤ E.faults err.new }
+{
+    write_labelled(err, b"unhandled class ", u64::from(class))?;
+    write_file_site(err, site)?;
+    write_all(err, b"\n")
+}
+
+// ` at LINE:COLUMN` of the place of a site, where there is one
+fn write_file_site<E: Sink>(err: &mut E, site: Option<Place>) -> Result<(), Failed>
+    ensures given { OnOk result (WasGiven (E.given err.old) (site_text site) (E.given err.new)) }
+    ensures fault { OnErr result (Rose (E.faults err.old) (E.faults err.new)) }
+    ensures count { E.faults err.old ≤ E.faults err.new }
+{
+    match site {
+        None => Ok(()),
+        Some(place) => {
+            write_all(err, b" at ")?;
+            write_place(err, place)
+        }
+    }
+}
+
+// `LINE:COLUMN: refused NUMBER NAME`
+fn write_refusal<E: Sink>(err: &mut E, refusal: Refusal) -> Result<(), Failed>
+    ensures given { OnOk result (WasGiven (E.given err.old) (refused_line refusal) (E.given err.new)) }
+    ensures fault { OnErr result (Rose (E.faults err.old) (E.faults err.new)) }
+    ensures count { E.faults err.old ≤ E.faults err.new }
+{
+    write_place(err, refusal.place)?;
+    write_all(err, b": refused ")?;
+    write_reason(err, refusal.reason)?;
+    write_all(err, b"\n")
+}
+
+// `LINE:COLUMN`
+fn write_place<E: Sink>(err: &mut E, place: Place) -> Result<(), Failed>
+    ensures given { OnOk result (WasGiven (E.given err.old) (place_text place) (E.given err.new)) }
+    ensures fault { OnErr result (Rose (E.faults err.old) (E.faults err.new)) }
+    ensures count { E.faults err.old ≤ E.faults err.new }
+{
+    write_number(err, u64::from(place.line))?;
+    write_all(err, b":")?;
+    write_number(err, u64::from(place.column))
+}
+
+// `NUMBER NAME`
+fn write_reason<E: Sink>(err: &mut E, reason: Reason) -> Result<(), Failed>
+    ensures given { OnOk result (WasGiven (E.given err.old) (reason_text reason) (E.given err.new)) }
+    ensures fault { OnErr result (Rose (E.faults err.old) (E.faults err.new)) }
+    ensures count { E.faults err.old ≤ E.faults err.new }
+{
+    write_number(err, u64::from(reason.number()))?;
+    write_all(err, b" ")?;
+    write_all(err, reason.text().as_bytes())
+}
+
+// `arena full ASKED LEFT`
+fn write_arena_full<E: Sink>(err: &mut E, asked: u64, left: u64) -> Result<(), Failed>
+    ensures given { OnOk result (WasGiven (E.given err.old) (arena_full_line asked left) (E.given err.new)) }
+    ensures fault { OnErr result (Rose (E.faults err.old) (E.faults err.new)) }
+    ensures count { E.faults err.old ≤ E.faults err.new }
+{
+    write_all(err, b"arena full ")?;
+    write_number(err, asked)?;
+    write_all(err, b" ")?;
+    write_number(err, left)?;
+    write_all(err, b"\n")
+}
+
+// `bad image NUMBER NAME`
+fn write_bad_image<E: Sink>(err: &mut E, fault: BadImage) -> Result<(), Failed>
+    ensures given { OnOk result (WasGiven (E.given err.old) (bad_image_line fault) (E.given err.new)) }
+    ensures fault { OnErr result (Rose (E.faults err.old) (E.faults err.new)) }
+    ensures count { E.faults err.old ≤ E.faults err.new }
+{
+    write_labelled(err, b"bad image ", u64::from(fault.number()))?;
+    write_all(err, b" ")?;
+    write_all(err, fault.text().as_bytes())?;
+    write_all(err, b"\n")
+}
+
+// `trap KIND ADDRESS`
+fn write_trap<E: Sink>(err: &mut E, kind: TrapKind, address: u32) -> Result<(), Failed>
+    ensures given { OnOk result (WasGiven (E.given err.old) (trap_line kind address) (E.given err.new)) }
+    ensures fault { OnErr result (Rose (E.faults err.old) (E.faults err.new)) }
+    ensures count { E.faults err.old ≤ E.faults err.new }
+{
+    write_labelled(err, b"trap ", u64::from(kind.number()))?;
+    write_labelled(err, b" ", u64::from(address))?;
+    write_all(err, b"\n")
+}
+
+// `budget N`
+fn write_budget<E: Sink>(err: &mut E, steps: u32) -> Result<(), Failed>
+    ensures given { OnOk result (WasGiven (E.given err.old) (budget_line steps) (E.given err.new)) }
+    ensures fault { OnErr result (Rose (E.faults err.old) (E.faults err.new)) }
+    ensures count { E.faults err.old ≤ E.faults err.new }
+{
+    write_all(err, b"budget ")?;
+    write_number(err, u64::from(steps))?;
+    write_all(err, b"\n")
+}
+
+/// Writes the line of counts, `nodes A words B instructions C`: of a program, of its image and of the run; takes no
+/// memory. After `Failed`, which comes only where the count of the sink's faults rose, a front of it was given.
+pub fn write_counts<O: Sink>(
+    out: &mut O,
+    nodes: u64,
+    words: u64,
+    executed: u64,
+) -> Result<(), Failed>
+    ensures given { OnOk result (WasGiven (O.given out.old) (counts_line nodes words executed) (O.given out.new)) }
+    ensures cut { OnErr result (WasGivenFront (O.given out.old) (counts_line nodes words executed) (O.given out.new)) }
+    ensures fault { OnErr result (Rose (O.faults out.old) (O.faults out.new)) }
+    ensures count { O.faults out.old ≤ O.faults out.new }
+{
+    write_labelled(out, b"nodes ", nodes)?;
+    write_labelled(out, b" words ", words)?;
+    write_labelled(out, b" instructions ", executed)?;
+    write_all(out, b"\n")
+}
+
+// A number behind its label.
+#[tactic(auto, unfolding(crate::specs::Lines::labelled))]
+fn write_labelled<O: Sink>(out: &mut O, label: &[u8], number: u64) -> Result<(), Failed>
+    ensures given { OnOk result (WasGiven (O.given out.old) (labelled label.now number) (O.given out.new)) }
+    ensures cut { OnErr result (WasGivenFront (O.given out.old) (labelled label.now number) (O.given out.new)) }
+    ensures fault { OnErr result (Rose (O.faults out.old) (O.faults out.new)) }
+    ensures count { O.faults out.old ≤ O.faults out.new }
+{
+    write_all(out, label)?;
+    write_number(out, number)
+}
+
+// The number in decimal digits.
+fn write_number<E: Sink>(err: &mut E, number: u64) -> Result<(), Failed>
+    ensures given { OnOk result (WasGiven (E.given err.old) (decimal number) (E.given err.new)) }
+    ensures cut { OnErr result (WasGivenFront (E.given err.old) (decimal number) (E.given err.new)) }
+    ensures fault { OnErr result (Rose (E.faults err.old) (E.faults err.new)) }
+    ensures count { E.faults err.old ≤ E.faults err.new }
+{
+    let mut room = [0; 20];
+    write_all(err, decimal_in(&mut room, number))
+}
+
+// The decimal digits of a number, at the end of the room for them.
+fn decimal_in(room: &mut [u8; 20], number: u64) -> &[u8]
+    ensures { result.now ≡ decimal number }
+{
+    let mut at = 19;
+    let mut rest = number;
+    room[at] = b'0' + (rest % 10) as u8;
+    while rest >= 10 {
+        rest /= 10;
+        at -= 1;
+        room[at] = b'0' + (rest % 10) as u8;
+    }
+    &room[at..]
+}

@@ -1,0 +1,6 @@
+// The text that `make` runs, by its number.
+#![tactic(auto)]
+
+pub mod making;
+
+pub use making::generate;
