@@ -115,9 +115,10 @@ fn built(alloc: Global, text: Bytes) -> Bytes {
     let Ok(mut call) = given.call_with(alloc, FILE_ROOM) else {
         return Bytes::new(alloc);
     };
-    let status = call.make(alloc);
-    let bytes = if status == 0 { call.out.bytes() } else { b"" };
-    let file = Bytes::from_slice(alloc, bytes);
+    let file = match call.make(alloc) {
+        0 => Bytes::from_slice(alloc, call.out.bytes()),
+        _ => Ok(Bytes::new(alloc)),
+    };
     drop(call);
     match file {
         Ok(file) => file,

@@ -1,7 +1,5 @@
 // Bytes as the table writes them.
 
-ghost use Rattle.std.specs.Prelude.{◌<◌, IfSome};
-
 use base::Bytes;
 
 /// Appends the bytes that this text stands for: `\n` is byte 10, `\t` byte 9, `\s` a blank, and a
@@ -41,7 +39,7 @@ pub fn append_hex(bytes: &mut Bytes, text: &str) -> Option<()> {
         match high {
             None => high = Some(digit),
             Some(first) => {
-                bytes.push(first * 16 + digit).ok()?;
+                bytes.push(of_digits(first, digit)).ok()?;
                 high = None;
             }
         }
@@ -52,10 +50,13 @@ pub fn append_hex(bytes: &mut Bytes, text: &str) -> Option<()> {
     }
 }
 
+// The byte of two digits.
+fn of_digits(high: u8, low: u8) -> u8 {
+    high.wrapping_mul(16).wrapping_add(low)
+}
+
 // The number of a hexadecimal digit.
-fn digit_of(letter: u8) -> Option<u8>
-    ensures { IfSome result (λ d. d < 16) }
-{
+fn digit_of(letter: u8) -> Option<u8> {
     match letter {
         b'0'..=b'9' => Some(letter - b'0'),
         b'A'..=b'F' => Some(letter - b'A' + 10),
