@@ -3,3 +3,4 @@ pub mod Further
 pub mod Arguments
 pub mod Programs
 pub mod Images
+pub mod Flat

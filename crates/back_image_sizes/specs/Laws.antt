@@ -1,5 +1,7 @@
 -- How many words the image of a flat program has at most.
-use Rattle.std.specs.Prelude.{◌≤◌, ℕ, ◌+◌, ◌*◌, List, length}
+use Rattle.std.specs.Prelude.{◌≡◌, ◌≤◌, ℕ, ◌+◌, ◌*◌, List, length}
+use Rattle.lang_meaning.specs.declared.program.ProgramRows.{ProgramRows}
+use Rattle.flat_language.specs.Flatten.{flat_program}
 use Rattle.flat_language.specs.declared.program.FlatProgram.{FlatProgram}
 use Rattle.flat_language.specs.FlatForm.{FlatForm}
 use Rattle.flat_language.specs.FlatFits.{Fits, ProgramFits}
@@ -13,7 +15,7 @@ use Rattle.back_lowering.specs.Program.{lowered}
 use Rattle.back_code_sizes.specs.Sizes.{form_words, words_of_node}
 use Rattle.back_words.specs.Uses.{uses}
 use Rattle.back_words.specs.Words.{further_words}
-use Rattle.back_image_sizes.specs.Sizes.{uses_words, most_further_words, most_laid_words, image_words}
+use Rattle.back_image_sizes.specs.Sizes.{uses_words, most_further_words, most_laid_words, image_words, program_image_words}
 
 -- the code of a lowered program, with words beside it
 abbrev pub code_beside : List (List ℕ) → Placement → FlatProgram → (laid : List ℕ) → MidProgram
@@ -36,3 +38,7 @@ LawOfImageSizes =
     (names : List (List ℕ)) (at : Placement) (program : FlatProgram) (symbols : List ℕ) (address : ℕ) (laid : List ℕ) (chosen : List RegisterPlaces)
     → ProgramFits program → length laid ≤ most_laid_words names program symbols address → PlacesFit (code_beside names at program laid) chosen
     → (placed_laid_out (code_beside names at program laid) chosen).code_to ≤ image_words program
+
+-- and so it is by the nodes of the program that was made flat
+abbrev pub LawOfProgramImageSizes : Type 0
+LawOfProgramImageSizes = (program : ProgramRows) → image_words (flat_program program) ≡ program_image_words program

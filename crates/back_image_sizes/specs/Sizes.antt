@@ -3,9 +3,11 @@ use Rattle.std.specs.Prelude.{ℕ, ◌+◌, ◌*◌, List, [], ◌∷◌, length
 use Rattle.lang_meaning.specs.declared.program.GenericRow.{GenericRow}
 use Rattle.lang_meaning.specs.declared.program.ProgramRows.{ProgramRows}
 use Rattle.lang_meaning.specs.Cells.{tuple_cells}
+use Rattle.lang_meaning.specs.ProgramCounts.{program_nodes}
 use Rattle.lang_dispatch.specs.Tables.{tuples_of}
 use Rattle.flat_language.specs.declared.program.FlatProgram.{FlatProgram}
 use Rattle.flat_language.specs.FlatNodes.{tables}
+use Rattle.flat_language.specs.Flatten.{flat_program}
 use Rattle.flat_nodes.specs.ProgramNodes.{flat_program_nodes}
 use Rattle.mid_start.specs.Rows.{unit_words, most_static_words}
 use Rattle.back_code_sizes.specs.Sizes.{words_of_node, words_of_main, words_of_routines, functions_of}
@@ -48,7 +50,7 @@ most_laid_words names program symbols address =
     + unit_words * length (wanted_names names program)
     + length (further_words program symbols address)
 
--- a main form's number, and a class besides its nodes
+-- a class besides its nodes: its name and what stands in front of its precedence list
 abbrev pub words_of_class : ℕ
 words_of_class = 77
 
@@ -56,7 +58,7 @@ words_of_class = 77
 abbrev pub words_of_start : ℕ
 words_of_start = words_of_routines + 80 + 46 + 9 + 72 + 11
 
--- **the words of the image of a program**: for each node, for each main form, for each name of a function, for each class, for the tables, and so many more
+-- **the words of the image of a flat program**: for each node, for each main form and its number, for each name of a function, for each class, for the tables, and so many more
 abbrev pub image_words : FlatProgram → ℕ
 image_words program =
     words_of_node * flat_program_nodes program
@@ -64,4 +66,14 @@ image_words program =
     + 2 * length program.functions
     + words_of_class * length program.classes
     + sum_by (table_words (tables program)) program.generics
+    + words_of_start
+
+-- the same by the rows of a program that is made flat: with its functions inside it it has as many nodes
+abbrev pub program_image_words : ProgramRows → ℕ
+program_image_words program =
+    words_of_node * program_nodes program
+    + (words_of_main + 1) * length program.main
+    + 2 * length program.functions
+    + words_of_class * length program.classes
+    + sum_by (table_words (tables (flat_program program))) program.generics
     + words_of_start

@@ -3,4 +3,4 @@
 
 pub mod laws;
 
-pub use laws::{law_further_sizes, law_image_sizes, law_use_sizes};
+pub use laws::{law_further_sizes, law_image_sizes, law_program_image_sizes, law_use_sizes};
