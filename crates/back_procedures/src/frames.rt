@@ -10,8 +10,8 @@ use crate::named::of_code;
 use back_calls::given::{FlagList, flag};
 use back_leaves::steps::word;
 use back_leaves::words::MOST_REGISTERS;
-use lang_rows::flags::{mark, no_flags};
 use base::NoMemory;
+use lang_rows::flags::{mark, no_flags};
 use mid_code::{Code, Counted, MidProcedure, Register, RegisterList};
 use std::alloc::Global;
 

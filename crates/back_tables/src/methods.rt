@@ -4,10 +4,10 @@ ghost use Rattle.std.specs.Prelude.{◌≡◌, IfOk, map};
 ghost use Rattle.lang_meaning.specs.declared.program.MethodRow.{MethodRow};
 ghost use Rattle.lang_rows.specs.Marked.{AreMarked, AreFlags, methods_of};
 
-use lang_rows::flags::{mark, no_flags};
 use back_calls::given::FlagList;
 use base::NoMemory;
 use lang_meaning::{GenericRows, MethodRows};
+use lang_rows::flags::{mark, no_flags};
 use std::alloc::Global;
 
 // For each of so many procedures, whether it is a method.

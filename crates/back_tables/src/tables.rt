@@ -6,10 +6,10 @@ ghost use Rattle.back_calls.specs.declared.given.Given.{Given};
 
 use crate::bodies::asking_bodies;
 use crate::methods::method_flags;
-use lang_rows::named::{row_at, rows_by_numbers, rows_of_names};
 use back_calls::given::Tables;
 use base::{Names, NoMemory};
 use flat_language::FlatProgram;
+use lang_rows::named::{row_at, rows_by_numbers, rows_of_names};
 use std::alloc::Global;
 
 /// What is looked up again and again of a program.
