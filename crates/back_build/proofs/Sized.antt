@@ -40,14 +40,14 @@ law_of_built_size flat names program l image whole low made =
     let further : length low.words.further ≡ length (further_words f symbols low.words.start.further_at) = ap length low.words.further_is in
     let within : length laid ≤ most_laid_words names f symbols low.words.start.further_at = omega (arith, low.words.within, further) in
     let sized =
-        subst
-        (λ (ps : List MidProcedure). PlacesFit (record { procedures = ps; laid = laid }) chosen
-        → (placed_laid_out (record { procedures = ps; laid = laid }) chosen).code_to ≤ image_words f)
-        (sym low.procedures)
-        (law_of_image_sizes names l.words.placement f symbols low.words.start.further_at laid chosen fits within)
-        made.made.places in
+    subst
+    (λ (ps : List MidProcedure). PlacesFit (record { procedures = ps; laid = laid }) chosen
+    → (placed_laid_out (record { procedures = ps; laid = laid }) chosen).code_to ≤ image_words f)
+    (sym low.procedures)
+    (law_of_image_sizes names l.words.placement f symbols low.words.start.further_at laid chosen fits within)
+    made.made.places in
     let long =
-        ap length made.made.words
-        ∙ ends_there (record { procedures = l.procedures; laid = laid }) chosen (length l.procedures - 1) made.made.places made.made.low in
+    ap length made.made.words
+    ∙ ends_there (record { procedures = l.procedures; laid = laid }) chosen (length l.procedures - 1) made.made.places made.made.low in
     let same = law_of_program_image_sizes program in
     omega (arith, sized, long, same)

@@ -63,8 +63,8 @@ module _ (names : List (List ℕ)) (program : FlatProgram) (used : UsedNames) (a
     (behind : all.arena.words ≡ objects.arena.words ++ further)
     (begins : (l : List ℕ) → IsStaticData names (tables program) l [] objects → IsStaticData names (tables program) l further all)
     (room :
-        length objects.arena.words
-        ≤ 46 + length low + most_static_words program.classes program.functions program.literals + unit_words * length used.symbols) where
+    length objects.arena.words
+    ≤ 46 + length low + most_static_words program.classes program.functions program.literals + unit_words * length used.symbols) where
   low_words_are : low ≡ low_words names program
   low_words_are = low_is ∙ ap (λ n. replicate control_words 0 ++ replicate n unbound_word) has.count
 
