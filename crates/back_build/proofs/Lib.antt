@@ -9,3 +9,4 @@ mod Compiled
 mod Built
 mod Tested
 mod Failing
+mod Sized

@@ -18,6 +18,7 @@ use Rattle.back_relation.specs.Setting.{FramesWithin}
 use Rattle.back_words.specs.Asked.{NamesAsked}
 use Rattle.back_lowered.specs.declared.lowering.LoweredProgram.{LoweredProgram}
 use Rattle.back_lowered.specs.Lowered.{IsLoweredProgram}
+use Rattle.back_image_sizes.specs.Sizes.{program_image_words}
 use Rattle.back_runs.specs.Images.{HasStart, IsFirst, first_state}
 use Rattle.back_build.specs.Built.{code_with, entry_of}
 use Rattle.rv_machine.specs.declared.image.Image.{Image}
@@ -59,3 +60,9 @@ LawOfBuilt =
     (names : List (List ℕ)) (program : ProgramRows) (l : LoweredProgram) (image : Image) → is_whole program ≡ true → IsTable names
     → NamesAsked names (flat_program program) → ProgramBoxes (flat_program program) → IsLoweredProgram names (flat_program program) l
     → IsImageMade l image → IsBuilt names program image
+
+-- and how many words an image has that was made of it, by the nodes of the program
+abbrev pub LawOfBuiltSize : Type 0
+LawOfBuiltSize =
+    (names : List (List ℕ)) (program : ProgramRows) (l : LoweredProgram) (image : Image) → is_whole program ≡ true
+    → IsLoweredProgram names (flat_program program) l → IsImageMade l image → length image.words ≤ program_image_words program

@@ -1,7 +1,7 @@
 // The laws of images of whole programs, as the contracts of functions that do nothing.
 
 ghost use Rattle.back_build.specs.Laws.{LawOfWholeMeaning};
-ghost use Rattle.back_build.specs.Compiled.{LawOfCompiled, LawOfBuilt};
+ghost use Rattle.back_build.specs.Compiled.{LawOfCompiled, LawOfBuilt, LawOfBuiltSize};
 
 use back_images::law_images;
 use back_layout::law_placed_laid_out;
@@ -40,4 +40,11 @@ pub fn law_built()
     law_images();
     law_first_of_image();
     law_compiled();
+}
+
+/// An image that was made of the code of a whole program has at most so many words, by the nodes of the program.
+pub fn law_built_size()
+    ensures { LawOfBuiltSize }
+{
+    law_flat_programs();
 }

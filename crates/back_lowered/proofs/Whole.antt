@@ -1,5 +1,5 @@
 -- A program whose words were laid one part after another is laid.
-use Rattle.std.proofs.Common.{◌≡◌, ℕ, ◌+◌, ◌*◌, List, [], ◌∷◌, ◌++◌, length, refl, sym, ◌∙◌, ap, subst, length-append, map, arith}
+use Rattle.std.proofs.Common.{◌≡◌, ℕ, ◌+◌, ◌*◌, ◌≤◌, List, [], ◌∷◌, ◌++◌, length, refl, sym, ◌∙◌, ap, subst, length-append, map, arith}
 use Rattle.std.specs.Prelude.{replicate}
 use Rattle.std.proofs.lemmas.List.{length-map}
 use Rattle.lang_meaning.specs.declared.program.FunctionRow.{FunctionRow}
@@ -21,6 +21,7 @@ use Rattle.back_words.specs.Uses.{program_uses}
 use Rattle.back_words.specs.Variables.{low_words, global_addresses, dynamic_addresses}
 use Rattle.back_words.specs.Words.{further_words, placement_of, generics_at, arity_of}
 use Rattle.back_uses.specs.declared.used.UsedNames.{UsedNames}
+use Rattle.mid_start.specs.Rows.{unit_words, most_static_words}
 use Rattle.back_uses.specs.Used.{AreUsed}
 use Rattle.back_lowered.specs.declared.variables.Variables.{Variables}
 use Rattle.back_lowered.specs.Variables.{HasVariables}
@@ -60,7 +61,10 @@ module _ (names : List (List ℕ)) (program : FlatProgram) (used : UsedNames) (a
     (further : List ℕ) (further_are : further ≡ further_words program symbols address)
     (all : StaticData) (kept : all ≡ record objects { arena = record objects.arena { words = all.arena.words } })
     (behind : all.arena.words ≡ objects.arena.words ++ further)
-    (begins : (l : List ℕ) → IsStaticData names (tables program) l [] objects → IsStaticData names (tables program) l further all) where
+    (begins : (l : List ℕ) → IsStaticData names (tables program) l [] objects → IsStaticData names (tables program) l further all)
+    (room :
+    length objects.arena.words
+    ≤ 46 + length low + most_static_words program.classes program.functions program.literals + unit_words * length used.symbols) where
   low_words_are : low ≡ low_words names program
   low_words_are = low_is ∙ ap (λ n. replicate control_words 0 ++ replicate n unbound_word) has.count
 
@@ -71,6 +75,17 @@ module _ (names : List (List ℕ)) (program : FlatProgram) (used : UsedNames) (a
   begins_there =
       let long : length all.arena.words ≡ length objects.arena.words + length further = ap length behind ∙ length-append objects.arena.words further in
       omega (arith, long, address_is, started.first, started.further_end)
+
+  laid_within :
+      length all.arena.words
+      ≤ 46 + length (low_words names program) + most_static_words program.classes program.functions program.literals
+      + unit_words * length (wanted_names names program)
+      + length further
+  laid_within =
+      let long : length all.arena.words ≡ length objects.arena.words + length further = ap length behind ∙ length-append objects.arena.words further in
+      let lows : length low ≡ length (low_words names program) = ap length low_words_are in
+      let names_are : length used.symbols ≡ length (wanted_names names program) = ap length are.symbols in
+      omega (arith, room, long, lows, names_are)
 
   same_symbols : all.arena.symbols ≡ objects.arena.symbols
   same_symbols = ap (λ s. s.arena.symbols) kept
@@ -123,5 +138,6 @@ module _ (names : List (List ℕ)) (program : FlatProgram) (used : UsedNames) (a
           further_are ∙ ap (λ s. further_words program s address) symbols_laid
           ∙ ap (λ a. further_words program (laid_symbols names all.arena.symbols) a) begins_there;
       placement = same_placement;
+      within = laid_within;
       symbols = subst (λ s. HaveSymbols (wanted_names names program) s) (sym same_symbols) (subst (λ w. HaveSymbols w objects.arena.symbols) are.symbols have);
     }

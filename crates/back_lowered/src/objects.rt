@@ -1,9 +1,9 @@
 // The words of all objects before the first form, and of the symbols that conditions may have.
 
-ghost use Rattle.std.specs.Prelude.{◌≡◌, ◌^◌, ◌≤◌, [], Err, length, IfOk};
+ghost use Rattle.std.specs.Prelude.{◌≡◌, ◌+◌, ◌*◌, ◌^◌, ◌≤◌, [], Err, length, IfOk};
 ghost use Rattle.flat_language.specs.FlatNodes.{tables};
 ghost use Rattle.mid_start.specs.NamedSymbols.{AreNamed, HaveSymbols};
-ghost use Rattle.mid_start.specs.Rows.{RowsFit};
+ghost use Rattle.mid_start.specs.Rows.{RowsFit, most_static_words, unit_words};
 ghost use Rattle.mid_start.specs.StaticData.{IsStaticData};
 ghost use Rattle.back_lowered.specs.TooLarge.{ObjectsTooLarge};
 
@@ -28,6 +28,8 @@ pub fn lay_objects(
     ensures start { IfOk result (λ s. IsStaticData names.now (tables program.now) low [] s) }
     ensures symbols { IfOk result (λ s. HaveSymbols wanted.now s.arena.symbols) }
     ensures size { IfOk result (λ s. length s.arena.words ≤ 2 ^ 24) }
+    ensures within { IfOk result (λ s. length s.arena.words
+        ≤ 46 + length low + most_static_words program.now.classes program.now.functions program.now.literals + unit_words * length wanted.now) }
     ensures too_large { result ≡ Err LoweringFault.TooLarge → ObjectsTooLarge names.now program.now low wanted.now }
 {
     let laid = lay_rows(

@@ -1,5 +1,5 @@
 -- The rows of the program were tested, and so the program that is made flat can be lowered; its image is that of the program.
-use Rattle.std.proofs.Common.{◌≡◌, true, inl, sym, subst}
+use Rattle.std.proofs.Common.{◌≡◌, ◌≤◌, length, true, inl, sym, subst}
 use Rattle.std.proofs.lemmas.Result.{IfOk-weaker, IfErr-weaker}
 use Rattle.lang_meaning.specs.declared.program.ProgramRows.{ProgramRows}
 use Rattle.lang_meaning.specs.Facts.{is_whole}
@@ -7,6 +7,7 @@ use Rattle.flat_language.specs.Flatten.{flat_program}
 use Rattle.flat_language.specs.declared.program.FlatProgram.{FlatProgram}
 use Rattle.mid_start.specs.Rows.{NamesThere}
 use Rattle.back_build.specs.Faults.{FailsFlat, Fails}
+use Rattle.back_image_sizes.specs.Sizes.{program_image_words}
 use Rattle.back_build.specs.Means.{IsBuilt}
 use Rattle.back_build.proofs.Failing.{of_flat, no_other, failed}
 use Rattle.back_build.proofs.Tested.{rows_fit}
@@ -36,3 +37,11 @@ returns-clause-fault c =
     IfErr-weaker c.build_flat-image.result (FailsFlat c.args.names.now c.in_ok-flat.flat) (Fails c.args.names.now c.args.program.now)
     (λ e h. of_flat c.args.names.now c.args.program.now e (subst (λ (f : FlatProgram). FailsFlat c.args.names.now f e) c.in_ok-flat.ensures.made h))
     c.build_flat-image.ensures.fault
+
+pub returns-clause-size : goal.returns-clause-size
+returns-clause-size c =
+    IfOk-weaker c.build_flat-image.result
+    (λ image. (program : ProgramRows) → is_whole program ≡ true → c.in_ok-flat.flat ≡ flat_program program → length image.words ≤ program_image_words program)
+    (λ image. length image.words ≤ program_image_words c.args.program.now)
+    (λ image within. within c.args.program.now c.rows-rows.ensures.whole c.in_ok-flat.ensures.made)
+    c.build_flat-image.ensures.size

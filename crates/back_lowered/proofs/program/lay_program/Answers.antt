@@ -18,7 +18,7 @@ returns-clause-laid c =
     c.in_ok-objects.ensures.start c.in_ok-objects.ensures.symbols c.in_ok-symbols.symbols c.in_ok-literals.literals c.in_ok-symbols.ensures
     c.in_ok-literals.ensures (4 * c.len.result) (ap (λ n. 4 * n) c.len.ensures) c.in_ok-further.further c.in_ok-further.ensures.words
     c.in_ok-data.data c.in_ok-data.ensures.kept c.in_ok-data.ensures.behind
-    (λ l. c.in_ok-data.ensures.start c.args.names.now (tables c.args.program.now) l) c.len-4.result c.len-5.result
+    (λ l. c.in_ok-data.ensures.start c.args.names.now (tables c.args.program.now) l) c.in_ok-objects.ensures.within c.len-4.result c.len-5.result
     (4 * c.len.result + 4 * (c.len-2.result + c.len-3.result)) c.len-4.ensures c.len-5.ensures
     (generics_behind c.args.program.now (4 * c.len.result) c.len-2.result c.len-3.result c.len-2.ensures c.len-3.ensures)
 
