@@ -1,4 +1,5 @@
 pub mod LineSteps
+pub mod Names
 pub mod StandingLandings
 pub mod Barriers
 pub mod Wishes
