@@ -57,7 +57,7 @@ pub fn place_registers(
         return Err(NoMemory);
     }
     let landings = landings_of_lines(alloc, &procedure.lines)?;
-    let names = names_of(alloc, &procedure.lines, &landings, procedure.registers)?;
+    let names = names_of(alloc, procedure, &landings)?;
     if let Some(found) = with_names(alloc, procedure, &landings, &names)? {
         return Ok(Some(found));
     }

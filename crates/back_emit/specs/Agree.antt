@@ -1,7 +1,6 @@
 -- When the spot of a line says what was decided: the code from the spot, of the line with names in the place of its registers, is then the code of the
 -- line.
-use Rattle.std.specs.Prelude.{◌≡◌, ℕ, ◌+◌, false, List, Option, Some, None}
-use Rattle.core.specs.Option.{option_map}
+use Rattle.std.specs.Prelude.{◌≡◌, ℕ, ◌+◌, false, List, Option, Some, None, option_map}
 use Rattle.mid_code.specs.declared.operation.Callee.TheVariants.{Procedure}
 use Rattle.mid_code.specs.declared.operation.Operation.{Operation}
 use Rattle.mid_code.specs.declared.operation.Operation.TheVariants as operation
