@@ -18,7 +18,6 @@
 ; An array whose lengths are a list of one.
 (defun create-array (lengths :rest element)
   (let ((item (%optional element nil)))
-    (assure <list> lengths)
     (if (and (consp lengths) (null (cdr lengths)))
         (%make-vector (car lengths) item)
         (%program-error))))
