@@ -3,5 +3,6 @@
 
 pub mod choosing;
 pub mod texts;
+pub mod topics;
 
 pub use choosing::told;

@@ -5,6 +5,7 @@ pub const HELP: &[u8] =
     br##"isl, an ahead-of-time compiler for ISLISP (ISO/IEC 13816:2007, whole numbers) to RISC-V
 
 usage: isl [--steps N] [--arena W] ACTION FILE
+       isl explain WHAT
 
 actions
   run FILE      judge the program, compile it, and run it
@@ -14,6 +15,11 @@ actions
   build FILE    judge it, compile it, and write its image file to standard output
   exec FILE     run an image file
   make N        run a text of size N, from 1 to 500, and print what it takes
+
+explain
+  isl explain 45                why a file is refused, by the number of the reason
+  isl explain DispatchTooLarge  or by its name
+  isl explain domain-error      what an unhandled condition of a class means
 
 options
   --steps N     at most N instructions, or N levels of plain; 50000000 without it
