@@ -18,13 +18,13 @@ pub class_kept : {names : List (List ℕ)} {program : ProgramRows} {store now : 
     → HasClass names program store id class → HasClass names program now id class
 class_kept {names} {program} {store} {now} {id} {class} e h = record { number = h.number; row = h.row; is = h.is; there = get_kept e h.number _ h.there }
 
-pub instance_kept : {program : ProgramRows} {class : ℕ} {store now : List Object} → IsExtended Object store now → (v : Value)
+pub instance_kept : (program : ProgramRows) (class : ℕ) {store now : List Object} → IsExtended Object store now → (v : Value)
     → IsInstanceOf program class store v → IsInstanceOf program class now v
-instance_kept {program} {class} {store} {now} e (object i) h = (h.0, get_kept e i h.0 h.1, h.2)
-instance_kept {program} {class} {store} {now} e nil h = h
-instance_kept {program} {class} {store} {now} e (integer n) h = h
-instance_kept {program} {class} {store} {now} e (character c) h = h
-instance_kept {program} {class} {store} {now} e (symbol x) h = h
+instance_kept program class {store} {now} e (object i) h = (h.0, get_kept e i h.0 h.1, h.2)
+instance_kept program class {store} {now} e nil h = h
+instance_kept program class {store} {now} e (integer n) h = h
+instance_kept program class {store} {now} e (character c) h = h
+instance_kept program class {store} {now} e (symbol x) h = h
 
 -- a conjunction with what is false
 pub none_of : (b : Bool) → b && false ≡ false

@@ -118,7 +118,7 @@ module _ (s : Setting) (v : ℕ) (n : ListFromNumbers) (is_truth : HasTruth s.pr
       (λ u fr st g. at_frame g.2 (first_then (comes_clauses (clause_taken (comes_consp (comes_local v 0 (at_first v) (
         ap (λ o. is_true (truth_of (is_some (as_cons o)))) (cell_in (cell_of 0 g.0 x behind g.3)),
         body_form (comes_sequence (first_then (comes_local v 0 (at_first v) (then_nothing (then_nothing (cell_of 0 g.0 x behind g.3, refl)))))),
-      )))))))
+      ))))))))
 
 no_boxes : (v : ℕ) (n : ListFromNumbers) (u : ℕ)
     → has_box u (sequence (form_and (assure_form (v + 2) (local v) n.list n.domain_error)
@@ -155,7 +155,7 @@ list_from_gives names program limit z name v number n is_truth is_least is_last 
       refl,
       said_to_be (int_lt (pos (length front)) (pos 0)) false (grind (arith, nat_tests)),
       (refl, no_clause_left (goes s v n is_truth is_last is_one (list ∷ index ∷ []) x behind levels front list before (λ g. omega (arith, g)) l small)),
-    ))))))))))))
+    )))))))))))))
 
 pub law_of_elt_of_list : LawOfEltOfList
 law_of_elt_of_list names program name name' v v' n truth list_from_name number is_truth is_truth' is_least is_last is_one named there limit k wrong around z

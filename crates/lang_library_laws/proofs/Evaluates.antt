@@ -86,6 +86,11 @@ module _ {s : Setting} {said : List ℕ} {places : Places} {k : ℕ} {frame : Li
         given (value_at (under_number v env.variables) z) (charged_for (local v) z) h (subst (λ x. Q x frame store) (sym same) q);
   }
 
+  -- and that may be known as another one
+  pub comes_known : (v : ℕ) (i : ℕ) (x : Value) → under_number v places ≡ Some i → slice_index_or frame i nil ≡ x → Q x frame store
+      → ComesPrinting s said said places (a_form k (local v)) frame store Q
+  comes_known v i x found is q = comes_local v i found (subst (λ u. Q u frame store) (sym is) q)
+
   -- a literal has the value of its datum
   pub comes_literal : (id : ℕ) (d : datum.Item) (x : Value) → slice_get s.program.literals id ≡ Some (row.Datum d) → literal_value s.names s.program id d ≡ x
       → Q x frame store → ComesPrinting s said said places (a_form k (literal id)) frame store Q

@@ -1,1 +1,219 @@
--- To come.
+-- `mapcar` of one list, by the loop that calls the function with each item.
+use Rattle.std.proofs.Common.{◌≡◌, ◌≤◌, ◌<◌, ℕ, suc, ◌+◌, Bool, true, false, List, [], ◌∷◌, ◌++◌, refl, sym, ap, subst, ◌∙◌, inl, inr, Option, Some, None, length, length-append, slice_get, le_trans, le_refl, arith}
+use Rattle.std.proofs.lemmas.Bool.Decides.{nat_tests}
+use Rattle.base.specs.Data as datum
+use Rattle.base.specs.declared.datum.Name.{Name}
+use Rattle.lang_meaning.specs.Form.{no_form, local, call}
+use Rattle.lang_meaning.specs.Values.{Value, nil, object, is_true, truth, same}
+use Rattle.lang_meaning.specs.Objects.{Object, cons}
+use Rattle.lang_meaning.specs.State.{State, DynamicContext, Limit}
+use Rattle.lang_meaning.specs.Lookup.{under_number}
+use Rattle.lang_meaning.specs.Captured.{has_box}
+use Rattle.lang_meaning.specs.Signals.{Signals, signal, apply_procedure, apply_value}
+use Rattle.lang_library_laws.specs.Lists.{IsListFrom, IsProperList, OfEach, OfBoth}
+use Rattle.lang_library_laws.specs.Applications.{IsExtended, Gives, GivesKeeping, at_level, HasLiteral, HasClass, IsInstanceOf, IsNamed}
+use Rattle.lang_library_laws.specs.ListBodies.{one, not_null, turn_onto, nreverse_function}
+use Rattle.lang_library_laws.specs.SequenceBodies.{MapcarNumbers, map_turn, map_along, map_body, mapcar_form}
+use Rattle.lang_library_laws.specs.Laws.{LawOfMapcar}
+use Rattle.lang_library_laws.proofs.Frames.{nothing_added, added_more, put_behind, get_last, Places, Setting, Comes, a_form, in_order, weaker, at_frame}
+use Rattle.lang_library_laws.proofs.Evaluates.{Cell, comes_local, comes_set, comes_literal, comes_sequence, then_nothing, first_then, comes_clauses, clause_taken, body_form, no_arguments_left, argument_and, no_bindings_left, value_and, comes_let}
+use Rattle.lang_library_laws.proofs.OfPrimitives.{comes_car, comes_cdr, comes_null, comes_cons}
+use Rattle.lang_library_laws.proofs.Loops.{Turns, Stops, loops}
+use Rattle.lang_library_laws.proofs.Applies.{setting, applies_to, called, value_called, comes_call, comes_call_value}
+use Rattle.lang_library_laws.proofs.Falling.{turned_onto, IsFalling, falling_kept}
+use Rattle.lang_library_laws.proofs.NReverse.{nreverse_new_gives}
+use Rattle.lang_library_laws.proofs.Assured.{none_of, class_kept, instance_kept, comes_assured}
+use Rattle.lang_library_laws.proofs.ListsKept.{cell_of, cell_later, list_kept, no_shorter, here, elsewhere}
+
+-- what holds of both holds of both turned
+both_turned : {X Y : Type 0} (Fits : X → Y → Type 0) (xs xs' : List X) (ys ys' : List Y) → OfBoth Fits xs ys → OfBoth Fits xs' ys'
+    → OfBoth Fits (turned_onto xs xs') (turned_onto ys ys')
+both_turned Fits [] xs' [] ys' h g = g
+both_turned Fits [] xs' (y ∷ ys) ys' h g = absurd h
+both_turned Fits (x ∷ xs) xs' [] ys' h g = absurd h
+both_turned Fits (x ∷ xs) xs' (y ∷ ys) ys' h g = both_turned Fits xs (x ∷ xs') ys (y ∷ ys') h.1 (h.0, g)
+
+module _ (s : Setting) (v : ℕ) (function tail assured : Value) (items : List Value) (Fits : Value → Value → Type 0) (enough : ℕ) where
+  abbrev outer : Places
+  outer = (v, 0) ∷ (v + 1, 1) ∷ (v + 2, 2) ∷ []
+
+  abbrev vars : Places
+  vars = (v + 4, 4) ∷ outer
+
+  at_function : under_number v vars ≡ Some 0
+  at_function = elsewhere v (v + 4) 4 outer (grind (arith, nat_tests)) (here v 0 ((v + 1, 1) ∷ (v + 2, 2) ∷ []))
+
+  at_list : under_number (v + 1) vars ≡ Some 1
+  at_list =
+      elsewhere (v + 1) (v + 4) 4 outer (grind (arith, nat_tests))
+      (elsewhere (v + 1) v 0 ((v + 1, 1) ∷ (v + 2, 2) ∷ []) (grind (arith, nat_tests)) (here (v + 1) 1 ((v + 2, 2) ∷ [])))
+
+  at_tail : under_number (v + 2) vars ≡ Some 2
+  at_tail =
+      elsewhere (v + 2) (v + 4) 4 outer (grind (arith, nat_tests))
+      (elsewhere (v + 2) v 0 ((v + 1, 1) ∷ (v + 2, 2) ∷ []) (grind (arith, nat_tests))
+      (elsewhere (v + 2) (v + 1) 1 ((v + 2, 2) ∷ []) (grind (arith, nat_tests)) (here (v + 2) 2 [])))
+
+  at_values : under_number (v + 4) vars ≡ Some 4
+  at_values = here (v + 4) 4 outer
+
+  -- the function has values for the items
+  abbrev pub HasValue : Value → Type 0
+  HasValue x =
+      (levels : ℕ) (within : DynamicContext) (y : State) → IsExtended Object s.kept y.store
+      → Gives s.limit levels enough y (λ w store. Fits x w)
+      (apply_value (at_level s.names s.program s.limit levels) (signal (at_level s.names s.program s.limit levels)) function (x ∷ []) within y)
+
+  -- before each turn there are values that fit those that are passed
+  pub record Mapped (left : List Value) (frame : List Value) (store : List Object) : Type 0 where
+    pub list : Value
+    pub values : Value
+    pub others : List Value
+    pub passed : List Value
+    pub done : List Value
+    pub frame_is : frame ≡ function ∷ list ∷ tail ∷ assured ∷ values ∷ others
+    pub in_front : IsProperList s.kept list left
+    pub calls : OfEach HasValue left
+    pub behind : IsFalling (length s.kept) (length store) store values done
+    pub kept : IsExtended Object s.kept store
+    pub fit : OfBoth Fits passed done
+    pub all_is : turned_onto passed left ≡ items
+    pub size_is : length done + length left ≡ length items
+
+  turn : {k : ℕ} (x : Value) (xs : List Value) (frame : List Value) (store : List Object) → (k < enough → s.short) → (h : Mapped (x ∷ xs) frame store)
+      → Comes s vars (a_form k (map_turn v)) (function ∷ h.list ∷ tail ∷ assured ∷ h.values ∷ h.others) store (λ ignored fr st. Mapped xs fr st)
+  turn {k} x xs frame store short h =
+      let FitsIt : Value → List Object → Type 0 = λ w st. Fits x w in
+      comes_sequence (first_then (comes_set (v + 4) 4 at_values (comes_cons (comes_call_value (argument_and (comes_local v 0 at_function
+      (argument_and (comes_car (comes_local (v + 1) 1 at_list (
+        cell_later h.kept 0 h.list x xs h.in_front,
+        no_arguments_left (value_called FitsIt enough short store h.kept
+            (λ w more st e fits.
+            let made : Object = cons w h.values in
+            let now : List Object = st ++ made ∷ [] in
+            let grown : IsExtended Object st now = put_behind st (made ∷ []) in
+            let later : IsExtended Object s.kept now = added_more (added_more h.kept e) grown in
+            let bigger : length st < length now = subst (λ n. length st < n) (sym (length-append st (made ∷ []))) (omega arith) in
+            comes_local (v + 4) 4 at_values
+            (first_then (comes_set (v + 1) 1 at_list (comes_cdr (comes_local (v + 1) 1 at_list (
+              cell_later later 0 h.list x xs h.in_front,
+              then_nothing (record {
+                list = h.in_front.1;
+                values = object (length st);
+                others = h.others ++ more;
+                passed = x ∷ h.passed;
+                done = w ∷ h.done;
+                frame_is = refl;
+                in_front = h.in_front.5;
+                calls = h.calls.1;
+                behind = (
+                  length st,
+                  h.values,
+                  refl,
+                  no_shorter (added_more h.kept e),
+                  bigger,
+                  get_last st made,
+                  falling_kept (added_more e grown) (length s.kept) (length store) (length st) h.values h.done (no_shorter e) h.behind,
+                );
+                kept = later;
+                fit = (fits, h.fit);
+                all_is = h.all_is;
+                size_is = omega (arith, h.size_is);
+              }),
+            ))))))
+            function (x ∷ []) (λ y g within.
+            subst (λ os. GivesKeeping os s.limit k enough y FitsIt
+            (apply_value (at_level s.names s.program s.limit k) (signal (at_level s.names s.program s.limit k)) function (x ∷ []) within y)) g.objects_are
+            (h.calls.0 k within y (subst (λ os. IsExtended Object s.kept os) (sym g.objects_are) h.kept)))),
+      ))))))))))
+
+  module _ (Q : Value → List Value → List Object → Type 0) (ends : (frame : List Value) (store : List Object) → Mapped [] frame store → Q nil frame store) where
+    turns : Turns s vars (not_null (local (v + 1))) (map_turn v) Value enough Mapped Q
+    turns k x xs frame store short h =
+        at_frame h.frame_is (comes_null (comes_null (comes_local (v + 1) 1 at_list (inl (
+          ap (λ u. is_true (truth (same (truth (same u nil)) nil))) h.in_front.2,
+          turn x xs frame store short h,
+        )))))
+
+    stops : Stops s vars (not_null (local (v + 1))) (map_turn v) Value enough Mapped Q
+    stops k frame store short h =
+        at_frame h.frame_is (comes_null (comes_null (comes_local (v + 1) 1 at_list (
+          ap (λ u. is_true (truth (same (truth (same u nil)) nil))) h.in_front,
+          subst (λ fr. Q nil fr store) h.frame_is (ends frame store h),
+        ))))
+
+  -- the values in their order
+  abbrev pub AreValues : Value → List Object → Type 0
+  AreValues w store = (values : List Value) × IsListFrom (length s.kept) store w values × OfBoth Fits items values
+
+  module _ (n : MapcarNumbers) (nreverse_name turn_name : Option Name) (nreverse_v turn_v turn_number no_items : ℕ)
+      (turns_onto : IsNamed s.names s.program turn_number (turn_onto turn_name turn_v)) (is_nil : HasLiteral s.program no_items datum.nil)
+      (turns_back : IsNamed s.names s.program n.nreverse (nreverse_function nreverse_name nreverse_v turn_number no_items)) (is_nothing : tail ≡ nil) where
+    -- behind the loop
+    ends : {k : ℕ} (frame : List Value) (store : List Object) → (k < length items + enough + 2 → s.short) → Mapped [] frame store
+        → Comes s vars (a_form k (call n.nreverse (one (local (v + 4))))) frame store (λ w fr st. AreValues w st)
+    ends {k} frame store short h =
+        let AreTurned : Value → List Object → Type 0 = λ w st. IsListFrom (length s.kept) st w (turned_onto h.done []) in
+        let fit : OfBoth Fits items (turned_onto h.done []) =
+        subst (λ xs. OfBoth Fits xs (turned_onto h.done [])) h.all_is (both_turned Fits h.passed [] h.done [] h.fit tt) in
+        at_frame h.frame_is (comes_call (argument_and (comes_local (v + 4) 4 at_values (no_arguments_left
+        (called AreTurned (suc (suc (length h.done))) (λ g. short (omega (arith, g, h.size_is))) s.kept (nothing_added s.kept)
+        (λ w more st e g. (turned_onto h.done [], g, fit))
+        n.nreverse (nreverse_function nreverse_name nreverse_v turn_number no_items) turns_back (h.values ∷ []) (λ y g wrong around.
+        nreverse_new_gives s.names s.program s.limit y nreverse_name turn_name nreverse_v turn_v turn_number no_items turns_back.number turns_onto is_nil turns_back.there
+        store g.objects_are s.kept h.kept (length store) h.done h.values h.behind k wrong around))))))
+
+    pub maps : (k : ℕ) (list : Value) (store : List Object) → (k < length items + enough + 2 → s.short) → IsExtended Object s.kept store
+        → IsProperList s.kept list items → OfEach HasValue items
+        → Comes s vars (a_form k (map_body v n)) (function ∷ list ∷ tail ∷ assured ∷ nil ∷ []) store (λ w fr st. AreValues w st)
+    maps k list store short e l calls =
+        let Q : Value → List Value → List Object → Type 0 = λ u fr st. Comes s vars (in_order k u no_form) fr st
+        (λ u fr st. Comes s vars (in_order k u (one (call n.nreverse (one (local (v + 4)))))) fr st (λ w fr st. AreValues w st)) in
+        comes_sequence (first_then (comes_clauses (clause_taken (comes_null (comes_local (v + 2) 2 at_tail (
+          ap (λ u. is_true (truth (same u nil))) is_nothing,
+          body_form (comes_sequence (first_then (loops s vars (not_null (local (v + 1))) (map_turn v) Value enough Mapped Q
+              (turns Q (λ frame store h. then_nothing (first_then (weaker (ends frame store short h) (λ w fr st g. then_nothing g)))))
+              (stops Q (λ frame store h. then_nothing (first_then (weaker (ends frame store short h) (λ w fr st g. then_nothing g)))))
+              items k (function ∷ list ∷ tail ∷ assured ∷ nil ∷ []) store (λ g. short (omega (arith, g)))
+              (record {
+                list = list;
+                values = nil;
+                others = [];
+                passed = [];
+                done = [];
+                frame_is = refl;
+                in_front = l;
+                calls = calls;
+                behind = refl;
+                kept = e;
+                fit = tt;
+                all_is = refl;
+                size_is = omega arith;
+              })))),
+        ))))))
+
+no_boxes : (v : ℕ) (n : MapcarNumbers) (u : ℕ) → has_box u (mapcar_form v n) ≡ false
+no_boxes v n u = simp none_of
+
+no_inner_boxes : (v : ℕ) (n : MapcarNumbers) (u : ℕ) → has_box u (map_body v n) ≡ false
+no_inner_boxes v n u = simp none_of
+
+pub law_of_mapcar : LawOfMapcar
+law_of_mapcar names program name nreverse_name turn_name v nreverse_v turn_v n turn no_items number turns_onto is_nil turns_back is_none there
+    limit k wrong around z function list items class has instance l Fits needed calls =
+    let IsMap : Value → List Object → Type 0 = λ w store. (values : List Value) × IsListFrom (length z.store) store w values × OfBoth Fits items values in
+    let enough : suc (length items + needed + 2) ≡ length items + needed + 3 = omega arith in
+    subst (λ m. Gives limit k m z IsMap (apply_procedure (at_level names program limit k) wrong number None (function ∷ list ∷ []) around z)) enough
+    (applies_to names program limit z z.store (length items + needed + 2) number name (v ∷ (v + 1) ∷ []) (Some (v + 2)) (mapcar_form v n)
+    (function ∷ list ∷ []) IsMap (nothing_added z.store) there (no_boxes v n) refl
+    (λ levels ws now g.
+    let s : Setting = setting names program limit z z.store (suc levels) (suc (length items + needed + 2)) in
+    let tail : Value = g.0 in
+    at_frame g.1 (comes_sequence (first_then (comes_assured v 0 (v + 3) n.function n.domain_error class function (here v 0 ((v + 1, 1) ∷ (v + 2, 2) ∷ [])) refl
+    (class_kept g.3 has) (instance_kept program class g.3 function instance)
+    (first_then (comes_let (value_and (comes_literal n.no_values (datum.item is_none.0 datum.nil) nil is_none.1 refl
+    (no_bindings_left (no_inner_boxes v n) (weaker
+    (maps s v function tail function items Fits needed n nreverse_name turn_name nreverse_v turn_v turn no_items turns_onto is_nil turns_back g.2
+    levels list now (λ few. omega (arith, few)) g.3 l calls)
+    (λ w fr st r. then_nothing r)))))))))))
+    k wrong around)

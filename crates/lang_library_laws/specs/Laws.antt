@@ -134,7 +134,7 @@ abbrev pub LawOfSubseq : Type 0
 LawOfSubseq =
     (names : List (List ℕ)) (program : ProgramRows) (name check_name listp_name part_name nreverse_name turn_name : Option Name)
     (v check_v listp_v part_v nreverse_v turn_v : ℕ) (n : SubseqNumbers) (m : CheckNumbers) (p : PartNumbers) (listp_truth turn no_items number : ℕ)
-    → HasTruth program n.truth → HasTruth program m.truth → HasTruth program m.other_truth → HasTruth program listp_truth
+    → HasTruth program n.truth → HasTruth program listp_truth
     → HasLiteral program n.least (datum.integer (pos 0)) → HasLiteral program p.none (datum.integer (pos 0)) → HasLiteral program p.increment (datum.integer (pos 1))
     → HasLiteral program p.no_items datum.nil → HasLiteral program no_items datum.nil
     → IsNamed names program n.check (check_function check_name check_v m)
