@@ -61,7 +61,7 @@ conses_before {kept} {store} e first above b v (x ∷ xs) h =
     )
 
 -- conses with falling numbers are apart from what is beyond them
-none_beyond : (i first above : ℕ) → first ≤ i → i < above → (ds : Conses) → AreBeyond first above ds → IsNoneOf i ds
+pub none_beyond : (i first above : ℕ) → first ≤ i → i < above → (ds : Conses) → AreBeyond first above ds → IsNoneOf i ds
 none_beyond i first above f a [] b = tt
 none_beyond i first above f a (d ∷ ds) b =
     (λ e. ⊎_elim (λ l. absurd (omega (arith, e, l, f))) (λ g. absurd (omega (arith, e, g, a))) b.0, none_beyond i first above f a ds b.1)

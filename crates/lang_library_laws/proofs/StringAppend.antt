@@ -1,7 +1,6 @@
 -- `string-append`, by the loop that adds lengths, the one that copies a string's characters into another, and the one that goes along the strings.
 use Rattle.std.proofs.Common.{◌≡◌, ◌≤◌, ◌<◌, ℕ, zero, suc, ◌+◌, pos, ◌+ℤ◌, true, false, List, [], ◌∷◌, ◌++◌, map, replicate, refl, sym, ap, subst, ◌∙◌, inl, inr, Option, Some, None, length, length-append, append_assoc, append-nil, slice_get, slice_set, slice_index_or, arith, le_trans}
 use Rattle.std.specs.Prelude.{int_lt}
-use Rattle.std.proofs.lemmas.List.{get_or-append-add}
 use Rattle.std.proofs.lemmas.Bool.Decides.{nat_tests}
 use Rattle.base.specs.Data as datum
 use Rattle.base.specs.declared.datum.Name.{Name}
@@ -158,19 +157,19 @@ module _ (s : Setting) (v increment increment' : ℕ) (is_one : HasLiteral s.pro
     pub made_is : made ≡ front ++ done
     pub all_is : done ++ left ≡ bytes
     pub gap_size : length gap ≡ length left
-    pub there : slice_get store whole ≡ Some (string (made ++ gap ++ rest))
+    pub there : slice_get store whole ≡ Some (string (made ++ (gap ++ rest)))
     pub kept : IsExtended Object s.kept store
 
   copies : {k : ℕ} (c : ℕ) (cs : List ℕ) (frame : List Value) (store : List Object) (h : Copied (c ∷ cs) frame store)
       → Comes s (part_places v) (a_form k (copy_turn v increment increment')) (copy_frame (length h.made) (length h.done)) store (λ ignored fr st. Copied cs fr st)
   copies {k} c cs frame store h = by h.gap h.gap_size h.there
     where
-      by : (gap : List ℕ) → length gap ≡ suc (length cs) → slice_get store whole ≡ Some (string (h.made ++ gap ++ rest))
+      by : (gap : List ℕ) → length gap ≡ suc (length cs) → slice_get store whole ≡ Some (string (h.made ++ (gap ++ rest)))
           → Comes s (part_places v) (a_form k (copy_turn v increment increment')) (copy_frame (length h.made) (length h.done)) store (λ ignored fr st. Copied cs fr st)
       by [] size there = absurd (omega (arith, size))
       by (g ∷ gap) size there =
-          let now : List Object = slice_set store whole (string (slice_set (h.made ++ g ∷ gap ++ rest) (length h.made) c)) in
-          let keeps : IsExtended Object s.kept now = change_keeps h.kept whole later (string (slice_set (h.made ++ g ∷ gap ++ rest) (length h.made) c)) in
+          let now : List Object = slice_set store whole (string (slice_set (h.made ++ g ∷ (gap ++ rest)) (length h.made) c)) in
+          let keeps : IsExtended Object s.kept now = change_keeps h.kept whole later (string (slice_set (h.made ++ g ∷ (gap ++ rest)) (length h.made) c)) in
           let text_there : object_in store from ≡ Some (string (h.done ++ c ∷ cs)) =
           text_in store from bytes (stands_kept h.kept from (text bytes) text_is) ∙ ap (λ us. Some (string us)) (sym h.all_is) in
           let done_next : length (h.done ++ c ∷ []) ≡ length h.done + 1 = length-append h.done (c ∷ []) in
@@ -189,7 +188,7 @@ module _ (s : Setting) (v increment increment' : ℕ) (is_one : HasLiteral s.pro
             comes_local v 0 (at_list v) (comes_local (v + 1) 1 (at_argument v 1 (omega arith) (second_of_three v)) (
               c,
               whole,
-              h.made ++ g ∷ gap ++ rest,
+              h.made ++ g ∷ (gap ++ rest),
               length h.made,
               ap character (stands_behind h.done c cs 0),
               refl,
@@ -225,7 +224,7 @@ module _ (s : Setting) (v increment increment' : ℕ) (is_one : HasLiteral s.pro
                             all_is = append_assoc h.done (c ∷ []) cs ∙ h.all_is;
                             gap_size = omega (arith, size);
                             there =
-                                get_changed store whole (string (slice_set (h.made ++ g ∷ gap ++ rest) (length h.made) c)) _ there
+                                get_changed store whole (string (slice_set (h.made ++ g ∷ (gap ++ rest)) (length h.made) c)) _ there
                                 ∙ ap (λ us. Some (string us)) (set_there h.made (gap ++ rest) g c);
                             kept = keeps;
                           }),
@@ -269,12 +268,12 @@ module _ (s : Setting) (v increment increment' : ℕ) (is_one : HasLiteral s.pro
   abbrev pub IsCopied : Value → List Object → Type 0
   IsCopied w store = (w ≡ integer (pos (length (front ++ bytes)))) × (slice_get store whole ≡ Some (string ((front ++ bytes) ++ rest)))
 
-  no_gap : (made gap : List ℕ) → length gap ≡ 0 → made ++ gap ++ rest ≡ made ++ rest
+  no_gap : (made gap : List ℕ) → length gap ≡ 0 → made ++ (gap ++ rest) ≡ made ++ rest
   no_gap made [] h = refl
   no_gap made (g ∷ gap) h = absurd (omega (arith, h))
 
   copy_comes : (k : ℕ) (gap : List ℕ) (store : List Object) → (k < length bytes → s.short) → length gap ≡ length bytes
-      → slice_get store whole ≡ Some (string (front ++ gap ++ rest)) → IsExtended Object s.kept store
+      → slice_get store whole ≡ Some (string (front ++ (gap ++ rest))) → IsExtended Object s.kept store
       → Comes s (part_places v) (a_form k (copy_body v increment increment')) (copy_frame (length front) 0) store (λ w fr st. IsCopied w st)
   copy_comes k gap store short size there e =
       let Q : Value → List Value → List Object → Type 0 = λ u fr st. Comes s (part_places v) (in_order k u (one (local (v + 1)))) fr st (λ w fr st. IsCopied w st) in
@@ -303,7 +302,7 @@ copy_gives : (names : List (List ℕ)) (program : ProgramRows) (limit : Limit) (
     → slice_get program.procedures number ≡ Some (copy_into name v none increment increment')
     → (before : List Object) → z.store ≡ before → (kept : List Object) → IsExtended Object kept before
     → (whole : ℕ) → length kept ≤ whole → (from : Value) (front bytes gap rest : List ℕ) → StandsFor kept from (text bytes)
-    → length ((front ++ bytes) ++ rest) ≤ 536870911 → length gap ≡ length bytes → slice_get before whole ≡ Some (string (front ++ gap ++ rest))
+    → length ((front ++ bytes) ++ rest) ≤ 536870911 → length gap ≡ length bytes → slice_get before whole ≡ Some (string (front ++ (gap ++ rest)))
     → (k : ℕ) (wrong : Signals) (around : DynamicContext)
     → GivesKeeping kept limit k (suc (length bytes)) z
     (λ w store. (w ≡ integer (pos (length (front ++ bytes)))) × (slice_get store whole ≡ Some (string ((front ++ bytes) ++ rest))))
@@ -322,6 +321,16 @@ copy_gives names program limit z name v number none increment increment' is_none
           text_is small levels gap before (λ g. omega (arith, g)) size whole_is e)
           (λ w fr st g. then_nothing g)),
     ))))))))))
+
+-- what stands behind some and one more, and another one there
+second_behind : (front : List Value) (x y : Value) (behind : List Value) → slice_index_or (front ++ x ∷ y ∷ behind) (suc (length front)) nil ≡ y
+second_behind [] x y behind = refl
+second_behind (z ∷ front) x y behind = second_behind front x y behind
+
+second_set : (front : List Value) (x y other : Value) (behind : List Value)
+    → slice_set (front ++ x ∷ y ∷ behind) (suc (length front)) other ≡ front ++ x ∷ other ∷ behind
+second_set [] x y other behind = refl
+second_set (z ∷ front) x y other behind = ap (λ us. z ∷ us) (second_set front x y other behind)
 
 -- a gap for all that are left is one for the first and one for the others
 splits : (first others gap : List ℕ) → length gap ≡ length (first ++ others)
@@ -343,34 +352,41 @@ module _ (s : Setting) (v : ℕ) (copy : ℕ) (copy_name : Option Name) (copy_v 
     (copies_into : IsNamed s.names s.program copy (copy_into copy_name copy_v none increment increment'))
     (now : List Object) (since : IsExtended Object s.kept now) (whole : ℕ) (later : length now ≤ whole) (more : List Value)
     (all : List ℕ) (small : length all ≤ 536870911) where
+  abbrev next_place : ℕ
+  next_place = suc (length more) + 1
+
+  next_is : next_place ≡ suc (suc (length more))
+  next_is = omega arith
+
   abbrev joining_places : Places
-  joining_places = (v + 1, suc (length more)) ∷ (v + 2, suc (suc (length more))) ∷ (v, 0) ∷ []
+  joining_places = (v + 1, suc (length more)) ∷ (v + 2, next_place) ∷ (v, 0) ∷ []
 
   at_whole : under_number (v + 1) joining_places ≡ Some (suc (length more))
-  at_whole = here (v + 1) (suc (length more)) ((v + 2, suc (suc (length more))) ∷ (v, 0) ∷ [])
+  at_whole = here (v + 1) (suc (length more)) ((v + 2, next_place) ∷ (v, 0) ∷ [])
 
-  at_next : under_number (v + 2) joining_places ≡ Some (suc (suc (length more)))
+  at_next : under_number (v + 2) joining_places ≡ Some (next_place)
   at_next =
-      elsewhere (v + 2) (v + 1) (suc (length more)) ((v + 2, suc (suc (length more))) ∷ (v, 0) ∷ []) (grind (arith, nat_tests))
-      (here (v + 2) (suc (suc (length more))) ((v, 0) ∷ []))
+      elsewhere (v + 2) (v + 1) (suc (length more)) ((v + 2, next_place) ∷ (v, 0) ∷ []) (grind (arith, nat_tests))
+      (here (v + 2) (next_place) ((v, 0) ∷ []))
 
   at_left : under_number v joining_places ≡ Some 0
   at_left =
-      elsewhere v (v + 1) (suc (length more)) ((v + 2, suc (suc (length more))) ∷ (v, 0) ∷ []) (grind (arith, nat_tests))
-      (elsewhere v (v + 2) (suc (suc (length more))) ((v, 0) ∷ []) (grind (arith, nat_tests)) (here v 0 []))
+      elsewhere v (v + 1) (suc (length more)) ((v + 2, next_place) ∷ (v, 0) ∷ []) (grind (arith, nat_tests))
+      (elsewhere v (v + 2) (next_place) ((v, 0) ∷ []) (grind (arith, nat_tests)) (here v 0 []))
 
   abbrev joining_frame : (list index : Value) → List Value → List Value
   joining_frame list index others = list ∷ (more ++ object whole ∷ index ∷ others)
 
   whole_there : (list index : Value) (others : List Value) → slice_index_or (joining_frame list index others) (suc (length more)) nil ≡ object whole
-  whole_there list index others = get_or-append-add more (object whole ∷ index ∷ others) 0 nil
+  whole_there list index others = stands_behind more (object whole) (index ∷ others) nil
 
-  next_there : (list index : Value) (others : List Value) → slice_index_or (joining_frame list index others) (suc (suc (length more))) nil ≡ index
-  next_there list index others = get_or-append-add more (object whole ∷ index ∷ others) 1 nil
+  next_there : (list index : Value) (others : List Value) → slice_index_or (joining_frame list index others) next_place nil ≡ index
+  next_there list index others =
+      ap (λ n. slice_index_or (joining_frame list index others) n nil) next_is ∙ second_behind more (object whole) index others
 
-  next_set : (list index other : Value) (others : List Value)
-      → slice_set (joining_frame list index others) (suc (suc (length more))) other ≡ joining_frame list other others
-  next_set list index other others = ap (λ us. list ∷ us) (set_behind more (object whole ∷ index ∷ others) 1 other)
+  next_set : (list index other : Value) (others : List Value) → slice_set (joining_frame list index others) next_place other ≡ joining_frame list other others
+  next_set list index other others =
+      ap (λ n. slice_set (joining_frame list index others) n other) next_is ∙ ap (λ us. list ∷ us) (second_set more (object whole) index other others)
 
   -- before each turn what is made, and the characters of those that are left, are all
   pub record Going (left : Texts) (frame : List Value) (store : List Object) : Type 0 where
@@ -398,15 +414,15 @@ module _ (s : Setting) (v : ℕ) (copy : ℕ) (copy_name : Option Name) (copy_v 
       let all_size : length h.made + length (x.1 ++ joined xs) ≡ length all = sym (length-append h.made (x.1 ++ joined xs)) ∙ ap length h.all_is in
       let gap_size : length ((h.made ++ x.1) ++ gaps.1) ≡ length (h.made ++ x.1) + length gaps.1 = length-append (h.made ++ x.1) gaps.1 in
       let others_size : length gaps.1 ≡ length (joined xs) = gaps.4 in
-      comes_sequence (first_then (comes_set (v + 2) (suc (suc (length more))) at_next (comes_call
+      comes_sequence (first_then (comes_set (v + 2) (next_place) at_next (comes_call
       (argument_and (comes_known (v + 1) (suc (length more)) (object whole) at_whole (whole_there h.list index h.others)
-      (argument_and (comes_known (v + 2) (suc (suc (length more))) index at_next (next_there h.list index h.others) (argument_and (comes_car (comes_local v 0 at_left (
+      (argument_and (comes_known (v + 2) (next_place) index at_next (next_there h.list index h.others) (argument_and (comes_car (comes_local v 0 at_left (
         cell_later h.kept 0 h.list x.0 (values_of xs) h.in_front,
         no_arguments_left (called IsJoined (suc (length x.1)) (λ few. short (omega (arith, few, left_size, all_size))) now since
             (λ w added st e r.
-            let frame_now : slice_set (h.list ∷ ((more ++ object whole ∷ index ∷ h.others) ++ added)) (suc (suc (length more))) w
+            let frame_now : slice_set (h.list ∷ ((more ++ object whole ∷ index ∷ h.others) ++ added)) (next_place) w
                 ≡ joining_frame h.list (integer (pos (length (h.made ++ x.1)))) (h.others ++ added) =
-            ap (λ us. slice_set (h.list ∷ us) (suc (suc (length more))) w) (append_assoc more (object whole ∷ index ∷ h.others) added)
+            ap (λ us. slice_set (h.list ∷ us) (next_place) w) (append_assoc more (object whole ∷ index ∷ h.others) added)
             ∙ next_set h.list index w (h.others ++ added) ∙ ap (λ u. joining_frame h.list u (h.others ++ added)) r.0 in
             at_frame frame_now (first_then (comes_set v 0 at_left (comes_cdr (comes_local v 0 at_left (
               cell_later e 0 h.list x.0 (values_of xs) h.in_front,

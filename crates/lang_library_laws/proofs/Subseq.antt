@@ -1,5 +1,5 @@
 -- `subseq` of lists, by the loop that takes the items from a start up to an end.
-use Rattle.std.proofs.Common.{◌≡◌, ◌≤◌, ◌<◌, ℕ, zero, suc, ◌+◌, ◌-◌, pos, ◌+ℤ◌, Bool, true, false, List, [], ◌∷◌, ◌++◌, drop, refl, sym, ap, subst, ◌∙◌, inl, inr, is_some, Option, Some, None, length, length-append, append_assoc, slice_get, arith, le_trans}
+use Rattle.std.proofs.Common.{◌≡◌, ◌≤◌, ◌<◌, ℕ, zero, suc, ◌+◌, ◌-◌, pos, ◌+ℤ◌, Bool, true, false, List, [], ◌∷◌, ◌++◌, drop, refl, sym, ap, subst, ◌∙◌, inl, inr, is_some, Option, Some, None, length, length-append, slice_get, arith, le_trans}
 use Rattle.std.specs.Prelude.{int_lt, int_le}
 use Rattle.std.proofs.lemmas.Bool.Decides.{nat_tests}
 use Rattle.base.specs.Data as datum
@@ -30,7 +30,7 @@ use Rattle.lang_library_laws.proofs.Applies.{setting, applies, called, comes_cal
 use Rattle.lang_library_laws.proofs.Falling.{turned_onto, IsFalling, falling_kept}
 use Rattle.lang_library_laws.proofs.NReverse.{nreverse_new_gives}
 use Rattle.lang_library_laws.proofs.Assured.{none_of, class_kept, instance_kept, comes_assured}
-use Rattle.lang_library_laws.proofs.ListsKept.{cell_of, list_kept, no_shorter, here, elsewhere}
+use Rattle.lang_library_laws.proofs.ListsKept.{cell_of, cell_later, list_kept, no_shorter, here, elsewhere}
 
 -- the variables of functions of three arguments
 abbrev pub arguments : ℕ → Places
@@ -71,6 +71,14 @@ drop_front : (front part : List Value) → drop (length front) (front ++ part) �
 drop_front [] part = refl
 drop_front (x ∷ front) part = drop_front front part
 
+drop_nothing : (m : ℕ) → drop {A = Value} m [] ≡ []
+drop_nothing zero = refl
+drop_nothing (suc m) = refl
+
+turned_size : (xs ys : List Value) → length (turned_onto xs ys) ≡ length xs + length ys
+turned_size [] ys = omega arith
+turned_size (x ∷ xs) ys = let more : length (turned_onto xs (x ∷ ys)) ≡ length xs + length (x ∷ ys) = turned_size xs (x ∷ ys) in omega (arith, more)
+
 -- one item further
 drop_before : (n m : ℕ) (x : Value) (xs : List Value) → n < m → drop (m - n) (x ∷ xs) ≡ drop (m - (n + 1)) xs
 drop_before n m x xs h =
@@ -105,7 +113,7 @@ module _ (s : Setting) (v : ℕ) (n : PartNumbers) (is_one : HasLiteral s.progra
       (frame_at list index items) store (λ ignored fr st. Taken xs fr st)
   further {k} x xs list index items u done store l b e is total =
       first_then (comes_set v 0 (at_list v) (comes_cdr (comes_local v 0 (at_list v) (
-        cell_of 0 list x (xs ++ behind) (list_kept e 0 list (x ∷ xs ++ behind) l),
+        cell_later e 0 list x (xs ++ behind) l,
         first_then (comes_set (v + 3) 3 (at_index v) (comes_integers (λ a b. integer_result (a +ℤ b)) (λ a b z. refl)
             (comes_local (v + 3) 3 (at_index v) (comes_literal n.increment (datum.item is_one.0 (datum.integer (pos 1))) (integer (pos 1)) is_one.1 refl (
               pos index,
@@ -222,23 +230,15 @@ module _ (s : Setting) (v : ℕ) (n : PartNumbers) (is_one : HasLiteral s.progra
         → Comes s (part_places v) (a_form k (call n.nreverse (one (local (v + 4))))) frame store (λ w fr st. IsPart w st)
     ends {k} frame store short h =
         let IsTurned : Value → List Object → Type 0 = λ w st. IsListFrom (length s.kept) st w (turned_onto h.done []) in
-        let none : drop (start - h.index) [] ≡ [] = drop_nothing (start - h.index) in
+        let none : drop {A = Value} (start - h.index) [] ≡ [] = drop_nothing (start - h.index) in
         let all : turned_onto h.done [] ≡ part = ap (λ us. turned_onto h.done us) (sym none) ∙ h.part_is in
-        let size : length h.done ≡ length part = sym (append_size h.done []) ∙ ap length all in
+        let size : length h.done ≡ length part = omega (arith, turned_size h.done [], ap length all) in
         at_frame h.frame_is (comes_call (argument_and (comes_local (v + 4) 4 (at_items v) (no_arguments_left
         (called IsTurned (suc (suc (length h.done))) (λ g. short (omega (arith, g, size))) s.kept (nothing_added s.kept)
         (λ w more st e g. subst (λ us. IsListFrom (length s.kept) st w us) all g)
         n.nreverse (nreverse_function nreverse_name nreverse_v turn_number no_items) turns_back (h.items ∷ []) (λ y g wrong around.
         nreverse_new_gives s.names s.program s.limit y nreverse_name turn_name nreverse_v turn_v turn_number no_items turns_back.number turns_onto is_nil turns_back.there
         store g.objects_are s.kept h.kept (length store) h.done h.items h.taken k wrong around))))))
-      where
-        drop_nothing : (m : ℕ) → drop m [] ≡ []
-        drop_nothing zero = refl
-        drop_nothing (suc m) = refl
-
-        append_size : (xs ys : List Value) → length (turned_onto xs ys) ≡ length xs + length ys
-        append_size [] ys = omega arith
-        append_size (x ∷ xs) ys = let more : length (turned_onto xs (x ∷ ys)) ≡ length xs + length (x ∷ ys) = append_size xs (x ∷ ys) in omega (arith, more)
 
     pub takes_part : (k : ℕ) (front : List Value) (list : Value) → (k < length (front ++ part) + 2 → s.short)
         → IsProperList s.kept list ((front ++ part) ++ behind) → length front ≡ start → length (front ++ part) ≡ end
@@ -260,7 +260,7 @@ module _ (s : Setting) (v : ℕ) (n : PartNumbers) (is_one : HasLiteral s.progra
           in_front = l;
           taken = refl;
           kept = nothing_added s.kept;
-          part_is = ap (λ i. drop i (front ++ part)) (sym start_is) ∙ drop_front front part;
+          part_is = ap (λ i. drop i (front ++ part)) (omega (arith, start_is)) ∙ drop_front front part;
           end_is = omega (arith, end_is);
         })))
 
@@ -301,7 +301,7 @@ listp_gives : (names : List (List ℕ)) (program : ProgramRows) (limit : Limit) 
 listp_gives names program limit z name v number truth is_truth there before is list items l kept e =
     applies names program limit z kept 0 number name (v ∷ []) (sequence (one (or_form truth (prim IsCons (one (local v))) (prim IsNull (one (local v))))))
     (list ∷ []) (λ w store. is_true w ≡ true) (subst (λ os. IsExtended Object kept os) (sym is) e) there (λ u. refl) refl
-    (λ levels. at_store is (comes_sequence (first_then (comes_clauses (by (setting names program limit z kept (suc levels) 1) levels items l)))))
+    (λ levels. at_store is (comes_sequence (first_then (comes_clauses (by (setting names program limit z kept (suc levels) 1) levels items l is_truth)))))
   where
     by : (s : Setting) (levels : ℕ) (items : List Value) → IsProperList before list items → HasTruth s.program truth
         → Comes s ((v, 0) ∷ []) (some_clauses levels (clause_and (prim IsCons (one (local v))) no_body (else_clause truth (prim IsNull (one (local v))))))
@@ -379,7 +379,7 @@ module _ (s : Setting) (v : ℕ) (n : SubseqNumbers) (is_truth : HasTruth s.prog
       )))))))
 
 pub law_of_subseq : LawOfSubseq
-law_of_subseq names program name check_name listp_name part_name nreverse_name turn_name v check_v listp_v part_v nreverse_v turn_v n m p listp_truth turn no_items number
+law_of_subseq names program name check_name listp_name part_name nreverse_name turn_name v check_v listp_v part_v nreverse_v turn_v n m p listp_truth turning no_items number
     is_truth is_listp_truth is_least is_none is_one is_nothing is_nil checks checks_list lists parts turns_back turns_onto there limit k wrong around z
     list front part behind class class' has has' fits fits' l small =
     let IsPart : Value → List Object → Type 0 = λ w store. IsListFrom (length z.store) store w part in
@@ -388,7 +388,6 @@ law_of_subseq names program name check_name listp_name part_name nreverse_name t
     let end : Value = integer (pos size) in
     let total : size ≡ length front + length part = length-append front part in
     let items : List Value = (front ++ part) ++ behind in
-    let whole : IsProperList z.store list items = subst (λ us. IsProperList z.store list us) (sym (append_assoc front part behind)) l in
     let enough : suc (suc (size + 2)) ≡ size + 4 = omega arith in
     subst (λ n. Gives limit k n z IsPart (apply_procedure (at_level names program limit k) wrong number None (list ∷ start ∷ end ∷ []) around z)) enough
     (applies names program limit z z.store (suc (size + 2)) number name (v ∷ (v + 1) ∷ (v + 2) ∷ []) _ (list ∷ start ∷ end ∷ []) IsPart (nothing_added z.store) there
@@ -412,14 +411,14 @@ law_of_subseq names program name check_name listp_name part_name nreverse_name t
           n.part_of_list (part_of_list part_name part_v p) parts (list ∷ start ∷ end ∷ []) (λ y h wrong around.
           subst (λ os. GivesKeeping os limit levels (suc (size + 2)) y (λ w store. IsListFrom (length os) store w part)
           (apply_procedure (at_level names program limit levels) wrong parts.number None (list ∷ start ∷ end ∷ []) around y)) h.objects_are
-          (part_gives names program limit y part_name nreverse_name turn_name part_v nreverse_v turn_v parts.number p turn no_items is_none is_nothing is_one is_nil
+          (part_gives names program limit y part_name nreverse_name turn_name part_v nreverse_v turn_v parts.number p turning no_items is_none is_nothing is_one is_nil
           turns_onto turns_back parts.there list front part behind
-          (subst (λ os. IsProperList os list items) (sym h.objects_are) (list_kept (added_more e e') 0 list items whole)) small levels wrong around))))))))))))),
+          (subst (λ os. IsProperList os list items) (sym h.objects_are) (list_kept (added_more e e') 0 list items l)) small levels wrong around))))))))))))),
     ))
     n.listp (listp_function listp_name listp_v listp_truth) lists (list ∷ []) (λ y h wrong around.
     listp_gives names program limit y listp_name listp_v lists.number listp_truth is_listp_truth lists.there now h.objects_are list items
-    (list_kept e 0 list items whole) now (nothing_added now) levels wrong around)))))))))))))))
+    (list_kept e 0 list items l) now (nothing_added now) levels wrong around)))))))))))))))
     n.check (check_function check_name check_v m) checks (list ∷ []) (λ y h wrong around.
     check_gives names program limit y check_name listp_name check_v listp_v checks.number listp_truth m is_listp_truth checks_list checks.there z.store h.objects_are
-    list items whole z.store (nothing_added z.store) levels wrong around))))))))
+    list items l z.store (nothing_added z.store) levels wrong around))))))))
     k wrong around)

@@ -2,6 +2,7 @@
 use Rattle.std.proofs.Common.{refl, arith}
 use Rattle.lang_meaning.specs.Meaning.{mean, meaning_at}
 use Rattle.lang_meaning.specs.State.{no_place}
+use Rattle.lang_meaning.specs.Values.{nil, object}
 use Rattle.lang_library_laws.specs.Worked.{IsMet, Works}
 
 pub is_met : IsMet
@@ -51,7 +52,7 @@ is_met = record {
   output = (35, refl, refl);
   list = (68, _, refl, omega arith, refl, (67, _, refl, omega arith, refl, refl));
   conses = (_, refl, refl, (_, refl, refl, refl));
-  texts = ((71, refl, refl, omega arith), (72, refl, refl, omega arith), tt);
+  texts = ((71, refl, refl, omega arith), ((72, refl, refl, omega arith), tt));
   entries = (70, _, refl, omega arith, refl, refl);
   keys = ((69, _, refl, refl), tt);
 }
@@ -60,23 +61,23 @@ pub works : Works
 unfolding mean meaning_at
 works = record {
   reverse = refl;
-  reversed = (74, _, refl, omega arith, refl, (73, _, refl, omega arith, refl, refl));
+  reversed = (74, object 73, refl, omega arith, refl, (73, nil, refl, omega arith, refl, refl));
   length = refl;
   member = refl;
   assoc = refl;
   append = refl;
-  appended = (75, _, refl, omega arith, refl, (76, _, refl, omega arith, refl, (70, _, refl, omega arith, refl, refl)));
+  appended = (75, object 76, refl, omega arith, refl, (76, object 70, refl, omega arith, refl, (70, nil, refl, omega arith, refl, refl)));
   printed = refl;
   equal = refl;
   unequal = refl;
   nreversed = refl;
-  turned = (_, refl, refl, (_, refl, refl, refl));
+  turned = (object 68, refl, refl, (nil, refl, refl, refl));
   mapped = refl;
-  values = (73, _, refl, omega arith, refl, refl);
+  values = (73, nil, refl, omega arith, refl, refl);
   item = refl;
   byte = refl;
   taken = refl;
-  part = (73, _, refl, omega arith, refl, refl);
+  part = (73, nil, refl, omega arith, refl, refl);
   joined = refl;
   whole = refl;
 }

@@ -1,6 +1,6 @@
 -- The laws of the library: what a function gives for all proper lists, in any state and in every program that has it, with any number
 -- of levels and of words.
-use Rattle.std.specs.Prelude.{◌≡◌, ◌≤◌, ⊤, ℕ, ◌+◌, ℤ, pos, true, List, [], ◌∷◌, ◌++◌, codes, Option, Some, None, length, map, reverse, slice_get}
+use Rattle.std.specs.Prelude.{◌≡◌, ◌<◌, ◌≤◌, ◌⊎◌, ℕ, ◌+◌, ℤ, pos, Bool, true, List, [], ◌∷◌, ◌++◌, codes, Option, Some, None, length, map, reverse, slice_get}
 use Rattle.std.specs.Str.{bytes_eq}
 use Rattle.base.specs.Data as datum
 use Rattle.base.specs.declared.datum.Name.{Name}
@@ -12,19 +12,26 @@ use Rattle.lang_meaning.specs.Signals.{Signals, signal, apply_procedure, apply_v
 use Rattle.lang_library_laws.specs.Lists.{IsListFrom, IsProperList, AreProperLists, joined, HasConses, AreFrom, ChangesOnly, IsBehind, from_item, HaveKeys, with_key, OfEach, OfBoth}
 use Rattle.lang_library_laws.specs.Structures.{Structure, text, StandsFor, AreStrings, alike, depth}
 use Rattle.lang_library_laws.specs.Decimal.{decimal}
-use Rattle.lang_library_laws.specs.Applications.{IsExtended, KeepsPrinting, GivesPrinting, Prints, GivesKeeping, Gives, at_level, HasLiteral, HasTruth, HasText, HasClass, IsInstanceOf, IsOutput, IsNamed}
+use Rattle.lang_library_laws.specs.Applications.{IsExtended, KeepsPrinting, Prints, GivesKeeping, Gives, at_level, HasLiteral, HasTruth, HasText, HasClass, IsInstanceOf, IsOutput, IsNamed}
 use Rattle.lang_library_laws.specs.ListBodies.{list_function, turn_copy_onto, turn_onto, append_all, append_function, reverse_function, nreverse_function, list_length, length_function, memv, member_function, assoc_function}
 use Rattle.lang_library_laws.specs.EqualBodies.{string_equal, equal_vectors, equal_function}
 use Rattle.lang_library_laws.specs.SequenceBodies.{elt_function, ListFromNumbers, list_from, listp_function, CheckNumbers, check_function, PartNumbers, part_of_list, SubseqNumbers, subseq_function, MapcarNumbers, mapcar_function}
 use Rattle.lang_library_laws.specs.StringBodies.{length_of_all, copy_into, string_append}
 use Rattle.lang_library_laws.specs.NumberBodies.{emit, digit_function, emit_digit, emit_natural, emit_integer}
 
--- with unlimited words and enough levels there is a value of which that holds, and all of the text is printed
-abbrev pub LawOfEnough : Type 1
+-- with unlimited words and enough levels there is a value of which that holds
+abbrev pub LawOfEnough : Type 0
 LawOfEnough =
-    (MayBePrinted : List ℕ → Type 0) (printed : List ℕ) (kept : List Object) (levels enough : ℕ) (z : State) (Q : Value → List Object → Type 0) (r : Evaluated)
-    → GivesPrinting MayBePrinted printed kept unlimited levels enough z Q r → enough ≤ levels
-    → (v : Value) × (r.outcome ≡ value v) × KeepsPrinting (λ text. text ≡ printed) kept z r.state × Q v r.state.store
+    (kept : List Object) (levels enough : ℕ) (z : State) (holds : Value → List Object → Bool) (r : Evaluated)
+    → GivesKeeping kept unlimited levels enough z (λ v store. holds v store ≡ true) r → enough ≤ levels
+    → (v : Value) × (r.outcome ≡ value v) × KeepsPrinting (λ text. text ≡ z.printed) kept z r.state × (holds v r.state.store ≡ true)
+
+-- and where something is printed all of it is
+abbrev pub LawOfAllPrinted : Type 0
+LawOfAllPrinted =
+    (kept : List Object) (levels enough : ℕ) (z : State) (whole : List ℕ) (r : Evaluated)
+    → Prints kept unlimited levels enough z whole r → enough ≤ levels
+    → (v : Value) × (r.outcome ≡ value v) × KeepsPrinting (λ text. text ≡ z.printed ++ whole) kept z r.state
 
 -- `(list object ..)` is a new list of the objects
 abbrev pub LawOfList : Type 0
@@ -76,9 +83,17 @@ LawOfNreverse =
     → GivesKeeping kept limit k (length conses + 2) z (λ w store. HasConses store w (reverse conses) × ChangesOnly conses z.store store)
     (apply_procedure (at_level names program limit k) wrong number None (list ∷ []) around z)
 
+-- what fits of a call goes by the objects that were there at first and by those that the call made, from a number on: it still fits
+-- where these are the same
+abbrev pub FitsStay : (first : ℕ) → (ℕ → Value → Value → List Object → Bool) → Type 0
+FitsStay first fits =
+    (from : ℕ) (x y : Value) (made later : List Object) → fits from x y made ≡ true
+    → ((i : ℕ) → (i < first) ⊎ ((from ≤ i) × (i < length made)) → slice_get later i ≡ slice_get made i) → fits from x y later ≡ true
+
 -- `(mapcar function list)` is a new list of the values that the function has for the items, in their order: where it has for each item a
--- value that fits, with so many levels and in every later state that keeps what was there
-abbrev pub LawOfMapcar : Type 1
+-- value that fits, with so many levels and in every later state that keeps what was there. What fits may be said of the objects that were
+-- there and of those that the call made, whose numbers begin with that of the first one.
+abbrev pub LawOfMapcar : Type 0
 LawOfMapcar =
     (names : List (List ℕ)) (program : ProgramRows) (name nreverse_name turn_name : Option Name) (v nreverse_v turn_v : ℕ) (n : MapcarNumbers) (turn no_items number : ℕ)
     → IsNamed names program turn (turn_onto turn_name turn_v) → HasLiteral program no_items datum.nil
@@ -87,12 +102,12 @@ LawOfMapcar =
     → (limit : Limit) (k : ℕ) (wrong : Signals) (around : DynamicContext) (z : State) (function list : Value) (items : List Value)
     → (class : ℕ) → HasClass names program z.store n.function.class class → IsInstanceOf program class z.store function
     → IsProperList z.store list items
-    → (Fits : Value → Value → Type 0) (enough : ℕ)
+    → (fits : ℕ → Value → Value → List Object → Bool) → FitsStay (length z.store) fits → (enough : ℕ)
     → OfEach (λ x. (levels : ℕ) (within : DynamicContext) (y : State) → IsExtended Object z.store y.store
-    → Gives limit levels enough y (λ w store. Fits x w)
+    → Gives limit levels enough y (λ w store. fits (length y.store) x w store ≡ true)
     (apply_value (at_level names program limit levels) (signal (at_level names program limit levels)) function (x ∷ []) within y)) items
     → Gives limit k (length items + enough + 3) z
-    (λ w store. (values : List Value) × IsListFrom (length z.store) store w values × OfBoth Fits items values)
+    (λ w store. (values : List Value) × IsListFrom (length z.store) store w values × OfBoth (λ x y. (from : ℕ) × (fits from x y store ≡ true)) items values)
     (apply_procedure (at_level names program limit k) wrong number None (function ∷ list ∷ []) around z)
 
 -- `(elt list index)` is the item behind so many others

@@ -1,11 +1,12 @@
 // What functions of the library give for all proper lists, as the contracts of functions that do nothing.
 
-ghost use Rattle.lang_library_laws.specs.Laws.{LawOfAlike, LawOfAppend, LawOfAssoc, LawOfDigits, LawOfEltOfList, LawOfEltOfString, LawOfEltOfVector, LawOfEnough, LawOfEqual, LawOfLength, LawOfList, LawOfMapcar, LawOfMember, LawOfNreverse, LawOfReverse, LawOfStringAppend, LawOfStringEqual, LawOfSubseq};
+ghost use Rattle.lang_library_laws.specs.Laws.{LawOfAlike, LawOfAllPrinted, LawOfAppend, LawOfAssoc, LawOfDigits, LawOfEltOfList, LawOfEltOfString, LawOfEltOfVector, LawOfEnough, LawOfEqual, LawOfLength, LawOfList, LawOfMapcar, LawOfMember, LawOfNreverse, LawOfReverse, LawOfStringAppend, LawOfStringEqual, LawOfSubseq};
 ghost use Rattle.lang_library_laws.specs.Worked.{IsMet, Works};
 
-/// What a law says that an application gives, it gives where words are unlimited and levels are enough.
+/// What a law says that an application gives or prints, it gives or prints where words are unlimited and levels are enough.
 pub fn law_enough()
-    ensures { LawOfEnough }
+    ensures of_value { LawOfEnough }
+    ensures of_text { LawOfAllPrinted }
 {}
 
 /// The law of `list`: it gives a new list of its arguments.
