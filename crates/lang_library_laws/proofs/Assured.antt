@@ -1,5 +1,5 @@
 -- An argument that is to be of a class, and is.
-use Rattle.std.proofs.Common.{◌≡◌, ℕ, List, [], ◌∷◌, ◌++◌, refl, sym, ap, subst, ◌∙◌, Some, length, slice_get, slice_index_or, ◌&&◌, Bool, true, false}
+use Rattle.std.proofs.Common.{◌≡◌, ℕ, List, [], ◌∷◌, ◌++◌, refl, sym, subst, Some, length, slice_index_or, ◌&&◌, Bool, true, false}
 use Rattle.std.proofs.lemmas.List.{get_or_push}
 use Rattle.lang_meaning.specs.Form.{local}
 use Rattle.lang_meaning.specs.declared.program.ProgramRows.{ProgramRows}
@@ -54,4 +54,4 @@ comes_assured {s} {said} {places} {k} {frame} {store} {Q} v i x n domain_error c
         body_form (comes_sequence (first_then (comes_local x (length frame) (here x (length frame) places)
             (then_nothing (then_nothing (subst (λ u. Q u (frame ++ w ∷ []) store) (sym there) q)))))),
       ),
-    )))))))))))) 
+    ))))))))))))

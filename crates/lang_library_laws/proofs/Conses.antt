@@ -52,8 +52,7 @@ pub conses_before : {kept store : List Object} → IsExtended Object kept store 
 conses_before {kept} {store} e first above b v [] h = ([], refl, h, tt)
 conses_before {kept} {store} e first above b v (x ∷ xs) h =
     let others : (cs : Conses) × (items_in cs ≡ xs) × HasConses store h.1 cs × AreBeyond first above cs = conses_before e first above b h.1 xs h.5 in
-    let made : slice_get kept h.0 ≡ Some (cons x h.1) = h.4 in
-    (
+    let made : slice_get kept h.0 ≡ Some (cons x h.1) = h.4 in (
       (h.0, x) ∷ others.0,
       ap (λ us. x ∷ us) others.1,
       (h.1, h.2, get_kept e h.0 _ made, others.2),
@@ -76,8 +75,7 @@ conses_falling store first above v [] h = ([], refl, h, tt, λ ds b. tt)
 conses_falling store first above v (x ∷ xs) h =
     let i : ℕ = h.0 in
     let others : (cs : Conses) × (items_in cs ≡ xs) × HasConses store h.1 cs × AreFrom first cs × ((ds : Conses) → AreBeyond first i ds → AreApart cs ds) =
-    conses_falling store first i h.1 xs h.6 in
-    (
+    conses_falling store first i h.1 xs h.6 in (
       (i, x) ∷ others.0,
       ap (λ us. x ∷ us) others.1,
       (h.1, h.2, h.5, others.2),
@@ -141,8 +139,7 @@ none_later c cs (d ∷ ds) a = (a.0.1, none_later c cs ds a.1)
 apart_from : (store : List Object) (v : Value) (cs ds : Conses) → HasConses store v cs → NoneAmong ds cs → AreApart cs ds
 apart_from store v [] ds h a = tt
 apart_from store v (c ∷ cs) ds h a =
-    let whole : HasConses store (object c.0) (c ∷ cs) = (h.0, refl, h.2, h.3) in
-    (
+    let whole : HasConses store (object c.0) (c ∷ cs) = (h.0, refl, h.2, h.3) in (
       first_apart c cs ds a,
       apart_from store h.0 cs (c ∷ ds) h.3 (none_shorter store c.0 (c ∷ cs) whole h.0 cs h.3 (omega arith), none_later c cs ds a),
     )

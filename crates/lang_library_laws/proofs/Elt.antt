@@ -1,5 +1,5 @@
 -- `elt`: of lists by the loop that goes along so many conses, of strings and vectors at once.
-use Rattle.std.proofs.Common.{◌≡◌, ◌≤◌, ◌<◌, ℕ, suc, ◌+◌, pos, ◌-ℤ◌, Bool, true, false, List, [], ◌∷◌, ◌++◌, refl, sym, ap, subst, ◌∙◌, inl, inr, is_some, Option, Some, None, length, length-append, slice_get, slice_index_or, arith}
+use Rattle.std.proofs.Common.{◌≡◌, ◌≤◌, ◌<◌, ℕ, suc, ◌+◌, pos, ◌-ℤ◌, true, false, List, [], ◌∷◌, ◌++◌, refl, sym, ap, subst, inl, is_some, Option, Some, None, length, length-append, slice_get, slice_index_or, arith}
 use Rattle.std.specs.Prelude.{int_lt}
 use Rattle.std.proofs.lemmas.Int.{ints}
 use Rattle.std.proofs.lemmas.Bool.Decides.{nat_tests}
@@ -8,16 +8,14 @@ use Rattle.base.specs.declared.datum.Name.{Name}
 use Rattle.lang_meaning.specs.declared.program.ProgramRows.{ProgramRows}
 use Rattle.lang_meaning.specs.Form.{form_and, local, sequence, while_form}
 use Rattle.lang_meaning.specs.Values.{Value, nil, integer, character, object, symbol, is_true, truth as truth_of}
-use Rattle.lang_meaning.specs.Objects.{Object, string, vector}
+use Rattle.lang_meaning.specs.Objects.{Object}
 use Rattle.lang_meaning.specs.State.{State, DynamicContext, Limit}
-use Rattle.lang_meaning.specs.Lookup.{under_number}
 use Rattle.lang_meaning.specs.Literals.{symbol_of}
 use Rattle.lang_meaning.specs.Captured.{has_box}
 use Rattle.lang_meaning.specs.Primitives.{as_cons, as_string, as_vector, integer_result, says}
 use Rattle.lang_meaning.specs.Signals.{Signals, apply_procedure}
-use Rattle.lang_library_laws.specs.Structures.{object_in}
 use Rattle.lang_library_laws.specs.Lists.{IsProperList}
-use Rattle.lang_library_laws.specs.Applications.{IsExtended, GivesKeeping, Gives, at_level, HasLiteral, HasTruth, HasClass, IsInstanceOf, IsNamed}
+use Rattle.lang_library_laws.specs.Applications.{IsExtended, GivesKeeping, Gives, at_level, HasLiteral, HasTruth, HasClass, IsInstanceOf}
 use Rattle.lang_library_laws.specs.ListBodies.{one, two}
 use Rattle.lang_library_laws.specs.SequenceBodies.{three, assure_form, elt_form, ListFromNumbers, going_test, going_turn, going_end, least_checked, list_from}
 use Rattle.lang_library_laws.specs.Laws.{LawOfEltOfList, LawOfEltOfString, LawOfEltOfVector}

@@ -1,13 +1,11 @@
 -- Lists whose conses have falling numbers, as functions make them, and objects that are changed.
-use Rattle.std.proofs.Common.{◌≡◌, ◌≤◌, ◌<◌, ℕ, zero, suc, ◌+◌, ◌-◌, List, [], ◌∷◌, ◌++◌, reverse, refl, sym, ap, ◌∙◌, ◌⊎◌, inl, inr, ⊎_elim, Some, length, slice_get, slice_set, append_assoc, le_trans, arith}
+use Rattle.std.proofs.Common.{◌≡◌, ◌≤◌, ◌<◌, ℕ, zero, suc, ◌+◌, ◌-◌, List, [], ◌∷◌, ◌++◌, reverse, refl, sym, ap, ◌∙◌, Some, length, slice_get, slice_set, append_assoc, le_trans, arith}
 use Rattle.std.proofs.lemmas.Grind.{reverse_onto}
-use Rattle.std.proofs.lemmas.Option.{slice_get_within}
 use Rattle.lang_meaning.specs.Values.{Value, nil, object}
 use Rattle.lang_meaning.specs.Objects.{Object, cons}
-use Rattle.lang_library_laws.specs.Lists.{IsListFrom, IsProperList}
+use Rattle.lang_library_laws.specs.Lists.{IsListFrom}
 use Rattle.lang_library_laws.specs.Applications.{IsExtended}
 use Rattle.lang_library_laws.proofs.Frames.{get_kept, set_behind}
-use Rattle.lang_library_laws.proofs.Evaluates.{Cell}
 
 -- items in the other order in front of others
 abbrev pub turned_onto : {X : Type 0} → List X → List X → List X

@@ -1,22 +1,22 @@
 -- `mapcar` of one list, by the loop that calls the function with each item.
-use Rattle.std.proofs.Common.{◌≡◌, ◌≤◌, ◌<◌, ℕ, suc, ◌+◌, Bool, true, false, List, [], ◌∷◌, ◌++◌, refl, sym, ap, subst, ◌∙◌, inl, inr, Option, Some, None, length, length-append, slice_get, ◌⊎◌, ⊎_elim, zero, le_trans, le_refl, arith}
+use Rattle.std.proofs.Common.{◌≡◌, ◌≤◌, ◌<◌, ℕ, suc, ◌+◌, true, false, List, [], ◌∷◌, ◌++◌, refl, sym, ap, subst, ◌∙◌, inl, inr, Option, Some, None, length, length-append, slice_get, ◌⊎◌, ⊎_elim, zero, le_trans, le_refl, arith}
 use Rattle.std.proofs.lemmas.Bool.Decides.{nat_tests}
 use Rattle.base.specs.Data as datum
 use Rattle.base.specs.declared.datum.Name.{Name}
 use Rattle.lang_meaning.specs.Form.{no_form, local, call}
 use Rattle.lang_meaning.specs.Values.{Value, nil, object, is_true, truth, same}
 use Rattle.lang_meaning.specs.Objects.{Object, cons}
-use Rattle.lang_meaning.specs.State.{State, DynamicContext, Limit}
+use Rattle.lang_meaning.specs.State.{State, DynamicContext}
 use Rattle.lang_meaning.specs.Lookup.{under_number}
 use Rattle.lang_meaning.specs.Captured.{has_box}
-use Rattle.lang_meaning.specs.Signals.{Signals, signal, apply_procedure, apply_value}
+use Rattle.lang_meaning.specs.Signals.{signal, apply_procedure, apply_value}
 use Rattle.lang_library_laws.specs.Lists.{IsListFrom, IsProperList, HasConses, IsNoneOf, AreFrom, ChangesOnly, OfEach, OfBoth}
-use Rattle.lang_library_laws.specs.Applications.{IsExtended, Gives, GivesKeeping, at_level, HasLiteral, HasClass, IsInstanceOf, IsNamed}
+use Rattle.lang_library_laws.specs.Applications.{IsExtended, Gives, GivesKeeping, at_level, HasLiteral, IsNamed}
 use Rattle.lang_library_laws.specs.ListBodies.{one, not_null, turn_onto, nreverse_function}
-use Rattle.lang_library_laws.specs.SequenceBodies.{MapcarNumbers, map_turn, map_along, map_body, mapcar_form}
+use Rattle.lang_library_laws.specs.SequenceBodies.{MapcarNumbers, map_turn, map_body, mapcar_form}
 use Rattle.lang_library_laws.specs.Laws.{LawOfMapcar}
 use Rattle.lang_library_laws.proofs.Frames.{nothing_added, added_more, put_behind, get_kept, get_last, Places, Setting, Comes, a_form, in_order, weaker, at_frame}
-use Rattle.lang_library_laws.proofs.Evaluates.{Cell, comes_local, comes_set, comes_literal, comes_sequence, then_nothing, first_then, comes_clauses, clause_taken, body_form, no_arguments_left, argument_and, no_bindings_left, value_and, comes_let}
+use Rattle.lang_library_laws.proofs.Evaluates.{comes_local, comes_set, comes_literal, comes_sequence, then_nothing, first_then, comes_clauses, clause_taken, body_form, no_arguments_left, argument_and, no_bindings_left, value_and, comes_let}
 use Rattle.lang_library_laws.proofs.OfPrimitives.{comes_car, comes_cdr, comes_null, comes_cons}
 use Rattle.lang_library_laws.proofs.Loops.{Turns, Stops, loops}
 use Rattle.lang_library_laws.proofs.Applies.{setting, applies_to, called, value_called, comes_call, comes_call_value}
@@ -24,7 +24,7 @@ use Rattle.lang_library_laws.proofs.Falling.{turned_onto}
 use Rattle.lang_library_laws.proofs.Conses.{Conses, items_in, items_turned, conses_list, from_turned, AreBeyond, none_beyond, conses_apart}
 use Rattle.lang_library_laws.proofs.NReverse.{nreverse_gives}
 use Rattle.lang_library_laws.proofs.Assured.{none_of, class_kept, instance_kept, comes_assured}
-use Rattle.lang_library_laws.proofs.ListsKept.{cell_of, cell_later, list_kept, no_shorter, here, elsewhere}
+use Rattle.lang_library_laws.proofs.ListsKept.{cell_later, no_shorter, here, elsewhere}
 
 -- what holds of both holds of both turned
 both_turned : {X Y : Type 0} (Fits : X → Y → Type 0) (xs xs' : List X) (ys ys' : List Y) → OfBoth Fits xs ys → OfBoth Fits xs' ys'

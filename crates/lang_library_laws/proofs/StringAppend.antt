@@ -1,25 +1,24 @@
 -- `string-append`, by the loop that adds lengths, the one that copies a string's characters into another, and the one that goes along the strings.
-use Rattle.std.proofs.Common.{◌≡◌, ◌≤◌, ◌<◌, ℕ, zero, suc, ◌+◌, pos, ◌+ℤ◌, true, false, List, [], ◌∷◌, ◌++◌, map, replicate, refl, sym, ap, subst, ◌∙◌, inl, inr, Option, Some, None, length, length-append, append_assoc, append-nil, slice_get, slice_set, slice_index_or, arith, le_trans}
+use Rattle.std.proofs.Common.{◌≡◌, ◌≤◌, ◌<◌, ℕ, zero, suc, ◌+◌, pos, ◌+ℤ◌, true, false, List, [], ◌∷◌, ◌++◌, map, replicate, refl, sym, ap, subst, ◌∙◌, inl, Option, Some, None, length, length-append, append_assoc, append-nil, slice_get, slice_set, slice_index_or, arith}
 use Rattle.std.specs.Prelude.{int_lt}
 use Rattle.std.proofs.lemmas.Bool.Decides.{nat_tests}
 use Rattle.base.specs.Data as datum
 use Rattle.base.specs.declared.datum.Name.{Name}
 use Rattle.lang_meaning.specs.declared.program.ProgramRows.{ProgramRows}
-use Rattle.lang_meaning.specs.Form.{no_form, local, sequence}
+use Rattle.lang_meaning.specs.Form.{local, sequence}
 use Rattle.lang_meaning.specs.Values.{Value, nil, integer, character, object, is_true, truth as truth_of, same}
 use Rattle.lang_meaning.specs.Objects.{Object, string}
 use Rattle.lang_meaning.specs.State.{State, DynamicContext, Limit}
 use Rattle.lang_meaning.specs.Lookup.{under_number}
-use Rattle.lang_meaning.specs.Captured.{has_box}
 use Rattle.lang_meaning.specs.Primitives.{integer_result, says}
 use Rattle.lang_meaning.specs.Signals.{Signals, apply_procedure}
 use Rattle.lang_library_laws.specs.Structures.{object_in, text, StandsFor, AreStrings}
 use Rattle.lang_library_laws.specs.Lists.{IsProperList, joined}
 use Rattle.lang_library_laws.specs.Applications.{IsExtended, GivesKeeping, Gives, at_level, HasLiteral, IsNamed}
-use Rattle.lang_library_laws.specs.ListBodies.{one, two, not_null}
-use Rattle.lang_library_laws.specs.StringBodies.{lengths_turn, lengths_body, length_of_all, copy_test, copy_turn, copy_body, copy_into, joining_turn, joining_body, joining_form, string_append}
+use Rattle.lang_library_laws.specs.ListBodies.{one, not_null}
+use Rattle.lang_library_laws.specs.StringBodies.{lengths_turn, lengths_body, length_of_all, copy_test, copy_turn, copy_body, copy_into, joining_turn, joining_body, joining_form}
 use Rattle.lang_library_laws.specs.Laws.{LawOfStringAppend}
-use Rattle.lang_library_laws.proofs.Frames.{nothing_added, added_more, put_behind, get_last, set_behind, Places, Setting, Comes, a_form, in_order, weaker, at_frame, at_store}
+use Rattle.lang_library_laws.proofs.Frames.{nothing_added, added_more, put_behind, get_last, Places, Setting, Comes, a_form, in_order, weaker, at_frame, at_store}
 use Rattle.lang_library_laws.proofs.Evaluates.{comes_local, comes_known, comes_set, comes_literal, comes_sequence, then_nothing, first_then, no_arguments_left, argument_and, no_bindings_left, value_and, comes_let}
 use Rattle.lang_library_laws.proofs.OfPrimitives.{comes_car, comes_cdr, comes_null, comes_string_length, comes_char_at, comes_make_string, comes_set_char, comes_integers, ranged, said_to_be}
 use Rattle.lang_library_laws.proofs.Decimals.{natural_range}
@@ -30,8 +29,8 @@ use Rattle.lang_library_laws.proofs.Structures.{stands_kept}
 use Rattle.lang_library_laws.proofs.Assured.{none_of}
 use Rattle.lang_library_laws.proofs.Strings.{text_in}
 use Rattle.lang_library_laws.proofs.Elt.{stands_behind, is_within}
-use Rattle.lang_library_laws.proofs.Subseq.{arguments, first_of_three, second_of_three, third_of_three, part_places, at_list, at_argument, at_index, at_items}
-use Rattle.lang_library_laws.proofs.ListsKept.{cell_of, cell_later, list_kept, proper_list, no_shorter, here, elsewhere}
+use Rattle.lang_library_laws.proofs.Subseq.{second_of_three, third_of_three, part_places, at_list, at_argument, at_index, at_items}
+use Rattle.lang_library_laws.proofs.ListsKept.{cell_of, cell_later, proper_list, no_shorter, here, elsewhere}
 
 abbrev Texts : Type 0
 Texts = List (Value × List ℕ)
@@ -421,7 +420,7 @@ module _ (s : Setting) (v : ℕ) (copy : ℕ) (copy_name : Option Name) (copy_v 
         no_arguments_left (called IsJoined (suc (length x.1)) (λ few. short (omega (arith, few, left_size, all_size))) now since
             (λ w added st e r.
             let frame_now : slice_set (h.list ∷ ((more ++ object whole ∷ index ∷ h.others) ++ added)) (next_place) w
-                ≡ joining_frame h.list (integer (pos (length (h.made ++ x.1)))) (h.others ++ added) =
+            ≡ joining_frame h.list (integer (pos (length (h.made ++ x.1)))) (h.others ++ added) =
             ap (λ us. slice_set (h.list ∷ us) (next_place) w) (append_assoc more (object whole ∷ index ∷ h.others) added)
             ∙ next_set h.list index w (h.others ++ added) ∙ ap (λ u. joining_frame h.list u (h.others ++ added)) r.0 in
             at_frame frame_now (first_then (comes_set v 0 at_left (comes_cdr (comes_local v 0 at_left (

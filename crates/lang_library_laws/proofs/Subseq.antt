@@ -1,5 +1,5 @@
 -- `subseq` of lists, by the loop that takes the items from a start up to an end.
-use Rattle.std.proofs.Common.{◌≡◌, ◌≤◌, ◌<◌, ℕ, zero, suc, ◌+◌, ◌-◌, pos, ◌+ℤ◌, Bool, true, false, List, [], ◌∷◌, ◌++◌, drop, refl, sym, ap, subst, ◌∙◌, inl, inr, is_some, Option, Some, None, length, length-append, slice_get, arith, le_trans}
+use Rattle.std.proofs.Common.{◌≡◌, ◌≤◌, ◌<◌, ℕ, zero, suc, ◌+◌, ◌-◌, pos, ◌+ℤ◌, Bool, true, false, List, [], ◌∷◌, ◌++◌, drop, refl, sym, ap, subst, ◌∙◌, inl, is_some, Option, Some, None, length, length-append, slice_get, arith, le_trans}
 use Rattle.std.specs.Prelude.{int_lt, int_le}
 use Rattle.std.proofs.lemmas.Bool.Decides.{nat_tests}
 use Rattle.base.specs.Data as datum
@@ -17,12 +17,12 @@ use Rattle.lang_meaning.specs.Primitives.{as_cons, integer_result, says}
 use Rattle.lang_meaning.specs.Signals.{Signals, apply_procedure}
 use Rattle.lang_library_laws.specs.Structures.{object_in}
 use Rattle.lang_library_laws.specs.Lists.{IsListFrom, IsProperList}
-use Rattle.lang_library_laws.specs.Applications.{IsExtended, GivesKeeping, Gives, at_level, HasLiteral, HasTruth, HasClass, IsInstanceOf, IsNamed}
+use Rattle.lang_library_laws.specs.Applications.{IsExtended, GivesKeeping, Gives, at_level, HasLiteral, HasTruth, IsNamed}
 use Rattle.lang_library_laws.specs.ListBodies.{one, two, clause_of, else_clause, or_form, turn_onto, nreverse_function}
-use Rattle.lang_library_laws.specs.SequenceBodies.{three, assure_form, part_test, part_turn, part_body, part_form, PartNumbers, part_of_list, CheckNumbers, check_function, listp_function, SubseqNumbers, bounds_checked, subseq_end, subseq_function}
+use Rattle.lang_library_laws.specs.SequenceBodies.{three, assure_form, part_test, part_turn, part_body, part_form, PartNumbers, part_of_list, CheckNumbers, check_function, listp_function, SubseqNumbers, bounds_checked, subseq_end}
 use Rattle.lang_library_laws.specs.Laws.{LawOfSubseq}
 use Rattle.lang_library_laws.proofs.Frames.{nothing_added, added_more, put_behind, get_last, Places, Setting, Comes, a_form, in_order, some_clauses, weaker, at_frame, at_store}
-use Rattle.lang_library_laws.proofs.Evaluates.{Cell, cell_in, comes_local, comes_set, comes_literal, comes_sequence, then_nothing, first_then, comes_clauses, clause_taken, clause_passed, no_clause_left, body_form, test_value, no_arguments_left, argument_and, no_bindings_left, value_and, comes_let}
+use Rattle.lang_library_laws.proofs.Evaluates.{cell_in, comes_local, comes_set, comes_literal, comes_sequence, then_nothing, first_then, comes_clauses, clause_taken, clause_passed, no_clause_left, body_form, test_value, no_arguments_left, argument_and, no_bindings_left, value_and, comes_let}
 use Rattle.lang_library_laws.proofs.OfPrimitives.{comes_car, comes_cdr, comes_null, comes_cons, comes_consp, comes_integers, ranged, said_to_be}
 use Rattle.lang_library_laws.proofs.Decimals.{natural_range}
 use Rattle.lang_library_laws.proofs.Loops.{Turns, Stops, loops}

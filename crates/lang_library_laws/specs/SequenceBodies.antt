@@ -1,10 +1,10 @@
 -- Functions of sequences, and `mapcar`, as procedures: what their texts are read as. The literals and the names in a function have the numbers
 -- that they happen to have.
-use Rattle.std.specs.Prelude.{ℕ, ◌+◌, List, [], ◌∷◌, Option, Some}
+use Rattle.std.specs.Prelude.{ℕ, ◌+◌, [], ◌∷◌, Option, Some}
 use Rattle.base.specs.declared.datum.Name.{Name}
 use Rattle.lang_meaning.specs.declared.program.Procedure.{Procedure}
 use Rattle.lang_meaning.specs.declared.primitive.Primitive.TheVariants.{Add, Subtract, NumberLess, NumberAtMost, NumberGreater, IsInstance, IsNull, IsCons, IsString, IsVector, Cons, Car, Cdr, CharAt, VectorRef}
-use Rattle.lang_meaning.specs.Form.{Form, Forms, no_form, form_and, no_clause, clause_and, no_body, no_binding, binding_and}
+use Rattle.lang_meaning.specs.Form.{Form, Forms, no_form, form_and, no_binding, binding_and}
 use Rattle.lang_meaning.specs.Form.{literal, local, set_local, clauses, sequence, let_form, call, call_value, apply, prim, while_form}
 use Rattle.lang_library_laws.specs.ListBodies.{one, two, a_procedure, not_form, not_null, clause_of, else_clause, if_form, or_form, and_form}
 use Rattle.lang_library_laws.specs.NumberBodies.{when}

@@ -1,5 +1,5 @@
 -- A program that has these functions, written out: what the laws ask of a program is met.
-use Rattle.std.specs.Prelude.{◌≡◌, ℕ, zero, suc, ◌+◌, ℤ, pos, negsuc, true, false, List, [], ◌∷◌, ◌++◌, map, Option, Some, None, slice_get, codes, if◌then◌else◌}
+use Rattle.std.specs.Prelude.{◌≡◌, ℕ, zero, suc, ◌+◌, ℤ, pos, negsuc, false, List, [], ◌∷◌, ◌++◌, map, Option, Some, None, slice_get, codes, if◌then◌else◌}
 use Rattle.base.specs.Data as datum
 use Rattle.base.specs.declared.datum.Symbol.TheVariants.{Named}
 use Rattle.lang_meaning.specs.declared.program.LiteralRow.{LiteralRow}

@@ -7,9 +7,9 @@ use crate::piece::Piece::{
     While,
 };
 use lang_meaning::Primitive::{
-    Add, Car, Cdr, CharAt, Cons, Divide, IsCons, IsInstance, IsNull, IsString, IsVector, MakeString,
-    Modulo, NumberAtLeast, NumberAtMost, NumberEqual, NumberGreater, NumberLess, PutChar, Same,
-    SetCdr, SetCharAt, StringLength, Subtract, VectorLength, VectorRef,
+    Add, Car, Cdr, CharAt, Cons, Divide, IsCons, IsInstance, IsNull, IsString, IsVector,
+    MakeString, Modulo, NumberAtLeast, NumberAtMost, NumberEqual, NumberGreater, NumberLess,
+    PutChar, Same, SetCdr, SetCharAt, StringLength, Subtract, VectorLength, VectorRef,
 };
 
 // (defun reverse (list) (%turn-copy-onto list nil))
