@@ -1,5 +1,5 @@
 -- `append`, by the loop that turns copies of all lists but the last one onto each other, and by the one that turns them onto the last one.
-use Rattle.std.proofs.Common.{◌≡◌, ◌≤◌, ◌<◌, ℕ, suc, ◌+◌, ◌==◌, ◌&&◌, ◌||◌, not, Bool, true, false, List, [], ◌∷◌, ◌++◌, map, is_some, refl, sym, ap, subst, ◌∙◌, inl, inr, Option, Some, None, length, slice_get, append-nil, length-append, arith, le_refl}
+use Rattle.std.proofs.Common.{◌≡◌, ◌≤◌, ◌<◌, ℕ, suc, ◌+◌, ◌==◌, ◌&&◌, ◌||◌, not, Bool, true, false, List, [], ◌∷◌, ◌++◌, map, is_some, refl, sym, ap, subst, ◌∙◌, inl, inr, Option, Some, None, length, slice_get, append-nil, length-append, arith}
 use Rattle.std.proofs.lemmas.Bool.Decides.{nat_tests}
 use Rattle.base.specs.Data as datum
 use Rattle.base.specs.declared.datum.Name.{Name}
@@ -24,9 +24,9 @@ use Rattle.lang_library_laws.proofs.Evaluates.{cell_in, comes_local, comes_set, 
 use Rattle.lang_library_laws.proofs.OfPrimitives.{comes_car, comes_cdr, comes_null, comes_consp}
 use Rattle.lang_library_laws.proofs.Loops.{Turns, Stops, loops}
 use Rattle.lang_library_laws.proofs.Applies.{setting, applies, applies_to, called, comes_call}
-use Rattle.lang_library_laws.proofs.Falling.{turned_onto, IsFalling, IsApart, apart_kept}
+use Rattle.lang_library_laws.proofs.Falling.{turned_onto, IsFalling}
 use Rattle.lang_library_laws.proofs.TurnCopy.{turn_copy_gives}
-use Rattle.lang_library_laws.proofs.TurnOnto.{turn_gives}
+use Rattle.lang_library_laws.proofs.TurnOnto.{turn_new_gives}
 use Rattle.lang_library_laws.proofs.ListsKept.{list_kept, no_shorter, proper_list, cell_of, cell_later, here, elsewhere}
 
 -- lists in stores that grow
@@ -211,11 +211,8 @@ module _ (s : Setting) (v : ℕ) (truth nothing list_class truth' turn_copy turn
                   (called IsAll (suc (length h.done)) (λ g. short (omega (arith, g, h.size_is))) s.kept (nothing_added s.kept)
                   (λ w more st e g. then_nothing (subst (λ us. IsProperList st w us) same_items g))
                   turn (turn_onto onto_name onto_v) turns_onto (h.front ∷ x.0 ∷ []) (λ z g wrong around.
-                  turn_gives s.names s.program s.limit z onto_name onto_v turns_onto.number turns_onto.there (length s.kept) (length store) h.done x.1 h.front x.0
-                  (subst (λ os. IsFalling (length s.kept) (length store) os h.front h.done) (sym g.objects_are) h.behind)
-                  (subst (λ os. IsApart (length s.kept) (length store) os x.0 x.1) (sym g.objects_are)
-                  (apart_kept h.kept (length s.kept) (length store) (le_refl (length s.kept)) x.0 x.1 h.lists.0))
-                  s.kept (subst (λ os. IsExtended Object s.kept os) (sym g.objects_are) h.kept) (le_refl (length s.kept)) k wrong around)),
+                  turn_new_gives s.names s.program s.limit z onto_name onto_v turns_onto.number turns_onto.there store g.objects_are s.kept h.kept (length store)
+                  h.done x.1 h.front x.0 h.behind h.lists.0 k wrong around)),
             ))))))))),
           )),
         ))),

@@ -3,7 +3,7 @@ use Rattle.std.proofs.Common.{◌≡◌, ◌<◌, ℕ, zero, suc, ◌+◌, Bool,
 use Rattle.base.specs.declared.datum.Name.{Name}
 use Rattle.lang_meaning.specs.declared.program.ProgramRows.{ProgramRows}
 use Rattle.lang_meaning.specs.declared.program.Procedure.{Procedure}
-use Rattle.lang_meaning.specs.Form.{Form, Forms, parameters, call}
+use Rattle.lang_meaning.specs.Form.{Form, Forms, parameters, call, call_value}
 use Rattle.lang_meaning.specs.Counts.{nodes, application_words}
 use Rattle.lang_meaning.specs.Values.{Value, nil, object}
 use Rattle.lang_meaning.specs.Objects.{Object, cons, Environment, no_environment, program_error_class}
@@ -11,8 +11,8 @@ use Rattle.lang_meaning.specs.State.{State, DynamicContext, Outcome, value, exit
 use Rattle.lang_meaning.specs.Lookup.{text, numbered, with_variables, with_values}
 use Rattle.lang_meaning.specs.Captured.{has_box}
 use Rattle.lang_meaning.specs.Literals.{function_row}
-use Rattle.lang_meaning.specs.Signals.{Signals, nothing, form, takes, with_some, with_boxes, gathered, make_list, enter, apply_procedure, apply_row, apply_callee, signal}
-use Rattle.lang_meaning.specs.Meaning.{charged_for, mean, meaning_at}
+use Rattle.lang_meaning.specs.Signals.{Signals, nothing, form, apply_value, takes, with_some, with_boxes, gathered, make_list, enter, apply_procedure, apply_row, apply_callee, signal}
+use Rattle.lang_meaning.specs.Meaning.{charged_for, mean, mean_call_value, meaning_at}
 use Rattle.lang_library_laws.specs.Lists.{IsListFrom}
 use Rattle.lang_library_laws.specs.Applications.{GivesPrinting, GivesKeeping, IsExtended, KeepsPrinting, EndsAs, IsLimited, at_level, IsNamed}
 use Rattle.lang_library_laws.specs.ListBodies.{a_procedure}
@@ -87,7 +87,7 @@ makes_list {s} {said} {frame} {store} {Q} (v ∷ vs) z next h c =
     let grown : IsExtended Object now (now ++ made ∷ []) = put_behind now (made ∷ []) in
     let size : length after.store ≡ length now = ap length g.objects_are in
     requests 2 0 after (λ entered. next (object (length entered.store)) (stored made (charged 2 entered))) (kept_in_frame g)
-    (c (object (length after.store)) (now ++ made ∷ []) (stored made (charged 2 (with_words 2 0 after))) (one_more made after g) (
+    (c (object (length after.store)) (now ++ made ∷ []) (stored made (charged 2 (with_words 2 0 after))) (one_more 2 2 made after g) (
       length after.store,
       tail,
       refl,
@@ -225,6 +225,23 @@ pub applies_to : (names : List (List ℕ)) (program : ProgramRows) (limit : Limi
 applies_to names program limit z kept enough number name required rest body vs P e there none count c =
     applies_printing (λ text. text ≡ z.printed) z.printed names program limit z kept enough number name required rest body vs P e refl there none count c
 
+-- what holds of more values
+pub keeps_more : (kept : List Object) (limit : Limit) (k enough : ℕ) (z : State) (P Q : Value → List Object → Type 0) (r : Evaluated)
+    → GivesKeeping kept limit k enough z P r → ((w : Value) (store : List Object) → P w store → Q w store) → GivesKeeping kept limit k enough z Q r
+keeps_more kept limit k enough z P Q r g w = by r.outcome r.state g
+  where
+    by : (o : Outcome) (after : State)
+        → EndsAs (λ after. IsLimited limit × KeepsPrinting (λ text. text ≡ z.printed) kept z after)
+        (λ after. (k < enough) × KeepsPrinting (λ text. text ≡ z.printed) kept z after)
+        (λ v after. KeepsPrinting (λ text. text ≡ z.printed) kept z after × P v after.store) o after
+        → EndsAs (λ after. IsLimited limit × KeepsPrinting (λ text. text ≡ z.printed) kept z after)
+        (λ after. (k < enough) × KeepsPrinting (λ text. text ≡ z.printed) kept z after)
+        (λ v after. KeepsPrinting (λ text. text ≡ z.printed) kept z after × Q v after.store) o after
+    by (value v) after g = (g.0, w v after.store g.1)
+    by (exit e v landing) after g = g
+    by (full asked left) after g = g
+    by more after g = g
+
 -- one without a rest variable
 pub applies : (names : List (List ℕ)) (program : ProgramRows) (limit : Limit) (z : State) (kept : List Object) (enough : ℕ) (number : ℕ)
     (name : Option Name) (required : List ℕ) (body : Form) (vs : List Value) (P : Value → List Object → Type 0)
@@ -282,6 +299,13 @@ module _ {s : Setting} {said : List ℕ} {k : ℕ} {frame : List Value} {store :
       (subst (λ c. Runs s (After s printed Q) (apply_callee (at s k) (signal (at s k)) c vs around z)) (sym named.callee)
       (inside z h (apply_procedure (at s k) (signal (at s k)) named.number None vs around z) (g z h (signal (at s k)) around)))
 
+  -- the call of a function object, behind its arguments
+  pub value_called_printing : (f : Value) (vs : List Value)
+      → ((z : State) → InFrame s said frame store z → (around : DynamicContext)
+      → GivesPrinting May printed kept s.limit k enough z P (apply_value (at s k) (signal (at s k)) f vs around z))
+      → (around : DynamicContext) (z : State) → InFrame s said frame store z → Runs s (After s printed Q) (mean_call_value (at s k) (f ∷ vs) around z)
+  value_called_printing f vs g around z h = inside z h (apply_value (at s k) (signal (at s k)) f vs around z) (g z h around)
+
 -- and by one that prints nothing
 module _ {s : Setting} {said : List ℕ} {k : ℕ} {frame : List Value} {store : List Object} {Q : Value → List Value → List Object → Type 0}
     (P : Value → List Object → Type 0) (enough : ℕ) (short : k < enough → s.short)
@@ -299,9 +323,26 @@ module _ {s : Setting} {said : List ℕ} {k : ℕ} {frame : List Value} {store :
       h.printed_are (g z h wrong around))
       around z h
 
+  pub value_called : (f : Value) (vs : List Value)
+      → ((z : State) → InFrame s said frame store z → (around : DynamicContext)
+      → GivesKeeping kept s.limit k enough z P (apply_value (at s k) (signal (at s k)) f vs around z))
+      → (around : DynamicContext) (z : State) → InFrame s said frame store z → Runs s (After s said Q) (mean_call_value (at s k) (f ∷ vs) around z)
+  value_called f vs g around z h =
+      value_called_printing (λ text. text ≡ said) said (λ text e. subst s.may (sym e) h.may_be) h.may_be P enough short kept also goes_on f vs
+      (λ z h around.
+      subst (λ said. GivesPrinting (λ text. text ≡ said) said kept s.limit k enough z P (apply_value (at s k) (signal (at s k)) f vs around z))
+      h.printed_are (g z h around))
+      around z h
+
 pub comes_call : {s : Setting} {said said' : List ℕ} {places : Places} {k : ℕ} {frame : List Value} {store : List Object} {Q : Value → List Value → List Object → Type 0} {n : ℕ} {fs : Forms}
     → Arguments s said said' places k fs [] frame store (λ around vs after.
     apply_row (at s k) (signal (at s k)) (text s.names n) (function_row s.names s.program.functions (text s.names n)) vs around after) Q
     → ComesPrinting s said said' places (a_form k (call n fs)) frame store Q
 unfolding mean
 comes_call {s} {said} {said'} {places} {k} {frame} {store} {Q} {n} {fs} c = record { runs = λ env around z e h. c.runs env around (charged_for (call n fs) z) e h }
+
+pub comes_call_value : {s : Setting} {said said' : List ℕ} {places : Places} {k : ℕ} {frame : List Value} {store : List Object} {Q : Value → List Value → List Object → Type 0} {fs : Forms}
+    → Arguments s said said' places k fs [] frame store (λ around vs after. mean_call_value (at s k) vs around after) Q
+    → ComesPrinting s said said' places (a_form k (call_value fs)) frame store Q
+unfolding mean
+comes_call_value {s} {said} {said'} {places} {k} {frame} {store} {Q} {fs} c = record { runs = λ env around z e h. c.runs env around (charged_for (call_value fs) z) e h }

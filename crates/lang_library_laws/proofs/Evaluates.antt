@@ -12,7 +12,7 @@ use Rattle.lang_meaning.specs.State.{State, DynamicContext, Evaluated, gives, go
 use Rattle.lang_meaning.specs.Lookup.{under_number, value_at, set_at, numbered, with_variables, with_values}
 use Rattle.lang_meaning.specs.Captured.{has_box}
 use Rattle.lang_meaning.specs.Classes.{fetch}
-use Rattle.lang_meaning.specs.InitialHeap.{literal_value}
+use Rattle.lang_meaning.specs.InitialHeap.{class_value, literal_value}
 use Rattle.lang_meaning.specs.Primitives.{result, primitive}
 use Rattle.lang_meaning.specs.Signals.{Evaluation, form, answered, with_boxes}
 use Rattle.lang_meaning.specs.Meaning.{charged_for, meaning_at, mean, mean_literal, mean_arguments, mean_clauses, mean_body, mean_bindings, bound_variables}
@@ -86,6 +86,11 @@ module _ {s : Setting} {said : List ℕ} {places : Places} {k : ℕ} {frame : Li
         given (value_at (under_number v env.variables) z) (charged_for (local v) z) h (subst (λ x. Q x frame store) (sym same) q);
   }
 
+  -- and that may be known as another one
+  pub comes_known : (v : ℕ) (i : ℕ) (x : Value) → under_number v places ≡ Some i → slice_index_or frame i nil ≡ x → Q x frame store
+      → ComesPrinting s said said places (a_form k (local v)) frame store Q
+  comes_known v i x found is q = comes_local v i found (subst (λ u. Q u frame store) (sym is) q)
+
   -- a literal has the value of its datum
   pub comes_literal : (id : ℕ) (d : datum.Item) (x : Value) → slice_get s.program.literals id ≡ Some (row.Datum d) → literal_value s.names s.program id d ≡ x
       → Q x frame store → ComesPrinting s said said places (a_form k (literal id)) frame store Q
@@ -94,6 +99,16 @@ module _ {s : Setting} {said : List ℕ} {places : Places} {k : ℕ} {frame : Li
     runs = λ env around z e h.
         subst (λ o. Runs s (After s said Q) (mean_literal (at s k) id o around (charged_for (literal id) z))) (sym there)
         (given (literal_value s.names s.program id d) (charged_for (literal id) z) h (subst (λ y. Q y frame store) (sym is) q));
+  }
+
+  -- one that is a class has the object that stands for it
+  pub comes_class : (id class : ℕ) (x : Value) → slice_get s.program.literals id ≡ Some (row.Class class) → class_value s.names s.program class ≡ x
+      → Q x frame store → ComesPrinting s said said places (a_form k (literal id)) frame store Q
+  unfolding mean
+  comes_class id class x there is q = record {
+    runs = λ env around z e h.
+        subst (λ o. Runs s (After s said Q) (mean_literal (at s k) id o around (charged_for (literal id) z))) (sym there)
+        (given (class_value s.names s.program class) (charged_for (literal id) z) h (subst (λ y. Q y frame store) (sym is) q));
   }
 
   pub then_nothing : {last : Value} → Q last frame store → ComesPrinting s said said places (in_order k last no_form) frame store Q

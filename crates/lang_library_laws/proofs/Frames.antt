@@ -197,10 +197,10 @@ pub at_store : {s : Setting} {said said' : List ℕ} {places : Places} {part : P
     → store ≡ other → ComesPrinting s said said' places part frame other Q → ComesPrinting s said said' places part frame store Q
 at_store {s} {said} {said'} {places} {part} {frame} {store} {other} {Q} e c = subst (λ st. ComesPrinting s said said' places part frame st Q) (sym e) c
 
--- a new object of two words
-pub one_more : {s : Setting} {said : List ℕ} {frame : List Value} {store : List Object} (o : Object) (z : State) → InFrame s said frame store z
-    → InFrame s said frame (store ++ o ∷ []) (stored o (charged 2 (with_words 2 0 z)))
-one_more {s} {said} {frame} {store} o z h = record {
+-- a new object, whatever it is charged
+pub one_more : {s : Setting} {said : List ℕ} {frame : List Value} {store : List Object} (size charge : ℕ) (o : Object) (z : State) → InFrame s said frame store z
+    → InFrame s said frame (store ++ o ∷ []) (stored o (charged charge (with_words size 0 z)))
+one_more {s} {said} {frame} {store} size charge o z h = record {
   objects_are = ap (λ os. os ++ o ∷ []) h.objects_are;
   extended = added_more h.extended (put_behind store (o ∷ []));
   variables_are = h.variables_are;

@@ -138,11 +138,11 @@ list_length_gives names program limit z name v number none increment truth list_
     (λ w fr st e. then_nothing e))))))))))
 
 -- a list is no string and no vector
-no_string : (store : List Object) (v : Value) (items : List Value) → IsProperList store v items → is_true (truth (is_some (as_string (object_in store v)))) ≡ false
+pub no_string : (store : List Object) (v : Value) (items : List Value) → IsProperList store v items → is_true (truth (is_some (as_string (object_in store v)))) ≡ false
 no_string store v [] h = ap (λ u. is_true (truth (is_some (as_string (object_in store u))))) h
 no_string store v (x ∷ xs) h = ap (λ o. is_true (truth (is_some (as_string o)))) (cell_in (cell_of 0 v x xs h))
 
-no_vector : (store : List Object) (v : Value) (items : List Value) → IsProperList store v items → is_true (truth (is_some (as_vector (object_in store v)))) ≡ false
+pub no_vector : (store : List Object) (v : Value) (items : List Value) → IsProperList store v items → is_true (truth (is_some (as_vector (object_in store v)))) ≡ false
 no_vector store v [] h = ap (λ u. is_true (truth (is_some (as_vector (object_in store u))))) h
 no_vector store v (x ∷ xs) h = ap (λ o. is_true (truth (is_some (as_vector o)))) (cell_in (cell_of 0 v x xs h))
 

@@ -5,6 +5,7 @@ pub mod ListsKept
 pub mod Loops
 pub mod Applies
 pub mod Falling
+pub mod Conses
 pub mod TurnCopy
 pub mod Structures
 pub mod Along
@@ -23,3 +24,9 @@ pub mod Worked
 pub mod Enough
 pub mod ListOf
 pub mod TurnOnto
+pub mod NReverse
+pub mod Assured
+pub mod Elt
+pub mod Mapcar
+pub mod Subseq
+pub mod StringAppend

@@ -1,22 +1,36 @@
 -- How the primitives of lists and of numbers are evaluated inside an application: one rule each.
-use Rattle.std.proofs.Common.{slice_set, slice_index_or, nat_lt, pos, Some, None, arith, ◌<◌, ◌≡◌, ℕ, ◌+ℤ◌, Bool, true, List, [], ◌∷◌, ◌++◌, refl, sym, ap, subst, ◌∙◌, length, ℤ, is_some, if◌then◌else◌}
+use Rattle.std.proofs.Common.{slice_get, slice_set, slice_index_or, nat_lt, pos, Some, None, arith, ◌<◌, ◌≡◌, ℕ, ◌+◌, ◌/◌, ◌==◌, replicate, ◌+ℤ◌, Bool, true, List, [], ◌∷◌, ◌++◌, refl, sym, ap, subst, ◌∙◌, length, ℤ, is_some, if◌then◌else◌}
 use Rattle.std.proofs.lemmas.Bool.Decides.{nat_tests}
 use Rattle.lang_meaning.specs.declared.primitive.Primitive.{Primitive}
-use Rattle.lang_meaning.specs.declared.primitive.Primitive.TheVariants.{Add, Same, SetCdr, IsNull, IsCons, IsString, IsVector, Cons, Car, Cdr, StringLength, VectorLength, CharAt, VectorRef, PutChar}
+use Rattle.lang_meaning.specs.declared.primitive.Primitive.TheVariants.{Add, Same, IsInstance, MakeString, SetCharAt, SetCdr, IsNull, IsCons, IsString, IsVector, Cons, Car, Cdr, StringLength, VectorLength, CharAt, VectorRef, PutChar}
 use Rattle.lang_meaning.specs.Form.{Form, prim}
-use Rattle.lang_meaning.specs.Values.{Value, nil, object, integer, character, truth, same, in_range}
-use Rattle.lang_meaning.specs.Objects.{Object, cons, string, vector, output_stream, cons_class, string_class, vector_class, stream_class, integer_overflow_class}
+use Rattle.lang_meaning.specs.Values.{Value, nil, object, integer, character, symbol, t, truth, same, in_range}
+use Rattle.lang_meaning.specs.Objects.{Object, cons, string, vector, class_object, output_stream, standard_class_class, cons_class, string_class, vector_class, stream_class, integer_overflow_class}
 use Rattle.lang_meaning.specs.State.{State, changed, gives, stored, charged, with_words}
-use Rattle.lang_meaning.specs.Primitives.{Answer, change, result, fails, domain_error, program_error, primitive, as_cons, as_string, as_vector, as_stream, a_character, an_integer, an_index, integer_result, needs, says}
+use Rattle.lang_meaning.specs.Lookup.{passed}
+use Rattle.lang_meaning.specs.Classes.{class_of, class_of_object, is_below, precedence}
+use Rattle.lang_meaning.specs.Primitives.{Answer, change, result, makes, as_class, fails, domain_error, program_error, primitive, as_cons, as_string, as_vector, as_stream, a_character, an_integer, an_index, integer_result, needs, says}
 use Rattle.lang_meaning.specs.Signals.{answered}
 use Rattle.lang_library_laws.specs.Structures.{object_in}
-use Rattle.lang_library_laws.specs.Applications.{IsExtended}
+use Rattle.lang_library_laws.specs.Applications.{IsExtended, IsInstanceOf}
 use Rattle.lang_library_laws.specs.ListBodies.{one, two}
-use Rattle.lang_library_laws.proofs.Frames.{one_more, Places, Setting, at, kept_in_frame, Runs, After, ComesPrinting, a_form, given, weaker}
+use Rattle.lang_library_laws.specs.SequenceBodies.{three}
+use Rattle.lang_library_laws.proofs.Frames.{one_more, Places, Setting, at, InFrame, kept_in_frame, Runs, After, ComesPrinting, a_form, given, weaker}
 use Rattle.lang_library_laws.proofs.Evaluates.{requests, Cell, fetched, cell_in, Results, no_arguments_left, argument_and, comes_prim}
 
 tested : (i n : ℕ) → i < n → nat_lt i n ≡ true
 tested i n h = grind (arith, nat_tests)
+
+-- an instance of a class in a state
+instance_in : {s : Setting} {said : List ℕ} {frame : List Value} {store : List Object} (z : State) → InFrame s said frame store z → (class : ℕ) (x : Value)
+    → IsInstanceOf s.program class store x → is_below s.program (class_of z x) class ≡ true
+instance_in {s} {said} {frame} {store} z h class (object i) r =
+    ap (λ os. is_below s.program (class_of_object (slice_get os i)) class) h.objects_are
+    ∙ ap (λ o. is_below s.program (class_of_object o) class) r.1 ∙ r.2
+instance_in {s} {said} {frame} {store} z h class nil r = r
+instance_in {s} {said} {frame} {store} z h class (integer n) r = r
+instance_in {s} {said} {frame} {store} z h class (character c) r = r
+instance_in {s} {said} {frame} {store} z h class (symbol x) r = r
 
 module _ {s : Setting} {said : List ℕ} {places : Places} {k : ℕ} {frame : List Value} {store : List Object} {Q : Value → List Value → List Object → Type 0} where
   -- a primitive of one argument that has a result
@@ -87,7 +101,7 @@ module _ {s : Setting} {said : List ℕ} {places : Places} {k : ℕ} {frame : Li
       → ComesPrinting s said said places (a_form k (prim Cons (two f g))) frame store Q
   comes_cons {f} {g} c = comes_prim (argument_and (weaker c (λ x fr st d. argument_and (weaker d (λ y fr st r. no_arguments_left (λ around z h.
       requests 2 0 z (λ entered. gives (object (length entered.store)) (stored (cons x y) (charged 2 entered))) (kept_in_frame h)
-      (given (object (length z.store)) (stored (cons x y) (charged 2 (with_words 2 0 z))) (one_more (cons x y) z h)
+      (given (object (length z.store)) (stored (cons x y) (charged 2 (with_words 2 0 z))) (one_more 2 2 (cons x y) z h)
       (subst (λ (n : ℕ). Q (object n) fr (st ++ cons x y ∷ [])) (sym (ap length h.objects_are)) r))))))))
 
   -- another second part of a cons, which is none of those that are kept
@@ -178,6 +192,70 @@ module _ {s : Setting} {said : List ℕ} {places : Places} {k : ℕ} {frame : Li
         ∙ ap (λ (b : Bool). needs (if b then Some r.1 else None) (program_error z) (chosen r.0)) within),
     r.5,
   ))))
+
+  -- an instance of a class
+  pub comes_instance : {f g : Form}
+      → ComesPrinting s said said places (a_form k f) frame store (λ x fr st. ComesPrinting s said said places (a_form k g) fr st (λ y fr st.
+      (class : ℕ) × (number : ℕ) × (y ≡ object number) × (slice_get st number ≡ Some (class_object class)) × IsInstanceOf s.program class st x × Q t fr st))
+      → ComesPrinting s said said places (a_form k (prim IsInstance (two f g))) frame store Q
+  comes_instance {f} {g} c = comes_prim (argument_and (weaker c (λ x fr st d. argument_and (weaker d (λ y fr st r. no_arguments_left (λ around z h.
+      let told : ℕ → Answer = λ d. says (is_below s.program (class_of z x) d) (charged (passed (λ e. d == e) (precedence s.program (class_of z x))) z) in
+      let counted : State = charged (passed (λ e. r.0 == e) (precedence s.program (class_of z x))) z in
+      let is : primitive s.names s.program IsInstance (x ∷ y ∷ []) z ≡ result t counted =
+      ap (λ v. primitive s.names s.program IsInstance (x ∷ v ∷ []) z) r.2
+      ∙ ap (λ o. needs (as_class o) (domain_error (object r.1) standard_class_class z) told) (ap (λ os. slice_get os r.1) h.objects_are ∙ r.3)
+      ∙ ap (λ b. says b counted) (instance_in z h r.0 x r.4) in
+      subst (λ a. Runs s (After s said Q) (answered (at s k) a around z)) (sym is) (given t counted h r.5)))))))
+
+  -- a new string of so many characters, all the same
+  pub comes_make_string : {f g : Form}
+      → ComesPrinting s said said places (a_form k f) frame store (λ x fr st. ComesPrinting s said said places (a_form k g) fr st (λ y fr st.
+      (n : ℕ) × (c : ℕ) × (x ≡ integer (pos n)) × (y ≡ character c) × Q (object (length st)) fr (st ++ string (replicate n c) ∷ [])))
+      → ComesPrinting s said said places (a_form k (prim MakeString (two f g))) frame store Q
+  comes_make_string {f} {g} c = comes_prim (argument_and (weaker c (λ x fr st d. argument_and (weaker d (λ y fr st r. no_arguments_left (λ around z h.
+      let bytes : List ℕ = replicate r.0 r.1 in
+      let made : Object = string bytes in
+      let size : ℕ = 2 + (length bytes + 3) / 4 in
+      let is : primitive s.names s.program MakeString (x ∷ y ∷ []) z ≡ makes size (length bytes) made z =
+      ap (λ v. primitive s.names s.program MakeString (v ∷ y ∷ []) z) r.2 ∙ ap (λ v. primitive s.names s.program MakeString (integer (pos r.0) ∷ v ∷ []) z) r.3 in
+      subst (λ a. Runs s (After s said Q) (answered (at s k) a around z)) (sym is)
+      (requests size 0 z (λ entered. gives (object (length entered.store)) (stored made (charged (size + length bytes) entered))) (kept_in_frame h)
+      (given (object (length z.store)) (stored made (charged (size + length bytes) (with_words size 0 z))) (one_more size (size + length bytes) made z h)
+      (subst (λ (n : ℕ). Q (object n) fr (st ++ made ∷ [])) (sym (ap length h.objects_are)) r.4)))))))))
+
+  -- another character of a string, which is none of those that are kept
+  pub comes_set_char : {f g e : Form}
+      → ComesPrinting s said said places (a_form k f) frame store (λ x fr st. ComesPrinting s said said places (a_form k g) fr st (λ y fr st.
+      ComesPrinting s said said places (a_form k e) fr st (λ w fr st.
+      (c : ℕ) × (number : ℕ) × (bytes : List ℕ) × (i : ℕ) × (x ≡ character c) × (y ≡ object number) × (slice_get st number ≡ Some (string bytes))
+      × (w ≡ integer (pos i)) × (i < length bytes) × IsExtended Object s.kept (slice_set st number (string (slice_set bytes i c)))
+      × Q (character c) fr (slice_set st number (string (slice_set bytes i c))))))
+      → ComesPrinting s said said places (a_form k (prim SetCharAt (three f g e))) frame store Q
+  comes_set_char {f} {g} {e} c = comes_prim (argument_and (weaker c (λ x fr st d. argument_and (weaker d (λ y fr st b. argument_and (weaker b (λ w fr st r.
+      no_arguments_left (λ around z h.
+      let now : Object = string (slice_set r.2 r.3 r.0) in
+      let chosen : List ℕ → ℕ → Answer = λ bytes i. result (character r.0) (changed r.1 (string (slice_set bytes i r.0)) z) in
+      let is : primitive s.names s.program SetCharAt (x ∷ y ∷ w ∷ []) z ≡ result (character r.0) (changed r.1 now z) =
+      ap (λ v. primitive s.names s.program SetCharAt (v ∷ y ∷ w ∷ []) z) r.4
+      ∙ ap (λ v. primitive s.names s.program SetCharAt (character r.0 ∷ v ∷ w ∷ []) z) r.5
+      ∙ ap (λ v. primitive s.names s.program SetCharAt (character r.0 ∷ object r.1 ∷ v ∷ []) z) r.7
+      ∙ ap (λ o. needs (as_string o) (domain_error (object r.1) string_class z) (λ bytes. an_index (pos r.3) (length bytes) z (chosen bytes)))
+      (ap (λ os. slice_get os r.1) h.objects_are ∙ r.6)
+      ∙ ap (λ (b : Bool). needs (if b then Some r.3 else None) (program_error z) (chosen r.2)) (tested r.3 (length r.2) r.8) in
+      subst (λ a. Runs s (After s said Q) (answered (at s k) a around z)) (sym is)
+      (given (character r.0) (changed r.1 now z)
+      (record {
+        objects_are = ap (λ os. slice_set os r.1 now) h.objects_are;
+        extended = r.9;
+        variables_are = h.variables_are;
+        printed_are = h.printed_are;
+        may_be = h.may_be;
+        input_is = h.input_is;
+        globals_are = h.globals_are;
+        dynamics_are = h.dynamics_are;
+        symbols_are = h.symbols_are;
+      })
+      r.10)))))))))
 
   -- a character is put
   pub comes_put : {f g : Form} {c : ℕ} → s.may (said ++ c ∷ [])

@@ -81,7 +81,7 @@ none_of false = refl
 no_boxes : (v none increment u : ℕ) → has_box u (sequence (one (compare v StringLength none increment (same_character v)))) ≡ false
 no_boxes v none increment u = simp none_of
 
-text_in : (store : List Object) (v : Value) (bytes : List ℕ) → StandsFor store v (text bytes) → object_in store v ≡ Some (string bytes)
+pub text_in : (store : List Object) (v : Value) (bytes : List ℕ) → StandsFor store v (text bytes) → object_in store v ≡ Some (string bytes)
 text_in store v bytes h = ap (object_in store) h.1 ∙ h.2
 
 -- what the function gives of the strings that were there

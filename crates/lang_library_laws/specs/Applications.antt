@@ -1,5 +1,5 @@
 -- What the application of a function comes to, with any number of levels and of words.
-use Rattle.std.specs.Prelude.{◌≡◌, ◌<◌, ⊤, ℕ, zero, suc, List, ◌++◌, Some, slice_get}
+use Rattle.std.specs.Prelude.{◌≡◌, ◌<◌, ⊤, ℕ, true, zero, suc, List, ◌++◌, Some, slice_get}
 use Rattle.base.specs.Data as datum
 use Rattle.base.specs.declared.datum.Symbol.{Symbol}
 use Rattle.base.specs.declared.place.Place.{Place}
@@ -8,12 +8,13 @@ use Rattle.lang_meaning.specs.declared.program.Procedure.{Procedure}
 use Rattle.lang_meaning.specs.declared.program.FunctionRow.{FunctionRow}
 use Rattle.lang_meaning.specs.declared.program.ProgramRows.{ProgramRows}
 use Rattle.lang_meaning.specs.declared.program.Callee.TheVariants as callee
-use Rattle.lang_meaning.specs.Values.{Value, object}
-use Rattle.lang_meaning.specs.Objects.{Object, string, output_stream}
+use Rattle.lang_meaning.specs.Values.{Value, nil, integer, character, symbol, object}
+use Rattle.lang_meaning.specs.Objects.{Object, string, class_object, output_stream, null_class, integer_class, character_class, symbol_class}
 use Rattle.lang_meaning.specs.State.{State, Outcome, value, exit, full, more, Evaluated, Limit, words, unlimited}
 use Rattle.lang_meaning.specs.Lookup.{text}
 use Rattle.lang_meaning.specs.Literals.{function_row}
-use Rattle.lang_meaning.specs.InitialHeap.{literal_value}
+use Rattle.lang_meaning.specs.Classes.{class_of_object, is_below}
+use Rattle.lang_meaning.specs.InitialHeap.{class_value, literal_value}
 use Rattle.lang_meaning.specs.Signals.{Context, Task, Evaluation}
 use Rattle.lang_meaning.specs.Meaning.{none_below, context_of, meaning_at}
 
@@ -100,6 +101,22 @@ pub record HasText (names : List (List ℕ)) (program : ProgramRows) (store : Li
   pub row : slice_get program.literals id ≡ Some (row.Datum (datum.item place (datum.string bytes)))
   pub is : literal_value names program id (datum.item place (datum.string bytes)) ≡ object number
   pub there : slice_get store number ≡ Some (string bytes)
+
+-- the literal is that class, and the object that stands for it is still there
+pub record HasClass (names : List (List ℕ)) (program : ProgramRows) (store : List Object) (id : ℕ) (class : ℕ) : Type 0 where
+  pub number : ℕ
+  pub row : slice_get program.literals id ≡ Some (row.Class class)
+  pub is : class_value names program class ≡ object number
+  pub there : slice_get store number ≡ Some (class_object class)
+
+-- the value is an instance of that class: its own class is that one, or below it
+abbrev pub IsInstanceOf : ProgramRows → (class : ℕ) → List Object → Value → Type 0
+IsInstanceOf program class store (object i) =
+    (o : Object) × (slice_get store i ≡ Some o) × (is_below program (class_of_object (Some o)) class ≡ true)
+IsInstanceOf program class store nil = is_below program null_class class ≡ true
+IsInstanceOf program class store (integer n) = is_below program integer_class class ≡ true
+IsInstanceOf program class store (character c) = is_below program character_class class ≡ true
+IsInstanceOf program class store (symbol x) = is_below program symbol_class class ≡ true
 
 -- the value is the standard output
 abbrev pub IsOutput : List Object → Value → Type 0

@@ -5,6 +5,8 @@ pub mod Applications
 pub mod ListBodies
 pub mod NumberBodies
 pub mod EqualBodies
+pub mod SequenceBodies
+pub mod StringBodies
 pub mod Pieces
 pub mod Laws
 pub mod Worked

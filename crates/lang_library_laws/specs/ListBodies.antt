@@ -135,6 +135,11 @@ abbrev pub reverse_function : Option Name → ℕ → (turn_copy_onto no_items :
 reverse_function name v turn_copy_onto no_items =
     a_procedure name (v ∷ []) (sequence (one (call turn_copy_onto (two (local v) (literal no_items)))))
 
+-- (defun nreverse (list) (%turn-onto list nil))
+abbrev pub nreverse_function : Option Name → ℕ → (turn_onto no_items : ℕ) → Procedure
+nreverse_function name v turn_onto no_items =
+    a_procedure name (v ∷ []) (sequence (one (call turn_onto (two (local v) (literal no_items)))))
+
 -- (defun %list-length (list)
 --   (let ((rest list) (length 0))
 --     (while (consp rest)

@@ -2,7 +2,7 @@
 use Rattle.std.specs.Prelude.{ℕ, zero, suc, ◌+◌, List, [], ◌∷◌, Option, Some, None}
 use Rattle.lang_library_laws.specs.declared.piece.Piece.{Piece}
 use Rattle.lang_library_laws.specs.declared.piece.Piece.TheVariants as piece
-use Rattle.lang_meaning.specs.Form.{Form, literal, local, set_local, call, prim, sequence, while_form, let_form, clauses}
+use Rattle.lang_meaning.specs.Form.{Form, literal, local, set_local, call, call_value, apply, prim, sequence, while_form, let_form, clauses}
 use Rattle.lang_meaning.specs.Form.{Forms, no_form, form_and, ClauseForms, no_clause, clause_and, MaybeForm, no_body, with_body, BindingForms, no_binding, binding_and}
 
 -- forms and clauses, the last ones first
@@ -49,6 +49,8 @@ put (piece.Literal i) z = Some (with_forms z (literal i ∷ z.forms))
 put (piece.Local v) z = Some (with_forms z (local v ∷ z.forms))
 put (piece.SetLocal v) z = last_one z.forms (λ f fs. Some (with_forms z (set_local v f ∷ fs)))
 put (piece.Call n k) z = if_there (last_forms k z.forms no_form) (λ t. Some (with_forms z (call n t.0 ∷ t.1)))
+put (piece.CallValue k) z = if_there (last_forms k z.forms no_form) (λ t. Some (with_forms z (call_value t.0 ∷ t.1)))
+put piece.Apply z = last_two z.forms (λ f list fs. Some (with_forms z (apply f list ∷ fs)))
 put (piece.Prim p k) z = if_there (last_forms k z.forms no_form) (λ t. Some (with_forms z (prim p t.0 ∷ t.1)))
 put (piece.Sequence k) z = if_there (last_forms k z.forms no_form) (λ t. Some (with_forms z (sequence t.0 ∷ t.1)))
 put piece.While z = last_two z.forms (λ test body fs. Some (with_forms z (while_form test body ∷ fs)))

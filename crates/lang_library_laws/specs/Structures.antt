@@ -51,6 +51,11 @@ abbrev mutual
   StandForEach store vs (structure_and t ts) =
       (x : Value) × (xs : List Value) × (vs ≡ x ∷ xs) × StandsFor store x t × StandForEach store xs ts
 
+-- strings, each with its characters
+abbrev pub AreStrings : List Object → List (Value × List ℕ) → Type 0
+AreStrings store [] = ⊤
+AreStrings store (s ∷ ss) = StandsFor store s.0 (text s.1) × AreStrings store ss
+
 -- whether two structures are equal: the same atoms, texts of the same bytes, pairs and rows of equal parts
 abbrev mutual
   pub alike : Structure → Structure → Bool

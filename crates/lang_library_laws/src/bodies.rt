@@ -3,12 +3,13 @@
 
 use crate::piece::Piece;
 use crate::piece::Piece::{
-    Call, Clause, Clauses, Let, Literal, Local, Prim, Sequence, SetLocal, Test, While,
+    Apply, Call, CallValue, Clause, Clauses, Let, Literal, Local, Prim, Sequence, SetLocal, Test,
+    While,
 };
 use lang_meaning::Primitive::{
-    Add, Car, Cdr, CharAt, Cons, Divide, IsCons, IsNull, IsString, IsVector, Modulo, NumberAtLeast,
-    NumberEqual, NumberGreater, NumberLess, PutChar, Same, SetCdr, StringLength, Subtract,
-    VectorLength, VectorRef,
+    Add, Car, Cdr, CharAt, Cons, Divide, IsCons, IsInstance, IsNull, IsString, IsVector,
+    MakeString, Modulo, NumberAtLeast, NumberAtMost, NumberEqual, NumberGreater, NumberLess,
+    PutChar, Same, SetCdr, SetCharAt, StringLength, Subtract, VectorLength, VectorRef,
 };
 
 // (defun reverse (list) (%turn-copy-onto list nil))
@@ -91,7 +92,7 @@ pub const LIST_LENGTH: [Piece; 28] = [
     Literal(3),
     Local(0),
     Literal(4),
-    Call(19, 2),
+    Call(30, 2),
     Sequence(1),
     Clause,
     Clauses(2),
@@ -228,7 +229,7 @@ pub const APPEND_ALL: [Piece; 59] = [
     Local(0),
     Prim(Car, 1),
     Literal(14),
-    Call(19, 2),
+    Call(30, 2),
     Sequence(1),
     Clause,
     Literal(15),
@@ -534,4 +535,478 @@ pub const EQUAL: [Piece; 65] = [
     Clause,
     Clauses(4),
     Sequence(2),
+];
+
+// (defun nreverse (list) (%turn-onto list nil))
+pub const NREVERSE: [Piece; 4] = [Local(0), Literal(29), Call(10, 2), Sequence(1)];
+
+// (defun mapcar (function list :rest lists)
+//   (assure <function> function)
+//   (let ((values nil))
+//     (if (null lists)
+//         (while (not (null list))
+//           (setq values (cons (funcall function (car list)) values))
+//           (setq list (cdr list)))
+//         (let ((rests (cons list lists)))
+//           (while (%all-left rests)
+//             (setq values (cons (%apply function (%heads rests)) values))
+//             (%advance rests))))
+//     (nreverse values)))
+pub const MAPCAR: [Piece; 63] = [
+    Local(0),
+    Local(3),
+    Literal(30),
+    Prim(IsInstance, 2),
+    Local(3),
+    Sequence(1),
+    Clause,
+    Literal(31),
+    Local(3),
+    Literal(32),
+    Call(30, 2),
+    Sequence(1),
+    Clause,
+    Clauses(2),
+    Sequence(1),
+    Let(3, 1),
+    Literal(33),
+    Local(2),
+    Prim(IsNull, 1),
+    Local(1),
+    Prim(IsNull, 1),
+    Prim(IsNull, 1),
+    Local(0),
+    Local(1),
+    Prim(Car, 1),
+    CallValue(2),
+    Local(4),
+    Prim(Cons, 2),
+    SetLocal(4),
+    Local(1),
+    Prim(Cdr, 1),
+    SetLocal(1),
+    Sequence(2),
+    While,
+    Sequence(1),
+    Clause,
+    Literal(34),
+    Local(1),
+    Local(2),
+    Prim(Cons, 2),
+    Local(5),
+    Call(35, 1),
+    Local(0),
+    Local(5),
+    Call(36, 1),
+    Apply,
+    Local(4),
+    Prim(Cons, 2),
+    SetLocal(4),
+    Local(5),
+    Call(37, 1),
+    Sequence(2),
+    While,
+    Sequence(1),
+    Let(5, 1),
+    Sequence(1),
+    Clause,
+    Clauses(2),
+    Local(4),
+    Call(19, 1),
+    Sequence(2),
+    Let(4, 1),
+    Sequence(2),
+];
+
+// (defun elt (sequence index)
+//   (cond ((stringp sequence) (%char-at sequence index))
+//         ((general-vector-p sequence) (%vector-ref sequence index))
+//         (t (car (%list-from sequence index)))))
+pub const ELT: [Piece; 23] = [
+    Local(0),
+    Prim(IsString, 1),
+    Local(0),
+    Local(1),
+    Prim(CharAt, 2),
+    Sequence(1),
+    Clause,
+    Local(0),
+    Prim(IsVector, 1),
+    Local(0),
+    Local(1),
+    Prim(VectorRef, 2),
+    Sequence(1),
+    Clause,
+    Literal(35),
+    Local(0),
+    Local(1),
+    Call(22, 2),
+    Prim(Car, 1),
+    Sequence(1),
+    Clause,
+    Clauses(3),
+    Sequence(1),
+];
+
+// (defun %list-from (list index)
+//   (assure <list> list)
+//   (assure <integer> index)
+//   (if (< index 0) (%program-error))
+//   (while (and (> index 0) (consp list))
+//     (setq list (cdr list))
+//     (setq index (- index 1)))
+//   (if (consp list) list (%program-error)))
+pub const LIST_FROM: [Piece; 67] = [
+    Local(0),
+    Local(2),
+    Literal(36),
+    Prim(IsInstance, 2),
+    Local(2),
+    Sequence(1),
+    Clause,
+    Literal(37),
+    Local(2),
+    Literal(38),
+    Call(30, 2),
+    Sequence(1),
+    Clause,
+    Clauses(2),
+    Sequence(1),
+    Let(2, 1),
+    Local(1),
+    Local(3),
+    Literal(39),
+    Prim(IsInstance, 2),
+    Local(3),
+    Sequence(1),
+    Clause,
+    Literal(40),
+    Local(3),
+    Literal(41),
+    Call(30, 2),
+    Sequence(1),
+    Clause,
+    Clauses(2),
+    Sequence(1),
+    Let(3, 1),
+    Local(1),
+    Literal(42),
+    Prim(NumberLess, 2),
+    Call(32, 0),
+    Sequence(1),
+    Clause,
+    Clauses(1),
+    Local(1),
+    Literal(43),
+    Prim(NumberGreater, 2),
+    Local(0),
+    Prim(IsCons, 1),
+    Sequence(1),
+    Clause,
+    Clauses(1),
+    Local(0),
+    Prim(Cdr, 1),
+    SetLocal(0),
+    Local(1),
+    Literal(44),
+    Prim(Subtract, 2),
+    SetLocal(1),
+    Sequence(2),
+    While,
+    Local(0),
+    Prim(IsCons, 1),
+    Local(0),
+    Sequence(1),
+    Clause,
+    Literal(45),
+    Call(32, 0),
+    Sequence(1),
+    Clause,
+    Clauses(2),
+    Sequence(5),
+];
+
+// (defun string-append (:rest strings)
+//   (let ((whole (%make-string (%length-of-all strings) #\space)) (index 0))
+//     (while (not (null strings))
+//       (setq index (%copy-into whole index (car strings)))
+//       (setq strings (cdr strings)))
+//     whole))
+pub const STRING_APPEND: [Piece; 23] = [
+    Local(0),
+    Call(24, 1),
+    Literal(46),
+    Prim(MakeString, 2),
+    Literal(47),
+    Local(0),
+    Prim(IsNull, 1),
+    Prim(IsNull, 1),
+    Local(1),
+    Local(2),
+    Local(0),
+    Prim(Car, 1),
+    Call(25, 3),
+    SetLocal(2),
+    Local(0),
+    Prim(Cdr, 1),
+    SetLocal(0),
+    Sequence(2),
+    While,
+    Local(1),
+    Sequence(2),
+    Let(1, 2),
+    Sequence(1),
+];
+
+// (defun %length-of-all (strings)
+//   (let ((length 0))
+//     (while (not (null strings))
+//       (setq length (+ length (%string-length (car strings))))
+//       (setq strings (cdr strings)))
+//     length))
+pub const LENGTH_OF_ALL: [Piece; 19] = [
+    Literal(48),
+    Local(0),
+    Prim(IsNull, 1),
+    Prim(IsNull, 1),
+    Local(1),
+    Local(0),
+    Prim(Car, 1),
+    Prim(StringLength, 1),
+    Prim(Add, 2),
+    SetLocal(1),
+    Local(0),
+    Prim(Cdr, 1),
+    SetLocal(0),
+    Sequence(2),
+    While,
+    Local(1),
+    Sequence(2),
+    Let(1, 1),
+    Sequence(1),
+];
+
+// (defun %copy-into (whole index string)
+//   (let ((from 0) (end (%string-length string)))
+//     (while (< from end)
+//       (%set-char-at (%char-at string from) whole index)
+//       (setq from (+ from 1))
+//       (setq index (+ index 1)))
+//     index))
+pub const COPY_INTO: [Piece; 26] = [
+    Literal(49),
+    Local(2),
+    Prim(StringLength, 1),
+    Local(3),
+    Local(4),
+    Prim(NumberLess, 2),
+    Local(2),
+    Local(3),
+    Prim(CharAt, 2),
+    Local(0),
+    Local(1),
+    Prim(SetCharAt, 3),
+    Local(3),
+    Literal(50),
+    Prim(Add, 2),
+    SetLocal(3),
+    Local(1),
+    Literal(51),
+    Prim(Add, 2),
+    SetLocal(1),
+    Sequence(3),
+    While,
+    Local(1),
+    Sequence(2),
+    Let(3, 2),
+    Sequence(1),
+];
+
+// (defun subseq (sequence start end)
+//   (%sequence sequence)
+//   (assure <integer> start)
+//   (assure <integer> end)
+//   (if (or (< start 0) (< end start)) (%program-error))
+//   (cond ((listp sequence) (%part-of-list sequence start end))
+//         ((< (length sequence) end) (%program-error))
+//         ((stringp sequence) (%part-of-string sequence start end))
+//         (t (%part-of-vector sequence start end))))
+pub const SUBSEQ: [Piece; 81] = [
+    Local(0),
+    Call(27, 1),
+    Local(1),
+    Local(3),
+    Literal(52),
+    Prim(IsInstance, 2),
+    Local(3),
+    Sequence(1),
+    Clause,
+    Literal(53),
+    Local(3),
+    Literal(54),
+    Call(30, 2),
+    Sequence(1),
+    Clause,
+    Clauses(2),
+    Sequence(1),
+    Let(3, 1),
+    Local(2),
+    Local(4),
+    Literal(55),
+    Prim(IsInstance, 2),
+    Local(4),
+    Sequence(1),
+    Clause,
+    Literal(56),
+    Local(4),
+    Literal(57),
+    Call(30, 2),
+    Sequence(1),
+    Clause,
+    Clauses(2),
+    Sequence(1),
+    Let(4, 1),
+    Local(1),
+    Literal(58),
+    Prim(NumberLess, 2),
+    Test,
+    Literal(59),
+    Local(2),
+    Local(1),
+    Prim(NumberLess, 2),
+    Sequence(1),
+    Clause,
+    Clauses(2),
+    Call(32, 0),
+    Sequence(1),
+    Clause,
+    Clauses(1),
+    Local(0),
+    Call(28, 1),
+    Local(0),
+    Local(1),
+    Local(2),
+    Call(29, 3),
+    Sequence(1),
+    Clause,
+    Local(0),
+    Call(2, 1),
+    Local(2),
+    Prim(NumberLess, 2),
+    Call(32, 0),
+    Sequence(1),
+    Clause,
+    Local(0),
+    Prim(IsString, 1),
+    Local(0),
+    Local(1),
+    Local(2),
+    Call(33, 3),
+    Sequence(1),
+    Clause,
+    Literal(60),
+    Local(0),
+    Local(1),
+    Local(2),
+    Call(34, 3),
+    Sequence(1),
+    Clause,
+    Clauses(4),
+    Sequence(5),
+];
+
+// (defun %sequence (object)
+//   (if (or (listp object) (stringp object) (general-vector-p object))
+//       object
+//       (%domain-error object (class <list>))))
+pub const CHECK_SEQUENCE: [Piece; 27] = [
+    Local(0),
+    Call(28, 1),
+    Test,
+    Literal(61),
+    Local(0),
+    Prim(IsString, 1),
+    Test,
+    Literal(62),
+    Local(0),
+    Prim(IsVector, 1),
+    Sequence(1),
+    Clause,
+    Clauses(2),
+    Sequence(1),
+    Clause,
+    Clauses(2),
+    Local(0),
+    Sequence(1),
+    Clause,
+    Literal(63),
+    Local(0),
+    Literal(64),
+    Call(30, 2),
+    Sequence(1),
+    Clause,
+    Clauses(2),
+    Sequence(1),
+];
+
+// (defun listp (object) (or (consp object) (null object)))
+pub const LISTP: [Piece; 10] = [
+    Local(0),
+    Prim(IsCons, 1),
+    Test,
+    Literal(65),
+    Local(0),
+    Prim(IsNull, 1),
+    Sequence(1),
+    Clause,
+    Clauses(2),
+    Sequence(1),
+];
+
+// (defun %part-of-list (list start end)
+//   (let ((index 0) (items nil))
+//     (while (< index end)
+//       (if (not (consp list)) (%program-error))
+//       (if (<= start index) (setq items (cons (car list) items)))
+//       (setq list (cdr list))
+//       (setq index (+ index 1)))
+//     (nreverse items)))
+pub const PART_OF_LIST: [Piece; 37] = [
+    Literal(66),
+    Literal(67),
+    Local(3),
+    Local(2),
+    Prim(NumberLess, 2),
+    Local(0),
+    Prim(IsCons, 1),
+    Prim(IsNull, 1),
+    Call(32, 0),
+    Sequence(1),
+    Clause,
+    Clauses(1),
+    Local(1),
+    Local(3),
+    Prim(NumberAtMost, 2),
+    Local(0),
+    Prim(Car, 1),
+    Local(4),
+    Prim(Cons, 2),
+    SetLocal(4),
+    Sequence(1),
+    Clause,
+    Clauses(1),
+    Local(0),
+    Prim(Cdr, 1),
+    SetLocal(0),
+    Local(3),
+    Literal(68),
+    Prim(Add, 2),
+    SetLocal(3),
+    Sequence(4),
+    While,
+    Local(4),
+    Call(19, 1),
+    Sequence(2),
+    Let(3, 2),
+    Sequence(1),
 ];

@@ -1,11 +1,12 @@
 // What functions of the library give for all proper lists, as the contracts of functions that do nothing.
 
-ghost use Rattle.lang_library_laws.specs.Laws.{LawOfAlike, LawOfAppend, LawOfAssoc, LawOfDigits, LawOfEnough, LawOfEqual, LawOfLength, LawOfList, LawOfMember, LawOfReverse, LawOfStringEqual};
+ghost use Rattle.lang_library_laws.specs.Laws.{LawOfAlike, LawOfAllPrinted, LawOfAppend, LawOfAssoc, LawOfDigits, LawOfEltOfList, LawOfEltOfString, LawOfEltOfVector, LawOfEnough, LawOfEqual, LawOfLength, LawOfList, LawOfMapcar, LawOfMember, LawOfNreverse, LawOfReverse, LawOfStringAppend, LawOfStringEqual, LawOfSubseq};
 ghost use Rattle.lang_library_laws.specs.Worked.{IsMet, Works};
 
-/// What a law says that an application gives, it gives where words are unlimited and levels are enough.
+/// What a law says that an application gives or prints, it gives or prints where words are unlimited and levels are enough.
 pub fn law_enough()
-    ensures { LawOfEnough }
+    ensures of_value { LawOfEnough }
+    ensures of_text { LawOfAllPrinted }
 {}
 
 /// The law of `list`: it gives a new list of its arguments.
@@ -62,4 +63,31 @@ pub fn law_alike()
 /// The law of `equal`: it says whether two finite data are equal.
 pub fn law_equal()
     ensures { LawOfEqual }
+{}
+
+/// The law of `nreverse`: of a proper list it gives a list of the same conses in the other order, and changes nothing else.
+pub fn law_nreverse()
+    ensures { LawOfNreverse }
+{}
+
+/// The law of `elt`: it gives the item of a proper list, the character of a string and the element of a vector that stands behind so many others.
+pub fn law_elt()
+    ensures of_list { LawOfEltOfList }
+    ensures of_string { LawOfEltOfString }
+    ensures of_vector { LawOfEltOfVector }
+{}
+
+/// The law of `mapcar` of one list: of a proper list it gives a new list of the values that the function has for the items.
+pub fn law_mapcar()
+    ensures { LawOfMapcar }
+{}
+
+/// The law of `subseq`: of a proper list it gives a new list of the items from a start up to an end.
+pub fn law_subseq()
+    ensures { LawOfSubseq }
+{}
+
+/// The law of `string-append`: it gives a new string of the characters of all strings, one after another.
+pub fn law_string_append()
+    ensures { LawOfStringAppend }
 {}

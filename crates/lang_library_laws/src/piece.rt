@@ -14,6 +14,10 @@ pub enum Piece {
     SetLocal(usize),
     /// The function of this name, of so many arguments.
     Call(usize, usize),
+    /// So many values, of which the first is a function that is called with the others.
+    CallValue(usize),
+    /// A function and the list of what it is called with.
+    Apply,
     /// A primitive of so many arguments.
     Prim(Primitive, usize),
     /// So many forms in order.

@@ -29,6 +29,17 @@ pub enum LawFunction {
     StringEqual,
     EqualVectors,
     Equal,
+    NReverse,
+    Mapcar,
+    Elt,
+    ListFrom,
+    StringAppend,
+    LengthOfAll,
+    CopyInto,
+    Subseq,
+    CheckSequence,
+    Listp,
+    PartOfList,
 }
 
 /// A function: how many arguments have a variable, whether one more variable has the list of the others, and the body.
@@ -51,7 +62,7 @@ pub enum LawLiteral {
 }
 
 /// All functions, by their numbers.
-pub const FUNCTIONS: [LawFunction; 19] = [
+pub const FUNCTIONS: [LawFunction; 30] = [
     LawFunction::Reverse,
     LawFunction::TurnCopyOnto,
     LawFunction::Length,
@@ -71,16 +82,27 @@ pub const FUNCTIONS: [LawFunction; 19] = [
     LawFunction::StringEqual,
     LawFunction::EqualVectors,
     LawFunction::Equal,
+    LawFunction::NReverse,
+    LawFunction::Mapcar,
+    LawFunction::Elt,
+    LawFunction::ListFrom,
+    LawFunction::StringAppend,
+    LawFunction::LengthOfAll,
+    LawFunction::CopyInto,
+    LawFunction::Subseq,
+    LawFunction::CheckSequence,
+    LawFunction::Listp,
+    LawFunction::PartOfList,
 ];
 
 /// The names of the functions by their numbers, and behind them those of what they call besides and of t, each in a line.
 pub const NAMES: &[u8] =
-    b"reverse\n%turn-copy-onto\nlength\n%list-length\nmember\n%memv\nassoc\nlist\nappend\n%append-all\n%turn-onto\n%emit\n%digit\n%emit-digit\n%emit-natural\n%emit-integer\nstring=\n%equal-vectors\nequal\n%domain-error\nt\n";
+    b"reverse\n%turn-copy-onto\nlength\n%list-length\nmember\n%memv\nassoc\nlist\nappend\n%append-all\n%turn-onto\n%emit\n%digit\n%emit-digit\n%emit-natural\n%emit-integer\nstring=\n%equal-vectors\nequal\nnreverse\nmapcar\nelt\n%list-from\nstring-append\n%length-of-all\n%copy-into\nsubseq\n%sequence\nlistp\n%part-of-list\n%domain-error\nt\n%program-error\n%part-of-string\n%part-of-vector\n%all-left\n%heads\n%advance\n";
 
 /// The digits of all radices.
 pub const DIGITS: &[u8] = b"0123456789ABCDEFGHIJKLMNOPQRSTUVWXYZ";
 
-const LITERALS: [LawLiteral; 29] = [
+const LITERALS: [LawLiteral; 69] = [
     LawLiteral::Nil,
     LawLiteral::Integer(0),
     LawLiteral::Integer(1),
@@ -109,6 +131,46 @@ const LITERALS: [LawLiteral; 29] = [
     LawLiteral::Nil,
     LawLiteral::Truth,
     LawLiteral::Integer(0),
+    LawLiteral::Integer(1),
+    LawLiteral::Nil,
+    LawLiteral::Class(6),
+    LawLiteral::Truth,
+    LawLiteral::Class(6),
+    LawLiteral::Nil,
+    LawLiteral::Truth,
+    LawLiteral::Truth,
+    LawLiteral::Class(8),
+    LawLiteral::Truth,
+    LawLiteral::Class(8),
+    LawLiteral::Class(13),
+    LawLiteral::Truth,
+    LawLiteral::Class(13),
+    LawLiteral::Integer(0),
+    LawLiteral::Integer(0),
+    LawLiteral::Integer(1),
+    LawLiteral::Truth,
+    LawLiteral::Character(b' '),
+    LawLiteral::Integer(0),
+    LawLiteral::Integer(0),
+    LawLiteral::Integer(0),
+    LawLiteral::Integer(1),
+    LawLiteral::Integer(1),
+    LawLiteral::Class(13),
+    LawLiteral::Truth,
+    LawLiteral::Class(13),
+    LawLiteral::Class(13),
+    LawLiteral::Truth,
+    LawLiteral::Class(13),
+    LawLiteral::Integer(0),
+    LawLiteral::Truth,
+    LawLiteral::Truth,
+    LawLiteral::Truth,
+    LawLiteral::Truth,
+    LawLiteral::Truth,
+    LawLiteral::Class(8),
+    LawLiteral::Truth,
+    LawLiteral::Integer(0),
+    LawLiteral::Nil,
     LawLiteral::Integer(1),
 ];
 
@@ -225,6 +287,61 @@ pub fn procedure(function: LawFunction) -> LawProcedure
             required: 2,
             rest: false,
             body: &bodies::EQUAL,
+        },
+        LawFunction::NReverse => LawProcedure {
+            required: 1,
+            rest: false,
+            body: &bodies::NREVERSE,
+        },
+        LawFunction::Mapcar => LawProcedure {
+            required: 2,
+            rest: true,
+            body: &bodies::MAPCAR,
+        },
+        LawFunction::Elt => LawProcedure {
+            required: 2,
+            rest: false,
+            body: &bodies::ELT,
+        },
+        LawFunction::ListFrom => LawProcedure {
+            required: 2,
+            rest: false,
+            body: &bodies::LIST_FROM,
+        },
+        LawFunction::StringAppend => LawProcedure {
+            required: 0,
+            rest: true,
+            body: &bodies::STRING_APPEND,
+        },
+        LawFunction::LengthOfAll => LawProcedure {
+            required: 1,
+            rest: false,
+            body: &bodies::LENGTH_OF_ALL,
+        },
+        LawFunction::CopyInto => LawProcedure {
+            required: 3,
+            rest: false,
+            body: &bodies::COPY_INTO,
+        },
+        LawFunction::Subseq => LawProcedure {
+            required: 3,
+            rest: false,
+            body: &bodies::SUBSEQ,
+        },
+        LawFunction::CheckSequence => LawProcedure {
+            required: 1,
+            rest: false,
+            body: &bodies::CHECK_SEQUENCE,
+        },
+        LawFunction::Listp => LawProcedure {
+            required: 1,
+            rest: false,
+            body: &bodies::LISTP,
+        },
+        LawFunction::PartOfList => LawProcedure {
+            required: 3,
+            rest: false,
+            body: &bodies::PART_OF_LIST,
         },
     }
 }

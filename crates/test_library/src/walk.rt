@@ -111,6 +111,21 @@ impl Walk<'_> {
             CoreForm::Call(name, list) => {
                 self.forms(list.as_slice(), depth - 1) && self.is_call(*name, list.len())
             }
+            CoreForm::CallValue(list) => {
+                self.forms(list.as_slice(), depth - 1)
+                    && match self.next() {
+                        Some(Piece::CallValue(count)) => count == list.len(),
+                        _ => false,
+                    }
+            }
+            CoreForm::Apply(function, list) => {
+                self.form(function, depth - 1)
+                    && self.form(list, depth - 1)
+                    && match self.next() {
+                        Some(Piece::Apply) => true,
+                        _ => false,
+                    }
+            }
             CoreForm::Prim(which, list) => {
                 self.forms(list.as_slice(), depth - 1) && self.is_primitive(*which, list.len())
             }
