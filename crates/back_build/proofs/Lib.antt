@@ -10,3 +10,4 @@ mod Built
 mod Tested
 mod Failing
 mod Sized
+mod Left

@@ -3,6 +3,9 @@ use Rattle.std.specs.Prelude.{◌≡◌, ◌<◌, ◌≤◌, ℕ, ◌-◌, ◌*�
 use Rattle.base.specs.Names.{IsTable}
 use Rattle.lang_meaning.specs.declared.program.ProgramRows.{ProgramRows}
 use Rattle.lang_meaning.specs.Facts.{is_whole}
+use Rattle.lang_meaning.specs.Meaning.{meaning}
+use Rattle.lang_meaning.specs.State.{Limit}
+use Rattle.lang_reached.specs.Remaining.{KeepsReached}
 use Rattle.flat_language.specs.Flatten.{flat_program}
 use Rattle.flat_boxes.specs.Boxes.{ProgramBoxes}
 use Rattle.mid_code.specs.declared.program.MidProcedure.{MidProcedure}
@@ -18,12 +21,12 @@ use Rattle.back_relation.specs.Setting.{FramesWithin}
 use Rattle.back_words.specs.Asked.{NamesAsked}
 use Rattle.back_lowered.specs.declared.lowering.LoweredProgram.{LoweredProgram}
 use Rattle.back_lowered.specs.Lowered.{IsLoweredProgram}
-use Rattle.back_image_sizes.specs.Sizes.{program_image_words}
 use Rattle.back_runs.specs.Images.{HasStart, IsFirst, first_state}
 use Rattle.back_build.specs.Built.{code_with, entry_of}
 use Rattle.rv_machine.specs.declared.image.Image.{Image}
 use Rattle.back_program_code.specs.Made.{IsImageOf}
 use Rattle.back_build.specs.Means.{ImageMeans, IsBuilt}
+use Rattle.back_build.specs.Reached.{IsSized}
 
 -- what is asked of a whole program that was made flat and lowered: the names that its forms use are in the table, no more of its variables have boxes than
 -- functions capture, its words are words, its frames are at most those that were given, and its code is in form
@@ -65,4 +68,11 @@ LawOfBuilt =
 abbrev pub LawOfBuiltSize : Type 0
 LawOfBuiltSize =
     (names : List (List ℕ)) (program : ProgramRows) (l : LoweredProgram) (image : Image) → is_whole program ≡ true
-    → IsLoweredProgram names (flat_program program) l → IsImageMade l image → length image.words ≤ program_image_words program
+    → IsLoweredProgram names (flat_program program) l → IsImageMade l image → IsSized image program
+
+-- **What is left out changes nothing**: an image of the program that keeps what is reached, where it means the same, is one of the whole program
+abbrev pub LawOfLeft : Type 0
+LawOfLeft =
+    (names : List (List ℕ)) (program left : ProgramRows) → KeepsReached names program left
+    → ((input : List ℕ) (levels : ℕ) (limit : Limit) → meaning names left input levels limit ≡ meaning names program input levels limit)
+    → (image : Image) → IsBuilt names left image → IsBuilt names program image

@@ -1,4 +1,4 @@
--- What the faults of the crates below are called here, and **why there is no image** of a program.
+-- What the faults of the crates below are called here, and **why there is no image** of a program: what fails is the program that keeps what is reached.
 use Rattle.std.specs.Prelude.{◌≡◌, ◌⊎◌, ⊤, ℕ, List, false}
 use Rattle.base.specs.declared.datum.Name.{Name}
 use Rattle.lang_meaning.specs.declared.program.ProgramRows.{ProgramRows}
@@ -20,6 +20,7 @@ use Rattle.back_program_code.specs.declared.errors.ImageError.TheVariants as ima
 use Rattle.back_build.specs.declared.faults.BuildFault.{BuildFault}
 use Rattle.back_build.specs.declared.faults.BuildFault.TheVariants as fault
 use Rattle.back_build.specs.Built.{code_with}
+use Rattle.back_build.specs.Reached.{OfReached}
 
 abbrev pub IsFaultOfLowering : LoweringFault → BuildFault → Type 0
 IsFaultOfLowering lowering_fault.NoMemory e = e ≡ fault.NoMemory
@@ -57,3 +58,8 @@ Fails names program fault.TooLarge = FailsFlat names (flat_program program) faul
 Fails names program fault.FrameTooSmall = FailsFlat names (flat_program program) fault.FrameTooSmall
 Fails names program fault.NotInForm =
     ((true_name : Name) → NamesThere names true_name program → ⊥) ⊎ FailsFlat names (flat_program program) fault.NotInForm
+
+-- **Why there is no image**: the program that keeps what is reached fails so, where memory is not wanting.
+abbrev pub FailsReached : (names : List (List ℕ)) → ProgramRows → BuildFault → Type 0
+FailsReached names program fault.NoMemory = ⊤
+FailsReached names program e = OfReached names program (λ left. Fails names left e)

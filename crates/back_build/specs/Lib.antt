@@ -5,4 +5,5 @@ pub mod Compiled
 pub mod Inside
 pub mod Named
 pub mod Counted
+pub mod Reached
 pub mod Faults

@@ -6,14 +6,14 @@ ghost use Rattle.lang_meaning.specs.Facts.{is_whole};
 ghost use Rattle.flat_language.specs.Flatten.{flat_program};
 ghost use Rattle.mid_start.specs.Rows.{RowsFit};
 ghost use Rattle.back_words.specs.Asked.{NamesAsked};
-ghost use Rattle.back_image_sizes.specs.Sizes.{program_image_words};
 ghost use Rattle.back_build.specs.Compiled.{IsImageMade};
-ghost use Rattle.back_build.specs.Faults.{Fails, FailsFlat, FailsLowered};
+ghost use Rattle.back_build.specs.Faults.{Fails, FailsFlat, FailsLowered, FailsReached};
 ghost use Rattle.back_build.specs.Means.{IsBuilt};
+ghost use Rattle.back_build.specs.Reached.{IsSized, OfReached};
 
 use crate::boxes::boxes_are_captured;
 use crate::faults::BuildFault;
-use crate::laws::{law_built, law_built_size};
+use crate::laws::{law_built, law_built_size, law_left};
 use crate::names_there::{are_names_there, name_of_true};
 use back_lowered::{LoweredProgram, lower};
 use back_program_code::emit;
@@ -23,19 +23,35 @@ use base::{Name, Names, NoMemory};
 use flat_conversion::flatten;
 use flat_language::FlatProgram;
 use lang_meaning::Program;
+use lang_reached::keep_reached;
 use mid_code::MidProgram;
 use mid_start::law_whole_rows;
 use rv_machine::Image;
 use std::alloc::Global;
 
-/// The image of a program with these names: in every arena that has room for it, it does what the program means, and it has at most so many words
-/// by the nodes of the program. `TooLarge`: a part of the
+/// The image of a program with these names: in every arena that has room for it, it does what the program means. What the main forms do not
+/// reach is left out: the image has at most so many words by the nodes of what is left, and so by those of the program, and it is of what is left
+/// that one of these holds where there is no image. `TooLarge`: a part of the
 /// words laid beside the code is too large, or the image would have 2^24 words or more. `FrameTooSmall`: a frame of the lowered program has not
 /// a word for each register. `NotInForm`: a name is not in the table, has the text of nil, or none has that of t; more variables have boxes
 /// than functions capture; or the lowered code is not in form.
 pub fn build(alloc: Global, program: &Program, names: &Names) -> Result<Image, BuildFault>
     ensures image { IfOk result (λ image. IsBuilt names.now program.now image) }
-    ensures size { IfOk result (λ image. length image.words ≤ program_image_words program.now) }
+    ensures size { IfOk result (λ image. IsSized image program.now) }
+    ensures reached_size { IfOk result (λ image. OfReached names.now program.now (IsSized image)) }
+    ensures fault { IfErr result (λ e. FailsReached names.now program.now e) }
+{
+    law_left();
+    let left = keep_reached(alloc, names, program)?;
+    let image = build_whole(alloc, names, &left);
+    drop(left);
+    image
+}
+
+// The image of a program, of which nothing is left out.
+fn build_whole(alloc: Global, names: &Names, program: &Program) -> Result<Image, BuildFault>
+    ensures image { IfOk result (λ image. IsBuilt names.now program.now image) }
+    ensures size { IfOk result (λ image. IsSized image program.now) }
     ensures fault { IfErr result (λ e. Fails names.now program.now e) }
 {
     law_whole_rows();
@@ -62,7 +78,7 @@ fn build_flat(
 ) -> Result<Image, BuildFault>
     requires { RowsFit names.now true_name flat.now.classes flat.now.functions flat.now.literals }
     ensures image { IfOk result (λ image. (program : program_rows) → is_whole program ≡ true → flat.now ≡ flat_program program → IsBuilt names.now program image) }
-    ensures size { IfOk result (λ image. (program : program_rows) → is_whole program ≡ true → flat.now ≡ flat_program program → length image.words ≤ program_image_words program) }
+    ensures size { IfOk result (λ image. (program : program_rows) → is_whole program ≡ true → flat.now ≡ flat_program program → IsSized image program) }
     ensures fault { IfErr result (λ e. FailsFlat names.now flat.now e) }
 {
     law_built();

@@ -1,7 +1,7 @@
 // The laws of images of whole programs, as the contracts of functions that do nothing.
 
 ghost use Rattle.back_build.specs.Laws.{LawOfWholeMeaning};
-ghost use Rattle.back_build.specs.Compiled.{LawOfCompiled, LawOfBuilt, LawOfBuiltSize};
+ghost use Rattle.back_build.specs.Compiled.{LawOfCompiled, LawOfBuilt, LawOfBuiltSize, LawOfLeft};
 
 use back_images::law_images;
 use back_layout::law_placed_laid_out;
@@ -48,3 +48,8 @@ pub fn law_built_size()
 {
     law_flat_programs();
 }
+
+/// An image of the program that keeps what is reached does what the whole program means.
+pub fn law_left()
+    ensures { LawOfLeft }
+{}

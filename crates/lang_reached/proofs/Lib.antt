@@ -12,3 +12,4 @@ pub mod Whole
 pub mod Searching
 pub mod Marking
 pub mod Looking
+pub mod Remaining

@@ -121,7 +121,7 @@ module _ (rows : ProgramRows) (kept : Kept) where
   literal_left (row.Class c) h = h
   literal_left (row.Function name) h = h
 
-  nodes_left : program_nodes rest ≤ program_nodes rows
+  pub nodes_left : program_nodes rest ≤ program_nodes rows
   nodes_left =
       let h = procedures_below kept.procedures 0 rows.procedures 0 0 (le_refl 0) in
       omega (arith, h)

@@ -1,4 +1,5 @@
 pub mod LeftOut
 pub mod Mentioned
+pub mod Remaining
 pub mod Laws
 pub mod Search

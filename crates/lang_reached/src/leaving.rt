@@ -1,11 +1,11 @@
 // Programs without the bodies of what is not reached.
 
-ghost use Rattle.std.specs.Prelude.{◌≡◌, ℕ, ◌<◌, List, length, if◌then◌else◌, IfOk};
+ghost use Rattle.std.specs.Prelude.{◌≡◌, ℕ, ◌≤◌, List, if◌then◌else◌, IfOk};
 ghost use Rattle.lang_meaning.specs.Meaning.{meaning};
+ghost use Rattle.lang_meaning.specs.ProgramCounts.{program_nodes};
 ghost use Rattle.lang_meaning.specs.State.{Limit};
-ghost use Rattle.lang_reached.specs.LeftOut.{is_marked, KeepsProcedure, emptied, procedures_left, without_others};
-ghost use Rattle.lang_reached.specs.Mentioned.{IsReached};
-ghost use Rattle.lang_reached.specs.declared.kept.Kept.{Kept as KeptMarks};
+ghost use Rattle.lang_reached.specs.LeftOut.{is_marked, emptied, procedures_left, without_others};
+ghost use Rattle.lang_reached.specs.Remaining.{KeepsReached};
 
 use crate::kept::Kept;
 use crate::laws::{law_reached, law_whole};
@@ -19,12 +19,12 @@ use lang_rows::flags::FlagList;
 use std::alloc::Global;
 
 /// The program without the bodies of the procedures that its main forms do not reach. It means the same, with every input, at every level and
-/// with any number of words. The program itself is as it was.
+/// with any number of words, and has no more nodes. The program itself is as it was.
 pub fn keep_reached(alloc: Global, names: &Names, program: &Program) -> Result<Program, NoMemory>
     ensures means { IfOk result (λ left. (input : List ℕ) (levels : ℕ) (limit : Limit)
         → meaning names.now left input levels limit ≡ meaning names.now program.now input levels limit) }
-    ensures left { IfOk result (λ left. (kept : KeptMarks) × (left ≡ without_others kept program.now)
-        × ((p : ℕ) → p < length program.now.procedures → KeepsProcedure kept p → IsReached names.now program.now p)) }
+    ensures left { IfOk result (λ left. KeepsReached names.now program.now left) }
+    ensures nodes { IfOk result (λ left. program_nodes left ≤ program_nodes program.now) }
 {
     law_reached();
     law_whole();

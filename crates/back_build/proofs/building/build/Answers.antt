@@ -1,47 +1,31 @@
--- The rows of the program were tested, and so the program that is made flat can be lowered; its image is that of the program.
-use Rattle.std.proofs.Common.{◌≡◌, ◌≤◌, length, true, inl, sym, subst}
+-- The image of what is left is one of the whole program; its words are those of what is left, and so no more than those of the whole.
 use Rattle.std.proofs.lemmas.Result.{IfOk-weaker, IfErr-weaker}
-use Rattle.lang_meaning.specs.declared.program.ProgramRows.{ProgramRows}
-use Rattle.lang_meaning.specs.Facts.{is_whole}
-use Rattle.flat_language.specs.Flatten.{flat_program}
-use Rattle.flat_language.specs.declared.program.FlatProgram.{FlatProgram}
-use Rattle.mid_start.specs.Rows.{NamesThere}
-use Rattle.back_build.specs.Faults.{FailsFlat, Fails}
-use Rattle.back_image_sizes.specs.Sizes.{program_image_words}
+use Rattle.back_build.specs.Faults.{Fails, FailsReached}
 use Rattle.back_build.specs.Means.{IsBuilt}
-use Rattle.back_build.proofs.Failing.{of_flat, no_other, failed}
-use Rattle.back_build.proofs.Tested.{rows_fit}
+use Rattle.back_build.specs.Reached.{IsSized, OfReached}
+use Rattle.back_build.proofs.Left.{sized_whole, of_reached}
 use Rattle.back_build.proofs.building.build.Goals as goal
-
-pub build_flat-image-requires : goal.build_flat-image-requires
-build_flat-image-requires c =
-    rows_fit c.law_whole_rows.ensures c.args.names.now c.in-Some.true_name c.args.program.now c.rows-rows.result.now c.in_ok-flat.flat c.rows-rows.ensures.whole
-    c.rows-rows.ensures.same (c.in_ok-are.ensures.0 c.if-not-are.false) c.in_ok-flat.ensures.made
 
 pub returns-clause-image : goal.returns-clause-image
 returns-clause-image c =
-    IfOk-weaker c.build_flat-image.result
-    (λ image. (program : ProgramRows) → is_whole program ≡ true → c.in_ok-flat.flat ≡ flat_program program → IsBuilt c.args.names.now program image)
-    (λ image. IsBuilt c.args.names.now c.args.program.now image)
-    (λ image built. built c.args.program.now c.rows-rows.ensures.whole c.in_ok-flat.ensures.made)
-    c.build_flat-image.ensures.image
-
-pub returns-then-not-are-clause-fault : goal.returns-then-not-are-clause-fault
-returns-then-not-are-clause-fault c =
-    inl (λ name h. failed c.in_ok-are.are c.in_ok-are.ensures c.if-not-are.true
-    (subst (λ (rows : ProgramRows). NamesThere c.args.names.now c.in-Some.true_name rows) (sym c.rows-rows.ensures.same)
-    (no_other c.args.names.now c.in-Some.true_name name c.args.program.now c.in-Some.ensures h)))
-
-pub returns-clause-fault : goal.returns-clause-fault
-returns-clause-fault c =
-    IfErr-weaker c.build_flat-image.result (FailsFlat c.args.names.now c.in_ok-flat.flat) (Fails c.args.names.now c.args.program.now)
-    (λ e h. of_flat c.args.names.now c.args.program.now e (subst (λ (f : FlatProgram). FailsFlat c.args.names.now f e) c.in_ok-flat.ensures.made h))
-    c.build_flat-image.ensures.fault
+    IfOk-weaker c.build_whole-image.result (λ image. IsBuilt c.args.names.now c.in_ok-left.left image) (λ image. IsBuilt c.args.names.now c.args.program.now image)
+    (λ image built. c.law_left.ensures c.args.names.now c.args.program.now c.in_ok-left.left c.in_ok-left.ensures.left c.in_ok-left.ensures.means image built)
+    c.build_whole-image.ensures.image
 
 pub returns-clause-size : goal.returns-clause-size
 returns-clause-size c =
-    IfOk-weaker c.build_flat-image.result
-    (λ image. (program : ProgramRows) → is_whole program ≡ true → c.in_ok-flat.flat ≡ flat_program program → length image.words ≤ program_image_words program)
-    (λ image. length image.words ≤ program_image_words c.args.program.now)
-    (λ image within. within c.args.program.now c.rows-rows.ensures.whole c.in_ok-flat.ensures.made)
-    c.build_flat-image.ensures.size
+    IfOk-weaker c.build_whole-image.result (λ image. IsSized image c.in_ok-left.left) (λ image. IsSized image c.args.program.now)
+    (λ image sized. sized_whole c.args.names.now c.args.program.now c.in_ok-left.left image c.in_ok-left.ensures.left c.in_ok-left.ensures.nodes sized)
+    c.build_whole-image.ensures.size
+
+pub returns-clause-reached_size : goal.returns-clause-reached_size
+returns-clause-reached_size c =
+    IfOk-weaker c.build_whole-image.result (λ image. IsSized image c.in_ok-left.left) (λ image. OfReached c.args.names.now c.args.program.now (IsSized image))
+    (λ image sized. (c.in_ok-left.left, c.in_ok-left.ensures.left, sized))
+    c.build_whole-image.ensures.size
+
+pub returns-clause-fault : goal.returns-clause-fault
+returns-clause-fault c =
+    IfErr-weaker c.build_whole-image.result (Fails c.args.names.now c.in_ok-left.left) (FailsReached c.args.names.now c.args.program.now)
+    (λ e h. of_reached c.args.names.now c.args.program.now c.in_ok-left.left c.in_ok-left.ensures.left e h)
+    c.build_whole-image.ensures.fault

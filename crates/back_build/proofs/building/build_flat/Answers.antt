@@ -1,5 +1,5 @@
 -- An image that is made is built of the program that was made flat; where there is none, a test failed, or a lowering did.
-use Rattle.std.proofs.Common.{◌≡◌, ◌≤◌, length, true, inl, inr, sym, ap, subst, Err}
+use Rattle.std.proofs.Common.{◌≡◌, true, inl, inr, sym, ap, subst, Err}
 use Rattle.std.specs.Prelude.{IfErr}
 use Rattle.std.proofs.lemmas.Result.{IfOk-weaker, IfErr-weaker, err_from_is_err_and}
 use Rattle.lang_meaning.specs.declared.program.ProgramRows.{ProgramRows}
@@ -7,8 +7,8 @@ use Rattle.lang_meaning.specs.Facts.{is_whole}
 use Rattle.flat_language.specs.declared.program.FlatProgram.{FlatProgram}
 use Rattle.flat_language.specs.Flatten.{flat_program}
 use Rattle.back_lowered.specs.Lowered.{IsLoweredProgram}
-use Rattle.back_image_sizes.specs.Sizes.{program_image_words}
 use Rattle.back_build.specs.Means.{IsBuilt}
+use Rattle.back_build.specs.Reached.{IsSized}
 use Rattle.back_build.specs.Compiled.{IsImageMade}
 use Rattle.back_build.specs.Faults.{FailsLowered, FailsFlat}
 use Rattle.back_build.proofs.Tested.{built_of}
@@ -46,7 +46,7 @@ returns-clause-fault c =
 pub returns-clause-size : goal.returns-clause-size
 returns-clause-size c =
     IfOk-weaker c.image_of.result (λ image. IsImageMade c.in_ok-lowered.lowered image)
-    (λ image. (program : ProgramRows) → is_whole program ≡ true → c.args.flat.now ≡ flat_program program → length image.words ≤ program_image_words program)
+    (λ image. (program : ProgramRows) → is_whole program ≡ true → c.args.flat.now ≡ flat_program program → IsSized image program)
     (λ image made program whole same.
     c.law_built_size.ensures c.args.names.now program c.in_ok-lowered.lowered image whole
     (subst (λ (f : FlatProgram). IsLoweredProgram c.args.names.now f c.in_ok-lowered.lowered) same c.in_ok-lowered.ensures.lowered) made)
