@@ -117,9 +117,9 @@ law_of_left names program rest keeps same image built arena input fits small byt
     (subst (λ (r : ProgramRows). ImageMeans names r image.words image.entry arena input) keeps.rows (built arena input fits small bytes))
 
 -- no more nodes, and so no more words
-no_more : (words a b main functions classes generics start : ℕ) → a ≤ b
-    → words * a + main + functions + classes + generics + start ≤ words * b + main + functions + classes + generics + start
-no_more words a b main functions classes generics start h = let more : words * a ≤ words * b = mul-le-mul_left words h in omega (arith, more)
+no_more : (each a b main functions classes generics start : ℕ) → a ≤ b
+    → each * a + main + functions + classes + generics + start ≤ each * b + main + functions + classes + generics + start
+no_more each a b main functions classes generics start h = let more : each * a ≤ each * b = mul-le-mul_left each h in omega (arith, more)
 
 fewer_words : (program : ProgramRows) (procedures : List Procedure) → program_nodes (record program { procedures = procedures }) ≤ program_nodes program
     → program_image_words (record program { procedures = procedures }) ≤ program_image_words program
