@@ -1,10 +1,10 @@
 -- What an image of the program that keeps what is reached does, it does of the whole program; and its nodes are no more.
-use Rattle.std.proofs.Common.{inl, inr, ◌≡◌, ◌⊎◌, ℕ, ◌+◌, ◌*◌, ◌^◌, ◌<◌, ◌≤◌, List, length, refl, sym, ap, subst, ◌∙◌, arith}
-use Rattle.base.specs.declared.place.Place.{Place}
+use Rattle.std.proofs.Common.{inl, inr, ◌≡◌, ◌⊎◌, ℕ, ◌+◌, ◌*◌, ◌^◌, ◌<◌, ◌≤◌, List, sym, ap, subst, ◌∙◌, arith}
+use Rattle.std.proofs.Math.Nat.{mul-le-mul_left}
 use Rattle.lang_meaning.specs.declared.program.Procedure.{Procedure}
 use Rattle.lang_meaning.specs.declared.program.ProgramRows.{ProgramRows}
 use Rattle.lang_meaning.specs.Counts.{bound}
-use Rattle.lang_meaning.specs.Meaning.{Meant, meaning, ended_value, ended_unhandled}
+use Rattle.lang_meaning.specs.Meaning.{Meant, meaning}
 use Rattle.lang_meaning.specs.Prefixes.{IsPrefix}
 use Rattle.lang_meaning.specs.ProgramCounts.{program_nodes}
 use Rattle.lang_meaning.specs.State.{Limit, words, unlimited}
@@ -13,9 +13,8 @@ use Rattle.lang_reached.specs.Remaining.{KeepsReached}
 use Rattle.rv_machine.specs.declared.ending.Ending.TheVariants.{Budget}
 use Rattle.rv_machine.specs.declared.image.Image.{Image}
 use Rattle.rv_machine.specs.Run.{Ended, run_of}
-use Rattle.back_code_sizes.specs.Sizes.{words_of_node}
 use Rattle.back_image_sizes.specs.Sizes.{program_image_words}
-use Rattle.back_build.specs.Means.{Holds, HasWord, HaltsWith, EndsUnhandled, EndsFull, IsFull, ImageMeans, IsBuilt}
+use Rattle.back_build.specs.Means.{HasWord, HaltsWith, EndsUnhandled, EndsFull, IsFull, ImageMeans}
 use Rattle.back_build.specs.Compiled.{LawOfLeft}
 use Rattle.back_build.specs.Faults.{Fails, FailsReached}
 use Rattle.back_build.specs.Reached.{IsSized}
@@ -118,13 +117,13 @@ law_of_left names program rest keeps same image built arena input fits small byt
     (subst (λ (r : ProgramRows). ImageMeans names r image.words image.entry arena input) keeps.rows (built arena input fits small bytes))
 
 -- no more nodes, and so no more words
-no_more : (a b main functions classes generics start : ℕ) → a ≤ b
-    → words_of_node * a + main + functions + classes + generics + start ≤ words_of_node * b + main + functions + classes + generics + start
-no_more a b main functions classes generics start h = omega (arith, h)
+no_more : (each a b main functions classes generics start : ℕ) → a ≤ b
+    → each * a + main + functions + classes + generics + start ≤ each * b + main + functions + classes + generics + start
+no_more each a b main functions classes generics start h = let more : each * a ≤ each * b = mul-le-mul_left each h in omega (arith, more)
 
 fewer_words : (program : ProgramRows) (procedures : List Procedure) → program_nodes (record program { procedures = procedures }) ≤ program_nodes program
     → program_image_words (record program { procedures = procedures }) ≤ program_image_words program
-fewer_words program procedures h = no_more (program_nodes (record program { procedures = procedures })) (program_nodes program) _ _ _ _ _ h
+fewer_words program procedures h = no_more _ (program_nodes (record program { procedures = procedures })) (program_nodes program) _ _ _ _ _ h
 
 pub sized_whole : (names : List (List ℕ)) (program rest : ProgramRows) (image : Image) → KeepsReached names program rest
     → program_nodes rest ≤ program_nodes program → IsSized image rest → IsSized image program
