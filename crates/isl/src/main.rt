@@ -8,7 +8,6 @@ ghost use Rattle.top_help.specs.Told.{told as told_of};
 ghost use Rattle.base.specs.Given.{WasGiven};
 ghost use Rattle.top_lines.specs.Lines.{line_of, number_of, status_of as status_of_answer};
 ghost use Rattle.top_lines.specs.declared.status.CommandAnswer.{CommandAnswer as AnswerValue};
-ghost use Rattle.top_lines.specs.declared.status.CommandAnswer.TheVariants.{Done as AnswerDone, WriteFault as AnswerCut};
 ghost use Rattle.top_lines.specs.declared.status.Status.TheVariants.{Done, Usage, WriteFault, NoMemory as WantsMemory};
 
 mod command_words;
@@ -46,19 +45,21 @@ fn status_of<E: Sink>(rt: &HostRuntime, words: &Words, err: &mut E) -> Status
         × WasGiven (E.given err.old) (line_of answer) (E.given err.new)) }
 {
     match told(words) {
-        Some(text) => end_with(err, told_answer(rt, text)),
+        Some(text) => told_status(rt, text, err),
         None => called(rt, words, err),
     }
 }
 
-// A text is printed.
-fn told_answer(rt: &HostRuntime, text: &[u8]) -> CommandAnswer
-    ensures { (result ≡ AnswerDone) ⊎ (result ≡ AnswerCut) }
+// A text is printed; the status says whether all of it was.
+fn told_status<E: Sink>(rt: &HostRuntime, text: &[u8], err: &mut E) -> Status
+    ensures told { (result ≡ Done) ⊎ (result ≡ WriteFault) }
+    ensures line { result ≢ WriteFault → (answer : AnswerValue) × ((result ≡ status_of_answer answer)
+        × WasGiven (E.given err.old) (line_of answer) (E.given err.new)) }
 {
     let mut out = StdSink::new(rt.stdout());
     match write_all(&mut out, text) {
-        Ok(()) => CommandAnswer::Done,
-        Err(Failed) => CommandAnswer::WriteFault,
+        Ok(()) => end_with(err, CommandAnswer::Done),
+        Err(Failed) => end_with(err, CommandAnswer::WriteFault),
     }
 }
 
