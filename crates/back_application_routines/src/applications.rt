@@ -7,10 +7,11 @@ ghost use Rattle.back_application_routines.specs.Parts as parts;
 use back_leaves::leaves::routine;
 use back_leaves::primitives::{car_into, where_tag};
 use back_leaves::routine_steps::{
-    add_to, call_number, four, returning, signals, signals_domain, turns_while,
+    call_number, four, returning, signals, signals_domain, turns_while,
 };
 use back_leaves::steps::{
-    call, if_different, if_equal, move_word, one, setting, three, two, where_so,
+    call, if_different, if_equal, move_word, one, push_four, push_three, push_two, setting, three,
+    two, where_so,
 };
 use back_leaves::words::{
     CHAIN, CLASS, FAILING_WITH, FUNCTION_CLASS, GENERIC, IS_FUNCTION, LEVEL, LIST_CLASS,
@@ -68,10 +69,13 @@ fn where_takes(
     ))?;
     let mut just = Code::new(alloc);
     just.push(where_so(Comparison::Different, count, t + 2, other, Code::new(alloc)))?;
-    code.push(constant(t, 1))?;
-    code.push(compute(t + 1, Arithmetic::And, arity, t))?;
-    code.push(compute(t + 2, Arithmetic::ShiftRight, arity, t))?;
-    code.push(if_equal(t + 1, t, least, just))
+    push_four(
+        code,
+        constant(t, 1),
+        compute(t + 1, Arithmetic::And, arity, t),
+        compute(t + 2, Arithmetic::ShiftRight, arity, t),
+        if_equal(t + 1, t, least, just),
+    )
 }
 
 // The arity of the function in a register, whose number comes to n.
@@ -85,12 +89,18 @@ fn arity_into(
     requires { to < 2 ^ 61 }
     ensures { OnOk result (code.new ≡ code.old ++ routines.arity_into at.now to n f) }
 {
-    code.push(load(n, f, 2))?;
-    code.push(constant(to, 2))?;
-    code.push(compute(to, Arithmetic::ShiftLeft, n, to))?;
-    code.push(constant(to + 1, at.arities))?;
-    code.push(compute(to, Arithmetic::Add, to, to + 1))?;
-    code.push(load(to, to, 0))
+    push_three(
+        code,
+        load(n, f, 2),
+        constant(to, 2),
+        compute(to, Arithmetic::ShiftLeft, n, to),
+    )?;
+    push_three(
+        code,
+        constant(to + 1, at.arities),
+        compute(to, Arithmetic::Add, to, to + 1),
+        load(to, to, 0),
+    )
 }
 
 // The words of the generic function in a register.
@@ -103,10 +113,13 @@ fn generic_into(
 ) -> Result<(), NoMemory>
     ensures { OnOk result (code.new ≡ code.old ++ routines.generic_into at.now to t f) }
 {
-    code.push(load(to, f, 2))?;
-    code.push(constant(t, at.generics))?;
-    code.push(compute(to, Arithmetic::Add, to, t))?;
-    code.push(load(to, to, 0))
+    push_four(
+        code,
+        load(to, f, 2),
+        constant(t, at.generics),
+        compute(to, Arithmetic::Add, to, t),
+        load(to, to, 0),
+    )
 }
 
 // One thing for an object that is a function, another for a generic function.
@@ -119,13 +132,15 @@ fn object_by_function(
     requires { t < 2 ^ 61 }
     ensures { IfOk result (λ code. code ≡ parts.object_by_function t function generic) }
 {
-    let mut other = Code::new(alloc);
-    other.push(constant(t + 1, GENERIC_HEADER))?;
+    let mut other = setting(alloc, t + 1, GENERIC_HEADER)?;
     other.push(if_equal(t, t + 1, generic, Code::new(alloc)))?;
     let mut code = Code::new(alloc);
-    code.push(load(t, 0, -2))?;
-    code.push(constant(t + 1, FUNCTION))?;
-    code.push(if_equal(t, t + 1, function, other))?;
+    push_three(
+        &mut code,
+        load(t, 0, -2),
+        constant(t + 1, FUNCTION),
+        if_equal(t, t + 1, function, other),
+    )?;
     Ok(code)
 }
 
@@ -153,9 +168,13 @@ fn function_applied(alloc: Global, at: &Placement) -> Result<Code, NoMemory>
     let mut code = Code::new(alloc);
     arity_into(&mut code, at, 3, 5, 0)?;
     where_takes(&mut code, alloc, 3, 1, 6, few, other)?;
-    code.push(constant(3, 0))?;
-    code.push(call_number(6, 5, four(alloc, 0, 3, 1, 2)?))?;
-    code.push(return_word(6))?;
+    let arguments = four(alloc, 0, 3, 1, 2)?;
+    push_three(
+        &mut code,
+        constant(3, 0),
+        call_number(6, 5, arguments),
+        return_word(6),
+    )?;
     Ok(code)
 }
 
@@ -195,8 +214,7 @@ pub fn is_function_code(alloc: Global, at: &Placement) -> Result<Code, NoMemory>
     generic.push(return_word(1))?;
     let mut code = Code::new(alloc);
     by_function(&mut code, alloc, 1, function, generic)?;
-    code.push(constant(1, 0))?;
-    code.push(return_word(1))?;
+    push_two(&mut code, constant(1, 0), return_word(1))?;
     Ok(code)
 }
 
@@ -205,14 +223,20 @@ fn count_doubled(alloc: Global) -> Result<Code, NoMemory>
     ensures { IfOk result (λ code. code ≡ parts.count_doubled) }
 {
     let mut doubled = Code::new(alloc);
-    doubled.push(move_word(4, 3))?;
-    doubled.push(compute(5, Arithmetic::Add, 5, 5))?;
-    doubled.push(move_word(6, 5))?;
+    push_three(
+        &mut doubled,
+        move_word(4, 3),
+        compute(5, Arithmetic::Add, 5, 5),
+        move_word(6, 5),
+    )?;
     let mut code = Code::new(alloc);
-    code.push(constant(7, 1))?;
-    code.push(compute(6, Arithmetic::Subtract, 6, 7))?;
-    code.push(constant(7, 0))?;
-    code.push(if_equal(6, 7, doubled, Code::new(alloc)))?;
+    push_four(
+        &mut code,
+        constant(7, 1),
+        compute(6, Arithmetic::Subtract, 6, 7),
+        constant(7, 0),
+        if_equal(6, 7, doubled, Code::new(alloc)),
+    )?;
     Ok(code)
 }
 
@@ -222,14 +246,21 @@ fn cons_counted(alloc: Global) -> Result<CodeStep, NoMemory>
 {
     let doubled = count_doubled(alloc)?;
     let circle = setting(alloc, 3, 0)?;
-    let mut head = Code::new(alloc);
-    head.push(constant(7, 3))?;
-    head.push(compute(7, Arithmetic::And, 3, 7))?;
-    head.push(constant(8, CONS))?;
     let mut body = Code::new(alloc);
-    add_to(&mut body, 2, 7, 1)?;
-    body.push(load(3, 3, 3))?;
-    body.push(if_equal(3, 4, circle, doubled))?;
+    push_four(
+        &mut body,
+        constant(7, 1),
+        compute(2, Arithmetic::Add, 2, 7),
+        load(3, 3, 3),
+        if_equal(3, 4, circle, doubled),
+    )?;
+    let mut head = Code::new(alloc);
+    push_three(
+        &mut head,
+        constant(7, 3),
+        compute(7, Arithmetic::And, 3, 7),
+        constant(8, CONS),
+    )?;
     Ok(CodeStep::new(StepKind::Repeat {
         counted: Counted::Turn,
         head,
@@ -244,12 +275,8 @@ fn list_counted(alloc: Global) -> Result<Code, NoMemory>
 {
     let counting = cons_counted(alloc)?;
     let mut code = Code::new(alloc);
-    code.push(constant(2, 0))?;
-    code.push(move_word(3, 1))?;
-    code.push(move_word(4, 1))?;
-    code.push(constant(5, 1))?;
-    code.push(constant(6, 1))?;
-    code.push(counting)?;
+    push_three(&mut code, constant(2, 0), move_word(3, 1), move_word(4, 1))?;
+    push_three(&mut code, constant(5, 1), constant(6, 1), counting)?;
     Ok(code)
 }
 
@@ -258,14 +285,21 @@ fn list_copied(alloc: Global) -> Result<Code, NoMemory>
     ensures { IfOk result (λ code. code ≡ parts.list_copied) }
 {
     let mut body = car_into(alloc, 6, 3)?;
-    body.push(store(6, 4, 0))?;
-    body.push(load(3, 3, 3))?;
-    add_to(&mut body, 4, 6, 4)?;
+    push_four(
+        &mut body,
+        store(6, 4, 0),
+        load(3, 3, 3),
+        constant(6, 4),
+        compute(4, Arithmetic::Add, 4, 6),
+    )?;
     let mut code = Code::new(alloc);
-    code.push(move_word(3, 1))?;
-    code.push(move_word(4, 9))?;
-    code.push(constant(5, NIL))?;
-    code.push(turns_while(Code::new(alloc), 3, 5, body))?;
+    push_four(
+        &mut code,
+        move_word(3, 1),
+        move_word(4, 9),
+        constant(5, NIL),
+        turns_while(Code::new(alloc), 3, 5, body),
+    )?;
     Ok(code)
 }
 
@@ -275,9 +309,12 @@ fn element_into(alloc: Global) -> Result<Code, NoMemory>
 {
     let element = car_into(alloc, 7, 10)?;
     let mut body = Code::new(alloc);
-    body.push(load(10, 10, 3))?;
-    body.push(constant(8, 4))?;
-    body.push(compute(11, Arithmetic::Add, 11, 8))?;
+    push_three(
+        &mut body,
+        load(10, 10, 3),
+        constant(8, 4),
+        compute(11, Arithmetic::Add, 11, 8),
+    )?;
     let mut code = Code::new(alloc);
     code.push(turns_while(Code::new(alloc), 11, 7, body))?;
     code.append_list(element)?;
@@ -293,13 +330,20 @@ fn group_added(alloc: Global, at: &Placement, argument: Code) -> Result<Code, No
     code.push(load(7, 4, 0))?;
     code.append_list(argument)?;
     code.push(call(7, class, one(alloc, 7)?))?;
-    code.push(load(8, 4, 4))?;
-    code.push(compute(7, Arithmetic::Add, 7, 8))?;
-    code.push(load(7, 7, 0))?;
-    code.push(compute(5, Arithmetic::Add, 5, 7))?;
-    add_to(&mut code, 4, 7, 8)?;
-    code.push(constant(7, 1))?;
-    code.push(compute(3, Arithmetic::Subtract, 3, 7))?;
+    push_four(
+        &mut code,
+        load(8, 4, 4),
+        compute(7, Arithmetic::Add, 7, 8),
+        load(7, 7, 0),
+        compute(5, Arithmetic::Add, 5, 7),
+    )?;
+    push_four(
+        &mut code,
+        constant(7, 8),
+        compute(4, Arithmetic::Add, 4, 7),
+        constant(7, 1),
+        compute(3, Arithmetic::Subtract, 3, 7),
+    )?;
     Ok(code)
 }
 
@@ -309,9 +353,12 @@ fn groups_added(alloc: Global, at: &Placement, argument: Code) -> Result<Code, N
 {
     let body = group_added(alloc, at, argument)?;
     let mut code = Code::new(alloc);
-    code.push(constant(5, 0))?;
-    code.push(constant(6, 0))?;
-    code.push(turns_while(Code::new(alloc), 3, 6, body))?;
+    push_three(
+        &mut code,
+        constant(5, 0),
+        constant(6, 0),
+        turns_while(Code::new(alloc), 3, 6, body),
+    )?;
     Ok(code)
 }
 
@@ -321,9 +368,14 @@ fn undefined(alloc: Global, at: &Placement) -> Result<Code, NoMemory>
 {
     let failing = routine(at, FAILING_WITH)?;
     let mut code = Code::new(alloc);
-    code.push(load(7, 0, NAME))?;
-    code.push(constant(8, UNDEFINED_FUNCTION_CLASS))?;
-    returning(&mut code, 7, failing, two(alloc, 8, 7)?)?;
+    let arguments = two(alloc, 8, 7)?;
+    push_four(
+        &mut code,
+        load(7, 0, NAME),
+        constant(8, UNDEFINED_FUNCTION_CLASS),
+        call(7, failing, arguments),
+        return_word(7),
+    )?;
     Ok(code)
 }
 
@@ -334,13 +386,19 @@ fn chain_sought(alloc: Global, at: &Placement, argument: Code) -> Result<Code, N
     let groups = groups_added(alloc, at, argument)?;
     let none = undefined(alloc, at)?;
     let mut code = Code::new(alloc);
-    code.push(load(3, 0, SPECIALISED))?;
-    code.push(constant(4, GROUPS))?;
-    code.push(compute(4, Arithmetic::Add, 4, 0))?;
+    push_three(
+        &mut code,
+        load(3, 0, SPECIALISED),
+        constant(4, GROUPS),
+        compute(4, Arithmetic::Add, 4, 0),
+    )?;
     code.append_list(groups)?;
-    code.push(compute(4, Arithmetic::Add, 4, 5))?;
-    code.push(load(4, 4, 0))?;
-    code.push(if_equal(4, 6, none, Code::new(alloc)))?;
+    push_three(
+        &mut code,
+        compute(4, Arithmetic::Add, 4, 5),
+        load(4, 4, 0),
+        if_equal(4, 6, none, Code::new(alloc)),
+    )?;
     Ok(code)
 }
 
@@ -353,8 +411,11 @@ pub fn generic_code(alloc: Global, at: &Placement) -> Result<Code, NoMemory>
     let few = signals(alloc, at, 4, PROGRAM_ERROR_CLASS)?;
     let other = signals(alloc, at, 4, PROGRAM_ERROR_CLASS)?;
     let mut argument = Code::new(alloc);
-    argument.push(compute(7, Arithmetic::Add, 7, 2))?;
-    argument.push(load(7, 7, 0))?;
+    push_two(
+        &mut argument,
+        compute(7, Arithmetic::Add, 7, 2),
+        load(7, 7, 0),
+    )?;
     let sought = chain_sought(alloc, at, argument)?;
     let mut code = Code::new(alloc);
     code.push(load(3, 0, ARITY))?;
@@ -383,14 +444,17 @@ fn function_spread(alloc: Global, at: &Placement) -> Result<Code, NoMemory>
     let other = wrong_number(alloc, at, 5)?;
     let level = routine(at, LEVEL)?;
     let mut inside = list_copied(alloc)?;
-    inside.push(constant(3, 0))?;
-    inside.push(call_number(10, 11, four(alloc, 0, 3, 2, 9)?))?;
+    let arguments = four(alloc, 0, 3, 2, 9)?;
+    push_two(&mut inside, constant(3, 0), call_number(10, 11, arguments))?;
     let mut code = Code::new(alloc);
     arity_into(&mut code, at, 3, 11, 0)?;
     where_takes(&mut code, alloc, 3, 2, 5, few, other)?;
-    code.push(call(10, level, RegisterList::new(alloc)))?;
-    code.push(lent(inside))?;
-    code.push(return_word(10))?;
+    push_three(
+        &mut code,
+        call(10, level, RegisterList::new(alloc)),
+        lent(inside),
+        return_word(10),
+    )?;
     Ok(code)
 }
 
@@ -403,10 +467,13 @@ fn chain_spread(alloc: Global, at: &Placement) -> Result<Code, NoMemory>
     let mut inside = list_copied(alloc)?;
     inside.push(call(10, run, three(alloc, 11, 2, 9)?))?;
     let mut code = Code::new(alloc);
-    code.push(move_word(11, 4))?;
-    code.push(call(10, level, RegisterList::new(alloc)))?;
-    code.push(lent(inside))?;
-    code.push(return_word(10))?;
+    push_four(
+        &mut code,
+        move_word(11, 4),
+        call(10, level, RegisterList::new(alloc)),
+        lent(inside),
+        return_word(10),
+    )?;
     Ok(code)
 }
 
@@ -420,11 +487,9 @@ fn generic_spread(alloc: Global, at: &Placement) -> Result<Code, NoMemory>
     let run = chain_spread(alloc, at)?;
     let mut code = Code::new(alloc);
     generic_into(&mut code, at, 11, 4, 0)?;
-    code.push(move_word(0, 11))?;
-    code.push(load(3, 0, ARITY))?;
+    push_two(&mut code, move_word(0, 11), load(3, 0, ARITY))?;
     where_takes(&mut code, alloc, 3, 2, 4, few, other)?;
-    code.push(move_word(10, 1))?;
-    code.push(constant(11, 0))?;
+    push_two(&mut code, move_word(10, 1), constant(11, 0))?;
     code.append_list(sought)?;
     code.append_list(run)?;
     Ok(code)
@@ -443,12 +508,19 @@ pub fn apply_code(alloc: Global, at: &Placement) -> Result<Code, NoMemory>
     let generic = generic_spread(alloc, at)?;
     let wrong = signals_domain(alloc, at, 0, 3, FUNCTION_CLASS)?;
     let mut code = Code::new(alloc);
-    code.push(call(2, is_function, one(alloc, 0)?))?;
-    code.push(constant(3, 0))?;
-    code.push(if_equal(2, 3, no_function, Code::new(alloc)))?;
+    let asked = one(alloc, 0)?;
+    push_three(
+        &mut code,
+        call(2, is_function, asked),
+        constant(3, 0),
+        if_equal(2, 3, no_function, Code::new(alloc)),
+    )?;
     code.append_list(counted)?;
-    code.push(constant(4, NIL))?;
-    code.push(if_different(3, 4, no_list, Code::new(alloc)))?;
+    push_two(
+        &mut code,
+        constant(4, NIL),
+        if_different(3, 4, no_list, Code::new(alloc)),
+    )?;
     by_function(&mut code, alloc, 3, function, generic)?;
     code.append_list(wrong)?;
     Ok(code)

@@ -5,7 +5,7 @@ ghost use Rattle.back_lowering.specs.RoutineCodes as routines;
 ghost use Rattle.back_application_routines.specs.Parts as parts;
 
 use back_leaves::routine_steps::{add_to, call_number, four, signals};
-use back_leaves::steps::{if_equal, move_word};
+use back_leaves::steps::{if_equal, move_word, push_four, push_three, push_two};
 use back_leaves::words::{CHAIN_END, CONTROL_ERROR_CLASS, SITE};
 use back_lowering::Placement;
 use base::NoMemory;
@@ -32,17 +32,23 @@ fn kind_into(
 ) -> Result<(), NoMemory>
     ensures { OnOk result (code.new ≡ code.old ++ parts.kind_into to word address) }
 {
-    code.push(load(word, address, 0))?;
-    code.push(constant(to, 7))?;
-    code.push(compute(to, Arithmetic::And, word, to))
+    push_three(
+        code,
+        load(word, address, 0),
+        constant(to, 7),
+        compute(to, Arithmetic::And, word, to),
+    )
 }
 
 // The number of its function.
 fn number_into(code: &mut Code, to: Register, word: Register, t: Register) -> Result<(), NoMemory>
     ensures { OnOk result (code.new ≡ code.old ++ parts.number_into to word t) }
 {
-    code.push(constant(t, 3))?;
-    code.push(compute(to, Arithmetic::ShiftRight, word, t))
+    push_two(
+        code,
+        constant(t, 3),
+        compute(to, Arithmetic::ShiftRight, word, t),
+    )
 }
 
 // One method is called.
@@ -51,9 +57,13 @@ fn method_called(alloc: Global) -> Result<Code, NoMemory>
 {
     let mut code = Code::new(alloc);
     number_into(&mut code, 3, 3, 5)?;
-    code.push(constant(5, 0))?;
-    code.push(store(9, 5, SITE))?;
-    code.push(call_number(6, 3, four(alloc, 5, 5, 1, 2)?))?;
+    let arguments = four(alloc, 5, 5, 1, 2)?;
+    push_three(
+        &mut code,
+        constant(5, 0),
+        store(9, 5, SITE),
+        call_number(6, 3, arguments),
+    )?;
     add_to(&mut code, 7, 4, 4)?;
     Ok(code)
 }
@@ -82,11 +92,14 @@ fn around_called(alloc: Global) -> Result<Code, NoMemory>
 {
     let mut code = Code::new(alloc);
     number_into(&mut code, 3, 3, 4)?;
-    code.push(constant(4, 4))?;
-    code.push(compute(4, Arithmetic::Add, 0, 4))?;
-    code.push(constant(5, 0))?;
-    code.push(call_number(6, 3, four(alloc, 5, 4, 1, 2)?))?;
-    code.push(return_word(6))?;
+    push_three(
+        &mut code,
+        constant(4, 4),
+        compute(4, Arithmetic::Add, 0, 4),
+        constant(5, 0),
+    )?;
+    let arguments = four(alloc, 5, 4, 1, 2)?;
+    push_two(&mut code, call_number(6, 3, arguments), return_word(6))?;
     Ok(code)
 }
 
@@ -109,10 +122,13 @@ fn primary_called(alloc: Global) -> Result<Code, NoMemory>
     let mut code = Code::new(alloc);
     code.push(load(3, 8, 0))?;
     number_into(&mut code, 3, 3, 4)?;
-    code.push(constant(4, 4))?;
-    code.push(compute(4, Arithmetic::Add, 8, 4))?;
-    code.push(constant(5, 0))?;
-    code.push(store(9, 5, SITE))?;
+    push_four(
+        &mut code,
+        constant(4, 4),
+        compute(4, Arithmetic::Add, 8, 4),
+        constant(5, 0),
+        store(9, 5, SITE),
+    )?;
     code.push(call_number(8, 3, four(alloc, 5, 4, 1, 2)?))?;
     code.append_list(after)?;
     code.push(return_word(8))?;
@@ -128,15 +144,20 @@ fn chain_run(alloc: Global) -> Result<Code, NoMemory>
     let before = methods_called(alloc, BEFORE)?;
     let primary = primary_called(alloc)?;
     let mut code = Code::new(alloc);
-    code.push(constant(5, 0))?;
-    code.push(load(9, 5, SITE))?;
+    push_two(&mut code, constant(5, 0), load(9, 5, SITE))?;
     kind_into(&mut code, 4, 3, 0)?;
-    code.push(constant(5, AROUND))?;
-    code.push(if_equal(4, 5, around, Code::new(alloc)))?;
-    code.push(move_word(7, 0))?;
-    code.push(move_word(8, 0))?;
-    code.push(constant(5, PRIMARY_BEHIND))?;
-    code.push(if_equal(4, 5, ahead, Code::new(alloc)))?;
+    push_three(
+        &mut code,
+        constant(5, AROUND),
+        if_equal(4, 5, around, Code::new(alloc)),
+        move_word(7, 0),
+    )?;
+    push_three(
+        &mut code,
+        move_word(8, 0),
+        constant(5, PRIMARY_BEHIND),
+        if_equal(4, 5, ahead, Code::new(alloc)),
+    )?;
     code.append_list(before)?;
     code.append_list(primary)?;
     Ok(code)
@@ -157,8 +178,11 @@ fn end_judged(alloc: Global, at: &Placement) -> Result<Code, NoMemory>
     let none = signals(alloc, at, 4, CONTROL_ERROR_CLASS)?;
     let mut code = Code::new(alloc);
     kind_into(&mut code, 4, 3, 0)?;
-    code.push(constant(5, CHAIN_END))?;
-    code.push(if_equal(4, 5, none, Code::new(alloc)))?;
+    push_two(
+        &mut code,
+        constant(5, CHAIN_END),
+        if_equal(4, 5, none, Code::new(alloc)),
+    )?;
     Ok(code)
 }
 
@@ -171,8 +195,7 @@ pub fn next_code(alloc: Global, at: &Placement) -> Result<Code, NoMemory>
     let judged = end_judged(alloc, at)?;
     let run = chain_run(alloc)?;
     let mut code = Code::new(alloc);
-    code.push(constant(3, 0))?;
-    code.push(if_equal(0, 3, none, judged))?;
+    push_two(&mut code, constant(3, 0), if_equal(0, 3, none, judged))?;
     code.append_list(run)?;
     Ok(code)
 }

@@ -14,7 +14,9 @@ use crate::given::Given;
 use crate::records::with_block;
 use crate::variables::dynamic_address;
 use back_leaves::leaves::{domain_error, routine, site_stored};
-use back_leaves::steps::{call, if_equal, move_word, one, store_far, two, word};
+use back_leaves::steps::{
+    call, if_equal, move_word, one, push_three, push_two, store_far, two, word,
+};
 use back_leaves::words::{
     BINDINGS, FUNCTION_CLASS, HANDLER_FUNCTION, HANDLER_OUTER, HANDLER_WORDS, HANDLERS, IS_FUNCTION,
 };
@@ -49,8 +51,11 @@ fn outer_into(
     if last {
         code.push(move_word(t, old))
     } else {
-        code.push(constant(t, offset + CELL))?;
-        code.push(compute(t, Arithmetic::Add, t, b))
+        push_two(
+            code,
+            constant(t, offset + CELL),
+            compute(t, Arithmetic::Add, t, b),
+        )
     }
 }
 
@@ -149,11 +154,13 @@ fn bindings_entered(
     let old = d + count + 1;
     let t = d + count + 2;
     let mut code = Code::new(alloc);
-    code.push(constant(t, 0))?;
-    code.push(load(old, t, BINDINGS))?;
+    push_two(&mut code, constant(t, 0), load(old, t, BINDINGS))?;
     bindings_laid(&mut code, given, d, b, old, t, list)?;
-    code.push(constant(t, 0))?;
-    code.push(store(innermost(list, b, old), t, BINDINGS))?;
+    push_two(
+        &mut code,
+        constant(t, 0),
+        store(innermost(list, b, old), t, BINDINGS),
+    )?;
     Ok(code)
 }
 
@@ -184,9 +191,12 @@ pub fn dynamic_let_code(
     let words = cell_words(count)?;
     let mut inside = bindings_entered(alloc, given, d, list)?;
     inside.append_list(body)?;
-    inside.push(constant(d, 0))?;
-    inside.push(store(d + count + 1, d, BINDINGS))?;
-    inside.push(move_word(d, d + count + 2))?;
+    push_three(
+        &mut inside,
+        constant(d, 0),
+        store(d + count + 1, d, BINDINGS),
+        move_word(d, d + count + 2),
+    )?;
     code.push(with_block(d + count, words, d, inside, Code::new(alloc)))
 }
 
@@ -198,15 +208,20 @@ fn handler_inside(alloc: Global, d: Register, body: Code) -> Result<Code, NoMemo
         ∷ (body ++ (steps.constant d 0 ∷ steps.store (d + 2) d handlers_address ∷ steps.move d (d + 3) ∷ []))) }
 {
     let mut code = Code::new(alloc);
-    code.push(store(d, d + 1, HANDLER_FUNCTION))?;
-    code.push(constant(d, 0))?;
-    code.push(load(d + 2, d, HANDLERS))?;
-    code.push(store(d + 2, d + 1, HANDLER_OUTER))?;
-    code.push(store(d + 1, d, HANDLERS))?;
+    push_two(&mut code, store(d, d + 1, HANDLER_FUNCTION), constant(d, 0))?;
+    push_three(
+        &mut code,
+        load(d + 2, d, HANDLERS),
+        store(d + 2, d + 1, HANDLER_OUTER),
+        store(d + 1, d, HANDLERS),
+    )?;
     code.append_list(body)?;
-    code.push(constant(d, 0))?;
-    code.push(store(d + 2, d, HANDLERS))?;
-    code.push(move_word(d, d + 3))?;
+    push_three(
+        &mut code,
+        constant(d, 0),
+        store(d + 2, d, HANDLERS),
+        move_word(d, d + 3),
+    )?;
     Ok(code)
 }
 
@@ -238,9 +253,13 @@ pub fn with_handler_code(
     let inside = handler_inside(alloc, d, body)?;
     let mut block = Code::new(alloc);
     block.push(with_block(d + 1, HANDLER_WORDS, d, inside, Code::new(alloc)))?;
-    code.push(call(d + 1, is_function, one(alloc, d)?))?;
-    code.push(constant(d + 2, 0))?;
-    code.push(if_equal(d + 1, d + 2, wrong, block))
+    let arguments = one(alloc, d)?;
+    push_three(
+        code,
+        call(d + 1, is_function, arguments),
+        constant(d + 2, 0),
+        if_equal(d + 1, d + 2, wrong, block),
+    )
 }
 
 /// A routine is called with the words in d and the next register, by how many routines stand before it.

@@ -18,7 +18,7 @@ use crate::given::{Given, flag};
 use crate::records::with_block;
 use back_leaves::leaves::{failing, failing_with, routine, site_stored};
 use back_leaves::registers::{list_of, registers, words_stored};
-use back_leaves::steps::{call, three, word};
+use back_leaves::steps::{call, push_four, push_two, three, word};
 use back_leaves::words::{
     FUNCTION, GENERIC, LEVEL, MOST_REGISTERS, PROGRAM_ERROR_CLASS, UNDEFINED_FUNCTION_CLASS,
 };
@@ -137,8 +137,7 @@ fn enter_body(
     let mut arguments = variables;
     without_chain(&mut arguments, method, t)?;
     site_for(code, asks, site, t, t + 1)?;
-    code.push(constant(t, 0))?;
-    code.push(call(d, body, arguments))
+    push_two(code, constant(t, 0), call(d, body, arguments))
 }
 
 // A wrong number of arguments is judged where there is a level.
@@ -268,8 +267,11 @@ fn no_procedure(code: &mut Code, alloc: Global, given: &Given, d: Register) -> R
     ensures { OnOk result (code.new ≡ code.old ++ (steps.call d (level_routine given.now.at.now) [] ∷ steps.constant d nil_word ∷ [])) }
 {
     let level = routine(given.at, LEVEL)?;
-    code.push(call(d, level, RegisterList::new(alloc)))?;
-    code.push(constant(d, NIL))
+    push_two(
+        code,
+        call(d, level, RegisterList::new(alloc)),
+        constant(d, NIL),
+    )
 }
 
 // The address of the word of a generic function.
@@ -301,10 +303,14 @@ fn apply_generic(
     let counting = d + count + 2;
     let mut code = Code::new(alloc);
     site_stored(&mut code, site, t, counting)?;
-    code.push(constant(t, address))?;
-    code.push(load(t, t, 0))?;
-    code.push(constant(counting, words))?;
-    code.push(call(d, generic, three(alloc, t, counting, d + count)?))?;
+    let arguments = three(alloc, t, counting, d + count)?;
+    push_four(
+        &mut code,
+        constant(t, address),
+        load(t, t, 0),
+        constant(counting, words),
+        call(d, generic, arguments),
+    )?;
     Ok(code)
 }
 
@@ -383,8 +389,8 @@ fn apply_function(
     let t = d + count + 2;
     let mut code = Code::new(alloc);
     site_stored(&mut code, site, t, d + count + 3)?;
-    code.push(constant(t, words))?;
-    code.push(call(d, function, three(alloc, d, t, d + 1 + count)?))?;
+    let arguments = three(alloc, d, t, d + 1 + count)?;
+    push_two(&mut code, constant(t, words), call(d, function, arguments))?;
     Ok(code)
 }
 

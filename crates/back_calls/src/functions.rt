@@ -10,7 +10,7 @@ ghost use Rattle.back_lowering.specs.Steps as steps;
 
 use crate::given::Given;
 use back_leaves::leaves::{captured_into, captured_variable, exit_into};
-use back_leaves::steps::{if_equal, request, store_far, word};
+use back_leaves::steps::{if_equal, push_four, push_two, request, store_far, word};
 use back_leaves::words::MOST_REGISTERS;
 use back_lowering::{Placement, Scope};
 use base::NoMemory;
@@ -26,8 +26,11 @@ fn in_front(alloc: Global, t: Register, method: Register) -> Result<Code, NoMemo
     ensures { IfOk result (λ code. code ≡ steps.constant t 8 ∷ steps.compute t arithmetic.Subtract (method + 2) t ∷ []) }
 {
     let mut code = Code::new(alloc);
-    code.push(constant(t, 8))?;
-    code.push(compute(t, Arithmetic::Subtract, method + 2, t))?;
+    push_two(
+        &mut code,
+        constant(t, 8),
+        compute(t, Arithmetic::Subtract, method + 2, t),
+    )?;
     Ok(code)
 }
 
@@ -48,8 +51,11 @@ fn own_method_into(
                 return Err(NoMemory);
             }
             let front = in_front(alloc, t, method)?;
-            code.push(constant(t, 0))?;
-            code.push(if_equal(method, t, Code::new(alloc), front))
+            push_two(
+                code,
+                constant(t, 0),
+                if_equal(method, t, Code::new(alloc), front),
+            )
         }
     }
 }
@@ -136,13 +142,18 @@ pub fn function_code(
 {
     let words = function_words(parts.len())?;
     let entry = entry_word(given.at, number)?;
-    code.push(constant(d, words))?;
-    code.push(request(d, d))?;
-    code.push(constant(d + 1, FUNCTION))?;
-    code.push(store(d + 1, d, 0))?;
-    code.push(constant(d + 1, entry))?;
-    code.push(store(d + 1, d, 4))?;
+    push_four(
+        code,
+        constant(d, words),
+        request(d, d),
+        constant(d + 1, FUNCTION),
+        store(d + 1, d, 0),
+    )?;
+    push_two(code, constant(d + 1, entry), store(d + 1, d, 4))?;
     parts_stored(code, alloc, given, scope, d, d + 1, parts)?;
-    code.push(constant(d + 1, OBJECT))?;
-    code.push(compute(d, Arithmetic::Add, d, d + 1))
+    push_two(
+        code,
+        constant(d + 1, OBJECT),
+        compute(d, Arithmetic::Add, d, d + 1),
+    )
 }

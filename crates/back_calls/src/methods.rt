@@ -12,7 +12,9 @@ ghost use Rattle.back_lowering.specs.Steps as steps;
 use crate::given::Given;
 use back_leaves::leaves::{captured_into, routine, site_stored};
 use back_leaves::primitives::truth;
-use back_leaves::steps::{call, if_equal, move_word, setting, three};
+use back_leaves::steps::{
+    call, if_equal, move_word, push_four, push_three, push_two, setting, three,
+};
 use back_leaves::words::{CHAIN_END, MOST_REGISTERS, NEXT};
 use back_lowering::Scope;
 use base::NoMemory;
@@ -28,10 +30,13 @@ fn kept_method(alloc: Global, t: Register) -> Result<Code, NoMemory>
     ensures { IfOk result (λ code. code ≡ steps.load t (t + 2) 0 ∷ steps.load (t + 1) (t + 2) 4 ∷ steps.constant (t + 3) 8 ∷ steps.compute (t + 2) arithmetic.Add (t + 2) (t + 3) ∷ []) }
 {
     let mut code = Code::new(alloc);
-    code.push(load(t, t + 2, 0))?;
-    code.push(load(t + 1, t + 2, 4))?;
-    code.push(constant(t + 3, 8))?;
-    code.push(compute(t + 2, Arithmetic::Add, t + 2, t + 3))?;
+    push_four(
+        &mut code,
+        load(t, t + 2, 0),
+        load(t + 1, t + 2, 4),
+        constant(t + 3, 8),
+        compute(t + 2, Arithmetic::Add, t + 2, t + 3),
+    )?;
     Ok(code)
 }
 
@@ -41,18 +46,17 @@ fn own_method(code: &mut Code, given: &Given, scope: &Scope, t: Register) -> Res
     ensures { OnOk result (code.new ≡ code.old ++ codes.method_into given.now.names.now given.now.at.now given.now.program.now scope.now t method_place.Own) }
 {
     match scope.method {
-        None => {
-            code.push(constant(t, 0))?;
-            code.push(constant(t + 1, 0))?;
-            code.push(constant(t + 2, 0))
-        }
+        None => push_three(code, constant(t, 0), constant(t + 1, 0), constant(t + 2, 0)),
         Some(method) => {
             if method >= MOST_REGISTERS {
                 return Err(NoMemory);
             }
-            code.push(move_word(t, method))?;
-            code.push(move_word(t + 1, method + 1))?;
-            code.push(move_word(t + 2, method + 2))
+            push_three(
+                code,
+                move_word(t, method),
+                move_word(t + 1, method + 1),
+                move_word(t + 2, method + 2),
+            )
         }
     }
 }
@@ -75,8 +79,7 @@ pub fn method_into(
             let none = setting(alloc, t + 1, 0)?;
             let kept = kept_method(alloc, t)?;
             captured_into(code, scope, t + 2, number)?;
-            code.push(constant(t, 0))?;
-            code.push(if_equal(t + 2, t, none, kept))
+            push_two(code, constant(t, 0), if_equal(t + 2, t, none, kept))
         }
     }
 }
@@ -108,9 +111,12 @@ fn is_left(alloc: Global, d: Register) -> Result<Code, NoMemory>
     let nil = setting(alloc, d, NIL)?;
     let truth = truth(alloc, d)?;
     let mut code = Code::new(alloc);
-    code.push(load(d, d, 0))?;
-    code.push(constant(d + 1, CHAIN_END))?;
-    code.push(if_equal(d, d + 1, nil, truth))?;
+    push_three(
+        &mut code,
+        load(d, d, 0),
+        constant(d + 1, CHAIN_END),
+        if_equal(d, d + 1, nil, truth),
+    )?;
     Ok(code)
 }
 
@@ -129,6 +135,5 @@ pub fn has_next_code(
     let nil = setting(alloc, d, NIL)?;
     let left = is_left(alloc, d)?;
     method_into(code, alloc, given, scope, d, place)?;
-    code.push(constant(d + 1, 0))?;
-    code.push(if_equal(d, d + 1, nil, left))
+    push_two(code, constant(d + 1, 0), if_equal(d, d + 1, nil, left))
 }

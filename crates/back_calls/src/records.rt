@@ -12,7 +12,9 @@ ghost use Rattle.back_lowering.specs.Routines.{transfer_routine};
 ghost use Rattle.back_lowering.specs.Steps as steps;
 
 use back_leaves::leaves::{routine, site_stored};
-use back_leaves::steps::{call, if_different, move_word, three, two};
+use back_leaves::steps::{
+    call, if_different, move_word, push_four, push_three, push_two, three, two,
+};
 use back_leaves::words::{
     BINDINGS, CATCH_KIND, CLEANUP_KIND, CURRENT, EXIT_KIND, HANDLERS, LANDING, LEAVE, LINK,
     RECORD_KIND, RECORD_LINK, RECORD_OUTER, RECORD_SERIAL, RECORD_TAG, RECORD_WORDS, SERIALS,
@@ -33,11 +35,13 @@ fn record_linked(code: &mut Code, b: Register, t: Register, kind: u32) -> Result
     requires free { t < 2 ^ 62 }
     ensures { OnOk result (code.new ≡ code.old ++ laying.record_linked b t kind) }
 {
-    code.push(constant(t, 0))?;
-    code.push(constant(t + 1, kind))?;
-    code.push(store(t + 1, b, RECORD_KIND))?;
-    code.push(load(b + 1, t, CURRENT))?;
-    code.push(store(b + 1, b, RECORD_OUTER))
+    push_three(
+        code,
+        constant(t, 0),
+        constant(t + 1, kind),
+        store(t + 1, b, RECORD_KIND),
+    )?;
+    push_two(code, load(b + 1, t, CURRENT), store(b + 1, b, RECORD_OUTER))
 }
 
 // The link, the handlers and the bindings outside are kept, and the record is the current one.
@@ -45,10 +49,13 @@ fn record_kept(code: &mut Code, b: Register, t: Register) -> Result<(), NoMemory
     requires { b < 2 ^ 62 }
     ensures { OnOk result (code.new ≡ code.old ++ laying.record_kept b t) }
 {
-    code.push(load(b + 2, t, LINK))?;
-    code.push(load(b + 3, t, HANDLERS))?;
-    code.push(load(b + 4, t, BINDINGS))?;
-    code.push(store(b, t, CURRENT))
+    push_four(
+        code,
+        load(b + 2, t, LINK),
+        load(b + 3, t, HANDLERS),
+        load(b + 4, t, BINDINGS),
+        store(b, t, CURRENT),
+    )
 }
 
 /// A record of a kind, in register b, is the current one; what was outside is kept in the four registers behind b. t and the next one are
@@ -83,10 +90,13 @@ fn exit_drawn(code: &mut Code, e: Register, b: Register, t: Register) -> Result<
     requires { b < 2 ^ 62 }
     ensures { OnOk result (code.new ≡ code.old ++ laying.exit_drawn e b t) }
 {
-    code.push(drawn(e, t))?;
-    code.push(store(e, b, RECORD_SERIAL))?;
-    code.push(store(b + 2, b, RECORD_LINK))?;
-    code.push(store(b, t, LINK))
+    push_four(
+        code,
+        drawn(e, t),
+        store(e, b, RECORD_SERIAL),
+        store(b + 2, b, RECORD_LINK),
+        store(b, t, LINK),
+    )
 }
 
 // The next serial number.
@@ -105,9 +115,12 @@ pub fn record_left(code: &mut Code, b: Register, t: Register) -> Result<(), NoMe
     requires { b < 2 ^ 62 }
     ensures { OnOk result (code.new ≡ code.old ++ records.record_left b t) }
 {
-    code.push(constant(t, 0))?;
-    code.push(store(b + 1, t, CURRENT))?;
-    code.push(store(b + 2, t, LINK))
+    push_three(
+        code,
+        constant(t, 0),
+        store(b + 1, t, CURRENT),
+        store(b + 2, t, LINK),
+    )
 }
 
 /// The landing: handlers and bindings too are those of where the record was laid.
@@ -116,8 +129,7 @@ pub fn record_landed(code: &mut Code, b: Register, t: Register) -> Result<(), No
     ensures { OnOk result (code.new ≡ code.old ++ records.record_landed b t) }
 {
     record_left(code, b, t)?;
-    code.push(store(b + 3, t, HANDLERS))?;
-    code.push(store(b + 4, t, BINDINGS))
+    push_two(code, store(b + 3, t, HANDLERS), store(b + 4, t, BINDINGS))
 }
 
 /// A block of the stack, with the code inside and the landing.
@@ -214,13 +226,17 @@ fn segments_code(
     ensures { OnOk result (code.new ≡ code.old ++ records.segments_code d segments (codes_of bodies)) }
 {
     let mut head = Code::new(alloc);
-    head.push(CodeStep::new(StepKind::Switch {
+    let switch = CodeStep::new(StepKind::Switch {
         register: d + 6,
         codes: bodies,
-    }))?;
-    head.push(constant(d + 7, 1))?;
-    head.push(compute(d + 6, Arithmetic::Add, d + 6, d + 7))?;
-    head.push(constant(d + 7, segments))?;
+    });
+    push_four(
+        &mut head,
+        switch,
+        constant(d + 7, 1),
+        compute(d + 6, Arithmetic::Add, d + 6, d + 7),
+        constant(d + 7, segments),
+    )?;
     code.push(CodeStep::new(StepKind::Repeat {
         counted: Counted::Turn,
         head,
@@ -251,9 +267,12 @@ fn segments_inside(
 {
     let mut code = Code::new(alloc);
     record_laid(&mut code, d + 1, d + 7, EXIT_KIND)?;
-    code.push(store(d, d + 1, RECORD_SERIAL))?;
-    code.push(store(d + 3, d + 1, RECORD_LINK))?;
-    code.push(store(d + 1, d + 7, LINK))?;
+    push_three(
+        &mut code,
+        store(d, d + 1, RECORD_SERIAL),
+        store(d + 3, d + 1, RECORD_LINK),
+        store(d + 1, d + 7, LINK),
+    )?;
     segments_code(&mut code, alloc, d, segments, bodies)?;
     record_left(&mut code, d + 1, d + 7)?;
     Ok(code)
@@ -304,9 +323,12 @@ fn tagbody_begun(code: &mut Code, d: Register) -> Result<(), NoMemory>
     requires { d < 2 ^ 61 }
     ensures { OnOk result (code.new ≡ code.old ++ laying.tagbody_begun d) }
 {
-    code.push(constant(d + 6, 0))?;
-    code.push(constant(d + 7, 0))?;
-    code.push(drawn(d, d + 7))
+    push_three(
+        code,
+        constant(d + 6, 0),
+        constant(d + 7, 0),
+        drawn(d, d + 7),
+    )
 }
 
 /// A tagbody. A transfer goes on at one of its segments, a level below, with the same serial number.
@@ -344,9 +366,12 @@ fn unwind_landing(alloc: Global, d: Register) -> Result<Code, NoMemory>
     ensures { IfOk result (λ code. code ≡ laying.unwind_landing d) }
 {
     let mut code = landing_of(alloc, d + 1, d + 6)?;
-    code.push(load(d + 1, d + 6, TARGET))?;
-    code.push(load(d + 2, d + 6, LANDING))?;
-    code.push(store(d + 1, d + 6, LINK))?;
+    push_three(
+        &mut code,
+        load(d + 1, d + 6, TARGET),
+        load(d + 2, d + 6, LANDING),
+        store(d + 1, d + 6, LINK),
+    )?;
     Ok(code)
 }
 
@@ -367,8 +392,12 @@ fn transfer_on(alloc: Global, at: &Placement, d: Register) -> Result<Code, NoMem
 {
     let transfer = routine(at, TRANSFER)?;
     let mut code = Code::new(alloc);
-    code.push(store(d + 2, d + 3, LANDING))?;
-    code.push(call(d, transfer, two(alloc, d + 1, d)?))?;
+    let arguments = two(alloc, d + 1, d)?;
+    push_two(
+        &mut code,
+        store(d + 2, d + 3, LANDING),
+        call(d, transfer, arguments),
+    )?;
     Ok(code)
 }
 
@@ -378,8 +407,11 @@ fn unwind_end(code: &mut Code, alloc: Global, at: &Placement, d: Register) -> Re
     ensures { OnOk result (code.new ≡ code.old ++ laying.unwind_end at.now d) }
 {
     let going = transfer_on(alloc, at, d)?;
-    code.push(constant(d + 3, 0))?;
-    code.push(if_different(d + 1, d + 3, going, Code::new(alloc)))
+    push_two(
+        code,
+        constant(d + 3, 0),
+        if_different(d + 1, d + 3, going, Code::new(alloc)),
+    )
 }
 
 /// A form with a cleanup.
@@ -423,9 +455,12 @@ fn landing_kept(code: &mut Code, t: Register, landing: u32) -> Result<(), NoMemo
     requires { t < 2 ^ 62 }
     ensures { OnOk result (code.new ≡ code.old ++ records.landing_kept t landing) }
 {
-    code.push(constant(t, landing))?;
-    code.push(constant(t + 1, 0))?;
-    code.push(store(t, t + 1, LANDING))
+    push_three(
+        code,
+        constant(t, landing),
+        constant(t + 1, 0),
+        store(t, t + 1, LANDING),
+    )
 }
 
 /// The word in d goes to an exit of the same activation.

@@ -12,7 +12,7 @@ use crate::calls::symbol_word;
 use crate::given::{Given, row_of};
 use back_leaves::known::literal_word;
 use back_leaves::leaves::{failing_with, routine};
-use back_leaves::steps::{call, if_equal, load_from, one, store_to};
+use back_leaves::steps::{call, if_equal, load_from, one, push_three, push_two, store_to};
 use back_leaves::words::{BINDING, UNBOUND_VARIABLE_CLASS, UNDEFINED_FUNCTION_CLASS};
 use back_lowering::{Placement, SitePlace};
 use base::{Name, NoMemory};
@@ -134,8 +134,11 @@ fn if_bound(
     ensures { OnOk result (code.new ≡ code.old ++ codes.if_bound given.now.names.now given.now.at.now given.now.program.now site d name.0) }
 {
     let wrong = unbound(alloc, given.at, site, d, name)?;
-    code.push(constant(d + 1, UNBOUND))?;
-    code.push(if_equal(d, d + 1, wrong, Code::new(alloc)))
+    push_two(
+        code,
+        constant(d + 1, UNBOUND),
+        if_equal(d, d + 1, wrong, Code::new(alloc)),
+    )
 }
 
 /// The value of a global variable.
@@ -171,8 +174,11 @@ pub fn set_global_code(
     let mut set = Code::new(alloc);
     store_to(&mut set, d, d + 1, address)?;
     load_from(code, d + 1, d + 1, address)?;
-    code.push(constant(d + 2, UNBOUND))?;
-    code.push(if_equal(d + 1, d + 2, wrong, set))
+    push_two(
+        code,
+        constant(d + 2, UNBOUND),
+        if_equal(d + 1, d + 2, wrong, set),
+    )
 }
 
 /// The word in d is that of a variable that is defined.
@@ -200,8 +206,12 @@ fn binding_into(
     ensures { OnOk result (code.new ≡ code.old ++ codes.binding_into given.now.names.now given.now.at.now given.now.program.now t name.0) }
 {
     let binding = routine(given.at, BINDING)?;
-    code.push(constant(t, dynamic_address(given.at, name)))?;
-    code.push(call(t, binding, one(alloc, t)?))
+    let arguments = one(alloc, t)?;
+    push_two(
+        code,
+        constant(t, dynamic_address(given.at, name)),
+        call(t, binding, arguments),
+    )
 }
 
 /// The value of a dynamic variable.
@@ -237,9 +247,12 @@ pub fn set_dynamic_code(
     let mut set = Code::new(alloc);
     set.push(store(d, d + 1, 0))?;
     binding_into(code, alloc, given, d + 1, name)?;
-    code.push(load(d + 2, d + 1, 0))?;
-    code.push(constant(d + 3, UNBOUND))?;
-    code.push(if_equal(d + 2, d + 3, wrong, set))
+    push_three(
+        code,
+        load(d + 2, d + 1, 0),
+        constant(d + 3, UNBOUND),
+        if_equal(d + 2, d + 3, wrong, set),
+    )
 }
 
 /// The word in d is the outermost one of a dynamic variable.

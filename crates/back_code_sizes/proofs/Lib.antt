@@ -7,4 +7,3 @@ pub mod Codes
 pub mod Forms
 pub mod Routines
 pub mod Programs
-pub mod Nodes

@@ -3,4 +3,4 @@
 
 pub mod laws;
 
-pub use laws::{law_code_sizes, law_form_sizes, law_node_sizes};
+pub use laws::{law_code_sizes, law_form_sizes};

@@ -5,7 +5,7 @@ ghost use Rattle.back_lowering.specs.RoutineCodes as routines;
 ghost use Rattle.back_control_routines.specs.Parts as parts;
 
 use back_leaves::routine_steps::{add_to, turns_while};
-use back_leaves::steps::{if_equal, move_word, request, setting};
+use back_leaves::steps::{if_equal, move_word, push_four, push_three, push_two, request, setting};
 use back_leaves::words::BINDINGS;
 use back_lowering::Placement;
 use base::NoMemory;
@@ -28,8 +28,7 @@ pub fn level_code(alloc: Global, at: &Placement) -> Result<Code, NoMemory>
     ensures { IfOk result (λ code. code ≡ routines.level_code at.now) }
 {
     let mut code = Code::new(alloc);
-    code.push(constant(0, 0))?;
-    code.push(return_word(0))?;
+    push_two(&mut code, constant(0, 0), return_word(0))?;
     Ok(code)
 }
 
@@ -38,17 +37,26 @@ fn cons_in_front(alloc: Global) -> Result<Code, NoMemory>
     ensures { IfOk result (λ code. code ≡ parts.cons_in_front) }
 {
     let mut code = Code::new(alloc);
-    code.push(constant(4, 1))?;
-    code.push(compute(1, Arithmetic::Subtract, 1, 4))?;
-    code.push(constant(4, 4))?;
-    code.push(compute(0, Arithmetic::Subtract, 0, 4))?;
-    code.push(load(5, 0, 0))?;
-    code.push(constant(4, 2))?;
-    code.push(request(4, 4))?;
-    code.push(store(5, 4, 0))?;
-    code.push(store(2, 4, 4))?;
-    code.push(constant(5, CONS))?;
-    code.push(compute(2, Arithmetic::Add, 4, 5))?;
+    push_four(
+        &mut code,
+        constant(4, 1),
+        compute(1, Arithmetic::Subtract, 1, 4),
+        constant(4, 4),
+        compute(0, Arithmetic::Subtract, 0, 4),
+    )?;
+    push_four(
+        &mut code,
+        load(5, 0, 0),
+        constant(4, 2),
+        request(4, 4),
+        store(5, 4, 0),
+    )?;
+    push_three(
+        &mut code,
+        store(2, 4, 4),
+        constant(5, CONS),
+        compute(2, Arithmetic::Add, 4, 5),
+    )?;
     Ok(code)
 }
 
@@ -59,13 +67,19 @@ pub fn list_code(alloc: Global, at: &Placement) -> Result<Code, NoMemory>
 {
     let body = cons_in_front(alloc)?;
     let mut code = Code::new(alloc);
-    code.push(constant(3, 2))?;
-    code.push(compute(4, Arithmetic::ShiftLeft, 1, 3))?;
-    code.push(compute(0, Arithmetic::Add, 0, 4))?;
-    code.push(constant(2, NIL))?;
-    code.push(constant(3, 0))?;
-    code.push(turns_while(Code::new(alloc), 1, 3, body))?;
-    code.push(return_word(2))?;
+    push_four(
+        &mut code,
+        constant(3, 2),
+        compute(4, Arithmetic::ShiftLeft, 1, 3),
+        compute(0, Arithmetic::Add, 0, 4),
+        constant(2, NIL),
+    )?;
+    push_three(
+        &mut code,
+        constant(3, 0),
+        turns_while(Code::new(alloc), 1, 3, body),
+        return_word(2),
+    )?;
     Ok(code)
 }
 
@@ -74,8 +88,7 @@ fn word_copied(alloc: Global) -> Result<Code, NoMemory>
     ensures { IfOk result (λ code. code ≡ parts.word_copied) }
 {
     let mut code = Code::new(alloc);
-    code.push(load(7, 2, 0))?;
-    code.push(store(7, 6, 0))?;
+    push_two(&mut code, load(7, 2, 0), store(7, 6, 0))?;
     add_to(&mut code, 2, 7, 4)?;
     add_to(&mut code, 6, 7, 4)?;
     Ok(code)
@@ -88,17 +101,25 @@ pub fn method_code(alloc: Global, at: &Placement) -> Result<Code, NoMemory>
 {
     let body = word_copied(alloc)?;
     let mut code = Code::new(alloc);
-    code.push(constant(3, 2))?;
-    code.push(compute(4, Arithmetic::Add, 1, 3))?;
-    code.push(request(4, 4))?;
-    code.push(store(0, 4, 0))?;
-    code.push(store(1, 4, 4))?;
+    push_three(
+        &mut code,
+        constant(3, 2),
+        compute(4, Arithmetic::Add, 1, 3),
+        request(4, 4),
+    )?;
+    push_two(&mut code, store(0, 4, 0), store(1, 4, 4))?;
     add_to(&mut code, 4, 5, 8)?;
-    code.push(compute(5, Arithmetic::ShiftLeft, 1, 3))?;
-    code.push(compute(5, Arithmetic::Add, 5, 2))?;
-    code.push(move_word(6, 4))?;
-    code.push(turns_while(Code::new(alloc), 2, 5, body))?;
-    code.push(return_word(4))?;
+    push_three(
+        &mut code,
+        compute(5, Arithmetic::ShiftLeft, 1, 3),
+        compute(5, Arithmetic::Add, 5, 2),
+        move_word(6, 4),
+    )?;
+    push_two(
+        &mut code,
+        turns_while(Code::new(alloc), 2, 5, body),
+        return_word(4),
+    )?;
     Ok(code)
 }
 
@@ -108,11 +129,17 @@ fn binding_asked(alloc: Global) -> Result<Code, NoMemory>
 {
     let other = setting(alloc, 4, 1)?;
     let mut cell = Code::new(alloc);
-    cell.push(load(3, 2, VARIABLE))?;
-    cell.push(if_equal(3, 0, Code::new(alloc), other))?;
+    push_two(
+        &mut cell,
+        load(3, 2, VARIABLE),
+        if_equal(3, 0, Code::new(alloc), other),
+    )?;
     let mut code = Code::new(alloc);
-    code.push(constant(4, 0))?;
-    code.push(if_equal(2, 1, Code::new(alloc), cell))?;
+    push_two(
+        &mut code,
+        constant(4, 0),
+        if_equal(2, 1, Code::new(alloc), cell),
+    )?;
     Ok(code)
 }
 
@@ -130,10 +157,13 @@ pub fn binding_code(alloc: Global, at: &Placement) -> Result<Code, NoMemory>
     add_to(&mut inner, 2, 3, VALUE)?;
     inner.push(return_word(2))?;
     let mut code = Code::new(alloc);
-    code.push(constant(1, 0))?;
-    code.push(load(2, 1, BINDINGS))?;
-    code.push(turns_while(head, 4, 1, body))?;
-    code.push(if_equal(2, 1, outermost, inner))?;
+    push_four(
+        &mut code,
+        constant(1, 0),
+        load(2, 1, BINDINGS),
+        turns_while(head, 4, 1, body),
+        if_equal(2, 1, outermost, inner),
+    )?;
     Ok(code)
 }
 
@@ -143,7 +173,6 @@ pub fn class_code(alloc: Global, at: &Placement) -> Result<Code, NoMemory>
     ensures { IfOk result (λ code. code ≡ routines.class_code at.now) }
 {
     let mut code = class_word(alloc, 1, 0)?;
-    code.push(load(1, 1, 2))?;
-    code.push(return_word(1))?;
+    push_two(&mut code, load(1, 1, 2), return_word(1))?;
     Ok(code)
 }

@@ -8,7 +8,9 @@ use back_calls::records::{exit_laid, record_landed, record_left, with_block};
 use back_leaves::leaves::routine;
 use back_leaves::primitives::where_tag;
 use back_leaves::routine_steps::{returning, signals_domain};
-use back_leaves::steps::{call, if_different, if_equal, one, request, three, two};
+use back_leaves::steps::{
+    call, if_different, if_equal, one, push_four, push_three, push_two, request, three, two,
+};
 use back_leaves::words::{
     CONTROL_ERROR_CLASS, END, FAILING, FUNCTION, HANDLER_FUNCTION, HANDLER_OUTER, HANDLERS,
     LANDING, RAISE, RECORD_MARK, RECORD_TAG, RECORD_WORDS, SERIALS, SERIOUS_CONDITION_CLASS,
@@ -26,13 +28,19 @@ fn mark_set(alloc: Global) -> Result<Code, NoMemory>
     ensures { IfOk result (λ code. code ≡ parts.mark_set) }
 {
     let mut code = Code::new(alloc);
-    code.push(load(2, 0, -2))?;
-    code.push(constant(3, 4))?;
-    code.push(compute(2, Arithmetic::ShiftRight, 2, 3))?;
-    code.push(constant(3, 2))?;
-    code.push(compute(2, Arithmetic::ShiftLeft, 2, 3))?;
-    code.push(compute(2, Arithmetic::Add, 2, 0))?;
-    code.push(store(1, 2, 6))?;
+    push_four(
+        &mut code,
+        load(2, 0, -2),
+        constant(3, 4),
+        compute(2, Arithmetic::ShiftRight, 2, 3),
+        constant(3, 2),
+    )?;
+    push_three(
+        &mut code,
+        compute(2, Arithmetic::ShiftLeft, 2, 3),
+        compute(2, Arithmetic::Add, 2, 0),
+        store(1, 2, 6),
+    )?;
     Ok(code)
 }
 
@@ -47,9 +55,12 @@ fn unhandled_code(alloc: Global, at: &Placement) -> Result<Code, NoMemory>
         base: 3,
         offset: SERIALS,
     })))?;
-    code.push(load(5, 3, SITE))?;
-    code.push(store(5, 3, LANDING))?;
-    code.push(load(5, 3, END))?;
+    push_three(
+        &mut code,
+        load(5, 3, SITE),
+        store(5, 3, LANDING),
+        load(5, 3, END),
+    )?;
     returning(&mut code, 6, transfer, two(alloc, 5, 0)?)?;
     Ok(code)
 }
@@ -60,8 +71,7 @@ fn applied(alloc: Global, at: &Placement) -> Result<Code, NoMemory>
 {
     let function = routine(at, FUNCTION)?;
     let mut code = Code::new(alloc);
-    code.push(store(0, 16, 0))?;
-    code.push(constant(17, 1))?;
+    push_two(&mut code, store(0, 16, 0), constant(17, 1))?;
     code.push(call(6, function, three(alloc, 5, 17, 16)?))?;
     Ok(code)
 }
@@ -72,9 +82,12 @@ fn returned(alloc: Global, at: &Placement) -> Result<Code, NoMemory>
 {
     let failing = routine(at, FAILING)?;
     let mut code = Code::new(alloc);
-    code.push(constant(5, 0))?;
-    code.push(store(7, 5, SITE))?;
-    code.push(constant(5, CONTROL_ERROR_CLASS))?;
+    push_three(
+        &mut code,
+        constant(5, 0),
+        store(7, 5, SITE),
+        constant(5, CONTROL_ERROR_CLASS),
+    )?;
     code.push(call(6, failing, one(alloc, 5)?))?;
     record_left(&mut code, 8, 14)?;
     Ok(code)
@@ -87,13 +100,15 @@ fn handler_inside(alloc: Global, at: &Placement) -> Result<Code, NoMemory>
     let applied = applied(alloc, at)?;
     let returned = returned(alloc, at)?;
     let mut code = Code::new(alloc);
-    code.push(store(0, 8, RECORD_TAG))?;
-    code.push(store(1, 8, RECORD_MARK))?;
+    push_two(&mut code, store(0, 8, RECORD_TAG), store(1, 8, RECORD_MARK))?;
     exit_laid(&mut code, 13, 8, 14, SIGNAL_KIND)?;
-    code.push(load(5, 4, HANDLER_OUTER))?;
-    code.push(store(5, 14, HANDLERS))?;
-    code.push(load(5, 4, HANDLER_FUNCTION))?;
-    code.push(with_block(16, 1, 6, applied, Code::new(alloc)))?;
+    push_four(
+        &mut code,
+        load(5, 4, HANDLER_OUTER),
+        store(5, 14, HANDLERS),
+        load(5, 4, HANDLER_FUNCTION),
+        with_block(16, 1, 6, applied, Code::new(alloc)),
+    )?;
     code.append_list(returned)?;
     Ok(code)
 }
@@ -106,9 +121,12 @@ fn handler_applied(alloc: Global, at: &Placement) -> Result<Code, NoMemory>
     let mut landing = Code::new(alloc);
     record_landed(&mut landing, 8, 14)?;
     let mut code = Code::new(alloc);
-    code.push(load(7, 3, SITE))?;
-    code.push(with_block(8, RECORD_WORDS, 6, inside, landing))?;
-    code.push(return_word(6))?;
+    push_three(
+        &mut code,
+        load(7, 3, SITE),
+        with_block(8, RECORD_WORDS, 6, inside, landing),
+        return_word(6),
+    )?;
     Ok(code)
 }
 
@@ -120,9 +138,12 @@ pub fn raise_code(alloc: Global, at: &Placement) -> Result<Code, NoMemory>
     let unhandled = unhandled_code(alloc, at)?;
     let handled = handler_applied(alloc, at)?;
     let mut code = mark_set(alloc)?;
-    code.push(constant(3, 0))?;
-    code.push(load(4, 3, HANDLERS))?;
-    code.push(if_equal(4, 3, unhandled, handled))?;
+    push_three(
+        &mut code,
+        constant(3, 0),
+        load(4, 3, HANDLERS),
+        if_equal(4, 3, unhandled, handled),
+    )?;
     Ok(code)
 }
 
@@ -134,10 +155,13 @@ fn condition_raised(alloc: Global, at: &Placement) -> Result<Code, NoMemory>
     let mut raised = Code::new(alloc);
     returning(&mut raised, 4, raise, two(alloc, 0, 1)?)?;
     let mut code = Code::new(alloc);
-    code.push(load(2, 0, 2))?;
-    code.push(load(2, 2, 14))?;
-    code.push(constant(3, NIL))?;
-    code.push(if_different(2, 3, raised, Code::new(alloc)))?;
+    push_four(
+        &mut code,
+        load(2, 0, 2),
+        load(2, 2, 14),
+        constant(3, NIL),
+        if_different(2, 3, raised, Code::new(alloc)),
+    )?;
     Ok(code)
 }
 
@@ -147,11 +171,17 @@ fn object_raised(alloc: Global, at: &Placement) -> Result<Code, NoMemory>
 {
     let raised = condition_raised(alloc, at)?;
     let mut code = Code::new(alloc);
-    code.push(load(2, 0, -2))?;
-    code.push(constant(3, 28))?;
-    code.push(compute(2, Arithmetic::ShiftLeft, 2, 3))?;
-    code.push(constant(3, 805_306_368))?;
-    code.push(if_equal(2, 3, raised, Code::new(alloc)))?;
+    push_three(
+        &mut code,
+        load(2, 0, -2),
+        constant(3, 28),
+        compute(2, Arithmetic::ShiftLeft, 2, 3),
+    )?;
+    push_two(
+        &mut code,
+        constant(3, 805_306_368),
+        if_equal(2, 3, raised, Code::new(alloc)),
+    )?;
     Ok(code)
 }
 
@@ -175,9 +205,12 @@ pub fn pending_code(alloc: Global, at: &Placement) -> Result<Code, NoMemory>
 {
     let raise = routine(at, RAISE)?;
     let mut code = Code::new(alloc);
-    code.push(constant(0, 0))?;
-    code.push(load(0, 0, PENDING_AT))?;
-    code.push(constant(1, NIL))?;
+    push_three(
+        &mut code,
+        constant(0, 0),
+        load(0, 0, PENDING_AT),
+        constant(1, NIL),
+    )?;
     returning(&mut code, 2, raise, two(alloc, 0, 1)?)?;
     Ok(code)
 }
@@ -187,12 +220,13 @@ fn instance_begun(code: &mut Code, slots: u32) -> Result<(), NoMemory>
     requires { slots < 8 }
     ensures { OnOk result (code.new ≡ code.old ++ parts.instance_begun slots) }
 {
-    code.push(constant(3, 3 + slots))?;
-    code.push(request(3, 3))?;
-    code.push(constant(4, 16 * slots + 3))?;
-    code.push(store(4, 3, 0))?;
-    code.push(load(4, 2, 0))?;
-    code.push(store(4, 3, 4))
+    push_three(
+        code,
+        constant(3, 3 + slots),
+        request(3, 3),
+        constant(4, 16 * slots + 3),
+    )?;
+    push_three(code, store(4, 3, 0), load(4, 2, 0), store(4, 3, 4))
 }
 
 // The mark of the instance is nil, and it is signalled.
@@ -205,10 +239,13 @@ fn instance_raised(
     ensures { OnOk result (code.new ≡ code.old ++ parts.raised_with at.now mark) }
 {
     let raise = routine(at, RAISE)?;
-    code.push(constant(4, NIL))?;
-    code.push(store(4, 3, mark))?;
-    code.push(constant(2, OBJECT))?;
-    code.push(compute(3, Arithmetic::Add, 3, 2))?;
+    push_four(
+        code,
+        constant(4, NIL),
+        store(4, 3, mark),
+        constant(2, OBJECT),
+        compute(3, Arithmetic::Add, 3, 2),
+    )?;
     returning(code, 3, raise, two(alloc, 3, 4)?)
 }
 
@@ -216,8 +253,11 @@ fn instance_raised(
 fn class_place(code: &mut Code, to: Register, class: Register) -> Result<(), NoMemory>
     ensures { OnOk result (code.new ≡ code.old ++ parts.class_place to class) }
 {
-    code.push(constant(to, 2))?;
-    code.push(compute(to, Arithmetic::ShiftLeft, class, to))
+    push_two(
+        code,
+        constant(to, 2),
+        compute(to, Arithmetic::ShiftLeft, class, to),
+    )
 }
 
 /// A new condition of the class in 0, without slots, is signalled.
@@ -255,8 +295,7 @@ pub fn domain_code(alloc: Global, at: &Placement) -> Result<Code, NoMemory>
     instance_begun(&mut code, 2)?;
     code.push(store(0, 3, 8))?;
     class_place(&mut code, 4, 1)?;
-    code.push(load(4, 4, 0))?;
-    code.push(store(4, 3, 12))?;
+    push_two(&mut code, load(4, 4, 0), store(4, 3, 12))?;
     instance_raised(&mut code, alloc, at, 16)?;
     Ok(code)
 }

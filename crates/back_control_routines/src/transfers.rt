@@ -6,7 +6,7 @@ ghost use Rattle.back_control_routines.specs.Parts as parts;
 
 use back_leaves::leaves::routine;
 use back_leaves::routine_steps::{returning, signals, turns_while};
-use back_leaves::steps::{if_equal, setting, two};
+use back_leaves::steps::{if_equal, push_four, push_three, push_two, setting, two};
 use back_leaves::words::{
     CATCH_KIND, CLEANUP_KIND, CONTROL_ERROR_CLASS, CURRENT, END_KIND, LANDING, LINK, RECORD_KIND,
     RECORD_LINK, RECORD_MARK, RECORD_OUTER, RECORD_SERIAL, RECORD_TAG, SIGNAL_KIND, TARGET,
@@ -55,8 +55,7 @@ pub fn leave_code(alloc: Global, at: &Placement) -> Result<Code, NoMemory>
     let mut body = Code::new(alloc);
     body.push(load(4, 4, RECORD_LINK))?;
     let mut code = Code::new(alloc);
-    code.push(constant(3, 0))?;
-    code.push(load(4, 3, LINK))?;
+    push_two(&mut code, constant(3, 0), load(4, 3, LINK))?;
     code.push(CodeStep::new(StepKind::Repeat {
         counted: Counted::Turn,
         head,
@@ -71,20 +70,29 @@ pub fn leave_code(alloc: Global, at: &Placement) -> Result<Code, NoMemory>
 fn tag_asked(alloc: Global, kind: u32) -> Result<Code, NoMemory>
     ensures { IfOk result (λ code. code ≡ parts.tag_asked kind) }
 {
+    let same = setting(alloc, 6, 0)?;
     let mut at_tag = Code::new(alloc);
-    at_tag.push(load(5, 3, RECORD_TAG))?;
-    at_tag.push(if_equal(5, 0, setting(alloc, 6, 0)?, Code::new(alloc)))?;
+    push_two(
+        &mut at_tag,
+        load(5, 3, RECORD_TAG),
+        if_equal(5, 0, same, Code::new(alloc)),
+    )?;
     let mut ended = Code::new(alloc);
-    ended.push(constant(6, 0))?;
-    ended.push(constant(3, 0))?;
+    push_two(&mut ended, constant(6, 0), constant(3, 0))?;
     let mut other = Code::new(alloc);
-    other.push(constant(5, END_KIND))?;
-    other.push(if_equal(4, 5, ended, Code::new(alloc)))?;
+    push_two(
+        &mut other,
+        constant(5, END_KIND),
+        if_equal(4, 5, ended, Code::new(alloc)),
+    )?;
     let mut head = Code::new(alloc);
-    head.push(constant(6, 1))?;
-    head.push(load(4, 3, RECORD_KIND))?;
-    head.push(constant(5, kind))?;
-    head.push(if_equal(4, 5, at_tag, other))?;
+    push_four(
+        &mut head,
+        constant(6, 1),
+        load(4, 3, RECORD_KIND),
+        constant(5, kind),
+        if_equal(4, 5, at_tag, other),
+    )?;
     Ok(head)
 }
 
@@ -96,9 +104,12 @@ fn tag_sought(alloc: Global, kind: u32) -> Result<Code, NoMemory>
     let mut body = Code::new(alloc);
     body.push(load(3, 3, RECORD_LINK))?;
     let mut code = Code::new(alloc);
-    code.push(constant(2, 0))?;
-    code.push(load(3, 2, LINK))?;
-    code.push(turns_while(head, 6, 2, body))?;
+    push_three(
+        &mut code,
+        constant(2, 0),
+        load(3, 2, LINK),
+        turns_while(head, 6, 2, body),
+    )?;
     Ok(code)
 }
 
@@ -132,9 +143,12 @@ fn continued(alloc: Global, at: &Placement) -> Result<Code, NoMemory>
     let wrong = signals(alloc, at, 6, CONTROL_ERROR_CLASS)?;
     let found = transfers_to_found(alloc, at)?;
     let mut code = Code::new(alloc);
-    code.push(load(4, 3, RECORD_MARK))?;
-    code.push(constant(5, NIL))?;
-    code.push(if_equal(4, 5, wrong, found))?;
+    push_three(
+        &mut code,
+        load(4, 3, RECORD_MARK),
+        constant(5, NIL),
+        if_equal(4, 5, wrong, found),
+    )?;
     Ok(code)
 }
 

@@ -1,3 +1,4 @@
+pub mod Nodes
 pub mod Uses
 pub mod Further
 pub mod Arguments

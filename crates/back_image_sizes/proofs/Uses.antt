@@ -14,10 +14,10 @@ use Rattle.flat_language.specs.FlatNodes.{own_nodes, count_dynamics}
 use Rattle.flat_boxes.specs.Totals.{total, total_of_forms, total_of_clauses, total_of_values, total_of_dynamics}
 use Rattle.mid_start.specs.Rows.{unit_words}
 use Rattle.back_code_sizes.specs.Sizes.{own_words, words_of_node}
-use Rattle.back_code_sizes.proofs.Nodes.{nodes_total, total_of_both, total_paid}
 use Rattle.back_words.specs.Uses.{Use, as_symbol, of_function, of_literal, uses, uses_of_forms, uses_of_clauses, uses_of_values, uses_of_dynamics}
 use Rattle.back_image_sizes.specs.Sizes.{uses_words}
 use Rattle.back_image_sizes.specs.Laws.{LawOfUseSizes}
+use Rattle.back_image_sizes.proofs.Nodes.{nodes_total, total_paid}
 
 -- the words of the names that a form itself uses
 abbrev own_uses : FlatForm → ℕ
@@ -150,5 +150,4 @@ both_paid program (sited site f) h = omega arith
 -- **the law of uses**
 pub law_of_use_sizes : LawOfUseSizes
 law_of_use_sizes names program f h =
-    let all : FlatForm → ℕ = λ g. own_words g + own_uses g in
-    omega (arith, total_paid program all (both_paid program) f h, nodes_total f, total_of_both own_words own_uses f, uses_within names program f)
+    omega (arith, total_paid program own_words own_uses (both_paid program) f h, nodes_total f, uses_within names program f)

@@ -18,7 +18,7 @@ use crate::primitives::{
     truth_where, where_integers, where_tag,
 };
 use crate::quick::{Comparing, Order, Pair, Quick};
-use crate::steps::{if_true, setting};
+use crate::steps::{if_true, push_three, push_two, setting};
 use back_lowering::{Placement, SitePlace};
 use base::NoMemory;
 use flat_language::FlatCoreList;
@@ -245,8 +245,11 @@ fn both_set(alloc: Global, d: Register, words: Pair) -> Result<Code, NoMemory>
     ensures { IfOk result (λ code. code ≡ steps.constant d words.first ∷ steps.constant (d + 1) words.second ∷ []) }
 {
     let mut code = Code::new(alloc);
-    code.push(constant(d, words.first))?;
-    code.push(constant(d + 1, words.second))?;
+    push_two(
+        &mut code,
+        constant(d, words.first),
+        constant(d + 1, words.second),
+    )?;
     Ok(code)
 }
 
@@ -299,9 +302,12 @@ fn judge_tag(code: &mut Code, tag: u32, d: Register, t: Register) -> Result<Test
     ensures ready { OnOk result (code.new ≡ code.old ++ steps.constant t 3 ∷ steps.compute t arithmetic.And d t ∷ steps.constant (t + 1) tag ∷ []) }
     ensures test { IfOk result (λ test. test ≡ steps.test_of Equal t (t + 1)) }
 {
-    code.push(constant(t, 3))?;
-    code.push(compute(t, Arithmetic::And, d, t))?;
-    code.push(constant(t + 1, tag))?;
+    push_three(
+        code,
+        constant(t, 3),
+        compute(t, Arithmetic::And, d, t),
+        constant(t + 1, tag),
+    )?;
     Ok(comparing(Comparison::Equal, t, t + 1))
 }
 

@@ -3,7 +3,7 @@
 ghost use Rattle.std.specs.Prelude.{◌≡◌, ◌++◌, ◌+◌, ◌<◌, ◌^◌, [], ◌∷◌, length, OnOk};
 ghost use Rattle.back_lowering.specs.Leaves as leaves;
 
-use crate::steps::{move_word, request};
+use crate::steps::{move_word, push_four, request};
 use base::NoMemory;
 use flat_language::{Home, HomeList};
 use mid_arena::steps::{constant, store};
@@ -15,10 +15,13 @@ fn box_made(code: &mut Code, home: Home, d: Register, t: Register) -> Result<(),
     ensures { OnOk result (code.new ≡ code.old ++ leaves.boxes_made (home ∷ []) d t) }
 {
     if let Home::Boxed = home {
-        code.push(constant(t, 1))?;
-        code.push(request(t + 1, t))?;
-        code.push(store(d, t + 1, 0))?;
-        code.push(move_word(d, t + 1))?;
+        push_four(
+            code,
+            constant(t, 1),
+            request(t + 1, t),
+            store(d, t + 1, 0),
+            move_word(d, t + 1),
+        )?;
     }
     Ok(())
 }

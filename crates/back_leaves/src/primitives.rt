@@ -12,7 +12,8 @@ use crate::leaves::{routine, site_stored};
 use crate::numbers::primitive_number;
 use crate::registers::registers;
 use crate::steps::{
-    call, if_different, if_equal, load_from, move_word, request, setting, where_so,
+    call, if_different, if_equal, load_from, move_word, push_four, push_three, push_two, request,
+    setting, where_so,
 };
 use crate::words::{MOST_REGISTERS, PENDING, PRIMITIVES, TRUE_ADDRESS};
 use back_lowering::{Placement, SitePlace};
@@ -61,11 +62,13 @@ pub fn where_tag(
     requires { t < 2 ^ 62 }
     ensures { OnOk result (code.new ≡ code.old ++ primitives.where_tag of t tag first second) }
 {
-    let choice = if_equal(t, t + 1, first, second);
-    code.push(constant(t, 3))?;
-    code.push(compute(t, Arithmetic::And, of, t))?;
-    code.push(constant(t + 1, tag))?;
-    code.push(choice)
+    push_four(
+        code,
+        constant(t, 3),
+        compute(t, Arithmetic::And, of, t),
+        constant(t + 1, tag),
+        if_equal(t, t + 1, first, second),
+    )
 }
 
 // One code where the words in two registers are integers, else the other.
@@ -81,11 +84,13 @@ fn where_both(
     ensures { OnOk result (code.new ≡ code.old ++ primitives.where_integers (first_asked ∷ second_asked ∷ []) t first second) }
 {
     let choice = if_equal(t, t + 1, first, second);
-    code.push(compute(t, Arithmetic::Or, first_asked, second_asked))?;
-    code.push(constant(t + 1, 3))?;
-    code.push(compute(t, Arithmetic::And, t, t + 1))?;
-    code.push(constant(t + 1, 0))?;
-    code.push(choice)
+    push_three(
+        code,
+        compute(t, Arithmetic::Or, first_asked, second_asked),
+        constant(t + 1, 3),
+        compute(t, Arithmetic::And, t, t + 1),
+    )?;
+    push_two(code, constant(t + 1, 0), choice)
 }
 
 /// One code where the words in these registers are integers, else the other; t and the next one are used.
@@ -181,10 +186,13 @@ pub fn sum_where(
             }
         }
         None => {
-            code.push(constant(t + 1, 0))?;
-            code.push(compute(t + 1, Arithmetic::Less, d + 1, t + 1))?;
-            code.push(compute(t + 2, Arithmetic::Less, t, d))?;
-            code.push(if_equal(t + 1, t + 2, taken, slow))?;
+            push_four(
+                &mut code,
+                constant(t + 1, 0),
+                compute(t + 1, Arithmetic::Less, d + 1, t + 1),
+                compute(t + 2, Arithmetic::Less, t, d),
+                if_equal(t + 1, t + 2, taken, slow),
+            )?;
         }
     }
     Ok(code)
@@ -214,10 +222,13 @@ pub fn difference_where(
             }
         }
         None => {
-            code.push(constant(t + 1, 0))?;
-            code.push(compute(t + 1, Arithmetic::Less, t + 1, d + 1))?;
-            code.push(compute(t + 2, Arithmetic::Less, t, d))?;
-            code.push(if_equal(t + 1, t + 2, taken, slow))?;
+            push_four(
+                &mut code,
+                constant(t + 1, 0),
+                compute(t + 1, Arithmetic::Less, t + 1, d + 1),
+                compute(t + 2, Arithmetic::Less, t, d),
+                if_equal(t + 1, t + 2, taken, slow),
+            )?;
         }
     }
     Ok(code)
@@ -246,12 +257,18 @@ pub fn cons_made(code: &mut Code, d: Register, t: Register) -> Result<(), NoMemo
     requires free { t < 2 ^ 62 }
     ensures { OnOk result (code.new ≡ code.old ++ primitives.cons_made d t) }
 {
-    code.push(constant(t, 2))?;
-    code.push(request(t, t))?;
-    code.push(store(d, t, 0))?;
-    code.push(store(d + 1, t, 4))?;
-    code.push(constant(t + 1, CONS))?;
-    code.push(compute(d, Arithmetic::Add, t, t + 1))
+    push_four(
+        code,
+        constant(t, 2),
+        request(t, t),
+        store(d, t, 0),
+        store(d + 1, t, 4),
+    )?;
+    push_two(
+        code,
+        constant(t + 1, CONS),
+        compute(d, Arithmetic::Add, t, t + 1),
+    )
 }
 
 // The index is below the number of elements: the element comes to d, and t is 0.
@@ -261,9 +278,12 @@ fn element_at(alloc: Global, d: Register, t: Register) -> Result<Code, NoMemory>
     ensures { IfOk result (λ code. code ≡ elements.element_at d t) }
 {
     let mut found = Code::new(alloc);
-    found.push(compute(t + 1, Arithmetic::Add, d, d + 1))?;
-    found.push(load(d, t + 1, 6))?;
-    found.push(constant(t, 0))?;
+    push_three(
+        &mut found,
+        compute(t + 1, Arithmetic::Add, d, d + 1),
+        load(d, t + 1, 6),
+        constant(t, 0),
+    )?;
     let mut code = Code::new(alloc);
     code.push(load(t + 1, d, 2))?;
     code.push(where_so(
@@ -291,9 +311,12 @@ fn element_of_object(
     let mut indexed = Code::new(alloc);
     where_integers(&mut indexed, asked, t + 1, element, Code::new(alloc))?;
     let mut code = Code::new(alloc);
-    code.push(load(t + 1, d, -2))?;
-    code.push(constant(t + 2, VECTOR))?;
-    code.push(if_equal(t + 1, t + 2, indexed, Code::new(alloc)))?;
+    push_three(
+        &mut code,
+        load(t + 1, d, -2),
+        constant(t + 2, VECTOR),
+        if_equal(t + 1, t + 2, indexed, Code::new(alloc)),
+    )?;
     Ok(code)
 }
 

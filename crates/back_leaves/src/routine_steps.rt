@@ -6,7 +6,7 @@ ghost use Rattle.back_lowering.specs.RoutineCodes as routines;
 ghost use Rattle.back_lowering.specs.Steps as steps;
 
 use crate::leaves::routine;
-use crate::steps::{call, one, two};
+use crate::steps::{call, one, push_three, push_two, two};
 use crate::words::{DOMAIN, FAILING};
 use back_lowering::Placement;
 use base::NoMemory;
@@ -21,8 +21,7 @@ use std::alloc::Global;
 pub fn add_to(code: &mut Code, r: Register, t: Register, word: u32) -> Result<(), NoMemory>
     ensures { OnOk result (code.new ≡ code.old ++ routines.add_to r t word) }
 {
-    code.push(constant(t, word))?;
-    code.push(compute(r, Arithmetic::Add, r, t))
+    push_two(code, constant(t, word), compute(r, Arithmetic::Add, r, t))
 }
 
 /// A loop of a routine.
@@ -75,8 +74,7 @@ pub fn returning(
 ) -> Result<(), NoMemory>
     ensures { OnOk result (code.new ≡ code.old ++ (steps.call t procedure arguments ∷ return_word t ∷ [])) }
 {
-    code.push(call(t, procedure, arguments))?;
-    code.push(return_word(t))
+    push_two(code, call(t, procedure, arguments), return_word(t))
 }
 
 /// A condition of a class without slots is signalled; it uses t.
@@ -85,8 +83,13 @@ pub fn signals(alloc: Global, at: &Placement, t: Register, class: u32) -> Result
 {
     let failing = routine(at, FAILING)?;
     let mut code = Code::new(alloc);
-    code.push(constant(t, class))?;
-    returning(&mut code, t, failing, one(alloc, t)?)?;
+    let arguments = one(alloc, t)?;
+    push_three(
+        &mut code,
+        constant(t, class),
+        call(t, failing, arguments),
+        return_word(t),
+    )?;
     Ok(code)
 }
 
@@ -102,7 +105,12 @@ pub fn signals_domain(
 {
     let domain = routine(at, DOMAIN)?;
     let mut code = Code::new(alloc);
-    code.push(constant(t, class))?;
-    returning(&mut code, t, domain, two(alloc, of, t)?)?;
+    let arguments = two(alloc, of, t)?;
+    push_three(
+        &mut code,
+        constant(t, class),
+        call(t, domain, arguments),
+        return_word(t),
+    )?;
     Ok(code)
 }

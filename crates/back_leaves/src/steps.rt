@@ -192,3 +192,39 @@ pub fn store_far(
         code.push(store(from, t, 0))
     }
 }
+
+/// Two steps more.
+pub fn push_two(code: &mut Code, first: CodeStep, second: CodeStep) -> Result<(), NoMemory>
+    ensures { OnOk result (code.new ≡ code.old ++ (first ∷ second ∷ [])) }
+{
+    code.push(first)?;
+    code.push(second)
+}
+
+/// Three steps more.
+pub fn push_three(
+    code: &mut Code,
+    first: CodeStep,
+    second: CodeStep,
+    third: CodeStep,
+) -> Result<(), NoMemory>
+    ensures { OnOk result (code.new ≡ code.old ++ (first ∷ second ∷ third ∷ [])) }
+{
+    code.push(first)?;
+    code.push(second)?;
+    code.push(third)
+}
+
+/// Four steps more.
+pub fn push_four(
+    code: &mut Code,
+    first: CodeStep,
+    second: CodeStep,
+    third: CodeStep,
+    fourth: CodeStep,
+) -> Result<(), NoMemory>
+    ensures { OnOk result (code.new ≡ code.old ++ (first ∷ second ∷ third ∷ fourth ∷ [])) }
+{
+    push_two(code, first, second)?;
+    push_two(code, third, fourth)
+}

@@ -6,4 +6,5 @@ pub mod Cutting
 pub mod Counting
 pub mod Beginning
 pub mod Keeping
+pub mod ClassCounts
 pub mod CellBounds

@@ -2,3 +2,4 @@ pub mod Scopes
 pub mod Cuts
 pub mod Walk
 pub mod Cells
+pub mod Below

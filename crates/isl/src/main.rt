@@ -4,10 +4,12 @@
 ghost use Rattle.std.specs.Prelude.{◌≡◌, ◌≢◌, ◌⊎◌, None};
 ghost use Rattle.std.specs.Process.{exit_status};
 ghost use Rattle.top_command.specs.Command.{asked};
+ghost use Rattle.top_help.specs.Told.{told as told_of};
 ghost use Rattle.base.specs.Given.{WasGiven};
 ghost use Rattle.top_lines.specs.Lines.{line_of, number_of, status_of as status_of_answer};
 ghost use Rattle.top_lines.specs.declared.status.CommandAnswer.{CommandAnswer as AnswerValue};
-ghost use Rattle.top_lines.specs.declared.status.Status.TheVariants.{Usage, WriteFault, NoMemory as WantsMemory};
+ghost use Rattle.top_lines.specs.declared.status.CommandAnswer.TheVariants.{Done as AnswerDone, WriteFault as AnswerCut};
+ghost use Rattle.top_lines.specs.declared.status.Status.TheVariants.{Done, Usage, WriteFault, NoMemory as WantsMemory};
 
 mod command_words;
 mod fault_count;
@@ -15,14 +17,15 @@ mod file_shelf;
 mod std_sink;
 mod std_source;
 
-use base::{Sink, Words};
+use base::{Failed, Sink, Words, write_all};
 use command_words::command_words;
 use file_shelf::FileShelf;
 use std::process::ExitCode;
 use std_sink::StdSink;
 use std_source::StdSource;
+use top_help::told;
 use top_main::lines::end_with;
-use top_main::{Kept, Status, isl_main};
+use top_main::{CommandAnswer, Kept, Status, isl_main};
 
 fn main(rt: HostRuntime) -> ExitCode {
     let mut err = StdSink::new(rt.stderr());
@@ -33,8 +36,34 @@ fn main(rt: HostRuntime) -> ExitCode {
     exit_code(status)
 }
 
-// The status of a call with these words.
+// The status of a call with these words: of one that asks for a text, by whether it was printed.
 fn status_of<E: Sink>(rt: &HostRuntime, words: &Words, err: &mut E) -> Status
+    ensures usage { result ≡ Usage → asked words.now ≡ None }
+    ensures words_first { asked words.now ≡ None → told_of words.now ≡ None →
+        (result ≡ Usage) ⊎ ((result ≡ WriteFault) ⊎ (result ≡ WantsMemory)) }
+    ensures told { told_of words.now ≢ None → (result ≡ Done) ⊎ (result ≡ WriteFault) }
+    ensures line { result ≢ WriteFault → (answer : AnswerValue) × ((result ≡ status_of_answer answer)
+        × WasGiven (E.given err.old) (line_of answer) (E.given err.new)) }
+{
+    match told(words) {
+        Some(text) => end_with(err, told_answer(rt, text)),
+        None => called(rt, words, err),
+    }
+}
+
+// A text is printed.
+fn told_answer(rt: &HostRuntime, text: &[u8]) -> CommandAnswer
+    ensures { (result ≡ AnswerDone) ⊎ (result ≡ AnswerCut) }
+{
+    let mut out = StdSink::new(rt.stdout());
+    match write_all(&mut out, text) {
+        Ok(()) => CommandAnswer::Done,
+        Err(Failed) => CommandAnswer::WriteFault,
+    }
+}
+
+// The status of a call that asks for no text.
+fn called<E: Sink>(rt: &HostRuntime, words: &Words, err: &mut E) -> Status
     ensures usage { result ≡ Usage → asked words.now ≡ None }
     ensures words_first { asked words.now ≡ None →
         (result ≡ Usage) ⊎ ((result ≡ WriteFault) ⊎ (result ≡ WantsMemory)) }

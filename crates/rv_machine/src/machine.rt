@@ -65,6 +65,23 @@ impl Machine {
         })
     }
 
+    /// A machine of that many words of arena in which the image is placed, as `load` places it: its
+    /// words from address 0 on and 0 behind them, the program counter at its entry, x2 at the arena's
+    /// end and x3 at the image's; other registers and the count are 0.
+    pub fn started(alloc: Global, image: &Image, arena_words: u32) -> Result<Machine, NoMemory>
+        requires fits { length image.now.words ≤ arena_words }
+        requires bounded { arena_words ≤ 16777216 }
+        ensures state { IfOk result (λ m. m.state ≡ start image.now.words image.now.entry arena_words) }
+        ensures count { IfOk result (λ m. m.count ≡ 0) }
+    {
+        let contents = Contents::started(alloc, &image.words, arena_words)?;
+        Ok(Machine {
+            pc: image.entry,
+            contents,
+            count: 0,
+        })
+    }
+
     /// Places the image: its words from address 0 on and 0 behind them, the program counter at its
     /// entry, x2 at the arena's end and x3 at the image's; other registers and the count are 0.
     /// `TooBig` exactly where the image has more words than the arena; the machine is then

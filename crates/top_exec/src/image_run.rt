@@ -2,7 +2,6 @@
 
 ghost use Rattle.std.specs.Prelude.{◌≡◌, ◌≤◌, length, IfOk, OnErr};
 ghost use Rattle.base.specs.Outside.{Rose};
-ghost use Rattle.rv_machine.specs.State.{start};
 ghost use Rattle.top_exec.specs.Runs.{ImageComes, FaultTells, sent_to};
 
 use base::{NoMemory, Sink, Source};
@@ -47,7 +46,7 @@ pub fn run_image<S: Source, O: Sink>(
     ensures same { OnErr result ((out.new ≡ out.old) × (input.new ≡ input.old)) }
     ensures count { O.faults out.old ≤ O.faults out.new }
 {
-    let mut machine = started(alloc, image, bounds.arena)?;
+    let mut machine = Machine::started(alloc, image, bounds.arena)?;
     let ending = machine.run(bounds.steps as u64, input, out);
     let site = machine.register(SITE_REGISTER);
     let executed = machine.count();
@@ -57,18 +56,4 @@ pub fn run_image<S: Source, O: Sink>(
         site,
         executed,
     })
-}
-
-// A machine of that many words at the start of the image.
-fn started(alloc: Global, image: &Image, arena: u32) -> Result<Machine, NoMemory>
-    requires fits { length image.now.words ≤ arena }
-    requires bounded { arena ≤ 16777216 }
-    ensures state { IfOk result (λ m. m.state ≡ start image.now.words image.now.entry arena) }
-    ensures count { IfOk result (λ m. m.count ≡ 0) }
-{
-    let mut machine = Machine::new(alloc, arena)?;
-    match machine.load(image) {
-        Ok(()) => Ok(machine),
-        Err(_) => unreachable!(),
-    }
 }

@@ -74,7 +74,7 @@ abbrev pub spent_line : List ℕ
 spent_line = line (codes "spent 9223372036854775808")
 
 abbrev pub usage_line : List ℕ
-usage_line = line (codes "usage: isl [--steps N] [--arena W] ACTION FILE")
+usage_line = line (codes "usage: isl [--steps N] [--arena W] run|show|check|build|exec|plain FILE, or make N; isl --help tells more")
 
 -- what `check` writes to the output of a file that is a program
 abbrev pub ok_line : List ℕ

@@ -52,7 +52,10 @@ fn write_line<E: Sink>(err: &mut E, answer: &CommandAnswer) -> Result<(), Failed
     match answer {
         CommandAnswer::Done | CommandAnswer::WriteFault => Ok(()),
         CommandAnswer::Unhandled { class, site } => write_unhandled(err, class.as_slice(), *site),
-        CommandAnswer::Usage => write_all(err, b"usage: isl [--steps N] [--arena W] ACTION FILE\n"),
+        CommandAnswer::Usage => write_all(
+            err,
+            b"usage: isl [--steps N] [--arena W] run|show|check|build|exec|plain FILE, or make N; isl --help tells more\n",
+        ),
         CommandAnswer::Refused(refusal) => write_refusal(err, *refusal),
         CommandAnswer::ArenaFull { asked, left } => write_arena_full(err, *asked, *left),
         CommandAnswer::Budget(steps) => write_budget(err, *steps),

@@ -1,6 +1,6 @@
 // What a machine holds beside its program counter: registers, the arena, and rows of the arena's first words.
 
-ghost use Rattle.std.specs.Prelude.{◌≡◌, ◌+◌, ◌*◌, ◌/◌, ◌<◌, ◌≤◌, length, replicate, slice_index, IfOk, IfSome};
+ghost use Rattle.std.specs.Prelude.{◌≡◌, ◌+◌, ◌*◌, ◌/◌, ◌<◌, ◌≤◌, ◌++◌, length, drop, replicate, slice_index, IfOk, IfSome};
 ghost use Rattle.rv_machine.specs.Memory.{bytes_of};
 ghost use Rattle.rv_machine.specs.State.{laid, start_registers};
 ghost use Rattle.rv_machine.specs.Held.{StoredIn, standing, written};
@@ -60,6 +60,26 @@ impl Contents {
         })
     }
 
+    // An arena of that many words, with these from address 0 on and 0 behind them, and the rows of these words; registers
+    // as `load` leaves them. Words that are 0 are written once, and there is room for rows of the words given alone.
+    pub(crate) fn started(alloc: Global, words: &WordList, arena: u32) -> Result<Contents, NoMemory>
+        requires some { 1 ≤ arena }
+        requires bounded { arena ≤ 16777216 }
+        requires fits { length words.now ≤ arena }
+        ensures registers { IfOk result (λ c. c.registers ≡ start_registers (length words.now) arena) }
+        ensures memory { IfOk result (λ c. c.memory ≡ bytes_of (laid words.now arena)) }
+    {
+        let mut contents = Contents {
+            registers: start_registers(words.len() as u32, arena),
+            arena: laid(alloc, words, arena)?,
+            rows: Vec::with_capacity(alloc, words.len() as usize)?,
+        };
+        for _word in 0..words.len() {
+            contents.keep_next();
+        }
+        Ok(contents)
+    }
+
     // The words from address 0 on and 0 behind them, with the rows of these words; x2 is the arena's end and x3 the
     // words', and other registers are 0.
     pub(crate) fn load(&mut self, words: &WordList)
@@ -86,9 +106,7 @@ impl Contents {
         let arena = self.arena().len() as u32;
         self.rows.clear();
         lay(words, &mut self.arena[..]);
-        self.registers = [0; 32];
-        self.registers[2] = 4 * arena;
-        self.registers[3] = 4 * words.len() as u32;
+        self.registers = start_registers(words.len() as u32, arena);
     }
 
     // The row of the next word that has none, where there is room for it.
@@ -203,6 +221,36 @@ fn zeros(alloc: Global, words: u32) -> Result<Vec<u32>, NoMemory>
     ensures { IfOk result (λ zeros. zeros.items ≡ replicate words 0) }
 {
     Ok(vec![in alloc; 0; words as usize]?)
+}
+
+// The registers at the start: x2 is the arena's end, x3 that of the words, and the others are 0.
+fn start_registers(words: u32, arena: u32) -> [u32; 32]
+    requires fits { words ≤ arena }
+    requires bounded { arena ≤ 16777216 }
+    ensures { result ≡ start_registers words arena }
+{
+    let mut registers = [0; 32];
+    registers[2] = 4 * arena;
+    registers[3] = 4 * words;
+    registers
+}
+
+// An arena of that many words, with these at its front and 0 behind them.
+fn laid(alloc: Global, words: &WordList, arena: u32) -> Result<Vec<u32>, NoMemory>
+    requires { length words.now ≤ arena }
+    ensures { IfOk result (λ all. all.items ≡ laid words.now arena) }
+{
+    let mut all = zeros(alloc, arena)?;
+    put_front(words.as_slice(), &mut all[..]);
+    Ok(all)
+}
+
+// The words in place of as many at the front of the arena.
+fn put_front(words: &[u32], arena: &mut [u32])
+    requires { length words.now ≤ length arena.old }
+    ensures { arena.new ≡ words.now ++ drop (length words.now) arena.old }
+{
+    arena[..words.len()].copy_from_slice(words);
 }
 
 // The words at the front of the arena, and 0 behind them.

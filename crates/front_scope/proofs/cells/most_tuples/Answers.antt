@@ -6,6 +6,6 @@ use Rattle.front_scope.proofs.cells.most_tuples.Goals as goal
 
 pub loop-argument-preserved : goal.loop-argument-preserved
 loop-argument-preserved c =
-    let same : c.in_ok-most.most ≡ c.loop-argument.most * c.most_groups.result = search rules in
-    argument_more (with_classes c.args.classes.now.rows) c.args.generic.now c.loop-argument.argument _ c.loop-argument.most c.most_groups.result c.in_ok-most.most
-    (search rules) c.most_groups.ensures same c.loop-argument.invariant
+    let same : c.in_ok-most.most ≡ c.loop-argument.most * c.in_ok-groups.groups = search rules in
+    argument_more (with_classes c.args.classes.now.rows) c.args.generic.now c.loop-argument.argument _ c.loop-argument.most c.in_ok-groups.groups c.in_ok-most.most
+    (search rules) c.in_ok-groups.ensures same c.loop-argument.invariant

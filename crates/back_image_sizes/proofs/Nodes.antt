@@ -9,8 +9,7 @@ use Rattle.flat_language.specs.FlatForm.{FlatForms, no_form, form_and, FlatClaus
 use Rattle.flat_language.specs.FlatForm.{FlatBindings, no_binding, binding_and, FlatDynamics, no_dynamic, dynamic_and}
 use Rattle.flat_language.specs.FlatNodes.{own_nodes, nodes, nodes_of_forms, nodes_of_clauses, nodes_of_values, nodes_of_dynamics}
 use Rattle.flat_boxes.specs.Totals.{total, total_of_forms, total_of_clauses, total_of_values, total_of_dynamics}
-use Rattle.back_code_sizes.specs.Sizes.{own_words, words_of_node}
-use Rattle.back_code_sizes.specs.Laws.{LawOfNodeSizes}
+use Rattle.back_code_sizes.specs.Sizes.{words_of_node}
 
 -- one more in front of a sum
 more_of : (x : ℕ) (xs : List ℕ) → sum (x ∷ xs) ≡ x + sum xs
@@ -77,67 +76,10 @@ mutual
   nodes_of_dynamics_total no_dynamic = omega arith
   nodes_of_dynamics_total (dynamic_and n f ds) = omega (arith, nodes_total f, nodes_of_dynamics_total ds, more_of (nodes f) (nodes_of_dynamics ds))
 
--- a sum of two is counted apart
-module _ (one two : FlatForm → ℕ) where
-  abbrev both : FlatForm → ℕ
-  both f = one f + two f
-
+-- what each form pays by its own nodes for two things together is paid by all of them
+module _ (program : FlatProgram) (one two : FlatForm → ℕ) (pays : (f : FlatForm) → Fits program f → one f + two f ≤ words_of_node * own_nodes f) where
   mutual
-    pub total_of_both : (f : FlatForm) → total both f ≡ total one f + total two f
-    total_of_both (literal i) = omega arith
-    total_of_both (local p) = omega arith
-    total_of_both (set_local p f) = let e = total_of_both f in omega (arith, e)
-    total_of_both (global n) = omega arith
-    total_of_both (set_global n f) = let e = total_of_both f in omega (arith, e)
-    total_of_both (def_global n f) = let e = total_of_both f in omega (arith, e)
-    total_of_both (clauses cs) = let e = both_of_clauses cs in omega (arith, e)
-    total_of_both (sequence fs) = let e = both_of_forms fs in omega (arith, e)
-    total_of_both (let_form bs body) = omega (arith, both_of_values bs, total_of_both body)
-    total_of_both (make_function p parts) = omega arith
-    total_of_both (call n fs) = let e = both_of_forms fs in omega (arith, e)
-    total_of_both (call_value fs) = let e = both_of_forms fs in omega (arith, e)
-    total_of_both (apply f list) = omega (arith, total_of_both f, total_of_both list)
-    total_of_both (prim which fs) = let e = both_of_forms fs in omega (arith, e)
-    total_of_both (while_form test body) = omega (arith, total_of_both test, total_of_both body)
-    total_of_both (block body) = let e = total_of_both body in omega (arith, e)
-    total_of_both (return_from x f) = let e = total_of_both f in omega (arith, e)
-    total_of_both (tagbody segments) = let e = both_of_forms segments in omega (arith, e)
-    total_of_both (go x segment) = omega arith
-    total_of_both (catch_form tag body) = omega (arith, total_of_both tag, total_of_both body)
-    total_of_both (throw tag f) = omega (arith, total_of_both tag, total_of_both f)
-    total_of_both (unwind f cleanup) = omega (arith, total_of_both f, total_of_both cleanup)
-    total_of_both (dynamic_let ds body) = omega (arith, both_of_dynamics ds, total_of_both body)
-    total_of_both (dynamic n) = omega arith
-    total_of_both (set_dynamic n f) = let e = total_of_both f in omega (arith, e)
-    total_of_both (def_dynamic n f) = let e = total_of_both f in omega (arith, e)
-    total_of_both (with_handler handler body) = omega (arith, total_of_both handler, total_of_both body)
-    total_of_both (signal_form condition mark) = omega (arith, total_of_both condition, total_of_both mark)
-    total_of_both (continue_form condition f) = omega (arith, total_of_both condition, total_of_both f)
-    total_of_both (next_method m) = omega arith
-    total_of_both (has_next m) = omega arith
-    total_of_both (sited site f) = let e = total_of_both f in omega (arith, e)
-
-    both_of_forms : (fs : FlatForms) → total_of_forms both fs ≡ total_of_forms one fs + total_of_forms two fs
-    both_of_forms no_form = omega arith
-    both_of_forms (form_and f fs) = omega (arith, total_of_both f, both_of_forms fs)
-
-    both_of_clauses : (cs : FlatClauses) → total_of_clauses both cs ≡ total_of_clauses one cs + total_of_clauses two cs
-    both_of_clauses no_clause = omega arith
-    both_of_clauses (clause_and test no_body cs) = omega (arith, total_of_both test, both_of_clauses cs)
-    both_of_clauses (clause_and test (with_body f) cs) = omega (arith, total_of_both test, total_of_both f, both_of_clauses cs)
-
-    both_of_values : (bs : FlatBindings) → total_of_values both bs ≡ total_of_values one bs + total_of_values two bs
-    both_of_values no_binding = omega arith
-    both_of_values (binding_and home f bs) = omega (arith, total_of_both f, both_of_values bs)
-
-    both_of_dynamics : (ds : FlatDynamics) → total_of_dynamics both ds ≡ total_of_dynamics one ds + total_of_dynamics two ds
-    both_of_dynamics no_dynamic = omega arith
-    both_of_dynamics (dynamic_and n f ds) = omega (arith, total_of_both f, both_of_dynamics ds)
-
--- what each form pays by its own nodes is paid by all of them
-module _ (program : FlatProgram) (own : FlatForm → ℕ) (pays : (f : FlatForm) → Fits program f → own f ≤ words_of_node * own_nodes f) where
-  mutual
-    pub total_paid : (f : FlatForm) → Fits program f → total own f ≤ words_of_node * total own_nodes f
+    pub total_paid : (f : FlatForm) → Fits program f → total one f + total two f ≤ words_of_node * total own_nodes f
     total_paid (literal i) h = let p = pays (literal i) h in omega (arith, p)
     total_paid (local p) h = let p = pays (local p) h in omega (arith, p)
     total_paid (set_local p f) h = omega (arith, pays (set_local p f) h, total_paid f h)
@@ -171,58 +113,19 @@ module _ (program : FlatProgram) (own : FlatForm → ℕ) (pays : (f : FlatForm)
     total_paid (has_next m) h = let p = pays (has_next m) h in omega (arith, p)
     total_paid (sited site f) h = omega (arith, pays (sited site f) h, total_paid f h.2)
 
-    forms_paid : (fs : FlatForms) → FitForms program fs → total_of_forms own fs ≤ words_of_node * total_of_forms own_nodes fs
+    forms_paid : (fs : FlatForms) → FitForms program fs → total_of_forms one fs + total_of_forms two fs ≤ words_of_node * total_of_forms own_nodes fs
     forms_paid no_form h = omega arith
     forms_paid (form_and f fs) h = omega (arith, total_paid f h.0, forms_paid fs h.1)
 
-    clauses_paid : (cs : FlatClauses) → FitClauses program cs → total_of_clauses own cs ≤ words_of_node * total_of_clauses own_nodes cs
+    clauses_paid : (cs : FlatClauses) → FitClauses program cs → total_of_clauses one cs + total_of_clauses two cs ≤ words_of_node * total_of_clauses own_nodes cs
     clauses_paid no_clause h = omega arith
     clauses_paid (clause_and test no_body cs) h = omega (arith, total_paid test h.0, clauses_paid cs h.2)
     clauses_paid (clause_and test (with_body f) cs) h = omega (arith, total_paid test h.0, total_paid f h.1, clauses_paid cs h.2)
 
-    values_paid : (bs : FlatBindings) → FitValues program bs → total_of_values own bs ≤ words_of_node * total_of_values own_nodes bs
+    values_paid : (bs : FlatBindings) → FitValues program bs → total_of_values one bs + total_of_values two bs ≤ words_of_node * total_of_values own_nodes bs
     values_paid no_binding h = omega arith
     values_paid (binding_and home f bs) h = omega (arith, total_paid f h.0, values_paid bs h.1)
 
-    dynamics_paid : (ds : FlatDynamics) → FitDynamics program ds → total_of_dynamics own ds ≤ words_of_node * total_of_dynamics own_nodes ds
+    dynamics_paid : (ds : FlatDynamics) → FitDynamics program ds → total_of_dynamics one ds + total_of_dynamics two ds ≤ words_of_node * total_of_dynamics own_nodes ds
     dynamics_paid no_dynamic h = omega arith
     dynamics_paid (dynamic_and n f ds) h = omega (arith, total_paid f h.0, dynamics_paid ds h.1)
-
--- and each form pays its words
-own_paid : (program : FlatProgram) (f : FlatForm) → Fits program f → own_words f ≤ words_of_node * own_nodes f
-own_paid program (literal i) h = omega arith
-own_paid program (local p) h = omega arith
-own_paid program (set_local p f) h = omega arith
-own_paid program (global n) h = omega arith
-own_paid program (set_global n f) h = omega arith
-own_paid program (def_global n f) h = omega arith
-own_paid program (clauses cs) h = omega arith
-own_paid program (sequence fs) h = omega arith
-own_paid program (let_form bs body) h = omega arith
-own_paid program (make_function p parts) h = omega arith
-own_paid program (call n fs) h = omega arith
-own_paid program (call_value fs) h = omega arith
-own_paid program (apply f list) h = omega arith
-own_paid program (prim which fs) h = omega arith
-own_paid program (while_form test body) h = omega arith
-own_paid program (block body) h = omega arith
-own_paid program (return_from x f) h = omega arith
-own_paid program (tagbody segments) h = omega (arith, h.0)
-own_paid program (go x segment) h = omega arith
-own_paid program (catch_form tag body) h = omega arith
-own_paid program (throw tag f) h = omega arith
-own_paid program (unwind f cleanup) h = omega arith
-own_paid program (dynamic_let ds body) h = omega arith
-own_paid program (dynamic n) h = omega arith
-own_paid program (set_dynamic n f) h = omega arith
-own_paid program (def_dynamic n f) h = omega arith
-own_paid program (with_handler handler body) h = omega arith
-own_paid program (signal_form condition mark) h = omega arith
-own_paid program (continue_form condition f) h = omega arith
-own_paid program (next_method m) h = omega arith
-own_paid program (has_next m) h = omega arith
-own_paid program (sited site f) h = omega arith
-
--- **the law of nodes**: a form with so many nodes pays the words of its code
-pub law_of_node_sizes : LawOfNodeSizes
-law_of_node_sizes program f h = omega (arith, total_paid program own_words (own_paid program) f h, nodes_total f)
