@@ -96,8 +96,8 @@ has_registers program number p checked h =
     let both = back_true (is_block_size q.frame) _ (back_true (nat_le q.parameters q.registers) _ sound) in
     let lines = front_true (list_all (line_fits q.registers (length q.lines)) q.lines) (list_all (line_calls procedures) q.lines) both in
     record {
-      read = λ line v x e g. line_read q.registers (length q.lines) x (all_at (line_fits q.registers (length q.lines)) q.lines line x lines e) v g;
       given = λ line to x e g. line_given q.registers (length q.lines) x to (all_at (line_fits q.registers (length q.lines)) q.lines line x lines e) g;
+      read = λ line v x e g. line_read q.registers (length q.lines) x (all_at (line_fits q.registers (length q.lines)) q.lines line x lines e) v g;
       parameters = grind (arith, nat_tests, passed);
     }
 
