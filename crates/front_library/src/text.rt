@@ -25,6 +25,10 @@ pub const PRELUDE: &[u8] = br##"; Characters: they are bytes, and compare by the
 (defun %program-error ()
   (signal-condition (%allocate (class <program-error>)) nil))
 
+; A <parse-error>: a string is not the text of what was to be read.
+(defun %parse-error ()
+  (signal-condition (%allocate (class <parse-error>)) nil))
+
 ; A <simple-error> that cannot be continued, with a format string and its objects.
 (defun error (error-string :rest objects)
   (signal-condition (%simple-error error-string objects) nil))
@@ -85,25 +89,32 @@ pub const PRELUDE: &[u8] = br##"; Characters: they are bytes, and compare by the
     (while (< index end)
       (let ((character (%char-at string index)))
         (setq index (+ index 1))
-        (cond ((not (eql character #\~)) (%emit stream character))
+        (cond ((not (eql character #\~)) (%put-char stream character))
               ((= index end) (%program-error))
               (t (setq objects (%directive stream (%char-at string index) objects))
                  (setq index (+ index 1))))))))
 
 ; Does what a directive says, and gives the objects that it leaves.
 (defun %directive (stream directive objects)
-  (case directive
-    ((#\A #\a) (%print stream (%needed objects) nil) (cdr objects))
-    ((#\D #\d) (format-integer stream (%needed objects) 10) (cdr objects))
-    ((#\%) (%emit stream #\newline) objects)
-    ((#\S #\s) (%print stream (%needed objects) t) (cdr objects))
-    ((#\C #\c) (%emit stream (%needed objects)) (cdr objects))
-    ((#\B #\b) (format-integer stream (%needed objects) 2) (cdr objects))
-    ((#\O #\o) (format-integer stream (%needed objects) 8) (cdr objects))
-    ((#\X #\x) (format-integer stream (%needed objects) 16) (cdr objects))
-    ((#\&) (format-fresh-line stream) objects)
-    ((#\~) (%emit stream #\~) objects)
-    (t (%program-error))))
+  (cond ((or (eql directive #\D) (eql directive #\d)) (%directive-integer stream objects 10))
+        ((or (eql directive #\A) (eql directive #\a)) (%directive-object stream objects nil))
+        ((eql directive #\%) (%put-char stream #\newline) objects)
+        ((or (eql directive #\S) (eql directive #\s)) (%directive-object stream objects t))
+        ((or (eql directive #\C) (eql directive #\c)) (%emit stream (%needed objects)) (cdr objects))
+        ((or (eql directive #\B) (eql directive #\b)) (%directive-integer stream objects 2))
+        ((or (eql directive #\O) (eql directive #\o)) (%directive-integer stream objects 8))
+        ((or (eql directive #\X) (eql directive #\x)) (%directive-integer stream objects 16))
+        ((eql directive #\&) (format-fresh-line stream) objects)
+        ((eql directive #\~) (%put-char stream #\~) objects)
+        (t (%program-error))))
+
+(defun %directive-object (stream objects escape)
+  (%print stream (%needed objects) escape)
+  (cdr objects))
+
+(defun %directive-integer (stream objects radix)
+  (%emit-integer stream (assure <integer> (%needed objects)) radix)
+  (cdr objects))
 
 ; The first of the objects, of which there has to be one.
 (defun %needed (objects)
@@ -506,6 +517,79 @@ pub const PRELUDE: &[u8] = br##"; Characters: they are bytes, and compare by the
         ((= (mod exponent 2) 1) (* base (%power base (- exponent 1))))
         (t (let ((half (%power base (div exponent 2))))
              (* half half)))))
+
+; The number that a string has the text of, as it stands in a program: blanks in front of it are passed over, and what is behind it is
+; not looked at, unless it would go on as a name.
+(defun parse-number (string)
+  (let* ((start (%behind-blanks string)) (radix (%radix-at string start)))
+    (if (null radix)
+        (%integer-at string start 10)
+        (%integer-at string (+ start 2) radix))))
+
+(defun %behind-blanks (string)
+  (let ((index 0) (end (%string-length string)))
+    (while (and (< index end) (%is-blank (%char-code (%char-at string index))))
+      (setq index (+ index 1)))
+    index))
+
+(defun %is-blank (code)
+  (or (= code 32) (= code 9) (= code 10) (= code 12) (= code 13)))
+
+; The radix that #b, #o or #x names at an index, nil where none of these stands there.
+(defun %radix-at (string index)
+  (if (eql (%char-or-nil string index) #\#)
+      (let ((letter (%char-or-nil string (+ index 1))))
+        (cond ((or (eql letter #\b) (eql letter #\B)) 2)
+              ((or (eql letter #\o) (eql letter #\O)) 8)
+              ((or (eql letter #\x) (eql letter #\X)) 16)
+              (t nil)))
+      nil))
+
+; The character at an index, nil where the string ends before it.
+(defun %char-or-nil (string index)
+  (if (< index (%string-length string)) (%char-at string index) nil))
+
+; The integer that stands at an index: a sign, which may be left out, and digits of the radix, at least one.
+(defun %integer-at (string index radix)
+  (let* ((sign (%char-or-nil string index))
+         (first (if (or (eql sign #\-) (eql sign #\+)) (+ index 1) index))
+         (end (%behind-digits string first radix)))
+    (if (or (= first end) (%goes-on-at string end)) (%parse-error))
+    (%value-of-digits string first end radix (if (eql sign #\-) -1 1))))
+
+(defun %behind-digits (string index radix)
+  (while (%digit-value (%char-or-nil string index) radix)
+    (setq index (+ index 1)))
+  index)
+
+(defun %goes-on-at (string index)
+  (let ((character (%char-or-nil string index)))
+    (and (not (null character))
+         (or (%is-name-character character)
+             (and (char<= #\A character) (char<= character #\Z))))))
+
+; Each digit counts with the sign, since the least integer has no opposite.
+(defun %value-of-digits (string index end radix sign)
+  (let ((number 0))
+    (while (< index end)
+      (setq number (+ (* number radix) (* sign (%digit-value (%char-at string index) radix))))
+      (setq index (+ index 1)))
+    number))
+
+; What a character counts as a digit of the radix; nil where it is none, and where there is no character.
+(defun %digit-value (character radix)
+  (let ((value (if (null character) radix (%code-value (%char-code character)))))
+    (if (< value radix) value nil)))
+
+; 0 to 9 for the code of a digit, 10 to 35 for that of a letter, 36 for any other code.
+(defun %code-value (code)
+  (cond ((< code 48) 36)
+        ((< code 58) (- code 48))
+        ((< code 65) 36)
+        ((< code 91) (- code 55))
+        ((< code 97) 36)
+        ((< code 123) (- code 87))
+        (t 36)))
 ; Objects: what any object can be asked for, and instances of classes.
 
 ; Whether two objects are the same: integers and characters by value, all others by identity.
@@ -589,7 +673,9 @@ pub const PRELUDE: &[u8] = br##"; Characters: they are bytes, and compare by the
 (defun %convert (object class)
   (cond ((instancep object class) object)
         ((eq class (class <integer>))
-         (if (characterp object) (%char-code object) (%domain-error object class)))
+         (cond ((characterp object) (%char-code object))
+               ((stringp object) (parse-number object))
+               (t (%domain-error object class))))
         ((eq class (class <character>))
          (if (integerp object) (%code-char object) (%domain-error object class)))
         ((eq class (class <string>))
@@ -605,9 +691,14 @@ pub const PRELUDE: &[u8] = br##"; Characters: they are bytes, and compare by the
                ((listp object) (%list-vector object))
                (t (%domain-error object class))))
         (t (%domain-error object class))))
-; Output: the one stream that is printed to is standard output. Bytes are put by %emit alone. What prints gives nil.
+; Output: the one stream that is printed to is standard output. Bytes are put by %put-char alone. What prints gives nil.
 
 (defun standard-output () (standard-output))
+
+; What was put is at its stream: nothing is held back.
+(defun finish-output (stream)
+  (%check-output stream)
+  nil)
 
 ; Puts a character.
 (defun format-char (stream character) (%emit stream character))
@@ -671,15 +762,60 @@ pub const PRELUDE: &[u8] = br##"; Characters: they are bytes, and compare by the
   (%check-output stream)
   (%print stream object escape))
 
+; What is still to come of the lists and vectors around is in a list, the innermost first, so what is deep takes no deep calls: of a list
+; the pair of nil and the rest of it, of a vector the pair of the vector and its next index.
 (defun %print (stream object escape)
-  (cond ((integerp object) (%emit-integer stream object 10))
-        ((characterp object) (%print-character stream object escape))
-        ((stringp object) (%print-string stream object escape))
-        ((symbolp object) (%print-symbol stream object escape))
-        ((consp object) (%print-list stream object escape))
-        ((general-vector-p object) (%print-vector stream object escape))
-        (t (%print-opaque stream object)))
+  (let ((around (%print-front stream object escape nil)))
+    (while (not (null around))
+      (setq around (%print-more stream escape around))))
   nil)
+
+; Prints an object up to its first part that has no parts itself, with what is still to come of it in front of what is around.
+(defun %print-front (stream object escape around)
+  (while (or (consp object) (and (general-vector-p object) (> (%vector-length object) 0)))
+    (if (consp object)
+        (progn
+          (%put-char stream #\()
+          (setq around (cons (cons nil (cdr object)) around))
+          (setq object (car object)))
+        (progn
+          (%emit-all stream "#(")
+          (setq around (cons (cons object 1) around))
+          (setq object (%vector-ref object 0)))))
+  (%print-single stream object escape)
+  around)
+
+; Prints the next part of the innermost list or vector, or its end, and gives what is to come then.
+(defun %print-more (stream escape around)
+  (let ((vector (car (car around))) (rest (cdr (car around))))
+    (cond ((null vector) (%print-more-of-list stream escape rest around))
+          ((< rest (%vector-length vector))
+           (%put-char stream #\space)
+           (set-cdr (+ rest 1) (car around))
+           (%print-front stream (%vector-ref vector rest) escape around))
+          (t (%put-char stream #\))
+             (cdr around)))))
+
+(defun %print-more-of-list (stream escape rest around)
+  (cond ((consp rest)
+         (%put-char stream #\space)
+         (set-cdr (cdr rest) (car around))
+         (%print-front stream (car rest) escape around))
+        ((null rest)
+         (%put-char stream #\))
+         (cdr around))
+        (t (%emit-all stream " . ")
+           (set-cdr nil (car around))
+           (%print-front stream rest escape around))))
+
+; What has no parts.
+(defun %print-single (stream object escape)
+  (cond ((integerp object) (%emit-integer stream object 10))
+        ((symbolp object) (%print-symbol stream object escape))
+        ((stringp object) (%print-string stream object escape))
+        ((characterp object) (%print-character stream object escape))
+        ((general-vector-p object) (%emit-all stream "#()"))
+        (t (%print-opaque stream object))))
 
 (defun %print-character (stream character escape)
   (cond ((null escape) (%emit stream character))
@@ -706,29 +842,6 @@ pub const PRELUDE: &[u8] = br##"; Characters: they are bytes, and compare by the
       (%emit-all stream name)
       (%emit-between stream #\| name)))
 
-(defun %print-list (stream list escape)
-  (%emit stream #\()
-  (%print stream (car list) escape)
-  (setq list (cdr list))
-  (while (consp list)
-    (%emit stream #\space)
-    (%print stream (car list) escape)
-    (setq list (cdr list)))
-  (if (not (null list))
-      (progn
-        (%emit-all stream " . ")
-        (%print stream list escape)))
-  (%emit stream #\)))
-
-(defun %print-vector (stream vector escape)
-  (let ((index 0) (end (%vector-length vector)))
-    (%emit-all stream "#(")
-    (while (< index end)
-      (if (> index 0) (%emit stream #\space))
-      (%print stream (%vector-ref vector index) escape)
-      (setq index (+ index 1)))
-    (%emit stream #\))))
-
 ; What no text stands for.
 (defun %print-opaque (stream object)
   (cond ((generic-function-p object) (%emit-all stream "#<generic-function>"))
@@ -747,19 +860,19 @@ pub const PRELUDE: &[u8] = br##"; Characters: they are bytes, and compare by the
 (defun %emit-all (stream string)
   (let ((index 0) (end (%string-length string)))
     (while (< index end)
-      (%emit stream (%char-at string index))
+      (%put-char stream (%char-at string index))
       (setq index (+ index 1)))))
 
 ; Puts them between two marks, with a backslash before each such mark and each backslash.
 (defun %emit-between (stream mark string)
-  (%emit stream mark)
+  (%put-char stream mark)
   (let ((index 0) (end (%string-length string)))
     (while (< index end)
       (let ((character (%char-at string index)))
-        (if (or (eql character mark) (eql character #\\)) (%emit stream #\\))
-        (%emit stream character))
+        (if (or (eql character mark) (eql character #\\)) (%put-char stream #\\))
+        (%put-char stream character))
       (setq index (+ index 1))))
-  (%emit stream mark))
+  (%put-char stream mark))
 
 ; Whether the name of a symbol is read as that symbol without bars: not empty, no dot alone, no beginning of a number, and of
 ; characters of names alone, none of which is a capital letter.

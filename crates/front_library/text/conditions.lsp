@@ -11,6 +11,10 @@
 (defun %program-error ()
   (signal-condition (%allocate (class <program-error>)) nil))
 
+; A <parse-error>: a string is not the text of what was to be read.
+(defun %parse-error ()
+  (signal-condition (%allocate (class <parse-error>)) nil))
+
 ; A <simple-error> that cannot be continued, with a format string and its objects.
 (defun error (error-string :rest objects)
   (signal-condition (%simple-error error-string objects) nil))

@@ -111,3 +111,76 @@
         ((= (mod exponent 2) 1) (* base (%power base (- exponent 1))))
         (t (let ((half (%power base (div exponent 2))))
              (* half half)))))
+
+; The number that a string has the text of, as it stands in a program: blanks in front of it are passed over, and what is behind it is
+; not looked at, unless it would go on as a name.
+(defun parse-number (string)
+  (let* ((start (%behind-blanks string)) (radix (%radix-at string start)))
+    (if (null radix)
+        (%integer-at string start 10)
+        (%integer-at string (+ start 2) radix))))
+
+(defun %behind-blanks (string)
+  (let ((index 0) (end (%string-length string)))
+    (while (and (< index end) (%is-blank (%char-code (%char-at string index))))
+      (setq index (+ index 1)))
+    index))
+
+(defun %is-blank (code)
+  (or (= code 32) (= code 9) (= code 10) (= code 12) (= code 13)))
+
+; The radix that #b, #o or #x names at an index, nil where none of these stands there.
+(defun %radix-at (string index)
+  (if (eql (%char-or-nil string index) #\#)
+      (let ((letter (%char-or-nil string (+ index 1))))
+        (cond ((or (eql letter #\b) (eql letter #\B)) 2)
+              ((or (eql letter #\o) (eql letter #\O)) 8)
+              ((or (eql letter #\x) (eql letter #\X)) 16)
+              (t nil)))
+      nil))
+
+; The character at an index, nil where the string ends before it.
+(defun %char-or-nil (string index)
+  (if (< index (%string-length string)) (%char-at string index) nil))
+
+; The integer that stands at an index: a sign, which may be left out, and digits of the radix, at least one.
+(defun %integer-at (string index radix)
+  (let* ((sign (%char-or-nil string index))
+         (first (if (or (eql sign #\-) (eql sign #\+)) (+ index 1) index))
+         (end (%behind-digits string first radix)))
+    (if (or (= first end) (%goes-on-at string end)) (%parse-error))
+    (%value-of-digits string first end radix (if (eql sign #\-) -1 1))))
+
+(defun %behind-digits (string index radix)
+  (while (%digit-value (%char-or-nil string index) radix)
+    (setq index (+ index 1)))
+  index)
+
+(defun %goes-on-at (string index)
+  (let ((character (%char-or-nil string index)))
+    (and (not (null character))
+         (or (%is-name-character character)
+             (and (char<= #\A character) (char<= character #\Z))))))
+
+; Each digit counts with the sign, since the least integer has no opposite.
+(defun %value-of-digits (string index end radix sign)
+  (let ((number 0))
+    (while (< index end)
+      (setq number (+ (* number radix) (* sign (%digit-value (%char-at string index) radix))))
+      (setq index (+ index 1)))
+    number))
+
+; What a character counts as a digit of the radix; nil where it is none, and where there is no character.
+(defun %digit-value (character radix)
+  (let ((value (if (null character) radix (%code-value (%char-code character)))))
+    (if (< value radix) value nil)))
+
+; 0 to 9 for the code of a digit, 10 to 35 for that of a letter, 36 for any other code.
+(defun %code-value (code)
+  (cond ((< code 48) 36)
+        ((< code 58) (- code 48))
+        ((< code 65) 36)
+        ((< code 91) (- code 55))
+        ((< code 97) 36)
+        ((< code 123) (- code 87))
+        (t 36)))

@@ -1,6 +1,11 @@
-; Output: the one stream that is printed to is standard output. Bytes are put by %emit alone. What prints gives nil.
+; Output: the one stream that is printed to is standard output. Bytes are put by %put-char alone. What prints gives nil.
 
 (defun standard-output () (standard-output))
+
+; What was put is at its stream: nothing is held back.
+(defun finish-output (stream)
+  (%check-output stream)
+  nil)
 
 ; Puts a character.
 (defun format-char (stream character) (%emit stream character))
@@ -64,15 +69,60 @@
   (%check-output stream)
   (%print stream object escape))
 
+; What is still to come of the lists and vectors around is in a list, the innermost first, so what is deep takes no deep calls: of a list
+; the pair of nil and the rest of it, of a vector the pair of the vector and its next index.
 (defun %print (stream object escape)
-  (cond ((integerp object) (%emit-integer stream object 10))
-        ((characterp object) (%print-character stream object escape))
-        ((stringp object) (%print-string stream object escape))
-        ((symbolp object) (%print-symbol stream object escape))
-        ((consp object) (%print-list stream object escape))
-        ((general-vector-p object) (%print-vector stream object escape))
-        (t (%print-opaque stream object)))
+  (let ((around (%print-front stream object escape nil)))
+    (while (not (null around))
+      (setq around (%print-more stream escape around))))
   nil)
+
+; Prints an object up to its first part that has no parts itself, with what is still to come of it in front of what is around.
+(defun %print-front (stream object escape around)
+  (while (or (consp object) (and (general-vector-p object) (> (%vector-length object) 0)))
+    (if (consp object)
+        (progn
+          (%put-char stream #\()
+          (setq around (cons (cons nil (cdr object)) around))
+          (setq object (car object)))
+        (progn
+          (%emit-all stream "#(")
+          (setq around (cons (cons object 1) around))
+          (setq object (%vector-ref object 0)))))
+  (%print-single stream object escape)
+  around)
+
+; Prints the next part of the innermost list or vector, or its end, and gives what is to come then.
+(defun %print-more (stream escape around)
+  (let ((vector (car (car around))) (rest (cdr (car around))))
+    (cond ((null vector) (%print-more-of-list stream escape rest around))
+          ((< rest (%vector-length vector))
+           (%put-char stream #\space)
+           (set-cdr (+ rest 1) (car around))
+           (%print-front stream (%vector-ref vector rest) escape around))
+          (t (%put-char stream #\))
+             (cdr around)))))
+
+(defun %print-more-of-list (stream escape rest around)
+  (cond ((consp rest)
+         (%put-char stream #\space)
+         (set-cdr (cdr rest) (car around))
+         (%print-front stream (car rest) escape around))
+        ((null rest)
+         (%put-char stream #\))
+         (cdr around))
+        (t (%emit-all stream " . ")
+           (set-cdr nil (car around))
+           (%print-front stream rest escape around))))
+
+; What has no parts.
+(defun %print-single (stream object escape)
+  (cond ((integerp object) (%emit-integer stream object 10))
+        ((symbolp object) (%print-symbol stream object escape))
+        ((stringp object) (%print-string stream object escape))
+        ((characterp object) (%print-character stream object escape))
+        ((general-vector-p object) (%emit-all stream "#()"))
+        (t (%print-opaque stream object))))
 
 (defun %print-character (stream character escape)
   (cond ((null escape) (%emit stream character))
@@ -99,29 +149,6 @@
       (%emit-all stream name)
       (%emit-between stream #\| name)))
 
-(defun %print-list (stream list escape)
-  (%emit stream #\()
-  (%print stream (car list) escape)
-  (setq list (cdr list))
-  (while (consp list)
-    (%emit stream #\space)
-    (%print stream (car list) escape)
-    (setq list (cdr list)))
-  (if (not (null list))
-      (progn
-        (%emit-all stream " . ")
-        (%print stream list escape)))
-  (%emit stream #\)))
-
-(defun %print-vector (stream vector escape)
-  (let ((index 0) (end (%vector-length vector)))
-    (%emit-all stream "#(")
-    (while (< index end)
-      (if (> index 0) (%emit stream #\space))
-      (%print stream (%vector-ref vector index) escape)
-      (setq index (+ index 1)))
-    (%emit stream #\))))
-
 ; What no text stands for.
 (defun %print-opaque (stream object)
   (cond ((generic-function-p object) (%emit-all stream "#<generic-function>"))
@@ -140,19 +167,19 @@
 (defun %emit-all (stream string)
   (let ((index 0) (end (%string-length string)))
     (while (< index end)
-      (%emit stream (%char-at string index))
+      (%put-char stream (%char-at string index))
       (setq index (+ index 1)))))
 
 ; Puts them between two marks, with a backslash before each such mark and each backslash.
 (defun %emit-between (stream mark string)
-  (%emit stream mark)
+  (%put-char stream mark)
   (let ((index 0) (end (%string-length string)))
     (while (< index end)
       (let ((character (%char-at string index)))
-        (if (or (eql character mark) (eql character #\\)) (%emit stream #\\))
-        (%emit stream character))
+        (if (or (eql character mark) (eql character #\\)) (%put-char stream #\\))
+        (%put-char stream character))
       (setq index (+ index 1))))
-  (%emit stream mark))
+  (%put-char stream mark))
 
 ; Whether the name of a symbol is read as that symbol without bars: not empty, no dot alone, no beginning of a number, and of
 ; characters of names alone, none of which is a capital letter.

@@ -257,7 +257,7 @@ pub const DOMAIN_ERROR: &[u8] = br##"unhandled <domain-error>
 
   cause: arithmetic with what is no integer
   for example: `(+ 1 "2")`
-  cure: make a number of the text: `COOKBOOK.md`
+  cure: `parse-number` makes a number of a text
 
   cause: printing to what is no stream
   for example: `(format t "hello")`
@@ -268,7 +268,7 @@ pub const DOMAIN_ERROR: &[u8] = br##"unhandled <domain-error>
   cure: `#'car`
 
   cause: a conversion that is not there
-  for example: `(convert "12" <integer>)`
+  for example: `(convert 'a <integer>)`
   cure: the table of `convert` in `LIBRARY.md`
 
   cause: a list that does not end in `nil`
@@ -376,9 +376,9 @@ pub const END_OF_STREAM: &[u8] = br##"unhandled <end-of-stream>
 
 /// Of `<parse-error>`.
 pub const PARSE_ERROR: &[u8] = br##"unhandled <parse-error>
-  cause: only `signal-condition` of a program: the library signals none
-  for example: `(signal-condition (create (class <parse-error>)) nil)`
-  cure: whatever the program says
+  cause: `parse-number`, or `convert` to `<integer>`, of a string that has the text of no integer
+  for example: `(parse-number "4x")`
+  cure: `ignore-errors` around it gives `nil` then
 "##;
 
 /// Of `<storage-exhausted>`.
