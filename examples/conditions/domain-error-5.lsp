@@ -1,1 +1,1 @@
-(convert "12" <integer>)
+(convert 'a <integer>)

@@ -1,1 +1,1 @@
-(signal-condition (create (class <parse-error>)) nil)
+(parse-number "4x")
