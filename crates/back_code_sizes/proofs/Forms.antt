@@ -1,5 +1,5 @@
 -- **The code of each form costs no more than its words**, and neither does what is judged where a form branches on it, with six more.
-use Rattle.std.proofs.Common.{◌≡◌, ℕ, ◌+◌, ◌*◌, ◌≤◌, List, [], ◌∷◌, ◌++◌, length, slice_get, refl, arith}
+use Rattle.std.proofs.Common.{◌≡◌, ℕ, ◌+◌, ◌*◌, ◌≤◌, Bool, true, false, List, [], ◌∷◌, ◌++◌, length, slice_get, Option, Some, None, refl, arith}
 use Rattle.lang_meaning.specs.Lookup.{text}
 use Rattle.lang_meaning.specs.Literals.{function_row}
 use Rattle.flat_language.specs.declared.program.FlatProgram.{FlatProgram}
@@ -21,7 +21,7 @@ use Rattle.back_lowering.specs.Steps.{Steps, move, constant}
 use Rattle.back_lowering.specs.Leaves.{boxes_made}
 use Rattle.back_lowering.specs.Primitives.{Judged, value_judged}
 use Rattle.back_lowering.specs.Records.{block_code, catch_code, tagbody_code, unwind_code}
-use Rattle.back_lowering.specs.Codes.{Lowered, by_value, behind_arguments, exit_code, dynamic_let_code, with_handler_code, lower, lower_sequence, lower_behind, lower_arguments, lower_call_value, lower_segments, lower_clauses, lower_bindings, lower_dynamics}
+use Rattle.back_lowering.specs.Codes.{Lowered, by_value, behind_arguments, exit_code, dynamic_let_code, with_handler_code, known_truth, lower, lower_sequence, lower_behind, lower_arguments, lower_call_value, lower_segments, lower_clauses, lower_clause, lower_bindings, lower_dynamics}
 use Rattle.flat_boxes.specs.Totals.{total_of_forms, total_of_clauses, total_of_values, total_of_dynamics}
 use Rattle.back_code_sizes.specs.Passed.{codes_pass}
 use Rattle.back_code_sizes.specs.Sizes.{own_words, form_words}
@@ -140,24 +140,41 @@ called l arguments n m count applied w f g = omega (arith, w.value, f, g, append
 
 -- clauses in front of others
 value_clause :
-    (d : ℕ) (l : Lowered) (otherwise : Steps) (n m count : ℕ) → Within l n → cost otherwise ≤ 6 + 22 * count + m
-    → cost (l.value ++ (value_judged d).ready ++ (choose (value_judged d).test no_step (code_of otherwise) ∷ [])) ≤ 6 + 22 * (count + 1) + (n + (0 + m))
-value_clause d l otherwise n m count w h =
+    (d : ℕ) (l : Lowered) (others : Steps) (n m count : ℕ) → Within l n → cost others ≤ 6 + 22 * count + m
+    → cost (l.value ++ (value_judged d).ready ++ (choose (value_judged d).test no_step (code_of others) ∷ [])) ≤ 6 + 22 * (count + 1) + (n + (0 + m))
+value_clause d l others n m count w h =
     omega (
       arith,
       w.value,
       h,
-      append_cost (l.value ++ (value_judged d).ready) (choose (value_judged d).test no_step (code_of otherwise) ∷ []),
+      append_cost (l.value ++ (value_judged d).ready) (choose (value_judged d).test no_step (code_of others) ∷ []),
       append_cost l.value (value_judged d).ready,
     )
 
 body_clause :
-    (l k : Lowered) (otherwise : Steps) (n o m count : ℕ) → Within l n → Within k o → cost otherwise ≤ 6 + 22 * count + m
-    → cost (l.judged.ready ++ (choose l.judged.test (code_of k.value) (code_of otherwise) ∷ [])) ≤ 6 + 22 * (count + 1) + (n + (o + m))
-body_clause l k otherwise n o m count v w h =
-    omega (arith, v.judged, w.value, h, append_cost l.judged.ready (choose l.judged.test (code_of k.value) (code_of otherwise) ∷ []))
+    (l k : Lowered) (others : Steps) (n o m count : ℕ) → Within l n → Within k o → cost others ≤ 6 + 22 * count + m
+    → cost (l.judged.ready ++ (choose l.judged.test (code_of k.value) (code_of others) ∷ [])) ≤ 6 + 22 * (count + 1) + (n + (o + m))
+body_clause l k others n o m count v w h =
+    omega (arith, v.judged, w.value, h, append_cost l.judged.ready (choose l.judged.test (code_of k.value) (code_of others) ∷ []))
 
 module _ (names : List (List ℕ)) (at : Placement) (program : FlatProgram) where
+  value_clause_known :
+      (s : Scope) (d : ℕ) (known : Option Bool) (l : Lowered) (others : Steps) (n m count : ℕ) → Within l n → cost others ≤ 6 + 22 * count + m
+      → cost (lower_clause names at program s d known l no_body others) ≤ 6 + 22 * (count + 1) + (n + (0 + m))
+  unfolding lower
+  value_clause_known s d (Some true) l others n m count w h = omega (arith, w.value)
+  value_clause_known s d (Some false) l others n m count w h = omega (arith, h)
+  value_clause_known s d None l others n m count w h = value_clause d l others n m count w h
+
+  body_clause_known :
+      (s : Scope) (d : ℕ) (known : Option Bool) (l : Lowered) (f : FlatForm) (others : Steps) (n o m count : ℕ) → Within l n
+      → Within (lower names at program s d f) o → cost others ≤ 6 + 22 * count + m
+      → cost (lower_clause names at program s d known l (with_body f) others) ≤ 6 + 22 * (count + 1) + (n + (o + m))
+  unfolding lower
+  body_clause_known s d (Some true) l f others n o m count v w h = omega (arith, w.value)
+  body_clause_known s d (Some false) l f others n o m count v w h = omega (arith, h)
+  body_clause_known s d None l f others n o m count v w h = body_clause l (lower names at program s d f) others n o m count v w h
+
   mutual
     unfolding lower
 
@@ -253,9 +270,12 @@ module _ (names : List (List ℕ)) (at : Placement) (program : FlatProgram) wher
         (s : Scope) (d : ℕ) (cs : FlatClauses) → FitClauses program cs
         → cost (lower_clauses names at program s d cs) ≤ 6 + 22 * count_clauses cs + total_of_clauses own_words cs
     clauses_cost s d no_clause h = omega arith
-    clauses_cost s d (clause_and test no_body cs) h = value_clause d _ _ _ _ (count_clauses cs) (form_within s d test h.0) (clauses_cost s d cs h.2)
+    clauses_cost s d (clause_and test no_body cs) h =
+        value_clause_known s d (known_truth at program.literals test) (lower names at program s d test) (lower_clauses names at program s d cs) _ _
+        (count_clauses cs) (form_within s d test h.0) (clauses_cost s d cs h.2)
     clauses_cost s d (clause_and test (with_body f) cs) h =
-        body_clause _ _ _ _ _ _ (count_clauses cs) (form_within s d test h.0) (form_within s d f h.1) (clauses_cost s d cs h.2)
+        body_clause_known s d (known_truth at program.literals test) (lower names at program s d test) f (lower_clauses names at program s d cs) _ _ _
+        (count_clauses cs) (form_within s d test h.0) (form_within s d f h.1) (clauses_cost s d cs h.2)
 
     values_cost : (s : Scope) (d : ℕ) (bs : FlatBindings) → FitValues program bs → cost (lower_bindings names at program s d bs) ≤ total_of_values own_words bs
     values_cost s d no_binding h = omega arith

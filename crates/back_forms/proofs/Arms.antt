@@ -1,5 +1,5 @@
 -- The code of each shape of forms, from the code of its parts.
-use Rattle.std.proofs.Common.{◌≡◌, ℕ, suc, map, ◌+◌, ◌-◌, ◌<◌, ◌≤◌, List, [], ◌∷◌, ◌++◌, Some, length, drop, slice_get, add-one, refl, ap, sym, ◌∙◌, append_assoc, arith}
+use Rattle.std.proofs.Common.{◌≡◌, ℕ, suc, map, ◌+◌, ◌-◌, ◌<◌, ◌≤◌, Bool, true, false, List, [], ◌∷◌, ◌++◌, Option, Some, None, length, drop, slice_get, add-one, refl, ap, sym, ◌∙◌, append_assoc, arith}
 use Rattle.lang_meaning.specs.declared.primitive.Primitive.{Primitive}
 use Rattle.lang_meaning.specs.Lookup.{text}
 use Rattle.lang_meaning.specs.Literals.{function_row}
@@ -31,7 +31,7 @@ use Rattle.back_forms.specs.declared.shapes.OverForm.{OverForm}
 use Rattle.back_forms.specs.declared.shapes.OverTwo.{OverTwo}
 use Rattle.back_forms.specs.Shapes.{over_form, over_two, behind_form, routine_of}
 use Rattle.back_forms.specs.Inside.{behind, searched}
-use Rattle.back_forms.specs.Lowers.{low, low_sequence, low_behind, low_arguments, low_call_value, low_segments, low_clauses, low_clause, low_bindings, low_dynamics}
+use Rattle.back_forms.specs.Lowers.{low, low_sequence, low_behind, low_arguments, low_call_value, low_segments, low_clauses, low_clause, low_bindings, low_dynamics, truth_of}
 use Rattle.back_lowering.proofs.Rests.{there, past}
 use Rattle.back_forms.proofs.Cases.{codes_behind, behind_none, behind_more}
 use Rattle.back_forms.proofs.Equations.{over_is, two_is, call_is, prim_is, block_is, catch_is, handler_is, sited_is, counted, counted_dynamics, prim_ready, prim_test}
@@ -240,7 +240,7 @@ module _ (g : Given) (s : Scope) where
 
   -- the last clauses are behind the one in front of them
   pub clause_next : (d : ℕ) (x : FlatClause) (xs : List FlatClause)
-      → low_clauses g s d (clauses_of (x ∷ xs)) ≡ low_clause g s d (low g s d x.test) (maybe_form x.body) (code_of (low_clauses g s d (clauses_of xs)))
+      → low_clauses g s d (clauses_of (x ∷ xs)) ≡ low_clause g s d (truth_of g x.test) (low g s d x.test) (maybe_form x.body) (low_clauses g s d (clauses_of xs))
   unfolding lower
   clause_next d x xs = refl
 
@@ -254,7 +254,7 @@ module _ (g : Given) (s : Scope) where
       → i < n
       → slice_get xs (n - 1 - i) ≡ Some x
       → otherwise ≡ low_clauses g s d (clauses_of (drop (n - i) xs))
-      → new ≡ low_clause g s d (low g s d x.test) (maybe_form x.body) (code_of otherwise)
+      → new ≡ low_clause g s d (truth_of g x.test) (low g s d x.test) (maybe_form x.body) otherwise
       → new ≡ low_clauses g s d (clauses_of (drop (n - (i + 1)) xs))
   clause_step d xs n i x otherwise new all below here so is =
       let p : n - 1 - i ≡ n - (i + 1) = omega arith in
@@ -262,7 +262,7 @@ module _ (g : Given) (s : Scope) where
       let e : drop (n - (i + 1)) xs ≡ x ∷ drop (n - i) xs =
       sym (ap (λ (k : ℕ). drop k xs) p) ∙ there xs (n - 1 - i) x here ∙ ap (λ (k : ℕ). x ∷ drop k xs) q in
       is
-      ∙ ap (λ (o : Steps). low_clause g s d (low g s d x.test) (maybe_form x.body) (code_of o)) so
+      ∙ ap (λ (o : Steps). low_clause g s d (truth_of g x.test) (low g s d x.test) (maybe_form x.body) o) so
       ∙ sym (clause_next d x (drop (n - i) xs))
       ∙ sym (ap (λ (ys : List FlatClause). low_clauses g s d (clauses_of ys)) e)
 
@@ -378,36 +378,55 @@ module _ (g : Given) (s : Scope) (d : ℕ) (old new : Steps) where
 
 -- clauses
 
+-- a clause whose test is known
+
+module _ (g : Given) (s : Scope) (d : ℕ) (x : FlatForm) (o : Option Bool) (others new : Steps) where
+  pub taken_alone : (b : FlatBody) → o ≡ Some true → b ≡ no_body → new ≡ (low g s d x).value → new ≡ low_clause g s d o (low g s d x) b others
+  unfolding lower
+  taken_alone b known none is =
+      is ∙ sym (ap (λ y. low_clause g s d (Some true) (low g s d x) y others) none) ∙ sym (ap (λ y. low_clause g s d y (low g s d x) b others) known)
+
+  pub taken_body : (b : FlatBody) (f : FlatForm) → o ≡ Some true → b ≡ with_body f → new ≡ (low g s d f).value → new ≡ low_clause g s d o (low g s d x) b others
+  unfolding lower
+  taken_body b f known some is =
+      is ∙ sym (ap (λ y. low_clause g s d (Some true) (low g s d x) y others) some) ∙ sym (ap (λ y. low_clause g s d y (low g s d x) b others) known)
+
+  pub left_out : (b : FlatBody) → o ≡ Some false → new ≡ others → new ≡ low_clause g s d o (low g s d x) b others
+  unfolding lower
+  left_out b known is = is ∙ sym (ap (λ y. low_clause g s d y (low g s d x) b others) known)
+
+-- a clause whose test is asked
+
 module _ (g : Given) (s : Scope) (d : ℕ) (x : FlatForm) (b : FlatBody) (begun new otherwise : Steps) where
   pub alone_arm : (ready judged first : Steps) (t : Test)
       → b ≡ no_body → begun ≡ [] → ready ≡ begun ++ (low g s d x).value → judged ≡ ready ++ (value_judged d).ready → t ≡ (value_judged d).test
       → first ≡ [] → new ≡ judged ++ choose t (code_of first) (code_of otherwise) ∷ []
-      → new ≡ low_clause g s d (low g s d x) b (code_of otherwise)
+      → new ≡ low_clause g s d None (low g s d x) b otherwise
   unfolding lower
   alone_arm ready judged first t none empty one two test nothing last =
       joined_three begun ready judged new (low g s d x).value (value_judged d).ready (choose (value_judged d).test no_step (code_of otherwise) ∷ [])
-      (low_clause g s d (low g s d x) no_body (code_of otherwise))
+      (low_clause g s d None (low g s d x) no_body otherwise)
       one two
       (last
       ∙ ap (λ (y : Test). judged ++ choose y (code_of first) (code_of otherwise) ∷ []) test
       ∙ ap (λ (y : Steps). judged ++ choose (value_judged d).test (code_of y) (code_of otherwise) ∷ []) nothing)
       (append_assoc (low g s d x).value (value_judged d).ready (choose (value_judged d).test no_step (code_of otherwise) ∷ []))
-      ∙ ap (λ (y : Steps). y ++ low_clause g s d (low g s d x) no_body (code_of otherwise)) empty
-      ∙ sym (ap (λ (y : FlatBody). low_clause g s d (low g s d x) y (code_of otherwise)) none)
+      ∙ ap (λ (y : Steps). y ++ low_clause g s d None (low g s d x) no_body otherwise) empty
+      ∙ sym (ap (λ (y : FlatBody). low_clause g s d None (low g s d x) y otherwise) none)
 
   pub body_arm : (y : FlatForm) (ready first : Steps) (t : Test) (s1 : Scope)
       → b ≡ with_body y → begun ≡ [] → ready ≡ begun ++ (low g s d x).judged.ready → t ≡ (low g s d x).judged.test
       → s1 ≡ s → first ≡ (low g s1 d y).value → new ≡ ready ++ choose t (code_of first) (code_of otherwise) ∷ []
-      → new ≡ low_clause g s d (low g s d x) b (code_of otherwise)
+      → new ≡ low_clause g s d None (low g s d x) b otherwise
   unfolding lower
   body_arm y ready first t s1 some empty one test same inner last =
       joined begun ready new (low g s d x).judged.ready (choose (low g s d x).judged.test (code_of (low g s d y).value) (code_of otherwise) ∷ [])
-      (low_clause g s d (low g s d x) (with_body y) (code_of otherwise))
+      (low_clause g s d None (low g s d x) (with_body y) otherwise)
       one
       (last
       ∙ ap (λ (z : Test). ready ++ choose z (code_of first) (code_of otherwise) ∷ []) test
       ∙ ap (λ (z : Steps). ready ++ choose (low g s d x).judged.test (code_of z) (code_of otherwise) ∷ [])
       (inner ∙ ap (λ (z : Scope). (low g z d y).value) same))
       refl
-      ∙ ap (λ (z : Steps). z ++ low_clause g s d (low g s d x) (with_body y) (code_of otherwise)) empty
-      ∙ sym (ap (λ (z : FlatBody). low_clause g s d (low g s d x) z (code_of otherwise)) some)
+      ∙ ap (λ (z : Steps). z ++ low_clause g s d None (low g s d x) (with_body y) otherwise) empty
+      ∙ sym (ap (λ (z : FlatBody). low_clause g s d None (low g s d x) z otherwise) some)

@@ -3,10 +3,9 @@
 ghost use Rattle.std.specs.Prelude.{◌≡◌, ◌++◌, ◌+◌, ◌<◌, ◌^◌, OnOk, IfOk};
 ghost use Rattle.flat_language.specs.FlatForm.{let_form, while_form, tagbody, unwind, dynamic_let};
 ghost use Rattle.flat_language.specs.model.View.{forms, clauses_of, bindings_of, dynamics_of, maybe_form};
-ghost use Rattle.mid_code.specs.MidCode.{code_of};
 ghost use Rattle.mid_code.specs.model.View.{codes_of};
 ghost use Rattle.back_calls.specs.Tabled.{IsTabled};
-ghost use Rattle.back_forms.specs.Lowers.{low, low_sequence, low_arguments, low_call_value, low_segments, low_clauses, low_clause, low_bindings, low_dynamics};
+ghost use Rattle.back_forms.specs.Lowers.{low, low_sequence, low_arguments, low_call_value, low_segments, low_clauses, low_clause, low_bindings, low_dynamics, truth_of};
 
 use crate::homes::homes_of;
 use crate::judging::{Judging, judging_of};
@@ -21,6 +20,7 @@ use back_calls::given::row_of;
 use back_calls::records::{block_code, catch_code, tagbody_code, unwind_code};
 use back_leaves::applying::{apply_primitive, judge_primitive, value_judged};
 use back_leaves::boxes::boxes_made;
+use back_leaves::known::known_truth;
 use back_leaves::steps::{move_word, word};
 use back_lowering::{Scope, SitePlace};
 use base::NoMemory;
@@ -343,7 +343,7 @@ fn clauses(
     Ok(otherwise)
 }
 
-// A clause, with what is done where its test is not true.
+// A clause in front of others: nothing is asked where its test is known.
 #[cycle(forms)]
 fn clause(
     alloc: Global,
@@ -354,7 +354,31 @@ fn clause(
     otherwise: Code,
 ) -> Result<Code, NoMemory>
     requires { IsTabled given.now }
-    ensures code { IfOk result (λ code. code ≡ low_clause given.now scope.old d (low given.now scope.old d choice.now.test) (maybe_form choice.now.body) (code_of otherwise)) }
+    ensures code { IfOk result (λ code. code ≡ low_clause given.now scope.old d (truth_of given.now choice.now.test) (low given.now scope.old d choice.now.test) (maybe_form choice.now.body) otherwise) }
+    ensures scope { OnOk result (scope.new ≡ scope.old) }
+{
+    match known_truth(given.at, &given.program.literals, &choice.test) {
+        Some(true) => match &choice.body {
+            None => inside(alloc, given, scope, d, &choice.test),
+            Some(body) => inside(alloc, given, scope, d, body),
+        },
+        Some(false) => Ok(otherwise),
+        None => asked_clause(alloc, given, scope, d, choice, otherwise),
+    }
+}
+
+// A clause whose test is asked, in front of others.
+#[cycle(forms)]
+fn asked_clause(
+    alloc: Global,
+    given: &Given,
+    scope: &mut Scope,
+    d: Register,
+    choice: &FlatClause,
+    otherwise: Code,
+) -> Result<Code, NoMemory>
+    requires { IsTabled given.now }
+    ensures code { IfOk result (λ code. code ≡ low_clause given.now scope.old d None (low given.now scope.old d choice.now.test) (maybe_form choice.now.body) otherwise) }
     ensures scope { OnOk result (scope.new ≡ scope.old) }
 {
     let mut code = Code::new(alloc);

@@ -1,6 +1,6 @@
 -- **The registers that the code of a form names**: those of its surroundings that its forms name by places, and those from its first one up to its
 -- height.
-use Rattle.std.proofs.Common.{◌≡◌, ℕ, ◌+◌, ◌≤◌, List, [], ◌++◌, length, refl, arith}
+use Rattle.std.proofs.Common.{◌≡◌, ℕ, ◌+◌, ◌≤◌, Bool, true, false, List, [], ◌++◌, length, Option, Some, None, refl, arith}
 use Rattle.std.specs.Prelude.{slice_get}
 use Rattle.base.specs.AllOf.{AllOf, all_both}
 use Rattle.flat_language.specs.declared.program.FlatProgram.{FlatProgram}
@@ -19,7 +19,7 @@ use Rattle.back_lowering.specs.declared.scope.Scope.{Scope}
 use Rattle.back_lowering.specs.declared.placement.Placement.{Placement}
 use Rattle.back_lowering.specs.Routines.{throw_routine, continue_routine, signal_routine, apply_routine}
 use Rattle.back_lowering.specs.Steps.{Steps}
-use Rattle.back_lowering.specs.Codes.{Lowered, by_value, lower, lower_sequence, lower_behind, lower_arguments, lower_segments, lower_clauses, lower_bindings, lower_dynamics}
+use Rattle.back_lowering.specs.Codes.{Lowered, by_value, known_truth, lower, lower_sequence, lower_behind, lower_arguments, lower_segments, lower_clauses, lower_clause, lower_bindings, lower_dynamics}
 use Rattle.back_frames.specs.Heights.{height, height_of_forms, height_of_arguments, height_of_clauses, height_of_values, height_of_dynamics}
 use Rattle.back_frames.proofs.FormsIn.{forms_in, in_forms, in_clauses, in_values, in_dynamics, in_front, behind}
 use Rattle.back_frames.proofs.Naming.{StepNames, Names, CodesName, Range, narrowed, those, none, ◌▸◌, ◌⊹◌, moves, constants, repeats}
@@ -70,6 +70,23 @@ site_keeps : (P : ℕ → Type 0) (s : Scope) (n : ℕ) → Keeps P s (at_site n
 site_keeps P s n = record { slots = λ m h. h; exits = λ m h. h }
 
 module _ (names : List (List ℕ)) (at : Placement) (program : FlatProgram) (P : ℕ → Type 0) where
+  -- a clause in front of others, without a body and with one
+  alone_clause_names :
+      (s : Scope) (d : ℕ) (known : Option Bool) (test : Lowered) (others : Steps) → LoweredNames P test → Names P others → P d → P (d + 1)
+      → Names P (lower_clause names at program s d known test no_body others)
+  unfolding lower
+  alone_clause_names s d (Some true) test others one more d0 d1 = one.value
+  alone_clause_names s d (Some false) test others one more d0 d1 = more
+  alone_clause_names s d None test others one more d0 d1 = (one.value ⊹ constants d1 ▸ none) ⊹ chooses_test {first = []} d0 d1 none more ▸ none
+
+  body_clause_names :
+      (s : Scope) (d : ℕ) (known : Option Bool) (test : Lowered) (f : FlatForm) (others : Steps) → LoweredNames P test
+      → Names P (lower names at program s d f).value → Names P others → Names P (lower_clause names at program s d known test (with_body f) others)
+  unfolding lower
+  body_clause_names s d (Some true) test f others one body more = body
+  body_clause_names s d (Some false) test f others one body more = more
+  body_clause_names s d None test f others one body more = one.judged.ready ⊹ chooses_test one.judged.first one.judged.second body more ▸ none
+
   mutual
     unfolding lower
 
@@ -375,7 +392,7 @@ module _ (names : List (List ℕ)) (at : Placement) (program : FlatProgram) (P :
         clauses_names s d cs around (behind (PlacesAllowed P s) (forms_in test) (in_clauses cs) h)
         (narrowed d (height_of_clauses (clause_and test no_body cs)) d (height_of_clauses cs) all (omega arith) (omega arith))
         in
-        (first.value ⊹ constants d1 ▸ none) ⊹ chooses_test {first = []} d0 d1 none more ▸ none
+        alone_clause_names s d (known_truth at program.literals test) (lower names at program s d test) (lower_clauses names at program s d cs) first more d0 d1
     clauses_names s d (clause_and test (with_body f) cs) around h all =
         let others : AllOf (PlacesAllowed P s) (forms_in f ++ in_clauses cs) = behind (PlacesAllowed P s) (forms_in test) (forms_in f ++ in_clauses cs) h in
         let first =
@@ -390,4 +407,5 @@ module _ (names : List (List ℕ)) (at : Placement) (program : FlatProgram) (P :
         clauses_names s d cs around (behind (PlacesAllowed P s) (forms_in f) (in_clauses cs) others)
         (narrowed d (height_of_clauses (clause_and test (with_body f) cs)) d (height_of_clauses cs) all (omega arith) (omega arith))
         in
-        first.judged.ready ⊹ chooses_test first.judged.first first.judged.second second.value more ▸ none
+        body_clause_names s d (known_truth at program.literals test) (lower names at program s d test) f (lower_clauses names at program s d cs) first
+        second.value more

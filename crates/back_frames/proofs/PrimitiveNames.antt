@@ -15,7 +15,7 @@ use Rattle.mid_arena.specs.FixedWords.{true_address}
 use Rattle.back_lowering.specs.declared.scope.SitePlace.{SitePlace}
 use Rattle.back_lowering.specs.declared.placement.Placement.{Placement}
 use Rattle.back_lowering.specs.Steps.{Steps, move, where_so}
-use Rattle.back_lowering.specs.Primitives.{Judged, value_judged, truth_where, where_tag, where_integers, known_integer, asked_integers, second_known, behind_first, by_procedure, sum_where, difference_where, car_into, cdr_into, cons_made, element_where, apply_primitive, comparison_judged, judge_primitive}
+use Rattle.back_lowering.specs.Primitives.{Judged, value_judged, truth_where, where_tag, where_likely_tag, where_integers, known_integer, asked_integers, second_known, behind_first, by_procedure, sum_where, difference_where, car_into, cdr_into, cons_made, element_where, apply_primitive, comparison_judged, judge_primitive}
 use Rattle.back_frames.proofs.Naming.{StepNames, Names, Range, narrowed, those, none, ◌▸◌, ◌⊹◌, moves, constants, computes, loads, stores, headers, requests, calls, chooses}
 use Rattle.back_frames.proofs.Surroundings.{SiteAllowed}
 use Rattle.back_frames.proofs.LeafNames.{load_from_names, site_names}
@@ -36,12 +36,16 @@ tag_names : {P : ℕ → Type 0} (of t tag : ℕ) (first second : Steps) → P o
     → Names P (where_tag of t tag first second)
 tag_names of t tag first second a b c one other = constants b ▸ computes b a b ▸ constants c ▸ chooses b c one other ▸ none
 
+likely_tag_names : {P : ℕ → Type 0} (of t tag : ℕ) (likely other : Steps) → P of → P t → P (t + 1) → Names P likely → Names P other
+    → Names P (where_likely_tag of t tag likely other)
+likely_tag_names of t tag likely other a b c one more = constants b ▸ computes b a b ▸ constants c ▸ chooses b c more one ▸ none
+
 integers_names : {P : ℕ → Type 0} (asked : List ℕ) (t : ℕ) (first second : Steps) → AllOf P asked → P t → P (t + 1) → Names P first → Names P second
     → Names P (where_integers asked t first second)
 integers_names [] t first second all b c one other = one
-integers_names (r ∷ []) t first second all b c one other = tag_names r t 0 first second all.0 b c one other
+integers_names (r ∷ []) t first second all b c one other = likely_tag_names r t 0 first second all.0 b c one other
 integers_names (r ∷ q ∷ more) t first second all b c one other =
-    computes b all.0 all.1.0 ▸ constants c ▸ computes b b c ▸ constants c ▸ chooses b c one other ▸ none
+    computes b all.0 all.1.0 ▸ constants c ▸ computes b b c ▸ constants c ▸ chooses b c other one ▸ none
 
 either_step : {P : ℕ → Type 0} (b : Bool) (s s' : MidStep) → StepNames P s → StepNames P s' → StepNames P (if b then s else s')
 either_step true s s' x y = x
@@ -55,7 +59,7 @@ sum_names (Some word) d t slow d0 d1 t0 t1 t2 other =
     (chooses t0 d0 other (moves d0 t0 ▸ none)) (chooses d0 t0 other (moves d0 t0 ▸ none))
     ▸ none
 sum_names None d t slow d0 d1 t0 t1 t2 other =
-    computes t0 d0 d1 ▸ constants t1 ▸ computes t1 d1 t1 ▸ computes t2 t0 d0 ▸ chooses t1 t2 (moves d0 t0 ▸ none) other ▸ none
+    computes t0 d0 d1 ▸ constants t1 ▸ computes t1 d1 t1 ▸ computes t2 t0 d0 ▸ chooses t1 t2 other (moves d0 t0 ▸ none) ▸ none
 
 difference_names : {P : ℕ → Type 0} (second : Option ℕ) (d t : ℕ) (slow : Steps) → P d → P (d + 1) → P t → P (t + 1) → P (t + 2) → Names P slow
     → Names P (difference_where second d t slow)
@@ -65,7 +69,7 @@ difference_names (Some word) d t slow d0 d1 t0 t1 t2 other =
     (chooses d0 t0 other (moves d0 t0 ▸ none)) (chooses t0 d0 other (moves d0 t0 ▸ none))
     ▸ none
 difference_names None d t slow d0 d1 t0 t1 t2 other =
-    computes t0 d0 d1 ▸ constants t1 ▸ computes t1 t1 d1 ▸ computes t2 t0 d0 ▸ chooses t1 t2 (moves d0 t0 ▸ none) other ▸ none
+    computes t0 d0 d1 ▸ constants t1 ▸ computes t1 t1 d1 ▸ computes t2 t0 d0 ▸ chooses t1 t2 other (moves d0 t0 ▸ none) ▸ none
 
 cons_names : {P : ℕ → Type 0} (d t : ℕ) → P d → P (d + 1) → P t → P (t + 1) → Names P (cons_made d t)
 cons_names d t d0 d1 t0 t1 = constants t0 ▸ requests t0 t0 ▸ stores d0 t0 ▸ stores d1 t0 ▸ constants t1 ▸ computes d0 t0 t1 ▸ none
@@ -156,8 +160,8 @@ module _ (at : Placement) (literals : List LiteralRow) where
     applied_names primitive.IsCons = tag_names d _ _ _ _ d0 t0 t1 (load_from_names d d true_address d0 d0) (constants d0 ▸ none)
     applied_names primitive.IsInteger = tag_names d _ _ _ _ d0 t0 t1 (load_from_names d d true_address d0 d0) (constants d0 ▸ none)
     applied_names primitive.Cons = cons_names d _ d0 d1 t0 t1
-    applied_names primitive.Car = tag_names d _ _ _ _ d0 t0 t1 (car_names d d d0 d0) (slowly primitive.Car)
-    applied_names primitive.Cdr = tag_names d _ _ _ _ d0 t0 t1 (cdr_names d d d0 d0) (slowly primitive.Cdr)
+    applied_names primitive.Car = likely_tag_names d _ _ _ _ d0 t0 t1 (car_names d d d0 d0) (slowly primitive.Car)
+    applied_names primitive.Cdr = likely_tag_names d _ _ _ _ d0 t0 t1 (cdr_names d d d0 d0) (slowly primitive.Cdr)
     applied_names primitive.VectorRef =
         element_names _ d _ _ (behind_allowed P d fs arguments) d0 d1 t0 t1 t2 (all (d + count_forms fs + 1 + 1) (omega arith) (omega arith)) (slowly primitive.VectorRef)
     applied_names p = slowly p

@@ -8,7 +8,7 @@ use Rattle.back_leaves.specs.Asks.{asked_one}
 use Rattle.back_lowering.proofs.Rests.{there, past}
 use Rattle.back_lowering.specs.declared.placement.Placement.{Placement}
 use Rattle.back_lowering.specs.Steps.{Steps}
-use Rattle.back_lowering.specs.Primitives.{where_tag, where_integers, known_integer, asked_integers, second_known, behind_first}
+use Rattle.back_lowering.specs.Primitives.{where_likely_tag, where_integers, known_integer, asked_integers, second_known, behind_first}
 
 -- an argument of which it is not known, and one of which it is
 
@@ -27,9 +27,9 @@ none_asked [] t first second h = refl
 none_asked (r ∷ rs) t first second h = absurd (omega arith)
 
 pub one_asked : (asked : List ℕ) (t r : ℕ) (first second : Steps) → slice_get asked 0 ≡ Some r → length asked ≤ 1
-    → where_integers asked t first second ≡ where_tag r t 0 first second
+    → where_integers asked t first second ≡ where_likely_tag r t 0 first second
 one_asked [] t r first second e h = cc
-one_asked (q ∷ []) t r first second e h = let s : q ≡ r = cc in ap (λ (x : ℕ). where_tag x t 0 first second) s
+one_asked (q ∷ []) t r first second e h = let s : q ≡ r = cc in ap (λ (x : ℕ). where_likely_tag x t 0 first second) s
 one_asked (q ∷ p ∷ rs) t r first second e h = absurd (omega arith)
 
 -- the second argument

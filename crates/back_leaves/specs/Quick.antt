@@ -12,7 +12,7 @@ use Rattle.mid_arena.specs.FixedWords.{true_address}
 use Rattle.back_lowering.specs.declared.scope.SitePlace.{SitePlace}
 use Rattle.back_lowering.specs.declared.placement.Placement.{Placement}
 use Rattle.back_lowering.specs.Steps.{Steps, constant, compute, test_of, load_from}
-use Rattle.back_lowering.specs.Primitives.{Judged, asked_integers, second_known, by_procedure, where_tag, where_integers, truth_where, sum_where, difference_where, cons_made, car_into, cdr_into, element_where, behind_first, comparison_judged, value_judged}
+use Rattle.back_lowering.specs.Primitives.{Judged, asked_integers, second_known, by_procedure, where_tag, where_likely_tag, where_integers, truth_where, sum_where, difference_where, cons_made, car_into, cdr_into, element_where, behind_first, comparison_judged, value_judged}
 use Rattle.back_leaves.specs.declared.quick.Order.{Order}
 use Rattle.back_leaves.specs.declared.quick.Order.TheVariants.{Straight, Swapped}
 use Rattle.back_leaves.specs.declared.quick.Pair.{Pair}
@@ -58,8 +58,8 @@ module _ (at : Placement) (literals : List LiteralRow) where
   applied quick.IsNull fs d t slow = constant t nil_word ∷ truth_where Equal d d t
   applied (quick.HasTag tag) fs d t slow = where_tag d t tag (load_from d d true_address) (constant d nil_word ∷ [])
   applied quick.Cons fs d t slow = cons_made d t
-  applied quick.Car fs d t slow = where_tag d t cons_tag (car_into d d) slow
-  applied quick.Cdr fs d t slow = where_tag d t cons_tag (cdr_into d d) slow
+  applied quick.Car fs d t slow = where_likely_tag d t cons_tag (car_into d d) slow
+  applied quick.Cdr fs d t slow = where_likely_tag d t cons_tag (cdr_into d d) slow
   applied quick.Element fs d t slow = element_where (asked_integers at literals (d + 1) (behind_first fs)) d t slow
   applied quick.ByProcedure fs d t slow = slow
 

@@ -15,7 +15,7 @@ use crate::known::{asked, second_known};
 use crate::numbers::quick_of;
 use crate::primitives::{
     by_procedure, car_into, cdr_into, cons_made, difference_where, element_where, sum_where, truth,
-    truth_where, where_integers, where_tag,
+    truth_where, where_integers, where_likely_tag, where_tag,
 };
 use crate::quick::{Comparing, Order, Pair, Quick};
 use crate::steps::{if_true, push_three, push_two, setting};
@@ -134,10 +134,10 @@ fn apply_part(
     quick: Code,
 ) -> Result<(), NoMemory>
     requires { d + count < 2 ^ 60 }
-    ensures { OnOk result (code.new ≡ code.old ++ primitives.where_tag d (d + count) cons_tag quick (primitives.by_procedure at.now which count d site)) }
+    ensures { OnOk result (code.new ≡ code.old ++ primitives.where_likely_tag d (d + count) cons_tag quick (primitives.by_procedure at.now which count d site)) }
 {
     let slow = by_procedure(alloc, at, which, count, d, site)?;
-    where_tag(code, d, d + count, CONS, quick, slow)
+    where_likely_tag(code, d, d + count, CONS, quick, slow)
 }
 
 // t or nil, as the word in d has a tag.

@@ -1,7 +1,8 @@
-// Which arguments of a primitive are known to be integers.
+// What is known of forms when code is written: which arguments of a primitive are integers, and which tests are true.
 
 ghost use Rattle.std.specs.Prelude.{◌≡◌, ◌++◌, ◌+◌, ◌<◌, ◌^◌, length, drop, OnOk, IfOk};
 ghost use Rattle.flat_language.specs.model.View.{forms};
+ghost use Rattle.back_lowering.specs.Codes as codes;
 ghost use Rattle.back_lowering.specs.Primitives as primitives;
 ghost use Rattle.back_leaves.specs.Asks.{asked_one};
 ghost use Rattle.std.specs.Prelude.{slice_get};
@@ -46,6 +47,28 @@ pub fn known_integer(at: &Placement, literals: &LiteralRows, form: &FlatCore) ->
 {
     match &form.form {
         FlatCoreForm::Literal(number) => integer_in(at, literals, *number),
+        _ => None,
+    }
+}
+
+// Whether a literal is true, where it is a datum.
+fn truth_in(at: &Placement, literals: &LiteralRows, number: LiteralId) -> Option<bool>
+    ensures { result ≡ codes.truth_in at.now number (slice_get literals.now number) }
+{
+    match literals.get(number) {
+        Some(LiteralRow::Datum(_)) => Some(literal_word(at, number) != NIL),
+        Some(LiteralRow::Class(_)) => None,
+        Some(LiteralRow::Function(_)) => None,
+        None => None,
+    }
+}
+
+/// Whether a form is true, where that is known when its code is written.
+pub fn known_truth(at: &Placement, literals: &LiteralRows, form: &FlatCore) -> Option<bool>
+    ensures { result ≡ codes.known_truth at.now literals.now form.now }
+{
+    match &form.form {
+        FlatCoreForm::Literal(number) => truth_in(at, literals, *number),
         _ => None,
     }
 }

@@ -12,8 +12,8 @@ use crate::leaves::{routine, site_stored};
 use crate::numbers::primitive_number;
 use crate::registers::registers;
 use crate::steps::{
-    call, if_different, if_equal, load_from, move_word, push_four, push_three, push_two, request,
-    setting, where_so,
+    call, if_different, if_equal, if_likely_equal, load_from, move_word, push_four, push_three,
+    push_two, request, setting, where_so,
 };
 use crate::words::{MOST_REGISTERS, PENDING, PRIMITIVES, TRUE_ADDRESS};
 use back_lowering::{Placement, SitePlace};
@@ -71,6 +71,27 @@ pub fn where_tag(
     )
 }
 
+/// The same where these are likely.
+pub fn where_likely_tag(
+    code: &mut Code,
+    of: Register,
+    t: Register,
+    tag: u32,
+    likely: Code,
+    other: Code,
+) -> Result<(), NoMemory>
+    requires { t < 2 ^ 62 }
+    ensures { OnOk result (code.new ≡ code.old ++ primitives.where_likely_tag of t tag likely other) }
+{
+    push_four(
+        code,
+        constant(t, 3),
+        compute(t, Arithmetic::And, of, t),
+        constant(t + 1, tag),
+        if_likely_equal(t, t + 1, likely, other),
+    )
+}
+
 // One code where the words in two registers are integers, else the other.
 fn where_both(
     code: &mut Code,
@@ -83,7 +104,7 @@ fn where_both(
     requires { t < 2 ^ 62 }
     ensures { OnOk result (code.new ≡ code.old ++ primitives.where_integers (first_asked ∷ second_asked ∷ []) t first second) }
 {
-    let choice = if_equal(t, t + 1, first, second);
+    let choice = if_likely_equal(t, t + 1, first, second);
     push_three(
         code,
         compute(t, Arithmetic::Or, first_asked, second_asked),
@@ -108,7 +129,7 @@ pub fn where_integers(
         return code.append_list(first);
     };
     match asked.get(1) {
-        None => where_tag(code, *first_asked, t, 0, first, second),
+        None => where_likely_tag(code, *first_asked, t, 0, first, second),
         Some(second_asked) => where_both(code, *first_asked, *second_asked, t, first, second),
     }
 }
@@ -191,7 +212,7 @@ pub fn sum_where(
                 constant(t + 1, 0),
                 compute(t + 1, Arithmetic::Less, d + 1, t + 1),
                 compute(t + 2, Arithmetic::Less, t, d),
-                if_equal(t + 1, t + 2, taken, slow),
+                if_likely_equal(t + 1, t + 2, taken, slow),
             )?;
         }
     }
@@ -227,7 +248,7 @@ pub fn difference_where(
                 constant(t + 1, 0),
                 compute(t + 1, Arithmetic::Less, t + 1, d + 1),
                 compute(t + 2, Arithmetic::Less, t, d),
-                if_equal(t + 1, t + 2, taken, slow),
+                if_likely_equal(t + 1, t + 2, taken, slow),
             )?;
         }
     }

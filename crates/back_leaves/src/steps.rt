@@ -105,6 +105,13 @@ pub fn if_different(a: Register, b: Register, first: Code, second: Code) -> Code
     where_so(Comparison::Different, a, b, first, second)
 }
 
+/// One code where two registers are equal, which is likely, else the other.
+pub fn if_likely_equal(a: Register, b: Register, likely: Code, other: Code) -> CodeStep
+    ensures { result ≡ steps.if_likely_equal a b likely other }
+{
+    if_different(a, b, other, likely)
+}
+
 /// One code or the other, as the value in d is true or nil; t is used.
 pub fn if_true(
     code: &mut Code,

@@ -1,5 +1,5 @@
 -- **The code of flat forms.** The result comes in the register d; only d and those behind it are used, but for the registers of slots.
-use Rattle.std.specs.Prelude.{ℕ, zero, suc, ◌+◌, ◌*◌, ◌-◌, Bool, true, false, List, [], ◌∷◌, ◌++◌, Option, Some, None, length, slice_get}
+use Rattle.std.specs.Prelude.{ℕ, zero, suc, ◌+◌, ◌*◌, ◌-◌, ◌==◌, Bool, true, false, not, List, [], ◌∷◌, ◌++◌, Option, Some, None, length, slice_get}
 use Rattle.lang_meaning.specs.declared.program.LiteralRow.{LiteralRow}
 use Rattle.lang_meaning.specs.declared.program.LiteralRow.TheVariants as row
 use Rattle.lang_meaning.specs.declared.program.FunctionRow.{FunctionRow}
@@ -22,7 +22,7 @@ use Rattle.flat_language.specs.FlatNodes.{count_forms, count_dynamics}
 use Rattle.mid_code.specs.declared.operation.Arithmetic.TheVariants as which
 use Rattle.mid_code.specs.declared.operation.Comparison.TheVariants.{Different}
 use Rattle.mid_code.specs.declared.operation.Counted.TheVariants.{Level}
-use Rattle.mid_code.specs.MidCode.{repeat, with_block, choose, MidCode, no_step, code_of, MidCodes, no_code, code_and}
+use Rattle.mid_code.specs.MidCode.{repeat, with_block, choose, no_step, code_of, MidCodes, no_code, code_and}
 use Rattle.mid_arena.specs.Tags.{nil_word, unbound_word, object_tag, function_header}
 use Rattle.mid_arena.specs.FixedWords.{true_address}
 use Rattle.back_lowering.specs.ControlWords.{current_address, handlers_address, bindings_address, handler_function, handler_outer, handler_words, binding_variable, binding_value, binding_outer, binding_words, function_number, chain_end}
@@ -55,6 +55,15 @@ behind_arguments arguments applied judged = record {
   value = arguments ++ applied;
   judged = record { ready = arguments ++ judged.ready; test = judged.test };
 }
+
+-- A test that is a literal datum is known when its code is written: nil is false, and every other datum is true.
+abbrev pub truth_in : Placement → ℕ → Option LiteralRow → Option Bool
+truth_in at i (Some (row.Datum d)) = Some (not (literal_word at i == nil_word))
+truth_in at i other = None
+
+abbrev pub known_truth : Placement → List LiteralRow → FlatForm → Option Bool
+known_truth at literals (literal i) = truth_in at i (slice_get literals i)
+known_truth at literals f = None
 
 -- the innermost of dynamic bindings whose cells begin at b, where another one was
 abbrev pub innermost : (b old : ℕ) → FlatDynamics → ℕ
@@ -297,13 +306,19 @@ module _ (names : List (List ℕ)) (at : Placement) (program : FlatProgram) wher
     -- the first clause whose test is true: its body, or the test's value where it has none
     pub lower_clauses : Scope → (d : ℕ) → FlatClauses → Steps
     lower_clauses s d no_clause = constant d nil_word ∷ []
-    lower_clauses s d (clause_and test body cs) = lower_clause s d (lower s d test) body (code_of (lower_clauses s d cs))
+    lower_clauses s d (clause_and test body cs) =
+        lower_clause s d (known_truth at program.literals test) (lower s d test) body (lower_clauses s d cs)
 
-    pub lower_clause : Scope → (d : ℕ) → Lowered → FlatBody → (otherwise : MidCode) → Steps
-    lower_clause s d test no_body otherwise =
-        test.value ++ (value_judged d).ready ++ (choose (value_judged d).test no_step otherwise ∷ [])
-    lower_clause s d test (with_body f) otherwise =
-        test.judged.ready ++ (choose test.judged.test (code_of (lower s d f).value) otherwise ∷ [])
+    -- A clause in front of others. Where its test is known nothing is asked: one that is true leaves out the others, and one that is false
+    -- leaves out the clause.
+    pub lower_clause : Scope → (d : ℕ) → (known : Option Bool) → Lowered → FlatBody → (others : Steps) → Steps
+    lower_clause s d (Some true) test no_body others = test.value
+    lower_clause s d (Some true) test (with_body f) others = (lower s d f).value
+    lower_clause s d (Some false) test body others = others
+    lower_clause s d None test no_body others =
+        test.value ++ (value_judged d).ready ++ (choose (value_judged d).test no_step (code_of others) ∷ [])
+    lower_clause s d None test (with_body f) others =
+        test.judged.ready ++ (choose test.judged.test (code_of (lower s d f).value) (code_of others) ∷ [])
 
     pub lower_bindings : Scope → (d : ℕ) → FlatBindings → Steps
     lower_bindings s d no_binding = []

@@ -20,7 +20,7 @@ use Rattle.back_lowering.specs.declared.scope.SitePlace.{SitePlace}
 use Rattle.back_lowering.specs.Placement.{primitives_from, literal_word}
 use Rattle.back_lowering.specs.declared.placement.Placement.{Placement}
 use Rattle.back_lowering.specs.Routines.{pending_routine}
-use Rattle.back_lowering.specs.Steps.{Steps, move, constant, compute, load, store, load_header, request, call, test_of, where_so, if_equal, if_different, if_true, load_from}
+use Rattle.back_lowering.specs.Steps.{Steps, move, constant, compute, load, store, load_header, request, call, test_of, where_so, if_equal, if_different, if_likely_equal, if_true, load_from}
 use Rattle.back_lowering.specs.Leaves.{site_stored}
 
 -- t or nil in d, as two registers compare
@@ -32,12 +32,18 @@ abbrev pub where_tag : (of t tag : ℕ) → (first second : Steps) → Steps
 where_tag of t tag first second =
     constant t 3 ∷ compute t which.And of t ∷ constant (t + 1) tag ∷ if_equal t (t + 1) first second ∷ []
 
--- the words in these registers are integers, which is asked of two at once; t and the next one are used
+-- the same where these are likely
+abbrev pub where_likely_tag : (of t tag : ℕ) → (likely other : Steps) → Steps
+where_likely_tag of t tag likely other =
+    constant t 3 ∷ compute t which.And of t ∷ constant (t + 1) tag ∷ if_likely_equal t (t + 1) likely other ∷ []
+
+-- the words in these registers are integers, which is likely, and asked of two at once; t and the next one are used
 abbrev pub where_integers : (asked : List ℕ) → (t : ℕ) → (first second : Steps) → Steps
 where_integers [] t first second = first
-where_integers (r ∷ []) t first second = where_tag r t 0 first second
+where_integers (r ∷ []) t first second = where_likely_tag r t 0 first second
 where_integers (r ∷ q ∷ more) t first second =
-    compute t which.Or r q ∷ constant (t + 1) 3 ∷ compute t which.And t (t + 1) ∷ constant (t + 1) 0 ∷ if_equal t (t + 1) first second ∷ []
+    compute t which.Or r q ∷ constant (t + 1) 3 ∷ compute t which.And t (t + 1) ∷ constant (t + 1) 0
+    ∷ if_likely_equal t (t + 1) first second ∷ []
 
 -- the word of an integer that a literal is
 abbrev pub integer_in : Placement → ℕ → Option LiteralRow → Option ℕ
@@ -81,7 +87,7 @@ sum_where (Some word) d t slow =
     ∷ (if nat_lt word 2147483648 then where_so Less t d slow (move d t ∷ []) else where_so Less d t slow (move d t ∷ [])) ∷ []
 sum_where None d t slow =
     compute t which.Add d (d + 1) ∷ constant (t + 1) 0 ∷ compute (t + 1) which.Less (d + 1) (t + 1) ∷ compute (t + 2) which.Less t d
-    ∷ if_equal (t + 1) (t + 2) (move d t ∷ []) slow ∷ []
+    ∷ if_likely_equal (t + 1) (t + 2) (move d t ∷ []) slow ∷ []
 
 -- and a difference where it is less than the first just where the second is positive
 abbrev pub difference_where : (second : Option ℕ) → (d t : ℕ) → (slow : Steps) → Steps
@@ -90,7 +96,7 @@ difference_where (Some word) d t slow =
     ∷ (if nat_lt word 2147483648 then where_so Less d t slow (move d t ∷ []) else where_so Less t d slow (move d t ∷ [])) ∷ []
 difference_where None d t slow =
     compute t which.Subtract d (d + 1) ∷ constant (t + 1) 0 ∷ compute (t + 1) which.Less (t + 1) (d + 1) ∷ compute (t + 2) which.Less t d
-    ∷ if_equal (t + 1) (t + 2) (move d t ∷ []) slow ∷ []
+    ∷ if_likely_equal (t + 1) (t + 2) (move d t ∷ []) slow ∷ []
 
 -- the parts of a cons, from a pointer to it
 abbrev pub car_into : (to pointer : ℕ) → Steps
@@ -142,8 +148,8 @@ module _ (at : Placement) (literals : List LiteralRow) where
       by primitive.IsCons t slow = where_tag d t cons_tag (load_from d d true_address) (constant d nil_word ∷ [])
       by primitive.IsInteger t slow = where_tag d t 0 (load_from d d true_address) (constant d nil_word ∷ [])
       by primitive.Cons t slow = cons_made d t
-      by primitive.Car t slow = where_tag d t cons_tag (car_into d d) slow
-      by primitive.Cdr t slow = where_tag d t cons_tag (cdr_into d d) slow
+      by primitive.Car t slow = where_likely_tag d t cons_tag (car_into d d) slow
+      by primitive.Cdr t slow = where_likely_tag d t cons_tag (cdr_into d d) slow
       by primitive.VectorRef t slow = element_where (asked_integers at literals (d + 1) (behind_first fs)) d t slow
       by other t slow = slow
 

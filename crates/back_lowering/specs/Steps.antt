@@ -56,6 +56,10 @@ if_equal a b first second = where_so Equal a b first second
 abbrev pub if_different : (a b : ℕ) → (first second : Steps) → MidStep
 if_different a b first second = where_so Different a b first second
 
+-- The same as `if_equal`, written with the opposite test: a jump is behind the code that stands first, and none behind the likely one.
+abbrev pub if_likely_equal : (a b : ℕ) → (likely other : Steps) → MidStep
+if_likely_equal a b likely other = if_different a b other likely
+
 -- one or the other, as the value in d is true or nil; t is used
 abbrev pub if_true : (d t : ℕ) → (first second : Steps) → Steps
 if_true d t first second = constant t nil_word ∷ if_different d t first second ∷ []

@@ -1,6 +1,6 @@
 -- Steps that set registers behind the first ones and choose: the code goes on with what was chosen, and a value may come at once.
 use Rattle.std.proofs.Common.{◌≡◌, ℕ, ◌+◌, ◌<◌, ◌≤◌, Bool, true, false, List, [], ◌∷◌, length, Some, refl, sym, ap, ◌∙◌, subst, arith}
-use Rattle.std.specs.Prelude.{slice_get, slice_set, ◌==◌, ◌%◌, ◌&&◌, bit_and, bit_or, if◌then◌else◌}
+use Rattle.std.specs.Prelude.{slice_get, slice_set, ◌==◌, ◌%◌, ◌&&◌, not, bit_and, bit_or, if◌then◌else◌}
 use Rattle.std.proofs.lemmas.Bool.{eq-eqb, ne_eqb}
 use Rattle.std.proofs.lemmas.Bool.Decides.{nat_tests}
 use Rattle.std.proofs.lemmas.Nat.{and_mask, or_mod, and_or_self, and_le_l, or_comm}
@@ -9,8 +9,10 @@ use Rattle.lang_meaning.specs.Values.{Value}
 use Rattle.flat_language.specs.FlatState.{FlatEvaluated, gives}
 use Rattle.mid_code.specs.Arena.{word_in}
 use Rattle.mid_code.specs.Meaning.{Context, exec}
+use Rattle.mid_code.specs.declared.operation.Arithmetic.TheVariants as arithmetic
 use Rattle.mid_code.specs.declared.operation.Comparison.{Comparison}
-use Rattle.mid_code.specs.MidCode.{MidCode, code_of}
+use Rattle.mid_code.specs.declared.operation.Comparison.TheVariants.{Equal, Different}
+use Rattle.mid_code.specs.MidCode.{MidStep, MidCode, code_of}
 use Rattle.mid_code.specs.State.{Registers, register, falls, ends, MidState, MidOutcome, jumped}
 use Rattle.mid_code.specs.State.{charged as mid_charged}
 use Rattle.mid_code.specs.Words.{compares}
@@ -18,8 +20,8 @@ use Rattle.mid_arena.specs.Places.{word_of}
 use Rattle.mid_arena.proofs.Lists.{set_elsewhere}
 use Rattle.mid_arena.proofs.Registers.{register_here, register_beside}
 use Rattle.mid_arena.proofs.Running.{RunsTo, and_then, constant_falls, compute_known, choose_first, choose_second}
-use Rattle.back_lowering.specs.Steps.{Steps, where_so}
-use Rattle.back_lowering.specs.Primitives.{where_tag, where_integers}
+use Rattle.back_lowering.specs.Steps.{Steps, constant, compute, where_so, if_equal, if_likely_equal}
+use Rattle.back_lowering.specs.Primitives.{where_tag, where_likely_tag, where_integers}
 use Rattle.back_relation.specs.Setting.{Setting}
 use Rattle.back_relation.specs.Ends.{done}
 use Rattle.back_relation.specs.Starts.{Start, EndsAt, ReachedFrom}
@@ -134,6 +136,19 @@ compared c how p q v w first second true regs y e f so =
 compared c how p q v w first second false regs y e f so =
     record { same = single_step c (where_so how p q first second) regs y ∙ (choose_second e f so (record { same = refl })).same }
 
+-- the same where the likely one stands second
+pub other_way : {X : Type 0} (b : Bool) (x y : X) → (if not b then y else x) ≡ (if b then x else y)
+other_way true x y = refl
+other_way false x y = refl
+
+pub compared_likely :
+    (c : Context) (p q v w : ℕ) (likely other : Steps) (b : Bool) (regs : Registers) (y : MidState) → register p regs ≡ Some v → register q regs ≡ Some w
+    → (v == w) ≡ b
+    → RunsTo c (code_of (if_likely_equal p q likely other ∷ [])) regs y (jumped (exec c (code_of (if b then likely else other)) regs (mid_charged 12 y)))
+compared_likely c p q v w likely other b regs y e f so =
+    subst (λ ss. RunsTo c (code_of (if_likely_equal p q likely other ∷ [])) regs y (jumped (exec c (code_of ss) regs (mid_charged 12 y))))
+    (other_way b likely other) (compared c Different p q v w other likely (not b) regs y e f (ap not so))
+
 -- the same run, with its cost in one sum
 pub in_sum :
     {c : Context} {code : MidCode} {regs : Registers} {y : MidState} (cost : ℕ) (then_code : MidCode) (regs' : Registers) (y' : MidState)
@@ -179,11 +194,13 @@ both_tested w x = by (w % 4 == 0) (x % 4 == 0) refl refl
     by false b' e f = ne_eqb _ _ (λ same. other_was (w % 4) e (both_were w x same).0)
 
 module _ (setting : Setting) (c : Context) (regs : Registers) (y : MidState) (t : ℕ) (there : t + 1 < length regs) where
-  -- the tag of a word
-  pub tag_chosen :
-      (of w tag : ℕ) (first second : Steps) (b : Bool) → register of regs ≡ Some w → of < t → (w % 4 == tag) ≡ b
-      → Chosen setting c regs y t 36 (where_tag of t tag first second) first second b
-  tag_chosen of w tag first second b held low so =
+  -- the tag of a word, by some choice
+  tag_chosen_by :
+      (of w tag : ℕ) (choice : MidStep) (first second : Steps) (b : Bool) → register of regs ≡ Some w → of < t
+      → ((regs' : Registers) (y' : MidState) → register t regs' ≡ Some (w % 4) → register (t + 1) regs' ≡ Some tag
+      → RunsTo c (code_of (choice ∷ [])) regs' y' (jumped (exec c (code_of (if b then first else second)) regs' (mid_charged 12 y'))))
+      → Chosen setting c regs y t 36 (constant t 3 ∷ compute t arithmetic.And of t ∷ constant (t + 1) tag ∷ choice ∷ []) first second b
+  tag_chosen_by of w tag choice first second b held low chooses =
       let r1 : Registers = slice_set regs t (Some 3) in
       let r2 : Registers = slice_set r1 t (Some (w % 4)) in
       let r3 : Registers = slice_set r2 (t + 1) (Some tag) in
@@ -202,11 +219,25 @@ module _ (setting : Setting) (c : Context) (regs : Registers) (y : MidState) (t 
             (and_then constant_falls
             (and_then (compute_known of_there mask (low_bits w))
             (and_then constant_falls
-            (compared c _ t (t + 1) (w % 4) tag first second b r3 _ left_there right_there so))))
+            (chooses r3 _ left_there right_there))))
             refl (omega arith);
         beside = beside_set (t + 1) tag (omega arith) (beside_set t (w % 4) (omega arith) (beside_set t 3 (omega arith) (beside_none t regs)));
         within = omega arith;
       }
+
+  pub tag_chosen :
+      (of w tag : ℕ) (first second : Steps) (b : Bool) → register of regs ≡ Some w → of < t → (w % 4 == tag) ≡ b
+      → Chosen setting c regs y t 36 (where_tag of t tag first second) first second b
+  tag_chosen of w tag first second b held low so =
+      tag_chosen_by of w tag (if_equal t (t + 1) first second) first second b held low
+      (λ regs' y' left right. compared c Equal t (t + 1) (w % 4) tag first second b regs' y' left right so)
+
+  pub likely_tag_chosen :
+      (of w tag : ℕ) (likely other : Steps) (b : Bool) → register of regs ≡ Some w → of < t → (w % 4 == tag) ≡ b
+      → Chosen setting c regs y t 36 (where_likely_tag of t tag likely other) likely other b
+  likely_tag_chosen of w tag likely other b held low so =
+      tag_chosen_by of w tag (if_likely_equal t (t + 1) likely other) likely other b held low
+      (λ regs' y' left right. compared_likely c t (t + 1) (w % 4) tag likely other b regs' y' left right so)
 
   -- whether two words are integers
   pub integers_chosen :
@@ -235,7 +266,7 @@ module _ (setting : Setting) (c : Context) (regs : Registers) (y : MidState) (t 
             (and_then constant_falls
             (and_then (compute_known both mask refl)
             (and_then constant_falls
-            (compared c _ t (t + 1) (bit_and (bit_or v w) 3) 0 first second b r4 _ left_there right_there (both_tested v w ∙ so))))))
+            (compared_likely c t (t + 1) (bit_and (bit_or v w) 3) 0 first second b r4 _ left_there right_there (both_tested v w ∙ so))))))
             refl (omega arith);
         beside =
             beside_set (t + 1) 0 (omega arith)

@@ -16,7 +16,7 @@ use Rattle.mid_code.specs.declared.operation.Arithmetic.TheVariants as how
 use Rattle.mid_code.specs.declared.operation.Comparison.TheVariants.{Equal, Different, LessUnsigned}
 use Rattle.mid_code.specs.Arena.{word_at}
 use Rattle.mid_code.specs.Meaning.{Context, exec}
-use Rattle.mid_code.specs.MidCode.{code_of}
+use Rattle.mid_code.specs.MidCode.{MidStep, code_of}
 use Rattle.mid_code.specs.State.{Registers, register, MidState}
 use Rattle.mid_code.specs.State.{charged as mid_charged}
 use Rattle.mid_code.specs.Words.{compares}
@@ -29,9 +29,9 @@ use Rattle.mid_arena.proofs.Registers.{register_here, register_beside}
 use Rattle.mid_arena.proofs.Running.{and_then, none_left, costing, constant_falls, compute_known, load_falls, address_above, address_below, choose_second_falls}
 use Rattle.mid_arena.proofs.Telling.{FoundByHeader, found_kind, found_other_kind, found_other_tag, vector_told, IntegerTold, integer_found, no_integer, integer_told}
 use Rattle.mid_arena.proofs.WordFacts.{sum_fits, index_is, index_word, index_tested}
-use Rattle.back_lowering.specs.Primitives.{element_where, where_integers, where_tag, asked_integers, known_integer}
+use Rattle.back_lowering.specs.Primitives.{element_where, where_integers, where_tag, where_likely_tag, asked_integers, known_integer}
 use Rattle.back_lowering.specs.Registers.{of_code, enough_for}
-use Rattle.back_lowering.specs.Steps.{Steps, constant, compute, load, load_header, where_so, if_equal, if_different}
+use Rattle.back_lowering.specs.Steps.{Steps, constant, compute, load, load_header, where_so, if_equal, if_likely_equal, if_different}
 use Rattle.back_relation.specs.Setting.{Setting}
 use Rattle.back_relation.specs.Forms.{context_at, code_at}
 use Rattle.back_relation.specs.Starts.{Start, EndsAt}
@@ -44,7 +44,7 @@ use Rattle.back_primitives.proofs.EachCost.{quick_paid}
 use Rattle.back_primitives.proofs.Quick.{named, branches_named, answer_up, meant, slow, slow_ends}
 use Rattle.back_primitives.proofs.QuickKinds.{behind_steps}
 use Rattle.back_primitives.proofs.QuickNumbers.{asked_by, known_tag}
-use Rattle.back_primitives.proofs.Trying.{Tried, tried_none, tried_behind, tried_where}
+use Rattle.back_primitives.proofs.Trying.{Tried, tried_none, tried_behind, tried_where, tried_likely}
 
 module _ (setting : Setting) (k : ℕ) (a : Start setting) (v1 v2 : Value) (w1 w2 : ℕ) (f1 f2 : FlatForm)
     (g : Applies setting k a VectorRef (v1 ∷ v2 ∷ []) (w1 ∷ w2 ∷ []))
@@ -101,12 +101,13 @@ module _ (setting : Setting) (k : ℕ) (a : Start setting) (v1 v2 : Value) (w1 w
   beside_two : (regs : Registers) (r word : ℕ) → t ≤ r → Beside (d + 2) regs (slice_set regs r (Some word))
   beside_two regs r word low = beside_set r word low (beside_none (d + 2) regs)
 
-  -- the tag of a word is asked, where nothing is done behind another one
-  tag_tried :
-      {o : Option ℕ} {most : ℕ} (of w tag : ℕ) (first : Steps) (b : Bool) (regs : Registers) (y : MidState) → Ready regs → register of regs ≡ Some w → of < t → (w % 4 == tag) ≡ b
-      → ((regs' : Registers) (y' : MidState) → Ready regs' → y'.arena ≡ y.arena → Tried c d t regs' y' most (if b then first else []) o)
-      → Tried c d t regs y (most + 36) (where_tag of (t + 1) tag first []) o
-  tag_tried {o} {most} of w tag first b regs y ready held low so does =
+  -- the tag of a word is asked by some choice
+  tag_tried_by :
+      {o : Option ℕ} (most of w tag : ℕ) (choice : MidStep) (regs : Registers) (y : MidState) → Ready regs → register of regs ≡ Some w → of < t
+      → ((regs' : Registers) (y' : MidState) → Ready regs' → y'.arena ≡ y.arena → register (t + 1) regs' ≡ Some (w % 4) → register (t + 1 + 1) regs' ≡ Some tag
+      → Tried c d t regs' y' (most + 14) (choice ∷ []) o)
+      → Tried c d t regs y (most + 36) (constant (t + 1) 3 ∷ compute (t + 1) how.And of (t + 1) ∷ constant (t + 1 + 1) tag ∷ choice ∷ []) o
+  tag_tried_by {o} most of w tag choice regs y ready held low does =
       let r1 : Registers = slice_set regs (t + 1) (Some 3) in
       let r2 : Registers = slice_set r1 (t + 1) (Some (w % 4)) in
       let r3 : Registers = slice_set r2 (t + 1 + 1) (Some tag) in
@@ -122,9 +123,29 @@ module _ (setting : Setting) (k : ℕ) (a : Start setting) (v1 v2 : Value) (w1 w
       (tried_behind c d t {most = most + 20} (compute (t + 1) how.And of (t + 1)) _ 10 r1 r2 (mid_charged 6 y) (compute_known of_there mask (low_bits w))
       (beside_two r1 (t + 1) (w % 4) (omega arith)) (omega arith)
       (tried_behind c d t {most = most + 14} (constant (t + 1 + 1) tag) _ 6 r2 r3 (mid_charged 10 (mid_charged 6 y)) constant_falls (beside_two r2 (t + 1 + 1) tag (omega arith)) (omega arith)
-      (tried_where c d t {most = most} Equal (t + 1) (t + 1 + 1) (w % 4) tag first [] b r3 (mid_charged 6 (mid_charged 10 (mid_charged 6 y))) left_there right_there so (omega arith)
-      (does r3 (mid_charged 12 (mid_charged 6 (mid_charged 10 (mid_charged 6 y))))
-      (ready_set (t + 1 + 1) tag (omega arith) (ready_set (t + 1) (w % 4) (omega arith) (ready_set (t + 1) 3 (omega arith) ready))) refl))))
+      (does r3 (mid_charged 6 (mid_charged 10 (mid_charged 6 y)))
+      (ready_set (t + 1 + 1) tag (omega arith) (ready_set (t + 1) (w % 4) (omega arith) (ready_set (t + 1) 3 (omega arith) ready))) refl left_there right_there)))
+
+  -- where nothing is done behind another one
+  tag_tried :
+      {o : Option ℕ} {most : ℕ} (of w tag : ℕ) (first : Steps) (b : Bool) (regs : Registers) (y : MidState) → Ready regs → register of regs ≡ Some w → of < t → (w % 4 == tag) ≡ b
+      → ((regs' : Registers) (y' : MidState) → Ready regs' → y'.arena ≡ y.arena → Tried c d t regs' y' most (if b then first else []) o)
+      → Tried c d t regs y (most + 36) (where_tag of (t + 1) tag first []) o
+  tag_tried {o} {most} of w tag first b regs y ready held low so does =
+      tag_tried_by most of w tag (if_equal (t + 1) (t + 1 + 1) first []) regs y ready held low
+      (λ regs' y' ready' same left right.
+      tried_where c d t {most = most} Equal (t + 1) (t + 1 + 1) (w % 4) tag first [] b regs' y' left right so (omega arith)
+      (does regs' (mid_charged 12 y') ready' same))
+
+  likely_tag_tried :
+      {o : Option ℕ} {most : ℕ} (of w tag : ℕ) (likely : Steps) (b : Bool) (regs : Registers) (y : MidState) → Ready regs → register of regs ≡ Some w → of < t → (w % 4 == tag) ≡ b
+      → ((regs' : Registers) (y' : MidState) → Ready regs' → y'.arena ≡ y.arena → Tried c d t regs' y' most (if b then likely else []) o)
+      → Tried c d t regs y (most + 36) (where_likely_tag of (t + 1) tag likely []) o
+  likely_tag_tried {o} {most} of w tag likely b regs y ready held low so does =
+      tag_tried_by most of w tag (if_likely_equal (t + 1) (t + 1 + 1) likely []) regs y ready held low
+      (λ regs' y' ready' same left right.
+      tried_likely c d t {most = most} (t + 1) (t + 1 + 1) (w % 4) tag likely [] b regs' y' left right so (omega arith)
+      (does regs' (mid_charged 12 y') ready' same))
 
   -- what was found out
   data Found (most : ℕ) (regs : Registers) (y : MidState) (code : Steps) : Type 0 where
@@ -237,7 +258,7 @@ module _ (setting : Setting) (k : ℕ) (a : Start setting) (v1 v2 : Value) (w1 w
         → ((regs : Registers) (y : MidState) → Ready regs → y.arena ≡ a.y.arena → Tried c d t regs y 46 counted o)
         → (regs : Registers) (y : MidState) → Ready regs → y.arena ≡ a.y.arena → Tried c d t regs y 82 (where_integers (asked_by (d + 1) known_second []) (t + 1) counted []) o
     asked_found n None so does regs y ready same =
-        tag_tried {most = 46} (d + 1) w2 0 counted true regs y ready ready.second (omega arith) so (λ regs' y' ready' again. does regs' y' ready' (again ∙ same))
+        likely_tag_tried {most = 46} (d + 1) w2 0 counted true regs y ready ready.second (omega arith) so (λ regs' y' ready' again. does regs' y' ready' (again ∙ same))
     asked_found n (Some u) so does regs y ready same = tried_less regs y ready same {few = 46} (omega arith) (does regs y ready same)
 
     -- what is meant where the index is right
@@ -281,7 +302,7 @@ module _ (setting : Setting) (k : ℕ) (a : Start setting) (v1 v2 : Value) (w1 w
           not_taken (front_tried asked true there tag (λ regs y ready same.
           headed_tried regs y ready same asked vector_header true (two_there tag) word_low header refl (λ regs' y' ready' same'.
           subst (λ o. Tried c d t regs' y' 82 (where_integers (asked_by (d + 1) o []) (t + 1) counted []) None) (sym (no_integer_known other known_second is_known))
-          (tag_tried {most = 46} (d + 1) w2 0 counted false regs' y' ready' ready'.second (omega arith) other (λ regs'' y'' ready'' again. nothing_tried 46 regs'' y'' ready'')))))
+          (likely_tag_tried {most = 46} (d + 1) w2 0 counted false regs' y' ready' ready'.second (omega arith) other (λ regs'' y'' ready'' again. nothing_tried 46 regs'' y'' ready'')))))
       vector_found us is_vector it tag header (integer_found n e f r x so) = by_index (index_of n (length us)) refl
         where
           by_index : (o : Option ℕ) → index_of n (length us) ≡ o → Found 152 a.regs a.y (front asked)

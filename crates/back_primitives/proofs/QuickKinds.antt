@@ -26,7 +26,7 @@ use Rattle.mid_arena.proofs.Registers.{register_here, register_beside}
 use Rattle.mid_arena.proofs.Running.{RunsTo, and_then, none_left, costing, parts_then, constant_falls, load_falls, address_above, address_below}
 use Rattle.mid_arena.proofs.Sameness.{same_value_same_word}
 use Rattle.mid_arena.proofs.Telling.{IntegerTold, integer_found, no_integer, integer_told, ConsTold, cons_found, no_cons, cons_told, nil_told}
-use Rattle.back_lowering.specs.Primitives.{truth_where, where_tag, car_into, cdr_into}
+use Rattle.back_lowering.specs.Primitives.{truth_where, where_tag, where_likely_tag, car_into, cdr_into}
 use Rattle.back_lowering.specs.Registers.{of_code, enough_for}
 use Rattle.back_lowering.specs.Steps.{Steps, constant, load_from}
 use Rattle.back_relation.specs.Setting.{Setting}
@@ -35,7 +35,7 @@ use Rattle.back_relation.specs.Starts.{Start, EndsAt}
 use Rattle.back_relation.proofs.Starts.{behind}
 use Rattle.back_primitives.specs.Applying.{Applies, primitive_credit}
 use Rattle.back_primitives.proofs.Answered.{SignalPaid}
-use Rattle.back_primitives.proofs.Choosing.{Beside, beside_none, beside_set, beside_less, register_kept, reached_beside, start_beside, quick_ends, Chosen, chosen_ends, tag_chosen}
+use Rattle.back_primitives.proofs.Choosing.{Beside, beside_none, beside_set, beside_less, register_kept, reached_beside, start_beside, quick_ends, Chosen, chosen_ends, tag_chosen, likely_tag_chosen}
 use Rattle.back_primitives.proofs.EachCost.{is_quick, quick_paid}
 use Rattle.back_primitives.proofs.Quick.{named, branches_named, answer_up, meant, slow, slow_ends, truth_ends}
 
@@ -144,9 +144,9 @@ module _ (setting : Setting) (k : ℕ) (a : Start setting) (v : Value) (w : ℕ)
       → primitive setting.names (tables setting.program) which (v ∷ []) a.z.state ≡ needs o (domain_error v cons_class a.z.state) (λ p. result (part p) a.z.state))
       → ((b : Start setting) (car cdr : Value) → register b.d b.regs ≡ Some w → ObjectFound setting.names (tables setting.program) b.w.places b.z.state b.y b.begins.call.things.represents v w (cons car cdr)
       → b.d ≡ a.d → EndsAt setting 8 b (gives (part (car, cdr)) b.z) (exec c (code_of taken) b.regs b.y))
-      → enough_for (of_code (code_of (where_tag a.d t cons_tag taken (slow setting k a which (v ∷ []) (w ∷ []) g)))) ≤ length a.regs
+      → enough_for (of_code (code_of (where_likely_tag a.d t cons_tag taken (slow setting k a which (v ∷ []) (w ∷ []) g)))) ≤ length a.regs
       → EndsAt setting (primitive_credit which) a (meant setting k a which (v ∷ []) (w ∷ []) g)
-      (exec c (code_of (where_tag a.d t cons_tag taken (slow setting k a which (v ∷ []) (w ∷ []) g))) a.regs a.y)
+      (exec c (code_of (where_likely_tag a.d t cons_tag taken (slow setting k a which (v ∷ []) (w ∷ []) g))) a.regs a.y)
   part_ends which g part taken quick one means takes enough =
       by (cons_told setting.names (tables setting.program) a.w.places a.z.state a.y represented v w g.of_values.0)
     where
@@ -154,7 +154,7 @@ module _ (setting : Setting) (k : ℕ) (a : Start setting) (v : Value) (w : ℕ)
       slowly = slow setting k a which (v ∷ []) (w ∷ []) g
 
       there : t + 1 < length a.regs
-      there = named (of_code (code_of (where_tag a.d t cons_tag taken slowly))) 4 (t + 1) (length a.regs) refl enough
+      there = named (of_code (code_of (where_likely_tag a.d t cons_tag taken slowly))) 4 (t + 1) (length a.regs) refl enough
 
       up : a.z.state.units ≤ (meant setting k a which (v ∷ []) (w ∷ []) g).state.state.units
       up = answer_up setting k which (v ∷ []) a.around a.z
@@ -162,11 +162,11 @@ module _ (setting : Setting) (k : ℕ) (a : Start setting) (v : Value) (w : ℕ)
       paid : SignalPaid which 564
       paid = let cost = quick_paid which quick in (omega arith, omega (arith, cost, one))
 
-      chosen : (b : Bool) → (w % 4 == cons_tag) ≡ b → Chosen setting c a.regs a.y t 36 (where_tag a.d t cons_tag taken slowly) taken slowly b
-      chosen b so = tag_chosen setting c a.regs a.y t there a.d w cons_tag taken slowly b g.in_registers.0 (omega arith) so
+      chosen : (b : Bool) → (w % 4 == cons_tag) ≡ b → Chosen setting c a.regs a.y t 36 (where_likely_tag a.d t cons_tag taken slowly) taken slowly b
+      chosen b so = likely_tag_chosen setting c a.regs a.y t there a.d w cons_tag taken slowly b g.in_registers.0 (omega arith) so
 
       by : ConsTold (fetch a.z.state v) w
-          → EndsAt setting (primitive_credit which) a (meant setting k a which (v ∷ []) (w ∷ []) g) (exec c (code_of (where_tag a.d t cons_tag taken slowly)) a.regs a.y)
+          → EndsAt setting (primitive_credit which) a (meant setting k a which (v ∷ []) (w ∷ []) g) (exec c (code_of (where_likely_tag a.d t cons_tag taken slowly)) a.regs a.y)
       by (cons_found car cdr e f so) =
           let h = chosen true so in
           let b : Start setting = start_beside setting a h.regs' h.cost (beside_less (omega arith) h.beside) in
@@ -180,14 +180,14 @@ module _ (setting : Setting) (k : ℕ) (a : Start setting) (v : Value) (w : ℕ)
           chosen_ends setting {c1 = 564} a c h (omega arith) (meant setting k a which (v ∷ []) (w ∷ []) g) up (omega arith)
           (slow_ends setting k a which (v ∷ []) (w ∷ []) g h.regs' (mid_charged h.cost a.y)
           (start_beside setting a h.regs' h.cost (beside_less (omega arith) h.beside)).begins h.beside
-          (branches_named (t ∷ t ∷ a.d ∷ t ∷ (t + 1) ∷ t ∷ (t + 1) ∷ []) (of_code (code_of taken)) (of_code (code_of slowly)) (length a.regs) enough).1
+          (branches_named (t ∷ t ∷ a.d ∷ t ∷ (t + 1) ∷ t ∷ (t + 1) ∷ []) (of_code (code_of slowly)) (of_code (code_of taken)) (length a.regs) enough).0
           (omega (arith, one)) paid)
 
   pub car_ends :
       (g : Applies setting k a Car (v ∷ []) (w ∷ []))
-      → enough_for (of_code (code_of (where_tag a.d t cons_tag (car_into a.d a.d) (slow setting k a Car (v ∷ []) (w ∷ []) g)))) ≤ length a.regs
+      → enough_for (of_code (code_of (where_likely_tag a.d t cons_tag (car_into a.d a.d) (slow setting k a Car (v ∷ []) (w ∷ []) g)))) ≤ length a.regs
       → EndsAt setting (primitive_credit Car) a (meant setting k a Car (v ∷ []) (w ∷ []) g)
-      (exec c (code_of (where_tag a.d t cons_tag (car_into a.d a.d) (slow setting k a Car (v ∷ []) (w ∷ []) g))) a.regs a.y)
+      (exec c (code_of (where_likely_tag a.d t cons_tag (car_into a.d a.d) (slow setting k a Car (v ∷ []) (w ∷ []) g))) a.regs a.y)
   car_ends g enough =
       part_ends Car g (λ p. p.0) (car_into a.d a.d) refl refl (λ o e. ap (λ x. needs x (domain_error v cons_class a.z.state) (λ p. result p.0 a.z.state)) e) takes enough
     where
@@ -205,9 +205,9 @@ module _ (setting : Setting) (k : ℕ) (a : Start setting) (v : Value) (w : ℕ)
 
   pub cdr_ends :
       (g : Applies setting k a Cdr (v ∷ []) (w ∷ []))
-      → enough_for (of_code (code_of (where_tag a.d t cons_tag (cdr_into a.d a.d) (slow setting k a Cdr (v ∷ []) (w ∷ []) g)))) ≤ length a.regs
+      → enough_for (of_code (code_of (where_likely_tag a.d t cons_tag (cdr_into a.d a.d) (slow setting k a Cdr (v ∷ []) (w ∷ []) g)))) ≤ length a.regs
       → EndsAt setting (primitive_credit Cdr) a (meant setting k a Cdr (v ∷ []) (w ∷ []) g)
-      (exec c (code_of (where_tag a.d t cons_tag (cdr_into a.d a.d) (slow setting k a Cdr (v ∷ []) (w ∷ []) g))) a.regs a.y)
+      (exec c (code_of (where_likely_tag a.d t cons_tag (cdr_into a.d a.d) (slow setting k a Cdr (v ∷ []) (w ∷ []) g))) a.regs a.y)
   cdr_ends g enough =
       part_ends Cdr g (λ p. p.1) (cdr_into a.d a.d) refl refl (λ o e. ap (λ x. needs x (domain_error v cons_class a.z.state) (λ p. result p.1 a.z.state)) e) takes enough
     where

@@ -30,7 +30,7 @@ use Rattle.back_relation.specs.Starts.{Start, EndsAt}
 use Rattle.back_primitives.specs.Applying.{Applies}
 use Rattle.back_primitives.specs.Calling.{KnownWords}
 use Rattle.back_primitives.proofs.Answered.{SignalPaid}
-use Rattle.back_primitives.proofs.Choosing.{Beside, beside_none, beside_less, register_kept, start_beside, ends_less, Chosen, chosen_ends, tag_chosen, integers_chosen}
+use Rattle.back_primitives.proofs.Choosing.{Beside, beside_none, beside_less, register_kept, start_beside, ends_less, Chosen, chosen_ends, likely_tag_chosen, integers_chosen}
 use Rattle.back_primitives.proofs.Costs.{both_true}
 use Rattle.back_primitives.proofs.Quick.{named, branches_named, answer_up, start_with, meant, slow, slow_ends, truth_ends}
 
@@ -143,30 +143,30 @@ module _ (setting : Setting) (k : ℕ) (a : Start setting) (which : Primitive) (
           → E credit a.regs a.y (exec c (code_of (where_integers (asked_by a.d o1 (asked_by (a.d + 1) o2 [])) t first second)) a.regs a.y)
       by None None e f enough =
           let there : t + 1 < length a.regs = named (of_code (code_of (where_integers (a.d ∷ (a.d + 1) ∷ []) t first second))) 3 (t + 1) (length a.regs) refl enough in
-          let parts = branches_named (t ∷ a.d ∷ (a.d + 1) ∷ (t + 1) ∷ t ∷ t ∷ (t + 1) ∷ (t + 1) ∷ t ∷ (t + 1) ∷ []) (of_code (code_of first)) (of_code (code_of second)) (length a.regs) enough in
+          let parts = branches_named (t ∷ a.d ∷ (a.d + 1) ∷ (t + 1) ∷ t ∷ t ∷ (t + 1) ∷ (t + 1) ∷ t ∷ (t + 1) ∷ []) (of_code (code_of second)) (of_code (code_of first)) (length a.regs) enough in
           let chosen : Chosen setting c a.regs a.y t 46 (where_integers (a.d ∷ (a.d + 1) ∷ []) t first second) first second ((w1 % 4 == 0) && (w2 % 4 == 0)) =
           integers_chosen setting c a.regs a.y t there a.d (a.d + 1) w1 w2 first second ((w1 % 4 == 0) && (w2 % 4 == 0)) g.in_registers.0 g.in_registers.1.0 refl in
           chooses 46 (where_integers (a.d ∷ (a.d + 1) ∷ []) t first second) first second ((w1 % 4 == 0) && (w2 % 4 == 0)) chosen more
           (chosen_does E first second ((w1 % 4 == 0) && (w2 % 4 == 0))
-          (λ so. let both = both_true (w1 % 4 == 0) (w2 % 4 == 0) so in both_integers E first does both.0 both.1) (λ not_so. else_does) parts.0 parts.1
+          (λ so. let both = both_true (w1 % 4 == 0) (w2 % 4 == 0) so in both_integers E first does both.0 both.1) (λ not_so. else_does) parts.1 parts.0
           chosen.regs' (mid_charged chosen.cost a.y) (start_beside setting a chosen.regs' chosen.cost (beside_less (omega arith) chosen.beside)).begins chosen.beside)
       by None (Some u) e f enough =
           let there : t + 1 < length a.regs = named (of_code (code_of (where_integers (a.d ∷ []) t first second))) 4 (t + 1) (length a.regs) refl enough in
-          let parts = branches_named (front_one a.d) (of_code (code_of first)) (of_code (code_of second)) (length a.regs) enough in
+          let parts = branches_named (front_one a.d) (of_code (code_of second)) (of_code (code_of first)) (length a.regs) enough in
           let other : (w2 % 4 == 0) ≡ true = ap (λ w. w % 4 == 0) (known.1.0 u f) ∙ known_tag setting.at setting.program.literals f2 u f in
           let chosen : Chosen setting c a.regs a.y t 36 (where_integers (a.d ∷ []) t first second) first second (w1 % 4 == 0) =
-          tag_chosen setting c a.regs a.y t there a.d w1 0 first second (w1 % 4 == 0) g.in_registers.0 (omega arith) refl in
+          likely_tag_chosen setting c a.regs a.y t there a.d w1 0 first second (w1 % 4 == 0) g.in_registers.0 (omega arith) refl in
           chooses 36 (where_integers (a.d ∷ []) t first second) first second (w1 % 4 == 0) chosen (omega (arith, more))
-          (chosen_does E first second (w1 % 4 == 0) (λ so. both_integers E first does so other) (λ not_so. else_does) parts.0 parts.1
+          (chosen_does E first second (w1 % 4 == 0) (λ so. both_integers E first does so other) (λ not_so. else_does) parts.1 parts.0
           chosen.regs' (mid_charged chosen.cost a.y) (start_beside setting a chosen.regs' chosen.cost (beside_less (omega arith) chosen.beside)).begins chosen.beside)
       by (Some u) None e f enough =
           let there : t + 1 < length a.regs = named (of_code (code_of (where_integers ((a.d + 1) ∷ []) t first second))) 4 (t + 1) (length a.regs) refl enough in
-          let parts = branches_named (front_one (a.d + 1)) (of_code (code_of first)) (of_code (code_of second)) (length a.regs) enough in
+          let parts = branches_named (front_one (a.d + 1)) (of_code (code_of second)) (of_code (code_of first)) (length a.regs) enough in
           let one : (w1 % 4 == 0) ≡ true = ap (λ w. w % 4 == 0) (known.0 u e) ∙ known_tag setting.at setting.program.literals f1 u e in
           let chosen : Chosen setting c a.regs a.y t 36 (where_integers ((a.d + 1) ∷ []) t first second) first second (w2 % 4 == 0) =
-          tag_chosen setting c a.regs a.y t there (a.d + 1) w2 0 first second (w2 % 4 == 0) g.in_registers.1.0 (omega arith) refl in
+          likely_tag_chosen setting c a.regs a.y t there (a.d + 1) w2 0 first second (w2 % 4 == 0) g.in_registers.1.0 (omega arith) refl in
           chooses 36 (where_integers ((a.d + 1) ∷ []) t first second) first second (w2 % 4 == 0) chosen (omega (arith, more))
-          (chosen_does E first second (w2 % 4 == 0) (λ so. both_integers E first does one so) (λ not_so. else_does) parts.0 parts.1
+          (chosen_does E first second (w2 % 4 == 0) (λ so. both_integers E first does one so) (λ not_so. else_does) parts.1 parts.0
           chosen.regs' (mid_charged chosen.cost a.y) (start_beside setting a chosen.regs' chosen.cost (beside_less (omega arith) chosen.beside)).begins chosen.beside)
       by (Some u) (Some u') e f enough =
           let one : (w1 % 4 == 0) ≡ true = ap (λ w. w % 4 == 0) (known.0 u e) ∙ known_tag setting.at setting.program.literals f1 u e in

@@ -17,7 +17,7 @@ use Rattle.flat_language.specs.FlatNodes.{tables}
 use Rattle.flat_language.specs.FlatState.{FlatEvaluated}
 use Rattle.mid_code.specs.declared.operation.Arithmetic.{Arithmetic}
 use Rattle.mid_code.specs.declared.operation.Arithmetic.TheVariants as how
-use Rattle.mid_code.specs.declared.operation.Comparison.TheVariants.{Equal, Less}
+use Rattle.mid_code.specs.declared.operation.Comparison.TheVariants.{Less}
 use Rattle.mid_code.specs.Meaning.{Context, exec}
 use Rattle.mid_code.specs.MidCode.{code_of}
 use Rattle.mid_code.specs.State.{Registers, register, MidState}
@@ -31,14 +31,14 @@ use Rattle.mid_arena.proofs.Running.{and_then, none_left, costing, constant_fall
 use Rattle.mid_arena.proofs.WordFacts.{integer_word_of_pos, integer_word_of_negsuc, range_tells, integers_compare_less}
 use Rattle.back_lowering.specs.Primitives.{sum_where, difference_where, known_integer}
 use Rattle.back_lowering.specs.Registers.{of_code, enough_for}
-use Rattle.back_lowering.specs.Steps.{Steps, move, compute, constant, where_so, if_equal}
+use Rattle.back_lowering.specs.Steps.{Steps, move, compute, constant, where_so, if_likely_equal}
 use Rattle.back_relation.specs.Setting.{Setting}
 use Rattle.back_relation.specs.Forms.{Begins, code_at}
 use Rattle.back_relation.specs.Starts.{Start, EndsAt}
 use Rattle.back_primitives.specs.Applying.{Applies}
 use Rattle.back_primitives.specs.Calling.{KnownWords}
 use Rattle.back_primitives.proofs.Answered.{SignalPaid}
-use Rattle.back_primitives.proofs.Choosing.{Beside, beside_none, beside_set, beside_less, beside_then, register_kept, start_beside, quick_ends, Chosen, chosen_ends, compared, in_sum}
+use Rattle.back_primitives.proofs.Choosing.{Beside, beside_none, beside_set, beside_less, beside_then, register_kept, start_beside, quick_ends, Chosen, chosen_ends, compared, compared_likely, in_sum}
 use Rattle.back_primitives.proofs.EachCost.{is_quick, quick_paid}
 use Rattle.back_primitives.proofs.Quick.{named, branches_named, start_with, meant, slow}
 use Rattle.back_primitives.proofs.QuickNumbers.{DoesThere, ofIntegers, up_meant, slowly_does, meant_at}
@@ -224,7 +224,7 @@ module _ (setting : Setting) (k : ℕ) (a : Start setting) (which : Primitive) (
     abbrev with_signs : (p q : ℕ) → Steps
     with_signs p q =
         compute t operation a.d (a.d + 1) ∷ constant (t + 1) 0 ∷ compute (t + 1) how.Less p q ∷ compute (t + 2) how.Less t a.d
-        ∷ if_equal (t + 1) (t + 2) moves slowly ∷ []
+        ∷ if_likely_equal (t + 1) (t + 2) moves slowly ∷ []
 
     -- where registers are computed and tested
     abbrev HoldsResult : (regs : Registers) (y : MidState) (code first second : Steps) (b : Bool) → Type 0
@@ -267,7 +267,7 @@ module _ (setting : Setting) (k : ℕ) (a : Start setting) (which : Primitive) (
                 (and_then constant_falls
                 (and_then (compute_known signs.0 signs.1 refl)
                 (and_then (compute_known result_later one_later refl)
-                (compared c Equal (t + 1) (t + 2) (one_if_less_signed u u') falls moves slowly (in_range m) r4
+                (compared_likely c (t + 1) (t + 2) (one_if_less_signed u u') falls moves slowly (in_range m) r4
                 (mid_charged 10 (mid_charged 10 (mid_charged 6 (mid_charged 10 y)))) sign_last falls_last tells)))))
                 refl (omega arith);
             beside =
@@ -322,9 +322,9 @@ module _ (setting : Setting) (k : ℕ) (a : Start setting) (which : Primitive) (
         → DoesThere setting k a which v1 v2 w1 w2 f1 f2 g known 854 (with_signs p q)
     unknown_does p q u u' reads tells regs y begins beside names =
         let there : t + 2 < length a.regs = named (of_code (code_of (with_signs p q))) 7 (t + 2) (length a.regs) refl names in
-        let parts = branches_named (t ∷ a.d ∷ (a.d + 1) ∷ (t + 1) ∷ (t + 1) ∷ p ∷ q ∷ (t + 2) ∷ t ∷ a.d ∷ (t + 1) ∷ (t + 2) ∷ []) (of_code (code_of moves)) (of_code (code_of slowly))
+        let parts = branches_named (t ∷ a.d ∷ (a.d + 1) ∷ (t + 1) ∷ (t + 1) ∷ p ∷ q ∷ (t + 2) ∷ t ∷ a.d ∷ (t + 1) ∷ (t + 2) ∷ []) (of_code (code_of slowly)) (of_code (code_of moves))
         (length a.regs) names in
-        right_or_slow regs y begins beside parts.1
+        right_or_slow regs y begins beside parts.0
         (signs_chosen p q u u' reads tells regs y (omega (arith, there, beside.count)) (register_kept a.d (omega arith) beside ∙ g.in_registers.0)
         (register_kept (a.d + 1) (omega arith) beside ∙ g.in_registers.1.0))
 

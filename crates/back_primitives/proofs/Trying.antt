@@ -1,16 +1,17 @@
 -- Steps that try something: it is done, and its word stands in the first register, or the registers of the arguments are as they were. A register
 -- behind them says which.
-use Rattle.std.proofs.Common.{◌≡◌, ℕ, ◌+◌, ◌≤◌, Bool, true, false, [], ◌∷◌, Option, Some, None, arith}
-use Rattle.std.specs.Prelude.{if◌then◌else◌}
+use Rattle.std.proofs.Common.{◌≡◌, ℕ, ◌+◌, ◌≤◌, Bool, true, false, [], ◌∷◌, Option, Some, None, sym, ap, subst, arith}
+use Rattle.std.specs.Prelude.{◌==◌, not, if◌then◌else◌}
 use Rattle.mid_code.specs.declared.operation.Comparison.{Comparison}
+use Rattle.mid_code.specs.declared.operation.Comparison.TheVariants.{Different}
 use Rattle.mid_code.specs.Meaning.{Context}
 use Rattle.mid_code.specs.MidCode.{MidStep, code_of}
 use Rattle.mid_code.specs.State.{Registers, register, falls, ends, MidState}
 use Rattle.mid_code.specs.State.{charged as mid_charged}
 use Rattle.mid_code.specs.Words.{compares}
 use Rattle.mid_arena.proofs.Running.{RunsTo, StepsTo, and_then, none_left, costing, choose_first_falls, choose_second_falls}
-use Rattle.back_lowering.specs.Steps.{Steps, where_so}
-use Rattle.back_primitives.proofs.Choosing.{Beside, beside_none, beside_less, beside_then}
+use Rattle.back_lowering.specs.Steps.{Steps, where_so, if_likely_equal}
+use Rattle.back_primitives.proofs.Choosing.{Beside, beside_none, beside_less, beside_then, other_way}
 
 -- what is tried has a word, or not
 abbrev pub IsKept : (d t : ℕ) → (regs regs' : Registers) → Option ℕ → Type 0
@@ -71,3 +72,12 @@ module _ (c : Context) (d t : ℕ) where
     within = let few = h.within in omega (arith, few, enough);
     kept = h.kept;
   }
+
+  -- the same where the likely one stands second
+  pub tried_likely :
+      {o : Option ℕ} {most whole : ℕ} (p q v w : ℕ) (likely other : Steps) (b : Bool) (regs : Registers) (y : MidState)
+      → register p regs ≡ Some v → register q regs ≡ Some w → (v == w) ≡ b → most + 14 ≤ whole
+      → Tried c d t regs (mid_charged 12 y) most (if b then likely else other) o → Tried c d t regs y whole (if_likely_equal p q likely other ∷ []) o
+  tried_likely {o} {most} p q v w likely other b regs y e f so enough h =
+      tried_where {most = most} Different p q v w other likely (not b) regs y e f (ap not so) enough
+      (subst (λ ss. Tried c d t regs (mid_charged 12 y) most ss o) (sym (other_way b likely other)) h)

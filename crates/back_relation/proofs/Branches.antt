@@ -1,13 +1,13 @@
 -- Clauses and loops wherever they stand, from what is shown of their parts wherever these stand.
-use Rattle.std.proofs.Common.{◌≡◌, ℕ, zero, suc, ◌+◌, ◌<◌, ◌≤◌, List, [], ◌∷◌, ◌++◌, length, refl, sym, subst, arith}
+use Rattle.std.proofs.Common.{◌≡◌, ℕ, zero, suc, ◌+◌, ◌<◌, ◌≤◌, Bool, true, false, List, [], ◌∷◌, ◌++◌, length, Option, Some, None, refl, sym, subst, arith}
 use Rattle.flat_language.specs.FlatExits.{LeadClauses}
 use Rattle.flat_language.specs.FlatFits.{FitClauses}
-use Rattle.flat_language.specs.FlatForm.{FlatForm, clauses, while_form, FlatClauses, no_clause, clause_and, no_body, with_body}
+use Rattle.flat_language.specs.FlatForm.{FlatForm, clauses, while_form, FlatClauses, no_clause, clause_and, FlatBody, no_body, with_body}
 use Rattle.flat_language.specs.FlatStanding.{StandClauses}
 use Rattle.mid_code.specs.declared.operation.Counted.TheVariants.{Level}
 use Rattle.mid_code.specs.MidCode.{MidStep, MidCode, repeat, choose, no_step, code_of}
 use Rattle.mid_arena.specs.Tags.{nil_word}
-use Rattle.back_lowering.specs.Codes.{lower, lower_clauses}
+use Rattle.back_lowering.specs.Codes.{lower, lower_clauses, lower_clause, known_truth}
 use Rattle.back_lowering.specs.Primitives.{value_judged}
 use Rattle.back_lowering.specs.Registers.{of_code, enough_for}
 use Rattle.back_lowering.specs.Steps.{Steps, constant}
@@ -16,7 +16,7 @@ use Rattle.back_relation.specs.Placed.{PlacedClauses}
 use Rattle.back_relation.specs.Room.{words_for, words_for_clauses}
 use Rattle.back_relation.specs.Activation.{FormScope}
 use Rattle.back_relation.specs.Forms.{FormStands, DoesForm, JudgesForm, context_at, code_at, judged}
-use Rattle.back_relation.specs.FormLaws.{ClausesHere, ClausesDo, LawOfWholeClauses, LawOfWholeWhiles}
+use Rattle.back_relation.specs.FormLaws.{ClauseHere, ClausesHere, ClausesDo, LawOfWholeClauses, LawOfWholeWhiles}
 use Rattle.back_relation.specs.Points.{Point, Here, JudgedHere, LoopHere}
 use Rattle.back_relation.proofs.Clauses.{clauses_here}
 use Rattle.back_relation.proofs.Fitting.{enough_front, enough_behind, registers_front, registers_behind}
@@ -40,6 +40,59 @@ module _ (setting : Setting) where
       (subst (λ l. enough_for (of_code (code_of (judged setting s d f).ready)) ≤ l) (sym p.count) registers) words
 
   module _ (k n : ℕ) where
+    module _ (s : FormScope) (d m size first : ℕ) (test : FlatForm) (cs : FlatClauses) (exits_known : length s.exits.own ≡ s.flat.exits) where
+      abbrev others_code : Steps
+      others_code = lower_clauses setting.names setting.at setting.program s.code d cs
+
+      -- what is known of the registers of clauses
+      abbrev Fitting : Steps → Type 0
+      Fitting ss = enough_for (of_code (code_of ss)) ≤ size
+
+      -- a clause in one scope, where the others are known there
+      clause_here :
+          (known : Option Bool) (body : FlatBody) → ClausesDo setting k n (clause_and test body cs)
+          → StandClauses setting.program.lambdas s.flat first (clause_and test body cs) → FitClauses setting.program (clause_and test body cs)
+          → LeadClauses setting.leads.functions s.exits (clause_and test body cs) → PlacedClauses setting s.keeps_method (clause_and test body cs)
+          → words_for_clauses setting.names setting.program (clause_and test body cs) ≤ m
+          → (Others : Type 0) → (Fitting others_code → Others)
+          → Fitting (lower_clause setting.names setting.at setting.program s.code d known (lower setting.names setting.at setting.program s.code d test) body others_code)
+          → ClauseHere setting s d m size k n known test body Others
+      unfolding lower
+      clause_here (Some true) no_body does stands fits leads placed words Others others registers =
+          does_here setting s d m size k n test first does.0
+          (record { stands = stands.0; fits = fits.0; leads = leads.0; placed = placed.0; forms_known = exits_known })
+          registers (omega (arith, words))
+      clause_here (Some true) (with_body f) does stands fits leads placed words Others others registers =
+          does_here setting s d m size k n f first does.1
+          (record { stands = stands.1; fits = fits.1; leads = leads.1; placed = placed.1; forms_known = exits_known })
+          registers (omega (arith, words))
+      clause_here (Some false) body does stands fits leads placed words Others others registers = others registers
+      clause_here None (with_body f) does stands fits leads placed words Others others registers =
+          let ready : Steps = (lower setting.names setting.at setting.program s.code d test).judged.ready in
+          let body : MidCode = code_of (lower setting.names setting.at setting.program s.code d f).value in
+          let t = (lower setting.names setting.at setting.program s.code d test).judged.test in
+          let chosen = registers_behind ready (choose t body (code_of others_code) ∷ []) size registers in (
+            judged_here s d m size k n test first does.0
+                (record { stands = stands.0; fits = fits.0; leads = leads.0; placed = placed.0; forms_known = exits_known })
+                (registers_front ready (choose t body (code_of others_code) ∷ []) size registers) (omega (arith, words)),
+            does_here setting s d m size k n f first does.1
+                (record { stands = stands.1; fits = fits.1; leads = leads.1; placed = placed.1; forms_known = exits_known })
+                (front_way t.first t.second (of_code body) (of_code (code_of others_code)) size chosen) (omega (arith, words)),
+            others (behind_way t.first t.second (of_code body) (of_code (code_of others_code)) size chosen),
+          )
+      clause_here None no_body does stands fits leads placed words Others others registers =
+          let value : Steps = (lower setting.names setting.at setting.program s.code d test).value in
+          let last : Steps = choose (value_judged d).test no_step (code_of others_code) ∷ [] in
+          let made = registers_front (value ++ (value_judged d).ready) last size registers in
+          let chosen = registers_behind (value ++ (value_judged d).ready) last size registers in
+          let front = registers_behind value (value_judged d).ready size made in (
+            omega (arith, front),
+            does_here setting s d m size k n test first does.0
+                (record { stands = stands.0; fits = fits.0; leads = leads.0; placed = placed.0; forms_known = exits_known })
+                (registers_front value (value_judged d).ready size made) (omega (arith, words)),
+            others (behind_way d (d + 1) [] (of_code (code_of others_code)) size chosen),
+          )
+
     -- clauses in one scope
     all_here :
         (s : FormScope) (d m size first : ℕ) (cs : FlatClauses) → ClausesDo setting k n cs → StandClauses setting.program.lambdas s.flat first cs
@@ -48,30 +101,16 @@ module _ (setting : Setting) where
         → words_for_clauses setting.names setting.program cs ≤ m → ClausesHere setting s d m size k n cs
     unfolding lower
     all_here s d m size first no_clause does stands fits leads placed known registers words = tt
-    all_here s d m size first (clause_and test (with_body f) cs) does stands fits leads placed known registers words =
-        let ready : Steps = (lower setting.names setting.at setting.program s.code d test).judged.ready in
-        let body : MidCode = code_of (lower setting.names setting.at setting.program s.code d f).value in
-        let others : MidCode = code_of (lower_clauses setting.names setting.at setting.program s.code d cs) in
-        let t = (lower setting.names setting.at setting.program s.code d test).judged.test in
-        let chosen = registers_behind ready (choose t body others ∷ []) size registers in (
-          judged_here s d m size k n test first does.0 (record { stands = stands.0; fits = fits.0; leads = leads.0; placed = placed.0; forms_known = known })
-              (registers_front ready (choose t body others ∷ []) size registers) (omega (arith, words)),
-          does_here setting s d m size k n f first does.1 (record { stands = stands.1; fits = fits.1; leads = leads.1; placed = placed.1; forms_known = known })
-              (front_way t.first t.second (of_code body) (of_code others) size chosen) (omega (arith, words)),
-          all_here s d m size first cs does.2 stands.2 fits.2 leads.2 placed.2 known (behind_way t.first t.second (of_code body) (of_code others) size chosen) (omega (arith, words)),
-        )
     all_here s d m size first (clause_and test no_body cs) does stands fits leads placed known registers words =
-        let value : Steps = (lower setting.names setting.at setting.program s.code d test).value in
-        let others : MidCode = code_of (lower_clauses setting.names setting.at setting.program s.code d cs) in
-        let last : Steps = choose (value_judged d).test no_step others ∷ [] in
-        let made = registers_front (value ++ (value_judged d).ready) last size registers in
-        let chosen = registers_behind (value ++ (value_judged d).ready) last size registers in
-        let front = registers_behind value (value_judged d).ready size made in (
-          omega (arith, front),
-          does_here setting s d m size k n test first does.0 (record { stands = stands.0; fits = fits.0; leads = leads.0; placed = placed.0; forms_known = known })
-              (registers_front value (value_judged d).ready size made) (omega (arith, words)),
-          all_here s d m size first cs does.1 stands.2 fits.2 leads.2 placed.2 known (behind_way d (d + 1) [] (of_code others) size chosen) (omega (arith, words)),
-        )
+        clause_here s d m size first test cs known (known_truth setting.at setting.program.literals test) no_body does stands fits leads placed words
+        (ClausesHere setting s d m size k n cs)
+        (λ fitting. all_here s d m size first cs does.1 stands.2 fits.2 leads.2 placed.2 known fitting (omega (arith, words)))
+        registers
+    all_here s d m size first (clause_and test (with_body f) cs) does stands fits leads placed known registers words =
+        clause_here s d m size first test cs known (known_truth setting.at setting.program.literals test) (with_body f) does stands fits leads placed words
+        (ClausesHere setting s d m size k n cs)
+        (λ fitting. all_here s d m size first cs does.2 stands.2 fits.2 leads.2 placed.2 known fitting (omega (arith, words)))
+        registers
 
   pub whole_clauses : (k turns : ℕ) (cs : FlatClauses) → ClausesDo setting k turns cs → DoesForm setting turns (context_at setting k) (code_at setting k turns) (clauses cs)
   unfolding lower

@@ -1,12 +1,15 @@
 -- Clauses: the first one whose test is true.
-use Rattle.std.proofs.Common.{◌≡◌, ℕ, ◌+◌, ◌*◌, ◌<◌, ◌≤◌, Bool, true, false, List, [], ◌∷◌, Some, refl, sym, ap, ◌∙◌, subst, append_assoc, arith}
-use Rattle.std.specs.Prelude.{slice_set, if◌then◌else◌}
+use Rattle.std.proofs.Common.{◌≡◌, ℕ, ◌+◌, ◌*◌, ◌<◌, ◌≤◌, Bool, true, false, List, [], ◌∷◌, Option, Some, None, refl, sym, ap, ◌∙◌, subst, append_assoc, arith}
+use Rattle.std.specs.Prelude.{slice_get, slice_set, ◌==◌, not, if◌then◌else◌}
+use Rattle.lang_meaning.specs.declared.program.LiteralRow.{LiteralRow}
+use Rattle.lang_meaning.specs.declared.program.LiteralRow.TheVariants as row
+use Rattle.lang_meaning.specs.InitialHeap.{literal_value}
 use Rattle.lang_meaning.specs.State.{DynamicContext}
 use Rattle.lang_meaning.specs.Values.{Value, nil, is_true}
-use Rattle.flat_language.specs.FlatForm.{FlatForm, clauses, FlatClauses, no_clause, clause_and, FlatBody, no_body, with_body}
-use Rattle.flat_language.specs.FlatMeaning.{mean, mean_clauses, mean_body, unless_nil}
-use Rattle.flat_language.specs.FlatNodes.{count_clauses}
-use Rattle.flat_language.specs.FlatState.{FlatEnvironment, FlatState, FlatEvaluated, charged, gives}
+use Rattle.flat_language.specs.FlatForm.{FlatForm, literal, clauses, FlatClauses, no_clause, clause_and, FlatBody, no_body, with_body}
+use Rattle.flat_language.specs.FlatMeaning.{mean, mean_literal, mean_clauses, mean_body, unless_nil}
+use Rattle.flat_language.specs.FlatNodes.{count_clauses, tables}
+use Rattle.flat_language.specs.FlatState.{FlatEnvironment, FlatState, FlatEvaluated, charged, gives, go_on}
 use Rattle.mid_code.specs.declared.operation.Comparison.TheVariants.{Different}
 use Rattle.mid_code.specs.declared.operation.Test.{Test}
 use Rattle.mid_code.specs.Meaning.{exec}
@@ -18,12 +21,13 @@ use Rattle.mid_arena.specs.Places.{word_of}
 use Rattle.mid_arena.specs.Tags.{nil_word}
 use Rattle.mid_arena.proofs.Registers.{register_here, register_beside}
 use Rattle.mid_arena.proofs.Running.{RunsTo, and_then, none_left, constant_falls, in_two_parts}
-use Rattle.back_lowering.specs.Codes.{lower, lower_clauses}
+use Rattle.back_lowering.specs.Codes.{lower, lower_clauses, lower_clause, known_truth, truth_in}
+use Rattle.back_lowering.specs.Placement.{literal_word}
 use Rattle.back_lowering.specs.Steps.{Steps, constant, test_of}
 use Rattle.back_relation.specs.Setting.{Setting}
 use Rattle.back_relation.specs.Activation.{FormScope}
 use Rattle.back_relation.specs.Forms.{judged_credit, context_at, code_at, value_code, judged}
-use Rattle.back_relation.specs.FormLaws.{ClausesHere, LawOfClauses}
+use Rattle.back_relation.specs.FormLaws.{ClauseHere, ClausesHere, LawOfClauses}
 use Rattle.back_relation.specs.Points.{Point, start_at, run, value_steps, Here}
 use Rattle.back_relation.specs.Starts.{FlatGrown, Start, EndsAt, ReachedFrom}
 use Rattle.back_relation.proofs.Choices.{choice, tested}
@@ -31,8 +35,8 @@ use Rattle.back_relation.proofs.FormGrowth.{form_grows}
 use Rattle.back_relation.proofs.Growth.{same_flat, both_flat, then_grown}
 use Rattle.back_relation.proofs.Judging.{truth_of_word}
 use Rattle.back_relation.proofs.Parts.{single_step}
-use Rattle.back_relation.proofs.Points.{point_after, code_grows}
-use Rattle.back_relation.proofs.Starts.{start_charged, ends_sparing, ends_spared, tests_spared, gives_run, given_already, two, behind, reached_set, reached_same}
+use Rattle.back_relation.proofs.Points.{point_after, charged_point, code_grows}
+use Rattle.back_relation.proofs.Starts.{start_charged, ends_charged, ends_sparing, ends_spared, tests_spared, gives_run, given_already, two, behind, reached_set, reached_same}
 use Rattle.back_relation.proofs.Then.{ends_judged}
 
 picked_grows :
@@ -155,10 +159,72 @@ module _ (setting : Setting) (s : FormScope) (d m size k n : ℕ) where
         (no_body_chosen (point_after setting s d m size n p x) v word (register_beside p.regs (d + 1) d (Some nil_word) (λ e. omega arith) ∙ here)
         (register_here p.regs (d + 1) nil_word (omega (arith, there, p.count))) is))
 
-  clauses_sim : (cs : FlatClauses) → ClausesHere setting s d m size k n cs → DoClauses cs
+  -- what a test that is known comes to, for a unit, and whether it is true
+  record KnownTest (p : Point setting s d m size) (test : FlatForm) (b : Bool) : Type 0 where
+    result : Value
+    meant : mean (context_at setting k) test p.env p.around p.z ≡ gives result (charged 1 p.z)
+    truth : is_true result ≡ b
+
+  known_test :
+      (test : FlatForm) (b : Bool) → known_truth setting.at setting.program.literals test ≡ Some b → (p : Point setting s d m size) → KnownTest p test b
+  unfolding mean
+  known_test (literal i) b e p = by (slice_get setting.program.literals i) refl
+    where
+      by : (o : Option LiteralRow) → slice_get setting.program.literals i ≡ o → KnownTest p (literal i) b
+      by (Some (row.Datum x)) there =
+          let v : Value = literal_value setting.names (tables setting.program) i x in
+          let known : Some (not (literal_word setting.at i == nil_word)) ≡ Some b = sym (ap (λ o. truth_in setting.at i o) there) ∙ e in
+          let same : not (literal_word setting.at i == nil_word) ≡ b = cc known in
+          record {
+            result = v;
+            meant = ap (λ o. mean_literal (context_at setting k) i o p.around (charged 1 p.z)) there;
+            truth =
+                sym (truth_of_word setting p.begins.call.things v (literal_word setting.at i) (p.begins.call.things.literals i (row.Datum x) there)) ∙ same;
+          }
+      by other there = absurd (cc (sym (ap (λ o. truth_in setting.at i o) there) ∙ e))
+  known_test other b e p = absurd (cc e)
+
+  -- so clauses mean what is left of them
+  clauses_known :
+      (test : FlatForm) (body : FlatBody) (cs : FlatClauses) (b : Bool) (p : Point setting s d m size) (t : KnownTest p test b)
+      → clauses_mean (clause_and test body cs) p
+      ≡ (if b then mean_body (context_at setting k) t.result body p.env p.around (charged 1 p.z)
+      else mean_clauses (context_at setting k) cs p.env p.around (charged 1 p.z))
+  unfolding mean
+  clauses_known test body cs b p t =
+      ap (λ r. go_on r (λ v z. picked v body cs p.env p.around z)) t.meant
+      ∙ ap (λ x. if x then mean_body (context_at setting k) t.result body p.env p.around (charged 1 p.z)
+      else mean_clauses (context_at setting k) cs p.env p.around (charged 1 p.z)) t.truth
+
+  abbrev clause_steps : (known : Option Bool) (test : FlatForm) → FlatBody → FlatClauses → Steps
+  clause_steps known test body cs =
+      lower_clause setting.names setting.at setting.program s.code d known (lower setting.names setting.at setting.program s.code d test) body (clauses_steps cs)
+
+  -- a clause in front of others
+  clause_sim :
+      (known : Option Bool) (test : FlatForm) (body : FlatBody) (cs : FlatClauses) → known_truth setting.at setting.program.literals test ≡ known
+      → ClauseHere setting s d m size k n known test body (ClausesHere setting s d m size k n cs) → (ClausesHere setting s d m size k n cs → DoClauses cs)
+      → (p : Point setting s d m size)
+      → EndsAt setting (clauses_credit (clause_and test body cs)) (start p) (clauses_mean (clause_and test body cs) p)
+      (running (clause_steps known test body cs) p.regs p.y)
   unfolding mean lower
-  clauses_sim no_clause h p = gives_run setting (start p) nil (omega arith) refl (and_then constant_falls none_left)
-  clauses_sim (clause_and test (with_body f) cs) h p =
+  clause_sim (Some true) test no_body cs e here others p =
+      let t = known_test test true e p in
+      subst (λ r. EndsAt setting (clauses_credit (clause_and test no_body cs)) (start p) r (running (value_steps setting s d m size k n test) p.regs p.y))
+      (t.meant ∙ sym (clauses_known test no_body cs true p t))
+      (more_credit (start p) (omega arith) (ends_spared setting (start p) (here p)))
+  clause_sim (Some true) test (with_body f) cs e here others p =
+      let t = known_test test true e p in
+      let after : Point setting s d m size = charged_point setting s d m size n p in
+      subst (λ r. EndsAt setting (clauses_credit (clause_and test (with_body f) cs)) (start p) r (running (value_steps setting s d m size k n f) p.regs p.y))
+      (sym (clauses_known test (with_body f) cs true p t))
+      (ends_charged setting {c1 = 0} (start p) 1 (omega arith) (ends_spared setting (start after) (here after)))
+  clause_sim (Some false) test body cs e here others p =
+      let t = known_test test false e p in
+      subst (λ r. EndsAt setting (clauses_credit (clause_and test body cs)) (start p) r (running (clauses_steps cs) p.regs p.y))
+      (sym (clauses_known test body cs false p t))
+      (ends_charged setting {c1 = clauses_credit cs} (start p) 1 (omega arith) (others here (charged_point setting s d m size n p)))
+  clause_sim None test (with_body f) cs e h others p =
       let rest : List MidStep = choose (judged setting s d test).test (value_code setting s d f) (code_of (clauses_steps cs)) ∷ [] in
       subst (λ q. EndsAt setting (clauses_credit (clause_and test (with_body f) cs)) (start p) (clauses_mean (clause_and test (with_body f) cs) p) q)
       (sym (in_two_parts (code_at setting k n) (judged setting s d test).ready rest p.regs p.y))
@@ -167,9 +233,9 @@ module _ (setting : Setting) (s : FormScope) (d m size k n : ℕ) where
       (λ v z. picked_grows setting k v (with_body f) cs p.env p.around z (clauses_grow setting k cs p.env p.around z))
       (λ g y. code_grows setting s d m size k n rest g y)
       (λ x.
-      with_body_chosen cs (clauses_sim cs h.2) f h.1 (point_after setting s d m size n p x.reached) x.result (judged setting s d test).test x.first x.second
+      with_body_chosen cs (others h.2) f h.1 (point_after setting s d m size n p x.reached) x.result (judged setting s d test).test x.first x.second
       x.first_word x.second_word x.judged))
-  clauses_sim (clause_and test no_body cs) h p =
+  clause_sim None test no_body cs e h others p =
       let rest : List MidStep = constant (d + 1) nil_word ∷ choose (test_of Different d (d + 1)) no_step (code_of (clauses_steps cs)) ∷ [] in
       subst (λ q. EndsAt setting (clauses_credit (clause_and test no_body cs)) (start p) (clauses_mean (clause_and test no_body cs) p) q)
       (sym (ap (λ ss. running ss p.regs p.y)
@@ -180,7 +246,13 @@ module _ (setting : Setting) (s : FormScope) (d m size k n : ℕ) where
       (omega arith) (omega arith) (form_grows setting k test p.env p.around p.z).units (ends_spared setting (start p) (h.1 p))
       (λ v z. picked_grows setting k v no_body cs p.env p.around z (clauses_grow setting k cs p.env p.around z))
       (λ g y. code_grows setting s d m size k n rest g y)
-      (λ x. no_body_judged cs (clauses_sim cs h.2) h.0 (point_after setting s d m size n p x.reached) x.result x.word x.in_register x.of_value))
+      (λ x. no_body_judged cs (others h.2) h.0 (point_after setting s d m size n p x.reached) x.result x.word x.in_register x.of_value))
+
+  clauses_sim : (cs : FlatClauses) → ClausesHere setting s d m size k n cs → DoClauses cs
+  unfolding mean lower
+  clauses_sim no_clause h p = gives_run setting (start p) nil (omega arith) refl (and_then constant_falls none_left)
+  clauses_sim (clause_and test body cs) h p =
+      clause_sim (known_truth setting.at setting.program.literals test) test body cs refl h (λ here. clauses_sim cs here) p
 
   -- **clauses**
   pub clauses_here : (cs : FlatClauses) → ClausesHere setting s d m size k n cs → Here setting s d m size k n (clauses cs)

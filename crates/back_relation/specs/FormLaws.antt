@@ -1,5 +1,5 @@
 -- What is shown of forms whose parts do what they mean.
-use Rattle.std.specs.Prelude.{◌≡◌, ⊤, ℕ, suc, ◌+◌, ◌<◌, ◌≤◌, Some, slice_get}
+use Rattle.std.specs.Prelude.{◌≡◌, ⊤, ℕ, suc, ◌+◌, ◌<◌, ◌≤◌, Bool, true, false, Option, Some, None, slice_get}
 use Rattle.lang_meaning.specs.declared.program.FunctionRow.{FunctionRow}
 use Rattle.lang_meaning.specs.declared.program.LiteralRow.{LiteralRow}
 use Rattle.lang_meaning.specs.declared.program.LiteralRow.TheVariants as row
@@ -7,8 +7,8 @@ use Rattle.lang_meaning.specs.Literals.{function_row}
 use Rattle.lang_meaning.specs.Lookup.{text}
 use Rattle.flat_language.specs.declared.place.Home.TheVariants as home
 use Rattle.flat_language.specs.declared.place.VariablePlace.TheVariants.{Slot}
-use Rattle.flat_language.specs.FlatForm.{FlatForm, literal, local, while_form, clauses, sequence, FlatForms, no_form, form_and, FlatClauses, no_clause, clause_and, no_body, with_body}
-use Rattle.back_lowering.specs.Codes.{lower, by_value}
+use Rattle.flat_language.specs.FlatForm.{FlatForm, literal, local, while_form, clauses, sequence, FlatForms, no_form, form_and, FlatClauses, no_clause, clause_and, FlatBody, no_body, with_body}
+use Rattle.back_lowering.specs.Codes.{lower, by_value, known_truth}
 use Rattle.back_lowering.specs.Steps.{Steps}
 use Rattle.back_relation.specs.Setting.{Setting}
 use Rattle.back_relation.specs.Activation.{FormScope}
@@ -63,13 +63,21 @@ LawOfJudging =
     → lower setting.names setting.at setting.program s.code d f ≡ by_value d steps → Here setting s d m size k turns f
     → JudgedHere setting s d m size k turns f
 
--- a clause's test is judged, or its value is there where the clause has no body, with a register more; and each body does what it means
+-- A clause's test is judged, or its value is there where the clause has no body, with a register more; its body does what it means, and so
+-- do the others behind it. Where the test is known, only what is not left out does.
+abbrev pub ClauseHere :
+    (setting : Setting) (s : FormScope) (d m size k turns : ℕ) → (known : Option Bool) → (test : FlatForm) → FlatBody → (Others : Type 0) → Type 0
+ClauseHere setting s d m size k turns (Some true) test no_body Others = Here setting s d m size k turns test
+ClauseHere setting s d m size k turns (Some true) test (with_body f) Others = Here setting s d m size k turns f
+ClauseHere setting s d m size k turns (Some false) test body Others = Others
+ClauseHere setting s d m size k turns None test no_body Others = (d + 1 < size) × Here setting s d m size k turns test × Others
+ClauseHere setting s d m size k turns None test (with_body f) Others =
+    JudgedHere setting s d m size k turns test × Here setting s d m size k turns f × Others
+
 abbrev pub ClausesHere : (setting : Setting) (s : FormScope) (d m size k turns : ℕ) → FlatClauses → Type 0
 ClausesHere setting s d m size k turns no_clause = ⊤
-ClausesHere setting s d m size k turns (clause_and test no_body cs) =
-    (d + 1 < size) × Here setting s d m size k turns test × ClausesHere setting s d m size k turns cs
-ClausesHere setting s d m size k turns (clause_and test (with_body f) cs) =
-    JudgedHere setting s d m size k turns test × Here setting s d m size k turns f × ClausesHere setting s d m size k turns cs
+ClausesHere setting s d m size k turns (clause_and test body cs) =
+    ClauseHere setting s d m size k turns (known_truth setting.at setting.program.literals test) test body (ClausesHere setting s d m size k turns cs)
 
 -- the first clause whose test is true
 abbrev pub LawOfClauses : Type 0

@@ -25,7 +25,7 @@ use Rattle.mid_code.specs.MidCode.{MidStep, MidCode, choose, with_block, code_of
 use Rattle.back_lowering.specs.declared.scope.Scope.{Scope}
 use Rattle.back_lowering.specs.declared.scope.SitePlace.{SitePlace}
 use Rattle.back_lowering.specs.Calls.{call_name, call_callee, call_procedure, call_generic, call_with_rest, enter_body, wrong_number, site_for, list_of}
-use Rattle.back_lowering.specs.Codes.{lower, lower_sequence, lower_arguments, lower_clauses, lower_bindings, literal_code}
+use Rattle.back_lowering.specs.Codes.{Lowered, lower, lower_sequence, lower_arguments, lower_clauses, lower_clause, lower_bindings, literal_code, known_truth}
 use Rattle.back_lowering.specs.Leaves.{site_stored, failing, slot_into, variable_into, boxes_made}
 use Rattle.back_lowering.specs.Primitives.{apply_primitive}
 use Rattle.back_lowering.specs.Registers.{of_step, of_code, enough_for}
@@ -162,6 +162,23 @@ module _ (setting : Setting) where
   abbrev value : Scope → ℕ → FlatForm → Steps
   value s d f = (lower setting.names setting.at setting.program s d f).value
 
+  -- a clause in front of others, without a body and with one
+  alone_clause_names :
+      (s : Scope) (d : ℕ) (known : Option Bool) (test : Lowered) (others : Steps) → Names d test.value → Names d others
+      → Names d (lower_clause setting.names setting.at setting.program s d known test no_body others)
+  unfolding lower
+  alone_clause_names s d (Some true) test others one more = one
+  alone_clause_names s d (Some false) test others one more = more
+  alone_clause_names s d None test others one more = front d _ _ (front d _ _ one)
+
+  body_clause_names :
+      (s : Scope) (d : ℕ) (known : Option Bool) (test : Lowered) (f : FlatForm) (others : Steps) → Names d (value s d f) → Names d others
+      → Names d (lower_clause setting.names setting.at setting.program s d known test (with_body f) others)
+  unfolding lower
+  body_clause_names s d (Some true) test f others one more = one
+  body_clause_names s d (Some false) test f others one more = more
+  body_clause_names s d None test f others one more = behind d _ _ (choose_names d _ (value s d f) _ one)
+
   mutual
     unfolding lower
 
@@ -211,8 +228,12 @@ module _ (setting : Setting) where
 
     clauses_name : (s : Scope) (d : ℕ) (cs : FlatClauses) → Names d (lower_clauses setting.names setting.at setting.program s d cs)
     clauses_name s d no_clause = now d _ _ (omega arith)
-    clauses_name s d (clause_and test no_body cs) = front d _ _ (front d _ _ (form_names s d test))
-    clauses_name s d (clause_and test (with_body f) cs) = behind d _ _ (choose_names d _ (value s d f) _ (form_names s d f))
+    clauses_name s d (clause_and test no_body cs) =
+        alone_clause_names s d (known_truth setting.at setting.program.literals test) (lower setting.names setting.at setting.program s d test)
+        (lower_clauses setting.names setting.at setting.program s d cs) (form_names s d test) (clauses_name s d cs)
+    clauses_name s d (clause_and test (with_body f) cs) =
+        body_clause_names s d (known_truth setting.at setting.program.literals test) (lower setting.names setting.at setting.program s d test) f
+        (lower_clauses setting.names setting.at setting.program s d cs) (form_names s d f) (clauses_name s d cs)
 
 -- so there are registers for the values of forms in a list
 pub list_fits :

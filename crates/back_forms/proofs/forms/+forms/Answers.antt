@@ -10,7 +10,6 @@ use Rattle.flat_language.specs.declared.flat_core.FlatBinding.{FlatBinding}
 use Rattle.flat_language.specs.declared.flat_core.FlatDynBinding.{FlatDynBinding}
 use Rattle.flat_language.specs.model.View.{forms, clauses_of, bindings_of, dynamics_of, maybe_form}
 use Rattle.mid_code.specs.model.View.{codes_of}
-use Rattle.mid_code.specs.MidCode.{code_of}
 use Rattle.back_lowering.specs.declared.scope.Scope.{Scope}
 use Rattle.back_lowering.specs.Steps.{Steps}
 use Rattle.back_lowering.specs.Calls.{call_name, call_value_code}
@@ -19,11 +18,11 @@ use Rattle.back_lowering.specs.Scope.{at_site}
 use Rattle.back_forms.specs.Shapes.{leaf_form}
 use Rattle.back_forms.proofs.BindingHomes.{homes_are}
 use Rattle.back_forms.proofs.Equations.{leaf_is, function_is, clauses_is, sequence_is, call_value_is}
-use Rattle.back_forms.specs.Lowers.{low, low_behind, low_arguments, low_bindings, low_dynamics, low_clause}
+use Rattle.back_forms.specs.Lowers.{low, low_behind, low_arguments, low_bindings, low_dynamics, low_clause, truth_of}
 use Rattle.back_forms.proofs.Walks.{walk_step, walk_end}
 use Rattle.back_forms.proofs.Arms.{argument_next, behind_next, value_next, dynamic_next, no_argument, none_behind, no_value, no_dynamic_value, sequence_behind, clause_step, no_clauses, no_sequence, no_call_value, segment_step, segments_done, same_form, one_arm, two_arm, call_arm, prim_arm, block_arm, catch_arm, handler_arm, sited_arm, call_value_arm, let_arm, dynamic_arm, tagbody_arm, unwind_arm, while_arm, alone_arm, body_arm, judged_prim_arm, judged_prim_test, judged_sited, judged_sited_test}
 use Rattle.back_forms.proofs.forms.+forms.Goals as goal
-use Rattle.back_forms.proofs.forms.+forms.Goals.{clause-in-None+in_ok-value-in-None+in_ok-room-in-None+in_ok-test-in-None+in_ok-push-in-None, clause-in-Some+in_ok-test-in-Some+in_ok-first-in-Some+in_ok-push-in-Some}
+use Rattle.back_forms.proofs.forms.+forms.Goals.{asked_clause-in-None+in_ok-value-in-None+in_ok-room-in-None+in_ok-test-in-None+in_ok-push-in-None, asked_clause-in-Some+in_ok-test-in-Some+in_ok-first-in-Some+in_ok-push-in-Some}
 
 pub arguments-loop-i-preserved : goal.arguments-loop-i-preserved
 arguments-loop-i-preserved t c =
@@ -175,7 +174,7 @@ clauses-loop-i-preserved t c =
       so = clause_step g s d c.args.list.now c.len-count.result c.loop-i.i x c.loop-i.otherwise c.in_ok-otherwise.otherwise c.len-count.ensures below
           c.in-Some.ensures c.loop-i.invariant.so
           (c.in_ok-otherwise.ensures.code
-          ∙ ap (λ (w : Scope). low_clause g w d (low g w d x.test) (maybe_form x.body) (code_of c.loop-i.otherwise)) c.loop-i.invariant.same);
+          ∙ ap (λ (w : Scope). low_clause g w d (truth_of g x.test) (low g w d x.test) (maybe_form x.body) c.loop-i.otherwise) c.loop-i.invariant.same);
     }
 
 pub dynamic_let-returns-clause-code : goal.dynamic_let-returns-clause-code
@@ -349,19 +348,19 @@ value-returns-in_ok-value-in-Sited-clause-code t c =
     sited_arm c.args.given.now c.args.scope.now c.args.d c.args.form.now c.args.code.now c.value-in-Sited.new.code c.in-Sited.site c.in-Sited.inner.now (at_site c.in_ok-word-in-Sited.field-0 s)
     (c.in-Sited.ensures.1) (ap (λ (n : ℕ). at_site n s) c.in_ok-word-in-Sited.ensures) c.in_ok-value-in-Sited.ensures.code
 
-pub clause-returns-clause-code : goal.clause-returns-clause-code
-clause-returns-clause-code t c =
+pub asked_clause-returns-clause-code : goal.asked_clause-returns-clause-code
+asked_clause-returns-clause-code t c =
     let g = c.args.given.now in
     let s = c.args.scope.now in
     let d = c.args.d in
     let x = c.args.choice.now.test in
     let body = c.args.choice.now.body in
     elim c.match-choice.branch [
-      | clause-in-None+in_ok-value-in-None+in_ok-room-in-None+in_ok-test-in-None+in_ok-push-in-None w ↦
+      | asked_clause-in-None+in_ok-value-in-None+in_ok-room-in-None+in_ok-test-in-None+in_ok-push-in-None w ↦
           alone_arm g s d x (maybe_form body) c.new-code.result c.match-choice.code c.args.otherwise w.value.new.code w.value_judged.new.code w.new.result w.in_ok-test-in-None.test
           (ap maybe_form w.in-None.is) c.new-code.ensures w.in_ok-value-in-None.ensures.code w.in_ok-test-in-None.ensures.ready w.in_ok-test-in-None.ensures.test w.new.ensures
           (w.code-is ∙ w.in_ok-push-in-None.ensures.ok ∙ ap (λ i. w.value_judged.new.code ++ i ∷ []) w.either.ensures)
-      | clause-in-Some+in_ok-test-in-Some+in_ok-first-in-Some+in_ok-push-in-Some w ↦
+      | asked_clause-in-Some+in_ok-test-in-Some+in_ok-first-in-Some+in_ok-push-in-Some w ↦
           body_arm g s d x (maybe_form body) c.new-code.result c.match-choice.code c.args.otherwise w.in-Some.body w.judged.new.code w.in_ok-first-in-Some.first w.in_ok-test-in-Some.test w.judged.new.scope
           (ap maybe_form w.in-Some.is) c.new-code.ensures w.in_ok-test-in-Some.ensures.code w.in_ok-test-in-Some.ensures.test w.in_ok-test-in-Some.ensures.scope w.in_ok-first-in-Some.ensures.code
           (w.code-is ∙ w.in_ok-push-in-Some.ensures.ok ∙ ap (λ i. w.judged.new.code ++ i ∷ []) w.either-in-Some.ensures)

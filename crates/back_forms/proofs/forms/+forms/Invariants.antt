@@ -34,7 +34,10 @@ abbrev pub decreases-clauses : goal.decreases-clauses
 decreases-clauses l = 8 * clauses_size (clauses_of l.list.now)
 
 abbrev pub decreases-clause : goal.decreases-clause
-decreases-clause l = 8 * (form_size l.choice.now.test + body_size (maybe_form l.choice.now.body))
+decreases-clause l = 8 * (form_size l.choice.now.test + body_size (maybe_form l.choice.now.body)) + 1
+
+abbrev pub decreases-asked_clause : goal.decreases-asked_clause
+decreases-asked_clause l = 8 * (form_size l.choice.now.test + body_size (maybe_form l.choice.now.body))
 
 abbrev pub decreases-let_code : goal.decreases-let_code
 decreases-let_code l = 8 * (bindings_size (bindings_of l.list.now) + form_size l.body.now) + 4
