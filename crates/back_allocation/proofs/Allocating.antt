@@ -16,7 +16,7 @@ use Rattle.back_places.specs.StepLaw.{Known}
 use Rattle.back_places.proofs.LinesInForm.{frame_words}
 use Rattle.back_trivial.specs.OwnSlots.{is_there, IsPlacedWell}
 use Rattle.back_allocation.specs.LineSteps.{line_gives}
-use Rattle.back_allocation.specs.Allocated.{Choice, is_chosen, place_given, target_at, IsAllocated, LawOfAllocated}
+use Rattle.back_allocation.specs.Allocated.{Choice, is_chosen, place_given, target_in, IsAllocated, LawOfAllocated}
 use Rattle.back_allocation.proofs.Facts.{told, at_line}
 use Rattle.back_allocation.proofs.GoodLines.{good_line}
 use Rattle.back_allocation.proofs.Parameters.{more_frame, nowhere_placed, own_somewhere, place, count_of, place_at, place_there, place_entered, each_place, parameters_placed, all_apart}
@@ -47,13 +47,14 @@ module _ (program : LineProgram) (l : Located) (c : Choice) (t : IsAllocated pro
   target_reached :
       (number line next : ℕ) (x : Line) → line_of program number line ≡ Some x → IsPlace (reach_at program l number next) (l.target number line)
   target_reached number line next x e =
-      let i = at_line program number line x e in
-      subst (IsPlace (reach_at program l number next)) (sym (t.targets number line ∙ ap (target_at (c.spot number)) e))
-      (given_in_reach number next i.procedure i.there (line_gives x))
+      let i = at_line program l c t number line x e in
+      subst (IsPlace (reach_at program l number next))
+      (sym (t.targets number line ∙ (ap (λ o. target_in (c.spot number) o (slice_get (c.lines number) line)) e ∙ ap (target_in (c.spot number) (Some x)) i.at)))
+      (given_in_reach number next i.procedure i.there (line_gives i.named))
 
   target_placed : (number line : ℕ) (o : Option Line) → line_of program number line ≡ o → IsPlace (reach_at program l number line) (l.target number line)
   target_placed number line None e =
-      subst (IsPlace (reach_at program l number line)) (sym (t.targets number line ∙ ap (target_at (c.spot number)) e))
+      subst (IsPlace (reach_at program l number line)) (sym (t.targets number line ∙ ap (λ o. target_in (c.spot number) o (slice_get (c.lines number) line)) e))
       (nowhere_placed (reach_at program l number line))
   target_placed number line (Some x) e = target_reached number line line x e
 
@@ -87,25 +88,29 @@ module _ (program : LineProgram) (l : Located) (c : Choice) (t : IsAllocated pro
       put v q f false e =
           let below : v < p.parameters = leb-false p.parameters v e in
           let s = told program c number 0 v q f in
+          let names = t.owned number p h in
+          let own : s.name ≡ v = sym (names.own s.name (names.entry s.name s.below s.alive)) ∙ s.owner_is in
+          let alive : c.alive number v 0 ≡ true = ap (λ w. c.alive number w 0) (sym own) ∙ s.alive in
+          let place_is : q ≡ c.spot number v = s.place_is ∙ ap (c.spot number) own in
           let z : 0 + v ≡ v = omega arith in
           let a = place_there (c.spot number) (c.enters number) 0 p.parameters v below in
-          let b = ap (place (c.spot number) (c.enters number)) z ∙ place_entered (c.spot number) (c.enters number) v ((t.stand number p h).entered v below s.alive) in
+          let b = ap (place (c.spot number) (c.enters number)) z ∙ place_entered (c.spot number) (c.enters number) v ((t.stand number p h).entered v below alive) in
           inr (inr (
-            ap (λ ps. slice_get ps v) (t.parameters number p h) ∙ (a ∙ ap Some (b ∙ sym s.place_is)),
-            subst IsSomewhere (sym s.place_is) (own_somewhere v (c.spot number v) ((t.stand number p h).passed v below ((t.stand number p h).entered v below s.alive))),
+            ap (λ ps. slice_get ps v) (t.parameters number p h) ∙ (a ∙ ap Some (b ∙ sym place_is)),
+            subst IsSomewhere (sym place_is) (own_somewhere v (c.spot number v) ((t.stand number p h).passed v below ((t.stand number p h).entered v below alive))),
           ))
 
   pub placed_well : IsPlacedWell program l Fact
   placed_well = record {
-    lines = λ number line x e. good_line program l c t number line x (at_line program number line x e) (t.records number line x e) (t.arguments number line x e);
+    lines = λ number line x e. good_line program l c t number line x (at_line program l c t number line x e) (t.records number line x e) (t.arguments number line x e);
     entries = good_entry;
     placed = λ number line v p f.
         let s = told program c number line v p f in
         subst (IsPlace (frame_of program number).words) (sym s.place_is)
-        (subst (λ n. IsPlace n (c.spot number v)) (sym (frame_words program number s.procedure s.there)) (in_frame number v s.procedure s.there));
+        (subst (λ n. IsPlace n (c.spot number s.name)) (sym (frame_words program number s.procedure s.there)) (in_frame number s.name s.procedure s.there));
     sources = λ number line v f.
         let s = told program c number line v (l.source number line v) f in
-        subst (IsPlace (reach_at program l number line)) (sym s.place_is) (in_reach number line v s.procedure s.there);
+        subst (IsPlace (reach_at program l number line)) (sym s.place_is) (in_reach number line s.name s.procedure s.there);
     targets = λ number line. target_placed number line (line_of program number line) refl;
     behind = λ number line x e lays. target_reached number line (line + 1) x e;
     frames = λ number h. frame_there number (slice_get program.procedures number) refl (sym (t.saves number) ∙ h);

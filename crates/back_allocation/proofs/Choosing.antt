@@ -1,18 +1,21 @@
 -- The scan over live intervals chooses places by which all registers of lines stand well.
-use Rattle.std.proofs.Common.{◌≡◌, ◌≢◌, ℕ, zero, suc, ◌+◌, ◌<◌, ◌≤◌, Bool, true, false, List, [], ◌∷◌, length, get_or, Option, None, Some, refl, sym, ap, subst, ◌∙◌, arith, inl, inr, eqb-true, eq-eqb}
-use Rattle.std.specs.Prelude.{◌⊎◌, ◌==◌, slice_get, nat_lt, if◌then◌else◌}
-use borrow.Author.Tests.{ltb-true, ltb-false}
+use Rattle.std.proofs.Common.{◌≡◌, ◌≢◌, ℕ, zero, suc, ◌+◌, ◌<◌, ◌≤◌, Bool, true, false, ◌&&◌, List, [], ◌∷◌, length, get_or, Option, None, Some, refl, sym, ap, subst, ◌∙◌, arith, inl, inr, eqb-true, eq-eqb}
+use Rattle.std.specs.Prelude.{◌==◌, slice_get, if◌then◌else◌}
+use Rattle.mid_code.specs.declared.operation.Operation.{Operation}
 use Rattle.mid_code.specs.declared.operation.Operation.TheVariants as operation
 use Rattle.mid_lines.specs.declared.line.Line.{Line}
-use Rattle.mid_lines.specs.declared.line.Line.TheVariants.{Do, Cut}
-use Rattle.back_places.specs.declared.place.Place.TheVariants.{InRegister}
+use Rattle.mid_lines.specs.declared.line.Line.TheVariants.{Do, Branch, Switch, Jump, Lay, Landed, GiveBack, Lend, GiveBackLent, Return, Cut, Halt, Unhandled}
+use Rattle.mid_lines.proofs.Conjunctions.{front_true, back_true, both_true}
+use Rattle.back_places.specs.declared.place.Place.{Place}
+use Rattle.back_places.specs.declared.place.Place.TheVariants.{InRegister, InSlot, AsConstant}
 use Rattle.back_places.specs.Places.{value_registers, argument_register}
-use Rattle.back_places.specs.Facts.{Apart, Outlasts, IsSomewhere, IsPlace}
+use Rattle.back_places.specs.Facts.{Apart, Outlasts, IsSomewhere, CanHold, IsPlace}
 use Rattle.back_trivial.specs.OwnSlots.{no_target}
 use Rattle.back_liveness.specs.declared.barrier.Barrier.{Barrier}
 use Rattle.back_liveness.specs.declared.step.Interval.{Interval}
+use Rattle.back_liveness.specs.declared.step.Step.{Step}
 use Rattle.back_liveness.specs.Barriers.{Crosses, barrier_at}
-use Rattle.back_liveness.specs.Liveness.{IsWithin, IsCovered, Covers}
+use Rattle.back_liveness.specs.Liveness.{GoesAlong, IsWithin, IsCovered, Covers}
 use Rattle.back_liveness.proofs.Around.{there_below}
 use Rattle.back_scan.specs.declared.spot.Spot.{Spot}
 use Rattle.back_scan.specs.declared.spot.Spot.TheVariants.{Held, Slot}
@@ -21,10 +24,12 @@ use Rattle.back_scan.specs.declared.spot.Wish.TheVariants as asks
 use Rattle.back_scan.specs.Spots.{Allows, IsAllowed, spot_of, interval_of, StandWell}
 use Rattle.back_allocation.specs.LineSteps.{line_gives, step_of, steps_from}
 use Rattle.back_allocation.specs.Barriers.{may_cut, AreBarriers}
+use Rattle.back_allocation.specs.Constants.{constant_in, AreConstants, AreKept}
 use Rattle.back_allocation.specs.Wishes.{IsOwnWish, wish_at, WishesHold}
-use Rattle.back_allocation.specs.Standing.{MayCut, IsOwnPlace}
-use Rattle.back_allocation.specs.Places.{place_of, place_in, is_entered, enters_in, ChosenWell}
+use Rattle.back_allocation.specs.Standing.{MayCut, CanBeGiven, IsOwnPlace}
+use Rattle.back_allocation.specs.Places.{place_of, place_chosen, place_in, is_entered, enters_in, ChosenWell}
 use Rattle.back_allocation.proofs.Facts.{step_there}
+use Rattle.back_allocation.proofs.Naming.{below_or_not}
 
 -- the fourteen value registers are registers of values, and different ones
 number_from : ℕ → ℕ → List ℕ → ℕ
@@ -81,16 +86,6 @@ spots_apart (Held r) (Slot j) wp wq h k ne = tt
 spots_apart (Slot i) (Held s) wp wq h k ne = tt
 spots_apart (Slot i) (Slot j) wp wq h k ne = λ e. let d : i ≡ j = omega (arith, e) in ne (ap Slot d)
 
-apart_from_none : (o : Option Spot) → Apart (place_of o) no_target
-apart_from_none None = tt
-apart_from_none (Some (Held r)) = tt
-apart_from_none (Some (Slot k)) = tt
-
-none_apart : (o : Option Spot) → Apart no_target (place_of o)
-none_apart None = tt
-none_apart (Some (Held r)) = tt
-none_apart (Some (Slot k)) = tt
-
 cut_told : (x : Line) → MayCut x → may_cut x ≡ true
 cut_told (Do (operation.Call to callee arguments)) h = refl
 cut_told (Do o) h = absurd h
@@ -116,14 +111,7 @@ spot_somewhere : (p : Spot) → IsSomewhere (place_of (Some p))
 spot_somewhere (Held r) = tt
 spot_somewhere (Slot k) = tt
 
-below_or_not : (a b : ℕ) → (a < b) ⊎ (b ≤ a)
-below_or_not a b = by (nat_lt a b) refl
-  where
-    by : (c : Bool) → nat_lt a b ≡ c → (a < b) ⊎ (b ≤ a)
-    by true e = inl (ltb-true a b e)
-    by false e = inr (ltb-false a b e)
-
-beyond_none : {X : Type 0} (xs : List (Option X)) (v : ℕ) → length xs ≤ v → get_or xs v None ≡ None
+pub beyond_none : {X : Type 0} (xs : List (Option X)) (v : ℕ) → length xs ≤ v → get_or xs v None ≡ None
 beyond_none [] v h = refl
 beyond_none (x ∷ xs) zero h = absurd (omega (arith, h))
 beyond_none (x ∷ xs) (suc v) h = beyond_none xs v (omega (arith, h))
@@ -136,37 +124,129 @@ within_entered : (o : Option Interval) → IsWithin o 0 → is_entered o ≡ tru
 within_entered None h = absurd h
 within_entered (Some i) h = eq-eqb i.from 0 (omega (arith, h.0))
 
-module _
-    (lines : List Line) (parameters : ℕ) (landings : ℕ → List ℕ) (registers : ℕ) (found : List (Option Interval)) (crossed : List Bool)
-    (barriers : List Barrier) (wishes : List Wish) (spots : List (Option Spot)) (slots : ℕ) (count : length found ≡ registers)
-    (covers : Covers (steps_from landings 0 lines) barriers found crossed) (b : AreBarriers lines landings (length lines) barriers)
-    (w : WishesHold found crossed parameters (length found) wishes) (s : StandWell found wishes spots slots)
-    (form : (line to : ℕ) (x : Line) → slice_get lines line ≡ Some x → line_gives x ≡ Some to → to < registers) where
-  -- the spot of a register whose interval has a line
-  spot_at : (v line : ℕ) → IsCovered found v line → (p : Spot) × (spot_of spots v ≡ Some p)
-  spot_at v line h = let i = has_interval (interval_of found v) line h in s.all v i.0 i.1
+place_not : (constants : List (Option ℕ)) (spots : List (Option Spot)) (v : ℕ) → constant_in constants v ≡ None → place_in constants spots v ≡ place_of (spot_of spots v)
+place_not constants spots v e = ap (λ o. place_chosen o (spot_of spots v)) e
 
-  none_beyond : (v : ℕ) → length found ≤ v → place_in spots v ≡ no_target
-  none_beyond v h = let e = s.count in ap place_of (beyond_none spots v (omega (arith, e, h)))
+place_word : (constants : List (Option ℕ)) (spots : List (Option Spot)) (v w : ℕ) → constant_in constants v ≡ Some w → place_in constants spots v ≡ AsConstant w
+place_word constants spots v w e = ap (λ o. place_chosen o (spot_of spots v)) e
+
+-- a constant is nowhere
+word_apart : (w : ℕ) (q : Place) → Apart (AsConstant w) q
+word_apart w (InRegister r) = tt
+word_apart w (InSlot k) = tt
+word_apart w (AsConstant u) = tt
+
+apart_word : (w : ℕ) (q : Place) → Apart q (AsConstant w)
+apart_word w (InRegister r) = tt
+apart_word w (InSlot k) = tt
+apart_word w (AsConstant u) = tt
+
+-- a place that holds words holds the word of any line
+hold_any : (word : ℕ) (p : Place) → IsSomewhere p → CanHold p word
+hold_any word (InRegister r) h = tt
+hold_any word (InSlot k) h = tt
+hold_any word (AsConstant w) h = absurd h
+
+operation_given : (o : Operation) (p : Place) → IsSomewhere p → CanBeGiven (Do o) p
+operation_given (operation.Constant to word) p h = hold_any word p h
+operation_given (operation.Move to from) p h = h
+operation_given (operation.Compute to which first second) p h = h
+operation_given (operation.Load to base offset) p h = h
+operation_given (operation.Store from base offset) p h = h
+operation_given (operation.Request to words) p h = h
+operation_given (operation.Draw to base offset) p h = h
+operation_given (operation.Put from) p h = h
+operation_given (operation.Get to) p h = h
+operation_given (operation.Call to callee arguments) p h = h
+
+somewhere_given : (x : Line) (p : Place) → IsSomewhere p → CanBeGiven x p
+somewhere_given (Do o) p h = operation_given o p h
+somewhere_given (Branch t otherwise) p h = h
+somewhere_given (Switch r targets) p h = h
+somewhere_given (Jump to) p h = h
+somewhere_given (Lay block words landing) p h = h
+somewhere_given (Landed r) p h = h
+somewhere_given (GiveBack words) p h = h
+somewhere_given (Lend block words) p h = h
+somewhere_given GiveBackLent p h = h
+somewhere_given (Return r) p h = h
+somewhere_given (Cut block word) p h = h
+somewhere_given (Halt r) p h = h
+somewhere_given (Unhandled class site condition) p h = h
+
+-- two tests that go along with lines go along both
+both_along :
+    (steps : List Step) (one other : (register line : ℕ) → Bool) → GoesAlong steps one → GoesAlong steps other
+    → GoesAlong steps (λ v line. one v line && other v line)
+both_along steps one other a b = record {
+  reads = λ v line s e r. both_true (one v line) _ (a.reads v line s e r) (b.reads v line s e r);
+  behind = λ v line s e falls ne h.
+      both_true (one v line) _ (a.behind v line s e falls ne (front_true (one v (line + 1)) _ h))
+      (b.behind v line s e falls ne (back_true (one v (line + 1)) _ h));
+  aside = λ v line to s e g h.
+      both_true (one v line) _ (a.aside v line to s e g (front_true (one v to) _ h)) (b.aside v line to s e g (back_true (one v to) _ h));
+}
+
+module _
+    (lines : List Line) (parameters : ℕ) (landings : ℕ → List ℕ) (registers : ℕ) (found again kept : List (Option Interval)) (crossed told : List Bool)
+    (barriers overwritten : List Barrier) (constants : List (Option ℕ)) (wishes : List Wish) (spots : List (Option Spot)) (slots : ℕ)
+    (count : length found ≡ registers) (same_count : length again ≡ registers) (covers : Covers (steps_from landings 0 lines) barriers found crossed)
+    (more : Covers (steps_from landings 0 lines) overwritten again told) (b : AreBarriers lines landings (length lines) barriers)
+    (are : AreConstants lines (length lines) parameters registers constants) (keep : AreKept constants found kept)
+    (w : WishesHold kept crossed parameters (length kept) wishes) (s : StandWell kept wishes spots slots)
+    (form : (line to : ℕ) (x : Line) → slice_get lines line ≡ Some x → line_gives x ≡ Some to → to < registers) where
+  abbrev alive : (name line : ℕ) → Bool
+  alive v line = covers.test v line && more.test v line
+
+  alive_first : (v line : ℕ) → alive v line ≡ true → covers.test v line ≡ true
+  alive_first v line h = front_true (covers.test v line) (more.test v line) h
+
+  -- the spot of a name whose interval has a line
+  spot_at : (v line : ℕ) → IsCovered kept v line → (p : Spot) × (spot_of spots v ≡ Some p)
+  spot_at v line h = let i = has_interval (interval_of kept v) line h in s.all v i.0 i.1
+
+  none_beyond : (v : ℕ) → length found ≤ v → place_in constants spots v ≡ no_target
+  none_beyond v h =
+      let e = s.count in
+      let k = keep.long in
+      let l = are.long in
+      place_not constants spots v (beyond_none constants v (omega (arith, l, count, h)))
+      ∙ ap place_of (beyond_none spots v (omega (arith, e, k, h)))
+
+  -- one that has no constant, where its interval has a line
+  kept_line : (v line : ℕ) → IsCovered found v line → constant_in constants v ≡ None → IsCovered kept v line
+  kept_line v line h e = subst (λ i. IsWithin i line) (sym (keep.same v e)) h
 
   -- two whose intervals have a line are apart
-  two_apart : (v u line : ℕ) → IsCovered found v line → IsCovered found u line → v ≢ u → Apart (place_in spots v) (place_in spots u)
-  two_apart v u line h k ne =
-      let p = spot_at v line h in
-      let q = spot_at u line k in
-      subst (λ o. Apart (place_of o) (place_in spots u)) (sym p.1)
-      (subst (λ o. Apart (place_of (Some p.0)) (place_of o)) (sym q.1)
-      (spots_apart p.0 q.0 (wish_at wishes v) (wish_at wishes u) (s.allowed v p.0 p.1) (s.allowed u q.0 q.1)
-      (λ e. ne (s.apart v u q.0 line (p.1 ∙ ap Some e) q.1 h k))))
+  two_kept :
+      (v u line : ℕ) → (constant_in constants v ≡ None → IsCovered kept v line) → (constant_in constants u ≡ None → IsCovered kept u line) → v ≢ u
+      → Apart (place_in constants spots v) (place_in constants spots u)
+  two_kept v u line h k ne = by (constant_in constants v) refl (constant_in constants u) refl
+    where
+      by :
+          (c : Option ℕ) → constant_in constants v ≡ c → (d : Option ℕ) → constant_in constants u ≡ d
+          → Apart (place_in constants spots v) (place_in constants spots u)
+      by (Some a) e d g = subst (λ p. Apart p (place_in constants spots u)) (sym (place_word constants spots v a e)) (word_apart a (place_in constants spots u))
+      by None e (Some a) g = subst (λ p. Apart (place_in constants spots v) p) (sym (place_word constants spots u a g)) (apart_word a (place_in constants spots v))
+      by None e None g =
+          let p = spot_at v line (h e) in
+          let q = spot_at u line (k g) in
+          subst (λ o. Apart o (place_in constants spots u)) (sym (place_not constants spots v e ∙ ap place_of p.1))
+          (subst (λ o. Apart (place_of (Some p.0)) o) (sym (place_not constants spots u g ∙ ap place_of q.1))
+          (spots_apart p.0 q.0 (wish_at wishes v) (wish_at wishes u) (s.allowed v p.0 p.1) (s.allowed u q.0 q.1)
+          (λ same. ne (s.apart v u q.0 line (p.1 ∙ ap Some same) q.1 (h e) (k g)))))
 
-  apart : (v u line : ℕ) → covers.test v line ≡ true → covers.test u line ≡ true → v ≢ u → Apart (place_in spots v) (place_in spots u)
+  two_apart : (v u line : ℕ) → IsCovered found v line → IsCovered found u line → v ≢ u → Apart (place_in constants spots v) (place_in constants spots u)
+  two_apart v u line h k ne = two_kept v u line (kept_line v line h) (kept_line u line k) ne
+
+  apart : (v u line : ℕ) → alive v line ≡ true → alive u line ≡ true → v ≢ u → Apart (place_in constants spots v) (place_in constants spots u)
   apart v u line h k ne =
       elim (below_or_not v (length found)) [
-        | inr beyond ↦ subst (λ p. Apart p (place_in spots u)) (sym (none_beyond v beyond)) (none_apart (spot_of spots u))
+        | inr beyond ↦ subst (λ p. Apart p (place_in constants spots u)) (sym (none_beyond v beyond)) (word_apart 0 (place_in constants spots u))
         | inl low ↦
             elim (below_or_not u (length found)) [
-              | inr beyond ↦ subst (λ p. Apart (place_in spots v) p) (sym (none_beyond u beyond)) (apart_from_none (spot_of spots v))
-              | inl low2 ↦ two_apart v u line (covers.within v line low h) (covers.within u line low2 k) ne
+              | inr beyond ↦ subst (λ p. Apart (place_in constants spots v) p) (sym (none_beyond u beyond)) (apart_word 0 (place_in constants spots v))
+              | inl low2 ↦ two_apart v u line (covers.within v line low (alive_first v line h)) (covers.within u line low2 (alive_first u line k)) ne
             ]
       ]
 
@@ -176,54 +256,81 @@ module _
       covers.written to line (step_of (landings line) x) (omega (arith, low, count)) (step_there landings line lines x e) g
 
   given :
-      (line to v : ℕ) (x : Line) → slice_get lines line ≡ Some x → line_gives x ≡ Some to → covers.test v (line + 1) ≡ true → v ≢ to
-      → Apart (place_in spots v) (place_in spots to)
+      (line to v : ℕ) (x : Line) → slice_get lines line ≡ Some x → line_gives x ≡ Some to → alive v (line + 1) ≡ true → v ≢ to
+      → Apart (place_in constants spots v) (place_in constants spots to)
   given line to v x e g h ne =
       elim (below_or_not v (length found)) [
-        | inr beyond ↦ subst (λ p. Apart p (place_in spots to)) (sym (none_beyond v beyond)) (none_apart (spot_of spots to))
-        | inl low ↦ two_apart v to (line + 1) (covers.within v (line + 1) low h) (given_covered line to x e g) ne
+        | inr beyond ↦ subst (λ p. Apart p (place_in constants spots to)) (sym (none_beyond v beyond)) (word_apart 0 (place_in constants spots to))
+        | inl low ↦ two_apart v to (line + 1) (covers.within v (line + 1) low (alive_first v (line + 1) h)) (given_covered line to x e g) ne
       ]
 
-  somewhere : (line to : ℕ) (x : Line) → slice_get lines line ≡ Some x → line_gives x ≡ Some to → IsSomewhere (place_in spots to)
-  somewhere line to x e g =
-      let p = spot_at to (line + 1) (given_covered line to x e g) in
-      subst (λ o. IsSomewhere (place_of o)) (sym p.1) (spot_somewhere p.0)
+  somewhere : (line to : ℕ) (x : Line) → slice_get lines line ≡ Some x → line_gives x ≡ Some to → CanBeGiven x (place_in constants spots to)
+  somewhere line to x e g = by (constant_in constants to) refl
+    where
+      by : (c : Option ℕ) → constant_in constants to ≡ c → CanBeGiven x (place_in constants spots to)
+      by (Some a) k =
+          subst (CanBeGiven x) (sym (place_word constants spots to a k))
+          (subst (λ y. CanBeGiven y (AsConstant a)) (sym (are.given line to a x (there_below lines line x e) e g k)) refl)
+      by None k =
+          let p = spot_at to (line + 1) (kept_line to (line + 1) (given_covered line to x e g) k) in
+          subst (CanBeGiven x) (sym (place_not constants spots to k ∙ ap place_of p.1)) (somewhere_given x (place_of (Some p.0)) (spot_somewhere p.0))
 
   -- one that is alive where a barrier crosses it outlasts calls
-  outlasts : (v line : ℕ) → covers.test v line ≡ true → Crosses (barrier_at barriers line) v → Outlasts (place_in spots v)
+  outlasts : (v line : ℕ) → alive v line ≡ true → Crosses (barrier_at barriers line) v → Outlasts (place_in constants spots v)
   outlasts v line h k =
       elim (below_or_not v (length found)) [
         | inr beyond ↦ subst Outlasts (sym (none_beyond v beyond)) tt
-        | inl low ↦
-            (let i = covers.within v line low h in
-            let p = spot_at v line i in
-            subst (λ o. Outlasts (place_of o)) (sym p.1) (slot_outlasts p.0 (wish_at wishes v) (s.allowed v p.0 p.1) (w.outlasting v low (covers.crossings v line low h k))))
+        | inl low ↦ by low (constant_in constants v) refl
       ]
+    where
+      by : v < length found → (c : Option ℕ) → constant_in constants v ≡ c → Outlasts (place_in constants spots v)
+      by low (Some a) e = subst Outlasts (sym (place_word constants spots v a e)) tt
+      by low None e =
+          let i = kept_line v line (covers.within v line low (alive_first v line h)) e in
+          let p = spot_at v line i in
+          let l = keep.long in
+          subst Outlasts (sym (place_not constants spots v e ∙ ap place_of p.1))
+          (slot_outlasts p.0 (wish_at wishes v) (s.allowed v p.0 p.1) (w.outlasting v (omega (arith, low, l)) (covers.crossings v line low (alive_first v line h) k)))
 
-  entered : (v : ℕ) → parameters ≤ registers → v < parameters → covers.test v 0 ≡ true → enters_in found v ≡ true
-  entered v few low h = within_entered (interval_of found v) (covers.within v 0 (omega (arith, few, low, count)) h)
+  entered : (v : ℕ) → parameters ≤ registers → v < parameters → alive v 0 ≡ true → enters_in kept v ≡ true
+  entered v few low h =
+      within_entered (interval_of kept v)
+      (kept_line v 0 (covers.within v 0 (omega (arith, few, low, count)) (alive_first v 0 h)) (are.passed v low))
 
-  entered_apart : (v u : ℕ) → enters_in found v ≡ true → enters_in found u ≡ true → v ≢ u → Apart (place_in spots v) (place_in spots u)
-  entered_apart v u h k ne = two_apart v u 0 (entered_within (interval_of found v) h) (entered_within (interval_of found u) k) ne
+  entered_apart : (v u : ℕ) → enters_in kept v ≡ true → enters_in kept u ≡ true → v ≢ u → Apart (place_in constants spots v) (place_in constants spots u)
+  entered_apart v u h k ne =
+      two_kept v u 0 (λ e. entered_within (interval_of kept v) h) (λ e. entered_within (interval_of kept u) k) ne
 
-  passed : (v : ℕ) → parameters ≤ registers → v < parameters → enters_in found v ≡ true → IsOwnPlace v (place_in spots v)
+  passed : (v : ℕ) → parameters ≤ registers → v < parameters → enters_in kept v ≡ true → IsOwnPlace v (place_in constants spots v)
   passed v few low h =
-      let there : v < length found = omega (arith, few, low, count) in
-      let i = entered_within (interval_of found v) h in
+      let l = keep.long in
+      let there : v < length kept = omega (arith, few, low, count, l) in
+      let i = entered_within (interval_of kept v) h in
       let p = spot_at v 0 i in
-      subst (λ o. IsOwnPlace v (place_of o)) (sym p.1) (own_place v p.0 (wish_at wishes v) (s.allowed v p.0 p.1) (w.passed v there low i))
+      subst (IsOwnPlace v) (sym (place_not constants spots v (are.passed v low) ∙ ap place_of p.1))
+      (own_place v p.0 (wish_at wishes v) (s.allowed v p.0 p.1) (w.passed v there low i))
 
-  placed : (v : ℕ) (o : Option Spot) → spot_of spots v ≡ o → IsPlace (slots + 1) (place_of o)
-  placed v None e = omega arith
-  placed v (Some (Held r)) e = value_place (slots + 1) r (allowed_low (wish_at wishes v) r (s.allowed v (Held r) e))
-  placed v (Some (Slot k)) e = let below = s.within v k e in (omega arith, omega (arith, below))
+  spot_placed : (v : ℕ) (o : Option Spot) → spot_of spots v ≡ o → IsPlace (slots + 1) (place_of o)
+  spot_placed v None e = omega arith
+  spot_placed v (Some (Held r)) e = value_place (slots + 1) r (allowed_low (wish_at wishes v) r (s.allowed v (Held r) e))
+  spot_placed v (Some (Slot k)) e = let below = s.within v k e in (omega arith, omega (arith, below))
 
-  pub chosen_well : parameters ≤ registers → ChosenWell lines parameters landings (place_in spots) (enters_in found) slots
-  chosen_well few = record {
-    alive = covers.test;
+  placed : (v : ℕ) (c : Option ℕ) → constant_in constants v ≡ c → IsPlace (slots + 1) (place_chosen c (spot_of spots v))
+  placed v None e = spot_placed v (spot_of spots v) refl
+  placed v (Some a) e = are.words v a e
+
+  clear_is :
+      ((v : ℕ) → get_or told v false ≡ true → ⊥) → (v line : ℕ) → v < registers → alive v line ≡ true → Crosses (barrier_at overwritten line) v → ⊥
+  clear_is none v line low h k = none v (more.crossings v line (omega (arith, low, same_count)) (back_true (covers.test v line) (more.test v line) h) k)
+
+  pub chosen_well :
+      parameters ≤ registers → (clear : Bool) → (clear ≡ true → (v : ℕ) → get_or told v false ≡ true → ⊥)
+      → ChosenWell lines parameters landings (place_in constants spots) (enters_in kept) slots overwritten registers clear
+  chosen_well few clear none = record {
+    alive = alive;
     stand = record {
       well = record {
-        along = covers.along;
+        along = both_along (steps_from landings 0 lines) covers.test more.test covers.along more.along;
         apart = apart;
         given = given;
         somewhere = somewhere;
@@ -235,6 +342,7 @@ module _
       entered = λ v low h. entered v few low h;
       apart = entered_apart;
       passed = λ v low h. passed v few low h;
-      places = λ v. placed v (spot_of spots v) refl;
+      places = λ v. placed v (constant_in constants v) refl;
     };
+    clear_is = λ c v line low h k. clear_is (none c) v line low h k;
   }

@@ -1,3 +1,5 @@
+pub mod Naming
+pub mod MoreBarriers
 pub mod Facts
 pub mod GoodLines
 pub mod Parameters

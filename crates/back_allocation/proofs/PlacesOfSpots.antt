@@ -1,7 +1,8 @@
 -- The places of spots, and of parameters, one more; and that registers stand well in them.
-use Rattle.std.proofs.Common.{◌≡◌, ℕ, zero, suc, ◌+◌, ◌<◌, Bool, List, [], ◌∷◌, ◌++◌, map, Option, refl, sym, ap, subst, ◌∙◌, arith}
+use Rattle.std.proofs.Common.{◌≡◌, ℕ, zero, suc, ◌+◌, ◌<◌, ◌≤◌, Bool, List, [], ◌∷◌, ◌++◌, length, get_or, Option, None, inl, inr, refl, sym, ap, subst, ◌∙◌, arith}
 use mathlib.Core.Path.{fun_ext}
 use Rattle.std.specs.Prelude.{if◌then◌else◌}
+use Rattle.mid_lines.specs.declared.line.Line.{Line}
 use Rattle.mid_lines.specs.declared.line.LineProcedure.{LineProcedure}
 use Rattle.back_places.specs.declared.place.Place.{Place}
 use Rattle.back_places.specs.declared.place.Place.TheVariants.{InRegister}
@@ -9,12 +10,18 @@ use Rattle.back_places.specs.Places.{argument_register}
 use Rattle.back_places.specs.Facts.{IsPlace}
 use Rattle.back_trivial.specs.OwnSlots.{no_target}
 use Rattle.back_scan.specs.declared.spot.Spot.{Spot}
+use Rattle.back_liveness.specs.declared.barrier.Barrier.{Barrier}
 use Rattle.back_liveness.specs.declared.step.Interval.{Interval}
+use Rattle.back_allocation.specs.declared.placing.RegisterPlaces.{RegisterPlaces}
 use Rattle.back_allocation.specs.LineSteps.{landings_in}
 use Rattle.back_allocation.specs.StandingLandings.{line_landings}
+use Rattle.back_allocation.specs.Names.{AreNamings, NamesStand}
+use Rattle.back_allocation.specs.Standing.{AllStand}
 use Rattle.back_allocation.specs.Allocated.{parameter_places}
-use Rattle.back_allocation.specs.Places.{place_of, place_in, place_at, enters_in, ChosenWell}
+use Rattle.back_allocation.specs.Places.{place_of, place_chosen, place_in, place_at, enters_in, ChosenWell}
 use Rattle.back_allocation.specs.RegistersPlaced.{StandInPlaces}
+use Rattle.back_allocation.proofs.Naming.{below_or_not}
+use Rattle.back_allocation.proofs.Choosing.{beyond_none}
 
 -- only the fourteen value registers are places
 pub held_low : (n r : ℕ) → IsPlace n (InRegister (argument_register r)) → r < 14
@@ -34,10 +41,44 @@ held_low n (suc (suc (suc (suc (suc (suc (suc (suc (suc (suc (suc (suc zero)))))
 held_low n (suc (suc (suc (suc (suc (suc (suc (suc (suc (suc (suc (suc (suc zero))))))))))))) h = omega arith
 held_low n (suc (suc (suc (suc (suc (suc (suc (suc (suc (suc (suc (suc (suc (suc r)))))))))))))) h = absurd (omega (arith, h.0))
 
-place_there : (spots : List (Option Spot)) (v : ℕ) → place_in spots v ≡ place_at (map place_of spots) v
-place_there [] v = refl
-place_there (s ∷ spots) zero = refl
-place_there (s ∷ spots) (suc v) = place_there spots v
+get_before : (xs : List Place) (y : Place) (v : ℕ) → v < length xs → place_at (xs ++ y ∷ []) v ≡ place_at xs v
+get_before [] y v h = absurd (omega (arith, h))
+get_before (x ∷ xs) y zero h = refl
+get_before (x ∷ xs) y (suc v) h = get_before xs y v (omega (arith, h))
+
+get_last : (xs : List Place) (y : Place) → place_at (xs ++ y ∷ []) (length xs) ≡ y
+get_last [] y = refl
+get_last (x ∷ xs) y = get_last xs y
+
+-- one place more
+pub places_more :
+    (spot : ℕ → Place) (old new : List Place) (at : ℕ) (p : Place) → length old ≡ at → ((v : ℕ) → v < at → place_at old v ≡ spot v) → new ≡ old ++ p ∷ []
+    → p ≡ spot at → (v : ℕ) → v < at + 1 → place_at new v ≡ spot v
+places_more spot old new at p count all e is v h =
+    elim (below_or_not v at) [
+      | inl low ↦ ap (λ ps. place_at ps v) e ∙ (get_before old p v (omega (arith, low, count)) ∙ all v low)
+      | inr beyond ↦
+          (let here : v ≡ at = omega (arith, h, beyond) in
+          let last : v ≡ length old = omega (arith, here, count) in
+          ap (λ ps. place_at ps v) e ∙ (ap (place_at (old ++ p ∷ [])) last ∙ (get_last old p ∙ (is ∙ ap spot (sym here)))))
+    ]
+
+beyond_places : (ps : List Place) (v : ℕ) → length ps ≤ v → place_at ps v ≡ no_target
+beyond_places [] v h = refl
+beyond_places (p ∷ ps) zero h = absurd (omega (arith, h))
+beyond_places (p ∷ ps) (suc v) h = beyond_places ps v (omega (arith, h))
+
+-- the places of all names
+pub all_places :
+    (constants : List (Option ℕ)) (spots : List (Option Spot)) (places : List Place) → length places ≡ length spots → length constants ≡ length spots
+    → ((v : ℕ) → v < length spots → place_at places v ≡ place_in constants spots v) → (v : ℕ) → place_at places v ≡ place_in constants spots v
+all_places constants spots places count long all v =
+    elim (below_or_not v (length spots)) [
+      | inl low ↦ all v low
+      | inr beyond ↦
+          beyond_places places v (omega (arith, count, beyond))
+          ∙ sym (ap (λ o. place_chosen o (get_or spots v None)) (beyond_none constants v (omega (arith, long, beyond))) ∙ ap place_of (beyond_none spots v beyond))
+    ]
 
 -- one parameter more
 pub parameter_more :
@@ -50,19 +91,30 @@ parameter_more spot enters from (suc count) v e =
     let one : suc count + 1 ≡ suc (count + 1) = omega arith in
     ap (λ n. parameter_places spot enters from n) one ∙ ap (λ k. (if enters from then spot from else no_target) ∷ k) (parameter_more spot enters (from + 1) count v (omega (arith, e)))
 
--- registers that stand well in spots stand so in their places
+-- names that stand well in places that were chosen stand so in a list of these
 pub stand_in_places :
-    (p : LineProcedure) (landings : List (List ℕ)) (spots : List (Option Spot)) (found : List (Option Interval)) (slots few : ℕ) (places parameters : List Place)
-    → ChosenWell p.lines p.parameters (landings_in landings) (place_in spots) (enters_in found) slots → landings ≡ line_landings 0 [] p.lines
-    → places ≡ map place_of spots → parameters ≡ parameter_places (place_at places) (enters_in found) 0 p.parameters → few ≡ slots
-    → StandInPlaces p (record { places = places; parameters = parameters; slots = few })
-stand_in_places p landings spots found slots few places parameters w told are entry same =
-    let at_places : place_in spots ≡ place_at places = fun_ext (λ v. place_there spots v ∙ ap (λ ps. place_at ps v) (sym are)) in
-    let stands : ChosenWell p.lines p.parameters (landings_in (line_landings 0 [] p.lines)) (place_at places) (enters_in found) few =
-    subst (λ n. ChosenWell p.lines p.parameters (landings_in (line_landings 0 [] p.lines)) (place_at places) (enters_in found) n) (sym same)
-    (subst (λ f. ChosenWell p.lines p.parameters (landings_in (line_landings 0 [] p.lines)) f (enters_in found) slots) at_places
-    (subst (λ t. ChosenWell p.lines p.parameters (landings_in t) (place_in spots) (enters_in found) slots) told w)) in
-    record { alive = stands.alive; enters = enters_in found; stand = stands.stand; entry = entry }
+    (p : LineProcedure) (a : RegisterPlaces) (named : List Line) (owner : ℕ → ℕ) (names : ℕ) (landings : List (List ℕ)) (spot : ℕ → Place)
+    (found : List (Option Interval)) (slots : ℕ) (barriers : List Barrier) (clear : Bool)
+    (w : ChosenWell named p.parameters (landings_in landings) spot (enters_in found) slots barriers names clear)
+    → NamesStand named p.registers owner names w.alive → AreNamings owner names p.lines named → landings ≡ line_landings 0 [] p.lines → a.lines ≡ named
+    → ((v : ℕ) → place_at a.places v ≡ spot v) → a.parameters ≡ parameter_places (place_at a.places) (enters_in found) 0 p.parameters → a.slots ≡ slots
+    → StandInPlaces p a
+stand_in_places p a named owner names landings spot found slots barriers clear w owned are told lines_are places_are entry slots_are =
+    let places : place_at a.places ≡ spot = fun_ext places_are in
+    record {
+      owner = owner;
+      names = names;
+      alive = w.alive;
+      enters = enters_in found;
+      named = subst (λ ls. AreNamings owner names p.lines ls) (sym lines_are) are;
+      owned = subst (λ ls. NamesStand ls p.registers owner names w.alive) (sym lines_are) owned;
+      stand =
+          subst (λ ls. AllStand ls p.parameters (landings_in (line_landings 0 [] p.lines)) (place_at a.places) w.alive (enters_in found) a.slots) (sym lines_are)
+          (subst (λ n. AllStand named p.parameters (landings_in (line_landings 0 [] p.lines)) (place_at a.places) w.alive (enters_in found) n) (sym slots_are)
+          (subst (λ f. AllStand named p.parameters (landings_in (line_landings 0 [] p.lines)) f w.alive (enters_in found) slots) (sym places)
+          (subst (λ t. AllStand named p.parameters (landings_in t) spot w.alive (enters_in found) slots) told w.stand)));
+      entry = entry;
+    }
 
 pub parameter_listed :
     (spot : ℕ → Place) (enters : ℕ → Bool) (v : ℕ) (list new : List Place) (place : Place) → new ≡ list ++ place ∷ [] → place ≡ (if enters v then spot v else no_target)

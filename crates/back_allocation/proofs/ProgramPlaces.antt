@@ -16,6 +16,7 @@ use Rattle.back_trivial.proofs.TreeLines.{procedure_of_tree}
 use Rattle.back_allocation.specs.declared.placing.RegisterPlaces.{RegisterPlaces}
 use Rattle.back_allocation.specs.LineSteps.{landings_of, landings_in}
 use Rattle.back_allocation.specs.StandingLandings.{line_landings}
+use Rattle.back_allocation.specs.Names.{AreNamings, NamesStand}
 use Rattle.back_allocation.specs.Standing.{AllStand}
 use Rattle.back_allocation.specs.Allocated.{Choice, is_chosen, parameter_places}
 use Rattle.back_allocation.specs.Places.{place_at}
@@ -42,6 +43,14 @@ module _ (program : MidProgram) (chosen : List RegisterPlaces) (fit : PlacesFit 
   alive_in number None h v line = false
   alive_in number (Some p) h v line = (fit.each number p h).stand.alive v line
 
+  abbrev owner_in : (number : ℕ) (o : Option MidProcedure) → slice_get program.procedures number ≡ o → (name : ℕ) → ℕ
+  owner_in number None h w = w
+  owner_in number (Some p) h w = (fit.each number p h).stand.owner w
+
+  abbrev names_in : (number : ℕ) (o : Option MidProcedure) → slice_get program.procedures number ≡ o → ℕ
+  names_in number None h = 0
+  names_in number (Some p) h = (fit.each number p h).stand.names
+
   abbrev enters_in : (number : ℕ) (o : Option MidProcedure) → slice_get program.procedures number ≡ o → (register : ℕ) → Bool
   enters_in number None h v = false
   enters_in number (Some p) h v = (fit.each number p h).stand.enters v
@@ -49,23 +58,45 @@ module _ (program : MidProgram) (chosen : List RegisterPlaces) (fit : PlacesFit 
   -- the choice for all procedures
   abbrev choice : Choice
   choice = record {
+    lines = λ number. (places_for chosen number).lines;
+    owner = λ number w. owner_in number (slice_get program.procedures number) refl w;
+    names = λ number. names_in number (slice_get program.procedures number) refl;
     spot = λ number v. place_at (places_for chosen number).places v;
     alive = λ number v line. alive_in number (slice_get program.procedures number) refl v line;
     enters = λ number v. enters_in number (slice_get program.procedures number) refl v;
     slots = λ number. (places_for chosen number).slots;
   }
 
-  -- all registers stand well in a procedure that is there
+  -- names of a procedure that is there are those of its lines, and say what registers have
+  named_in :
+      (number : ℕ) (o : Option MidProcedure) (e : slice_get program.procedures number ≡ o) (p : MidProcedure) → o ≡ Some p
+      → AreNamings (owner_in number o e) (names_in number o e) (procedure_lines p).lines (places_for chosen number).lines
+  named_in number None e p g = absurd (cc g)
+  named_in number (Some q) e p g =
+      let same : q ≡ p = cc g in
+      let s = (fit.each number q e).stand in
+      subst (λ r. AreNamings s.owner s.names (procedure_lines r).lines (places_for chosen number).lines) same s.named
+
+  owned_in :
+      (number : ℕ) (o : Option MidProcedure) (e : slice_get program.procedures number ≡ o) (p : MidProcedure) → o ≡ Some p
+      → NamesStand (places_for chosen number).lines p.registers (owner_in number o e) (names_in number o e) (alive_in number o e)
+  owned_in number None e p g = absurd (cc g)
+  owned_in number (Some q) e p g =
+      let same : q ≡ p = cc g in
+      let s = (fit.each number q e).stand in
+      subst (λ r. NamesStand (places_for chosen number).lines r.registers s.owner s.names s.alive) same s.owned
+
+  -- all names stand well in it
   stand_in :
       (number : ℕ) (o : Option MidProcedure) (e : slice_get program.procedures number ≡ o) (p : MidProcedure) → o ≡ Some p
-      → AllStand (procedure_lines p).lines p.parameters (landings_in (line_landings 0 [] (procedure_lines p).lines)) (place_at (places_for chosen number).places)
+      → AllStand (places_for chosen number).lines p.parameters (landings_in (line_landings 0 [] (procedure_lines p).lines)) (place_at (places_for chosen number).places)
       (alive_in number o e) (enters_in number o e) (places_for chosen number).slots
   stand_in number None e p g = absurd (cc g)
   stand_in number (Some q) e p g =
       let same : q ≡ p = cc g in
       let s = (fit.each number q e).stand in
       subst
-      (λ r. AllStand (procedure_lines r).lines r.parameters (landings_in (line_landings 0 [] (procedure_lines r).lines)) (place_at (places_for chosen number).places) s.alive s.enters
+      (λ r. AllStand (places_for chosen number).lines r.parameters (landings_in (line_landings 0 [] (procedure_lines r).lines)) (place_at (places_for chosen number).places) s.alive s.enters
       (places_for chosen number).slots)
       same s.stand
 
@@ -79,6 +110,14 @@ module _ (program : MidProgram) (chosen : List RegisterPlaces) (fit : PlacesFit 
 
   fits_tree : FitsTree program choice
   fits_tree = record {
+    named = λ number p e.
+        let o = procedure_of_tree program number p e in
+        subst (λ q. AreNamings (choice.owner number) (choice.names number) q.lines (choice.lines number)) o.same
+        (named_in number (slice_get program.procedures number) refl o.tree o.there);
+    owned = λ number p e.
+        let o = procedure_of_tree program number p e in
+        subst (λ q. NamesStand (choice.lines number) q.registers (choice.owner number) (choice.names number) (choice.alive number)) o.same
+        (owned_in number (slice_get program.procedures number) refl o.tree o.there);
     stand = λ number p e.
         let o = procedure_of_tree program number p e in
         let known = law_of_landings program number o.tree o.there in
@@ -86,11 +125,11 @@ module _ (program : MidProgram) (chosen : List RegisterPlaces) (fit : PlacesFit 
         ap landings_in known.told ∙ fun_ext known.standing in
         let here = stand_in number (slice_get program.procedures number) refl o.tree o.there in
         subst
-        (λ q. AllStand q.lines q.parameters (λ line. landings_of (tree_records program number line)) (choice.spot number) (choice.alive number) (choice.enters number)
+        (λ q. AllStand (choice.lines number) q.parameters (λ line. landings_of (tree_records program number line)) (choice.spot number) (choice.alive number) (choice.enters number)
         (choice.slots number))
         o.same
         (subst
-        (λ t. AllStand (procedure_lines o.tree).lines o.tree.parameters t (choice.spot number) (choice.alive number) (choice.enters number) (choice.slots number))
+        (λ t. AllStand (choice.lines number) o.tree.parameters t (choice.spot number) (choice.alive number) (choice.enters number) (choice.slots number))
         landings here);
     finds = λ number p h. (fit.each number p h).finds;
   }

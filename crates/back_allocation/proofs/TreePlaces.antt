@@ -114,6 +114,8 @@ module _ (program : MidProgram) (l : Located) (c : Choice) (t : FitsTree program
 
   pub is_allocated : PassesArguments listed l → IsAllocated listed decided c
   is_allocated passes = record {
+    named = t.named;
+    owned = t.owned;
     sources = λ number line v. refl;
     targets = λ number line. refl;
     parameters = λ number p e. ap (parameters_in c number) e;

@@ -1,4 +1,7 @@
 pub mod LineSteps
+pub mod Names
+pub mod NamesFound
+pub mod Constants
 pub mod StandingLandings
 pub mod Barriers
 pub mod Wishes

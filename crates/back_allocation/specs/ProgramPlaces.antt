@@ -12,13 +12,13 @@ use Rattle.back_trivial.specs.KnownRecords.{tree_records}
 use Rattle.back_trivial.specs.FrameFound.{procedure_finds}
 use Rattle.back_trivial.specs.OwnSlots.{is_there, PassesArguments, IsPlacedWell}
 use Rattle.back_allocation.specs.declared.placing.RegisterPlaces.{RegisterPlaces}
-use Rattle.back_allocation.specs.Allocated.{target_at}
+use Rattle.back_allocation.specs.Allocated.{source_in, target_in}
 use Rattle.back_allocation.specs.Places.{place_at}
 use Rattle.back_allocation.specs.RegistersPlaced.{StandInPlaces}
 
 -- where nothing is chosen, registers are nowhere, and no parameter is brought to a place
 abbrev pub no_places : RegisterPlaces
-no_places = record { places = []; parameters = []; slots = 0 }
+no_places = record { lines = []; places = []; parameters = []; slots = 0 }
 
 -- what is chosen for the procedure with a number
 abbrev pub places_for : List RegisterPlaces → (number : ℕ) → RegisterPlaces
@@ -46,8 +46,10 @@ pub record PlacesFit (program : MidProgram) (chosen : List RegisterPlaces) : Typ
 -- are those of the tree, and each procedure keeps its return address in its frame, and takes it from there. Positions are as in other decisions.
 abbrev pub with_chosen_places : MidProgram → List RegisterPlaces → Located → Located
 with_chosen_places program chosen l = record l {
-  source = λ number line v. place_at (places_for chosen number).places v;
-  target = λ number line. target_at (place_at (places_for chosen number).places) (line_of (program_lines program) number line);
+  source = λ number line v.
+      source_in (place_at (places_for chosen number).places) (line_of (program_lines program) number line) (slice_get (places_for chosen number).lines line) v;
+  target = λ number line.
+      target_in (place_at (places_for chosen number).places) (line_of (program_lines program) number line) (slice_get (places_for chosen number).lines line);
   parameters = λ number. (places_for chosen number).parameters;
   records = tree_records program;
   linked = λ number line. false;

@@ -2,13 +2,13 @@
 use Rattle.std.specs.Prelude.{◌≡◌, ◌≢◌, ◌<◌, ℕ, ◌+◌, ◌==◌, Bool, true, List, slice_get, Some}
 use Rattle.std.specs.List.{list_any}
 use Rattle.mid_code.specs.declared.operation.Callee.{Callee}
-use Rattle.mid_code.specs.declared.operation.Operation.TheVariants.{Call}
+use Rattle.mid_code.specs.declared.operation.Operation.TheVariants.{Constant, Call}
 use Rattle.mid_lines.specs.declared.line.Line.{Line}
 use Rattle.mid_lines.specs.declared.line.Line.TheVariants.{Do, Cut}
 use Rattle.back_places.specs.declared.place.Place.{Place}
 use Rattle.back_places.specs.declared.place.Place.TheVariants.{InRegister, InSlot, AsConstant}
 use Rattle.back_places.specs.Places.{argument_register}
-use Rattle.back_places.specs.Facts.{Apart, Outlasts, IsSomewhere, IsPlace}
+use Rattle.back_places.specs.Facts.{Apart, Outlasts, IsSomewhere, CanHold, IsPlace}
 use Rattle.back_liveness.specs.Liveness.{GoesAlong}
 use Rattle.back_allocation.specs.LineSteps.{line_gives, steps_from}
 
@@ -17,6 +17,11 @@ abbrev pub MayCut : Line → Type 0
 MayCut (Do (Call to callee arguments)) = Unit {0}
 MayCut (Cut block word) = Unit {0}
 MayCut x = ⊥
+
+-- a place where the word of a line can be given: one that holds words, or the constant that is given
+abbrev pub CanBeGiven : Line → Place → Type 0
+CanBeGiven (Do (Constant to word)) p = CanHold p word
+CanBeGiven x p = IsSomewhere p
 
 -- Where a test tells registers that may be alive, it goes along with lines. Two registers that it tells at one line are in places apart, and so
 -- is one that it tells behind a line from the one to which the line gives a word. What it tells behind a call but its result, and what it tells
@@ -27,7 +32,7 @@ pub record StandsWell (lines : List Line) (landings : ℕ → List ℕ) (spot : 
   pub given :
       (line to v : ℕ) (x : Line) → slice_get lines line ≡ Some x → line_gives x ≡ Some to → alive v (line + 1) ≡ true → v ≢ to
       → Apart (spot v) (spot to)
-  pub somewhere : (line to : ℕ) (x : Line) → slice_get lines line ≡ Some x → line_gives x ≡ Some to → IsSomewhere (spot to)
+  pub somewhere : (line to : ℕ) (x : Line) → slice_get lines line ≡ Some x → line_gives x ≡ Some to → CanBeGiven x (spot to)
   pub calls :
       (line to v : ℕ) (callee : Callee) (arguments : List ℕ) → slice_get lines line ≡ Some (Do (Call to callee arguments)) → alive v (line + 1) ≡ true
       → v ≢ to → Outlasts (spot v)

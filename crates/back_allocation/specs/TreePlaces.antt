@@ -13,8 +13,9 @@ use Rattle.back_trivial.specs.KnownRecords.{tree_records}
 use Rattle.back_trivial.specs.FrameFound.{procedure_finds}
 use Rattle.back_trivial.specs.OwnSlots.{is_there, PassesArguments, IsPlacedWell, IsLaidWell}
 use Rattle.back_allocation.specs.LineSteps.{landings_of}
+use Rattle.back_allocation.specs.Names.{AreNamings, NamesStand}
 use Rattle.back_allocation.specs.Standing.{AllStand}
-use Rattle.back_allocation.specs.Allocated.{Choice, is_chosen, target_at, parameter_places}
+use Rattle.back_allocation.specs.Allocated.{Choice, is_chosen, source_in, target_in, parameter_places}
 
 abbrev pub parameters_in : Choice → (number : ℕ) → Option LineProcedure → List Place
 parameters_in c number None = []
@@ -24,8 +25,8 @@ parameters_in c number (Some p) = parameter_places (c.spot number) (c.enters num
 -- procedure keeps its return address in its frame, and takes it from there. Positions are as in other decisions.
 abbrev pub with_places : MidProgram → Choice → Located → Located
 with_places program c l = record l {
-  source = λ number line v. c.spot number v;
-  target = λ number line. target_at (c.spot number) (line_of (program_lines program) number line);
+  source = λ number line v. source_in (c.spot number) (line_of (program_lines program) number line) (slice_get (c.lines number) line) v;
+  target = λ number line. target_in (c.spot number) (line_of (program_lines program) number line) (slice_get (c.lines number) line);
   parameters = λ number. parameters_in c number (slice_get (program_lines program).procedures number);
   records = tree_records program;
   linked = λ number line. false;
@@ -35,9 +36,15 @@ with_places program c l = record l {
 -- In each procedure all registers stand well, and the frame is found past the records around each step, with a word for each slot and one
 -- for the return address.
 pub record FitsTree (program : MidProgram) (c : Choice) : Type 0 where
+  pub named :
+      (number : ℕ) (p : LineProcedure) → slice_get (program_lines program).procedures number ≡ Some p
+      → AreNamings (c.owner number) (c.names number) p.lines (c.lines number)
+  pub owned :
+      (number : ℕ) (p : LineProcedure) → slice_get (program_lines program).procedures number ≡ Some p
+      → NamesStand (c.lines number) p.registers (c.owner number) (c.names number) (c.alive number)
   pub stand :
       (number : ℕ) (p : LineProcedure) → slice_get (program_lines program).procedures number ≡ Some p
-      → AllStand p.lines p.parameters (λ line. landings_of (tree_records program number line)) (c.spot number) (c.alive number) (c.enters number) (c.slots number)
+      → AllStand (c.lines number) p.parameters (λ line. landings_of (tree_records program number line)) (c.spot number) (c.alive number) (c.enters number) (c.slots number)
   pub finds :
       (number : ℕ) (p : MidProcedure) → slice_get program.procedures number ≡ Some p → procedure_finds (record p { registers = c.slots number }) ≡ true
 

@@ -1,49 +1,77 @@
 // Where the registers of a procedure of lines stand.
 
-ghost use Rattle.std.specs.Prelude.{◌≡◌, ◌≤◌, ◌<◌, ◌^◌, ℕ, length, slice_get, Some, IfOk};
+ghost use Rattle.std.specs.Prelude.{◌≡◌, ◌≤◌, ◌<◌, ◌^◌, ℕ, true, false, length, slice_get, slice_index_or, Some, IfOk};
 ghost use Rattle.mid_lines.specs.declared.line.Line.{Line};
 ghost use Rattle.back_allocation.specs.LineSteps.{line_gives, landings_in};
 ghost use Rattle.back_allocation.specs.Places.{place_in, enters_in, ChosenWell};
 
 use crate::barriers::barriers_of;
+use crate::constants::{constants_of, without_constants};
+use crate::hints::hints_of;
 use crate::steps::{LandingsList, steps_of};
 use crate::wishes::wishes_of;
-use back_liveness::{IntervalList, LiveIntervals, live_intervals};
+use back_liveness::{Barrier, CrossedList, IntervalList, LiveIntervals, live_intervals};
 use back_scan::{Allocation, linear_scan};
 use base::NoMemory;
 use mid_lines::LineList;
 use std::alloc::Global;
 
-/// Where registers stand, and their intervals: the entry brings those to their places whose intervals begin with the first line.
+/// Where names stand, and their constants and intervals: the entry brings those to their places whose intervals begin with the first line; and
+/// whether it is clear that none is alive where it is overwritten.
 #[derive(Drop)]
 pub struct Chosen {
     pub allocation: Allocation,
+    pub constants: Vec<Option<u32>>,
     pub intervals: IntervalList,
+    pub is_clear: bool,
 }
 
-/// Where the registers of lines stand, of which these are the landings of the records that stand at them, and how many slots they
-/// need: no more than there are registers.
+/// Where the names of registers stand, by which lines go, of which these are the landings of the records that stand at them; how many slots they
+/// need, no more than there are names; and whether it is clear that none is alive where one of the barriers crosses it.
 pub fn allocate(
     alloc: Global,
     lines: &LineList,
     landings: &LandingsList,
+    overwritten: &[Barrier],
     parameters: usize,
     registers: usize,
 ) -> Result<Chosen, NoMemory>
     requires room { length lines.now < 2 ^ 62 }
     requires registers { (line to : ℕ) (x : Line) → slice_get lines.now line ≡ Some x → line_gives x ≡ Some to → to < registers }
     requires parameters { parameters ≤ registers }
-    ensures chosen { IfOk result (λ a. ChosenWell lines.now parameters (landings_in landings.now) (place_in a.allocation.spots.items) (enters_in a.intervals) a.allocation.slots) }
+    ensures chosen { IfOk result (λ a. ChosenWell lines.now parameters (landings_in landings.now) (place_in a.constants.items a.allocation.spots.items)
+        (enters_in a.intervals) a.allocation.slots overwritten.now registers a.is_clear) }
     ensures few { IfOk result (λ a. a.allocation.slots ≤ registers) }
+    ensures long { IfOk result (λ a. length a.constants.items ≡ length a.allocation.spots.items) }
 {
     let steps = steps_of(alloc, lines, landings)?;
     let barriers = barriers_of(alloc, lines, landings)?;
     let found = live_intervals(alloc, &steps, barriers.as_slice(), registers)?;
+    let again = live_intervals(alloc, &steps, overwritten, registers)?;
+    let is_clear = none_told(&again.crossed);
     let LiveIntervals { intervals, crossed } = found;
-    let wishes = wishes_of(alloc, &intervals, &crossed, parameters)?;
-    let allocation = linear_scan(alloc, &intervals, &wishes)?;
+    let constants = constants_of(alloc, lines, parameters, registers)?;
+    let kept = without_constants(alloc, &intervals, constants.as_slice())?;
+    let wishes = wishes_of(alloc, &kept, &crossed, parameters)?;
+    let hints = hints_of(alloc, lines, registers)?;
+    let allocation = linear_scan(alloc, &kept, &wishes, &hints)?;
     Ok(Chosen {
         allocation,
-        intervals,
+        constants,
+        intervals: kept,
+        is_clear,
     })
+}
+
+// Whether none is told to be crossed.
+fn none_told(crossed: &CrossedList) -> bool
+    ensures { result ≡ true → (v : ℕ) → slice_index_or crossed.now v false ≡ true → ⊥ }
+{
+    let all = crossed.as_slice();
+    for name in 0..all.len() {
+        if all[name] {
+            return false;
+        }
+    }
+    true
 }

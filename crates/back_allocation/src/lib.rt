@@ -3,8 +3,12 @@
 
 pub mod allocation;
 pub mod barriers;
+pub mod constants;
+pub mod finding;
+pub mod hints;
 pub mod landings;
 pub mod laws;
+pub mod names;
 pub mod placing;
 pub mod steps;
 pub mod wishes;

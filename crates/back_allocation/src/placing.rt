@@ -1,32 +1,41 @@
 // The places of the registers of a procedure, and of its parameters at the entry.
 
-ghost use Rattle.std.specs.Prelude.{◌≡◌, ◌≤◌, ◌<◌, ◌+◌, ◌^◌, ℕ, length, map, slice_get, slice_index_or, Some, None, IfOk, MatchOption, if◌then◌else◌};
+ghost use Rattle.std.specs.Prelude.{◌≡◌, ◌≤◌, ◌<◌, ◌+◌, ◌^◌, ℕ, ◌==◌, [], length, map, slice_get, slice_index_or, true, Some, None, IfOk, IfSome, MatchOption, if◌then◌else◌};
+ghost use Rattle.std.specs.List.{list_any};
 ghost use Rattle.back_trivial.specs.OwnSlots.{no_target};
 ghost use Rattle.mid_lines.specs.declared.line.Line.{Line};
 ghost use Rattle.back_places.specs.declared.place.Place.TheVariants.{InRegister};
 ghost use Rattle.back_places.specs.Places.{argument_register};
 ghost use Rattle.back_places.specs.Facts.{IsPlace};
-ghost use Rattle.back_allocation.specs.LineSteps.{line_gives};
+ghost use Rattle.back_allocation.specs.LineSteps.{line_reads, line_gives, landings_in};
+ghost use Rattle.back_allocation.specs.StandingLandings.{line_landings};
+ghost use Rattle.back_allocation.specs.Names.{AreNamings, NamesStand};
+ghost use Rattle.back_allocation.specs.NamesFound.{owner_in, AreGrouped, AreOverwritten};
 ghost use Rattle.back_allocation.specs.Allocated.{parameter_places};
-ghost use Rattle.back_allocation.specs.Places.{place_of, place_in, place_at, enters_in};
+ghost use Rattle.back_allocation.specs.Places.{place_of, place_chosen, place_in, place_at, enters_in, ChosenWell};
 ghost use Rattle.back_allocation.specs.RegistersPlaced.{StandInPlaces};
 
-use crate::allocation::allocate;
+use crate::allocation::{Chosen, allocate};
+use crate::finding::names_of;
 use crate::landings::landings_of_lines;
+use crate::names::{Names, are_grouped, named_lines, overwritten_of, own_names};
+use crate::steps::LandingsList;
 use back_liveness::IntervalList;
 use back_places::Place;
 use back_scan::Spot;
 use base::{ItemList, NoMemory};
 use mid_code::Register;
-use mid_lines::LineProcedure;
+use mid_lines::{LineList, LineProcedure};
 use std::alloc::Global;
 
 /// Places, by the numbers of registers, or of parameters.
 pub type PlaceList = ItemList<Place>;
 
-/// Where the registers of a procedure stand, where its entry brings the words of parameters, and how many slots there are.
+/// Where the registers of a procedure stand: its lines with names of registers, the places of names, where its entry brings the words of parameters, and
+/// how many slots there are.
 #[derive(Drop)]
 pub struct RegisterPlaces {
+    pub lines: LineList,
     pub places: PlaceList,
     pub parameters: PlaceList,
     pub slots: u32,
@@ -39,19 +48,78 @@ pub fn place_registers(
     procedure: &LineProcedure,
 ) -> Result<Option<RegisterPlaces>, NoMemory>
     requires registers { (line to : ℕ) (x : Line) → slice_get procedure.now.lines line ≡ Some x → line_gives x ≡ Some to → to < procedure.now.registers }
+    requires read { (line v : ℕ) (x : Line) → slice_get procedure.now.lines line ≡ Some x → list_any (λ r. r == v) (line_reads x) ≡ true → v < procedure.now.registers }
     requires parameters { procedure.now.parameters ≤ procedure.now.registers }
     ensures { IfOk result (λ found. MatchOption found (procedure.now.frame ≤ procedure.now.registers)
         (λ a. StandInPlaces procedure.now a × (a.slots < procedure.now.frame) × (a.slots ≤ procedure.now.registers))) }
 {
-    let lines = &procedure.lines;
-    if 4_611_686_018_427_387_904 <= lines.len() {
+    if 4_611_686_018_427_387_904 <= procedure.lines.len() {
         return Err(NoMemory);
     }
-    let landings = landings_of_lines(alloc, lines)?;
+    let landings = landings_of_lines(alloc, &procedure.lines)?;
+    let names = names_of(alloc, procedure, &landings)?;
+    if let Some(found) = with_names(alloc, procedure, &landings, &names)? {
+        return Ok(Some(found));
+    }
+    with_own_names(alloc, procedure, &landings)
+}
+
+// The same with names that may be better; none where they do not say what registers have, or the frame has not a word for each slot then.
+fn with_names(
+    alloc: Global,
+    procedure: &LineProcedure,
+    landings: &LandingsList,
+    names: &Names,
+) -> Result<Option<RegisterPlaces>, NoMemory>
+    requires room { length procedure.now.lines < 2 ^ 62 }
+    requires registers { (line to : ℕ) (x : Line) → slice_get procedure.now.lines line ≡ Some x → line_gives x ≡ Some to → to < procedure.now.registers }
+    requires read { (line v : ℕ) (x : Line) → slice_get procedure.now.lines line ≡ Some x → list_any (λ r. r == v) (line_reads x) ≡ true → v < procedure.now.registers }
+    requires parameters { procedure.now.parameters ≤ procedure.now.registers }
+    requires landings { landings.now ≡ line_landings 0 [] procedure.now.lines }
+    ensures { IfOk result (λ found. IfSome found (λ a. StandInPlaces procedure.now a × (a.slots < procedure.now.frame) × (a.slots ≤ procedure.now.registers))) }
+{
+    if !are_grouped(names, procedure.registers) {
+        return Ok(None);
+    }
+    let lines = named_lines(alloc, &procedure.lines, names, procedure.registers)?;
+    let overwritten = overwritten_of(alloc, &lines, names, procedure.registers)?;
     let chosen = allocate(
         alloc,
-        lines,
-        &landings,
+        &lines,
+        landings,
+        overwritten.as_slice(),
+        procedure.parameters,
+        names.owners.len(),
+    )?;
+    let slots = chosen.allocation.slots;
+    if !chosen.is_clear || procedure.frame as usize <= slots || procedure.registers < slots {
+        return Ok(None);
+    }
+    let placed = placed(alloc, lines, &chosen, procedure.parameters)?;
+    Ok(Some(placed))
+}
+
+// The same where each register has one name, itself.
+fn with_own_names(
+    alloc: Global,
+    procedure: &LineProcedure,
+    landings: &LandingsList,
+) -> Result<Option<RegisterPlaces>, NoMemory>
+    requires room { length procedure.now.lines < 2 ^ 62 }
+    requires registers { (line to : ℕ) (x : Line) → slice_get procedure.now.lines line ≡ Some x → line_gives x ≡ Some to → to < procedure.now.registers }
+    requires read { (line v : ℕ) (x : Line) → slice_get procedure.now.lines line ≡ Some x → list_any (λ r. r == v) (line_reads x) ≡ true → v < procedure.now.registers }
+    requires parameters { procedure.now.parameters ≤ procedure.now.registers }
+    requires landings { landings.now ≡ line_landings 0 [] procedure.now.lines }
+    ensures { IfOk result (λ found. MatchOption found (procedure.now.frame ≤ procedure.now.registers)
+        (λ a. StandInPlaces procedure.now a × (a.slots < procedure.now.frame) × (a.slots ≤ procedure.now.registers))) }
+{
+    let names = own_names(alloc, procedure.registers)?;
+    let lines = named_lines(alloc, &procedure.lines, &names, procedure.registers)?;
+    let chosen = allocate(
+        alloc,
+        &lines,
+        landings,
+        &[],
         procedure.parameters,
         procedure.registers,
     )?;
@@ -59,26 +127,102 @@ pub fn place_registers(
     if procedure.frame as usize <= slots {
         return Ok(None);
     }
-    let places = places_of(alloc, chosen.allocation.spots.as_slice(), slots)?;
-    let parameters = parameters_of(alloc, &places, &chosen.intervals, procedure.parameters)?;
-    Ok(Some(RegisterPlaces {
+    let placed = placed(alloc, lines, &chosen, procedure.parameters)?;
+    Ok(Some(placed))
+}
+
+// The places of names that were chosen, for lines with these names.
+fn placed(
+    alloc: Global,
+    lines: LineList,
+    chosen: &Chosen,
+    parameters: usize,
+) -> Result<RegisterPlaces, NoMemory>
+    requires few { chosen.now.allocation.slots + 1 < 2 ^ 32 }
+    requires placed { (v : ℕ) → IsPlace (chosen.now.allocation.slots + 1) (place_in chosen.now.constants.items chosen.now.allocation.spots.items v) }
+    requires long { length chosen.now.constants.items ≡ length chosen.now.allocation.spots.items }
+    ensures lines { IfOk result (λ a. a.lines ≡ lines) }
+    ensures places { IfOk result (λ a. (v : ℕ) → place_at a.places v ≡ place_in chosen.now.constants.items chosen.now.allocation.spots.items v) }
+    ensures parameters { IfOk result (λ a. a.parameters ≡ parameter_places (place_at a.places) (enters_in chosen.now.intervals) 0 parameters) }
+    ensures slots { IfOk result (λ a. a.slots ≡ chosen.now.allocation.slots) }
+{
+    let slots = chosen.allocation.slots;
+    let places = places_of(
+        alloc,
+        chosen.constants.as_slice(),
+        chosen.allocation.spots.as_slice(),
+        slots,
+    )?;
+    let parameters = parameters_of(alloc, &places, &chosen.intervals, parameters)?;
+    Ok(RegisterPlaces {
+        lines,
         places,
         parameters,
         slots: slots as u32,
-    }))
+    })
 }
 
-// The places of registers with these spots.
-fn places_of(alloc: Global, spots: &[Option<Spot>], slots: usize) -> Result<PlaceList, NoMemory>
+// The places of names with these constants and spots.
+fn places_of(
+    alloc: Global,
+    constants: &[Option<u32>],
+    spots: &[Option<Spot>],
+    slots: usize,
+) -> Result<PlaceList, NoMemory>
     requires few { slots + 1 < 2 ^ 32 }
-    requires placed { (v : ℕ) → IsPlace (slots + 1) (place_in spots.now v) }
-    ensures { IfOk result (λ places. places ≡ map place_of spots.now) }
+    requires placed { (v : ℕ) → IsPlace (slots + 1) (place_in constants.now spots.now v) }
+    requires long { length constants.now ≡ length spots.now }
+    ensures { IfOk result (λ places. (v : ℕ) → place_at places v ≡ place_in constants.now spots.now v) }
 {
     let mut places = PlaceList::new(alloc);
     for at in 0..spots.len() {
-        places.push(place_of(spots[at], slots))?;
+        places.push(place_of_name(constants, spots, at, slots))?;
     }
     Ok(places)
+}
+
+fn place_of_name(
+    constants: &[Option<u32>],
+    spots: &[Option<Spot>],
+    name: usize,
+    slots: usize,
+) -> Place
+    requires few { slots + 1 < 2 ^ 32 }
+    requires placed { IsPlace (slots + 1) (place_in constants.now spots.now name) }
+    ensures { result ≡ place_in constants.now spots.now name }
+{
+    place_chosen(constant_at(constants, name), spot_at(spots, name), slots)
+}
+
+fn constant_at(constants: &[Option<u32>], name: usize) -> Option<u32>
+    ensures { result ≡ slice_index_or constants.now name None }
+{
+    if name < constants.len() {
+        constants[name]
+    } else {
+        None
+    }
+}
+
+fn spot_at(spots: &[Option<Spot>], name: usize) -> Option<Spot>
+    ensures { result ≡ slice_index_or spots.now name None }
+{
+    if name < spots.len() {
+        spots[name]
+    } else {
+        None
+    }
+}
+
+fn place_chosen(constant: Option<u32>, spot: Option<Spot>, slots: usize) -> Place
+    requires few { slots + 1 < 2 ^ 32 }
+    requires placed { IsPlace (slots + 1) (place_chosen constant spot) }
+    ensures { result ≡ place_chosen constant spot }
+{
+    match constant {
+        Some(word) => Place::AsConstant(word),
+        None => place_of(spot, slots),
+    }
 }
 
 fn place_of(spot: Option<Spot>, slots: usize) -> Place

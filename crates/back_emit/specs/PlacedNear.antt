@@ -8,6 +8,7 @@ use Rattle.back_layout.specs.Layout.{is_near_branch, is_near_jump, line_is_near}
 use Rattle.back_places.specs.declared.place.Place.{Place}
 use Rattle.back_places.specs.Places.{Located}
 use Rattle.back_emit.specs.declared.spots.Spot.{Spot}
+use Rattle.back_allocation.specs.Names.{named_line}
 use Rattle.back_emit.specs.Agree.{AgreesAt}
 use Rattle.back_emit.specs.PlacedCode.{placed_before_call, placed_tested}
 
@@ -20,5 +21,5 @@ placed_is_near places s x = false
 -- where the spot says what was decided, the layout takes the jump as near
 abbrev pub LawOfPlacedNear : Type 0
 LawOfPlacedNear =
-    (l : Located) (places : List Place) (number frame line : ℕ) (s : Spot) (x : Line) → AgreesAt l places number frame line s x
-    → line_is_near l number line x ≡ placed_is_near places s x
+    (l : Located) (places : List Place) (number frame line : ℕ) (s : Spot) (x : Line) (read given : ℕ → ℕ) → AgreesAt l places number frame line s x read given
+    → line_is_near l number line x ≡ placed_is_near places s (named_line read given x)

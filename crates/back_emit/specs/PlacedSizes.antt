@@ -4,6 +4,7 @@ use Rattle.mid_lines.specs.declared.line.Line.{Line}
 use Rattle.mid_lines.specs.declared.line.Line.TheVariants.{Jump}
 use Rattle.back_places.specs.declared.place.Place.{Place}
 use Rattle.back_places.specs.Places.{Located}
+use Rattle.back_allocation.specs.Names.{named_line}
 use Rattle.back_layout.specs.Sizes.{unplaced, jump_size, goes_over_nothing, rests}
 use Rattle.back_emit.specs.declared.spots.Spot.{Spot}
 use Rattle.back_emit.specs.declared.spots.Sizing.{Sizing}
@@ -61,9 +62,18 @@ module _ (places : List Place) (z : Sizing) (ways : List FrameWay) (nears : List
   abbrev pub EachFits : List Line → Type 0
   EachFits xs = (line : ℕ) (x : Line) → slice_get xs line ≡ Some x → FitsLine (sizing_spot z ways nears line) places x
 
--- where the spots say what was decided, this is what the layout counts
+-- a line with names, whose spot says what was decided
+pub record AgreesNamed (l : Located) (places : List Place) (number frame line : ℕ) (s : Spot) (x y : Line) : Type 0 where
+  pub read : ℕ → ℕ
+  pub given : ℕ → ℕ
+  pub is : y ≡ named_line read given x
+  pub agrees : AgreesAt l places number frame line s x read given
+
+-- where the spots of lines with names say what was decided, this is what the layout counts
 abbrev pub LawOfPlacedRests : Type 0
 LawOfPlacedRests =
-    (l : Located) (places : List Place) (number frame : ℕ) (z : Sizing) (ways : List FrameWay) (nears : List Bool) (xs : List Line)
-    → ((line : ℕ) (x : Line) → slice_get xs line ≡ Some x → AgreesAt (unplaced l) places number frame line (sizing_spot z ways nears line) x)
-    → rests l number frame 0 xs ≡ placed_rests places z ways nears 0 xs
+    (l : Located) (places : List Place) (number frame : ℕ) (z : Sizing) (ways : List FrameWay) (nears : List Bool) (xs ys : List Line)
+    → length ys ≡ length xs
+    → ((line : ℕ) (x y : Line) → slice_get xs line ≡ Some x → slice_get ys line ≡ Some y
+    → AgreesNamed (unplaced l) places number frame line (sizing_spot z ways nears line) x y)
+    → rests l number frame 0 xs ≡ placed_rests places z ways nears 0 ys

@@ -10,6 +10,7 @@ use Rattle.mid_code.specs.declared.program.MidProcedure.{MidProcedure}
 use Rattle.mid_code.specs.declared.program.MidProgram.{MidProgram}
 use Rattle.mid_code.specs.MidCode.{perform, repeat, return_word, no_step, code_of}
 use Rattle.mid_code.specs.Worked.{program, procedure}
+use Rattle.mid_lines.specs.Flattened.{procedure_lines}
 use Rattle.back_places.specs.declared.place.Place.TheVariants.{InRegister}
 use Rattle.back_allocation.specs.declared.placing.RegisterPlaces.{RegisterPlaces}
 use Rattle.back_images.specs.Laws.{emitted, emitted_start}
@@ -27,9 +28,9 @@ printing_procedure =
 abbrev pub printing : MidProgram
 printing = program (printing_procedure ∷ [])
 
--- each register in one of the machine, and no slots
+-- each register in one of the machine, by no other name, and no slots
 abbrev pub in_registers : List RegisterPlaces
-in_registers = record { places = InRegister 12 ∷ InRegister 13 ∷ InRegister 14 ∷ []; parameters = []; slots = 0 } ∷ []
+in_registers = record { lines = (procedure_lines printing_procedure).lines; places = InRegister 12 ∷ InRegister 13 ∷ InRegister 14 ∷ []; parameters = []; slots = 0 } ∷ []
 
 -- its image in an arena of 128 words, with no input, and as many instructions as it costs: those of an entry, three constants, four tests, three
 -- turns and a return

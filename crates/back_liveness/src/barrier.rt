@@ -7,12 +7,20 @@ ghost use Rattle.back_liveness.specs.Liveness.{IsWithin};
 use crate::step::Interval;
 use mid_code::Register;
 
-/// Which registers have to outlast something if they are alive at a line: none, all, or all but the result of a call.
+/// Which registers have to outlast something if they are alive at a line: none, all, all but the result of a call, all from a number on; or
+/// one register and those from a number up to another, but the one that was written.
 #[derive(Clone, Copy)]
 pub enum Barrier {
     Open,
     Closed,
     ClosedBut(Register),
+    ClosedFrom(Register),
+    ClosedAmong {
+        register: Register,
+        from: Register,
+        to: Register,
+        written: Register,
+    },
 }
 
 /// Whether a barrier at some line of the interval crosses the register.
@@ -37,5 +45,12 @@ fn is_crossed(barrier: Barrier, register: Register) -> bool
         Barrier::Open => false,
         Barrier::Closed => true,
         Barrier::ClosedBut(to) => register != to,
+        Barrier::ClosedFrom(from) => from <= register,
+        Barrier::ClosedAmong {
+            register: one,
+            from,
+            to,
+            written,
+        } => register != written && (register == one || (from <= register && register < to)),
     }
 }

@@ -11,7 +11,7 @@ use Rattle.mid_code.specs.declared.program.MidProcedure.{MidProcedure}
 use Rattle.mid_code.specs.declared.program.MidProgram.{MidProgram}
 use Rattle.mid_code.specs.Checked.{is_block_size, is_checked_program}
 use Rattle.mid_lines.specs.declared.line.Line.{Line}
-use Rattle.mid_lines.specs.declared.line.Line.TheVariants.{Do, Branch, Jump, Lay}
+use Rattle.mid_lines.specs.declared.line.Line.TheVariants.{Do, Branch, Switch, Jump, Lay, Landed, GiveBack, Lend, GiveBackLent, Return, Cut, Halt, Unhandled}
 use Rattle.mid_lines.specs.declared.line.LineProcedure.{LineProcedure}
 use Rattle.mid_lines.specs.declared.line.LineProgram.{LineProgram}
 use Rattle.mid_lines.specs.Lines.{lines_in, line_of}
@@ -28,16 +28,18 @@ use Rattle.back_places.proofs.LinesInForm.{all_at, line_is}
 use Rattle.back_trivial.specs.OwnSlots.{is_there}
 use Rattle.back_allocation.specs.declared.placing.RegisterPlaces.{RegisterPlaces}
 use Rattle.back_allocation.specs.LineSteps.{line_gives}
-use Rattle.back_allocation.specs.Allocated.{place_given, target_at}
+use Rattle.back_allocation.specs.Names.{named_operation, named_line, read_name, given_name}
+use Rattle.back_allocation.specs.Allocated.{place_given, source_in, target_in}
+use Rattle.back_allocation.proofs.Naming.{gives_named}
 use Rattle.back_allocation.specs.Places.{place_at}
-use Rattle.back_allocation.specs.ProgramPlaces.{places_for}
-use Rattle.back_layout.specs.Sizes.{unplaced, procedure_rests, entry_size, procedure_size, code_size, all_targets, lines_there}
+use Rattle.back_allocation.specs.ProgramPlaces.{places_for, PlacesFit}
+use Rattle.back_layout.specs.Sizes.{unplaced, procedure_rests, entry_size, procedure_size, code_size, switch_targets, all_targets, lines_there}
 use Rattle.back_layout.specs.Layout.{start_at, with_front, first_at, entry_place, body_place, line_place, table_place, placed}
 use Rattle.back_layout.specs.ChosenPlaces.{placed_decided}
 use Rattle.back_emit.specs.declared.spots.Spot.{Spot}
 use Rattle.back_emit.specs.declared.spots.Sizing.{Sizing}
 use Rattle.back_emit.specs.PlacedCode.{placed_entry}
-use Rattle.back_emit.specs.PlacedSizes.{near_in, sizing_spot}
+use Rattle.back_emit.specs.PlacedSizes.{near_in, sizing_spot, AgreesNamed}
 use Rattle.back_emit.specs.PlacedLines.{line_position, line_goes, operation_goes}
 use Rattle.back_emit.specs.Agree.{OperationGoes, LineGoes, GoesToPlace, AgreesAt}
 use Rattle.back_emit.proofs.PlacedRests.{law_of_placed_rests}
@@ -66,6 +68,74 @@ goes_to_place places (Some to) = refl
 procedure_called : (procedures : List LineProcedure) (n count : ℕ) (o : Option LineProcedure) → takes o count ≡ true → (p : LineProcedure) × (o ≡ Some p)
 procedure_called procedures n count None h = absurd (cc h)
 procedure_called procedures n count (Some p) h = (p, refl)
+
+-- lines with names go where the lines go
+targets_named : (f g : ℕ → ℕ) (x : Line) → switch_targets (named_line f g x) ≡ switch_targets x
+targets_named f g (Do o) = refl
+targets_named f g (Branch t otherwise) = refl
+targets_named f g (Switch r targets) = refl
+targets_named f g (Jump to) = refl
+targets_named f g (Lay block words landing) = refl
+targets_named f g (Landed r) = refl
+targets_named f g (GiveBack words) = refl
+targets_named f g (Lend block words) = refl
+targets_named f g GiveBackLent = refl
+targets_named f g (Return r) = refl
+targets_named f g (Cut block word) = refl
+targets_named f g (Halt r) = refl
+targets_named f g (Unhandled class site condition) = refl
+
+goes_by_operation : (entries : List ℕ) (f g : ℕ → ℕ) (o : Operation) → operation_goes entries (named_operation f g o) ≡ operation_goes entries o
+goes_by_operation entries f g (operation.Call to (Procedure n) arguments) = refl
+goes_by_operation entries f g (operation.Call to (Word r) arguments) = refl
+goes_by_operation entries f g (operation.Move to from) = refl
+goes_by_operation entries f g (operation.Constant to word) = refl
+goes_by_operation entries f g (operation.Compute to which first second) = refl
+goes_by_operation entries f g (operation.Load to base offset) = refl
+goes_by_operation entries f g (operation.Store from base offset) = refl
+goes_by_operation entries f g (operation.Request to words) = refl
+goes_by_operation entries f g (operation.Draw to base offset) = refl
+goes_by_operation entries f g (operation.Put from) = refl
+goes_by_operation entries f g (operation.Get to) = refl
+
+pub goes_named : (lefts entries : List ℕ) (body : ℕ) (f g : ℕ → ℕ) (x : Line) → line_goes lefts entries body (named_line f g x) ≡ line_goes lefts entries body x
+goes_named lefts entries body f g (Do o) = goes_by_operation entries f g o
+goes_named lefts entries body f g (Branch t otherwise) = refl
+goes_named lefts entries body f g (Switch r targets) = refl
+goes_named lefts entries body f g (Jump to) = refl
+goes_named lefts entries body f g (Lay block words landing) = refl
+goes_named lefts entries body f g (Landed r) = refl
+goes_named lefts entries body f g (GiveBack words) = refl
+goes_named lefts entries body f g (Lend block words) = refl
+goes_named lefts entries body f g GiveBackLent = refl
+goes_named lefts entries body f g (Return r) = refl
+goes_named lefts entries body f g (Cut block word) = refl
+goes_named lefts entries body f g (Halt r) = refl
+goes_named lefts entries body f g (Unhandled class site condition) = refl
+
+-- lines with some names, one for one
+abbrev pub HaveNames : List Line → List Line → Type 0
+HaveNames xs ys =
+    (i : ℕ) (x y : Line) → slice_get xs i ≡ Some x → slice_get ys i ≡ Some y → (f : ℕ → ℕ) × ((g : ℕ → ℕ) × (y ≡ named_line f g x))
+
+same_targets : (n : ℕ) (xs ys : List Line) → length ys ≡ length xs → HaveNames xs ys → all_targets (take n ys) ≡ all_targets (take n xs)
+same_targets zero xs ys count h = refl
+same_targets (suc n) [] [] count h = refl
+same_targets (suc n) [] (y ∷ ys) count h = absurd (omega (arith, count))
+same_targets (suc n) (x ∷ xs) [] count h = absurd (omega (arith, count))
+same_targets (suc n) (x ∷ xs) (y ∷ ys) count h =
+    let is = h 0 x y refl refl in
+    ap (λ ts. ts ++ all_targets (take n ys)) (ap switch_targets is.1.1 ∙ targets_named is.0 is.1.0 x)
+    ∙ ap (λ ts. switch_targets x ++ ts) (same_targets n xs ys (omega (arith, count)) (λ i u w e g. h (suc i) u w e g))
+
+every_target : (xs ys : List Line) → length ys ≡ length xs → HaveNames xs ys → all_targets ys ≡ all_targets xs
+every_target [] [] count h = refl
+every_target [] (y ∷ ys) count h = absurd (omega (arith, count))
+every_target (x ∷ xs) [] count h = absurd (omega (arith, count))
+every_target (x ∷ xs) (y ∷ ys) count h =
+    let is = h 0 x y refl refl in
+    ap (λ ts. ts ++ all_targets ys) (ap switch_targets is.1.1 ∙ targets_named is.0 is.1.0 x)
+    ∙ ap (λ ts. switch_targets x ++ ts) (every_target xs ys (omega (arith, count)) (λ i u w e g. h (suc i) u w e g))
 
 module _ (program : MidProgram) where
   pub procedure_there :
@@ -101,12 +171,29 @@ module _ (program : MidProgram) (chosen : List RegisterPlaces) where
   pub shape_there : (number : ℕ) (p : MidProcedure) → slice_get program.procedures number ≡ Some p → slice_get S number ≡ Some (shape number p)
   shape_there number p h = joined_get shape 0 number number p program.procedures (omega arith) h
 
+  -- the lines of a procedure with names
+  abbrev pub named : (number : ℕ) → List Line
+  named number = (places_for chosen number).lines
+
+  source_same :
+      (number line v : ℕ) (p : MidProcedure) (x y : Line) → slice_get program.procedures number ≡ Some p → slice_get (procedure_lines p).lines line ≡ Some x
+      → slice_get (named number) line ≡ Some y
+      → source_in (place_at (places number)) (line_of P number line) (slice_get (named number) line) v ≡ place_at (places number) (read_name x y v)
+  source_same number line v p x y h e g =
+      ap (λ o. source_in (place_at (places number)) o (slice_get (named number) line) v) (line_there program number line p x h e)
+      ∙ ap (λ o. source_in (place_at (places number)) (Some x) o v) g
+
   target_same :
-      (number line : ℕ) (p : MidProcedure) (x : Line) → slice_get program.procedures number ≡ Some p → slice_get (procedure_lines p).lines line ≡ Some x
-      → GoesToPlace (places number) (target_at (place_at (places number)) (line_of P number line)) (line_gives x)
-  target_same number line p x h e =
-      subst (λ o. GoesToPlace (places number) (target_at (place_at (places number)) o) (line_gives x)) (sym (line_there program number line p x h e))
-      (goes_to_place (places number) (line_gives x))
+      (number line : ℕ) (p : MidProcedure) (x y : Line) → slice_get program.procedures number ≡ Some p → slice_get (procedure_lines p).lines line ≡ Some x
+      → slice_get (named number) line ≡ Some y → y ≡ named_line (read_name x y) (given_name y) x
+      → GoesToPlace (places number) (target_in (place_at (places number)) (line_of P number line) (slice_get (named number) line)) (option_map (given_name y) (line_gives x))
+  target_same number line p x y h e g is =
+      let there = ap (λ o. target_in (place_at (places number)) o (slice_get (named number) line)) (line_there program number line p x h e)
+      ∙ ap (target_in (place_at (places number)) (Some x)) g in
+      subst (λ q. GoesToPlace (places number) q (option_map (given_name y) (line_gives x))) (sym there)
+      (subst (λ o. GoesToPlace (places number) (place_given (place_at (places number)) o) (option_map (given_name y) (line_gives x)))
+      (sym (ap line_gives is ∙ gives_named (read_name x y) (given_name y) x))
+      (goes_to_place (places number) (option_map (given_name y) (line_gives x))))
 
   pub full_same : start_at P (placed_decided program chosen) + 2 + 3 ≡ full_position f
   full_same = omega arith
@@ -126,7 +213,22 @@ module _ (program : MidProgram) (chosen : List RegisterPlaces) where
       (number line : ℕ) (p : MidProcedure) (x : Line) → slice_get program.procedures number ≡ Some p → slice_get (procedure_lines p).lines line ≡ Some x
       → near number line ≡ near_in (slice_get (listed (slice_get nears number)) line)
 
-  module _ (near : (number line : ℕ) → Bool) (nears : List (List Bool)) (same : SameNear near nears) where
+  module _ (near : (number line : ℕ) → Bool) (nears : List (List Bool)) (same : SameNear near nears) (fit : PlacesFit program chosen) where
+    -- the names of a line
+    naming :
+        (number line : ℕ) (p : MidProcedure) (x y : Line) (h : slice_get program.procedures number ≡ Some p) → slice_get (procedure_lines p).lines line ≡ Some x
+        → slice_get (named number) line ≡ Some y → y ≡ named_line (read_name x y) (given_name y) x
+    naming number line p x y h e g = ((fit.each number p h).stand.named.each line x y e g).is
+
+    pub named_count : (number : ℕ) (p : MidProcedure) → slice_get program.procedures number ≡ Some p → length (named number) ≡ length (procedure_lines p).lines
+    named_count number p h = (fit.each number p h).stand.named.count
+
+    targets_same :
+        (number : ℕ) (p : MidProcedure) → slice_get program.procedures number ≡ Some p → (n : ℕ)
+        → all_targets (take n (named number)) ≡ all_targets (take n (procedure_lines p).lines)
+    targets_same number p h n =
+        same_targets n (procedure_lines p).lines (named number) (named_count number p h) (λ i x y e g. (read_name x y, (given_name y, naming number i p x y h e g)))
+
     abbrev L : Located
     L = with_jumps near
 
@@ -144,11 +246,13 @@ module _ (program : MidProgram) (chosen : List RegisterPlaces) where
     own_lefts number p = shape_lefts f (own_nears number) (shape number p)
 
     sized :
-        (number line : ℕ) (p : MidProcedure) (x : Line) → slice_get program.procedures number ≡ Some p → slice_get (procedure_lines p).lines line ≡ Some x
+        (number line : ℕ) (p : MidProcedure) (x y : Line) → slice_get program.procedures number ≡ Some p → slice_get (procedure_lines p).lines line ≡ Some x
+        → slice_get (named number) line ≡ Some y
         → AgreesAt (unplaced L) (places number) number p.frame line (sizing_spot (sizing_of f (shape number p)) (shape number p).ways (own_nears number) line) x
-    sized number line p x h e = record {
-      source = λ v. refl;
-      target = target_same number line p x h e;
+        (read_name x y) (given_name y)
+    sized number line p x y h e g = record {
+      source = λ v. source_same number line v p x y h e g;
+      target = target_same number line p x y h e g (naming number line p x y h e g);
       linked = refl;
       line_is = refl;
       way = way_same program number line line p x h e (omega arith);
@@ -167,8 +271,10 @@ module _ (program : MidProgram) (chosen : List RegisterPlaces) where
     rests_same : (number : ℕ) (p : MidProcedure) → slice_get program.procedures number ≡ Some p → procedure_rests L number (slice_get P.procedures number) ≡ own_lefts number p
     rests_same number p h =
         ap (procedure_rests L number) (procedure_there program number p h)
-        ∙ law_of_placed_rests L (places number) number p.frame (sizing_of f (shape number p)) (shape number p).ways (own_nears number) (procedure_lines p).lines
-        (λ line x e. sized number line p x h e)
+        ∙ law_of_placed_rests L (places number) number p.frame (sizing_of f (shape number p)) (shape number p).ways (own_nears number) (procedure_lines p).lines (named number)
+        (named_count number p h)
+        (λ line x y e g.
+        record { read = read_name x y; given = given_name y; is = naming number line p x y h e g; agrees = sized number line p x y h e g })
 
     pub lefts_there : (number : ℕ) (p : MidProcedure) → slice_get program.procedures number ≡ Some p → listed (slice_get lefts number) ≡ own_lefts number p
     lefts_there number p h =
@@ -178,6 +284,10 @@ module _ (program : MidProgram) (chosen : List RegisterPlaces) where
     entry_same number p h =
         ap (entry_size L number) (procedure_there program number p h)
         ∙ ap length (entry_code_same L (L.full_at) (full_position f) f.arguments_at 0 p.frame (places_for chosen number).parameters (slice_get P.procedures number) (procedure_lines p) full_same (procedure_there program number p h))
+
+    pub all_same : (number : ℕ) (p : MidProcedure) → slice_get program.procedures number ≡ Some p → all_targets (procedure_lines p).lines ≡ all_targets (named number)
+    all_same number p h =
+        sym (every_target (procedure_lines p).lines (named number) (named_count number p h) (λ i x y e g. (read_name x y, (given_name y, naming number i p x y h e g))))
 
     size_same :
         (number : ℕ) (p : MidProcedure) → slice_get program.procedures number ≡ Some p
@@ -189,6 +299,7 @@ module _ (program : MidProgram) (chosen : List RegisterPlaces) where
         ap (procedure_rests L number) (sym there) ∙ rests_same number p h ∙ sym (lefts_there number p h) in
         ap (λ n. n + slice_index (procedure_rests L number (Some (procedure_lines p))) 0 + length (all_targets (procedure_lines p).lines)) a
         ∙ ap (λ r. entry_words f (shape number p) + slice_index r 0 + length (all_targets (procedure_lines p).lines)) b
+        ∙ ap (λ ts. entry_words f (shape number p) + slice_index (listed (slice_get lefts number)) 0 + length ts) (all_same number p h)
 
     sizes_same :
         (from : ℕ) (ps : List MidProcedure) → ((i number : ℕ) (p : MidProcedure) → number ≡ from + i → slice_get ps i ≡ Some p → slice_get program.procedures number ≡ Some p)
@@ -252,6 +363,7 @@ module _ (program : MidProgram) (chosen : List RegisterPlaces) where
         ap (λ n. n + slice_index (procedure_rests L number (slice_get P.procedures number)) 0 + length (all_targets (take line (lines_there (slice_get P.procedures number))))) (body_same number p h)
         ∙ ap (λ r. body_position f (slice_index entries number) (shape number p) + slice_index r 0 + length (all_targets (take line (lines_there (slice_get P.procedures number))))) (rests_same number p h)
         ∙ ap (λ o. body_position f (slice_index entries number) (shape number p) + slice_index (own_lefts number p) 0 + length (all_targets (take line (lines_there o)))) (procedure_there program number p h)
+        ∙ ap (λ ts. body_position f (slice_index entries number) (shape number p) + slice_index (own_lefts number p) 0 + length ts) (sym (targets_same number p h line))
 
     module _ (checked : is_checked_program program ≡ true) where
       called : (n : ℕ) (q : LineProcedure) → slice_get P.procedures n ≡ Some q → (p : MidProcedure) × (slice_get program.procedures n ≡ Some p)
@@ -293,12 +405,13 @@ module _ (program : MidProgram) (chosen : List RegisterPlaces) where
           spot_in f entries (slice_index entries number) (own_nears number) (own_lefts number p) (shape number p)
           (table_position f entries (slice_index entries number) (own_nears number) (own_lefts number p) (shape number p) line) line x
 
-      pub agrees :
-          (number line : ℕ) (p : MidProcedure) (x : Line) → slice_get program.procedures number ≡ Some p → slice_get (procedure_lines p).lines line ≡ Some x
-          → AgreesAt (placed P L) (places number) number p.frame line (spot number line p x) x
-      agrees number line p x h e = record {
-        source = λ v. refl;
-        target = target_same number line p x h e;
+      agrees_at :
+          (number line : ℕ) (p : MidProcedure) (x y : Line) → slice_get program.procedures number ≡ Some p → slice_get (procedure_lines p).lines line ≡ Some x
+          → slice_get (named number) line ≡ Some y
+          → AgreesAt (placed P L) (places number) number p.frame line (spot number line p y) x (read_name x y) (given_name y)
+      agrees_at number line p x y h e g = record {
+        source = λ v. source_same number line v p x y h e g;
+        target = target_same number line p x y h e g (naming number line p x y h e g);
         linked = refl;
         line_is = refl;
         way = way_same program number line line p x h e (omega arith);
@@ -307,9 +420,18 @@ module _ (program : MidProgram) (chosen : List RegisterPlaces) where
         near = same number line p x h e;
         at = line_same number line p h;
         next = line_same number (line + 1) p h;
-        goes = goes_same number p (spot number line p x) x h (calls number line x (line_there program number line p x h e)) refl;
+        goes =
+            goes_same number p (spot number line p y) x h (calls number line x (line_there program number line p x h e))
+            (ap (line_goes (own_lefts number p) entries (body_position f (slice_index entries number) (shape number p))) (naming number line p x y h e g)
+            ∙ goes_named (own_lefts number p) entries (body_position f (slice_index entries number) (shape number p)) (read_name x y) (given_name y) x);
         table = table_same number line p h;
         arguments_at = refl;
         procedures_at = refl;
         full_at = full_same;
       }
+
+      pub agrees :
+          (number line : ℕ) (p : MidProcedure) (x y : Line) → slice_get program.procedures number ≡ Some p → slice_get (procedure_lines p).lines line ≡ Some x
+          → slice_get (named number) line ≡ Some y → AgreesNamed (placed P L) (places number) number p.frame line (spot number line p y) x y
+      agrees number line p x y h e g =
+          record { read = read_name x y; given = given_name y; is = naming number line p x y h e g; agrees = agrees_at number line p x y h e g }

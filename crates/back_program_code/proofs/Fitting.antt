@@ -73,7 +73,7 @@ pub record LowSpot (s : Spot) : Type 0 where
 
 module _ (f : Front) (s : Shape) (fits : FitsShape f s) where
   line_fits_in :
-      (spot : Spot) (line : ℕ) (x : Line) → slice_get s.procedure.lines line ≡ Some x → LowSpot spot → spot.way ≡ way_in (slice_get s.ways line)
+      (spot : Spot) (line : ℕ) (x : Line) → slice_get s.chosen.lines line ≡ Some x → LowSpot spot → spot.way ≡ way_in (slice_get s.ways line)
       → spot.next_way ≡ way_in (slice_get s.ways (line + 1)) → spot.frame ≡ s.procedure.frame → spot.arguments_at ≡ f.arguments_at
       → spot.procedures_at ≡ f.procedures_at → spot.full_at ≡ f.start_at + 5 → FitsLine spot s.chosen.places x
   line_fits_in spot line x e low way next frame arguments procedures full =
@@ -87,7 +87,7 @@ module _ (f : Front) (s : Shape) (fits : FitsShape f s) where
       let arguments_low = fits.arguments_low in
       let procedures_low = fits.procedures_low in
       record {
-        registers = s.procedure.registers;
+        registers = fits.names;
         lines = length s.procedure.lines;
         spot = record {
           reached = λ v. in_reach spot.way slots (place_at s.chosen.places v) reached (fits.placed v);
@@ -112,7 +112,7 @@ module _ (f : Front) (s : Shape) (fits : FitsShape f s) where
       in_reach (FromStack 0) s.chosen.slots (place_at s.chosen.parameters v) (omega (arith, few)) (fits.entered v)
 
   -- with no positions yet
-  pub sizing_fits : (nears : List Bool) → EachFits s.chosen.places (sizing_of f s) s.ways nears s.procedure.lines
+  pub sizing_fits : (nears : List Bool) → EachFits s.chosen.places (sizing_of f s) s.ways nears s.chosen.lines
   sizing_fits nears line x e =
       line_fits_in (sizing_spot (sizing_of f s) s.ways nears line) line x e (record { at_low = omega arith; to_low = omega arith; table_low = omega arith }) refl refl refl refl refl
       refl
@@ -135,7 +135,7 @@ module _ (f : Front) (s : Shape) (fits : FitsShape f s) where
     goes_low x = omega arith
 
     placed_fits :
-        (table line : ℕ) (x : Line) → table < 2 ^ 24 → slice_get s.procedure.lines line ≡ Some x
+        (table line : ℕ) (x : Line) → table < 2 ^ 24 → slice_get s.chosen.lines line ≡ Some x
         → FitsLine (spot_in f entries at nears lefts s table line x) s.chosen.places x
     placed_fits table line x t e =
         line_fits_in (spot_in f entries at nears lefts s table line x) line x e (record { at_low = position_low line; to_low = goes_low x; table_low = t }) refl refl refl refl refl refl
@@ -151,7 +151,7 @@ module _ (f : Front) (s : Shape) (fits : FitsShape f s) where
 
     pub spot_fits :
         (spot : Spot) (z : Sizing) (ns : List Bool) (body table line : ℕ) (x : Line) → spot ≡ placed_spot z s.ways ns lefts entries body line table x
-        → z ≡ sizing_of f s → ns ≡ nears → body ≡ body_position f at s → table < 2 ^ 24 → slice_get s.procedure.lines line ≡ Some x
+        → z ≡ sizing_of f s → ns ≡ nears → body ≡ body_position f at s → table < 2 ^ 24 → slice_get s.chosen.lines line ≡ Some x
         → FitsLine spot s.chosen.places x
     spot_fits spot z ns body table line x e sizing near position t there =
         subst (λ k. FitsLine k s.chosen.places x) (sym (spot_is spot z ns body table line x e sizing near position)) (placed_fits table line x t there)

@@ -1,3 +1,4 @@
+pub mod NamedLines
 pub mod Joined
 pub mod Ways
 pub mod Agreeing

@@ -104,12 +104,12 @@ part_long places spot other x total e within long =
 
 module _ (f : Front) (entries : List ℕ) (at : ℕ) (nears : List Bool) (lefts : List ℕ) (s : Shape) where
   pub code_long :
-      2 ^ 24 ≤ length (joined (line_instructions f entries at nears lefts s) 0 s.procedure.lines) → 2 ^ 24 ≤ length (shape_image f entries at nears lefts s)
+      2 ^ 24 ≤ length (joined (line_instructions f entries at nears lefts s) 0 s.chosen.lines) → 2 ^ 24 ≤ length (shape_image f entries at nears lefts s)
   code_long long =
       let own = placed_entry (full_position f) f.arguments_at at s.procedure.frame s.chosen.parameters in
-      let a = length-append own (joined (line_instructions f entries at nears lefts s) 0 s.procedure.lines) in
+      let a = length-append own (joined (line_instructions f entries at nears lefts s) 0 s.chosen.lines) in
       let b = length-map (shape_code f entries at nears lefts s) word_of in
-      let c = length-append (map word_of (shape_code f entries at nears lefts s)) (joined (line_table f entries at nears lefts s) 0 s.procedure.lines) in
+      let c = length-append (map word_of (shape_code f entries at nears lefts s)) (joined (line_table f entries at nears lefts s) 0 s.chosen.lines) in
       omega (arith, a, b, c, long)
 
 pub image_part_long :

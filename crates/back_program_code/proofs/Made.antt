@@ -55,13 +55,13 @@ module _ (program : MidProgram) (chosen : List RegisterPlaces) (plan : Plan) (is
   ends =
       ap (λ f. code_end f plan.lefts plan.shapes) is.front ∙ ap (λ l. code_end (front_of program) l plan.shapes) is.lefts
       ∙ ap (λ s. code_end (front_of program) (near_lefts (front_of program) (shapes_of program chosen)) s) is.shapes
-      ∙ (law_of_shaped_image program chosen entry checked there).1
+      ∙ (law_of_shaped_image program chosen entry checked is.places there).1
 
   pub made_low : (placed_laid_out program chosen).code_to < 2 ^ 24
   made_low = let e = ends in let low = is.ends_low in omega (arith, e, low)
 
   pub made_words : (words : List ℕ) → words ≡ shaped_image program chosen entry → words ≡ emitted program chosen entry
-  made_words words e = e ∙ (law_of_shaped_image program chosen entry checked there).0
+  made_words words e = e ∙ (law_of_shaped_image program chosen entry checked is.places there).0
 
   pub made_long : (words : List ℕ) → words ≡ shaped_image program chosen entry → (plan.front.start_at < length words) × (length words < 2 ^ 24)
   made_long words e =

@@ -21,6 +21,7 @@ use Rattle.back_program_code.specs.declared.shapes.Shape.{Shape}
 use Rattle.back_program_code.specs.Joined.{joined}
 use Rattle.back_program_code.specs.Shapes.{shape_of, shapes_of, chosen_in, chosen_for}
 use Rattle.back_program_code.specs.ShapesMade.{IsShapeOf, AreShapesOf, HasRegisters}
+use Rattle.back_program_code.proofs.NamedLines.{line_read}
 use Rattle.back_program_code.proofs.Agreeing.{procedure_there}
 
 -- the item at which a loop stands
@@ -96,6 +97,7 @@ has_registers program number p checked h =
     let lines = front_true (list_all (line_fits q.registers (length q.lines)) q.lines) (list_all (line_calls procedures) q.lines) both in
     record {
       given = λ line to x e g. line_given q.registers (length q.lines) x to (all_at (line_fits q.registers (length q.lines)) q.lines line x lines e) g;
+      read = λ line v x e g. line_read q.registers (length q.lines) x (all_at (line_fits q.registers (length q.lines)) q.lines line x lines e) v g;
       parameters = grind (arith, nat_tests, passed);
     }
 

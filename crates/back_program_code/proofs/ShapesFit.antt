@@ -26,6 +26,9 @@ use Rattle.back_program_code.specs.declared.front.Front.{Front}
 use Rattle.back_program_code.specs.declared.shapes.Shape.{Shape}
 use Rattle.back_program_code.specs.Shapes.{shapes_of, chosen_in, front_of, first_position, is_near_shape, FitsShape, EachShapeFits}
 use Rattle.back_program_code.proofs.Joined.{joined_length}
+use Rattle.back_allocation.specs.Names.{read_name, given_name}
+use Rattle.back_emit.specs.Fits.{passed_by}
+use Rattle.back_program_code.proofs.NamedLines.{there_of, named_fits, passed_named}
 use Rattle.back_program_code.proofs.Agreeing.{procedure_there, shape, shape_there}
 use Rattle.back_program_code.proofs.Most.{passed_within, most_of_procedure}
 
@@ -47,6 +50,7 @@ module _ (program : MidProgram) (chosen : List RegisterPlaces) (checked : is_che
       let there = procedure_there program number p h in
       let fits = fit.each number p h in
       let stand = fits.stand.stand in
+      let named = fits.stand.named in
       let spot = place_at a.places in
       let enters : ℕ → Bool = fits.stand.enters in
       let enough = front_true (nat_lt slots p.frame) (code_finds slots p.frame (from_stack 0) (code_of p.body)) fits.finds in
@@ -70,8 +74,19 @@ module _ (program : MidProgram) (chosen : List RegisterPlaces) (checked : is_che
         entered = λ v.
             subst (λ ps. IsPlace (slots + 1) (place_at ps v)) (sym fits.stand.entry) (parameter_placed spot enters (slots + 1) stand.places 0 p.parameters v);
         parameters = omega (arith, most, low, count);
-        lines = λ line x e. all_at (line_fits q.registers (length q.lines)) q.lines line x lines e;
-        passed = λ line x e. let w = passed_within q.lines line x e in omega (arith, most, low, w);
+        names = fits.stand.names;
+        lines = λ line y g.
+            let x = there_of a.lines q.lines line y (sym named.count) g in
+            let n = named.each line x.0 y x.1 g in
+            subst (λ z. line_fits fits.stand.names (length q.lines) z ≡ true) (sym n.is)
+            (named_fits q.registers fits.stand.names (read_name x.0 y) (given_name y) (length q.lines) x.0
+            (all_at (line_fits q.registers (length q.lines)) q.lines line x.0 lines x.1) (λ v h. (n.reads v h).1) (λ to h. (n.gives to h).1));
+        passed = λ line y g.
+            let x = there_of a.lines q.lines line y (sym named.count) g in
+            let n = named.each line x.0 y x.1 g in
+            let w = passed_within q.lines line x.0 x.1 in
+            let same : passed_by y ≡ passed_by x.0 = ap passed_by n.is ∙ passed_named (read_name x.0 y) (given_name y) x.0 in
+            omega (arith, most, low, w, same);
       }
 
   fits_there :

@@ -39,10 +39,10 @@ use Rattle.back_program_code.proofs.Shaped.{places_fit}
 use Rattle.back_program_code.proofs.Ways.{way_past}
 use Rattle.back_program_code.proofs.ShapedImage.{far, far_is, near, near_is, nears}
 
-module _ (program : MidProgram) (chosen : List RegisterPlaces) (checked : is_checked_program program ≡ true) where
+module _ (program : MidProgram) (chosen : List RegisterPlaces) (checked : is_checked_program program ≡ true) (fit : PlacesFit program chosen) where
   pub far_end_is :
       far_end program chosen ≡ code_end (front_of program) (all_lefts (front_of program) [] (shapes_of program chosen)) (shapes_of program chosen)
-  far_end_is = end_same program chosen (far program chosen checked) [] (far_is program chosen checked)
+  far_end_is = end_same program chosen (far program chosen checked fit) [] (far_is program chosen checked fit) fit
 
   pub first_before : first_position (front_of program) ≤ far_end program chosen
   first_before = let e = far_end_is in omega (arith, e)
@@ -51,19 +51,19 @@ module _ (program : MidProgram) (chosen : List RegisterPlaces) (checked : is_che
   pub near_before : code_end (front_of program) (near_lefts (front_of program) (shapes_of program chosen)) (shapes_of program chosen) ≤ far_end program chosen
   near_before =
       let P = program_lines program in
-      let e = end_same program chosen (near program chosen checked) (nears program chosen checked) (near_is program chosen checked) in
+      let e = end_same program chosen (near program chosen checked fit) (nears program chosen checked fit) (near_is program chosen checked fit) fit in
       let l = with_front P (placed_decided program chosen) in
-      let smaller = code_smaller l (near program chosen checked) 0 P.procedures in
+      let smaller = code_smaller l (near program chosen checked fit) 0 P.procedures in
       omega (arith, e, smaller)
 
 -- where code ends in what a plan is made of
-module _ (program : MidProgram) (chosen : List RegisterPlaces) (checked : is_checked_program program ≡ true) (f : Front) (shapes : List Shape) (front_is : f ≡ front_of program) (shapes_are : shapes ≡ shapes_of program chosen) where
+module _ (program : MidProgram) (chosen : List RegisterPlaces) (checked : is_checked_program program ≡ true) (fit : PlacesFit program chosen) (f : Front) (shapes : List Shape) (front_is : f ≡ front_of program) (shapes_are : shapes ≡ shapes_of program chosen) where
   pub far_long : (lefts : List (List ℕ)) → lefts ≡ all_lefts f [] shapes → 2 ^ 24 ≤ code_end f lefts shapes → 2 ^ 24 ≤ far_end program chosen
   far_long lefts e long =
       let same =
       ap (λ l. code_end f l shapes) e ∙ ap (λ k. code_end k (all_lefts k [] shapes) shapes) front_is
       ∙ ap (λ ss. code_end (front_of program) (all_lefts (front_of program) [] ss) ss) shapes_are in
-      let far_is_end = far_end_is program chosen checked in
+      let far_is_end = far_end_is program chosen checked fit in
       omega (arith, same, far_is_end, long)
 
   pub near_long : (lefts : List (List ℕ)) → lefts ≡ near_lefts f shapes → 2 ^ 24 ≤ code_end f lefts shapes → 2 ^ 24 ≤ far_end program chosen
@@ -71,7 +71,7 @@ module _ (program : MidProgram) (chosen : List RegisterPlaces) (checked : is_che
       let same =
       ap (λ l. code_end f l shapes) e ∙ ap (λ k. code_end k (near_lefts k shapes) shapes) front_is
       ∙ ap (λ ss. code_end (front_of program) (near_lefts (front_of program) ss) ss) shapes_are in
-      let before = near_before program chosen checked in
+      let before = near_before program chosen checked fit in
       omega (arith, same, before, long)
 
 -- a way that is not near is deep, where the frame is found
@@ -170,5 +170,5 @@ module _ (program : MidProgram) (shapes : List Shape) (a : AreShapesOf program.p
 
   pub front_large : is_checked_program program ≡ true → 2 ^ 24 ≤ first_position (front_of program) → e ≡ image.TooLarge → IsTooLarge program
   front_large checked h large =
-      let b = first_before program (chosen_in shapes) checked in
+      let b = first_before program (chosen_in shapes) checked (places_fit program shapes a) in
       inl (record { chosen = chosen_in shapes; fit = places_fit program shapes a; long = omega (arith, b, h) })

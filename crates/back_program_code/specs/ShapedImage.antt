@@ -8,6 +8,7 @@ use Rattle.mid_lines.specs.declared.line.Line.{Line}
 use Rattle.back_places.specs.Selection.{far_jump_code}
 use Rattle.back_places.specs.Blocks.{end_code, full_code}
 use Rattle.back_allocation.specs.declared.placing.RegisterPlaces.{RegisterPlaces}
+use Rattle.back_allocation.specs.ProgramPlaces.{PlacesFit}
 use Rattle.back_layout.specs.Sizes.{switch_targets, all_targets}
 use Rattle.back_layout.specs.ChosenPlaces.{placed_laid_out}
 use Rattle.back_emit.specs.declared.spots.Spot.{Spot}
@@ -22,7 +23,7 @@ use Rattle.back_program_code.specs.Shapes.{shapes_of, front_of, listed, full_pos
 module _ (f : Front) (entries : List ℕ) (at : ℕ) (nears : List Bool) (lefts : List ℕ) (s : Shape) where
   -- the table of a line's switch stands behind the lines, and behind the tables of earlier lines
   abbrev pub table_position : (line : ℕ) → ℕ
-  table_position line = body_position f at s + slice_index lefts 0 + length (all_targets (take line s.procedure.lines))
+  table_position line = body_position f at s + slice_index lefts 0 + length (all_targets (take line s.chosen.lines))
 
   abbrev pub line_spot : (line : ℕ) → Line → Spot
   line_spot line x = spot_in f entries at nears lefts s (table_position line) line x
@@ -33,13 +34,13 @@ module _ (f : Front) (entries : List ℕ) (at : ℕ) (nears : List Bool) (lefts 
   -- the instructions of a procedure, and the words of its tables
   abbrev pub shape_code : List Instr
   shape_code =
-      placed_entry (full_position f) f.arguments_at at s.procedure.frame s.chosen.parameters ++ joined line_instructions 0 s.procedure.lines
+      placed_entry (full_position f) f.arguments_at at s.procedure.frame s.chosen.parameters ++ joined line_instructions 0 s.chosen.lines
 
   abbrev pub line_table : (line : ℕ) → Line → List ℕ
   line_table line x = map (λ to. 4 * line_position lefts (body_position f at s) to) (switch_targets x)
 
   abbrev pub shape_image : List ℕ
-  shape_image = map word_of shape_code ++ joined line_table 0 s.procedure.lines
+  shape_image = map word_of shape_code ++ joined line_table 0 s.chosen.lines
 
 module _ (f : Front) (entries : List ℕ) (nears : List (List Bool)) (lefts : List (List ℕ)) where
   abbrev pub numbered_image : (number : ℕ) → Shape → List ℕ
@@ -62,10 +63,11 @@ shaped_image program chosen entry =
     (near_lefts (front_of program) (shapes_of program chosen)))
     0 (shapes_of program chosen)
 
--- for a program in form this is its image with these places, whatever they are, and it ends where the image does
+-- for a program in form this is its image with these places, which fit it, and it ends where the image does
 abbrev pub LawOfShapedImage : Type 0
 LawOfShapedImage =
-    (program : MidProgram) (chosen : List RegisterPlaces) (entry : ℕ) → is_checked_program program ≡ true → entry < length program.procedures
+    (program : MidProgram) (chosen : List RegisterPlaces) (entry : ℕ) → is_checked_program program ≡ true → PlacesFit program chosen
+    → entry < length program.procedures
     → (shaped_image program chosen entry ≡ emitted program chosen entry)
     × (code_end (front_of program) (near_lefts (front_of program) (shapes_of program chosen)) (shapes_of program chosen)
     ≡ (placed_laid_out program chosen).code_to)

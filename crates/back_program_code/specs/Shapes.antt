@@ -33,7 +33,7 @@ use Rattle.back_program_code.specs.Joined.{joined}
 abbrev pub body_ways : MidProcedure → List FrameWay
 body_ways p = code_ways (FromStack 0) (code_of p.body) ++ FromStack 0 ∷ []
 
--- A procedure as lines, with the ways, and with the places that are chosen for its registers.
+-- A procedure as lines, with the ways, and with the places that are chosen for its registers; code is made of the lines with names.
 abbrev pub shape_of : RegisterPlaces → MidProcedure → Shape
 shape_of a p = record { procedure = procedure_lines p; ways = body_ways p; chosen = a }
 
@@ -94,11 +94,11 @@ module _ (f : Front) where
 
   -- how many are left from each line on
   abbrev pub shape_lefts : (nears : List Bool) → Shape → List ℕ
-  shape_lefts nears s = placed_rests s.chosen.places (sizing_of s) s.ways nears 0 s.procedure.lines
+  shape_lefts nears s = placed_rests s.chosen.places (sizing_of s) s.ways nears 0 s.chosen.lines
 
   -- how many a procedure has
   abbrev pub shape_words : (lefts : List ℕ) → Shape → ℕ
-  shape_words lefts s = entry_words s + slice_index lefts 0 + length (all_targets s.procedure.lines)
+  shape_words lefts s = entry_words s + slice_index lefts 0 + length (all_targets s.chosen.lines)
 
   -- what is left in each procedure, where these jumps are near
   abbrev pub all_lefts : (nears : List (List Bool)) → List Shape → List (List ℕ)
@@ -128,7 +128,7 @@ module _ (f : Front) where
 
   -- which jumps are near, where what is left was counted with none that is
   abbrev pub shape_nears : (entries : List ℕ) → (at : ℕ) → (lefts : List ℕ) → Shape → List Bool
-  shape_nears entries at lefts s = joined (λ line x. placed_is_near s.chosen.places (spot_in entries at [] lefts s 0 line x) x ∷ []) 0 s.procedure.lines
+  shape_nears entries at lefts s = joined (λ line x. placed_is_near s.chosen.places (spot_in entries at [] lefts s 0 line x) x ∷ []) 0 s.chosen.lines
 
   abbrev pub all_nears : (lefts : List (List ℕ)) → (entries : List ℕ) → List Shape → List (List Bool)
   all_nears lefts entries shapes =
@@ -167,8 +167,9 @@ pub record FitsShape (f : Front) (s : Shape) : Type 0 where
   pub placed : (v : ℕ) → IsPlace (s.chosen.slots + 1) (place_at s.chosen.places v)
   pub entered : (v : ℕ) → IsPlace (s.chosen.slots + 1) (place_at s.chosen.parameters v)
   pub parameters : f.arguments_at + length s.chosen.parameters ≤ 2 ^ 24
-  pub lines : (line : ℕ) (x : Line) → slice_get s.procedure.lines line ≡ Some x → line_fits s.procedure.registers (length s.procedure.lines) x ≡ true
-  pub passed : (line : ℕ) (x : Line) → slice_get s.procedure.lines line ≡ Some x → f.arguments_at + passed_by x ≤ 2 ^ 24
+  pub names : ℕ
+  pub lines : (line : ℕ) (x : Line) → slice_get s.chosen.lines line ≡ Some x → line_fits names (length s.procedure.lines) x ≡ true
+  pub passed : (line : ℕ) (x : Line) → slice_get s.chosen.lines line ≡ Some x → f.arguments_at + passed_by x ≤ 2 ^ 24
 
 abbrev pub EachShapeFits : Front → List Shape → Type 0
 EachShapeFits f shapes = (number : ℕ) (s : Shape) → slice_get shapes number ≡ Some s → FitsShape f s

@@ -97,7 +97,7 @@ pub fn shape_words(
     if 16_777_216 <= left {
         return Err(EmitError::TooLarge);
     }
-    let tables = table_words(&shape.procedure.lines)?;
+    let tables = table_words(&shape.chosen.lines)?;
     Ok(entry + left + tables)
 }
 
@@ -113,14 +113,14 @@ pub fn shape_lefts(
     ensures err { IfErr result (λ e. e ≡ TooLarge → 2 ^ 24 ≤ slice_index (shape_lefts front nears.now shape.now) 0) }
 {
     let sizing = sizing_of(front, shape);
-    let _count = shape.procedure.lines.as_slice().len();
+    let _count = shape.chosen.lines.as_slice().len();
     rests_of(
         alloc,
         &shape.chosen.places,
         sizing,
         &shape.ways,
         nears,
-        &shape.procedure.lines,
+        &shape.chosen.lines,
     )
 }
 

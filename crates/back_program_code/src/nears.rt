@@ -100,9 +100,9 @@ pub fn shape_nears(
     let mut scratch = CodeList::new(alloc);
     let body = body_position(&mut scratch, front, at, lefts, shape)?;
     let sizing = sizing_of(front, shape);
-    let count = shape.procedure.lines.as_slice().len();
+    let count = shape.chosen.lines.as_slice().len();
     for i in 0..count {
-        let Some(line) = shape.procedure.lines.get(i) else {
+        let Some(line) = shape.chosen.lines.get(i) else {
             unreachable!()
         };
         let spot = placed_spot(sizing, &shape.ways, &none, lefts, entries, body, i, 0, line);

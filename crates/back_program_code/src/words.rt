@@ -44,17 +44,17 @@ pub fn put_lines(
     shape: &Shape,
 ) -> Result<(), EmitError>
     requires { FitsShape front shape.now × (at + shape_words front lefts.now shape.now < 2 ^ 24) × AreLow entries.now }
-    ensures ok { OnOk result (code.new ≡ code.old ++ joined (line_instructions front entries.now at nears.now lefts.now shape.now) 0 shape.now.procedure.lines) }
+    ensures ok { OnOk result (code.new ≡ code.old ++ joined (line_instructions front entries.now at nears.now lefts.now shape.now) 0 shape.now.chosen.lines) }
     ensures err { IfErr result (λ e. e ≡ TooLarge →
-        2 ^ 24 ≤ length (joined (line_instructions front entries.now at nears.now lefts.now shape.now) 0 shape.now.procedure.lines)) }
+        2 ^ 24 ≤ length (joined (line_instructions front entries.now at nears.now lefts.now shape.now) 0 shape.now.chosen.lines)) }
 {
     let mut scratch = CodeList::new(alloc);
     let body = body_position(&mut scratch, front, at, lefts, shape)?;
     let sizing = sizing_of(front, shape);
     let mut table = body + left_at(lefts, 0) as u32;
-    let count = shape.procedure.lines.as_slice().len();
+    let count = shape.chosen.lines.as_slice().len();
     for i in 0..count {
-        let Some(line) = shape.procedure.lines.get(i) else {
+        let Some(line) = shape.chosen.lines.get(i) else {
             unreachable!()
         };
         let spot = placed_spot(
@@ -120,12 +120,12 @@ pub fn put_tables(
     shape: &Shape,
 ) -> Result<(), NoMemory>
     requires { FitsShape front shape.now × (at + shape_words front lefts.now shape.now < 2 ^ 24) }
-    ensures { OnOk result (words.new ≡ words.old ++ joined (line_table front entries.now at nears.now lefts.now shape.now) 0 shape.now.procedure.lines) }
+    ensures { OnOk result (words.new ≡ words.old ++ joined (line_table front entries.now at nears.now lefts.now shape.now) 0 shape.now.chosen.lines) }
 {
     let mut scratch = CodeList::new(alloc);
     let body = body_position(&mut scratch, front, at, lefts, shape)?;
-    for i in 0..shape.procedure.lines.len() {
-        let Some(line) = shape.procedure.lines.get(i) else {
+    for i in 0..shape.chosen.lines.len() {
+        let Some(line) = shape.chosen.lines.get(i) else {
             unreachable!()
         };
         put_table(words, lefts, body, line)?;

@@ -6,16 +6,38 @@ ghost use Rattle.back_scan.specs.Scanned.{IsTaken, IsFree, IsLater, taken_of};
 
 use crate::spot::Wish;
 
-/// A value register that is free from the line on and that may be had; none where all of those are taken at it.
-pub fn free_register(taken: &[Option<usize>], wish: Wish, line: usize) -> Option<usize>
+/// A value register that is free from the line on and that may be had, one of them tried first; none where all of those are taken at it.
+pub fn free_register(
+    taken: &[Option<usize>],
+    wish: Wish,
+    first: Option<usize>,
+    line: usize,
+) -> Option<usize>
     requires { 14 ≤ length taken.now }
     ensures { MatchOption result ((r : ℕ) → Allows wish r → IsTaken (taken_of taken.now r) line)
         (λ r. Allows wish r × IsFree (taken_of taken.now r) line) }
 {
     match wish {
-        Wish::Any => first_free(taken, line),
+        Wish::Any => first_or_any(taken, first, line),
         Wish::Only(r) => only_if_free(taken, r, line),
         Wish::InSlot => None,
+    }
+}
+
+fn first_or_any(taken: &[Option<usize>], first: Option<usize>, line: usize) -> Option<usize>
+    requires { 14 ≤ length taken.now }
+    ensures { MatchOption result ((r : ℕ) → r < 14 → IsTaken (taken_of taken.now r) line)
+        (λ r. (r < 14) × IsFree (taken_of taken.now r) line) }
+{
+    match first {
+        Some(r) => {
+            if r < 14 && is_free(taken[r], line) {
+                Some(r)
+            } else {
+                first_free(taken, line)
+            }
+        }
+        None => first_free(taken, line),
     }
 }
 

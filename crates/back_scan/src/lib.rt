@@ -9,4 +9,4 @@ pub mod scan;
 pub mod spot;
 
 pub use scan::linear_scan;
-pub use spot::{Allocation, Spot, Wish, WishList};
+pub use spot::{Allocation, Hint, HintList, Spot, Wish, WishList};

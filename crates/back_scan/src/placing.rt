@@ -10,7 +10,7 @@ ghost use Rattle.back_scan.specs.declared.spot.Wish.TheVariants.{InSlot};
 use crate::choosing::{free_register, is_free, later};
 use crate::entries::Entry;
 use crate::leaving::Leaving;
-use crate::spot::{Spot, Wish, WishList};
+use crate::spot::{Hint, HintList, Spot, Wish, WishList};
 use back_liveness::IntervalList;
 use base::NoMemory;
 
@@ -18,6 +18,7 @@ use base::NoMemory;
 pub fn place_entry(
     intervals: &IntervalList,
     wishes: &WishList,
+    hints: &HintList,
     entry: Entry,
     spots: &mut [Option<Spot>],
     taken: &mut Vec<Option<usize>>,
@@ -36,6 +37,7 @@ pub fn place_entry(
             let spot = choose(
                 spots,
                 wish_of(wishes, entry.register),
+                first_for(spots, hints, entry.register),
                 entry.interval.from,
                 taken,
                 leaving,
@@ -53,6 +55,29 @@ fn wish_of(wishes: &WishList, register: usize) -> Wish
     match wishes.get(register) {
         Some(wish) => *wish,
         None => Wish::InSlot,
+    }
+}
+
+// The value register that is tried first for a register.
+fn first_for(spots: &[Option<Spot>], hints: &HintList, register: usize) -> Option<usize> {
+    match hints.get(register) {
+        Some(Hint::Held(number)) => Some(*number),
+        Some(Hint::With(other)) => held_by(spots, *other),
+        Some(Hint::Nothing) => None,
+        None => None,
+    }
+}
+
+// The value register in which a register stands, if it has one by now.
+fn held_by(spots: &[Option<Spot>], register: usize) -> Option<usize> {
+    if register < spots.len() {
+        let spot = spots[register];
+        match spot {
+            Some(Spot::Held(number)) => Some(number),
+            _ => None,
+        }
+    } else {
+        None
     }
 }
 
@@ -84,6 +109,7 @@ fn rank(spot: Spot) -> usize
 fn choose(
     spots: &[Option<Spot>],
     wish: Wish,
+    first: Option<usize>,
     line: usize,
     taken: &mut Vec<Option<usize>>,
     leaving: &mut Leaving,
@@ -92,7 +118,7 @@ fn choose(
     ensures chosen { IfOk result (λ p. IsChosen wish taken.new.items line p) }
     ensures same { IsSame taken.old.items taken.new.items }
 {
-    match free_register(taken.as_slice(), wish, line) {
+    match free_register(taken.as_slice(), wish, first, line) {
         Some(r) => Ok(Spot::Held(r)),
         None => {
             let slot = free_slot(taken, leaving.slot_before(spots, line)?, line)?;

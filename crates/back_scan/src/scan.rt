@@ -10,18 +10,19 @@ ghost use Rattle.back_scan.specs.Run.{HasScanned};
 use crate::entries::{Entry, by_beginnings, by_ends};
 use crate::leaving::Leaving;
 use crate::placing::place_entry;
-use crate::spot::{Allocation, Spot, WishList};
+use crate::spot::{Allocation, HintList, Spot, WishList};
 use back_liveness::IntervalList;
 use base::NoMemory;
 use std::alloc::Global;
 
 /// Where registers with these intervals stand. Intervals of registers that stand in one place have no line in common; each register stands as
 /// it asks; and it is in a slot only where, at the line at which its interval begins, others stand in all value registers that it may
-/// have.
+/// have. Hints decide which of the value registers that are free a register gets.
 pub fn linear_scan(
     alloc: Global,
     intervals: &IntervalList,
     wishes: &WishList,
+    hints: &HintList,
 ) -> Result<Allocation, NoMemory>
     requires { length wishes.now ≡ length intervals.now }
     ensures { IfOk result (λ a. StandWell intervals.now wishes.now a.spots.items a.slots) }
@@ -37,6 +38,7 @@ pub fn linear_scan(
     place_all(
         intervals,
         wishes,
+        hints,
         entries.as_slice(),
         spots.as_mut_slice(),
         &mut taken,
@@ -66,6 +68,7 @@ fn nothing_taken(alloc: Global) -> Result<Vec<Option<usize>>, NoMemory>
 fn place_all(
     intervals: &IntervalList,
     wishes: &WishList,
+    hints: &HintList,
     entries: &[Entry],
     spots: &mut [Option<Spot>],
     taken: &mut Vec<Option<usize>>,
@@ -80,7 +83,7 @@ fn place_all(
     let mut line = 0;
     for at in 0..entries.len() {
         let entry = entries[at];
-        place_entry(intervals, wishes, entry, spots, taken, leaving)?;
+        place_entry(intervals, wishes, hints, entry, spots, taken, leaving)?;
         line = entry.interval.from;
     }
     Ok(())

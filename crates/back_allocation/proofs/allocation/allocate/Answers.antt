@@ -1,6 +1,7 @@
-use Rattle.std.proofs.Common.{ℕ, List, subst}
+use Rattle.std.proofs.Common.{ℕ, List, Option, subst}
 use Rattle.back_liveness.specs.declared.barrier.Barrier.{Barrier}
 use Rattle.back_liveness.specs.Liveness.{Covers}
+use Rattle.back_allocation.specs.Constants.{AreKept}
 use Rattle.back_allocation.specs.LineSteps.{landings_in, steps_from}
 use Rattle.back_allocation.proofs.Choosing.{chosen_well}
 use Rattle.back_allocation.proofs.allocation.allocate.Goals as goal
@@ -15,6 +16,9 @@ returns-clause-chosen c =
     let covers =
     subst (λ (b : List Barrier). Covers (steps_from landings 0 c.args.lines.now) b found crossed) c.as_slice.ensures.value
     (subst (λ s. Covers s c.as_slice.result.now found crossed) c.in_ok-steps.ensures c.in_ok-found.ensures.covers) in
-    chosen_well c.args.lines.now c.args.parameters landings c.args.registers found crossed barriers wishes c.in_ok-allocation.allocation.spots.items
-    c.in_ok-allocation.allocation.slots c.in_ok-found.ensures.count covers c.in_ok-barriers.ensures c.in_ok-wishes.ensures.hold c.in_ok-allocation.ensures
-    c.requires.registers c.requires.parameters
+    let more = subst (λ s. Covers s c.args.overwritten.now c.in_ok-again.again.intervals c.in_ok-again.again.crossed) c.in_ok-steps.ensures c.in_ok-again.ensures.covers in
+    chosen_well c.args.lines.now c.args.parameters landings c.args.registers found c.in_ok-again.again.intervals c.in_ok-kept.kept crossed c.in_ok-again.again.crossed
+    barriers c.args.overwritten.now c.in_ok-constants.constants.items wishes c.in_ok-allocation.allocation.spots.items c.in_ok-allocation.allocation.slots
+    c.in_ok-found.ensures.count c.in_ok-again.ensures.count covers more c.in_ok-barriers.ensures c.in_ok-constants.ensures
+    (subst (λ (k : List (Option ℕ)). AreKept k found c.in_ok-kept.kept) c.as_slice-2.ensures.value c.in_ok-kept.ensures)
+    c.in_ok-wishes.ensures.hold c.in_ok-allocation.ensures c.requires.registers c.requires.parameters c.none_told-is_clear.result c.none_told-is_clear.ensures

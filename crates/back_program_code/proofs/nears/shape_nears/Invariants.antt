@@ -7,4 +7,4 @@ use Rattle.back_program_code.proofs.nears.shape_nears.Given as goal
 
 abbrev pub invariant-loop-i : goal.invariant-loop-i
 invariant-loop-i l =
-    l.nears ≡ joined (λ line x. placed_is_near l.shape.chosen.places (spot_in l.fn.front l.entries l.fn.at [] l.lefts l.shape 0 line x) x ∷ []) 0 (take l.i l.shape.procedure.lines)
+    l.nears ≡ joined (λ line x. placed_is_near l.shape.chosen.places (spot_in l.fn.front l.entries l.fn.at [] l.lefts l.shape 0 line x) x ∷ []) 0 (take l.i l.shape.chosen.lines)

@@ -43,7 +43,7 @@ returns-in_err-far-clause-err c =
     let s = c.args.shapes in
     search (
       rules,
-      far_long c.args.program.now (chosen_in s) c.requires.0 f s c.requires.3 c.requires.2 (all_lefts f c.new-none.result s) (ap (λ n. all_lefts f n s) c.new-none.ensures),
+      far_long c.args.program.now (chosen_in s) c.requires.0 c.requires.1 f s c.requires.3 c.requires.2 (all_lefts f c.new-none.result s) (ap (λ n. all_lefts f n s) c.new-none.ensures),
     )
 
 pub returns-in_err-far_entries-clause-err : goal.returns-in_err-far_entries-clause-err
@@ -51,7 +51,7 @@ returns-in_err-far_entries-clause-err c =
     let f = c.args.front in
     let s = c.args.shapes in
     let far : c.in_ok-far.far ≡ all_lefts f [] s = c.in_ok-far.ensures.is ∙ ap (λ n. all_lefts f n s) c.new-none.ensures in
-    search (rules, far_long c.args.program.now (chosen_in s) c.requires.0 f s c.requires.3 c.requires.2 c.in_ok-far.far far)
+    search (rules, far_long c.args.program.now (chosen_in s) c.requires.0 c.requires.1 f s c.requires.3 c.requires.2 c.in_ok-far.far far)
 
 pub returns-in_err-lefts-clause-err : goal.returns-in_err-lefts-clause-err
 returns-in_err-lefts-clause-err c =
@@ -63,7 +63,7 @@ returns-in_err-lefts-clause-err c =
     c.in_ok-nears.ensures ∙ ap (λ l. all_nears f l c.in_ok-far_entries.far_entries s) far ∙ ap (λ e. all_nears f (all_lefts f [] s) e s) far_entries in
     search (
       rules,
-      near_long c.args.program.now (chosen_in s) c.requires.0 f s c.requires.3 c.requires.2 (all_lefts f c.in_ok-nears.nears s) (ap (λ n. all_lefts f n s) nears),
+      near_long c.args.program.now (chosen_in s) c.requires.0 c.requires.1 f s c.requires.3 c.requires.2 (all_lefts f c.in_ok-nears.nears s) (ap (λ n. all_lefts f n s) nears),
     )
 
 pub returns-in_err-entries-clause-err : goal.returns-in_err-entries-clause-err
@@ -75,4 +75,4 @@ returns-in_err-entries-clause-err c =
     let nears : c.in_ok-nears.nears ≡ near_jumps f s =
     c.in_ok-nears.ensures ∙ ap (λ l. all_nears f l c.in_ok-far_entries.far_entries s) far ∙ ap (λ e. all_nears f (all_lefts f [] s) e s) far_entries in
     let lefts : c.in_ok-lefts.lefts ≡ near_lefts f s = c.in_ok-lefts.ensures.is ∙ ap (λ n. all_lefts f n s) nears in
-    search (rules, near_long c.args.program.now (chosen_in s) c.requires.0 f s c.requires.3 c.requires.2 c.in_ok-lefts.lefts lefts)
+    search (rules, near_long c.args.program.now (chosen_in s) c.requires.0 c.requires.1 f s c.requires.3 c.requires.2 c.in_ok-lefts.lefts lefts)

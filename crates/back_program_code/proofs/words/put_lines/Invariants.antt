@@ -6,5 +6,5 @@ use Rattle.back_program_code.proofs.words.put_lines.Given as goal
 
 abbrev pub invariant-loop-i : goal.invariant-loop-i
 invariant-loop-i l =
-    (l.code ≡ l.fn.code ++ joined (line_instructions l.fn.front l.entries l.fn.at l.nears l.lefts l.shape) 0 (take l.i l.shape.procedure.lines))
+    (l.code ≡ l.fn.code ++ joined (line_instructions l.fn.front l.entries l.fn.at l.nears l.lefts l.shape) 0 (take l.i l.shape.chosen.lines))
     × (l.table ≡ table_position l.fn.front l.entries l.fn.at l.nears l.lefts l.shape l.i)

@@ -6,4 +6,4 @@ use Rattle.back_program_code.proofs.words.put_tables.Given as goal
 
 abbrev pub invariant-loop-i : goal.invariant-loop-i
 invariant-loop-i l =
-    l.words ≡ l.fn.words ++ joined (line_table l.fn.front l.fn.entries l.fn.at l.fn.nears l.lefts l.shape) 0 (take l.i l.shape.procedure.lines)
+    l.words ≡ l.fn.words ++ joined (line_table l.fn.front l.fn.entries l.fn.at l.fn.nears l.lefts l.shape) 0 (take l.i l.shape.chosen.lines)

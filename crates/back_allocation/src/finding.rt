@@ -1,0 +1,353 @@
+// Names for the registers of a procedure, so that each word that is given to a register may have a place of its own. Reads of a register
+// that a word may reach have the name to which it is given. Nothing rests on that: whether names say what registers have is tested.
+
+ghost use Rattle.std.specs.Prelude.{◌≡◌, length};
+
+use crate::names::{Names, number_at};
+use crate::steps::{LandingsList, steps_of};
+use back_liveness::{Step, StepList};
+use base::NoMemory;
+use mid_code::Register;
+use mid_lines::LineProcedure;
+use std::alloc::Global;
+
+// No name.
+const NONE: usize = usize::MAX;
+
+// What is found so far: the names with their owners, which names are one, and those of the reads and of the given words of lines; where the
+// reads of a line stand; the first and the last line with a point of a register, and the last line from which one comes back to a line. Of
+// the register that is looked at: its name at each line, and at heads of loops.
+#[derive(Drop)]
+struct Finding {
+    owners: Vec<usize>,
+    parents: Vec<usize>,
+    starts: Vec<usize>,
+    ends: Vec<usize>,
+    reads: Vec<usize>,
+    given: Vec<usize>,
+    bases: Vec<usize>,
+    firsts: Vec<usize>,
+    lasts: Vec<usize>,
+    latest: Vec<usize>,
+    here: Vec<usize>,
+    heads: Vec<usize>,
+}
+
+/// Names for the registers of a procedure, at whose lines records with these landings stand.
+pub fn names_of(
+    alloc: Global,
+    procedure: &LineProcedure,
+    landings: &LandingsList,
+) -> Result<Names, NoMemory> {
+    let steps = steps_of(alloc, &procedure.lines, landings)?;
+    let mut finding = begun(alloc, &steps, procedure.registers)?;
+    let parameters = procedure.parameters;
+    for line in 0..steps.len() {
+        add_points(&mut finding, &steps, line);
+    }
+    for register in 0..procedure.registers {
+        if register < parameters {
+            set_at(finding.firsts.as_mut_slice(), register, 0);
+        }
+        let start = finding.owners.len();
+        finding.starts.push(start)?;
+        find_names(&mut finding, &steps, register)?;
+        let end = finding.owners.len();
+        finding.ends.push(end)?;
+    }
+    settle(&mut finding);
+    Ok(names_found(finding))
+}
+
+fn names_found(finding: Finding) -> Names {
+    let Finding {
+        owners,
+        starts,
+        ends,
+        reads,
+        given,
+        ..
+    } = finding;
+    Names {
+        owners,
+        starts,
+        ends,
+        reads,
+        given,
+    }
+}
+
+// Nothing is found yet: each register has itself for a name.
+fn begun(alloc: Global, steps: &StepList, registers: usize) -> Result<Finding, NoMemory> {
+    let lines = steps.len();
+    let mut bases = Vec::new(alloc);
+    let mut reads = Vec::new(alloc);
+    for line in 0..lines {
+        bases.push(reads.len())?;
+        if let Some(step) = steps.get(line) {
+            for _read in step.reads.as_slice() {
+                reads.push(0)?;
+            }
+        }
+    }
+    Ok(Finding {
+        owners: counted(alloc, registers)?,
+        parents: counted(alloc, registers)?,
+        starts: Vec::new(alloc),
+        ends: Vec::new(alloc),
+        reads,
+        given: filled(alloc, lines, 0)?,
+        bases,
+        firsts: filled(alloc, registers, NONE)?,
+        lasts: filled(alloc, registers, 0)?,
+        latest: counted(alloc, lines)?,
+        here: filled(alloc, lines, NONE)?,
+        heads: filled(alloc, lines, NONE)?,
+    })
+}
+
+fn filled(alloc: Global, count: usize, number: usize) -> Result<Vec<usize>, NoMemory> {
+    Ok(vec![in alloc; number; count]?)
+}
+
+fn counted(alloc: Global, count: usize) -> Result<Vec<usize>, NoMemory> {
+    let mut list = Vec::new(alloc);
+    for number in 0..count {
+        list.push(number)?;
+    }
+    Ok(list)
+}
+
+// The number stands there from now on; nothing changes behind the end.
+fn set_at(list: &mut [usize], at: usize, number: usize)
+    ensures { length list.new ≡ length list.old }
+{
+    if at < list.len() {
+        list[at] = number;
+    }
+}
+
+// The points of a line, and the lines to which one comes back from it.
+fn add_points(finding: &mut Finding, steps: &StepList, line: usize) {
+    if let Some(step) = steps.get(line) {
+        for register in step.reads.as_slice() {
+            add_point(finding, *register, line);
+        }
+        if let Some(register) = step.written {
+            add_point(finding, register, line);
+        }
+        for target in step.aside.as_slice() {
+            if *target <= line {
+                set_at(finding.latest.as_mut_slice(), *target, line);
+            }
+        }
+    }
+}
+
+fn add_point(finding: &mut Finding, register: Register, line: usize) {
+    if line < number_at(finding.firsts.as_slice(), register) {
+        set_at(finding.firsts.as_mut_slice(), register, line);
+    }
+    set_at(finding.lasts.as_mut_slice(), register, line);
+}
+
+// The names of a register, from its last line back to its first one.
+fn find_names(finding: &mut Finding, steps: &StepList, register: Register) -> Result<(), NoMemory> {
+    let first = number_at(finding.firsts.as_slice(), register);
+    let last = last_line(
+        finding,
+        first,
+        number_at(finding.lasts.as_slice(), register),
+    );
+    if last < first || steps.len() <= last {
+        return Ok(());
+    }
+    for back in 0..last - first {
+        look(finding, steps, register, first, last, last - back)?;
+    }
+    look(finding, steps, register, first, last, first)?;
+    let name = number_at(finding.here.as_slice(), first);
+    if name != NONE {
+        let _one = joined(finding, name, register);
+    }
+    Ok(())
+}
+
+// The last line of loops around the lines from one to another.
+fn last_line(finding: &Finding, first: usize, last: usize) -> usize {
+    let latest = finding.latest.as_slice();
+    let mut end = last;
+    if last < latest.len() {
+        for line in first..last + 1 {
+            if line < latest.len() {
+                end = end.max(latest[line]);
+            }
+        }
+    }
+    end
+}
+
+// The name of the register at a line.
+fn look(
+    finding: &mut Finding,
+    steps: &StepList,
+    register: Register,
+    first: usize,
+    last: usize,
+    line: usize,
+) -> Result<(), NoMemory> {
+    let Some(step) = steps.get(line) else {
+        return Ok(());
+    };
+    let behind = name_behind(finding, step, last, line);
+    let mut name = if writes(step, register) {
+        set_given(finding, register, line, behind)?;
+        NONE
+    } else {
+        behind
+    };
+    for target in step.aside.as_slice() {
+        name = with_target(finding, register, first, last, line, *target, name)?;
+    }
+    if step.reads.as_slice().contains(&register) {
+        name = with_read(finding, step, register, line, name)?;
+    }
+    let head = number_at(finding.heads.as_slice(), line);
+    if head != NONE && name != NONE {
+        name = joined(finding, name, head);
+    }
+    set_at(finding.heads.as_mut_slice(), line, NONE);
+    set_at(finding.here.as_mut_slice(), line, name);
+    Ok(())
+}
+
+fn writes(step: &Step, register: Register) -> bool {
+    match step.written {
+        Some(written) => written == register,
+        None => false,
+    }
+}
+
+// The name behind a line, if it goes on to the next one.
+fn name_behind(finding: &Finding, step: &Step, last: usize, line: usize) -> usize {
+    if step.falls && line < last {
+        number_at(finding.here.as_slice(), line + 1)
+    } else {
+        NONE
+    }
+}
+
+// The word that a line gives has the name behind it, or one that nothing reads.
+fn set_given(
+    finding: &mut Finding,
+    register: Register,
+    line: usize,
+    behind: usize,
+) -> Result<(), NoMemory> {
+    let name = if behind == NONE {
+        new_name(finding, register)?
+    } else {
+        behind
+    };
+    set_at(finding.given.as_mut_slice(), line, name);
+    Ok(())
+}
+
+// The name with that at a line to which a line goes aside. At the head of a loop it is not known yet: there it is one that is joined later.
+fn with_target(
+    finding: &mut Finding,
+    register: Register,
+    first: usize,
+    last: usize,
+    line: usize,
+    target: usize,
+    name: usize,
+) -> Result<usize, NoMemory> {
+    if target < first || last < target {
+        return Ok(name);
+    }
+    if line < target {
+        let there = number_at(finding.here.as_slice(), target);
+        return Ok(joined(finding, name, there));
+    }
+    let mut head = number_at(finding.heads.as_slice(), target);
+    if head == NONE {
+        head = new_name(finding, register)?;
+        set_at(finding.heads.as_mut_slice(), target, head);
+    }
+    Ok(joined(finding, name, head))
+}
+
+// The name by which a line reads the register.
+fn with_read(
+    finding: &mut Finding,
+    step: &Step,
+    register: Register,
+    line: usize,
+    known: usize,
+) -> Result<usize, NoMemory> {
+    let name = if known == NONE {
+        new_name(finding, register)?
+    } else {
+        known
+    };
+    let mut at = number_at(finding.bases.as_slice(), line);
+    for read in step.reads.as_slice() {
+        if *read == register {
+            set_at(finding.reads.as_mut_slice(), at, name);
+        }
+        at = at.saturating_add(1);
+    }
+    Ok(name)
+}
+
+fn new_name(finding: &mut Finding, register: Register) -> Result<usize, NoMemory> {
+    let name = finding.owners.len();
+    finding.owners.push(register)?;
+    finding.parents.push(name)?;
+    Ok(name)
+}
+
+// Two names are one from now on, the first of both.
+fn joined(finding: &mut Finding, one: usize, other: usize) -> usize {
+    if one == NONE {
+        return other;
+    }
+    if other == NONE {
+        return one;
+    }
+    let one = root(finding.parents.as_mut_slice(), one);
+    let other = root(finding.parents.as_mut_slice(), other);
+    let low = one.min(other);
+    set_at(finding.parents.as_mut_slice(), one.max(other), low);
+    low
+}
+
+// The first of all names that are one with a name. Ways to it are made shorter.
+fn root(parents: &mut [usize], name: usize) -> usize {
+    let mut at = name;
+    for _step in 0..parents.len() {
+        let parent = number_at(parents, at);
+        if parent == at {
+            break;
+        }
+        let next = number_at(parents, parent);
+        set_at(parents, at, next);
+        at = next;
+    }
+    at
+}
+
+// Each read and each given word has the first of all names that are one with its own.
+fn settle(finding: &mut Finding) {
+    for at in 0..finding.reads.len() {
+        let name = number_at(finding.reads.as_slice(), at);
+        let one = root(finding.parents.as_mut_slice(), name);
+        set_at(finding.reads.as_mut_slice(), at, one);
+    }
+    for at in 0..finding.given.len() {
+        let name = number_at(finding.given.as_slice(), at);
+        let one = root(finding.parents.as_mut_slice(), name);
+        set_at(finding.given.as_mut_slice(), at, one);
+    }
+}
