@@ -17,7 +17,7 @@ use Rattle.back_places.specs.Facts.{IsPlace, Apart}
 use Rattle.back_places.proofs.LinesInForm.{all_at}
 use Rattle.back_trivial.specs.OwnSlots.{no_target}
 use Rattle.back_allocation.specs.declared.placing.RegisterPlaces.{RegisterPlaces}
-use Rattle.back_allocation.specs.LineSteps.{line_reads, line_gives}
+use Rattle.back_allocation.specs.LineSteps.{line_gives}
 use Rattle.back_allocation.specs.Names.{IsNaming}
 use Rattle.back_allocation.specs.Standing.{MayCut, CanBeGiven}
 use Rattle.back_allocation.specs.Places.{place_at}

@@ -62,7 +62,7 @@ all_low count (r ∷ vs) h =
 
 both_low : (count : ℕ) (vs us : List ℕ) → AllLow count vs → AllLow count us → AllLow count (vs ++ us)
 both_low count [] us a b = b
-both_low count (r ∷ vs) us a b v h =
+both_low count (r ∷ vs) us a b = λ v h.
     elim (one_of v r (vs ++ us) h) [
       | inl e ↦ a v (subst (λ n. is_one v (n ∷ vs)) (sym e) (is_first v vs))
       | inr k ↦ both_low count vs us (λ u g. a u (is_later r u vs g)) b v k
