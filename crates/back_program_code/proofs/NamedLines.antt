@@ -1,8 +1,9 @@
 -- Lines with names in the place of their registers fit as many names, where the lines fit their registers; the registers that those read are there.
-use Rattle.std.proofs.Common.{inl, inr, ◌≡◌, ℕ, zero, suc, ◌<◌, Bool, true, false, ◌&&◌, ◌||◌, List, [], ◌∷◌, ◌++◌, length, map, Option, Some, None, refl, sym, ap, subst, ◌∙◌, arith, eqb-true}
+use Rattle.std.proofs.Common.{inl, inr, ◌≡◌, ℕ, zero, suc, ◌<◌, Bool, true, false, ◌&&◌, ◌||◌, List, [], ◌∷◌, ◌++◌, length, map, Option, Some, refl, sym, subst, ◌∙◌, arith, eqb-true}
 use Rattle.std.specs.Prelude.{◌⊎◌, ◌==◌, slice_get}
 use Rattle.std.specs.List.{list_any, list_all}
 use Rattle.std.proofs.lemmas.List.{length-map}
+use Rattle.std.proofs.lemmas.Bool.{or_left, or_right}
 use Rattle.std.proofs.lemmas.Bool.Decides.{nat_tests}
 use Rattle.std.proofs.lemmas.List.Folds.{list_any-append}
 use Rattle.mid_code.specs.declared.operation.Callee.{Callee}
@@ -16,8 +17,6 @@ use Rattle.mid_lines.specs.LinesChecked.{is_target, line_fits}
 use Rattle.mid_lines.proofs.Conjunctions.{front_true, back_true, both_true}
 use Rattle.back_places.specs.Facts.{callee_registers}
 use Rattle.back_places.proofs.LinesInForm.{register_below}
-use Rattle.back_liveness.proofs.Lists.{or_back}
-use Rattle.back_liveness.proofs.Forwards.{or_front}
 use Rattle.back_allocation.specs.LineSteps.{operation_reads, operation_gives, line_reads, line_gives}
 use Rattle.back_allocation.specs.Names.{named_callee, named_operation, named_line}
 use Rattle.back_allocation.proofs.Naming.{is_one, is_first, is_later}
@@ -163,8 +162,8 @@ module _ (n m : ℕ) (f g : ℕ → ℕ) where
   operation_named_fits (operation.Call to callee arguments) h r w =
       both_true _ _
       (both_true _ _ (given_low to w)
-      (callee_named_fits callee (λ v k. r v (list_any-append (λ z. z == v) arguments (callee_registers callee) ∙ or_back (list_any (λ z. z == v) arguments) _ k))))
-      (mapped_low arguments (λ v k. r v (list_any-append (λ z. z == v) arguments (callee_registers callee) ∙ or_front (list_any (λ z. z == v) arguments) _ k)))
+      (callee_named_fits callee (λ v k. r v (list_any-append (λ z. z == v) arguments (callee_registers callee) ∙ or_right (list_any (λ z. z == v) arguments) _ k))))
+      (mapped_low arguments (λ v k. r v (list_any-append (λ z. z == v) arguments (callee_registers callee) ∙ or_left (list_any (λ z. z == v) arguments) _ k)))
 
   pub named_fits : (lines : ℕ) (x : Line) → line_fits n lines x ≡ true → ReadLow (line_reads x) → GivenLow (line_gives x) → line_fits m lines (named_line f g x) ≡ true
   named_fits lines (Do o) h r w = operation_named_fits o h r w
