@@ -20,7 +20,7 @@ use Rattle.back_forms.proofs.BindingHomes.{homes_are}
 use Rattle.back_forms.proofs.Equations.{leaf_is, function_is, clauses_is, sequence_is, call_value_is}
 use Rattle.back_forms.specs.Lowers.{low, low_behind, low_arguments, low_bindings, low_dynamics, low_clause, truth_of}
 use Rattle.back_forms.proofs.Walks.{walk_step, walk_end}
-use Rattle.back_forms.proofs.Arms.{argument_next, behind_next, value_next, dynamic_next, no_argument, none_behind, no_value, no_dynamic_value, sequence_behind, clause_step, no_clauses, no_sequence, no_call_value, segment_step, segments_done, same_form, one_arm, two_arm, call_arm, prim_arm, block_arm, catch_arm, handler_arm, sited_arm, call_value_arm, let_arm, dynamic_arm, tagbody_arm, unwind_arm, while_arm, alone_arm, body_arm, judged_prim_arm, judged_prim_test, judged_sited, judged_sited_test}
+use Rattle.back_forms.proofs.Arms.{argument_next, behind_next, value_next, dynamic_next, no_argument, none_behind, no_value, no_dynamic_value, sequence_behind, clause_step, no_clauses, no_sequence, no_call_value, segment_step, segments_done, same_form, one_arm, two_arm, call_arm, prim_arm, block_arm, catch_arm, handler_arm, sited_arm, call_value_arm, let_arm, dynamic_arm, tagbody_arm, unwind_arm, while_arm, taken_alone, taken_body, left_out, alone_arm, body_arm, judged_prim_arm, judged_prim_test, judged_sited, judged_sited_test}
 use Rattle.back_forms.proofs.forms.+forms.Goals as goal
 use Rattle.back_forms.proofs.forms.+forms.Goals.{asked_clause-in-None+in_ok-value-in-None+in_ok-room-in-None+in_ok-test-in-None+in_ok-push-in-None, asked_clause-in-Some+in_ok-test-in-Some+in_ok-first-in-Some+in_ok-push-in-Some}
 
@@ -365,3 +365,28 @@ asked_clause-returns-clause-code t c =
           (ap maybe_form w.in-Some.is) c.new-code.ensures w.in_ok-test-in-Some.ensures.code w.in_ok-test-in-Some.ensures.test w.in_ok-test-in-Some.ensures.scope w.in_ok-first-in-Some.ensures.code
           (w.code-is ∙ w.in_ok-push-in-Some.ensures.ok ∙ ap (λ i. w.judged.new.code ++ i ∷ []) w.either-in-Some.ensures)
     ]
+
+pub clause-returns-in-None-body-clause-code : goal.clause-returns-in-None-body-clause-code
+clause-returns-in-None-body-clause-code t c =
+    let g = c.args.given.now in
+    let x = c.args.choice.now.test in
+    IfOk-weaker c.inside.result _ _
+    (λ y e. taken_alone g c.args.scope.now c.args.d x (truth_of g x) c.args.otherwise y (maybe_form c.args.choice.now.body)
+    (sym c.known_truth.ensures ∙ c.in-Some-true.is) (ap maybe_form c.in-None-body.is) e)
+    c.inside.ensures.code
+
+pub clause-returns-in-Some-clause-code : goal.clause-returns-in-Some-clause-code
+clause-returns-in-Some-clause-code t c =
+    let g = c.args.given.now in
+    let x = c.args.choice.now.test in
+    IfOk-weaker c.inside-in-Some.result _ _
+    (λ y e. taken_body g c.args.scope.now c.args.d x (truth_of g x) c.args.otherwise y (maybe_form c.args.choice.now.body) c.in-Some.body.now
+    (sym c.known_truth.ensures ∙ c.in-Some-true.is) (ap maybe_form c.in-Some.is) e)
+    c.inside-in-Some.ensures.code
+
+pub clause-returns-in-Some-false-clause-code : goal.clause-returns-in-Some-false-clause-code
+clause-returns-in-Some-false-clause-code t c =
+    let g = c.args.given.now in
+    let x = c.args.choice.now.test in
+    left_out g c.args.scope.now c.args.d x (truth_of g x) c.args.otherwise c.args.otherwise (maybe_form c.args.choice.now.body)
+    (sym c.known_truth.ensures ∙ c.in-Some-false.is) refl
