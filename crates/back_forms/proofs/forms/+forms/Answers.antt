@@ -1,5 +1,5 @@
 -- The code of lists, item by item, and of forms from the code of their parts.
-use Rattle.std.proofs.Common.{◌≡◌, ℕ, Option, List, [], ◌∷◌, ◌≤◌, ◌<◌, ◌+◌, ◌-◌, ◌++◌, ap, sym, ◌∙◌, refl, length, arith}
+use Rattle.std.proofs.Common.{◌≡◌, ℕ, Option, Some, List, [], ◌∷◌, ◌≤◌, ◌<◌, ◌+◌, ◌-◌, ◌++◌, ap, sym, ◌∙◌, refl, length, arith}
 use Rattle.std.proofs.lemmas.Result.{on_ok_weaker, IfOk-weaker}
 use Rattle.lang_meaning.specs.declared.program.FunctionRow.{FunctionRow}
 use Rattle.lang_meaning.specs.Lookup.{text}
@@ -372,16 +372,16 @@ clause-returns-in-None-body-clause-code t c =
     let x = c.args.choice.now.test in
     IfOk-weaker c.inside.result _ _
     (λ y e. taken_alone g c.args.scope.now c.args.d x (truth_of g x) c.args.otherwise y (maybe_form c.args.choice.now.body)
-    (sym c.known_truth.ensures ∙ c.in-Some-true.is) (ap maybe_form c.in-None-body.is) e)
+    (sym c.known_truth.ensures ∙ c.in-Some-true.is ∙ ap Some c.in-Some-true.field-0-test) (ap maybe_form c.in-None-body.is) e)
     c.inside.ensures.code
 
-pub clause-returns-in-Some-clause-code : goal.clause-returns-in-Some-clause-code
-clause-returns-in-Some-clause-code t c =
+pub clause-returns-in-Some-true-clause-code : goal.clause-returns-in-Some-true-clause-code
+clause-returns-in-Some-true-clause-code t c =
     let g = c.args.given.now in
     let x = c.args.choice.now.test in
     IfOk-weaker c.inside-in-Some.result _ _
-    (λ y e. taken_body g c.args.scope.now c.args.d x (truth_of g x) c.args.otherwise y (maybe_form c.args.choice.now.body) c.in-Some.body.now
-    (sym c.known_truth.ensures ∙ c.in-Some-true.is) (ap maybe_form c.in-Some.is) e)
+    (λ y e. taken_body g c.args.scope.now c.args.d x (truth_of g x) c.args.otherwise y (maybe_form c.args.choice.now.body) _
+    (sym c.known_truth.ensures ∙ c.in-Some-true.is ∙ ap Some c.in-Some-true.field-0-test) (ap maybe_form c.in-Some.is) e)
     c.inside-in-Some.ensures.code
 
 pub clause-returns-in-Some-false-clause-code : goal.clause-returns-in-Some-false-clause-code
@@ -389,4 +389,4 @@ clause-returns-in-Some-false-clause-code t c =
     let g = c.args.given.now in
     let x = c.args.choice.now.test in
     left_out g c.args.scope.now c.args.d x (truth_of g x) c.args.otherwise c.args.otherwise (maybe_form c.args.choice.now.body)
-    (sym c.known_truth.ensures ∙ c.in-Some-false.is) refl
+    (sym c.known_truth.ensures ∙ c.in-Some-false.is ∙ ap Some c.in-Some-false.field-0-test) refl
