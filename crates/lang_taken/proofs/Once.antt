@@ -18,7 +18,7 @@ use Rattle.lang_taken.specs.Failing.{FailsElements, in_element, behind_element, 
 use Rattle.lang_taken.specs.Laws.{LawOfOneDatum, LawOfOneReason, LawOfEither}
 
 -- the size of what is a symbol, and that nothing is inside it
-symbol_size : (names : List (List ℕ)) (expansion : ℕ) (s : Shape) (one : Symbol) → SymbolFor names expansion s one → own_size s ≡ 1
+pub symbol_size : (names : List (List ℕ)) (expansion : ℕ) (s : Shape) (one : Symbol) → SymbolFor names expansion s one → own_size s ≡ 1
 symbol_size names expansion s one (of_name text name at) = refl
 symbol_size names expansion s one (of_other_expansion other serial) = refl
 symbol_size names expansion s one (of_this_expansion serial) = refl

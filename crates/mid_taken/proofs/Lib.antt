@@ -1,0 +1,4 @@
+pub mod Reading
+pub mod Found
+pub mod Passed
+pub mod Takes

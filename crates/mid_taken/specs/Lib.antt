@@ -1,0 +1,4 @@
+pub mod Index
+pub mod Stands
+pub mod Parts
+pub mod Taking
