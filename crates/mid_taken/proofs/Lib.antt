@@ -2,3 +2,4 @@ pub mod Reading
 pub mod Found
 pub mod Passed
 pub mod Takes
+pub mod Bytes

@@ -311,3 +311,35 @@ stops_refused place P r stop is h = subst (StopsBy place P) (sym is) (refl, h)
 
 pub stops_wanting : (place : Place) (P : Reason → Type 0) (stop : Stop) → stop ≡ NoMemory → StopsBy place P stop
 stops_wanting place P stop is = subst (StopsBy place P) (sym is) tt
+
+-- ---- parts that are known
+
+-- what is left in front, where the part is known
+pub left_is : (part known : Part) (left rest : ℕ) → left ≡ part_size part + rest → part ≡ known → left ≡ part_size known + rest
+left_is part known left rest spent same = spent ∙ ap (λ p. part_size p + rest) same
+
+pub taken_as :
+    (from : Memory) (part known : Part) (deep left : ℕ) (d : Item) (rest : ℕ) → part ≡ known → PartTaken from known deep left d rest
+    → PartTaken from part deep left d rest
+taken_as from part known deep left d rest same t = let P : Part → Type 0 = λ p. PartTaken from p deep left d rest in subst P (sym same) t
+
+pub fails_as :
+    (from : Memory) (part known : Part) (deep left : ℕ) (r : Reason) → part ≡ known → PartFails from known deep left r → PartFails from part deep left r
+fails_as from part known deep left r same f = let P : Part → Type 0 = λ p. PartFails from p deep left r in subst P (sym same) f
+
+-- the same where so much of what is left was taken
+pub taken_of :
+    (from : Memory) (part known : Part) (deep left between : ℕ) (d : Item) (rest : ℕ) → left ≡ part_size part + between → part_size known ≡ 1 → part ≡ known
+    → PartTaken from known deep (1 + between) d rest → PartTaken from part deep left d rest
+taken_of from part known deep left between d rest spent one same t =
+    let is : left ≡ 1 + between = left_is part known left between spent same ∙ ap (λ n. n + between) one in
+    let P : ℕ → Type 0 = λ n. PartTaken from part deep n d rest in
+    subst P (sym is) (taken_as from part known deep (1 + between) d rest same t)
+
+pub fails_of :
+    (from : Memory) (part known : Part) (deep left between : ℕ) (r : Reason) → left ≡ part_size part + between → part_size known ≡ 1 → part ≡ known
+    → PartFails from known deep (1 + between) r → PartFails from part deep left r
+fails_of from part known deep left between r spent one same f =
+    let is : left ≡ 1 + between = left_is part known left between spent same ∙ ap (λ n. n + between) one in
+    let P : ℕ → Type 0 = λ n. PartFails from part deep n r in
+    subst P (sym is) (fails_as from part known deep (1 + between) r same f)
