@@ -127,7 +127,7 @@ cons_told_at from w at car cdr tag place first second = record {
 
 -- ---- symbols that were there before the run
 
-symbol_same : (s r : SymbolValue) → same_symbol s r ≡ true → s ≡ r
+pub symbol_same : (s r : SymbolValue) → same_symbol s r ≡ true → s ≡ r
 symbol_same (named a) (named b) h = ap named ((bytes_eq-Decides a b).0 h)
 symbol_same (named a) (unnamed x s) h = absurd (cc h)
 symbol_same (unnamed x s) (named b) h = absurd (cc h)

@@ -3,3 +3,4 @@ pub mod Found
 pub mod Passed
 pub mod Takes
 pub mod Bytes
+pub mod Indexed
