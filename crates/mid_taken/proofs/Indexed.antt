@@ -47,7 +47,9 @@ one_indexed symbols k x index at h = record {
     by word s true same e =
         let word_is : word ≡ x.word = compared word x.word same in
         let symbol_is : x.symbol ≡ s = cc e in
-        (k, at ∙ cc (word_is, symbol_is))
+        let first : ℕ → SymbolWord = λ w. record { word = w; symbol = x.symbol } in
+        let second : Symbol → SymbolWord = λ q. record { word = word; symbol = q } in
+        (k, at ∙ ap (λ q. Some q) (ap first (sym word_is) ∙ ap second symbol_is))
     by word s false same e = h.found word s e
 
     there_by :
@@ -97,22 +99,26 @@ spot_found (x ∷ xs) zero p e once =
     let same : x ≡ p = cc e in
     let test : same_symbol p.0 x.0 ≡ true = ap (λ (q : SymbolValue × Spot). same_symbol p.0 q.0) same ∙ symbol_self p.0 in
     rw test (ap (λ (q : SymbolValue × Spot). Some q.1) same)
-spot_found (x ∷ xs) (suc i) p e once = by (same_symbol p.0 x.0) refl
+spot_found (x ∷ xs) (suc i) p e once =
+    by (same_symbol p.0 x.0) refl
+    (spot_found xs i p e (λ j q there same. let next : suc j ≡ suc i = once (suc j) q there same in omega (arith, next)))
   where
-    by : (b : Bool) → same_symbol p.0 x.0 ≡ b → (if b then Some x.1 else spot_of_symbol p.0 xs) ≡ Some p.1
-    by true test = let first : 0 ≡ suc i = once 0 x refl (sym (symbol_same p.0 x.0 test)) in absurd (omega (arith, first))
-    by false test = spot_found xs i p e (λ j q there same. let next : suc j ≡ suc i = once (suc j) q there same in omega (arith, next))
+    by : (b : Bool) → same_symbol p.0 x.0 ≡ b → spot_of_symbol p.0 xs ≡ Some p.1 → (if b then Some x.1 else spot_of_symbol p.0 xs) ≡ Some p.1
+    by true test further = let first : 0 ≡ suc i = once 0 x refl (sym (symbol_same p.0 x.0 test)) in absurd (omega (arith, first))
+    by false test further = further
 
 -- a spot that is found for a symbol is one of the list
 spot_listed : (s : SymbolValue) (ps : List (SymbolValue × Spot)) (spot : Spot) → spot_of_symbol s ps ≡ Some spot
     → (i : ℕ) × ((p : SymbolValue × Spot) × ((slice_get ps i ≡ Some p) × (p.1 ≡ spot)))
 spot_listed s [] spot e = absurd (cc e)
-spot_listed s (x ∷ xs) spot e = by (same_symbol s x.0) e
+spot_listed s (x ∷ xs) spot e = by (same_symbol s x.0) (λ is. spot_listed s xs spot is) e
   where
-    by : (b : Bool) → (if b then Some x.1 else spot_of_symbol s xs) ≡ Some spot
+    by : (b : Bool)
+        → (spot_of_symbol s xs ≡ Some spot → (i : ℕ) × ((p : SymbolValue × Spot) × ((slice_get xs i ≡ Some p) × (p.1 ≡ spot))))
+        → (if b then Some x.1 else spot_of_symbol s xs) ≡ Some spot
         → (i : ℕ) × ((p : SymbolValue × Spot) × ((slice_get (x ∷ xs) i ≡ Some p) × (p.1 ≡ spot)))
-    by true is = (0, (x, (refl, cc is)))
-    by false is = let further = spot_listed s xs spot is in (suc further.0, further.1)
+    by true further is = (0, (x, (refl, cc is)))
+    by false further is = let there = further is in (suc there.0, there.1)
 
 pointed : (o : Option Spot) (word : ℕ) → pointer_in o ≡ Some word → (spot : Spot) × ((o ≡ Some spot) × (pointer_to spot ≡ word))
 pointed None word e = absurd (cc e)

@@ -12,7 +12,7 @@ use Rattle.base.specs.declared.place.Place.{Place}
 use Rattle.base.specs.Data.{Item, item, Items, no_item, items_of, Tail, no_tail, dotted}
 use Rattle.base.specs.Data as datum
 use Rattle.base.specs.AllOf.{AllOf}
-use Rattle.lang_meaning.specs.Values.{Value}
+use Rattle.lang_meaning.specs.Values.{Value, in_range}
 use Rattle.lang_meaning.specs.State as meaning
 use Rattle.mid_arena.specs.Layouts.{AreBytes, byte_at}
 use Rattle.lang_taken.specs.Shapes.{Shape, shape_of, own_size, opens, is_list}
@@ -87,11 +87,11 @@ module _ (from : Memory) (deep left rest : ℕ) (enough : left ≡ 1 + rest) whe
       let Q : ℕ → Type 0 = λ n. TakesShape names z.store from.place from.expansion deep n s d rest in
       subst Q (sym one_less) (subst P (sym same) h)
 
-  pub int_taken : (n : ℤ) (d : Item) → d ≡ item from.place (datum.integer n) → PartTaken from (Int n) deep left d rest
+  pub int_taken : (n : ℤ) (d : Item) → (in_range n ≡ true → d ≡ item from.place (datum.integer n)) → PartTaken from (Int n) deep left d rest
   int_taken n d is = record {
     there = λ names z m s h.
         let P : Item → Type 0 = λ e. TakesShape names z.store from.place from.expansion deep left s e rest in
-        subst P (sym is) (of_shape names z s (shape.integer n) _ h.0 (takes_integer deep rest n h.1));
+        subst P (sym (is h.1)) (of_shape names z s (shape.integer n) _ h.0 (takes_integer deep rest n h.1));
   }
 
   pub char_taken : (c : ℕ) (d : Item) → d ≡ item from.place (datum.character c) → PartTaken from (Char c) deep left d rest

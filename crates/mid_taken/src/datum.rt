@@ -47,7 +47,10 @@ fn index_of(alloc: Global, symbols: &[SymbolWord]) -> Result<SymbolIndex, NoMemo
     ensures { IfOk result (λ index. IsIndexOf symbols.now index) }
 {
     let mut index = SymbolIndex::new(alloc);
-    for entry in symbols {
+    for at in 0..symbols.len() {
+        let Some(entry) = symbols.get(at) else {
+            unreachable!()
+        };
         index.bind(entry.word, entry.symbol)?;
     }
     Ok(index)

@@ -1,9 +1,13 @@
+-- One symbol after another is found by its word.
+use Rattle.std.proofs.Common.{◌+◌, sym, subst}
 use Rattle.mid_taken.specs.IndexOf.{IsIndexOfFirst}
 use Rattle.mid_taken.proofs.Indexed.{none_indexed, one_indexed}
 use Rattle.mid_taken.proofs.datum.index_of.Goals as goal
 
-pub loop-entry-init : goal.loop-entry-init
-loop-entry-init c = ?
+pub loop-at-init : goal.loop-at-init
+loop-at-init c = subst (λ index. IsIndexOfFirst c.args.symbols.now 0 index) (sym c.new-index.ensures) (none_indexed c.args.symbols.now)
 
-pub loop-entry-preserved : goal.loop-entry-preserved
-loop-entry-preserved c = ?
+pub loop-at-preserved : goal.loop-at-preserved
+loop-at-preserved c =
+    subst (λ index. IsIndexOfFirst c.args.symbols.now (c.loop-at.at + 1) index) (sym c.in_ok-bind.ensures.ok)
+    (one_indexed c.args.symbols.now c.loop-at.at c.in-Some.entry.now c.loop-at.index c.in-Some.ensures c.loop-at.invariant)

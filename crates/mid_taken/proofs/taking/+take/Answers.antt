@@ -6,6 +6,7 @@ use Rattle.base.specs.declared.reason.Reason.{Reason}
 use Rattle.base.specs.declared.reason.Reason.TheVariants.{ExpansionNotForm, ExpansionTooLarge}
 use Rattle.base.specs.Data.{item, items_of, dotted}
 use Rattle.base.specs.Data as datum
+use Rattle.mid_start.proofs.Parts.{number_back}
 use Rattle.mid_taken.specs.declared.parts.Part.TheVariants.{Int, Char, Sym, Str, Vector, Nil, Cons, NoDatum}
 use Rattle.mid_taken.specs.Parts.{part_size}
 use Rattle.mid_taken.specs.Taking.{PartTaken, PartFails, WordTaken, WordFails}
@@ -275,7 +276,8 @@ take_part-returns-in_err-bytes-in-Str-clause-less t c =
 pub take_part-returns-in-Int-clause-takes : goal.take_part-returns-in-Int-clause-takes
 take_part-returns-in-Int-clause-takes t c =
     taken_of c.args.from.now c.args.part (Int c.in-Int.number) c.args.deep c.args.left.now c.spend.new.left c.new.result c.spend.new.left c.in_ok-spend.ensures.ok refl c.in-Int.is
-    (int_taken c.args.from.now c.args.deep (1 + c.spend.new.left) c.spend.new.left refl c.in-Int.number c.new.result c.new.ensures)
+    (int_taken c.args.from.now c.args.deep (1 + c.spend.new.left) c.spend.new.left refl c.in-Int.number c.new.result
+    (λ range. c.new.ensures ∙ ap (λ i. item c.args.from.now.place (datum.integer i)) (number_back c.in-Int.number range)))
 
 pub take_part-returns-in-Int-clause-less : goal.take_part-returns-in-Int-clause-less
 take_part-returns-in-Int-clause-less t c =
