@@ -169,103 +169,103 @@ module _
     (from : Memory) (w at header second : ℕ) (tag : w % 4 ≡ object_tag) (none : symbol_at w from.symbols.now ≡ None) (place : at ≡ w / 4)
     (first_read : header ≡ unwrap_or (slice_get from.words.now at) 0) (second_read : second ≡ unwrap_or (slice_get from.words.now (at + 1)) 0)
   where
-  module _ (names : List (List ℕ)) (z : meaning.State) (m : Stands names z from.words.now from.symbols.now) (v : Value) where
-    read : word_of m.places v ≡ Some w → ObjectRead names z from.words.now from.symbols.now m v w header
-    read e = object_read names z from.words.now from.symbols.now m v w at header e tag none place first_read
+    module _ (names : List (List ℕ)) (z : meaning.State) (m : Stands names z from.words.now from.symbols.now) (v : Value) where
+      read : word_of m.places v ≡ Some w → ObjectRead names z from.words.now from.symbols.now m v w header
+      read e = object_read names z from.words.now from.symbols.now m v w at header e tag none place first_read
 
-    -- the word behind the header
-    second_is : (address word : ℕ) → w ≡ address + 2 → address % 4 ≡ 0 → word_at m.machine.arena (address + 4) ≡ Some word → second ≡ word
-    second_is address word pointer aligned stands =
-        word_read from.words.now (at + 1) ((address + 4) / 4) second word second_read (omega (arith, pointer, aligned, place))
-        (m.same_words (address + 4) word stands)
+      -- the word behind the header
+      second_is : (address word : ℕ) → w ≡ address + 2 → address % 4 ≡ 0 → word_at m.machine.arena (address + 4) ≡ Some word → second ≡ word
+      second_is address word pointer aligned stands =
+          word_read from.words.now (at + 1) ((address + 4) / 4) second word second_read (omega (arith, pointer, aligned, place))
+          (m.same_words (address + 4) word stands)
 
-    string_by :
-        (one : Object) (spot : Spot) → ObjectAt names m.program m.places m.machine.arena spot one → tag_of one ≡ object_tag → spot.address % 4 ≡ 0 → w ≡ spot.address + 2
-        → header ≡ header_of one → header ≡ string_header → IsPart names m.places from.words.now from.expansion (shape_of_object (Some one)) (Str (at + 2) (second / 4))
-    string_by (string bytes) spot stands tagged aligned pointer is kind =
-        let count : second ≡ 4 * length bytes = second_is spot.address (4 * length bytes) pointer aligned stands.count in
-        record {
-          bytes = bytes;
-          shape_is = refl;
-          count_is = omega (arith, count);
-          there = record {
-            are_bytes = stands.bytes;
-            each = λ i h.
-                word_there from.words.now (at + 2 + i) ((spot.address + 8 + 4 * i) / 4) (packed bytes (4 * i)) (omega (arith, pointer, aligned, place))
-                (m.same_words (spot.address + 8 + 4 * i) (packed bytes (4 * i)) (stands.words i h));
-          };
-        }
-    string_by (cons a b) spot stands tagged aligned pointer is kind = absurd (omega (arith, tagged))
-    string_by one spot stands tagged aligned pointer is kind = absurd (omega (arith, is, kind))
+      string_by :
+          (one : Object) (spot : Spot) → ObjectAt names m.program m.places m.machine.arena spot one → tag_of one ≡ object_tag → spot.address % 4 ≡ 0 → w ≡ spot.address + 2
+          → header ≡ header_of one → header ≡ string_header → IsPart names m.places from.words.now from.expansion (shape_of_object (Some one)) (Str (at + 2) (second / 4))
+      string_by (string bytes) spot stands tagged aligned pointer is kind =
+          let count : second ≡ 4 * length bytes = second_is spot.address (4 * length bytes) pointer aligned stands.count in
+          record {
+            bytes = bytes;
+            shape_is = refl;
+            count_is = omega (arith, count);
+            there = record {
+              are_bytes = stands.bytes;
+              each = λ i h.
+                  word_there from.words.now (at + 2 + i) ((spot.address + 8 + 4 * i) / 4) (packed bytes (4 * i)) (omega (arith, pointer, aligned, place))
+                  (m.same_words (spot.address + 8 + 4 * i) (packed bytes (4 * i)) (stands.words i h));
+            };
+          }
+      string_by (cons a b) spot stands tagged aligned pointer is kind = absurd (omega (arith, tagged))
+      string_by one spot stands tagged aligned pointer is kind = absurd (omega (arith, is, kind))
 
-    vector_by :
-        (one : Object) (spot : Spot) → ObjectAt names m.program m.places m.machine.arena spot one → tag_of one ≡ object_tag → spot.address % 4 ≡ 0 → w ≡ spot.address + 2
-        → header ≡ header_of one → header ≡ vector_header → IsPart names m.places from.words.now from.expansion (shape_of_object (Some one)) (Vector (at + 2) (second / 4))
-    vector_by (vector vs) spot stands tagged aligned pointer is kind =
-        let count : second ≡ 4 * length vs = second_is spot.address (4 * length vs) pointer aligned stands.count in
-        record {
-          values = vs;
-          shape_is = refl;
-          count_is = omega (arith, count);
-          there = record {
-            each = λ i h.
-                value_read names z from.words.now from.symbols.now m (spot.address + 8 + 4 * i) (at + 2 + i) (slice_index_or vs i nil) (stands.values i h)
-                (omega (arith, pointer, aligned, place));
-          };
-        }
-    vector_by (cons a b) spot stands tagged aligned pointer is kind = absurd (omega (arith, tagged))
-    vector_by one spot stands tagged aligned pointer is kind = absurd (omega (arith, is, kind))
+      vector_by :
+          (one : Object) (spot : Spot) → ObjectAt names m.program m.places m.machine.arena spot one → tag_of one ≡ object_tag → spot.address % 4 ≡ 0 → w ≡ spot.address + 2
+          → header ≡ header_of one → header ≡ vector_header → IsPart names m.places from.words.now from.expansion (shape_of_object (Some one)) (Vector (at + 2) (second / 4))
+      vector_by (vector vs) spot stands tagged aligned pointer is kind =
+          let count : second ≡ 4 * length vs = second_is spot.address (4 * length vs) pointer aligned stands.count in
+          record {
+            values = vs;
+            shape_is = refl;
+            count_is = omega (arith, count);
+            there = record {
+              each = λ i h.
+                  value_read names z from.words.now from.symbols.now m (spot.address + 8 + 4 * i) (at + 2 + i) (slice_index_or vs i nil) (stands.values i h)
+                  (omega (arith, pointer, aligned, place));
+            };
+          }
+      vector_by (cons a b) spot stands tagged aligned pointer is kind = absurd (omega (arith, tagged))
+      vector_by one spot stands tagged aligned pointer is kind = absurd (omega (arith, is, kind))
 
-    fresh_by :
-        (one : Object) (spot : Spot) (number : ℕ) → slice_get z.store number ≡ Some one → ObjectAt names m.program m.places m.machine.arena spot one → tag_of one ≡ object_tag
-        → spot.address % 4 ≡ 0 → w ≡ spot.address + 2 → header ≡ header_of one → header ≡ fresh_header
-        → IsPart names m.places from.words.now from.expansion (shape_of_object (Some one)) (Sym (Fresh from.expansion (second / 4)))
-    fresh_by (fresh_symbol serial) spot number stored stands tagged aligned pointer is kind =
-        let word : second ≡ 4 * (serial % 2 ^ 29) = second_is spot.address (4 * (serial % 2 ^ 29)) pointer aligned stands.word in
-        let same : serial ≡ second / 4 = omega (arith, word, m.serials number serial stored) in
-        subst (λ k. SymbolFor names from.expansion (shape.new_symbol serial) (Fresh from.expansion k)) same (of_this_expansion serial)
-    fresh_by (cons a b) spot number stored stands tagged aligned pointer is kind = absurd (omega (arith, tagged))
-    fresh_by one spot number stored stands tagged aligned pointer is kind = absurd (omega (arith, is, kind))
+      fresh_by :
+          (one : Object) (spot : Spot) (number : ℕ) → slice_get z.store number ≡ Some one → ObjectAt names m.program m.places m.machine.arena spot one → tag_of one ≡ object_tag
+          → spot.address % 4 ≡ 0 → w ≡ spot.address + 2 → header ≡ header_of one → header ≡ fresh_header
+          → IsPart names m.places from.words.now from.expansion (shape_of_object (Some one)) (Sym (Fresh from.expansion (second / 4)))
+      fresh_by (fresh_symbol serial) spot number stored stands tagged aligned pointer is kind =
+          let word : second ≡ 4 * (serial % 2 ^ 29) = second_is spot.address (4 * (serial % 2 ^ 29)) pointer aligned stands.word in
+          let same : serial ≡ second / 4 = omega (arith, word, m.serials number serial stored) in
+          subst (λ k. SymbolFor names from.expansion (shape.new_symbol serial) (Fresh from.expansion k)) same (of_this_expansion serial)
+      fresh_by (cons a b) spot number stored stands tagged aligned pointer is kind = absurd (omega (arith, tagged))
+      fresh_by one spot number stored stands tagged aligned pointer is kind = absurd (omega (arith, is, kind))
 
-    other_by :
-        (one : Object) → tag_of one ≡ object_tag → header ≡ header_of one → (header ≡ string_header → ⊥) → (header ≡ vector_header → ⊥) → (header ≡ fresh_header → ⊥)
-        → shape_of_object (Some one) ≡ shape.no_datum
-    other_by (cons a b) tagged is no_string no_vector no_fresh = absurd (omega (arith, tagged))
-    other_by (string bytes) tagged is no_string no_vector no_fresh = absurd (no_string is)
-    other_by (vector vs) tagged is no_string no_vector no_fresh = absurd (no_vector is)
-    other_by (fresh_symbol serial) tagged is no_string no_vector no_fresh = absurd (no_fresh is)
-    other_by one tagged is no_string no_vector no_fresh = refl
+      other_by :
+          (one : Object) → tag_of one ≡ object_tag → header ≡ header_of one → (header ≡ string_header → ⊥) → (header ≡ vector_header → ⊥) → (header ≡ fresh_header → ⊥)
+          → shape_of_object (Some one) ≡ shape.no_datum
+      other_by (cons a b) tagged is no_string no_vector no_fresh = absurd (omega (arith, tagged))
+      other_by (string bytes) tagged is no_string no_vector no_fresh = absurd (no_string is)
+      other_by (vector vs) tagged is no_string no_vector no_fresh = absurd (no_vector is)
+      other_by (fresh_symbol serial) tagged is no_string no_vector no_fresh = absurd (no_fresh is)
+      other_by one tagged is no_string no_vector no_fresh = refl
 
-    part_by : (s : Shape) (part : Part) → shape_of z.store v ≡ s → IsPart names m.places from.words.now from.expansion s part
-        → IsPart names m.places from.words.now from.expansion (shape_of z.store v) part
-    part_by s part same h = subst (λ q. IsPart names m.places from.words.now from.expansion q part) (sym same) h
+      part_by : (s : Shape) (part : Part) → shape_of z.store v ≡ s → IsPart names m.places from.words.now from.expansion s part
+          → IsPart names m.places from.words.now from.expansion (shape_of z.store v) part
+      part_by s part same h = subst (λ q. IsPart names m.places from.words.now from.expansion q part) (sym same) h
 
-  pub string_told_at : header ≡ string_header → IsPartAt from w (Str (at + 2) (second / 4))
-  string_told_at kind = record {
-    there = λ names z m v e.
-        let o = read names z m v e in
-        part_by names z m v (shape_of_object (Some o.one)) (Str (at + 2) (second / 4)) o.shape_is
-        (string_by names z m v o.one o.spot o.stands o.tag o.aligned o.word o.header_is kind);
-  }
+    pub string_told_at : header ≡ string_header → IsPartAt from w (Str (at + 2) (second / 4))
+    string_told_at kind = record {
+      there = λ names z m v e.
+          let o = read names z m v e in
+          part_by names z m v (shape_of_object (Some o.one)) (Str (at + 2) (second / 4)) o.shape_is
+          (string_by names z m v o.one o.spot o.stands o.tag o.aligned o.word o.header_is kind);
+    }
 
-  pub vector_told_at : header ≡ vector_header → IsPartAt from w (Vector (at + 2) (second / 4))
-  vector_told_at kind = record {
-    there = λ names z m v e.
-        let o = read names z m v e in
-        part_by names z m v (shape_of_object (Some o.one)) (Vector (at + 2) (second / 4)) o.shape_is
-        (vector_by names z m v o.one o.spot o.stands o.tag o.aligned o.word o.header_is kind);
-  }
+    pub vector_told_at : header ≡ vector_header → IsPartAt from w (Vector (at + 2) (second / 4))
+    vector_told_at kind = record {
+      there = λ names z m v e.
+          let o = read names z m v e in
+          part_by names z m v (shape_of_object (Some o.one)) (Vector (at + 2) (second / 4)) o.shape_is
+          (vector_by names z m v o.one o.spot o.stands o.tag o.aligned o.word o.header_is kind);
+    }
 
-  pub fresh_told_at : header ≡ fresh_header → IsPartAt from w (Sym (Fresh from.expansion (second / 4)))
-  fresh_told_at kind = record {
-    there = λ names z m v e.
-        let o = read names z m v e in
-        part_by names z m v (shape_of_object (Some o.one)) (Sym (Fresh from.expansion (second / 4))) o.shape_is
-        (fresh_by names z m v o.one o.spot o.number o.stored o.stands o.tag o.aligned o.word o.header_is kind);
-  }
+    pub fresh_told_at : header ≡ fresh_header → IsPartAt from w (Sym (Fresh from.expansion (second / 4)))
+    fresh_told_at kind = record {
+      there = λ names z m v e.
+          let o = read names z m v e in
+          part_by names z m v (shape_of_object (Some o.one)) (Sym (Fresh from.expansion (second / 4))) o.shape_is
+          (fresh_by names z m v o.one o.spot o.number o.stored o.stands o.tag o.aligned o.word o.header_is kind);
+    }
 
-  pub other_told_at : (header ≡ string_header → ⊥) → (header ≡ vector_header → ⊥) → (header ≡ fresh_header → ⊥) → IsPartAt from w NoDatum
-  other_told_at no_string no_vector no_fresh = record {
-    there = λ names z m v e.
-        let o = read names z m v e in o.shape_is ∙ other_by names z m v o.one o.tag o.header_is no_string no_vector no_fresh;
-  }
+    pub other_told_at : (header ≡ string_header → ⊥) → (header ≡ vector_header → ⊥) → (header ≡ fresh_header → ⊥) → IsPartAt from w NoDatum
+    other_told_at no_string no_vector no_fresh = record {
+      there = λ names z m v e.
+          let o = read names z m v e in o.shape_is ∙ other_by names z m v o.one o.tag o.header_is no_string no_vector no_fresh;
+    }

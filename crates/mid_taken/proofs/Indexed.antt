@@ -128,30 +128,30 @@ module _
     (names : List (List ℕ)) (places : Places) (symbols : List SymbolWord) (index : Index) (listed : AreSymbolsThere names symbols places.symbols)
     (once : AreDistinct places.symbols) (indexed : IsIndexOf symbols index)
   where
-  pub indexed_below : (word : ℕ) (s : Symbol) → symbol_at word index ≡ Some s → SymbolBelow (length names) s
-  indexed_below word s e =
-      let i = indexed.found word s e in
-      let p = listed_at names symbols places.symbols listed i.0 (record { word = word; symbol = s }) i.1 in
-      p.1.1.named
+    pub indexed_below : (word : ℕ) (s : Symbol) → symbol_at word index ≡ Some s → SymbolBelow (length names) s
+    indexed_below word s e =
+        let i = indexed.found word s e in
+        let p = listed_at names symbols places.symbols listed i.0 (record { word = word; symbol = s }) i.1 in
+        p.1.1.named
 
-  pub indexed_found : (word : ℕ) (s : Symbol) → symbol_at word index ≡ Some s → word_of places (symbol (symbol_of names s)) ≡ Some word
-  indexed_found word s e =
-      let i = indexed.found word s e in
-      let p = listed_at names symbols places.symbols listed i.0 (record { word = word; symbol = s }) i.1 in
-      let spot : spot_of_symbol p.0.0 places.symbols ≡ Some p.0.1 =
-      spot_found places.symbols i.0 p.0 p.1.0 (λ j q there same. once j i.0 q p.0 there p.1.0 same) in
-      ap (λ v. pointer_in (spot_of_symbol v places.symbols)) (sym p.1.1.symbol) ∙ ap pointer_in spot ∙ ap (λ w. Some w) (sym p.1.1.word)
+    pub indexed_found : (word : ℕ) (s : Symbol) → symbol_at word index ≡ Some s → word_of places (symbol (symbol_of names s)) ≡ Some word
+    indexed_found word s e =
+        let i = indexed.found word s e in
+        let p = listed_at names symbols places.symbols listed i.0 (record { word = word; symbol = s }) i.1 in
+        let spot : spot_of_symbol p.0.0 places.symbols ≡ Some p.0.1 =
+        spot_found places.symbols i.0 p.0 p.1.0 (λ j q there same. once j i.0 q p.0 there p.1.0 same) in
+        ap (λ v. pointer_in (spot_of_symbol v places.symbols)) (sym p.1.1.symbol) ∙ ap pointer_in spot ∙ ap (λ w. Some w) (sym p.1.1.word)
 
-  pub indexed_there : (s : SymbolValue) (word : ℕ) → word_of places (symbol s) ≡ Some word → IsSome (symbol_at word index)
-  indexed_there s word e =
-      let spot = pointed (spot_of_symbol s places.symbols) word e in
-      let p = spot_listed s places.symbols spot.0 spot.1.0 in
-      let x = spot_at names symbols places.symbols listed p.0 p.1.0 p.1.1.0 in
-      let word_is : x.0.word ≡ word = x.1.1.word ∙ ap pointer_to p.1.1.1 ∙ spot.1.1 in
-      subst (λ w. IsSome (symbol_at w index)) word_is (indexed.there p.0 x.0 (slice_get_within symbols p.0 x.0 x.1.0) x.1.0)
+    pub indexed_there : (s : SymbolValue) (word : ℕ) → word_of places (symbol s) ≡ Some word → IsSome (symbol_at word index)
+    indexed_there s word e =
+        let spot = pointed (spot_of_symbol s places.symbols) word e in
+        let p = spot_listed s places.symbols spot.0 spot.1.0 in
+        let x = spot_at names symbols places.symbols listed p.0 p.1.0 p.1.1.0 in
+        let word_is : x.0.word ≡ word = x.1.1.word ∙ ap pointer_to p.1.1.1 ∙ spot.1.1 in
+        subst (λ w. IsSome (symbol_at w index)) word_is (indexed.there p.0 x.0 (slice_get_within symbols p.0 x.0 x.1.0) x.1.0)
 
 -- words from which a value is taken represent its state
-pub stands_of :
+abbrev pub stands_of :
     (names : List (List ℕ)) (z : meaning.State) (v : Value) (words : List ℕ) (word : ℕ) (symbols : List SymbolWord) (index : Index)
     → IsIndexOf symbols index → TakenFrom names z v words word symbols → Stands names z words index
 stands_of names z v words word symbols index indexed t = record {

@@ -54,41 +54,41 @@ module _
     (from : Memory) (at count deep left_before : ℕ) (items : List Item) (k left : ℕ) (p : ElementsPassed from at count deep left_before items k left) (below : k < count)
     (word : ℕ) (read : word ≡ unwrap_or (slice_get from.words.now (at + k)) 0)
   where
-  -- an element, and those behind it
-  here : (vs : List Value) → length vs ≡ count → drop k vs ≡ slice_index_or vs k nil ∷ drop (k + 1) vs
-  here vs n = rest_at vs k (slice_index_or vs k nil) (slice_get-get_or vs k nil (omega (arith, n, below)))
+    -- an element, and those behind it
+    here : (vs : List Value) → length vs ≡ count → drop k vs ≡ slice_index_or vs k nil ∷ drop (k + 1) vs
+    here vs n = rest_at vs k (slice_index_or vs k nil) (slice_get-get_or vs k nil (omega (arith, n, below)))
 
-  -- its word
-  its_word :
-      (names : List (List ℕ)) (z : meaning.State) (m : Stands names z from.words.now from.symbols.now) (vs : List Value) → length vs ≡ count
-      → ValuesIn m.places from.words.now at vs → word_of m.places (slice_index_or vs k nil) ≡ Some word
-  its_word names z m vs n there = word_is m.places from.words.now (at + k) word (slice_index_or vs k nil) (there.each k (omega (arith, n, below))) read
+    -- its word
+    its_word :
+        (names : List (List ℕ)) (z : meaning.State) (m : Stands names z from.words.now from.symbols.now) (vs : List Value) → length vs ≡ count
+        → ValuesIn m.places from.words.now at vs → word_of m.places (slice_index_or vs k nil) ≡ Some word
+    its_word names z m vs n there = word_is m.places from.words.now (at + k) word (slice_index_or vs k nil) (there.each k (omega (arith, n, below))) read
 
-  pub element_passed : (d : Item) (rest : ℕ) → WordTaken from word deep left d rest → ElementsPassed from at count deep left_before (items ++ d ∷ []) (k + 1) rest
-  element_passed d middle w = record {
-    taken = λ names z m vs n there ds rest h.
-        let first = w.there names z m (slice_index_or vs k nil) (its_word names z m vs n there) in
-        let P : List Value → Type 0 = λ us. TakesElements names z.store from.place from.expansion deep left us (item_and d ds) rest in
-        let both : P (drop k vs) = subst P (sym (here vs n)) (an_element deep left middle rest (slice_index_or vs k nil) (drop (k + 1) vs) d ds first h) in
-        let Q : Items → Type 0 = λ es. TakesElements names z.store from.place from.expansion deep left_before vs es rest in
-        subst Q (sym (front_more items d ds)) (p.taken names z m vs n there (item_and d ds) rest both);
-    fails = λ names z m vs n there r h.
-        let first = w.there names z m (slice_index_or vs k nil) (its_word names z m vs n there) in
+    pub element_passed : (d : Item) (rest : ℕ) → WordTaken from word deep left d rest → ElementsPassed from at count deep left_before (items ++ d ∷ []) (k + 1) rest
+    element_passed d middle w = record {
+      taken = λ names z m vs n there ds rest h.
+          let first = w.there names z m (slice_index_or vs k nil) (its_word names z m vs n there) in
+          let P : List Value → Type 0 = λ us. TakesElements names z.store from.place from.expansion deep left us (item_and d ds) rest in
+          let both : P (drop k vs) = subst P (sym (here vs n)) (an_element deep left middle rest (slice_index_or vs k nil) (drop (k + 1) vs) d ds first h) in
+          let Q : Items → Type 0 = λ es. TakesElements names z.store from.place from.expansion deep left_before vs es rest in
+          subst Q (sym (front_more items d ds)) (p.taken names z m vs n there (item_and d ds) rest both);
+      fails = λ names z m vs n there r h.
+          let first = w.there names z m (slice_index_or vs k nil) (its_word names z m vs n there) in
+          let P : List Value → Type 0 = λ us. FailsElements names z.store from.place from.expansion deep left us r in
+          p.fails names z m vs n there r
+          (subst P (sym (here vs n)) (behind_element deep left middle (slice_index_or vs k nil) (drop (k + 1) vs) d r first h));
+    }
+
+    -- one that is refused
+    pub element_fails :
+        (r : Reason) → WordFails from word deep left r
+        → (names : List (List ℕ)) (z : meaning.State) (m : Stands names z from.words.now from.symbols.now) (vs : List Value) → length vs ≡ count
+        → ValuesIn m.places from.words.now at vs → FailsElements names z.store from.place from.expansion deep left_before vs r
+    element_fails r w names z m vs n there =
         let P : List Value → Type 0 = λ us. FailsElements names z.store from.place from.expansion deep left us r in
         p.fails names z m vs n there r
-        (subst P (sym (here vs n)) (behind_element deep left middle (slice_index_or vs k nil) (drop (k + 1) vs) d r first h));
-  }
-
-  -- one that is refused
-  pub element_fails :
-      (r : Reason) → WordFails from word deep left r
-      → (names : List (List ℕ)) (z : meaning.State) (m : Stands names z from.words.now from.symbols.now) (vs : List Value) → length vs ≡ count
-      → ValuesIn m.places from.words.now at vs → FailsElements names z.store from.place from.expansion deep left_before vs r
-  element_fails r w names z m vs n there =
-      let P : List Value → Type 0 = λ us. FailsElements names z.store from.place from.expansion deep left us r in
-      p.fails names z m vs n there r
-      (subst P (sym (here vs n)) (in_element deep left (slice_index_or vs k nil) (drop (k + 1) vs) r
-      (w.there names z m (slice_index_or vs k nil) (its_word names z m vs n there))))
+        (subst P (sym (here vs n)) (in_element deep left (slice_index_or vs k nil) (drop (k + 1) vs) r
+        (w.there names z m (slice_index_or vs k nil) (its_word names z m vs n there))))
 
 -- ---- chains of conses
 
@@ -119,44 +119,44 @@ module _
     (from : Memory) (whole : Part) (deep left_before : ℕ) (items : List Item) (car cdr left : ℕ)
     (p : ChainPassed from whole deep left_before items (Cons car cdr) left)
   where
-  cons_passed :
-      (d : Item) (middle : ℕ) (part : Part) → WordTaken from car deep left d middle → IsPartAt from cdr part
-      → (names : List (List ℕ)) (z : meaning.State) (m : Stands names z from.words.now from.symbols.now) (first s : Shape)
-      → IsCons m.places car cdr s
-      → ((ds : Items) (t : Tail) (rest : ℕ) → TakesChain names z.store from.place from.expansion deep left s ds t rest
-      → TakesChain names z.store from.place from.expansion deep left_before first (in_front items ds) t rest)
-      → ((r : Reason) → FailsChain names z.store from.place from.expansion deep left s r
-      → FailsChain names z.store from.place from.expansion deep left_before first r)
-      → Onward from names z m deep left_before first (items ++ d ∷ []) part middle
-  cons_passed d middle part w q names z m first s is takes fails = record {
-    shape = shape_of z.store is.second;
-    is_part = q.there names z m is.second is.cdr_is;
-    taken = λ ds t rest h.
-        let P : Shape → Type 0 = λ x. TakesChain names z.store from.place from.expansion deep left x (item_and d ds) t rest in
-        let here : P s =
-        subst P (sym is.shape_is) (at_cons deep left middle rest is.first is.second d ds t (w.there names z m is.first is.car_is) h) in
-        let Q : Items → Type 0 = λ es. TakesChain names z.store from.place from.expansion deep left_before first es t rest in
-        subst Q (sym (front_more items d ds)) (takes (item_and d ds) t rest here);
-    fails = λ r h.
+    cons_passed :
+        (d : Item) (middle : ℕ) (part : Part) → WordTaken from car deep left d middle → IsPartAt from cdr part
+        → (names : List (List ℕ)) (z : meaning.State) (m : Stands names z from.words.now from.symbols.now) (first s : Shape)
+        → IsCons m.places car cdr s
+        → ((ds : Items) (t : Tail) (rest : ℕ) → TakesChain names z.store from.place from.expansion deep left s ds t rest
+        → TakesChain names z.store from.place from.expansion deep left_before first (in_front items ds) t rest)
+        → ((r : Reason) → FailsChain names z.store from.place from.expansion deep left s r
+        → FailsChain names z.store from.place from.expansion deep left_before first r)
+        → Onward from names z m deep left_before first (items ++ d ∷ []) part middle
+    cons_passed d middle part w q names z m first s is takes fails = record {
+      shape = shape_of z.store is.second;
+      is_part = q.there names z m is.second is.cdr_is;
+      taken = λ ds t rest h.
+          let P : Shape → Type 0 = λ x. TakesChain names z.store from.place from.expansion deep left x (item_and d ds) t rest in
+          let here : P s =
+          subst P (sym is.shape_is) (at_cons deep left middle rest is.first is.second d ds t (w.there names z m is.first is.car_is) h) in
+          let Q : Items → Type 0 = λ es. TakesChain names z.store from.place from.expansion deep left_before first es t rest in
+          subst Q (sym (front_more items d ds)) (takes (item_and d ds) t rest here);
+      fails = λ r h.
+          let P : Shape → Type 0 = λ x. FailsChain names z.store from.place from.expansion deep left x r in
+          fails r (subst P (sym is.shape_is) (in_cdr deep left middle is.first is.second d r (w.there names z m is.first is.car_is) h));
+    }
+
+    pub chain_goes_on :
+        (d : Item) (middle : ℕ) (part : Part) → WordTaken from car deep left d middle → IsPartAt from cdr part
+        → ChainPassed from whole deep left_before (items ++ d ∷ []) part middle
+    chain_goes_on d middle part w q = record {
+      there = λ names z m first h.
+          let o = p.there names z m first h in cons_passed d middle part w q names z m first o.shape o.is_part o.taken o.fails;
+    }
+
+    -- an item that is refused
+    pub chain_fails :
+        (r : Reason) → WordFails from car deep left r
+        → (names : List (List ℕ)) (z : meaning.State) (m : Stands names z from.words.now from.symbols.now) (first : Shape)
+        → IsPart names m.places from.words.now from.expansion first whole → FailsChain names z.store from.place from.expansion deep left_before first r
+    chain_fails r w names z m first h =
+        let o = p.there names z m first h in
+        let is : IsCons m.places car cdr o.shape = o.is_part in
         let P : Shape → Type 0 = λ x. FailsChain names z.store from.place from.expansion deep left x r in
-        fails r (subst P (sym is.shape_is) (in_cdr deep left middle is.first is.second d r (w.there names z m is.first is.car_is) h));
-  }
-
-  pub chain_goes_on :
-      (d : Item) (middle : ℕ) (part : Part) → WordTaken from car deep left d middle → IsPartAt from cdr part
-      → ChainPassed from whole deep left_before (items ++ d ∷ []) part middle
-  chain_goes_on d middle part w q = record {
-    there = λ names z m first h.
-        let o = p.there names z m first h in cons_passed d middle part w q names z m first o.shape o.is_part o.taken o.fails;
-  }
-
-  -- an item that is refused
-  pub chain_fails :
-      (r : Reason) → WordFails from car deep left r
-      → (names : List (List ℕ)) (z : meaning.State) (m : Stands names z from.words.now from.symbols.now) (first : Shape)
-      → IsPart names m.places from.words.now from.expansion first whole → FailsChain names z.store from.place from.expansion deep left_before first r
-  chain_fails r w names z m first h =
-      let o = p.there names z m first h in
-      let is : IsCons m.places car cdr o.shape = o.is_part in
-      let P : Shape → Type 0 = λ x. FailsChain names z.store from.place from.expansion deep left x r in
-      o.fails r (subst P (sym is.shape_is) (in_car deep left is.first is.second r (w.there names z m is.first is.car_is)))
+        o.fails r (subst P (sym is.shape_is) (in_car deep left is.first is.second r (w.there names z m is.first is.car_is)))

@@ -14,8 +14,13 @@ use std::alloc::Global;
 
 /// The datum of a word, with so many levels that may open and so much left.
 #[cycle(take)]
-#[tactic(none)]
-pub fn take_word(alloc: Global, from: &Memory, word: u32, deep: u32, left: &mut usize) -> Result<Datum, Stop>
+pub fn take_word(
+    alloc: Global,
+    from: &Memory,
+    word: u32,
+    deep: u32,
+    left: &mut usize,
+) -> Result<Datum, Stop>
     ensures takes { IfOk result (λ d. WordTaken from.now word deep left.old d left.new) }
     ensures stops { IfErr result (λ stop. StopsBy from.now.place (λ r. WordFails from.now word deep left.old r) stop) }
     ensures less { OnOk result (left.new < left.old) }
@@ -25,8 +30,13 @@ pub fn take_word(alloc: Global, from: &Memory, word: u32, deep: u32, left: &mut 
 }
 
 #[cycle(take)]
-#[tactic(none)]
-fn take_part(alloc: Global, from: &Memory, part: Part, deep: u32, left: &mut usize) -> Result<Datum, Stop>
+fn take_part(
+    alloc: Global,
+    from: &Memory,
+    part: Part,
+    deep: u32,
+    left: &mut usize,
+) -> Result<Datum, Stop>
     ensures takes { IfOk result (λ d. PartTaken from.now part deep left.old d left.new) }
     ensures stops { IfErr result (λ stop. StopsBy from.now.place (λ r. PartFails from.now part deep left.old r) stop) }
     ensures less { OnOk result (left.new < left.old) }
@@ -49,8 +59,14 @@ fn take_part(alloc: Global, from: &Memory, part: Part, deep: u32, left: &mut usi
 
 // The elements one after another; what the vector itself takes is taken.
 #[cycle(take)]
-#[tactic(none)]
-fn take_vector(alloc: Global, from: &Memory, at: u32, count: u32, deep: u32, left: &mut usize) -> Result<Datum, Stop>
+fn take_vector(
+    alloc: Global,
+    from: &Memory,
+    at: u32,
+    count: u32,
+    deep: u32,
+    left: &mut usize,
+) -> Result<Datum, Stop>
     ensures takes { IfOk result (λ d. PartTaken from.now (Vector at count) deep (1 + left.old) d left.new) }
     ensures stops { IfErr result (λ stop. StopsBy from.now.place (λ r. PartFails from.now (Vector at count) deep (1 + left.old) r) stop) }
     ensures less { OnOk result (left.new ≤ left.old) }
@@ -69,8 +85,14 @@ fn take_vector(alloc: Global, from: &Memory, at: u32, count: u32, deep: u32, lef
 
 // The items from cons to cons, and then the end; what the list itself takes is taken.
 #[cycle(take)]
-#[tactic(none)]
-fn take_list(alloc: Global, from: &Memory, car: u32, cdr: u32, deep: u32, left: &mut usize) -> Result<Datum, Stop>
+fn take_list(
+    alloc: Global,
+    from: &Memory,
+    car: u32,
+    cdr: u32,
+    deep: u32,
+    left: &mut usize,
+) -> Result<Datum, Stop>
     ensures takes { IfOk result (λ d. PartTaken from.now (Cons car cdr) deep (1 + left.old) d left.new) }
     ensures stops { IfErr result (λ stop. StopsBy from.now.place (λ r. PartFails from.now (Cons car cdr) deep (1 + left.old) r) stop) }
     ensures less { OnOk result (left.new ≤ left.old) }
@@ -91,7 +113,13 @@ fn take_list(alloc: Global, from: &Memory, car: u32, cdr: u32, deep: u32, left: 
             end => {
                 let datum = take_part(alloc, from, end, deep - 1, left)?;
                 let tail = boxed(alloc, datum)?;
-                return Ok(Datum::new(from.place, Kind::List { items, tail: Some(tail) }));
+                return Ok(Datum::new(
+                    from.place,
+                    Kind::List {
+                        items,
+                        tail: Some(tail),
+                    },
+                ));
             }
         }
     }

@@ -83,9 +83,6 @@ pub take_vector-returns-in_err-item-clause-less : goal.take_vector-returns-in_er
 take_vector-returns-in_err-item-clause-less t c =
     let p = err_from_is_err_and c.from_residual.result c.from_residual.ensures.1 in rw p.1 tt
 
-pub take_vector-same-items : goal.take_vector-same-items
-take_vector-same-items t c = refl
-
 pub take_vector-returns-in_err-push-clause-takes : goal.take_vector-returns-in_err-push-clause-takes
 take_vector-returns-in_err-push-clause-takes t c =
     let p = err_from_is_err_and c.from_residual-in_err-push.result c.from_residual-in_err-push.ensures.1 in rw p.1 tt
@@ -97,9 +94,6 @@ take_vector-returns-in_err-push-clause-stops t c =
 pub take_vector-returns-in_err-push-clause-less : goal.take_vector-returns-in_err-push-clause-less
 take_vector-returns-in_err-push-clause-less t c =
     let p = err_from_is_err_and c.from_residual-in_err-push.result c.from_residual-in_err-push.ensures.1 in rw p.1 tt
-
-pub take_vector-same-items-in-loop-k : goal.take_vector-same-items-in-loop-k
-take_vector-same-items-in-loop-k t c = refl
 
 pub take_vector-loop-k-smaller : goal.take_vector-loop-k-smaller
 take_vector-loop-k-smaller t c = search rules
@@ -165,9 +159,6 @@ pub take_list-returns-in_err-item-in-Cons-clause-less : goal.take_list-returns-i
 take_list-returns-in_err-item-in-Cons-clause-less t c =
     let p = err_from_is_err_and c.from_residual.result c.from_residual.ensures.1 in rw p.1 tt
 
-pub take_list-same-items : goal.take_list-same-items
-take_list-same-items t c = refl
-
 pub take_list-returns-in_err-push-in-Cons-clause-takes : goal.take_list-returns-in_err-push-in-Cons-clause-takes
 take_list-returns-in_err-push-in-Cons-clause-takes t c =
     let p = err_from_is_err_and c.from_residual-in_err-push-in-Cons.result c.from_residual-in_err-push-in-Cons.ensures.1 in rw p.1 tt
@@ -179,9 +170,6 @@ take_list-returns-in_err-push-in-Cons-clause-stops t c =
 pub take_list-returns-in_err-push-in-Cons-clause-less : goal.take_list-returns-in_err-push-in-Cons-clause-less
 take_list-returns-in_err-push-in-Cons-clause-less t c =
     let p = err_from_is_err_and c.from_residual-in_err-push-in-Cons.result c.from_residual-in_err-push-in-Cons.ensures.1 in rw p.1 tt
-
-pub take_list-same-items-in-Cons : goal.take_list-same-items-in-Cons
-take_list-same-items-in-Cons t c = refl
 
 pub take_list-conses-smaller : goal.take_list-conses-smaller
 take_list-conses-smaller t c = c.in_ok-item-in-Cons.ensures.less
@@ -230,9 +218,6 @@ take_list-returns-in_err-datum-in_default t c =
 pub take_list-returns-in_err-tail-in_default : goal.take_list-returns-in_err-tail-in_default
 take_list-returns-in_err-tail-in_default t c =
     let p = err_from_is_err_and c.from_residual-in_err-tail-in_default.result c.from_residual-in_err-tail-in_default.ensures.1 in record { takes = rw p.1 tt; stops = rw (p.1, p.2) tt; less = rw p.1 tt }
-
-pub take_list-same-items-in_default : goal.take_list-same-items-in_default
-take_list-same-items-in_default t c = refl
 
 pub take_list-returns-in_default : goal.take_list-returns-in_default
 take_list-returns-in_default t c =
