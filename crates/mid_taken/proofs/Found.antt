@@ -1,5 +1,5 @@
 -- What is found where a word points is what the value of the word is at its outermost.
-use Rattle.std.proofs.Common.{◌≡◌, ℕ, ◌+◌, ◌-◌, ◌*◌, ◌/◌, ◌%◌, ◌^◌, ◌≤◌, ◌<◌, ℤ, pos, Bool, true, false, List, [], length, Option, Some, None, refl, sym, ap, subst, ◌∙◌, arith}
+use Rattle.std.proofs.Common.{◌≡◌, ℕ, ◌+◌, ◌*◌, ◌/◌, ◌%◌, ◌^◌, ℤ, pos, true, false, List, [], length, Some, None, refl, sym, ap, subst, ◌∙◌, arith}
 use Rattle.std.specs.Prelude.{◌==◌, ◌&&◌, int_div, slice_get, slice_index_or}
 use Rattle.std.specs.Option.{unwrap_or}
 use Rattle.std.proofs.lemmas.Bool.Decides.{nat_tests}
@@ -20,7 +20,7 @@ use Rattle.mid_arena.specs.Tags.{cons_tag, object_tag, string_header, vector_hea
 use Rattle.mid_arena.specs.Places.{Spot, Places, word_of}
 use Rattle.mid_arena.specs.Layouts.{packed, ObjectAt}
 use Rattle.mid_arena.specs.Standing.{ValueAt}
-use Rattle.mid_arena.proofs.Arguments.{character_word_is, tag_told, object_found}
+use Rattle.mid_arena.proofs.Arguments.{character_word_is, object_found}
 use Rattle.mid_arena.proofs.Keeping.{header_of}
 use Rattle.mid_arena.proofs.Owners.{same_number}
 use Rattle.mid_arena.proofs.Telling.{IntegerTold, integer_found, no_integer, integer_told, ConsTold, cons_found, no_cons, cons_told, nil_told, integer_low, symbol_low, object_low}

@@ -1,8 +1,7 @@
 -- What is taken so far of a vector or of a list: whatever the rest comes to, the whole comes to that behind it.
-use Rattle.std.proofs.Common.{◌≡◌, ℕ, ◌+◌, ◌≤◌, ◌<◌, List, [], ◌∷◌, ◌++◌, length, drop, Some, refl, sym, ap, subst, ◌∙◌, arith}
+use Rattle.std.proofs.Common.{◌≡◌, ℕ, ◌+◌, ◌<◌, List, [], ◌∷◌, ◌++◌, length, drop, Some, refl, sym, ap, subst, arith}
 use Rattle.std.specs.Prelude.{slice_get, slice_index_or}
 use Rattle.std.specs.Option.{unwrap_or}
-use Rattle.std.proofs.lemmas.List.{drop_all}
 use Rattle.std.proofs.lemmas.Option.{slice_get-get_or}
 use Rattle.base.specs.declared.reason.Reason.{Reason}
 use Rattle.base.specs.Data.{Item, Items, no_item, item_and, items_of, Tail}
@@ -11,7 +10,6 @@ use Rattle.lang_meaning.specs.Values.{Value, nil}
 use Rattle.lang_meaning.specs.State as meaning
 use Rattle.mid_arena.specs.Places.{word_of}
 use Rattle.lang_taken.specs.Shapes.{Shape, shape_of}
-use Rattle.lang_taken.specs.Shapes as shape
 use Rattle.lang_taken.specs.Taken.{TakesElements, an_element, TakesChain, at_cons}
 use Rattle.lang_taken.specs.Failing.{FailsElements, in_element, behind_element, FailsChain, in_car, in_cdr}
 use Rattle.mid_taken.specs.declared.parts.Part.{Part}

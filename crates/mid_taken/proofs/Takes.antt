@@ -1,7 +1,5 @@
 -- What parts stand for, and when they are refused.
-use Rattle.std.proofs.Common.{◌≡◌, ℕ, zero, suc, ◌+◌, ◌-◌, ◌/◌, ◌≤◌, ◌<◌, ℤ, true, false, List, [], ◌∷◌, length, refl, sym, ap, subst, ◌∙◌, drop, arith}
-use Rattle.std.specs.Prelude.{slice_index_or, Option, Some, None, Box}
-use Rattle.std.specs.declared.alloc.Global.{Global}
+use Rattle.std.proofs.Common.{◌≡◌, ℕ, suc, ◌+◌, ◌-◌, ◌/◌, ◌≤◌, ◌<◌, ℤ, true, false, List, [], ◌∷◌, length, refl, sym, ap, subst, ◌∙◌, drop, arith}
 use Rattle.std.proofs.lemmas.List.{drop_all}
 use Rattle.base.specs.declared.reason.Reason.{Reason}
 use Rattle.base.specs.declared.reason.Reason.TheVariants.{ExpansionNotForm, ExpansionTooLarge}
@@ -14,7 +12,7 @@ use Rattle.base.specs.Data as datum
 use Rattle.base.specs.AllOf.{AllOf}
 use Rattle.lang_meaning.specs.Values.{Value, in_range}
 use Rattle.lang_meaning.specs.State as meaning
-use Rattle.mid_arena.specs.Layouts.{AreBytes, byte_at}
+use Rattle.mid_arena.specs.Layouts.{AreBytes}
 use Rattle.lang_taken.specs.Shapes.{Shape, shape_of, own_size, opens, is_list}
 use Rattle.lang_taken.specs.Shapes as shape
 use Rattle.lang_taken.specs.Taken.{SymbolFor, of_name, of_other_expansion, of_this_expansion}
@@ -26,7 +24,7 @@ use Rattle.mid_taken.specs.declared.parts.Part.{Part}
 use Rattle.mid_taken.specs.declared.parts.Part.TheVariants.{Int, Char, Sym, Str, Vector, Nil, Cons, NoDatum}
 use Rattle.mid_taken.specs.declared.memory.Memory.{Memory}
 use Rattle.mid_taken.specs.Stands.{Stands}
-use Rattle.mid_taken.specs.Parts.{IsPart, IsPartAt, IsString, IsVector, IsCons, BytesIn, ValuesIn, part_size}
+use Rattle.mid_taken.specs.Parts.{IsPart, IsPartAt, IsCons, BytesIn, ValuesIn, part_size}
 use Rattle.mid_taken.specs.Taking.{StopsBy, PartTaken, PartFails, WordTaken, WordFails}
 use Rattle.mid_taken.proofs.Passed.{in_front, front_all, ElementsPassed, ChainPassed}
 

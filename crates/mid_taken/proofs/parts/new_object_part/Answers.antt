@@ -1,4 +1,4 @@
-use Rattle.std.proofs.Common.{◌/◌, refl, ap, ◌∙◌, subst, sym}
+use Rattle.std.proofs.Common.{◌/◌, refl, subst, sym}
 use Rattle.base.specs.declared.datum.Symbol.TheVariants.{Fresh}
 use Rattle.mid_taken.specs.declared.parts.Part.TheVariants.{Sym}
 use Rattle.mid_taken.specs.Parts.{IsPartAt}

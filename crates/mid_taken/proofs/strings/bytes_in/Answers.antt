@@ -1,4 +1,4 @@
-use Rattle.std.proofs.Common.{◌≡◌, ◌++◌, ◌∷◌, [], ◌∙◌}
+use Rattle.std.proofs.Common.{◌∙◌}
 use Rattle.mid_taken.proofs.Bytes.{one_more_byte}
 use Rattle.mid_taken.proofs.strings.bytes_in.Goals as goal
 

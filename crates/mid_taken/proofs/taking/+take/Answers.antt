@@ -1,15 +1,12 @@
 -- What a word stands for is what its part stands for; a vector and a list are taken part by part.
-use Rattle.std.proofs.Common.{◌≡◌, ℕ, ◌+◌, ◌-◌, ◌≤◌, List, [], ◌∷◌, ◌++◌, refl, sym, ap, ◌∙◌, subst, rules, arith}
-use Rattle.std.specs.Prelude.{IfOk, OnOk}
+use Rattle.std.proofs.Common.{◌+◌, ◌-◌, refl, sym, ap, ◌∙◌, subst, rules, arith}
 use Rattle.std.proofs.lemmas.Result.{err_from_is_err_and, IfOk-weaker, IfErr-weaker, on_ok_weaker}
-use Rattle.base.specs.declared.reason.Reason.{Reason}
 use Rattle.base.specs.declared.reason.Reason.TheVariants.{ExpansionNotForm, ExpansionTooLarge}
 use Rattle.base.specs.Data.{item, items_of, dotted}
 use Rattle.base.specs.Data as datum
 use Rattle.mid_start.proofs.Parts.{number_back}
 use Rattle.mid_taken.specs.declared.parts.Part.TheVariants.{Int, Char, Sym, Str, Vector, Nil, Cons, NoDatum}
-use Rattle.mid_taken.specs.Parts.{part_size}
-use Rattle.mid_taken.specs.Taking.{PartTaken, PartFails, WordTaken, WordFails}
+use Rattle.mid_taken.specs.Taking.{PartFails}
 use Rattle.mid_taken.proofs.Passed.{ElementsPassed, none_passed, element_passed, element_fails, ChainPassed, chain_begins, chain_goes_on, chain_fails}
 use Rattle.mid_taken.proofs.Takes.{int_taken, char_taken, symbol_taken, string_taken, nil_taken, no_datum_fails, vector_too_deep, list_too_deep}
 use Rattle.mid_taken.proofs.Takes.{vector_taken, vector_fails, list_taken, dotted_taken, item_fails, end_fails, word_taken, word_fails}

@@ -1,5 +1,5 @@
 -- The levels that may open become fewer; in a loop what is taken so far is a front of what is to be taken.
-use Rattle.std.proofs.Common.{ℕ, ◌+◌, ◌-◌, ◌*◌, ◌<◌, ◌≤◌}
+use Rattle.std.proofs.Common.{◌+◌, ◌-◌, ◌*◌, ◌≤◌}
 use Rattle.mid_taken.specs.declared.parts.Part.TheVariants.{Cons}
 use Rattle.mid_taken.proofs.Passed.{ElementsPassed, ChainPassed}
 use Rattle.mid_taken.proofs.taking.+take.Given as goal
