@@ -9,7 +9,7 @@ use Rattle.base.specs.Data as datum
 use Rattle.base.specs.Names.{IsTable}
 use Rattle.lang_meaning.specs.Values.{Value}
 use Rattle.lang_meaning.specs.Objects.{Object}
-use Rattle.lang_taken.specs.Shapes.{Shape, shape_of, own_size, opens}
+use Rattle.lang_taken.specs.Shapes.{Shape, shape_of, own_size, opens, is_list}
 use Rattle.lang_taken.specs.Taken.{SymbolFor, of_name, of_other_expansion, of_this_expansion}
 use Rattle.lang_taken.specs.Taken.{TakesShape, takes_integer, takes_character, takes_symbol, takes_string, takes_vector, takes_nil, takes_list}
 use Rattle.lang_taken.specs.Taken.{TakesElements, no_element, an_element, TakesChain, at_nil, at_cons, at_dot}
@@ -27,6 +27,12 @@ symbol_closed : (names : List (List ℕ)) (expansion : ℕ) (s : Shape) (one : S
 symbol_closed names expansion s one (of_name text name at) = refl
 symbol_closed names expansion s one (of_other_expansion other serial) = refl
 symbol_closed names expansion s one (of_this_expansion serial) = refl
+
+-- and that it is no list
+pub symbol_no_list : (names : List (List ℕ)) (expansion : ℕ) (s : Shape) (one : Symbol) → SymbolFor names expansion s one → is_list s ≡ false
+symbol_no_list names expansion s one (of_name text name at) = refl
+symbol_no_list names expansion s one (of_other_expansion other serial) = refl
+symbol_no_list names expansion s one (of_this_expansion serial) = refl
 
 module _ (names : List (List ℕ)) (objects : List Object) (place : Place) (expansion : ℕ) (table : IsTable names) where
   one_symbol : (s : Shape) (a b : Symbol) → SymbolFor names expansion s a → SymbolFor names expansion s b → a ≡ b

@@ -1,5 +1,5 @@
 -- What holds of the data that values stand for.
-use Rattle.std.specs.Prelude.{◌≡◌, ℕ, ◌+◌, ◌≤◌, List, length}
+use Rattle.std.specs.Prelude.{◌≡◌, ℕ, ◌+◌, ◌≤◌, List, ◌++◌, length}
 use Rattle.base.specs.declared.place.Place.{Place}
 use Rattle.base.specs.declared.reason.Reason.{Reason}
 use Rattle.base.specs.Data.{Item, place_of}
@@ -8,9 +8,11 @@ use Rattle.base.specs.Names.{IsTable}
 use Rattle.base.specs.WellFormedData.{WellFormed}
 use Rattle.lang_meaning.specs.Values.{Value}
 use Rattle.lang_meaning.specs.Objects.{Object}
+use Rattle.lang_meaning.specs.Literals.{lay}
 use Rattle.lang_taken.specs.Taken.{Takes}
 use Rattle.lang_taken.specs.Failing.{Fails}
 use Rattle.lang_taken.specs.Bytes.{HasBytes}
+use Rattle.lang_taken.specs.Placed.{at_place}
 
 -- a value stands for at most one datum, behind which so much is left
 abbrev pub LawOfOneDatum : Type 0
@@ -47,3 +49,12 @@ abbrev pub LawOfForm : Type 0
 LawOfForm =
     (names : List (List ℕ)) (objects : List Object) (place : Place) (expansion deep left : ℕ) (v : Value) (d : Item) (rest : ℕ)
     → Takes names objects place expansion deep left v d rest → WellFormed (length names) d × HasBytes d
+
+-- The value that a datum makes as a literal stands for that datum, with all its parts at the place, in each store that has the objects which the
+-- datum makes: where so many levels may open and at least its size is left.
+abbrev pub LawOfLaid : Type 0
+LawOfLaid =
+    (names : List (List ℕ)) (before after : List Object) (place : Place) (expansion deep rest : ℕ) (d : Item)
+    → WellFormed (length names) d → HasBytes d → depth_of d ≤ deep
+    → Takes names (before ++ ((lay names d (length before)).objects ++ after)) place expansion deep (size_of d + rest)
+    (lay names d (length before)).value (at_place place d) rest

@@ -1,6 +1,6 @@
 // Laws of the data that values stand for, as the contracts of functions that do nothing.
 
-ghost use Rattle.lang_taken.specs.Laws.{LawOfOneDatum, LawOfOneReason, LawOfEither, LawOfMeasures, LawOfForm};
+ghost use Rattle.lang_taken.specs.Laws.{LawOfOneDatum, LawOfOneReason, LawOfEither, LawOfMeasures, LawOfForm, LawOfLaid};
 
 /// A value stands for at most one datum.
 pub fn law_one_datum()
@@ -25,4 +25,9 @@ pub fn law_measures()
 /// The datum is in form, its names are in the table, and its characters are bytes.
 pub fn law_form()
     ensures { LawOfForm }
+{}
+
+/// The value that a datum makes as a literal stands for that datum.
+pub fn law_laid()
+    ensures { LawOfLaid }
 {}

@@ -3,4 +3,4 @@
 
 pub mod laws;
 
-pub use laws::{law_either, law_form, law_measures, law_one_datum, law_one_reason};
+pub use laws::{law_either, law_form, law_laid, law_measures, law_one_datum, law_one_reason};
