@@ -1,24 +1,22 @@
 -- The value that a datum makes as a literal stands for that datum.
-use Rattle.std.proofs.Common.{◌≡◌, ℕ, zero, suc, ◌+◌, ◌-◌, ◌/◌, ◌≤◌, ◌<◌, max, true, false, List, [], ◌∷◌, ◌++◌, length, Some, refl, sym, ap, subst, ◌∙◌, length-append, append_assoc, arith}
+use Rattle.std.proofs.Common.{◌≡◌, ℕ, suc, ◌+◌, ◌-◌, ◌/◌, ◌≤◌, false, List, [], ◌∷◌, ◌++◌, length, Some, refl, sym, ap, subst, ◌∙◌, arith}
 use Rattle.std.specs.Prelude.{slice_get}
 use Rattle.std.proofs.lemmas.Option.{slice_get-get_or}
 use Rattle.base.specs.declared.place.Place.{Place}
-use Rattle.base.specs.declared.datum.Symbol.{Symbol}
 use Rattle.base.specs.declared.datum.Symbol.TheVariants.{Named, Fresh}
 use Rattle.base.specs.Data.{Item, item, Content, integer, character, symbol, string, vector, nil, list}
 use Rattle.base.specs.Data.{Items, no_item, item_and, Tail, no_tail, dotted, content_of}
-use Rattle.base.specs.DataMeasures.{size_of, sizes_of, size_of_tail, depth_of, depths_of, depth_of_tail, IsNoList, SymbolBelow}
+use Rattle.base.specs.DataMeasures.{size_of, sizes_of, size_of_tail, depth_of, depths_of, depth_of_tail, IsNoList}
 use Rattle.base.specs.DataMeasures.{Formed, AllFormed, FormedTail, NamesBelow, AllNamesBelow, NamesBelowTail}
 use Rattle.base.specs.DataFormed.{formed_tells}
 use Rattle.base.specs.Names.{slice_get-front, slice_get-behind}
 use Rattle.lang_meaning.specs.Lookup.{text}
 use Rattle.lang_meaning.specs.Literals.{lay, lay_items, lay_list, lay_tail, symbol_of}
-use Rattle.lang_meaning.specs.Values.{Value, in_range}
 use Rattle.lang_meaning.specs.Objects.{Object}
 use Rattle.lang_meaning.specs.Objects as object
 use Rattle.lang_taken.specs.Shapes.{Shape, shape_of, shape_of_object, is_list}
 use Rattle.lang_taken.specs.Shapes as shape
-use Rattle.lang_taken.specs.Taken.{SymbolFor, of_name, of_other_expansion, of_this_expansion}
+use Rattle.lang_taken.specs.Taken.{of_name, of_other_expansion}
 use Rattle.lang_taken.specs.Taken.{TakesShape, takes_integer, takes_character, takes_symbol, takes_string, takes_vector, takes_nil, takes_list}
 use Rattle.lang_taken.specs.Taken.{TakesElements, no_element, an_element, TakesChain, at_nil, at_cons, at_dot}
 use Rattle.lang_taken.specs.Bytes.{HasBytes, AllHaveBytes, TailHasBytes}
