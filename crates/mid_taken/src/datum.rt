@@ -11,9 +11,10 @@ use base::{Datum, NoMemory, Place, Stop};
 use mid_start::SymbolWord;
 use std::alloc::Global;
 
-/// The size that a datum of a value may have at most, and how many lists and vectors may stand inside one another.
+/// The size that a datum of a value may have at most.
 pub const GREATEST_SIZE: usize = 100_000;
 
+/// How many lists and vectors may stand inside one another.
 pub const GREATEST_DEPTH: u32 = 256;
 
 /// The datum that a value stands for as the result of the expansion with that number, all parts at that place. `words` are those of
