@@ -15,10 +15,11 @@ use Rattle.lang_meaning.specs.State as meaning
 use Rattle.mid_arena.specs.Layouts.{AreBytes}
 use Rattle.lang_taken.specs.Shapes.{Shape, shape_of, own_size, opens, is_list}
 use Rattle.lang_taken.specs.Shapes as shape
+use Rattle.lang_taken.specs.Taken.{SymbolFor, of_name, of_other_expansion, of_this_expansion}
 use Rattle.lang_taken.specs.Taken.{IsByte, TakesShape, takes_integer, takes_character, takes_symbol, takes_string, takes_vector, takes_nil, takes_list}
 use Rattle.lang_taken.specs.Taken.{TakesElements, no_element, TakesChain, at_nil, at_dot}
 use Rattle.lang_taken.specs.Failing.{FailsShape, is_no_datum, is_too_large, is_too_deep, in_vector, in_list, FailsElements, FailsChain, behind_dot}
-use Rattle.lang_taken.proofs.Once.{symbol_size, symbol_no_list}
+use Rattle.lang_taken.proofs.Once.{symbol_size}
 use Rattle.mid_taken.specs.declared.parts.Part.{Part}
 use Rattle.mid_taken.specs.declared.parts.Part.TheVariants.{Int, Char, Sym, Str, Vector, Nil, Cons, NoDatum}
 use Rattle.mid_taken.specs.declared.memory.Memory.{Memory}
@@ -220,6 +221,12 @@ list_taken from car cdr deep left rest items d some p is =
     let P : Shape → Type 0 = λ x. TakesChain names z.store from.place from.expansion (deep - 1) rest x no_item no_tail rest in
     o.taken no_item no_tail rest (subst P (sym is_nil) (at_nil (deep - 1) rest)))
     is
+
+-- no symbol is a list
+symbol_no_list : (names : List (List ℕ)) (expansion : ℕ) (s : Shape) (one : Symbol) → SymbolFor names expansion s one → is_list s ≡ false
+symbol_no_list names expansion s one (of_name text name at) = refl
+symbol_no_list names expansion s one (of_other_expansion other serial) = refl
+symbol_no_list names expansion s one (of_this_expansion serial) = refl
 
 -- what is neither a cons nor nil is no list
 no_list :
