@@ -1,0 +1,4 @@
+pub mod Once
+pub mod Measures
+pub mod Forms
+pub mod Laid

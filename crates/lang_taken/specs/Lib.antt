@@ -1,0 +1,6 @@
+pub mod Shapes
+pub mod Taken
+pub mod Failing
+pub mod Bytes
+pub mod Placed
+pub mod Laws
