@@ -39,7 +39,7 @@ drawn a p s (Sited b) =
     (record { site = next_site a (noting b.note s); making = b.making })
 drawn a p s (Defines f) =
     whole (alone false a) (alone false a) (with_name a.spot.sited f.datum.now s) (view_parts f.parts ++ view_inner f.inner)
-    (record { site = None; making = OfFunctionNamed f.name f.required f.rest a.spot.sited (named_form a.spot.sited s) })
+    (record { site = None; making = OfFunctionNamed f.kind f.name f.required f.rest a.spot.sited (named_form a.spot.sited s) })
 drawn a p s (DefinesMethods m) =
     whole a a (with_name a.spot.sited (item m.place (symbol (Named m.name))) s) (view_parts m.parts)
     (record { site = None; making = OfMethods m.taker m.heads (length s.procedures) a.spot.sited (named_form a.spot.sited s) })

@@ -159,7 +159,7 @@ parameters_ordinary [] = tt
 parameters_ordinary (p ∷ ps) = (tt, parameters_ordinary ps)
 
 one_names : (u : Tables) (p : Procedure) → SameNames u (with_procedure p u)
-one_names u p = record { words = refl; classes = refl; prelude_classes = refl; generics = refl; functions = refl; prelude = refl; globals = refl; dynamics = refl; main = refl }
+one_names u p = record { words = refl; classes = refl; prelude_classes = refl; generics = refl; functions = refl; macros = refl; prelude = refl; globals = refl; dynamics = refl; main = refl }
 
 one_more : (u : Tables) (p : Procedure) → OneProcedure u (with_procedure p u)
 one_more u p = record { names = one_names u p; procedure = p; procedures = refl }

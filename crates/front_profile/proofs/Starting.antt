@@ -64,7 +64,7 @@ NodeBegins s (whole o i t xs m) = TablesGrow s t
 -- between these tables nothing is defined
 
 pub names_same : (t : Tables) → SameNames t t
-names_same t = record { words = refl; classes = refl; prelude_classes = refl; generics = refl; functions = refl; prelude = refl; globals = refl; dynamics = refl; main = refl }
+names_same t = record { words = refl; classes = refl; prelude_classes = refl; generics = refl; functions = refl; macros = refl; prelude = refl; globals = refl; dynamics = refl; main = refl }
 
 pub names_then : (s t u : Tables) → SameNames s t → SameNames t u → SameNames s u
 names_then s t u a b = record {
@@ -73,6 +73,7 @@ names_then s t u a b = record {
   prelude_classes = b.prelude_classes ∙ a.prelude_classes;
   generics = b.generics ∙ a.generics;
   functions = b.functions ∙ a.functions;
+  macros = b.macros ∙ a.macros;
   prelude = b.prelude ∙ a.prelude;
   globals = b.globals ∙ a.globals;
   dynamics = b.dynamics ∙ a.dynamics;
@@ -89,7 +90,7 @@ none_then s t u a b = record { names = names_then s t u a.names b.names; procedu
 none_with : (s : Tables) (ls : List LiteralRow) (ns : List Name) (ps : List Place) (xs : List Symbol) (v e : ℕ)
     → NothingDefined s (record s { literals = ls; set = ns; sites = ps; fresh = xs; variables = v; exits = e })
 none_with s ls ns ps xs v e = record {
-  names = record { words = refl; classes = refl; prelude_classes = refl; generics = refl; functions = refl; prelude = refl; globals = refl; dynamics = refl; main = refl };
+  names = record { words = refl; classes = refl; prelude_classes = refl; generics = refl; functions = refl; macros = refl; prelude = refl; globals = refl; dynamics = refl; main = refl };
   procedures = refl;
 }
 

@@ -9,6 +9,7 @@ use Rattle.front_profile.specs.declared.elaboration.Made.{Made}
 use Rattle.front_profile.specs.declared.elaboration.One.{One}
 use Rattle.front_profile.specs.declared.elaboration.One.TheVariants.{SetVariable}
 use Rattle.front_profile.specs.declared.elaboration.Elaboration.{Elaboration}
+use Rattle.front_profile.specs.declared.elaboration.DefinedAs.TheVariants.{Function, Macro}
 use Rattle.front_profile.specs.declared.elaboration.Elaboration.TheVariants.{OfOne, OfFunctionNamed, OfMethods, OfClass}
 use Rattle.front_profile.specs.Nodes.{StaticContext, Part, form, below, inner, bind, parameter, wrong, function, Written, initform, accessor, method, Node, offends, unnamed, steps, whole, Standing, Verdict, stands as comes_to, ended, behind, recorded}
 use Rattle.front_profile.specs.RowWords.{deeper}
@@ -84,7 +85,8 @@ one_known other u w = w
 
 simple_known : (k : Elaboration) → IsSimple k → (rs : List ElaboratedPart) (u : Tables) → KnownTables u → KnownTables (finish k rs u)
 simple_known (OfOne k) h rs u w = one_known k u w
-simple_known (OfFunctionNamed name n rest of_file l) h rs u w = known_function u _ w
+simple_known (OfFunctionNamed Function name n rest of_file l) h rs u w = known_function u _ w
+simple_known (OfFunctionNamed Macro name n rest of_file l) h rs u w = w
 simple_known (OfMethods t hs p of_file l) h rs u w = absurd h
 simple_known (OfClass c p of_file l) h rs u w = absurd h
 simple_known other h rs u w = w

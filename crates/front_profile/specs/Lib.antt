@@ -20,6 +20,7 @@ pub mod ClassRows
 pub mod Rows
 pub mod Judged
 pub mod Marks
+pub mod Cuts
 pub mod Promises
 pub mod Sound
 pub mod Walks

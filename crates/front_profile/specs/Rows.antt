@@ -21,6 +21,7 @@ use Rattle.front_profile.specs.Words.{special_named, is_left_out, is_kept, is_re
 use Rattle.front_profile.specs.Names.{function_of}
 use Rattle.front_profile.specs.declared.elaboration.Leaf.TheVariants.{NextMethod, HasNext}
 use Rattle.lang_meaning.specs.declared.kinds.OverTwo.TheVariants.{Apply, While, Catch, Throw, Unwind, WithHandler}
+use Rattle.front_profile.specs.declared.elaboration.DefinedAs.TheVariants.{Function}
 use Rattle.front_profile.specs.declared.elaboration.Elaboration.TheVariants.{CallOfValue}
 use Rattle.front_profile.specs.Nodes.{StaticContext, Node, offends, steps}
 use Rattle.front_profile.specs.Shapes.{symbol_of}
@@ -91,7 +92,7 @@ special_row names name.WithFunctions a s p ds = with_functions_row (functions_ke
 special_row names name.Defglobal a s p ds = global_row false a s p ds
 special_row names name.Defconstant a s p ds = global_row true a s p ds
 special_row names name.Defdynamic a s p ds = defdynamic_row a s p ds
-special_row names name.Defun a s p ds = defun_row (first_reserved names ds) a s p ds
+special_row names name.Defun a s p ds = defun_row Function (first_reserved names ds) a s p ds
 special_row names name.Defmacro a s p ds = offends p NotBuilt
 special_row names name.Defclass a s p ds = defclass_row names a s p ds
 special_row names name.Defgeneric a s p ds = defgeneric_row names a s p ds

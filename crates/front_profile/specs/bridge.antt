@@ -1,5 +1,7 @@
 -- What proofs of the code need of the definition.
 pub mod Growing
+pub mod CutGenerics
+pub mod Cutting
 pub mod Turns
 pub mod Once
 pub mod WellFormedParts

@@ -1,5 +1,4 @@
 pub mod Scopes
-pub mod Cuts
 pub mod Walk
 pub mod Cells
 pub mod Below

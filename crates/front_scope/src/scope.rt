@@ -6,7 +6,7 @@ ghost use Rattle.base.specs.Data.{place_of};
 ghost use Rattle.base.specs.Names.{Extends};
 ghost use Rattle.front_profile.specs.Marks.{TablesGrow};
 ghost use Rattle.front_profile.specs.Definitions.{SoundTables};
-ghost use Rattle.front_scope.specs.Cuts.{mark_of};
+ghost use Rattle.front_profile.specs.Cuts.{mark_of, opened};
 ghost use Rattle.front_profile.specs.Promises.{FormStops};
 ghost use Rattle.front_profile.specs.Known.{KnownTables};
 ghost use Rattle.front_scope.specs.Walk.{FormGives};
@@ -16,7 +16,7 @@ use crate::cells::has_too_many_cells;
 use crate::counts::with_added;
 use crate::first::{first_tables, reserved_words};
 use crate::judge::judge;
-use crate::mark::{Mark, cut_to, mark_of};
+use crate::mark::{close, open};
 use base::{Datum, Names, NoMemory, Origin, Reason, Refusal, Stop};
 use front_context::Bindings;
 use front_elaboration::Formed;
@@ -70,6 +70,7 @@ fn top_spot(origin: Origin) -> Spot
         top: true,
         in_method: false,
         sited,
+        in_row: 0,
     }
 }
 
@@ -144,13 +145,12 @@ fn take_form(
     alloc: Global,
     names: &mut Names,
     tables: &mut Tables,
-    mark: &Mark,
     nodes: u64,
     datum: &Datum,
     origin: Origin,
 ) -> Result<u64, Stop>
     requires good { WellFormed (length names.old) datum.now }
-    requires mark { mark.now ≡ mark_of tables.old }
+    requires mark { tables.old.before ≡ mark_of tables.old }
     requires nodes { nodes ≡ nodes_of tables.old }
     requires whole { IsWhole tables.old }
     ensures taken { OnOk result (IsTaken names.new origin tables.old datum.now tables.new) }
@@ -162,11 +162,11 @@ fn take_form(
 {
     law_top_forms();
     judge_top(alloc, names, tables, datum, origin)?;
-    let nodes = with_added(tables, mark, nodes);
+    let nodes = with_added(tables, &tables.before, nodes);
     if nodes > MOST_NODES {
         return Err(too_large(datum, Reason::ProgramTooLarge));
     }
-    if has_too_many_cells(alloc, tables, mark)? {
+    if has_too_many_cells(alloc, tables, &tables.before)? {
         return Err(too_large(datum, Reason::DispatchTooLarge));
     }
     Ok(nodes)
@@ -192,33 +192,33 @@ impl Scope {
     }
 
     /// Judges a top-level form of the prelude or of a file, and takes what it defines
-    /// (ISO/IEC 13816:2007, 11 and 12). It is refused by its first offence in preorder, with the place
+    /// (ISO/IEC 13816:2007, 11 and 12). Of the macros, those apply that were defined before it. It is refused by its first offence in preorder, with the place
     /// and the lowest reason there; else, at the form, by `ProgramTooLarge` where the program has more than 100,000
     /// nodes with it, and by `DispatchTooLarge` where its dispatch tables have more than 262,144 cells with it. The
     /// scope is unchanged after a stop; the table of names keeps its names and may have gained some. Condition: the datum is in form, and its names are in the table.
     pub fn form(&mut self, names: &mut Names, datum: &Datum, origin: Origin) -> Result<(), Stop>
         requires good { WellFormed (length names.old) datum.now }
-        ensures taken { OnOk result (IsTaken names.new origin self.old datum.now self.new) }
-        ensures stop { IfErr result (IsFormStopped names.new origin self.old datum.now) }
+        ensures taken { OnOk result (IsTaken names.new origin (opened self.old) datum.now self.new) }
+        ensures stop { IfErr result (IsFormStopped names.new origin (opened self.old) datum.now) }
         ensures unchanged { OnErr result (self.new ≡ self.old) }
         ensures names { Extends names.old names.new }
     {
-        let mark = mark_of(self.alloc, &self.tables)?;
+        let before = open(self.alloc, &mut self.tables)?;
         match take_form(
             self.alloc,
             names,
             &mut self.tables,
-            &mark,
             self.nodes,
             datum,
             origin,
         ) {
             Ok(nodes) => {
+                drop(before);
                 self.nodes = nodes;
                 Ok(())
             }
             Err(stop) => {
-                cut_to(&mut self.tables, &mark);
+                close(&mut self.tables, before);
                 Err(stop)
             }
         }
