@@ -9,7 +9,7 @@ use Rattle.front_drafts.specs.declared.here.FormContext.{FormContext}
 use Rattle.front_drafts.specs.Views.{at, view_parts, view_inner}
 use Rattle.front_profile.specs.declared.elaboration.Elaboration.TheVariants.{OfFunctionNamed, OfMethods, OfClass}
 use Rattle.front_profile.specs.declared.tables.Tables.{Tables}
-use Rattle.front_profile.specs.Nodes.{StaticContext, Node, offends, unnamed, steps, whole}
+use Rattle.front_profile.specs.Nodes.{StaticContext, Node, offends, unnamed, steps, calls, whole}
 use Rattle.front_profile.specs.RowWords.{alone, literal_node, unsited, with_site, next_site}
 use Rattle.front_profile.specs.ValueRows.{with_set}
 use Rattle.front_profile.specs.ExitRows.{with_exit}
@@ -60,4 +60,5 @@ abbrev pub is_unnamed : Node → Bool
 is_unnamed unnamed = true
 is_unnamed (offends p r) = false
 is_unnamed (steps a s d) = false
+is_unnamed (calls a s m d) = false
 is_unnamed (whole a i s xs m) = false

@@ -32,7 +32,7 @@ use Rattle.front_profile.specs.ClassRows.{Function, for_initform, for_method, fu
 use Rattle.front_profile.specs.bridge.SoundClasses.{sound_defclass}
 use Rattle.front_profile.specs.Definitions.{Definitions, defined, Later, slot_fits, SoundDefinitions}
 use Rattle.front_profile.proofs.DefiningRows.{no_function}
-use Rattle.front_profile.proofs.Definitions.{literals_later, procedures_later, own_later, generics_later, functions_later, mains_later, all_push}
+use Rattle.front_profile.proofs.Definitions.{literals_later, procedures_later, own_later, generics_later, functions_later, macros_later, mains_later, all_push}
 use Rattle.front_profile.proofs.Procedures.{MadeFrom}
 use Rattle.front_profile.proofs.Wanted.{AptAt, Stage}
 use Rattle.front_profile.proofs.ValueRows.{class_there}
@@ -195,6 +195,7 @@ class_joined t c of_file w hierarchy fit =
         generics = record { fit = generics_later g h l g.generics w.generics.fit; names = w.generics.names; named = w.generics.named };
         functions = functions_later g h l g.functions w.functions;
         names = w.names;
+        macros = macros_later g h l g.macros w.macros;
         main = mains_later g h l g.main w.main;
       };
       later = l;

@@ -23,6 +23,7 @@ use Rattle.lang_meaning.specs.Standing.{is_alone}
 use Rattle.lang_meaning.specs.Facts.{same_name, callee_fits}
 use Rattle.lang_meaning.specs.ProgramCounts.{procedure_nodes}
 use Rattle.front_profile.specs.declared.tables.Tables.{Tables}
+use Rattle.front_profile.specs.declared.tables.MacroRow.{MacroRow}
 use Rattle.front_profile.specs.declared.parameters.Parameters.{Parameters}
 use Rattle.front_profile.specs.declared.elaboration.DefinedAs.{DefinedAs}
 use Rattle.front_profile.specs.declared.elaboration.DefinedAs.TheVariants.{Function, Macro}
@@ -33,11 +34,11 @@ use Rattle.front_profile.specs.Shapes.{symbol_of, parameters_in, all_symbols}
 use Rattle.front_profile.specs.RowWords.{each_parameter, each_inner, alone}
 use Rattle.front_profile.specs.FunctionNodes.{function_parts}
 use Rattle.front_profile.specs.DefiningRows.{named, is_that, has_global, has_dynamic, global_variable, dynamic_variable, is_set, is_of_prelude, has_function, is_taken, is_truth, is_reserved, defining_offence, unless_offending, global_as, global_row, defdynamic_as, defdynamic_row, with_name, named_form, defun_of, defun_with, defun_as, defun_row}
-use Rattle.front_profile.specs.Definitions.{Definitions, defined, rows_of, Later, Undefined, has_function as has_row, SoundDefinitions, EachStands}
+use Rattle.front_profile.specs.Definitions.{Definitions, defined, rows_of, Later, Undefined, has_function as has_row, macro_stands, SoundDefinitions, EachStands}
 use Rattle.front_profile.specs.Places.{scope_of}
 use Rattle.front_profile.specs.Right.{RightIn, NodesCounted}
 use Rattle.front_profile.proofs.Tests.{all_more}
-use Rattle.front_profile.proofs.Definitions.{Entered, entered_same, entered_literal, later_then, literals_later, procedures_later, own_later, generics_later, functions_later, callee_fits_later, mains_later, each_stands_same, all_push, counted_same, counted_then}
+use Rattle.front_profile.proofs.Definitions.{Entered, entered_same, entered_literal, later_then, literals_later, procedures_later, own_later, generics_later, functions_later, macros_later, callee_fits_later, mains_later, each_stands_same, all_push, counted_same, counted_then}
 use Rattle.front_profile.proofs.Procedures.{all_low}
 use Rattle.front_profile.proofs.Functions.{FitsAlone, fits_at_most, one_more, later_procedure, sound_procedure, procedure_counted, found_procedure}
 use Rattle.front_profile.proofs.Nodes.{nodes_in, found_nodes, body_nodes}
@@ -159,6 +160,39 @@ sound_row g name c w e k =
       };
       functions = all_push (λ f. callee_fits (rows_of h) f.callee) g.functions f (functions_later g h l g.functions w.functions) (callee_fits_later g h l c e);
       names = one_name_more name c g.functions w.names k;
+      macros = macros_later g h l g.macros w.macros;
+      main = mains_later g h l g.main w.main;
+    }
+
+-- with a macro
+
+abbrev with_macro_row : Definitions → MacroRow → Definitions
+with_macro_row g m = record g { macros = g.macros ++ m ∷ [] }
+
+later_macro : (g : Definitions) (m : MacroRow) → Later g (with_macro_row g m)
+later_macro g m = record {
+  literals = omega arith;
+  procedures = omega arith;
+  kept = λ i q e. e;
+  classes = omega arith;
+  generics = omega arith;
+  sites = omega arith;
+  variables = omega arith;
+  exits = omega arith;
+}
+
+sound_macro : (g : Definitions) (m : MacroRow) → SoundDefinitions g → macro_stands g m ≡ true → SoundDefinitions (with_macro_row g m)
+sound_macro g m w k =
+    let h : Definitions = with_macro_row g m in
+    let l : Later g h = later_macro g m in
+    record {
+      literals = literals_later g h l g.literals w.literals;
+      procedures = procedures_later g h l g.procedures w.procedures;
+      classes = record { hierarchy = w.classes.hierarchy; slots = own_later g h l g.classes.own w.classes.slots };
+      generics = record { fit = generics_later g h l g.generics w.generics.fit; names = w.generics.names; named = w.generics.named };
+      functions = functions_later g h l g.functions w.functions;
+      names = w.names;
+      macros = all_push (macro_stands h) g.macros m (macros_later g h l g.macros w.macros) k;
       main = mains_later g h l g.main w.main;
     }
 
@@ -192,12 +226,15 @@ stands_one g p a s = record {
 
 later_defined : (k : DefinedAs) (name : Name) (p : Procedure) (of_file : Bool) (u : Tables) → Later (defined u) (defined (with_defined k name p of_file u))
 later_defined Function name p of_file u = later_function (defined u) name p
-later_defined Macro name p of_file u = later_procedure (defined u) p
+later_defined Macro name p of_file u =
+    later_then (defined u) (one_more (defined u) p) (defined (with_defined Macro name p of_file u)) (later_procedure (defined u) p) (later_macro (one_more (defined u) p) _)
 
 sound_defined : (k : DefinedAs) (name : Name) (p : Procedure) (of_file : Bool) (u : Tables) → SoundDefinitions (defined u) → FitsAlone (defined u) false p
     → list_any (λ f. is_that name f.name) u.functions ≡ false → SoundDefinitions (defined (with_defined k name p of_file u))
 sound_defined Function name p of_file u w f e = whole_function (defined u) name p w f e
-sound_defined Macro name p of_file u w f e = sound_procedure (defined u) p w (fits_at_most (defined u) false p f)
+sound_defined Macro name p of_file u w f e =
+    sound_macro (one_more (defined u) p) (record { name = name; procedure = length u.procedures })
+    (sound_procedure (defined u) p w (fits_at_most (defined u) false p f)) (ap (is_alone false) (slice_get-behind u.procedures p) ∙ f.alone)
 
 main_defined : (k : DefinedAs) (name : Name) (p : Procedure) (of_file : Bool) (u : Tables) → (with_defined k name p of_file u).main ≡ u.main
 main_defined Function name p of_file u = refl
@@ -206,7 +243,7 @@ main_defined Macro name p of_file u = refl
 stands_defined : (k : DefinedAs) (name : Name) (p : Procedure) (of_file : Bool) (u : Tables) → is_alone false (Some p) ≡ true → EachStands (defined u)
     → EachStands (defined (with_defined k name p of_file u))
 stands_defined Function name p of_file u a s = stands_with (defined u) name p a s
-stands_defined Macro name p of_file u a s = stands_one (defined u) p a s
+stands_defined Macro name p of_file u a s = record { stands = (stands_one (defined u) p a s).stands }
 
 -- the name of a file's function is a literal
 pub name_entered : (sited : Bool) (d : Item) (s : Tables) → SoundDefinitions (defined s) → is_formed d ≡ true → Entered (defined s) (defined (with_name sited d s))
@@ -225,7 +262,7 @@ function_counted b x g name p n k l c = let r : NodesCounted b x (one_more g p) 
 defined_counted : (b : Bool) (x : Definitions) (d : DefinedAs) (name : Name) (p : Procedure) (of_file : Bool) (u : Tables) (n k : ℕ) → n ≤ procedure_nodes p
     → NodesCounted b x (defined u) n → NodesCounted b x (defined (with_defined d name p of_file u)) k
 defined_counted b x Function name p of_file u n k l c = function_counted b x (defined u) name p n k l c
-defined_counted b x Macro name p of_file u n k l c = procedure_counted b x (defined u) p n k l c
+defined_counted b x Macro name p of_file u n k l c = let r : NodesCounted b x (one_more (defined u) p) k = procedure_counted b x (defined u) p n k l c in record { sites = r.sites }
 
 pub name_counted : (b sited : Bool) (d : Item) (s : Tables) → NodesCounted b (defined s) (defined (with_name sited d s)) 0
 name_counted b true d s = record { sites = (counted_same b (defined s)).sites }

@@ -3,7 +3,6 @@ pub mod Growing
 pub mod CutGenerics
 pub mod Cutting
 pub mod Turns
-pub mod Once
 pub mod WellFormedParts
 pub mod SoundParts
 pub mod SoundForms

@@ -138,6 +138,7 @@ nothing_left texts t e = record {
   procedures = ap (λ (u : Tables). u.procedures) e;
   generics = ap (λ (u : Tables). u.generics) e;
   functions = ap (λ (u : Tables). u.functions) e;
+  macros = ap (λ (u : Tables). u.macros) e;
   main = ap (λ (u : Tables). u.main) e;
   sites = ap (λ (u : Tables). u.sites) e;
 }
