@@ -14,3 +14,4 @@ pub mod LaterNames
 pub mod LaterDefinitions
 pub mod LaterClasses
 pub mod Later
+pub mod LaterExpansions
