@@ -1,0 +1,5 @@
+use Rattle.lang_taken.proofs.Once.{law_of_one_reason}
+use Rattle.lang_taken.proofs.laws.law_one_reason.Goals as goal
+
+pub returns : goal.returns
+returns c = law_of_one_reason

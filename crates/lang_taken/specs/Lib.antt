@@ -1,0 +1,5 @@
+pub mod Shapes
+pub mod Taken
+pub mod Failing
+pub mod Bytes
+pub mod Laws
