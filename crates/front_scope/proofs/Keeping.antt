@@ -32,8 +32,9 @@ use Rattle.front_profile.specs.Between.{TopLevelTables, HasNoForm}
 use Rattle.front_profile.specs.Places.{EmptyContext}
 use Rattle.front_profile.specs.Right.{with_main as with_form}
 use Rattle.front_profile.specs.declared.mark.Mark.{Mark}
+use Rattle.front_scope.specs.Calls.{Begun}
 use Rattle.front_scope.specs.Cells.{FewAt}
-use Rattle.front_profile.specs.Cuts.{mark_of}
+use Rattle.front_profile.specs.Cuts.{mark_of, opened}
 use Rattle.front_scope.specs.Scopes.{rows_of, nodes_of, cells_of, most_cells, top, first_tables, IsElaborated, AreInitialTables, IsWhole}
 use Rattle.front_profile.specs.bridge.CutGenerics.{same_rows, same_generics}
 
@@ -55,6 +56,36 @@ opened_between s w = record { whole = w.whole; classes = w.classes; sites = w.si
 
 pub opened_whole : (s : Tables) → IsWhole s → IsWhole (opened s)
 opened_whole s w = record { between = opened_between s w.between; small = w.small; few = w.few }
+
+-- where a form begins
+pub begun_here : (t : Tables) → t.before ≡ mark_of t → IsWhole t → Begun t
+begun_here t e w = let g = tables_grow_reflexive t in record {
+  first = t;
+  whole = w.between;
+  small = w.small;
+  few = w.few;
+  grown = record {
+    words = g.words;
+    classes = g.classes;
+    slots = g.slots;
+    generics = g.generics;
+    literals = g.literals;
+    procedures = g.procedures;
+    functions = g.functions;
+    macros = g.macros;
+    prelude = g.prelude;
+    globals = g.globals;
+    set = g.set;
+    dynamics = g.dynamics;
+    sites = g.sites;
+    fresh = g.fresh;
+    main = g.main;
+    variables = g.variables;
+    exits = g.exits;
+    expansions = g.expansions;
+    before = e;
+  };
+}
 
 pub given_whole : TopForms → (old names : List (List ℕ)) (origin : Origin) (s : Tables) (d : Item) (t : Tables) → WellFormed (length old) d → Extends old names →
     TopLevelTables s → IsElaborated names origin s d t → TopLevelTables t

@@ -1,6 +1,7 @@
 -- Calls of macros in the walk (ISO/IEC 13816:2007, 16): what a form leads to by its steps and by expansions, and what is asked of what expands a
 -- call and of what it answers.
 use Rattle.std.specs.Prelude.{◌≡◌, ◌≤◌, ◌<◌, ℕ, List, Option, Some, None, length}
+use Rattle.base.specs.declared.reason.Reason.TheVariants.{ExpanderArena}
 use Rattle.base.specs.declared.reason.Stop.{Stop}
 use Rattle.base.specs.declared.reason.Stop.TheVariants.{Refused, NoMemory}
 use Rattle.base.specs.Data.{Item, place_of}
@@ -12,8 +13,8 @@ use Rattle.front_profile.specs.declared.tables.Tables.{Tables}
 use Rattle.front_profile.specs.Between.{TopLevelTables}
 use Rattle.front_profile.specs.Cuts.{opened}
 use Rattle.front_profile.specs.Definitions.{defined, rows_of}
-use Rattle.front_profile.specs.Expanders.{tables_before}
-use Rattle.front_profile.specs.Expansions.{Expands, ExpansionStops}
+use Rattle.front_profile.specs.Expanders.{tables_before, program_of}
+use Rattle.front_profile.specs.Expansions.{most_expander_nodes, Expands, ExpansionStops}
 use Rattle.front_profile.specs.Known.{KnownTables}
 use Rattle.front_profile.specs.Marks.{TablesGrow}
 use Rattle.front_profile.specs.Nodes.{StaticContext, Node, refused, Verdict, ended}
@@ -89,3 +90,10 @@ abbrev pub CallStops : List (List ℕ) → MacroCall → Stop → Type 0
 CallStops names call (Refused r) =
     (r.place ≡ place_of call.datum.now) × ExpansionStops names call.tables.now call.macro_number call.datum.now call.number r.reason
 CallStops names call NoMemory = Unit {0}
+
+-- there is no program of so few nodes, or memory was wanting
+abbrev pub ProgramStops : MacroCall → Stop → Type 0
+ProgramStops call (Refused r) =
+    (r ≡ record { place = place_of call.datum.now; reason = ExpanderArena })
+    × (most_expander_nodes < program_nodes (program_of call.tables.now call.macro_number call.datum.now))
+ProgramStops call NoMemory = Unit {0}

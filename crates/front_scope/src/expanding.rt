@@ -26,3 +26,13 @@ pub trait Expanding {
         ensures expands { IfOk result (CallExpands names.now call.now) }
         ensures stops { IfErr result (CallStops names.now call.now) };
 }
+
+/// What expands no call: it answers want of memory.
+#[derive(Clone, Copy, Debug, Drop)]
+pub struct NoExpander;
+
+impl Expanding for NoExpander {
+    fn expand(&mut self, _alloc: Global, _names: &Names, _call: &MacroCall<'_>) -> Result<Datum, Stop> {
+        Err(Stop::NoMemory)
+    }
+}

@@ -13,5 +13,5 @@ mod keep;
 mod mark;
 pub mod scope;
 
-pub use expanding::{Expanding, MacroCall};
+pub use expanding::{Expanding, MacroCall, NoExpander};
 pub use scope::Scope;
