@@ -121,6 +121,11 @@ mains_whole g f w e =
 
 -- the expander of a macro that is there
 
+there_is : (xs : List MacroRow) (i : ℕ) → i < length xs → slice_get xs i ≡ None → ⊥
+there_is [] i l e = omega (arith, l)
+there_is (x ∷ xs) zero l e = cc e
+there_is (x ∷ xs) (suc i) l e = there_is xs i (omega (arith, l)) e
+
 record HasProcedure (s : Tables) (m : ℕ) : Type 0 where
   procedure : Procedure
   is : expander s m ≡ Some procedure
@@ -142,11 +147,6 @@ has_procedure s m w l = by_row (slice_get (tables_before s).macros m) refl
 
     by_row : (o : Option MacroRow) → slice_get (tables_before s).macros m ≡ o → HasProcedure s m
     by_row None e = absurd (there_is (tables_before s).macros m l e)
-      where
-        there_is : (xs : List MacroRow) (i : ℕ) → i < length xs → slice_get xs i ≡ None → ⊥
-        there_is [] i l e = omega (arith, l)
-        there_is (x ∷ xs) zero l e = cc e
-        there_is (x ∷ xs) (suc i) l e = there_is xs i (omega (arith, l)) e
     by_row (Some r) e =
         by_procedure r (slice_get (tables_before s).procedures r.procedure) e refl
         (holds_at (macro_stands (definitions s)) (tables_before s).macros m r w.macros e)

@@ -8,7 +8,7 @@ use Rattle.lang_derived.specs.Derived.{Derives}
 use Rattle.front_profile.specs.declared.tables.Tables.{Tables}
 use Rattle.front_profile.specs.declared.elaboration.ElaboratedPart.{ElaboratedPart}
 use Rattle.front_profile.specs.declared.elaboration.Made.{Made}
-use Rattle.front_profile.specs.Nodes.{StaticContext, Part, form, below, inner, bind, parameter, wrong, function, Written, initform, accessor, method, Node, offends, unnamed, steps, calls, whole, refused, Standing, Verdict, stands, ended, behind}
+use Rattle.front_profile.specs.Nodes.{StaticContext, Part, form, below, inner, bind, parameter, wrong, function, Written, initform, accessor, method, Node, offends, unnamed, steps, calls, whole, refused, Standing, Verdict, stands, ended, behind, recorded}
 use Rattle.front_profile.specs.FunctionNodes.{function_node}
 use Rattle.front_profile.specs.RowWords.{deeper}
 use Rattle.front_profile.specs.Rows.{node}
@@ -137,7 +137,9 @@ mutual
       let same : m ≡ k = same_standing m k (one_verdict names one _ _ _ c c2 here) in
       let grown : TablesGrow s1 m.tables = node_grows names (subject names o1 i1 s1 y) (stands m) c s1 (begins_part names o1 i1 s1 y) in
       let more : TellsOne names m.tables (AllExact v2) (AllExact w2) =
-      told_later names s1 m.tables _ _ grown (told_of names s1 _ _ (AllExact v2) (AllExact w2) (front_exact _ v2) (front_exact _ w2) t) in
+      told_later names s1 m.tables (AllExact v2) (AllExact w2) grown
+      (told_of names s1 (AllExact (in_front (recorded s1 y m.form) v2)) (AllExact (in_front (recorded s1 y k.form) w2)) (AllExact v2) (AllExact w2)
+      (front_exact (recorded s1 y m.form) v2) (front_exact (recorded s1 y k.form) w2) t) in
       let rest : v2 ≡ w2 = one_of_all names one o1 (behind i1 s1 y) m.tables ys v2 w2 g (same_behind names o1 (behind i1 s1 y) m k ys w2 same g2) more in
       cc
   one_of_all names one o i s xs v w (goes o1 i1 s1 y ys m v2 c g) (stops o2 i2 s2 z zs e c2) t =
