@@ -35,7 +35,7 @@
 
 (defun parse-factor ()
   (let ((character (next)))
-    (cond ((digit-of character) (parse-number))
+    (cond ((digit-of character) (parse-digits))
           ((eql character #\-) (advance) (list '- (parse-factor)))
           ((eql character #\()
            (advance)
@@ -46,7 +46,7 @@
           (t (expected "a number")))))
 
 ; A number ends where no digit follows at once.
-(defun parse-number ()
+(defun parse-digits ()
   (let ((number 0))
     (while (digit-of (here))
       (setq number (+ (* 10 number) (digit-of (here))))
