@@ -292,6 +292,9 @@ module _
           subst Outlasts (sym (place_not constants spots v e ∙ ap place_of p.1))
           (slot_outlasts p.0 (wish_at wishes v) (s.allowed v p.0 p.1) (w.outlasting v (omega (arith, low, l)) (covers.crossings v line low (alive_first v line h) k)))
 
+  begun : (v : ℕ) → v < registers → alive v 0 ≡ true → enters_in found v ≡ true
+  begun v low h = within_entered (interval_of found v) (covers.within v 0 (omega (arith, low, count)) (alive_first v 0 h))
+
   entered : (v : ℕ) → parameters ≤ registers → v < parameters → alive v 0 ≡ true → enters_in kept v ≡ true
   entered v few low h =
       within_entered (interval_of kept v)
@@ -325,7 +328,7 @@ module _
 
   pub chosen_well :
       parameters ≤ registers → (clear : Bool) → (clear ≡ true → (v : ℕ) → get_or told v false ≡ true → ⊥)
-      → ChosenWell lines parameters landings (place_in constants spots) (enters_in kept) slots overwritten registers clear
+      → ChosenWell lines parameters landings (place_in constants spots) (enters_in kept) (enters_in found) slots overwritten registers clear
   chosen_well few clear none = record {
     alive = alive;
     stand = record {
@@ -344,5 +347,6 @@ module _
       passed = λ v low h. passed v few low h;
       places = λ v. placed v (constant_in constants v) refl;
     };
+    begun = begun;
     clear_is = λ c v line low h k. clear_is (none c) v line low h k;
   }

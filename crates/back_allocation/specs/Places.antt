@@ -38,12 +38,13 @@ is_entered (Some i) = i.from == 0
 abbrev pub enters_in : List (Option Interval) → (register : ℕ) → Bool
 enters_in intervals v = is_entered (slice_index_or intervals v None)
 
--- Some test tells where names may be alive, with which all stand well. Where that is told to be clear, none of the first names is alive at a line
--- at which a barrier of these crosses it.
+-- Some test tells where names may be alive, with which all stand well; one that is alive at the first line is told to begin there. Where that is told to
+-- be clear, none of the first names is alive at a line at which a barrier of these crosses it.
 pub record ChosenWell
-    (lines : List Line) (parameters : ℕ) (landings : ℕ → List ℕ) (spot : (name : ℕ) → Place) (enters : (name : ℕ) → Bool) (slots : ℕ)
+    (lines : List Line) (parameters : ℕ) (landings : ℕ → List ℕ) (spot : (name : ℕ) → Place) (enters begins : (name : ℕ) → Bool) (slots : ℕ)
     (barriers : List Barrier) (names : ℕ) (clear : Bool)
     : Type 0 where
   pub alive : (name line : ℕ) → Bool
   pub stand : AllStand lines parameters landings spot alive enters slots
+  pub begun : (v : ℕ) → v < names → alive v 0 ≡ true → begins v ≡ true
   pub clear_is : clear ≡ true → (v line : ℕ) → v < names → alive v line ≡ true → Crosses (barrier_at barriers line) v → ⊥

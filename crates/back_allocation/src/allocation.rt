@@ -16,48 +16,52 @@ use base::NoMemory;
 use mid_lines::LineList;
 use std::alloc::Global;
 
-/// Where names stand, and their constants and intervals: the entry brings those to their places whose intervals begin with the first line; and
-/// whether it is clear that none is alive where it is overwritten.
+/// Where names stand, their constants, and the intervals in which they are alive, of all names and of those that have no constant: the entry brings
+/// those of the latter to their places whose intervals begin with the first line; and whether it is clear that none is alive where it is
+/// overwritten.
 #[derive(Drop)]
 pub struct Chosen {
     pub allocation: Allocation,
     pub constants: Vec<Option<u32>>,
+    pub lives: IntervalList,
     pub intervals: IntervalList,
     pub is_clear: bool,
 }
 
-/// Where the names of registers stand, by which lines go, of which these are the landings of the records that stand at them; how many slots they
-/// need, no more than there are names; and whether it is clear that none is alive where one of the barriers crosses it.
+/// Where the names of registers with these owners stand, by which lines go, of which these are the landings of the records that stand at them; how
+/// many slots they need, no more than there are names; and whether it is clear that none is alive where one of the barriers crosses it.
 pub fn allocate(
     alloc: Global,
     lines: &LineList,
     landings: &LandingsList,
     overwritten: &[Barrier],
     parameters: usize,
-    registers: usize,
+    owners: &[usize],
 ) -> Result<Chosen, NoMemory>
     requires room { length lines.now < 2 ^ 62 }
-    requires registers { (line to : ℕ) (x : Line) → slice_get lines.now line ≡ Some x → line_gives x ≡ Some to → to < registers }
-    requires parameters { parameters ≤ registers }
+    requires registers { (line to : ℕ) (x : Line) → slice_get lines.now line ≡ Some x → line_gives x ≡ Some to → to < length owners.now }
+    requires parameters { parameters ≤ length owners.now }
     ensures chosen { IfOk result (λ a. ChosenWell lines.now parameters (landings_in landings.now) (place_in a.constants.items a.allocation.spots.items)
-        (enters_in a.intervals) a.allocation.slots overwritten.now registers a.is_clear) }
-    ensures few { IfOk result (λ a. a.allocation.slots ≤ registers) }
+        (enters_in a.intervals) (enters_in a.lives) a.allocation.slots overwritten.now (length owners.now) a.is_clear) }
+    ensures few { IfOk result (λ a. a.allocation.slots ≤ length owners.now) }
     ensures long { IfOk result (λ a. length a.constants.items ≡ length a.allocation.spots.items) }
 {
+    let names = owners.len();
     let steps = steps_of(alloc, lines, landings)?;
     let barriers = barriers_of(alloc, lines, landings)?;
-    let found = live_intervals(alloc, &steps, barriers.as_slice(), registers)?;
-    let again = live_intervals(alloc, &steps, overwritten, registers)?;
+    let found = live_intervals(alloc, &steps, barriers.as_slice(), names)?;
+    let again = live_intervals(alloc, &steps, overwritten, names)?;
     let is_clear = none_told(&again.crossed);
     let LiveIntervals { intervals, crossed } = found;
-    let constants = constants_of(alloc, lines, parameters, registers)?;
+    let constants = constants_of(alloc, lines, parameters, names)?;
     let kept = without_constants(alloc, &intervals, constants.as_slice())?;
-    let wishes = wishes_of(alloc, &kept, &crossed, parameters)?;
-    let hints = hints_of(alloc, lines, registers)?;
+    let wishes = wishes_of(alloc, &kept, &crossed, parameters, owners)?;
+    let hints = hints_of(alloc, lines, names)?;
     let allocation = linear_scan(alloc, &kept, &wishes, &hints)?;
     Ok(Chosen {
         allocation,
         constants,
+        lives: intervals,
         intervals: kept,
         is_clear,
     })

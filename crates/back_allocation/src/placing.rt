@@ -9,7 +9,7 @@ ghost use Rattle.back_places.specs.Places.{argument_register};
 ghost use Rattle.back_places.specs.Facts.{IsPlace};
 ghost use Rattle.back_allocation.specs.LineSteps.{line_reads, line_gives, landings_in};
 ghost use Rattle.back_allocation.specs.StandingLandings.{line_landings};
-ghost use Rattle.back_allocation.specs.Names.{AreNamings, NamesStand};
+ghost use Rattle.back_allocation.specs.Names.{AreNamings, IsPassedIn, NamesStand};
 ghost use Rattle.back_allocation.specs.NamesFound.{owner_in, AreGrouped, AreOverwritten};
 ghost use Rattle.back_allocation.specs.Allocated.{parameter_places};
 ghost use Rattle.back_allocation.specs.Places.{place_of, place_chosen, place_in, place_at, enters_in, ChosenWell};
@@ -81,18 +81,22 @@ fn with_names(
     if !are_grouped(names, procedure.registers) {
         return Ok(None);
     }
+    let owners = names.owners.as_slice();
     let lines = named_lines(alloc, &procedure.lines, names, procedure.registers)?;
-    let overwritten = overwritten_of(alloc, &lines, names, procedure.registers)?;
+    let overwritten = overwritten_of(alloc, &lines, names)?;
     let chosen = allocate(
         alloc,
         &lines,
         landings,
         overwritten.as_slice(),
         procedure.parameters,
-        names.owners.len(),
+        owners,
     )?;
     let slots = chosen.allocation.slots;
     if !chosen.is_clear || procedure.frame as usize <= slots || procedure.registers < slots {
+        return Ok(None);
+    }
+    if !are_passed_in(&chosen, owners, procedure.registers) {
         return Ok(None);
     }
     let placed = placed(alloc, lines, &chosen, procedure.parameters)?;
@@ -121,7 +125,7 @@ fn with_own_names(
         landings,
         &[],
         procedure.parameters,
-        procedure.registers,
+        names.owners.as_slice(),
     )?;
     let slots = chosen.allocation.slots;
     if procedure.frame as usize <= slots {
@@ -129,6 +133,42 @@ fn with_own_names(
     }
     let placed = placed(alloc, lines, &chosen, procedure.parameters)?;
     Ok(Some(placed))
+}
+
+// Whether each name but the first ones that is there at the entry stands where its register is passed.
+fn are_passed_in(chosen: &Chosen, owners: &[usize], registers: usize) -> bool
+    ensures { result ≡ true → (w : ℕ) → registers ≤ w → w < length owners.now → enters_in chosen.now.lives w ≡ true
+        → IsPassedIn (owner_in owners.now w) (place_in chosen.now.constants.items chosen.now.allocation.spots.items w) }
+{
+    for name in registers..owners.len() {
+        if !is_passed_in(chosen, name, owners[name]) {
+            return false;
+        }
+    }
+    true
+}
+
+// Whether a name stands where a register is passed, if it is there at the entry.
+fn is_passed_in(chosen: &Chosen, name: usize, register: Register) -> bool
+    ensures { result ≡ true → enters_in chosen.now.lives name ≡ true
+        → IsPassedIn register (place_in chosen.now.constants.items chosen.now.allocation.spots.items name) }
+{
+    if !enters(&chosen.lives, name) {
+        return true;
+    }
+    let constant = constant_at(chosen.constants.as_slice(), name);
+    let spot = spot_at(chosen.allocation.spots.as_slice(), name);
+    is_held_by(constant, spot, register)
+}
+
+// Whether a name with that constant and spot stands where a register is passed.
+fn is_held_by(constant: Option<u32>, spot: Option<Spot>, register: Register) -> bool
+    ensures { result ≡ true → IsPassedIn register (place_chosen constant spot) }
+{
+    match (constant, spot) {
+        (None, Some(Spot::Held(number))) => register < 14 && number == register,
+        _ => false,
+    }
 }
 
 // The places of names that were chosen, for lines with these names.

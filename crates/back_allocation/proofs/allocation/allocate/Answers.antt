@@ -1,4 +1,4 @@
-use Rattle.std.proofs.Common.{ℕ, List, Option, subst}
+use Rattle.std.proofs.Common.{ℕ, List, Option, length, subst}
 use Rattle.back_liveness.specs.declared.barrier.Barrier.{Barrier}
 use Rattle.back_liveness.specs.Liveness.{Covers}
 use Rattle.back_allocation.specs.Constants.{AreKept}
@@ -17,7 +17,7 @@ returns-clause-chosen c =
     subst (λ (b : List Barrier). Covers (steps_from landings 0 c.args.lines.now) b found crossed) c.as_slice.ensures.value
     (subst (λ s. Covers s c.as_slice.result.now found crossed) c.in_ok-steps.ensures c.in_ok-found.ensures.covers) in
     let more = subst (λ s. Covers s c.args.overwritten.now c.in_ok-again.again.intervals c.in_ok-again.again.crossed) c.in_ok-steps.ensures c.in_ok-again.ensures.covers in
-    chosen_well c.args.lines.now c.args.parameters landings c.args.registers found c.in_ok-again.again.intervals c.in_ok-kept.kept crossed c.in_ok-again.again.crossed
+    chosen_well c.args.lines.now c.args.parameters landings (length c.args.owners.now) found c.in_ok-again.again.intervals c.in_ok-kept.kept crossed c.in_ok-again.again.crossed
     barriers c.args.overwritten.now c.in_ok-constants.constants.items wishes c.in_ok-allocation.allocation.spots.items c.in_ok-allocation.allocation.slots
     c.in_ok-found.ensures.count c.in_ok-again.ensures.count covers more c.in_ok-barriers.ensures c.in_ok-constants.ensures
     (subst (λ (k : List (Option ℕ)). AreKept k found c.in_ok-kept.kept) c.as_slice-2.ensures.value c.in_ok-kept.ensures)
