@@ -45,7 +45,7 @@ fn add_line(hints: &mut [Hint], line: &Line, before: Option<Register>) {
     match line {
         Line::Do(Operation::Move { to, from }) => add_move(hints, *to, *from),
         Line::Do(Operation::Call { to, arguments, .. }) => {
-            put(hints, *to, Hint::Held(0));
+            add(hints, *to, Hint::Held(0));
             let mut number = 0;
             for argument in arguments.as_slice() {
                 if number < 14 {
@@ -86,13 +86,6 @@ fn hint_of(hints: &[Hint], name: usize) -> Hint {
         hints[name]
     } else {
         Hint::Nothing
-    }
-}
-
-// The result of a call stays where results are, wherever it is passed later: it may not come to that.
-fn put(hints: &mut [Hint], name: usize, hint: Hint) {
-    if name < hints.len() {
-        hints[name] = hint;
     }
 }
 
