@@ -121,12 +121,6 @@ fn with_line(
                 Ok(None)
             }
         }
-        None => {
-            if is_held {
-                Ok(Some(line))
-            } else {
-                Ok(None)
-            }
-        }
+        None => { if is_held { Ok(Some(line)) } else { Ok(None) } }
     }
 }

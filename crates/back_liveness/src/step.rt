@@ -32,4 +32,5 @@ pub type IntervalList = ItemList<Option<Interval>>;
 
 /// The parts of an interval, and those of registers by their numbers.
 pub type PartList = ItemList<Interval>;
+
 pub type PartLists = ItemList<PartList>;

@@ -1,6 +1,6 @@
 use Rattle.std.proofs.Common.{◌≡◌, ◌<◌, ℕ, List, [], Some, length, sym, ap, subst, arith}
 use Rattle.back_allocation.specs.NamesFound.{owner_in}
-use Rattle.back_allocation.specs.Places.{place_in, ChosenWell, enters_in}
+use Rattle.back_allocation.specs.Places.{place_in, ChosenWell, enters_in, begins_in}
 use Rattle.std.specs.Prelude.{slice_get}
 use Rattle.mid_lines.specs.declared.line.Line.{Line}
 use Rattle.back_allocation.specs.LineSteps.{line_gives, landings_in}
@@ -33,11 +33,11 @@ returns c =
     let low = given_low (owner_in owners) (length owners) p.lines lines c.in_ok-lines.ensures in
     let few : (line to : ℕ) (y : Line) → slice_get lines line ≡ Some y → line_gives y ≡ Some to → to < p.registers =
     λ line to y h e. subst (λ n. to < n) only (low line to y h e) in
-    let w : ChosenWell lines p.parameters (landings_in c.args.landings.now) spot (enters_in chosen.intervals) (enters_in chosen.lives) chosen.allocation.slots [] (length owners) chosen.is_clear =
-    subst (λ (os : List ℕ). ChosenWell lines p.parameters (landings_in c.args.landings.now) spot (enters_in chosen.intervals) (enters_in chosen.lives) chosen.allocation.slots [] (length os) chosen.is_clear)
+    let w : ChosenWell lines p.parameters (landings_in c.args.landings.now) spot (enters_in chosen.parts) (begins_in chosen.lives) chosen.allocation.slots [] (length owners) chosen.is_clear =
+    subst (λ (os : List ℕ). ChosenWell lines p.parameters (landings_in c.args.landings.now) spot (enters_in chosen.parts) (begins_in chosen.lives) chosen.allocation.slots [] (length os) chosen.is_clear)
     c.as_slice.ensures.value c.in_ok-chosen.ensures.chosen in
     let owned = names_own lines owners c.in_ok-names.names.starts.items c.in_ok-names.names.ends.items p.registers spot w.alive c.in_ok-names.ensures.own only few in (
-      stand_in_places p c.in_ok-placed.placed lines (owner_in owners) (length owners) c.args.landings.now spot chosen.intervals (enters_in chosen.lives) chosen.allocation.slots [] chosen.is_clear w owned
+      stand_in_places p c.in_ok-placed.placed lines (owner_in owners) (length owners) c.args.landings.now spot chosen.parts (begins_in chosen.lives) chosen.allocation.slots [] chosen.is_clear w owned
           c.in_ok-lines.ensures c.requires.landings placed.lines placed.places placed.parameters placed.slots,
       (let same = placed.slots in omega (arith, same)),
       (let same = placed.slots in let slots = c.in_ok-chosen.ensures.few in let long = ap (λ (os : List ℕ). length os) c.as_slice.ensures.value in omega (arith, same, slots, only, long)),

@@ -1,8 +1,7 @@
-use Rattle.std.proofs.Common.{◌≡◌, ◌≤◌, true, arith, ℕ, ◌+◌, List, [], ◌∷◌, subst, sym}
+use Rattle.std.proofs.Common.{◌≤◌, arith, ℕ, ◌+◌, List, subst, sym}
 use Rattle.std.specs.Prelude.{slice_index}
 use Rattle.back_liveness.specs.declared.step.Interval.{Interval}
 use Rattle.back_liveness.specs.Heads.{AreFloors, AreRoofs}
-use Rattle.back_liveness.specs.Liveness.{have_line}
 use Rattle.back_liveness.specs.Points.{AreParts}
 use Rattle.back_liveness.proofs.Closing.{closed_has}
 use Rattle.back_liveness.proofs.Parting.{one_has, one_has_not}

@@ -1,4 +1,4 @@
-use Rattle.std.proofs.Common.{◌≡◌, ◌+◌, ℕ, List, Option, sym, subst, arith}
+use Rattle.std.proofs.Common.{◌+◌, ℕ, List, Option, sym, subst, arith}
 use Rattle.back_liveness.specs.declared.step.Interval.{Interval}
 use Rattle.back_liveness.specs.Parts.{parts_with, InParts}
 use Rattle.back_liveness.proofs.Parting.{line_more}
