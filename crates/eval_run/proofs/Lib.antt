@@ -11,3 +11,4 @@ pub mod Told
 pub mod Before
 pub mod Outset
 pub mod Cells
+pub mod Halving

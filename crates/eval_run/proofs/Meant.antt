@@ -20,8 +20,10 @@ use Rattle.lang_meaning.specs.declared.evaluation.EvaluationEnd.{EvaluationEnd}
 use Rattle.lang_meaning.specs.declared.evaluation.EvaluationEnd.TheVariants as endings
 use Rattle.lang_meaning.specs.Evaluation.{Evaluation, meaning_with, end_for, end_of, Taken, Begins}
 use Rattle.lang_meaning.specs.Evaluates.{most_forms, HasEnded, IsCutOff, IsSpent, ReadsOn, EndsSo, Evaluates, BreaksOff}
+use Rattle.eval_run.specs.declared.answer.Counted.{Counted}
 use Rattle.eval_run.specs.Moments.{setting_of, configuration_after, forms_after}
-use Rattle.eval_run.specs.UnderWay.{StopsAt, SpentAt, WantsAt, CutOffAt, ComesTo, HasRun, HasBroken}
+use Rattle.eval_run.specs.UnderWay.{StopsAt, SpentAt, WantsAt, CutOffAt, ComesTo, HasRun, HasCounted, HasBroken}
+use Rattle.eval_run.specs.Units.{CountsSo, Counts}
 use Rattle.eval_run.proofs.Coming.{forms_more}
 use Rattle.eval_run.proofs.Counting.{printed_up_to_end, left_up_to_end, units_up_to_end}
 
@@ -118,9 +120,9 @@ one_over true all some most units p q r h = omega arith
 one_over false all some most units p q r h = absurd (cc q)
 
 -- the ends
-ended : (e : Evaluation) → Known e → (input : List ℕ) (given given' : Option (List ℕ)) (end : EvaluationEnd) → StopsAt e input given given' end
+ended : (e : Evaluation) → Known e → (input : List ℕ) (given given' : Option (List ℕ)) (end : EvaluationEnd) (units : ℕ) → StopsAt e input given given' end units
     → HasEnded e input given given' end
-ended e known input given given' end h = record {
+ended e known input given given' end units h = record {
   ends = ends_so e known input h.count end h.stops h.ends;
   printed = subst (λ bytes. WasGiven given bytes given') (printed_so e known input h.count h.stops) h.printed;
 }
@@ -151,16 +153,16 @@ reads_on e known t input b given given' h = record {
   cut_off = printed_by e known input given given' h.count h.printed;
 }
 
-ends_there : (e : Evaluation) → Known e → (end : EvaluationEnd) (t : Taken) (input : List ℕ) (b : Begins t input) (given given' : Option (List ℕ))
-    → ComesTo end e t input b given given' → EndsSo end e t input b given given'
-ends_there e known endings.Value t input b given given' h = ended e known input given given' endings.Value h
-ends_there e known (endings.Unhandled class site) t input b given given' h = ended e known input given given' (endings.Unhandled class site) h
-ends_there e known (endings.Full asked left) t input b given given' h =
-    (full_so e known input h.count asked left h.stops h.ends, ended e known input given given' (endings.Full asked left) h)
-ends_there e known endings.More t input b given given' h = ended e known input given given' endings.More h
-ends_there e known endings.Spent t input b given given' h = spent e known input given given' h
-ends_there e known endings.ReadFault t input b given given' h = reads_on e known t input b given given' h
-ends_there e known endings.WriteFault t input b given given' h = cut_off e known input given given' h
+ends_there : (e : Evaluation) → Known e → (end : EvaluationEnd) (units : ℕ) (t : Taken) (input : List ℕ) (b : Begins t input) (given given' : Option (List ℕ))
+    → ComesTo end units e t input b given given' → EndsSo end e t input b given given'
+ends_there e known endings.Value units t input b given given' h = ended e known input given given' endings.Value units h
+ends_there e known (endings.Unhandled class site) units t input b given given' h = ended e known input given given' (endings.Unhandled class site) units h
+ends_there e known (endings.Full asked left) units t input b given given' h =
+    (full_so e known input h.count asked left h.stops h.ends, ended e known input given given' (endings.Full asked left) units h)
+ends_there e known endings.More units t input b given given' h = ended e known input given given' endings.More units h
+ends_there e known endings.Spent units t input b given given' h = spent e known input given given' h.1
+ends_there e known endings.ReadFault units t input b given given' h = reads_on e known t input b given given' h.1
+ends_there e known endings.WriteFault units t input b given given' h = cut_off e known input given given' h.1
 
 -- a run that has ended, and one that broke off
 pub evaluated : (e : Evaluation) → Known e → (left left' given given' : Option (List ℕ)) (end : EvaluationEnd) → HasRun e left left' given given' end
@@ -168,7 +170,7 @@ pub evaluated : (e : Evaluation) → Known e → (left left' given given' : Opti
 evaluated e known left left' given given' end h = record {
   taken = h.taken;
   was_taken = h.was_taken;
-  ends = λ input b. ends_there e known end h.taken input b given given' (h.comes input b);
+  ends = λ input b. ends_there e known end h.units h.taken input b given given' (h.comes input b);
 }
 
 pub broken : (e : Evaluation) → Known e → (left left' given given' : Option (List ℕ)) → HasBroken e left left' given given'
@@ -177,4 +179,28 @@ broken e known left left' given given' h = record {
   taken = h.taken;
   was_taken = h.was_taken;
   cut_off = λ input b. cut_off e known input given given' (h.cut_off input b);
+}
+
+-- the units that were counted where the machine ended are those of the program's meaning
+counted_so : (e : Evaluation) → Known e → (input : List ℕ) (given given' : Option (List ℕ)) (end : EvaluationEnd) (units : ℕ) → StopsAt e input given given' end units
+    → (meaning_with e input).units ≡ units
+counted_so e known input given given' end units h =
+    sym (ap (λ (m : Meant). m.units) (done_so e known input h.count h.stops) ∙ (known.same input).units) ∙ h.counted
+
+counts_there : (e : Evaluation) → Known e → (end : EvaluationEnd) (units : ℕ) (t : Taken) (input : List ℕ) (b : Begins t input) (given given' : Option (List ℕ))
+    → ComesTo end units e t input b given given' → CountsSo end e input units
+counts_there e known endings.Value units t input b given given' h = counted_so e known input given given' endings.Value units h
+counts_there e known (endings.Unhandled class site) units t input b given given' h = counted_so e known input given given' (endings.Unhandled class site) units h
+counts_there e known (endings.Full asked left) units t input b given given' h = counted_so e known input given given' (endings.Full asked left) units h
+counts_there e known endings.More units t input b given given' h = counted_so e known input given given' endings.More units h
+counts_there e known endings.Spent units t input b given given' h = h.0
+counts_there e known endings.ReadFault units t input b given given' h = h.0
+counts_there e known endings.WriteFault units t input b given given' h = h.0
+
+pub counts : (e : Evaluation) → Known e → (left left' given given' : Option (List ℕ)) (c : Counted) → HasCounted e left left' given given' c → Counts e left left' c
+counts e known left left' given given' c h = record {
+  taken = h.has_run.taken;
+  was_taken = h.has_run.was_taken;
+  units = λ input b. subst (λ n. CountsSo c.end e input n) h.units
+      (counts_there e known c.end h.has_run.units h.has_run.taken input b given given' (h.has_run.comes input b));
 }

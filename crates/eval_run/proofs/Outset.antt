@@ -23,9 +23,9 @@ use Rattle.eval_step.specs.Runs.{IsAtConfiguration}
 use Rattle.eval_step.specs.Started.{IsStarted}
 use Rattle.lang_meaning.specs.Evaluation.{Evaluation}
 use Rattle.eval_run.specs.Moments.{setting_of}
-use Rattle.lang_meaning.specs.declared.evaluation.EvaluationEnd.{EvaluationEnd}
+use Rattle.eval_run.specs.declared.answer.Counted.{Counted}
 use Rattle.eval_run.specs.declared.stop.Stop.{Stop}
-use Rattle.eval_run.specs.UnderWay.{UnderWay, HasRun, StopsSo}
+use Rattle.eval_run.specs.UnderWay.{UnderWay, HasCounted, StopsSo}
 use Rattle.eval_run.specs.FlatRun.{IsReady, FlatRuns, FlatStops}
 use Rattle.eval_run.proofs.Before.{nothing, none_taken, none_given}
 
@@ -79,33 +79,33 @@ outset_of names rows levels w left given g store v made limit ready sizes dispat
 module _ (g : Given) (store : Store) (levels w : ℕ) (v : Evaluator) (limit : g.limit ≡ Some w) (sizes : AreSizes g.program.now g.sizes.now)
     (dispatch : AreTablesOf (with_classes g.program.now.classes) g.program.now.generics g.tables.now) (h : IsStarted g store levels v)
     (left left' given given' : Option (List ℕ)) where
-  pub run_ends : (r : Result EvaluationEnd Stop)
-      → IfOk r (λ end. (e : Evaluation) → UnderWay e left left given given 0 v → HasRun e left left' given given' end)
-      → IfOk r (λ end. (names : List (List ℕ)) → IsReady names g.program.now g.spellings g.layout.now g.primitives.now store
-      → FlatRuns names g.program.now levels w left left' given given' end)
-  run_ends (Ok end) run = λ names ready rows made. run (record { names = names; program = rows; levels = levels; words = w })
+  pub run_ends : (r : Result Counted Stop)
+      → IfOk r (λ c. (e : Evaluation) → UnderWay e left left given given 0 v → HasCounted e left left' given given' c)
+      → IfOk r (λ c. (names : List (List ℕ)) → IsReady names g.program.now g.spellings g.layout.now g.primitives.now store
+      → FlatRuns names g.program.now levels w left left' given given' c)
+  run_ends (Ok c) run = λ names ready rows made. run (record { names = names; program = rows; levels = levels; words = w })
       (outset_of names rows levels w left given g store v made limit ready sizes dispatch h)
   run_ends (Err s) run = tt
 
-  pub run_stops : (r : Result EvaluationEnd Stop)
+  pub run_stops : (r : Result Counted Stop)
       → IfErr r (λ s. (e : Evaluation) → UnderWay e left left given given 0 v → StopsSo s e left left' given given')
       → IfErr r (λ s. (names : List (List ℕ)) → IsReady names g.program.now g.spellings g.layout.now g.primitives.now store
       → FlatStops names g.program.now levels w left left' given given' s)
-  run_stops (Ok end) run = tt
+  run_stops (Ok c) run = tt
   run_stops (Err s) run = λ names ready rows made. run (record { names = names; program = rows; levels = levels; words = w })
       (outset_of names rows levels w left given g store v made limit ready sizes dispatch h)
 
 -- and so with the names that it has
 module _ (names : List (List ℕ)) (program : FlatProgram) (spellings : Spellings) (layout : InitialHeap) (primitives : Primitives) (store : Store)
     (ready : IsReady names program spellings layout primitives store) (levels w : ℕ) (left left' given given' : Option (List ℕ)) where
-  pub ends_with : (r : Result EvaluationEnd Stop)
-      → IfOk r (λ end. (ns : List (List ℕ)) → IsReady ns program spellings layout primitives store → FlatRuns ns program levels w left left' given given' end)
+  pub ends_with : (r : Result Counted Stop)
+      → IfOk r (λ c. (ns : List (List ℕ)) → IsReady ns program spellings layout primitives store → FlatRuns ns program levels w left left' given given' c)
       → IfOk r (FlatRuns names program levels w left left' given given')
-  ends_with (Ok end) run = run names ready
+  ends_with (Ok c) run = run names ready
   ends_with (Err s) run = tt
 
-  pub stops_with : (r : Result EvaluationEnd Stop)
+  pub stops_with : (r : Result Counted Stop)
       → IfErr r (λ s. (ns : List (List ℕ)) → IsReady ns program spellings layout primitives store → FlatStops ns program levels w left left' given given' s)
       → IfErr r (FlatStops names program levels w left left' given given')
-  stops_with (Ok end) run = tt
+  stops_with (Ok c) run = tt
   stops_with (Err s) run = run names ready

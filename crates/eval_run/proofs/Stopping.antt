@@ -1,11 +1,11 @@
 -- An evaluation on its way stops: at its end, where another form would be too many, where a byte is wanted, and anywhere.
-use Rattle.std.proofs.Common.{◌≡◌, ◌≤◌, ℕ, true, false, List, [], ◌++◌, Option, Some, None, drop, ap, sym, ◌∙◌, subst, append_assoc, append-nil, arith}
+use Rattle.std.proofs.Common.{◌≡◌, ◌≤◌, ℕ, true, false, List, [], ◌++◌, Option, Some, None, drop, refl, ap, sym, ◌∙◌, subst, append_assoc, append-nil, arith}
 use Rattle.std.specs.Prelude.{⊤, IfSome}
 use Rattle.lang_meaning.specs.Meaning.{Meant, Ending, with_value, by_class, for_words, for_levels, ending_of}
 use Rattle.base.specs.Given.{WasGiven, WasGivenFront}
 use Rattle.eval_machine.specs.Configuration.{Configuration}
 use Rattle.eval_machine.specs.Run.{begins, IsEnd, done}
-use Rattle.eval_machine.specs.RunLaws.{printed_at}
+use Rattle.eval_machine.specs.RunLaws.{printed_at, units_at}
 use Rattle.eval_store.specs.View.{Beside}
 use Rattle.eval_state.specs.declared.machine.Machine.{Machine}
 use Rattle.eval_state.specs.declared.machine.Control.{Control}
@@ -20,8 +20,9 @@ use Rattle.lang_meaning.specs.declared.evaluation.EvaluationEnd.{EvaluationEnd}
 use Rattle.lang_meaning.specs.declared.evaluation.EvaluationEnd.TheVariants as endings
 use Rattle.lang_meaning.specs.Evaluation.{Evaluation, end_for, end_of, Taken, Begins, WasTaken}
 use Rattle.lang_meaning.specs.Evaluates.{most_forms}
+use Rattle.eval_run.specs.declared.answer.Counted.{Counted}
 use Rattle.eval_run.specs.Moments.{setting_of, configuration_after, forms_after, wants_byte}
-use Rattle.eval_run.specs.UnderWay.{HasCome, UnderWay, StopsAt, CutOffAt, ComesTo, HasRun, HasBroken, IsOwnEnd}
+use Rattle.eval_run.specs.UnderWay.{HasCome, UnderWay, StopsAt, CutOffAt, ComesTo, HasRun, HasCounted, HasBroken, IsOwnEnd, untold}
 use Rattle.eval_run.proofs.Coming.{runs_as, nowhere}
 
 -- bytes were given, and then others
@@ -68,9 +69,10 @@ pub cut : (e : Evaluation) (left left' given given' given'' : Option (List ℕ))
 cut e left left' given given' given'' forms v g u = record {
   taken = u.taken;
   was_taken = u.was_taken;
+  units = 0;
   comes = λ input b.
       let a : IsAtConfiguration e.names v u.written b.rest (configuration_after e input u.count) = (u.comes input b).is_at in
-      record {
+      (refl, record {
         count = u.count;
         front = u.written ++ g.0;
         prefix = record {
@@ -78,7 +80,7 @@ cut e left left' given given' given'' forms v g u = record {
           is = append_assoc u.written g.0 g.1 ∙ ap (λ xs. u.written ++ xs) g.2.0 ∙ sym (printed_so e.names v u.written b.rest (configuration_after e input u.count) a);
         };
         printed = given_more given given' given'' u.written g.0 u.was_given g.2.1;
-      };
+      });
 }
 
 -- anywhere, a front was written
@@ -124,53 +126,63 @@ is_own w h = tt
 pub own_end : (v : Evaluator) (end : EvaluationEnd) → ((names : List (List ℕ)) (b : Beside) → end_of (done (configuration_of names v.machine b)) ≡ end) → IsOwnEnd end
 own_end v end is = is_own end (told_so end (done (configuration_of [] v.machine nowhere)) (is [] nowhere))
 
-comes_to : (end : EvaluationEnd) (e : Evaluation) (t : Taken) (input : List ℕ) (b : Begins t input) (given given' : Option (List ℕ)) → MeaningTells end
-    → StopsAt e input given given' end → ComesTo end e t input b given given'
-comes_to endings.Spent e t input b given given' h s = absurd h
-comes_to endings.ReadFault e t input b given given' h s = absurd h
-comes_to endings.WriteFault e t input b given given' h s = absurd h
-comes_to w e t input b given given' h s = s
+comes_to : (end : EvaluationEnd) (units : ℕ) (e : Evaluation) (t : Taken) (input : List ℕ) (b : Begins t input) (given given' : Option (List ℕ)) → MeaningTells end
+    → StopsAt e input given given' end units → ComesTo end units e t input b given given'
+comes_to endings.Spent units e t input b given given' h s = absurd h
+comes_to endings.ReadFault units e t input b given given' h s = absurd h
+comes_to endings.WriteFault units e t input b given given' h s = absurd h
+comes_to w units e t input b given given' h s = s
 
 few : (a b c : ℕ) → a ≡ b → b ≤ c → a ≤ c
 few a b c e h = omega arith
 
--- the machine has ended
-pub ended : (e : Evaluation) (left left' given given' : Option (List ℕ)) (forms : ℕ) (v : Evaluator) (end : EvaluationEnd) → forms ≤ most_forms
-    → v.printed.items ≡ [] → StopsBecause v false → ((names : List (List ℕ)) (b : Beside) → end_of (done (configuration_of names v.machine b)) ≡ end)
-    → UnderWay e left left' given given' forms v → HasRun e left left' given given' end
-ended e left left' given given' forms v end h none stopped is u = record {
-  taken = u.taken;
-  was_taken = u.was_taken;
-  comes = λ input b.
-      let k : HasCome e u.taken u.written u.count forms v input b = u.comes input b in
-      let m : Configuration = configuration_after e input u.count in
-      let a : IsAtConfiguration e.names v u.written b.rest m = k.is_at in
-      let there : Configuration = configuration_of e.names v.machine a.beside in
-      comes_to end e u.taken input b given given' (told_so end (done there) (is e.names a.beside)) (record {
-        count = u.count;
-        stops = subst (λ (x : Configuration). IsEnd (setting_of e) x) a.is (stopped e.names (setting_of e) a.beside);
-        ends = ap (λ (x : Configuration). end_of (done x)) (sym a.is) ∙ is e.names a.beside;
-        printed = subst (λ xs. WasGiven given xs given') (printed_all e.names v u.written b.rest m none a) u.was_given;
-        few = few (forms_after e input u.count) forms most_forms k.begun h;
-      });
+-- the machine has ended, and so many units were counted
+pub ended : (e : Evaluation) (left left' given given' : Option (List ℕ)) (forms : ℕ) (v : Evaluator) (c : Counted) → forms ≤ most_forms
+    → v.printed.items ≡ [] → StopsBecause v false → ((names : List (List ℕ)) (b : Beside) → end_of (done (configuration_of names v.machine b)) ≡ c.end)
+    → ((names : List (List ℕ)) (b : Beside) → units_at (configuration_of names v.machine b) ≡ c.units)
+    → UnderWay e left left' given given' forms v → HasCounted e left left' given given' c
+ended e left left' given given' forms v c h none stopped is units u = record {
+  has_run = record {
+    taken = u.taken;
+    was_taken = u.was_taken;
+    units = c.units;
+    comes = λ input b.
+        let k : HasCome e u.taken u.written u.count forms v input b = u.comes input b in
+        let m : Configuration = configuration_after e input u.count in
+        let a : IsAtConfiguration e.names v u.written b.rest m = k.is_at in
+        let there : Configuration = configuration_of e.names v.machine a.beside in
+        comes_to c.end c.units e u.taken input b given given' (told_so c.end (done there) (is e.names a.beside)) (record {
+          count = u.count;
+          stops = subst (λ (x : Configuration). IsEnd (setting_of e) x) a.is (stopped e.names (setting_of e) a.beside);
+          ends = ap (λ (x : Configuration). end_of (done x)) (sym a.is) ∙ is e.names a.beside;
+          counted = ap units_at (sym a.is) ∙ units e.names a.beside;
+          printed = subst (λ xs. WasGiven given xs given') (printed_all e.names v u.written b.rest m none a) u.was_given;
+          few = few (forms_after e input u.count) forms most_forms k.begun h;
+        });
+  };
+  units = refl;
 }
 
 -- another form is to begin, after so many
 pub spent : (e : Evaluation) (left left' given given' : Option (List ℕ)) (forms : ℕ) (v : Evaluator) → forms ≡ most_forms
-    → v.printed.items ≡ [] → StopsBecause v true → UnderWay e left left' given given' forms v → HasRun e left left' given given' endings.Spent
+    → v.printed.items ≡ [] → StopsBecause v true → UnderWay e left left' given given' forms v → HasCounted e left left' given given' (untold endings.Spent)
 spent e left left' given given' forms v h none stopped u = record {
-  taken = u.taken;
-  was_taken = u.was_taken;
-  comes = λ input b.
-      let k : HasCome e u.taken u.written u.count forms v input b = u.comes input b in
-      let m : Configuration = configuration_after e input u.count in
-      let a : IsAtConfiguration e.names v u.written b.rest m = k.is_at in
-      record {
-        count = u.count;
-        forms = k.begun ∙ h;
-        goes_on = ap (λ (x : Configuration). begins x.control) (sym a.is) ∙ stopped e.names a.beside;
-        printed = subst (λ xs. WasGiven given xs given') (printed_all e.names v u.written b.rest m none a) u.was_given;
-      };
+  has_run = record {
+    taken = u.taken;
+    was_taken = u.was_taken;
+    units = 0;
+    comes = λ input b.
+        let k : HasCome e u.taken u.written u.count forms v input b = u.comes input b in
+        let m : Configuration = configuration_after e input u.count in
+        let a : IsAtConfiguration e.names v u.written b.rest m = k.is_at in
+        (refl, record {
+          count = u.count;
+          forms = k.begun ∙ h;
+          goes_on = ap (λ (x : Configuration). begins x.control) (sym a.is) ∙ stopped e.names a.beside;
+          printed = subst (λ xs. WasGiven given xs given') (printed_all e.names v u.written b.rest m none a) u.was_given;
+        });
+  };
+  units = refl;
 }
 
 -- a step that reads wants a byte
@@ -192,14 +204,15 @@ pub wants : (e : Evaluation) (left left' left'' given given' : Option (List ℕ)
 wants e left left' left'' given given' forms v same none reads all_taken not_met u = record {
   taken = u.taken;
   was_taken = taken_still left left' left'' u.taken same u.was_taken;
+  units = 0;
   comes = λ input b.
       let m : Configuration = configuration_after e input u.count in
       let a : IsAtConfiguration e.names v u.written b.rest m = (u.comes input b).is_at in
-      record {
+      (refl, record {
         not_all = u.all_is ∙ not_met;
         count = u.count;
         wants = ap (λ (x : Configuration). wants_byte x.control) (sym a.is) ∙ wants_so e.names v.machine v.machine.control reads;
         left = ap (λ (x : Configuration). x.state.state.input) (sym a.is) ∙ a.stands.input ∙ ap (λ xs. xs ++ b.rest) all_taken;
         printed = subst (λ xs. WasGiven given xs given') (printed_all e.names v u.written b.rest m none a) u.was_given;
-      };
+      });
 }

@@ -1,5 +1,5 @@
 -- What is answered is told from how the run ended: a stop by a fault is an end, and want of memory breaks off.
-use Rattle.std.proofs.Common.{◌≡◌, ℕ, List, Option, Some, None, Result, Ok, Err, IfOk, IfErr, OnErr, MatchResult, sym, subst}
+use Rattle.std.proofs.Common.{◌≡◌, ℕ, List, Option, Some, None, Result, Ok, Err, IfOk, IfErr, OnErr, MatchResult, refl, sym, subst}
 use Rattle.base.specs.declared.faults.NoMemory.{NoMemory as MemoryFault}
 use Rattle.lang_meaning.specs.declared.program.ProgramRows.{ProgramRows}
 use Rattle.lang_meaning.specs.State as state
@@ -13,22 +13,24 @@ use Rattle.eval_machine.specs.Law.{LawOfMachine}
 use Rattle.eval_machine.specs.RunLaws.{LawOfPrinting, LawOfReading, LawOfUnits, LawOfWords}
 use Rattle.lang_meaning.specs.declared.evaluation.EvaluationEnd.{EvaluationEnd}
 use Rattle.lang_meaning.specs.declared.evaluation.EvaluationEnd.TheVariants as endings
+use Rattle.eval_run.specs.declared.answer.Counted.{Counted}
 use Rattle.eval_run.specs.declared.stop.Stop.{Stop}
 use Rattle.eval_run.specs.declared.stop.Stop.TheVariants as stop
 use Rattle.lang_meaning.specs.Evaluation.{Evaluation}
 use Rattle.lang_meaning.specs.Evaluates.{Evaluates, BreaksOff, Tells}
-use Rattle.eval_run.specs.UnderWay.{HasRun, StopsSo, StopTells, IsOwnEnd, end_told}
-use Rattle.eval_run.proofs.Meant.{Known, evaluated, broken}
+use Rattle.eval_run.specs.UnderWay.{HasRun, HasCounted, StopsSo, StopTells, IsOwnEnd, untold, end_told}
+use Rattle.eval_run.specs.Units.{Counts}
+use Rattle.eval_run.proofs.Meant.{Known, evaluated, counts, broken}
 
 -- the end that is told
-abbrev EndIsTold : Result EvaluationEnd Stop → Result EvaluationEnd MemoryFault → Type 0
-EndIsTold ended result = MatchResult result (λ end. end_told ended ≡ Some end) (λ _. end_told ended ≡ None)
+abbrev EndIsTold : Result Counted Stop → Result Counted MemoryFault → Type 0
+EndIsTold ended result = MatchResult result (λ c. end_told ended ≡ Some c) (λ _. end_told ended ≡ None)
 
-same_end : (end end' : EvaluationEnd) → Some end ≡ Some end' → end ≡ end'
-same_end end end' h = cc h
+same_end : (c c' : Counted) → Some c ≡ Some c' → c ≡ c'
+same_end c c' h = cc h
 
-no_end : (end : EvaluationEnd) (P : Type 0) → Some end ≡ None → P
-no_end end P h = absurd (cc h)
+no_end : (c : Counted) (P : Type 0) → Some c ≡ None → P
+no_end c P h = absurd (cc h)
 
 -- an end of its own is no fault
 own_tells : (end : EvaluationEnd) (SourceRises SinkRises : Type 0) → IsOwnEnd end → Tells end SourceRises SinkRises
@@ -40,14 +42,16 @@ own_tells endings.Spent SourceRises SinkRises h = tt
 own_tells endings.ReadFault SourceRises SinkRises h = absurd h
 own_tells endings.WriteFault SourceRises SinkRises h = absurd h
 
-pub faults_told : (ended : Result EvaluationEnd Stop) (result : Result EvaluationEnd MemoryFault) (SourceRises SinkRises : Type 0) → IfOk ended IsOwnEnd
-    → IfErr ended (λ s. StopTells s SourceRises SinkRises) → EndIsTold ended result → IfOk result (λ end. Tells end SourceRises SinkRises)
+pub faults_told : (ended : Result Counted Stop) (result : Result Counted MemoryFault) (SourceRises SinkRises : Type 0) → IfOk ended (λ c. IsOwnEnd c.end)
+    → IfErr ended (λ s. StopTells s SourceRises SinkRises) → EndIsTold ended result → IfOk result (λ c. Tells c.end SourceRises SinkRises)
 faults_told ended (Err f) SourceRises SinkRises own stops h = tt
-faults_told (Ok end) (Ok end') SourceRises SinkRises own stops h =
-    subst (λ x. Tells x SourceRises SinkRises) (same_end end end' h) (own_tells end SourceRises SinkRises own)
-faults_told (Err stop.NoMemory) (Ok end') SourceRises SinkRises own stops h = no_end end' (Tells end' SourceRises SinkRises) (sym h)
-faults_told (Err stop.ReadFault) (Ok end') SourceRises SinkRises own stops h = subst (λ x. Tells x SourceRises SinkRises) (same_end endings.ReadFault end' h) stops
-faults_told (Err stop.WriteFault) (Ok end') SourceRises SinkRises own stops h = subst (λ x. Tells x SourceRises SinkRises) (same_end endings.WriteFault end' h) stops
+faults_told (Ok c) (Ok c') SourceRises SinkRises own stops h =
+    subst (λ (x : Counted). Tells x.end SourceRises SinkRises) (same_end c c' h) (own_tells c.end SourceRises SinkRises own)
+faults_told (Err stop.NoMemory) (Ok c') SourceRises SinkRises own stops h = no_end c' (Tells c'.end SourceRises SinkRises) (sym h)
+faults_told (Err stop.ReadFault) (Ok c') SourceRises SinkRises own stops h =
+    subst (λ (x : Counted). Tells x.end SourceRises SinkRises) (same_end (untold endings.ReadFault) c' h) stops
+faults_told (Err stop.WriteFault) (Ok c') SourceRises SinkRises own stops h =
+    subst (λ (x : Counted). Tells x.end SourceRises SinkRises) (same_end (untold endings.WriteFault) c' h) stops
 
 -- what is known of the program where it was made flat
 pub known_of : (e : Evaluation) (flat : FlatProgram) → LawOfMachine → LawOfPrinting → LawOfReading → LawOfUnits → LawOfWords → flat ≡ flat_program e.program
@@ -70,39 +74,50 @@ abbrev of_rows : Evaluation → ProgramRows → Evaluation
 of_rows e rows = record { names = e.names; program = rows; levels = e.levels; words = e.words }
 
 module _ (e : Evaluation) (known : Known e) (flat : FlatProgram) (made : flat ≡ flat_program e.program) (left left' given given' : Option (List ℕ)) where
-  abbrev EndsSo : EvaluationEnd → Type 0
-  EndsSo end = (rows : ProgramRows) → flat ≡ flat_program rows → HasRun (of_rows e rows) left left' given given' end
+  abbrev EndsSo : Counted → Type 0
+  EndsSo c = (rows : ProgramRows) → flat ≡ flat_program rows → HasCounted (of_rows e rows) left left' given given' c
 
   abbrev Stopped : Stop → Type 0
   Stopped s = (rows : ProgramRows) → flat ≡ flat_program rows → StopsSo s (of_rows e rows) left left' given given'
 
-  so_evaluated : (end end' : EvaluationEnd) → HasRun e left left' given given' end → Some end ≡ Some end' → Evaluates e left left' given given' end'
-  so_evaluated end end' run h =
-      subst (λ x. Evaluates e left left' given given' x) (same_end end end' h) (evaluated e known left left' given given' end run)
+  -- of a run that a fault ended no units are told
+  read_untold : HasRun e left left' given given' endings.ReadFault → HasCounted e left left' given given' (untold endings.ReadFault)
+  read_untold run = record {
+    has_run = record { taken = run.taken; was_taken = run.was_taken; units = 0; comes = λ input b. (refl, (run.comes input b).1) };
+    units = refl;
+  }
 
-  pub ends_told : (ended : Result EvaluationEnd Stop) (result : Result EvaluationEnd MemoryFault) → IfOk ended EndsSo → IfErr ended Stopped → EndIsTold ended result
-      → IfOk result (Evaluates e left left' given given')
-  ends_told ended (Err f) runs stops h = tt
-  ends_told (Ok end) (Ok end') runs stops h = so_evaluated end end' (runs e.program made) h
-  ends_told (Err stop.NoMemory) (Ok end') runs stops h = no_end end' (Evaluates e left left' given given' end') (sym h)
-  ends_told (Err stop.ReadFault) (Ok end') runs stops h = so_evaluated endings.ReadFault end' (stops e.program made) h
-  ends_told (Err stop.WriteFault) (Ok end') runs stops h = so_evaluated endings.WriteFault end' (stops e.program made) h
+  write_untold : HasRun e left left' given given' endings.WriteFault → HasCounted e left left' given given' (untold endings.WriteFault)
+  write_untold run = record {
+    has_run = record { taken = run.taken; was_taken = run.was_taken; units = 0; comes = λ input b. (refl, (run.comes input b).1) };
+    units = refl;
+  }
 
-  so_run : (end end' : EvaluationEnd) → HasRun e left left' given given' end → Some end ≡ Some end' → HasRun e left left' given given' end'
-  so_run end end' run h = subst (λ x. HasRun e left left' given given' x) (same_end end end' h) run
+  so_run : (c c' : Counted) → HasCounted e left left' given given' c → Some c ≡ Some c' → HasCounted e left left' given given' c'
+  so_run c c' run h = subst (λ x. HasCounted e left left' given given' x) (same_end c c' h) run
 
-  pub runs_told : (ended : Result EvaluationEnd Stop) (result : Result EvaluationEnd MemoryFault) → IfOk ended EndsSo → IfErr ended Stopped → EndIsTold ended result
-      → IfOk result (HasRun e left left' given given')
+  pub runs_told : (ended : Result Counted Stop) (result : Result Counted MemoryFault) → IfOk ended EndsSo → IfErr ended Stopped → EndIsTold ended result
+      → IfOk result (HasCounted e left left' given given')
   runs_told ended (Err f) runs stops h = tt
-  runs_told (Ok end) (Ok end') runs stops h = so_run end end' (runs e.program made) h
-  runs_told (Err stop.NoMemory) (Ok end') runs stops h = no_end end' (HasRun e left left' given given' end') (sym h)
-  runs_told (Err stop.ReadFault) (Ok end') runs stops h = so_run endings.ReadFault end' (stops e.program made) h
-  runs_told (Err stop.WriteFault) (Ok end') runs stops h = so_run endings.WriteFault end' (stops e.program made) h
+  runs_told (Ok c) (Ok c') runs stops h = so_run c c' (runs e.program made) h
+  runs_told (Err stop.NoMemory) (Ok c') runs stops h = no_end c' (HasCounted e left left' given given' c') (sym h)
+  runs_told (Err stop.ReadFault) (Ok c') runs stops h = so_run (untold endings.ReadFault) c' (read_untold (stops e.program made)) h
+  runs_told (Err stop.WriteFault) (Ok c') runs stops h = so_run (untold endings.WriteFault) c' (write_untold (stops e.program made)) h
 
-  pub breaks_told : (ended : Result EvaluationEnd Stop) (result : Result EvaluationEnd MemoryFault) → IfErr ended Stopped → EndIsTold ended result
+  -- what is so of the run is so by the meaning
+  pub ends_told : (result : Result Counted MemoryFault) → IfOk result (HasCounted e left left' given given')
+      → IfOk result (λ c. Evaluates e left left' given given' c.end)
+  ends_told (Err f) h = tt
+  ends_told (Ok c) h = evaluated e known left left' given given' c.end h.has_run
+
+  pub units_told : (result : Result Counted MemoryFault) → IfOk result (HasCounted e left left' given given') → IfOk result (Counts e left left')
+  units_told (Err f) h = tt
+  units_told (Ok c) h = counts e known left left' given given' c h
+
+  pub breaks_told : (ended : Result Counted Stop) (result : Result Counted MemoryFault) → IfErr ended Stopped → EndIsTold ended result
       → OnErr result (BreaksOff e left left' given given')
-  breaks_told ended (Ok end) stops h = tt
-  breaks_told (Ok end) (Err f) stops h = no_end end (BreaksOff e left left' given given') h
+  breaks_told ended (Ok c) stops h = tt
+  breaks_told (Ok c) (Err f) stops h = no_end c (BreaksOff e left left' given given') h
   breaks_told (Err stop.NoMemory) (Err f) stops h = broken e known left left' given given' (stops e.program made)
-  breaks_told (Err stop.ReadFault) (Err f) stops h = no_end endings.ReadFault (BreaksOff e left left' given given') h
-  breaks_told (Err stop.WriteFault) (Err f) stops h = no_end endings.WriteFault (BreaksOff e left left' given given') h
+  breaks_told (Err stop.ReadFault) (Err f) stops h = no_end (untold endings.ReadFault) (BreaksOff e left left' given given') h
+  breaks_told (Err stop.WriteFault) (Err f) stops h = no_end (untold endings.WriteFault) (BreaksOff e left left' given given') h

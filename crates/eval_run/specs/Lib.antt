@@ -2,3 +2,4 @@
 pub mod Moments
 pub mod UnderWay
 pub mod FlatRun
+pub mod Units

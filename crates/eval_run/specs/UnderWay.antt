@@ -4,12 +4,13 @@ use Rattle.std.specs.Prelude.{◌≡◌, ◌≤◌, ⊤, ℕ, true, false, List,
 use Rattle.lang_meaning.specs.Prefixes.{IsPrefix}
 use Rattle.base.specs.Given.{WasGiven}
 use Rattle.eval_machine.specs.Run.{begins, IsEnd, done}
-use Rattle.eval_machine.specs.RunLaws.{printed_at}
+use Rattle.eval_machine.specs.RunLaws.{printed_at, units_at}
 use Rattle.eval_state.specs.View as machine
 use Rattle.eval_step.specs.declared.evaluator.Evaluator.{Evaluator}
 use Rattle.eval_step.specs.Runs.{IsAtConfiguration}
 use Rattle.lang_meaning.specs.declared.evaluation.EvaluationEnd.{EvaluationEnd}
 use Rattle.lang_meaning.specs.declared.evaluation.EvaluationEnd.TheVariants as endings
+use Rattle.eval_run.specs.declared.answer.Counted.{Counted}
 use Rattle.eval_run.specs.declared.stop.Stop.{Stop}
 use Rattle.eval_run.specs.declared.stop.Stop.TheVariants as stop
 use Rattle.lang_meaning.specs.Evaluation.{Evaluation, end_of, Taken, Begins, WasTaken}
@@ -43,10 +44,11 @@ IsPutBehind left bytes left' = IfSome left (λ all. (rest : List ℕ) × ((all �
 
 -- the ends, in a configuration of the machine
 
-pub record StopsAt (e : Evaluation) (input : List ℕ) (given given' : Option (List ℕ)) (end : EvaluationEnd) : Type 0 where
+pub record StopsAt (e : Evaluation) (input : List ℕ) (given given' : Option (List ℕ)) (end : EvaluationEnd) (units : ℕ) : Type 0 where
   pub count : ℕ
   pub stops : IsEnd (setting_of e) (configuration_after e input count)
   pub ends : end_of (done (configuration_after e input count)) ≡ end
+  pub counted : units_at (configuration_after e input count) ≡ units
   pub printed : WasGiven given (printed_at (configuration_after e input count)) given'
   pub few : forms_after e input count ≤ most_forms
 
@@ -69,19 +71,26 @@ pub record CutOffAt (e : Evaluation) (input : List ℕ) (given given' : Option (
   pub prefix : IsPrefix front (printed_at (configuration_after e input count))
   pub printed : WasGiven given front given'
 
-abbrev pub ComesTo : (end : EvaluationEnd) (e : Evaluation) (t : Taken) (input : List ℕ) → Begins t input → (given given' : Option (List ℕ)) → Type 0
-ComesTo endings.Value e t input b given given' = StopsAt e input given given' endings.Value
-ComesTo (endings.Unhandled class site) e t input b given given' = StopsAt e input given given' (endings.Unhandled class site)
-ComesTo (endings.Full asked left) e t input b given given' = StopsAt e input given given' (endings.Full asked left)
-ComesTo endings.More e t input b given given' = StopsAt e input given given' endings.More
-ComesTo endings.Spent e t input b given given' = SpentAt e input given given'
-ComesTo endings.ReadFault e t input b given given' = WantsAt e t input b given given'
-ComesTo endings.WriteFault e t input b given given' = CutOffAt e input given given'
+-- what stands at each end, with so many units; they are told of an end of its own alone
+abbrev pub ComesTo : (end : EvaluationEnd) (units : ℕ) (e : Evaluation) (t : Taken) (input : List ℕ) → Begins t input → (given given' : Option (List ℕ)) → Type 0
+ComesTo endings.Value units e t input b given given' = StopsAt e input given given' endings.Value units
+ComesTo (endings.Unhandled class site) units e t input b given given' = StopsAt e input given given' (endings.Unhandled class site) units
+ComesTo (endings.Full asked left) units e t input b given given' = StopsAt e input given given' (endings.Full asked left) units
+ComesTo endings.More units e t input b given given' = StopsAt e input given given' endings.More units
+ComesTo endings.Spent units e t input b given given' = (units ≡ 0) × SpentAt e input given given'
+ComesTo endings.ReadFault units e t input b given given' = (units ≡ 0) × WantsAt e t input b given given'
+ComesTo endings.WriteFault units e t input b given given' = (units ≡ 0) × CutOffAt e input given given'
 
 pub record HasRun (e : Evaluation) (left left' given given' : Option (List ℕ)) (end : EvaluationEnd) : Type 0 where
   pub taken : Taken
   pub was_taken : WasTaken left taken left'
-  pub comes : (input : List ℕ) (b : Begins taken input) → ComesTo end e taken input b given given'
+  pub units : ℕ
+  pub comes : (input : List ℕ) (b : Begins taken input) → ComesTo end units e taken input b given given'
+
+-- such a run with the units that it counted
+pub record HasCounted (e : Evaluation) (left left' given given' : Option (List ℕ)) (c : Counted) : Type 0 where
+  pub has_run : HasRun e left left' given given' c.end
+  pub units : has_run.units ≡ c.units
 
 pub record HasBroken (e : Evaluation) (left left' given given' : Option (List ℕ)) : Type 0 where
   pub taken : Taken
@@ -105,9 +114,13 @@ IsOwnEnd endings.ReadFault = ⊥
 IsOwnEnd endings.WriteFault = ⊥
 IsOwnEnd end = ⊤
 
--- a stop by a fault is an end; want of memory is none
-abbrev pub end_told : Result EvaluationEnd Stop → Option EvaluationEnd
-end_told (Ok end) = Some end
-end_told (Err stop.ReadFault) = Some endings.ReadFault
-end_told (Err stop.WriteFault) = Some endings.WriteFault
+-- an end of which no units are told
+abbrev pub untold : EvaluationEnd → Counted
+untold end = record { end = end; units = 0 }
+
+-- a stop by a fault is one; want of memory is no end
+abbrev pub end_told : Result Counted Stop → Option Counted
+end_told (Ok counted) = Some counted
+end_told (Err stop.ReadFault) = Some (untold endings.ReadFault)
+end_told (Err stop.WriteFault) = Some (untold endings.WriteFault)
 end_told (Err stop.NoMemory) = None

@@ -5,12 +5,15 @@ ghost use Rattle.lang_meaning.specs.State.{exit};
 ghost use Rattle.lang_meaning.specs.Meaning.{class_in, end_of as end_of_outcome, ended_unhandled};
 ghost use Rattle.lang_meaning.specs.Values.{Value};
 ghost use Rattle.eval_machine.specs.Run.{done};
+ghost use Rattle.eval_machine.specs.RunLaws.{units_at};
 ghost use Rattle.eval_store.specs.View.{Beside, state_of};
 ghost use Rattle.eval_store.specs.Words.{value_of_word};
 ghost use Rattle.eval_state.specs.Frames.{landing_of};
 ghost use Rattle.eval_state.specs.View.{configuration_of};
 ghost use Rattle.lang_meaning.specs.Evaluation.{end_of};
 
+use crate::answer::Counted;
+use crate::units::taken_units;
 use base::Place;
 use eval_primitives::class_of;
 use eval_state::frame::{Landing, Outcome};
@@ -18,8 +21,18 @@ use eval_step::evaluator::Evaluator;
 use eval_store::{Store, Word};
 use lang_meaning::{ClassId, EvaluationEnd};
 
-/// The end that an evaluator has come to.
-pub(crate) fn end_at(evaluator: &Evaluator<'_>) -> EvaluationEnd
+/// The end that an evaluator has come to, and the units that it has counted. It is told once: then the evaluator is of no more use.
+pub(crate) fn counted_at(evaluator: &mut Evaluator<'_>) -> Counted
+    ensures end { (names : List (List ℕ)) (b : Beside) → end_of (done (configuration_of names evaluator.old.machine b)) ≡ result.end }
+    ensures units { (names : List (List ℕ)) (b : Beside) → units_at (configuration_of names evaluator.old.machine b) ≡ result.units }
+{
+    let end = end_at(evaluator);
+    let units = taken_units(evaluator);
+    Counted { end, units }
+}
+
+// The end that an evaluator has come to.
+fn end_at(evaluator: &Evaluator<'_>) -> EvaluationEnd
     ensures { (names : List (List ℕ)) (b : Beside) → end_of (done (configuration_of names evaluator.now.machine b)) ≡ result }
 {
     match evaluator.outcome() {

@@ -3,8 +3,10 @@
 ghost use Rattle.std.specs.Prelude.{◌≡◌, Some, None, IfOk, OnErr, MatchResult};
 ghost use Rattle.base.specs.Outside.{Rose};
 ghost use Rattle.lang_meaning.specs.Evaluates.{Evaluates, BreaksOff, Tells};
-ghost use Rattle.eval_run.specs.UnderWay.{HasRun, end_told};
+ghost use Rattle.eval_run.specs.UnderWay.{HasRun, HasCounted, end_told, untold};
+ghost use Rattle.eval_run.specs.Units.{Counts};
 
+use crate::answer::Counted;
 use crate::setting_up::run_flat;
 use crate::stop::Stop;
 use base::{Names, NoMemory, Sink, Source};
@@ -36,6 +38,33 @@ pub fn evaluate<S: Source, K: Sink>(
     ensures breaks_off { OnErr result (BreaksOff (record { names = names.now; program = program.now; levels = levels; words = words })
         (S.left source.old) (S.left source.new) (K.given sink.old) (K.given sink.new)) }
 {
+    match evaluate_counted(alloc, program, names, levels, words, source, sink) {
+        Ok(counted) => Ok(counted.end),
+        Err(fault) => Err(fault),
+    }
+}
+
+/// The same as `evaluate`, and how many units the evaluation counted: where it came to an end of its own (a value, a condition that
+/// is not handled, too few words or levels) those of the meaning, and 0 where it is `Spent` or a fault ended it. They are those of the
+/// configuration of the machine at which the run stopped, too (`runs`).
+pub fn evaluate_counted<S: Source, K: Sink>(
+    alloc: Global,
+    program: &Program,
+    names: &Names,
+    levels: u64,
+    words: u64,
+    source: &mut S,
+    sink: &mut K,
+) -> Result<Counted, NoMemory>
+    ensures ends { IfOk result (λ counted. Evaluates (record { names = names.now; program = program.now; levels = levels; words = words })
+        (S.left source.old) (S.left source.new) (K.given sink.old) (K.given sink.new) counted.end) }
+    ensures runs { IfOk result (HasCounted (record { names = names.now; program = program.now; levels = levels; words = words })
+        (S.left source.old) (S.left source.new) (K.given sink.old) (K.given sink.new)) }
+    ensures units { IfOk result (Counts (record { names = names.now; program = program.now; levels = levels; words = words }) (S.left source.old) (S.left source.new)) }
+    ensures fault { IfOk result (λ counted. Tells counted.end (Rose (S.faults source.old) (S.faults source.new)) (Rose (K.faults sink.old) (K.faults sink.new))) }
+    ensures breaks_off { OnErr result (BreaksOff (record { names = names.now; program = program.now; levels = levels; words = words })
+        (S.left source.old) (S.left source.new) (K.given sink.old) (K.given sink.new)) }
+{
     law_machine();
     law_printing();
     law_reading();
@@ -49,13 +78,20 @@ pub fn evaluate<S: Source, K: Sink>(
 }
 
 // A stop by a fault is an end.
-fn end_of(ended: Result<EvaluationEnd, Stop>) -> Result<EvaluationEnd, NoMemory>
-    ensures { MatchResult result (λ end. end_told ended ≡ Some end) (λ _. end_told ended ≡ None) }
+fn end_of(ended: Result<Counted, Stop>) -> Result<Counted, NoMemory>
+    ensures { MatchResult result (λ counted. end_told ended ≡ Some counted) (λ _. end_told ended ≡ None) }
 {
     match ended {
-        Ok(end) => Ok(end),
-        Err(Stop::ReadFault) => Ok(EvaluationEnd::ReadFault),
-        Err(Stop::WriteFault) => Ok(EvaluationEnd::WriteFault),
+        Ok(counted) => Ok(counted),
+        Err(Stop::ReadFault) => Ok(untold(EvaluationEnd::ReadFault)),
+        Err(Stop::WriteFault) => Ok(untold(EvaluationEnd::WriteFault)),
         Err(Stop::NoMemory) => Err(NoMemory),
     }
+}
+
+// An end of which no units are told.
+fn untold(end: EvaluationEnd) -> Counted
+    ensures { result ≡ untold end }
+{
+    Counted { end, units: 0 }
 }

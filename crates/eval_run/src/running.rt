@@ -9,9 +9,10 @@ ghost use Rattle.eval_step.specs.Advanced.{StopsBecause};
 ghost use Rattle.eval_step.specs.Streams.{control_reads, is_fed};
 ghost use Rattle.lang_meaning.specs.Evaluation.{Evaluation};
 ghost use Rattle.lang_meaning.specs.Evaluates.{most_forms};
-ghost use Rattle.eval_run.specs.UnderWay.{UnderWay, HasRun, IsOwnEnd, StopsSo, StopTells};
+ghost use Rattle.eval_run.specs.UnderWay.{UnderWay, HasCounted, IsOwnEnd, StopsSo, StopTells};
 
-use crate::end::end_at;
+use crate::answer::Counted;
+use crate::end::counted_at;
 use crate::feeding::feed;
 use crate::stop::Stop;
 use crate::writing::{write_much, write_printed};
@@ -27,11 +28,11 @@ pub(crate) fn run<S: Source, K: Sink>(
     evaluator: &mut Evaluator<'_>,
     source: &mut S,
     sink: &mut K,
-) -> Result<EvaluationEnd, Stop>
-    ensures ends { IfOk result (λ end. (e : Evaluation)
+) -> Result<Counted, Stop>
+    ensures ends { IfOk result (λ counted. (e : Evaluation)
         → UnderWay e (S.left source.old) (S.left source.old) (K.given sink.old) (K.given sink.old) 0 evaluator.old
-        → HasRun e (S.left source.old) (S.left source.new) (K.given sink.old) (K.given sink.new) end) }
-    ensures own { IfOk result IsOwnEnd }
+        → HasCounted e (S.left source.old) (S.left source.new) (K.given sink.old) (K.given sink.new) counted) }
+    ensures own { IfOk result (λ counted. IsOwnEnd counted.end) }
     ensures stops { IfErr result (λ stop. (e : Evaluation)
         → UnderWay e (S.left source.old) (S.left source.old) (K.given sink.old) (K.given sink.old) 0 evaluator.old
         → StopsSo stop e (S.left source.old) (S.left source.new) (K.given sink.old) (K.given sink.new)) }
@@ -53,7 +54,10 @@ pub(crate) fn run<S: Source, K: Sink>(
         return finish(evaluator, sink);
     }
     write_printed(evaluator, sink)?;
-    Ok(EvaluationEnd::Spent)
+    Ok(Counted {
+        end: EvaluationEnd::Spent,
+        units: 0,
+    })
 }
 
 // Steps up to the next form, or to the end; whether there is a form.
@@ -87,13 +91,13 @@ fn begin(evaluator: &mut Evaluator<'_>) -> Result<(), Stop>
     Ok(())
 }
 
-// All that was printed is written at the end; the end.
-fn finish<K: Sink>(evaluator: &mut Evaluator<'_>, sink: &mut K) -> Result<EvaluationEnd, Stop>
+// All that was printed is written at the end; the end, and the units.
+fn finish<K: Sink>(evaluator: &mut Evaluator<'_>, sink: &mut K) -> Result<Counted, Stop>
     requires ended { StopsBecause evaluator.old false }
-    ensures ends { IfOk result (λ end. (e : Evaluation) (left left' given : Option (List ℕ)) (forms : ℕ) → forms ≤ most_forms
+    ensures ends { IfOk result (λ counted. (e : Evaluation) (left left' given : Option (List ℕ)) (forms : ℕ) → forms ≤ most_forms
         → UnderWay e left left' given (K.given sink.old) forms evaluator.old
-        → HasRun e left left' given (K.given sink.new) end) }
-    ensures own { IfOk result IsOwnEnd }
+        → HasCounted e left left' given (K.given sink.new) counted) }
+    ensures own { IfOk result (λ counted. IsOwnEnd counted.end) }
     ensures stops { IfErr result (λ stop. (e : Evaluation) (left left' given : Option (List ℕ)) (forms : ℕ)
         → UnderWay e left left' given (K.given sink.old) forms evaluator.old
         → StopsSo stop e left left' given (K.given sink.new)) }
@@ -101,5 +105,5 @@ fn finish<K: Sink>(evaluator: &mut Evaluator<'_>, sink: &mut K) -> Result<Evalua
     ensures count { K.faults sink.old ≤ K.faults sink.new }
 {
     write_printed(evaluator, sink)?;
-    Ok(end_at(evaluator))
+    Ok(counted_at(evaluator))
 }

@@ -13,6 +13,7 @@ ghost use Rattle.eval_state.specs.Sizes.{AreSizes};
 ghost use Rattle.eval_run.specs.UnderWay.{IsOwnEnd, StopTells};
 ghost use Rattle.eval_run.specs.FlatRun.{IsReady, FlatRuns, FlatStops};
 
+use crate::answer::Counted;
 use crate::running::run;
 use crate::stop::Stop;
 use base::{Names, NoMemory, Sink, Source};
@@ -23,7 +24,6 @@ use eval_step::evaluator::Evaluator;
 use eval_store::{InitialHeap, Spellings, Store, lay_initial_heap};
 use flat_language::FlatProgram;
 use lang_dispatch::{Tables, tables};
-use lang_meaning::EvaluationEnd;
 use std::alloc::Global;
 
 /// Runs a flat program with these levels and words. A fault only where the count of the source's faults, or of the sink's, rose.
@@ -35,10 +35,10 @@ pub(crate) fn run_flat<S: Source, K: Sink>(
     words: u64,
     source: &mut S,
     sink: &mut K,
-) -> Result<EvaluationEnd, Stop>
+) -> Result<Counted, Stop>
     requires cells { sum_by (generic_cells (with_classes program.now.classes)) program.now.generics ≤ 262144 }
     ensures ends { IfOk result (FlatRuns names.now program.now levels words (S.left source.old) (S.left source.new) (K.given sink.old) (K.given sink.new)) }
-    ensures own { IfOk result IsOwnEnd }
+    ensures own { IfOk result (λ counted. IsOwnEnd counted.end) }
     ensures stops { IfErr result (FlatStops names.now program.now levels words (S.left source.old) (S.left source.new) (K.given sink.old) (K.given sink.new)) }
     ensures fault { IfErr result (λ stop. StopTells stop (Rose (S.faults source.old) (S.faults source.new)) (Rose (K.faults sink.old) (K.faults sink.new))) }
 {
@@ -75,12 +75,12 @@ fn run_laid_out<'p, S: Source, K: Sink>(
     words: u64,
     source: &mut S,
     sink: &mut K,
-) -> Result<EvaluationEnd, Stop>
+) -> Result<Counted, Stop>
     requires cells { sum_by (generic_cells (with_classes program.now.classes)) program.now.generics ≤ 262144 }
     requires spelling { IsSpelling names.now spellings }
     requires layout { IsInitialHeap names.now (flat.tables program.now) layout.now }
     ensures ends { IfOk result (FlatRuns names.now program.now levels words (S.left source.old) (S.left source.new) (K.given sink.old) (K.given sink.new)) }
-    ensures own { IfOk result IsOwnEnd }
+    ensures own { IfOk result (λ counted. IsOwnEnd counted.end) }
     ensures stops { IfErr result (FlatStops names.now program.now levels words (S.left source.old) (S.left source.new) (K.given sink.old) (K.given sink.new)) }
     ensures fault { IfErr result (λ stop. StopTells stop (Rose (S.faults source.old) (S.faults source.new)) (Rose (K.faults sink.old) (K.faults sink.new))) }
 {
@@ -119,12 +119,12 @@ fn run_fitted<'p, S: Source, K: Sink>(
     words: u64,
     source: &mut S,
     sink: &mut K,
-) -> Result<EvaluationEnd, Stop>
+) -> Result<Counted, Stop>
     requires sizes { AreSizes program.now sizes.now }
     requires dispatch { AreTablesOf (with_classes program.now.classes) program.now.generics tables.now }
-    ensures ends { IfOk result (λ end. (names : List (List ℕ)) → IsReady names program.now spellings layout.now primitives.now store.entry
-        → FlatRuns names program.now levels words (S.left source.old) (S.left source.new) (K.given sink.old) (K.given sink.new) end) }
-    ensures own { IfOk result IsOwnEnd }
+    ensures ends { IfOk result (λ counted. (names : List (List ℕ)) → IsReady names program.now spellings layout.now primitives.now store.entry
+        → FlatRuns names program.now levels words (S.left source.old) (S.left source.new) (K.given sink.old) (K.given sink.new) counted) }
+    ensures own { IfOk result (λ counted. IsOwnEnd counted.end) }
     ensures stops { IfErr result (λ stop. (names : List (List ℕ)) → IsReady names program.now spellings layout.now primitives.now store.entry
         → FlatStops names program.now levels words (S.left source.old) (S.left source.new) (K.given sink.old) (K.given sink.new) stop) }
     ensures fault { IfErr result (λ stop. StopTells stop (Rose (S.faults source.old) (S.faults source.new)) (Rose (K.faults sink.old) (K.faults sink.new))) }
