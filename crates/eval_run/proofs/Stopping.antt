@@ -71,16 +71,18 @@ cut e left left' given given' given'' forms v g u = record {
   was_taken = u.was_taken;
   units = 0;
   comes = λ input b.
-      let a : IsAtConfiguration e.names v u.written b.rest (configuration_after e input u.count) = (u.comes input b).is_at in
-      (refl, record {
-        count = u.count;
-        front = u.written ++ g.0;
-        prefix = record {
-          rest = g.1;
-          is = append_assoc u.written g.0 g.1 ∙ ap (λ xs. u.written ++ xs) g.2.0 ∙ sym (printed_so e.names v u.written b.rest (configuration_after e input u.count) a);
-        };
-        printed = given_more given given' given'' u.written g.0 u.was_given g.2.1;
-      });
+      let a : IsAtConfiguration e.names v u.written b.rest (configuration_after e input u.count) = (u.comes input b).is_at in (
+        refl,
+        record {
+          count = u.count;
+          front = u.written ++ g.0;
+          prefix = record {
+            rest = g.1;
+            is = append_assoc u.written g.0 g.1 ∙ ap (λ xs. u.written ++ xs) g.2.0 ∙ sym (printed_so e.names v u.written b.rest (configuration_after e input u.count) a);
+          };
+          printed = given_more given given' given'' u.written g.0 u.was_given g.2.1;
+        },
+      );
 }
 
 -- anywhere, a front was written
@@ -174,13 +176,15 @@ spent e left left' given given' forms v h none stopped u = record {
     comes = λ input b.
         let k : HasCome e u.taken u.written u.count forms v input b = u.comes input b in
         let m : Configuration = configuration_after e input u.count in
-        let a : IsAtConfiguration e.names v u.written b.rest m = k.is_at in
-        (refl, record {
-          count = u.count;
-          forms = k.begun ∙ h;
-          goes_on = ap (λ (x : Configuration). begins x.control) (sym a.is) ∙ stopped e.names a.beside;
-          printed = subst (λ xs. WasGiven given xs given') (printed_all e.names v u.written b.rest m none a) u.was_given;
-        });
+        let a : IsAtConfiguration e.names v u.written b.rest m = k.is_at in (
+          refl,
+          record {
+            count = u.count;
+            forms = k.begun ∙ h;
+            goes_on = ap (λ (x : Configuration). begins x.control) (sym a.is) ∙ stopped e.names a.beside;
+            printed = subst (λ xs. WasGiven given xs given') (printed_all e.names v u.written b.rest m none a) u.was_given;
+          },
+        );
   };
   units = refl;
 }
@@ -207,12 +211,14 @@ wants e left left' left'' given given' forms v same none reads all_taken not_met
   units = 0;
   comes = λ input b.
       let m : Configuration = configuration_after e input u.count in
-      let a : IsAtConfiguration e.names v u.written b.rest m = (u.comes input b).is_at in
-      (refl, record {
-        not_all = u.all_is ∙ not_met;
-        count = u.count;
-        wants = ap (λ (x : Configuration). wants_byte x.control) (sym a.is) ∙ wants_so e.names v.machine v.machine.control reads;
-        left = ap (λ (x : Configuration). x.state.state.input) (sym a.is) ∙ a.stands.input ∙ ap (λ xs. xs ++ b.rest) all_taken;
-        printed = subst (λ xs. WasGiven given xs given') (printed_all e.names v u.written b.rest m none a) u.was_given;
-      });
+      let a : IsAtConfiguration e.names v u.written b.rest m = (u.comes input b).is_at in (
+        refl,
+        record {
+          not_all = u.all_is ∙ not_met;
+          count = u.count;
+          wants = ap (λ (x : Configuration). wants_byte x.control) (sym a.is) ∙ wants_so e.names v.machine v.machine.control reads;
+          left = ap (λ (x : Configuration). x.state.state.input) (sym a.is) ∙ a.stands.input ∙ ap (λ xs. xs ++ b.rest) all_taken;
+          printed = subst (λ xs. WasGiven given xs given') (printed_all e.names v u.written b.rest m none a) u.was_given;
+        },
+      );
 }

@@ -17,7 +17,7 @@ pub enum End {
     Trap(TrapKind, u32),
 }
 
-/// How a run ended, what it printed, and how many instructions it took; 0 of an evaluation.
+/// How a run ended, what it printed, and its count: the instructions that an image took, the units of an evaluation.
 #[derive(Drop)]
 pub struct Told {
     pub end: End,

@@ -1,5 +1,5 @@
 // Runs compiled programs beside the evaluator: for each row of a table, whether the image of a program does what the program means. With
-// an argument, the instructions that it took are told too.
+// an argument, the units of the meaning and the instructions that the image took are told too.
 #![tactic(auto)]
 
 mod building;

@@ -15,7 +15,7 @@ use test_rows::{RowAnswer, Table};
 pub enum Telling {
     /// How it ended, and whether the image did what the program means.
     Ends,
-    /// Also the instructions that the image took, and its words.
+    /// Also the units of the meaning, the instructions that the image took, and its words.
     Counts,
 }
 
@@ -113,6 +113,8 @@ fn run_image(
     if let Some(done) = machine_run(got, whole, image, limits, input) {
         put_compared(got, whole, meant, &done);
         if let Telling::Counts = telling {
+            got.put(" units ");
+            got.put(meant.count);
             got.put(" instructions=");
             got.put(done.count);
             got.put(" words=");

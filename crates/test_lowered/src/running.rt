@@ -4,7 +4,7 @@ ghost use Rattle.std.specs.Prelude.{◌≡◌, IfSome};
 
 use crate::ends::{End, Told};
 use base::{Bytes, CallList, MemSink, MemSource, Place};
-use eval_run::evaluate;
+use eval_run::evaluate_counted;
 use front_files::Whole;
 use lang_meaning::EvaluationEnd;
 use rv_machine::{Ending, Image, Machine};
@@ -26,14 +26,14 @@ pub struct Limits {
     pub instructions: u32,
 }
 
-/// What the program does by its meaning, within so many words.
+/// What the program does by its meaning, within so many words, and the units that it counts.
 pub fn evaluated(got: &mut RowAnswer, whole: &Whole, words: u32, input: &[u8]) -> Option<Told> {
     let mut source = source_of(got, input)?;
     let Some(mut sink) = sink_of(got) else {
         drop(source);
         return None;
     };
-    let ended = evaluate(
+    let ended = evaluate_counted(
         got.alloc,
         &whole.program,
         &whole.names,
@@ -44,7 +44,7 @@ pub fn evaluated(got: &mut RowAnswer, whole: &Whole, words: u32, input: &[u8]) -
     );
     drop(source);
     let told = match got.kept(ended) {
-        Some(end) => told_of(got, end_of_evaluation(end), &sink, 0),
+        Some(counted) => told_of(got, end_of_evaluation(counted.end), &sink, counted.units),
         None => None,
     };
     drop(sink);

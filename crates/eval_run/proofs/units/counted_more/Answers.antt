@@ -1,5 +1,5 @@
 -- All of them were counted, or 64 bits do not hold as many.
-use Rattle.std.proofs.Common.{◌≡◌, ◌+◌, [], ap, sym, arith, inr}
+use Rattle.std.proofs.Common.{◌≡◌, [], ap, sym, arith, inr}
 use Rattle.flat_language.specs.FlatState.{FlatState, FlatEvaluated}
 use Rattle.eval_run.proofs.Coming.{nowhere}
 use Rattle.eval_run.proofs.units.counted_more.Goals as goal
