@@ -1,0 +1,11 @@
+pub mod Parts
+pub mod Steps
+pub mod Nodes
+pub mod FormRows
+pub mod BinderRows
+pub mod MethodRows
+pub mod ClassRow
+pub mod Rows
+pub mod Judging
+pub mod Texts
+pub mod Files
