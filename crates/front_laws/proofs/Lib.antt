@@ -9,3 +9,7 @@ pub mod Rows
 pub mod Judging
 pub mod Texts
 pub mod Files
+pub mod Lists
+pub mod RenamedData
+pub mod RenamedPieces
+pub mod RenamedSteps
