@@ -13,3 +13,9 @@ pub mod Lists
 pub mod RenamedData
 pub mod RenamedPieces
 pub mod RenamedSteps
+pub mod RenamedTexts
+pub mod RenamedShapes
+pub mod RenamedNodes
+pub mod RenamedForms
+pub mod RenamedBinders
+pub mod RenamedMethods

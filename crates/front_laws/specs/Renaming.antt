@@ -41,10 +41,11 @@ use Rattle.front_profile.specs.Nodes.{StaticContext, Part, form, below, inner, b
 use Rattle.front_files.specs.Verdicts.{FileVerdict, accepted}
 use Rattle.front_files.specs.Verdicts.{refused as file_refused}
 
--- name n of the old table is name r n of the new one: no two names become one, and each keeps its text
+-- the two tables have the same texts, in another order: name n of the old one is name r n of the new one
 pub record Renames (r : ℕ → ℕ) (old new : List (List ℕ)) : Type 0 where
   pub once : (m n : ℕ) → r m ≡ r n → m ≡ n
   pub texts : (n : ℕ) → slice_get new (r n) ≡ slice_get old n
+  pub back : (m : ℕ) (t : List ℕ) → slice_get new m ≡ Some t → (n : ℕ) × (slice_get old n ≡ Some t)
 
 module _ (r : ℕ → ℕ) where
   -- ---- data
