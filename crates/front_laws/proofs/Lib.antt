@@ -19,3 +19,6 @@ pub mod RenamedNodes
 pub mod RenamedForms
 pub mod RenamedBinders
 pub mod RenamedMethods
+pub mod RenamedHierarchies
+pub mod RenamedClasses
+pub mod RenamedRows
