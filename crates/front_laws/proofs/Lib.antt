@@ -22,3 +22,5 @@ pub mod RenamedMethods
 pub mod RenamedHierarchies
 pub mod RenamedClasses
 pub mod RenamedRows
+pub mod RenamedMakings
+pub mod RenamedJudging

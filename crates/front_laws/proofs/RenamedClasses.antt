@@ -8,7 +8,6 @@ use Rattle.base.specs.declared.datum.Name.{Name}
 use Rattle.base.specs.declared.datum.Symbol.{Symbol}
 use Rattle.base.specs.declared.datum.Symbol.TheVariants.{Named, Fresh}
 use Rattle.base.specs.declared.reason.Reason.TheVariants.{LeftOut, BadSupers, BadSlot, BadMethod}
-use Rattle.base.specs.Names.{IsTable}
 use Rattle.base.specs.Data.{Item, item, Content, integer, character, symbol, string, vector, nil, list, place_of}
 use Rattle.base.specs.DataNames.{symbol_text}
 use Rattle.lang_meaning.specs.declared.program.ClassRow.{ClassRow}
@@ -36,6 +35,7 @@ use Rattle.front_profile.specs.GenericRows.{keeps, unless_unknown}
 use Rattle.front_laws.specs.Renaming.{Renames, name_by, names_by, symbol_by, item_by, data_by, class_by, generic_by, procedure_by, context_by, tables_by, part_by, parts_by, leaf_by, slot_function_by, spec_by, new_class_by, node_by}
 use Rattle.front_laws.proofs.Lists.{both, if_by, if_same, and_same, or_same, any_by, all_by, length_by, get_by, map_by, flat_by, chosen_by}
 use Rattle.front_laws.proofs.RenamedData.{place_by, symbol_of_by, name_of_by, list_items_by, symbol_text_by, word_by}
+use Rattle.front_laws.proofs.RenamedTexts.{FindsNames}
 use Rattle.front_laws.proofs.RenamedShapes.{chosen_same}
 use Rattle.front_laws.proofs.RenamedNodes.{within_by, both_parts, with_name_by, named_form_by}
 use Rattle.front_laws.proofs.RenamedForms.{class_named_by}
@@ -191,7 +191,7 @@ module _ (r : ℕ → ℕ) where
   slot_functions_by xs =
       ap (flat_map slot_function) (all_functions_by xs) ∙ flat_by slot_function_of (slot_function_by r) slot_function slot_function slot_function_by_of (all_functions xs)
 
-module _ (r : ℕ → ℕ) (old new : List (List ℕ)) (w : Renames r old new) (table : IsTable new) where
+module _ (r : ℕ → ℕ) (old new : List (List ℕ)) (w : Renames r old new) (table : FindsNames r old new) where
   -- ---- slots as they are written
 
   initarg_same : (x : Option Symbol) → initarg_by (option_map (symbol_by r) x) ≡ option_map (option_by r) (initarg_by x)

@@ -8,7 +8,6 @@ use Rattle.base.specs.declared.datum.Name.{Name}
 use Rattle.base.specs.declared.datum.Symbol.{Symbol}
 use Rattle.base.specs.declared.datum.Symbol.TheVariants.{Named, Fresh}
 use Rattle.base.specs.declared.reason.Reason.TheVariants.{NotTopLevel, ReservedName, LeftOut, UnknownGeneric, BadMethod, BadBinding, UnknownClass}
-use Rattle.base.specs.Names.{IsTable}
 use Rattle.base.specs.Data.{Item, item, symbol, place_of}
 use Rattle.base.specs.DataNames.{symbol_text, text_of}
 use Rattle.lang_meaning.specs.declared.program.ClassRow.{ClassRow}
@@ -36,7 +35,7 @@ use Rattle.front_profile.specs.GenericRows.{head_with, head_of, fits_by_number, 
 use Rattle.front_laws.specs.Renaming.{Renames, name_by, symbol_by, item_by, data_by, class_by, generic_by, procedure_by, words_by, context_by, tables_by, parameters_by, part_by, parts_by, leaf_by, taker_by, making_by, node_by}
 use Rattle.front_laws.proofs.Lists.{both, if_by, if_same, and_same, or_same, any_by, length_by, get_by, map_by}
 use Rattle.front_laws.proofs.RenamedData.{place_by, symbol_of_by, list_items_by, same_number, symbol_text_by, text_of_by, word_by}
-use Rattle.front_laws.proofs.RenamedTexts.{number_of_by}
+use Rattle.front_laws.proofs.RenamedTexts.{FindsNames}
 use Rattle.front_laws.proofs.RenamedShapes.{only_by, with_required_by, parameter_in_by, behind_rest_by, rest_word_by, all_symbols_by, all_differ_by, parameters_in_by}
 use Rattle.front_laws.proofs.RenamedNodes.{some_same, within_by, bad_binding_by, both_parts, with_name_by, named_form_by}
 use Rattle.front_laws.proofs.RenamedForms.{class_named_by}
@@ -68,7 +67,7 @@ module _ (r : ℕ → ℕ) where
   option_by standard = standard
   option_by (of_method m) = of_method (method_by m)
 
-module _ (r : ℕ → ℕ) (old new : List (List ℕ)) (w : Renames r old new) (table : IsTable new) where
+module _ (r : ℕ → ℕ) (old new : List (List ℕ)) (w : Renames r old new) (table : FindsNames r old new) where
   -- ---- names of generic functions
 
   in_table_by : (o : Option ℕ) → in_table (option_map r o) ≡ given_by r (in_table o)
@@ -79,7 +78,7 @@ module _ (r : ℕ → ℕ) (old new : List (List ℕ)) (w : Renames r old new) (
   setter_of_text_by None = refl
   setter_of_text_by (Some text) =
       if_by (given_by r) (nat_le (length text) longest_set) (nat_le (length text) longest_set) _ _ _ unfit refl
-      (ap in_table (number_of_by r old new w table (setf_text text)) ∙ in_table_by (number_of old (setf_text text))) refl
+      (ap in_table (table (setf_text text)) ∙ in_table_by (number_of old (setf_text text))) refl
 
   setter_of_symbol_by : (x : Option Symbol) → setter_of_symbol new (option_map (symbol_by r) x) ≡ given_by r (setter_of_symbol old x)
   setter_of_symbol_by None = refl

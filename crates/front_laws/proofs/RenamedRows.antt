@@ -8,7 +8,6 @@ use Rattle.base.specs.declared.datum.Symbol.TheVariants.{Named, Fresh}
 use Rattle.base.specs.declared.reason.Reason.{Reason}
 use Rattle.base.specs.declared.reason.Reason.TheVariants.{NotAForm, LeftOut, BadShape, UnknownClass}
 use Rattle.base.specs.declared.reason.Refusal.{Refusal}
-use Rattle.base.specs.Names.{IsTable}
 use Rattle.base.specs.Data.{Item, item, integer, character, symbol, string, vector, nil, list, items_list, Tail, no_tail, dotted, place_of}
 use Rattle.base.specs.DataNames.{symbol_text, text_of}
 use Rattle.lang_meaning.specs.declared.program.LiteralRow.TheVariants as row
@@ -37,6 +36,7 @@ use Rattle.front_laws.specs.Renaming.{Renames, name_by, symbol_by, item_by, item
 use Rattle.front_laws.proofs.Lists.{both, if_by, if_same, any_by, length_by}
 use Rattle.front_laws.proofs.RenamedData.{place_by, symbol_of_by, list_items_by, listed_by, symbol_text_by, text_of_by, word_by}
 use Rattle.front_laws.proofs.RenamedSteps.{derivation_by, derivation_same}
+use Rattle.front_laws.proofs.RenamedTexts.{FindsNames}
 use Rattle.front_laws.proofs.RenamedShapes.{function_of_by}
 use Rattle.front_laws.proofs.RenamedNodes.{literal_node_by}
 use Rattle.front_laws.proofs.RenamedForms.{symbol_node_by, quote_by, setq_by, progn_by, cond_by, two_by, body_row_by, dynamic_row_by, set_dynamic_by, function_row_by, method_row_by, class_named_by, class_row_by, block_by, return_from_by, tagbody_by, go_by, all_parts_by, local_call_by}
@@ -44,7 +44,7 @@ use Rattle.front_laws.proofs.RenamedBinders.{let_by, dynamic_let_by, lambda_by, 
 use Rattle.front_laws.proofs.RenamedMethods.{defgeneric_by, defmethod_by}
 use Rattle.front_laws.proofs.RenamedClasses.{defclass_by}
 
-module _ (r : ℕ → ℕ) (old new : List (List ℕ)) (w : Renames r old new) (table : IsTable new) where
+module _ (r : ℕ → ℕ) (old new : List (List ℕ)) (w : Renames r old new) (table : FindsNames r old new) where
   -- ---- names that the language keeps
 
   first_reserved_by : (ds : List Item) → first_reserved new (data_by r ds) ≡ first_reserved old ds

@@ -65,6 +65,10 @@ number_of_there : (ts : List (List ℕ)) (t : List ℕ) (n : ℕ) → slice_get 
 number_of_there [] t n h = absurd (cc)
 number_of_there (s ∷ ss) t n h = there_of s ss t (bytes_eq s t) refl n h (number_of_there ss t)
 
+-- the names of texts are found under their new numbers
+abbrev pub FindsNames : (ℕ → ℕ) → List (List ℕ) → List (List ℕ) → Type 0
+FindsNames r old new = (t : List ℕ) → number_of new t ≡ option_map r (number_of old t)
+
 module _ (r : ℕ → ℕ) (old new : List (List ℕ)) (w : Renames r old new) (table : IsTable new) where
   -- a search that finds what is there, and nothing else
   found_by : (find : List (List ℕ) → List ℕ → Option ℕ) → ((ts : List (List ℕ)) (t : List ℕ) (n : ℕ) → find ts t ≡ Some n → slice_get ts n ≡ Some t) →
@@ -81,7 +85,7 @@ module _ (r : ℕ → ℕ) (old new : List (List ℕ)) (w : Renames r old new) (
   pub number_by : (t : List ℕ) → number_in new t ≡ option_map r (number_in old t)
   number_by t = found_by number_in number_text number_there t (number_in old t) (number_in new t) refl refl
 
-  pub number_of_by : (t : List ℕ) → number_of new t ≡ option_map r (number_of old t)
+  pub number_of_by : FindsNames r old new
   number_of_by t = found_by number_of number_of_text number_of_there t (number_of old t) (number_of new t) refl refl
 
   -- ---- data

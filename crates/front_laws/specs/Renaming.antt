@@ -1,5 +1,5 @@
 -- Names under other numbers: data, core forms, tables and programs in which each name has the number that a renaming gives it.
-use Rattle.std.specs.Prelude.{◌≡◌, ℕ, List, [], ◌∷◌, Option, Some, None, map, option_map, slice_get}
+use Rattle.std.specs.Prelude.{◌≡◌, ℕ, ◌+◌, List, [], ◌∷◌, Option, Some, None, length, map, option_map, slice_get}
 use Rattle.base.specs.declared.datum.Name.{Name}
 use Rattle.base.specs.declared.datum.Symbol.{Symbol}
 use Rattle.base.specs.declared.datum.Symbol.TheVariants.{Named, Fresh}
@@ -41,11 +41,13 @@ use Rattle.front_profile.specs.Nodes.{StaticContext, Part, form, below, inner, b
 use Rattle.front_files.specs.Verdicts.{FileVerdict, accepted}
 use Rattle.front_files.specs.Verdicts.{refused as file_refused}
 
--- the two tables have the same texts, in another order: name n of the old one is name r n of the new one
+-- The two tables have the same texts, in another order: name n of the old one is name r n of the new one. Numbers of no name follow in
+-- their order.
 pub record Renames (r : ℕ → ℕ) (old new : List (List ℕ)) : Type 0 where
   pub once : (m n : ℕ) → r m ≡ r n → m ≡ n
   pub texts : (n : ℕ) → slice_get new (r n) ≡ slice_get old n
   pub back : (m : ℕ) (t : List ℕ) → slice_get new m ≡ Some t → (n : ℕ) × (slice_get old n ≡ Some t)
+  pub behind : (k : ℕ) → r (length old + k) ≡ length new + k
 
 module _ (r : ℕ → ℕ) where
   -- ---- data
