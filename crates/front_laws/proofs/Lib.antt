@@ -24,3 +24,6 @@ pub mod RenamedClasses
 pub mod RenamedRows
 pub mod RenamedMakings
 pub mod RenamedJudging
+pub mod RenamedLater
+pub mod RenamedCounts
+pub mod RenamedFirst

@@ -29,7 +29,7 @@ module _ (r : ℕ → ℕ) where
   slots_given_by : (gs : List GivenSlot) → slots_given (map given_slot_by gs) ≡ slots_by r (slots_given gs)
   slots_given_by gs = map_by given_slot_by (slot_by r) (λ g. g.slot) (λ g. g.slot) (λ g. refl) gs
 
-  names_of_by : (ss : List SlotRow) → names_of (slots_by r ss) ≡ names_by r (names_of ss)
+  pub names_of_by : (ss : List SlotRow) → names_of (slots_by r ss) ≡ names_by r (names_of ss)
   names_of_by ss = map_by (slot_by r) (name_by r) (λ s. s.name) (λ s. s.name) (λ s. refl) ss
 
   last_by : (ss : List SlotRow) → last_initform (slots_by r ss) ≡ last_initform ss
