@@ -27,3 +27,6 @@ pub mod RenamedJudging
 pub mod RenamedLater
 pub mod RenamedCounts
 pub mod RenamedFirst
+pub mod RenamedFiles
+pub mod Joined
+pub mod OneVerdict

@@ -27,7 +27,7 @@ text_in s ss t false e None f n h = absurd (cc)
 text_in s ss t false e (Some m) f zero h = let k : suc m ≡ 0 = cc in absurd (omega (arith, k))
 text_in s ss t false e (Some m) f (suc n) h = let k : suc m ≡ suc n = cc in let same : m ≡ n = omega (arith, k) in f n (ap (λ x. Some x) same)
 
-number_text : (ts : List (List ℕ)) (t : List ℕ) (n : ℕ) → number_in ts t ≡ Some n → slice_get ts n ≡ Some t
+pub number_text : (ts : List (List ℕ)) (t : List ℕ) (n : ℕ) → number_in ts t ≡ Some n → slice_get ts n ≡ Some t
 unfolding number_in
 number_text [] t n h = absurd (cc)
 number_text (s ∷ ss) t n h = text_in s ss t (bytes_eq t s) refl (number_in ss t) (number_text ss t) n h
@@ -38,7 +38,7 @@ there_in s ss t true e n h f = (0, refl)
 there_in s ss t false e zero h f = let same : t ≡ s = cc in let yes : bytes_eq t s ≡ true = (bytes_eq-Decides t s).1 same in absurd (cc)
 there_in s ss t false e (suc n) h f = let x = f n h in (suc x.0, ap one_later x.1)
 
-number_there : (ts : List (List ℕ)) (t : List ℕ) (n : ℕ) → slice_get ts n ≡ Some t → (m : ℕ) × (number_in ts t ≡ Some m)
+pub number_there : (ts : List (List ℕ)) (t : List ℕ) (n : ℕ) → slice_get ts n ≡ Some t → (m : ℕ) × (number_in ts t ≡ Some m)
 unfolding number_in
 number_there [] t n h = absurd (cc)
 number_there (s ∷ ss) t n h = there_in s ss t (bytes_eq t s) refl n h (number_there ss t)

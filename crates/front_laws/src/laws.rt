@@ -1,51 +1,41 @@
-// Where what refuses a file stands, as the contracts of functions that do nothing.
+// One verdict on a file, whatever names are numbered by, as the contracts of functions that do nothing.
 
-ghost use Rattle.std.specs.Prelude.{ℕ, List, []};
-ghost use Rattle.base.specs.declared.place.Place.{Place as place};
-ghost use Rattle.base.specs.declared.reason.Reason.{Reason as reason};
+ghost use Rattle.std.specs.Prelude.{◌≡◌, ℕ, List};
 ghost use Rattle.base.specs.declared.reason.Refusal.{Refusal as refusal};
-ghost use Rattle.base.specs.Data.{Item};
 ghost use Rattle.base.specs.Names.{IsTable};
 ghost use Rattle.lang_meaning.specs.declared.program.ProgramRows.{ProgramRows as program_rows};
-ghost use Rattle.front_profile.specs.declared.tables.Tables.{Tables};
-ghost use Rattle.front_profile.specs.Nodes.{StaticContext, refused as at_offence, ended};
-ghost use Rattle.front_profile.specs.Rows.{node};
-ghost use Rattle.front_profile.specs.Judged.{Elaborates};
-ghost use Rattle.front_reader.specs.Reads.{ReadsNext};
-ghost use Rattle.front_reader.specs.Stops.{Stops};
 ghost use Rattle.front_files.specs.declared.mode.Mode.{Mode as mode_of};
-ghost use Rattle.front_files.specs.declared.mode.Mode.TheVariants.{Run};
-ghost use Rattle.front_files.specs.Verdicts.{accepted, refused, Verdict, IsOfFile};
-ghost use Rattle.front_laws.specs.Places.{InText, IsPlaceIn};
+ghost use Rattle.front_files.specs.Verdicts.{FileVerdict, Verdict, Accepts, Refuses};
+ghost use Rattle.front_laws.specs.Renaming.{Renames, file_verdict_by};
+ghost use Rattle.front_laws.specs.SamePrograms.{SameProgram};
 
-use front_files::laws::law_prelude;
+use front_files::laws::law_names_apart;
+use front_files::laws::law_one_verdict as law_one_verdict_of_a_table;
 
-/// The first offence of a form stands at the place of the form, or at that of a datum inside it, wherever the form
-/// stands and whatever stood before it.
-pub fn law_offence_in_form()
-    ensures { (names : List (List ℕ)) (a : StaticContext) (s : Tables) (d : Item) (p : place) (r : reason) →
-        Elaborates names (node names a s d) (ended (at_offence p r)) → IsPlaceIn p d }
+/// A verdict on a file is the same under a table that has the same texts in another order, with the names of its
+/// program renamed.
+pub fn law_renamed()
+    ensures { (r : ℕ → ℕ) (old new : List (List ℕ)) (prelude text : List ℕ) (mode : mode_of) (v : FileVerdict) → IsTable new →
+        Renames r old new → Verdict old prelude text mode v → Verdict new prelude text mode (file_verdict_by r v) }
 {}
 
-/// The next datum of a text, and each datum inside it, has a line and a column from 1 on.
-pub fn law_data_in_text()
-    ensures { (names : List (List ℕ)) (text : List ℕ) (p q : place) (d : Item) (after : List ℕ) → InText p →
-        ReadsNext names text p d after → IsPlaceIn q d → InText q }
-{}
-
-/// So has the place where a text stops.
-pub fn law_stop_in_text()
-    ensures { (p : place) (text : List ℕ) (at : place) (r : reason) → InText p → Stops p text at r → InText at }
-{}
-
-/// What refuses a file by its length or in its text stands at a line and a column from 1 on, never at 0:0, where the
-/// forms of a prelude stand. So behind a prelude that is accepted in front of the empty file each refusal stands in
-/// the text.
-pub fn law_refusal_in_text()
-    ensures of_file { (names : List (List ℕ)) (text : List ℕ) (mode : mode_of) (r : refusal) → IsOfFile names text mode r →
-        InText r.place }
-    ensures behind_prelude { (names : List (List ℕ)) (prelude text : List ℕ) (mode : mode_of) (program : program_rows) (r : refusal) →
-        IsTable names → Verdict names prelude [] Run (accepted program) → Verdict names prelude text mode (refused r) → InText r.place }
+/// Behind a prelude no text is both accepted and refused, and two refusals of it are one, whatever tables the names are
+/// numbered by.
+pub fn law_one_verdict()
+    ensures never_both { (prelude text : List ℕ) (mode : mode_of) (names : List (List ℕ)) (program : program_rows) (r : refusal) →
+        Accepts prelude text mode names program → Refuses prelude text mode r → ⊥ }
+    ensures one_refusal { (prelude text : List ℕ) (mode : mode_of) (q r : refusal) →
+        Refuses prelude text mode q → Refuses prelude text mode r → q ≡ r }
 {
-    law_prelude();
+    law_names_apart();
+    law_one_verdict_of_a_table();
+}
+
+/// Two programs that a text is accepted as are the same, their names taken by their texts.
+pub fn law_one_program()
+    ensures { (prelude text : List ℕ) (mode : mode_of) (a b : List (List ℕ)) (p q : program_rows) →
+        Accepts prelude text mode a p → Accepts prelude text mode b q → SameProgram a p b q }
+{
+    law_names_apart();
+    law_one_verdict_of_a_table();
 }

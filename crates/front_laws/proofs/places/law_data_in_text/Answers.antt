@@ -2,7 +2,7 @@
 use Rattle.front_laws.specs.Places.{InText}
 use Rattle.front_laws.proofs.Parts.{all_then_each}
 use Rattle.front_laws.proofs.Texts.{next_in}
-use Rattle.front_laws.proofs.laws.law_data_in_text.Goals as goal
+use Rattle.front_laws.proofs.places.law_data_in_text.Goals as goal
 
 pub returns : goal.returns
 returns c = λ names text p q d after h r i. all_then_each InText d (next_in names text p d after h r) q i
