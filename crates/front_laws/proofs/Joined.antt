@@ -1,5 +1,5 @@
 -- Two tables of names, each with the texts of the other behind its own: they have the same texts, in another order.
-use Rattle.std.specs.Prelude.{◌≡◌, ℕ, zero, suc, ◌+◌, ◌-◌, ◌<◌, ◌≤◌, ◌⊎◌, Bool, true, false, if◌then◌else◌, List, [], ◌∷◌, ◌++◌, Option, Some, None, length, slice_get, refl}
+use Rattle.std.specs.Prelude.{◌≡◌, ℕ, zero, suc, ◌+◌, ◌-◌, ◌≤◌, ◌⊎◌, Bool, true, false, if◌then◌else◌, List, [], ◌∷◌, ◌++◌, Option, Some, None, length, slice_get, refl}
 use Rattle.std.proofs.Common.{arith, ap, sym, ◌∙◌, subst, inl, inr, ⊎_elim}
 use Rattle.base.specs.Names.{IsTable, Extends, Extends-same, Extends-then, has_text, with_text, Extends-with_text, IsTable-with_text, text_stays, name_of_text, slice_get-behind, slice_get-push}
 use Rattle.front_reader.specs.Meanings.{number_in}

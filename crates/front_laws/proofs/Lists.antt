@@ -1,12 +1,16 @@
 -- Lists of renamed items: what is looked for, chosen and counted in them.
-use Rattle.std.specs.Prelude.{◌≡◌, ℕ, zero, suc, ◌+◌, ◌==◌, ◌&&◌, ◌||◌, Bool, true, false, List, [], ◌∷◌, ◌++◌, Option, Some, None, if◌then◌else◌, length, map, filter, flat_map, fold, take, drop, slice_get, option_map, refl}
+use Rattle.std.specs.Prelude.{◌≡◌, ℕ, zero, suc, ◌+◌, ◌&&◌, ◌||◌, Bool, true, false, List, [], ◌∷◌, ◌++◌, Option, Some, None, if◌then◌else◌, length, map, filter, flat_map, fold, take, drop, slice_get, option_map, refl}
 use Rattle.std.specs.List.{list_any, list_all, filter_map, cons_option, sum_by}
-use Rattle.std.proofs.Common.{ap, sym, ◌∙◌, arith}
+use Rattle.std.proofs.Common.{ap, sym, ◌∙◌}
 use Rattle.std.proofs.lemmas.List.{map-append}
-use mathlib.Core.Path.{fun_ext}
+
+-- equal arguments
 
 pub both : {A B C : Type 0} (f : A → B → C) (a a2 : A) (b b2 : B) → a ≡ a2 → b ≡ b2 → f a b ≡ f a2 b2
 both f a a2 b b2 e g = ap (λ x. f x b) e ∙ ap (f a2) g
+
+pub three : {A B C D : Type 0} (f : A → B → C → D) (a a2 : A) (b b2 : B) (c c2 : C) → a ≡ a2 → b ≡ b2 → c ≡ c2 → f a b c ≡ f a2 b2 c2
+three f a a2 b b2 c c2 e g h = both (λ x y. f x y c) a a2 b b2 e g ∙ ap (f a2 b2) h
 
 -- a choice
 pub if_by : {X Y : Type 0} (h : Y → X) (b c : Bool) (x y : X) (u v : Y) → b ≡ c → x ≡ h u → y ≡ h v → (if b then x else y) ≡ h (if c then u else v)
@@ -85,6 +89,3 @@ module _ {X Y V W : Type 0} (f : X → Y) (k : V → W) where
       one : (o : Option V) (vs : List V) → cons_option (option_map k o) (map k vs) ≡ map k (cons_option o vs)
       one None vs = refl
       one (Some v) vs = refl
-
-pub test_ext : (f g : ℕ → ℕ) → ((n : ℕ) → f n ≡ g n) → f ≡ g
-test_ext f g h = fun_ext h

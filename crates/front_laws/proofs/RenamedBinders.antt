@@ -1,39 +1,33 @@
 -- The rows of forms that bind, and of definitions of variables and functions, for renamed data and tables.
-use Rattle.std.specs.Prelude.{◌≡◌, ℕ, ◌+◌, ◌==◌, Bool, true, false, not, ◌&&◌, ◌||◌, List, [], ◌∷◌, ◌++◌, Option, Some, None, if◌then◌else◌, length, is_some, map, option_map, refl}
-use Rattle.std.specs.List.{list_any}
+use Rattle.std.specs.Prelude.{◌≡◌, ℕ, Bool, true, false, not, ◌&&◌, ◌||◌, List, [], ◌∷◌, ◌++◌, Option, Some, None, length, is_some, map, option_map, refl}
 use Rattle.std.proofs.Common.{ap, sym, ◌∙◌}
 use Rattle.std.proofs.lemmas.List.{map-append}
 use Rattle.base.specs.declared.place.Place.{Place}
 use Rattle.base.specs.declared.datum.Name.{Name}
 use Rattle.base.specs.declared.datum.Symbol.{Symbol}
 use Rattle.base.specs.declared.reason.Reason.{Reason}
-use Rattle.base.specs.declared.reason.Reason.TheVariants.{ReservedName, ConstantSet}
+use Rattle.base.specs.declared.reason.Reason.TheVariants.{ConstantSet}
 use Rattle.base.specs.Data.{Item}
 use Rattle.lang_meaning.specs.declared.capture.Capture.{Capture}
 use Rattle.front_profile.specs.declared.bound.Bound.{Bound}
-use Rattle.front_profile.specs.declared.bound.Bound.TheVariants.{Function}
 use Rattle.front_profile.specs.declared.parameters.Parameters.{Parameters}
 use Rattle.front_profile.specs.declared.tables.Tables.{Tables}
 use Rattle.front_profile.specs.declared.elaboration.One.TheVariants.{DefineGlobal, DefineDynamic}
-use Rattle.front_profile.specs.declared.elaboration.Elaboration.{Elaboration}
 use Rattle.front_profile.specs.declared.elaboration.Elaboration.TheVariants.{OfVariables, OfDynamics, OfFunction, InSequence, OfFunctionNamed}
-use Rattle.front_profile.specs.Names.{variable_of, parts_around}
-use Rattle.front_profile.specs.Nodes.{StaticContext, Part, form, Node, offends}
+use Rattle.front_profile.specs.Names.{parts_around}
+use Rattle.front_profile.specs.Nodes.{StaticContext, form, Node, offends}
 use Rattle.front_profile.specs.Shapes.{Pair, pairs_in, parameters_in, symbol_of, name_of}
-use Rattle.front_profile.specs.RowWords.{deeper, with_all, within_depth, made_of, each_below, each_inner, each_bound, bad_binding}
+use Rattle.front_profile.specs.RowWords.{deeper, with_all, made_of, each_below, each_inner, each_bound, bad_binding}
 use Rattle.front_profile.specs.FunctionNodes.{function_parts}
 use Rattle.front_profile.specs.BindingRows.{let_as, let_row, name_and, names_of, values_of, dynamics_as, dynamic_let_as, dynamic_let_row, lambda_as, lambda_row, function_and, variable_that_is, functions_of, functions_as, with_functions_as, with_functions_row}
 use Rattle.front_profile.specs.DefiningRows.{named, is_that, counts, has_global, has_dynamic, is_of_prelude, has_function, is_taken, is_set, defining_offence, unless_offending, defining, is_truth, global_variable, global_as, global_row, dynamic_variable, defdynamic_as, defdynamic_row, with_name, named_form, defun_of, defun_with, is_reserved, defun_as, defun_row}
 use Rattle.front_profile.specs.ValueRows.{one_part}
-use Rattle.front_laws.specs.Renaming.{Renames, name_by, names_by, symbol_by, item_by, data_by, function_by, global_by, dynamic_by, words_by, bound_by, context_by, tables_by, parameters_by, part_by, parts_by, leaf_by, making_by, node_by}
-use Rattle.front_laws.proofs.Lists.{both, if_by, and_same, or_same, any_by, length_by, map_by}
-use Rattle.front_laws.proofs.RenamedData.{place_by, symbol_of_by, name_of_by, same_number}
+use Rattle.front_laws.specs.Renaming.{Renames, name_by, names_by, symbol_by, item_by, data_by, function_by, global_by, dynamic_by, bound_by, context_by, tables_by, parameters_by, part_by, parts_by, node_by}
+use Rattle.front_laws.proofs.Lists.{both, three, if_by, and_same, or_same, any_by, length_by, map_by}
+use Rattle.front_laws.proofs.RenamedData.{symbol_of_by, name_of_by, same_number}
 use Rattle.front_laws.proofs.RenamedShapes.{pair_by, pairs_by, variable_of_by, around_by, pairs_in_by, parameters_in_by}
 use Rattle.front_laws.proofs.RenamedNodes.{some_same, within_by, made_by_parts, bad_binding_by, each_below_by, each_inner_by, each_bound_by, both_parts, with_name_by, named_form_by, alone_by, function_parts_by}
 use Rattle.front_laws.proofs.RenamedForms.{one_part_by}
-
-pub three : {A B C D : Type 0} (f : A → B → C → D) (a a2 : A) (b b2 : B) (c c2 : C) → a ≡ a2 → b ≡ b2 → c ≡ c2 → f a b c ≡ f a2 b2 c2
-three f a a2 b b2 c c2 e g h = both (λ x y. f x y c) a a2 b b2 e g ∙ ap (f a2 b2) h
 
 module _ (r : ℕ → ℕ) (old new : List (List ℕ)) (w : Renames r old new) where
   -- ---- let

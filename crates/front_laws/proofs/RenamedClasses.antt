@@ -1,5 +1,5 @@
 -- The row of the form that defines a class, for renamed data and tables.
-use Rattle.std.specs.Prelude.{◌≡◌, ℕ, ◌+◌, ◌==◌, nat_le, nat_lt, Bool, true, false, not, ◌&&◌, ◌||◌, List, [], ◌∷◌, ◌++◌, Option, Some, None, if◌then◌else◌, length, is_some, map, flat_map, option_map, slice_get, codes, refl}
+use Rattle.std.specs.Prelude.{◌≡◌, ℕ, ◌+◌, nat_le, nat_lt, Bool, true, false, not, ◌&&◌, ◌||◌, List, [], ◌∷◌, ◌++◌, Option, Some, None, length, is_some, map, flat_map, option_map, codes, refl}
 use Rattle.std.specs.List.{list_any, list_all, filter_map}
 use Rattle.std.proofs.Common.{ap, sym, ◌∙◌}
 use Rattle.std.proofs.lemmas.List.{map-append}
@@ -8,7 +8,7 @@ use Rattle.base.specs.declared.datum.Name.{Name}
 use Rattle.base.specs.declared.datum.Symbol.{Symbol}
 use Rattle.base.specs.declared.datum.Symbol.TheVariants.{Named, Fresh}
 use Rattle.base.specs.declared.reason.Reason.TheVariants.{LeftOut, BadSupers, BadSlot, BadMethod}
-use Rattle.base.specs.Data.{Item, item, Content, integer, character, symbol, string, vector, nil, list, place_of}
+use Rattle.base.specs.Data.{Item, item, integer, character, symbol, string, vector, nil, list, place_of}
 use Rattle.base.specs.DataNames.{symbol_text}
 use Rattle.lang_meaning.specs.declared.program.ClassRow.{ClassRow}
 use Rattle.lang_meaning.specs.declared.program.GenericRow.{GenericRow}
@@ -23,23 +23,23 @@ use Rattle.front_profile.specs.declared.elaboration.Accessor.TheVariants.{Reads,
 use Rattle.front_profile.specs.declared.elaboration.SlotFunction.{SlotFunction}
 use Rattle.front_profile.specs.declared.elaboration.Elaboration.TheVariants.{OfClass}
 use Rattle.front_profile.specs.declared.tables.Tables.{Tables}
-use Rattle.front_profile.specs.Nodes.{StaticContext, Part, wrong, offends, unnamed, whole}
+use Rattle.front_profile.specs.Nodes.{StaticContext, wrong, offends, unnamed, whole}
 use Rattle.front_profile.specs.Shapes.{symbol_of, name_of}
 use Rattle.front_profile.specs.RowWords.{bad_shape}
-use Rattle.front_profile.specs.Elaborations.{generic_named, arguments_of}
-use Rattle.front_profile.specs.DefiningRows.{named, with_name, named_form, is_of_prelude, has_function}
+use Rattle.front_profile.specs.Elaborations.{generic_named}
+use Rattle.front_profile.specs.DefiningRows.{named, with_name, named_form}
 use Rattle.front_profile.specs.GivenNames.{GivenName, no_name, unfit, lacking, given, given_name, setter_of_text}
 use Rattle.front_profile.specs.ClassShapes.{SlotOption, wrong_option, initform_of, initarg_of, method_of, accessor_of, initarg_by, method_by, accessor_with, accessor_by, slot_option, option_and, slot_options, WrittenSlot, slot_with, name_in, slot_in_list, slot_by, slot_and, each_slot, slots_in, WrittenSuper, super_and, each_super, supers_in, ClassOption, no_option, abstract, is_nil, abstract_option, is_left_out_option, class_option, class_options, are_options, is_of_left_out, is_abstract}
 use Rattle.front_profile.specs.ClassRows.{Function, for_initform, for_method, functions_of_option, functions_of, all_functions, Use, use_of, uses, is_lacking, is_of_function, is_kept_name, takes_it, row_named, fits_generic, names_differ, known_supers, unknown_names, some_twice, place_unless, first_unknown_super, are_supers, few_inherited, is_wrong_option, initform_in, initarg_in, has_wrong_options, part_of, slot_parts, class_parts, initform_from, slot_spec, slot_specs, slot_function, slot_functions, class_made, class_in_text, class_of_prelude, is_taken_class, is_reserved_class, class_checked, class_of, class_shaped, defclass_row}
-use Rattle.front_profile.specs.GenericRows.{keeps, unless_unknown}
-use Rattle.front_laws.specs.Renaming.{Renames, name_by, names_by, symbol_by, item_by, data_by, class_by, generic_by, procedure_by, context_by, tables_by, part_by, parts_by, leaf_by, slot_function_by, spec_by, new_class_by, node_by}
-use Rattle.front_laws.proofs.Lists.{both, if_by, if_same, and_same, or_same, any_by, all_by, length_by, get_by, map_by, flat_by, chosen_by}
+use Rattle.front_profile.specs.GenericRows.{unless_unknown}
+use Rattle.front_laws.specs.Renaming.{Renames, name_by, names_by, symbol_by, item_by, data_by, class_by, generic_by, procedure_by, context_by, tables_by, part_by, parts_by, leaf_by, slot_function_by, spec_by, node_by}
+use Rattle.front_laws.proofs.Lists.{both, three, if_by, if_same, and_same, or_same, any_by, all_by, length_by, get_by, flat_by, chosen_by}
 use Rattle.front_laws.proofs.RenamedData.{place_by, symbol_of_by, name_of_by, list_items_by, symbol_text_by, word_by}
 use Rattle.front_laws.proofs.RenamedTexts.{FindsNames}
 use Rattle.front_laws.proofs.RenamedShapes.{chosen_same}
 use Rattle.front_laws.proofs.RenamedNodes.{within_by, both_parts, with_name_by, named_form_by}
 use Rattle.front_laws.proofs.RenamedForms.{class_named_by}
-use Rattle.front_laws.proofs.RenamedBinders.{three, named_at, prelude_by, has_function_by, truth_by, defining_by}
+use Rattle.front_laws.proofs.RenamedBinders.{named_at, prelude_by, has_function_by, truth_by, defining_by}
 use Rattle.front_laws.proofs.RenamedMethods.{given_by, setter_of_text_by, given_name_by, unknown_parts_by, keeps_by, generic_of_name}
 use Rattle.front_laws.proofs.RenamedHierarchies.{fit_by_rows, inherited_by, same_name_by, each_first_by, wrong_by}
 

@@ -1,7 +1,7 @@
 -- A renamed program has as many nodes and cells.
-use Rattle.std.specs.Prelude.{◌≡◌, ℕ, ◌+◌, ◌*◌, ◌==◌, ◌&&◌, Bool, true, false, List, [], ◌∷◌, ◌++◌, Option, Some, None, if◌then◌else◌, nat_lt, length, map, filter, refl}
+use Rattle.std.specs.Prelude.{◌≡◌, ℕ, ◌+◌, ◌*◌, ◌==◌, Bool, List, [], ◌∷◌, nat_lt, length, map, filter, refl}
 use Rattle.std.specs.List.{range_with_len, sum_by, position_or_len}
-use Rattle.std.proofs.Common.{ap, ◌∙◌}
+use Rattle.std.proofs.Common.{ap}
 use mathlib.Core.Path.{fun_ext}
 use Rattle.lang_meaning.specs.declared.program.LiteralRow.{LiteralRow}
 use Rattle.lang_meaning.specs.declared.program.LiteralRow.TheVariants as row
@@ -14,9 +14,9 @@ use Rattle.lang_meaning.specs.declared.program.Qualifier.TheVariants.{Primary}
 use Rattle.lang_meaning.specs.declared.program.ProgramRows.{ProgramRows}
 use Rattle.lang_meaning.specs.Counts.{all_nodes, parameter_count}
 use Rattle.lang_meaning.specs.Lookup.{is_in}
-use Rattle.lang_meaning.specs.Classes.{precedence, is_below, applies, more_specific, ordered, applicable, of_kind, chain_of, chain}
+use Rattle.lang_meaning.specs.Classes.{precedence, applies, more_specific, ordered, applicable, of_kind, chain_of}
 use Rattle.lang_meaning.specs.ProgramCounts.{row_nodes, procedure_nodes, slot_nodes, class_nodes, program_nodes}
-use Rattle.lang_meaning.specs.Cells.{argument_classes, is_specialised, group_of, one_of_each, groups, tuples, chain_length, tuple_cells, generic_cells, program_cells}
+use Rattle.lang_meaning.specs.Cells.{argument_classes, is_specialised, one_of_each, groups, tuples, chain_length, tuple_cells, generic_cells, program_cells}
 use Rattle.front_laws.specs.Renaming.{literal_by, procedure_by, slot_by, class_by, generic_by, form_by, name_by, program_by}
 use Rattle.front_laws.proofs.Lists.{both, if_same, and_same, length_by, total_by}
 use Rattle.front_laws.proofs.RenamedData.{size_by}

@@ -1,5 +1,5 @@
 -- A verdict on a file, under a table that has the same texts in another order: the renamed verdict.
-use Rattle.std.specs.Prelude.{◌≡◌, ℕ, ◌+◌, ◌<◌, ◌≤◌, ◌⊎◌, Bool, true, false, List, [], ◌∷◌, ◌++◌, Option, Some, None, map, refl}
+use Rattle.std.specs.Prelude.{◌≡◌, ℕ, ◌<◌, ◌≤◌, List, [], ◌∷◌, ◌++◌, refl}
 use Rattle.std.proofs.Common.{ap, sym, ◌∙◌, subst, inl, inr}
 use Rattle.std.proofs.lemmas.List.{map-append}
 use Rattle.base.specs.declared.origin.Origin.{Origin}
@@ -8,9 +8,8 @@ use Rattle.base.specs.declared.place.Place.{Place}
 use Rattle.base.specs.declared.reason.Reason.{Reason}
 use Rattle.base.specs.declared.reason.Refusal.{Refusal}
 use Rattle.base.specs.declared.reason.Stop.TheVariants.{Refused}
-use Rattle.base.specs.declared.datum.Name.{Name}
-use Rattle.base.specs.Names.{IsTable, Extends}
-use Rattle.base.specs.Data.{Item, item, Content, integer, character, symbol, string, vector, nil, list, Items, no_item, item_and, place_of}
+use Rattle.base.specs.Names.{IsTable}
+use Rattle.base.specs.Data.{Item, item, integer, character, symbol, string, vector, nil, list, Items, no_item, item_and}
 use Rattle.lang_meaning.specs.Form.{Form}
 use Rattle.front_profile.specs.declared.tables.Tables.{Tables}
 use Rattle.front_profile.specs.Nodes.{StaticContext, Verdict}
@@ -20,11 +19,11 @@ use Rattle.front_profile.specs.Promises.{FormComes}
 use Rattle.front_reader.specs.Readers.{first_place}
 use Rattle.front_scope.specs.Scopes.{top, with_main, rows_of, nodes_of, most_nodes, cells_of, most_cells, IsElaborated, IsTaken, IsTooLarge, HasManyCells, at_form, IsRefusedWhole, IsFormStopped}
 use Rattle.front_files.specs.declared.mode.Mode.{Mode}
-use Rattle.front_files.specs.declared.mode.Mode.TheVariants.{Run, Show}
+use Rattle.front_files.specs.declared.mode.Mode.TheVariants.{Run}
 use Rattle.front_files.specs.Shown.{first_text, head_text, is_among, not_shown, stays, printing_at, IsPrinting, IsForm, runs, not_last, last_stays, last_shown}
-use Rattle.front_files.specs.Verdicts.{FormTaken, FormRefused, Judgement, all_taken, one_refused, Judges, at_end, form_taken, form_refused, text_stops, JudgesText, FileVerdict, BehindPrelude, source_too_long, prelude_refused, file_refused, file_accepted}
+use Rattle.front_files.specs.Verdicts.{Judgement, all_taken, one_refused, Judges, at_end, form_taken, form_refused, text_stops, FileVerdict, BehindPrelude, source_too_long, prelude_refused, file_refused, file_accepted}
 use Rattle.front_files.specs.Verdicts.{Verdict as FileIs}
-use Rattle.front_laws.specs.Renaming.{Renames, name_by, item_by, items_by, form_by, program_by, file_verdict_by, context_by, tables_by, verdict_by}
+use Rattle.front_laws.specs.Renaming.{Renames, name_by, item_by, items_by, form_by, file_verdict_by, context_by, tables_by, verdict_by}
 use Rattle.front_laws.proofs.RenamedData.{place_by, text_of_by}
 use Rattle.front_laws.proofs.RenamedTexts.{FindsNames, number_of_by, next_by}
 use Rattle.front_laws.proofs.RenamedLater.{renames_later, finds_later}

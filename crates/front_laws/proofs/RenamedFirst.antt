@@ -1,20 +1,19 @@
 -- The renamed tables in front of all forms are those under the other table of names.
-use Rattle.std.specs.Prelude.{◌≡◌, ℕ, zero, suc, ◌+◌, ◌<◌, ◌≤◌, All, List, [], ◌∷◌, ◌++◌, Option, Some, None, length, map, take, option_map, slice_get, refl}
+use Rattle.std.specs.Prelude.{◌≡◌, ℕ, ◌+◌, ◌≤◌, List, [], ◌∷◌, Option, Some, None, map, take, option_map, slice_get, refl}
 use Rattle.std.proofs.Common.{ap, sym, ◌∙◌, subst}
 use Rattle.base.specs.declared.datum.Name.{Name}
 use Rattle.lang_meaning.specs.declared.program.ClassRow.{ClassRow}
 use Rattle.lang_meaning.specs.declared.program.SlotRow.{SlotRow}
-use Rattle.lang_meaning.specs.BuiltIn.{built_in_precedence, built_in_slots, class_texts}
+use Rattle.lang_meaning.specs.BuiltIn.{class_texts}
 use Rattle.lang_meaning.specs.Objects.{built_in_classes}
-use Rattle.lang_classes.specs.InheritedPrecedence.{supers_fit, precedence_below}
 use Rattle.lang_classes.specs.InheritedSlots.{names_of, said_by, united}
 use Rattle.lang_classes.specs.InheritedClasses.{Hierarchy, class_named, slot_limit, IsInherited, IsRow, AreClasses, IsBuiltIn, IsHierarchy}
-use Rattle.lang_classes.specs.InheritedBuiltIn.{built_in_own, own_initarg, texts_of, SaysSlots, AreNamed, AreBuiltIn}
+use Rattle.lang_classes.specs.InheritedBuiltIn.{built_in_own, own_initarg, texts_of, SaysSlots, AreNamed}
 use Rattle.front_profile.specs.declared.tables.ReservedWords.{ReservedWords}
 use Rattle.front_profile.specs.declared.tables.Tables.{Tables}
 use Rattle.front_scope.specs.Scopes.{AreWords, first_tables, AreInitialTables}
 use Rattle.front_laws.specs.Renaming.{Renames, name_by, names_by, slot_by, slots_by, class_by, hierarchy_by, words_by, tables_by}
-use Rattle.front_laws.proofs.Lists.{length_by, get_by, take_by, map_by}
+use Rattle.front_laws.proofs.Lists.{length_by, get_by, take_by}
 use Rattle.front_laws.proofs.RenamedForms.{class_named_by}
 use Rattle.front_laws.proofs.RenamedHierarchies.{names_of_by, said_by_by, above_by, fit_by_rows, united_by}
 

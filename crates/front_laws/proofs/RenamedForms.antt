@@ -1,20 +1,18 @@
 -- The rows of variables, values, exits and calls, for renamed data and tables.
-use Rattle.std.specs.Prelude.{◌≡◌, ℕ, ◌+◌, ◌==◌, ◌&&◌, Bool, true, false, List, [], ◌∷◌, ◌++◌, Option, Some, None, if◌then◌else◌, length, is_some, map, option_map, refl}
-use Rattle.std.specs.List.{list_any}
+use Rattle.std.specs.Prelude.{◌≡◌, ℕ, ◌+◌, ◌&&◌, Bool, List, [], ◌∷◌, Option, Some, None, if◌then◌else◌, is_some, map, option_map, refl}
 use Rattle.std.proofs.Common.{ap, sym, ◌∙◌}
 use Rattle.std.proofs.lemmas.List.{map-append}
 use Rattle.base.specs.declared.place.Place.{Place}
 use Rattle.base.specs.declared.datum.Name.{Name}
 use Rattle.base.specs.declared.datum.Symbol.{Symbol}
 use Rattle.base.specs.declared.datum.Symbol.TheVariants.{Named, Fresh}
-use Rattle.base.specs.declared.reason.Reason.TheVariants.{ConstantSet, UnknownBlock, UnknownTag, UnknownClass}
+use Rattle.base.specs.declared.reason.Reason.TheVariants.{ConstantSet, UnknownBlock, UnknownTag}
 use Rattle.base.specs.Data.{Item, item, integer, character, symbol, string, vector, nil, list, place_of}
 use Rattle.lang_meaning.specs.declared.program.ClassRow.{ClassRow}
 use Rattle.lang_meaning.specs.declared.program.LiteralRow.TheVariants as row
 use Rattle.lang_classes.specs.InheritedClasses.{class_named}
 use Rattle.lang_meaning.specs.declared.kinds.OverTwo.{OverTwo}
 use Rattle.front_profile.specs.declared.tables.Tables.{Tables}
-use Rattle.front_profile.specs.declared.tables.GlobalRow.{GlobalRow}
 use Rattle.front_profile.specs.declared.tables.ReservedWords.{ReservedWords}
 use Rattle.front_profile.specs.declared.bound.Bound.TheVariants.{Block, Tags}
 use Rattle.front_profile.specs.declared.bound.Target.{Target}
@@ -28,11 +26,11 @@ use Rattle.front_profile.specs.Names.{variable_of, function_of, block_of, tag_of
 use Rattle.front_profile.specs.Nodes.{StaticContext, Part, form, offends, with_bound}
 use Rattle.front_profile.specs.Shapes.{symbol_of, name_of, is_true, all_differ, tags_in, forms_in, lengths_in, ClauseParts, clauses_in}
 use Rattle.front_profile.specs.RowWords.{deeper, deeper_at_top, within_depth, made_of, each_below, each_inner, each_form, bad_shape, no_such}
-use Rattle.front_profile.specs.ValueRows.{free_symbol, symbol_as, symbol_node, quote_row, is_constant_row, is_constant, with_set, one_part, set_free, set_as, set_symbol, set_datum, setq_row, progn_row, length_if, clause_length, clause_lengths, clause_parts, own_depth, cond_as, cond_row, two_parts, two_row, body_row, dynamic_name, dynamic_as, dynamic_row, set_dynamic_as, set_dynamic_row, function_named, function_as, function_symbol, function_row, method_row, class_of, class_symbol, class_datum, class_row}
+use Rattle.front_profile.specs.ValueRows.{free_symbol, symbol_as, symbol_node, quote_row, is_constant_row, is_constant, with_set, one_part, set_free, set_as, set_symbol, set_datum, setq_row, progn_row, length_if, clause_length, clause_lengths, clause_parts, own_depth, cond_as, cond_row, two_row, body_row, dynamic_name, dynamic_as, dynamic_row, set_dynamic_as, set_dynamic_row, function_named, function_as, function_symbol, function_row, method_row, class_of, class_symbol, class_datum, class_row}
 use Rattle.front_profile.specs.ExitRows.{with_exit, block_as, block_row, return_to_exit, return_as, return_from_row, tagbody_row, go_to, go_as, go_row}
 use Rattle.front_profile.specs.CallRows.{all_parts, local_call}
-use Rattle.front_laws.specs.Renaming.{Renames, name_by, symbol_by, item_by, data_by, bound_by, class_by, global_by, words_by, context_by, tables_by, part_by, parts_by, leaf_by, one_by, making_by, node_by}
-use Rattle.front_laws.proofs.Lists.{both, if_by, if_same, any_by, length_by, map_by}
+use Rattle.front_laws.specs.Renaming.{Renames, name_by, symbol_by, item_by, data_by, bound_by, class_by, global_by, words_by, context_by, tables_by, parts_by, leaf_by, one_by, making_by, node_by}
+use Rattle.front_laws.proofs.Lists.{both, if_by, if_same, any_by, length_by}
 use Rattle.front_laws.proofs.RenamedData.{place_by, symbol_of_by, name_of_by, same_number}
 use Rattle.front_laws.proofs.RenamedShapes.{symbols_by, clause_by, clause_parts_by, variable_of_by, function_of_by, block_of_by, tag_of_by, is_true_by, all_differ_by, clauses_in_by, tags_in_by, forms_in_by, lengths_in_by}
 use Rattle.front_laws.proofs.RenamedNodes.{within_by, made_by_parts, at_once_by, unsited_by, literal_node_by, no_such_by, each_form_by, each_below_by, each_inner_by, both_parts}

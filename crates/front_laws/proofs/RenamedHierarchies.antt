@@ -1,6 +1,6 @@
 -- Hierarchies of classes whose names and slots are renamed.
-use Rattle.std.specs.Prelude.{◌≡◌, ℕ, ◌+◌, ◌==◌, Bool, true, false, not, ◌&&◌, ◌||◌, nat_lt, List, [], ◌∷◌, ◌++◌, Option, Some, None, if◌then◌else◌, length, is_some, map, filter, flat_map, option_map, slice_get, refl}
-use Rattle.std.specs.List.{list_any, list_all}
+use Rattle.std.specs.Prelude.{◌≡◌, ℕ, ◌==◌, Bool, not, ◌&&◌, ◌||◌, nat_lt, List, [], ◌∷◌, ◌++◌, Option, Some, None, if◌then◌else◌, length, is_some, map, flat_map, option_map, slice_get, refl}
+use Rattle.std.specs.List.{list_all}
 use Rattle.std.proofs.Common.{ap, sym, ◌∙◌}
 use Rattle.std.proofs.lemmas.List.{map-append}
 use mathlib.Core.Path.{fun_ext}
@@ -11,11 +11,11 @@ use Rattle.lang_meaning.specs.Classes.{precedence_of}
 use Rattle.lang_meaning.specs.Lookup.{all_differ}
 use Rattle.lang_classes.specs.declared.slot_spec.SlotSpec.{SlotSpec}
 use Rattle.lang_classes.specs.Given.{given, is_wrong}
-use Rattle.lang_classes.specs.InheritedPrecedence.{each_last, superclasses, joined, above, precedence_below, is_open, share_more, clash, supers_fit}
+use Rattle.lang_classes.specs.InheritedPrecedence.{each_last, superclasses, above, precedence_below, is_open, share_more, clash, supers_fit}
 use Rattle.lang_classes.specs.InheritedSlots.{same_name, has_name, without_name, each_first, with_name, of_name, last_initform, initargs_of, initform_of, slot_of, slots_of, names_of, united, slots_said_by, own_slots, said_by}
 use Rattle.lang_classes.specs.InheritedClasses.{Hierarchy, GivenSlot, slots_given, slot_limit, inherited_names, row_of, with_own, with_class}
 use Rattle.front_laws.specs.Renaming.{Renames, name_by, names_by, slot_by, slots_by, class_by, hierarchy_by, spec_by}
-use Rattle.front_laws.proofs.Lists.{both, if_by, if_same, or_same, any_by, length_by, get_by, filter_by, map_by, flat_by}
+use Rattle.front_laws.proofs.Lists.{both, if_by, or_same, any_by, length_by, get_by, filter_by, map_by, flat_by}
 use Rattle.front_laws.proofs.RenamedData.{same_number}
 
 module _ (r : ℕ → ℕ) where

@@ -1,9 +1,7 @@
 -- What a node comes to, the renamed node comes to, renamed: by induction over the derivation.
-use Rattle.std.specs.Prelude.{◌≡◌, ℕ, zero, suc, ◌+◌, Bool, List, [], ◌∷◌, ◌++◌, Option, Some, None, length, is_some, map, refl}
+use Rattle.std.specs.Prelude.{◌≡◌, ℕ, zero, suc, ◌+◌, Bool, List, [], ◌∷◌, ◌++◌, Some, None, length, is_some, map, refl}
 use Rattle.std.proofs.Common.{ap, sym, ◌∙◌, subst}
 use Rattle.std.proofs.lemmas.List.{map-append}
-use Rattle.base.specs.declared.place.Place.{Place}
-use Rattle.base.specs.declared.datum.Name.{Name}
 use Rattle.base.specs.declared.datum.Symbol.{Symbol}
 use Rattle.base.specs.declared.datum.Symbol.TheVariants.{Fresh}
 use Rattle.base.specs.Data.{Item}
@@ -13,18 +11,15 @@ use Rattle.lang_derived.specs.Derived.{Derives, new_symbols}
 use Rattle.front_profile.specs.declared.bound.Bound.{Bound}
 use Rattle.front_profile.specs.declared.bound.Bound.TheVariants.{Variable}
 use Rattle.front_profile.specs.declared.elaboration.ElaboratedPart.{ElaboratedPart}
-use Rattle.front_profile.specs.declared.elaboration.Accessor.{Accessor}
-use Rattle.front_profile.specs.declared.elaboration.Elaboration.{Elaboration}
 use Rattle.front_profile.specs.declared.elaboration.Elaboration.TheVariants.{OfProcedure, OfAccessor}
 use Rattle.front_profile.specs.declared.elaboration.Made.{Made}
 use Rattle.front_profile.specs.declared.tables.Tables.{Tables}
-use Rattle.front_profile.specs.Nodes.{StaticContext, Part, form, below, inner, bind, parameter, wrong, function, Written, initform, accessor, method, Node, whole, EarlyEnd, Verdict, stands, ended, behind, recorded, with_bound}
+use Rattle.front_profile.specs.Nodes.{StaticContext, Part, form, below, inner, bind, parameter, wrong, function, Written, initform, accessor, method, Node, whole, Verdict, stands, ended, behind, recorded, with_bound}
 use Rattle.front_profile.specs.RowWords.{deeper}
-use Rattle.front_profile.specs.FunctionNodes.{with_accessor, variables_of, function_parts, function_node}
-use Rattle.front_profile.specs.Elaborations.{made_form, finished}
+use Rattle.front_profile.specs.FunctionNodes.{variables_of, function_parts, function_node}
 use Rattle.front_profile.specs.Rows.{node}
 use Rattle.front_profile.specs.Judged.{with_fresh, with_variable, subject, AllFound, Verdicts, all_stand, one_ended, in_front, made_verdict, Elaborates, offence, step, made, ElaboratesAll, ends, goes, stops}
-use Rattle.front_laws.specs.Renaming.{Renames, name_by, symbol_by, item_by, data_by, bound_by, context_by, tables_by, written_by, part_by, parts_by, made_by, found_by, node_by, end_by, standing_by, verdict_by, form_by, literal_by}
+use Rattle.front_laws.specs.Renaming.{Renames, name_by, symbol_by, item_by, bound_by, context_by, tables_by, written_by, part_by, parts_by, made_by, found_by, node_by, end_by, standing_by, verdict_by, form_by, literal_by}
 use Rattle.front_laws.proofs.Lists.{both, length_by}
 use Rattle.front_laws.proofs.RenamedTexts.{FindsNames}
 use Rattle.front_laws.proofs.RenamedSteps.{step_by}

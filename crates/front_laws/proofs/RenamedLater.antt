@@ -5,7 +5,6 @@ use Rattle.std.proofs.Common.{arith, ap, sym, ◌∙◌, inl, inr, ⊎_elim, len
 use Rattle.base.specs.Names.{slice_get-front}
 use Rattle.front_profile.specs.GivenNames.{number_of}
 use Rattle.front_laws.specs.Renaming.{Renames}
-use Rattle.front_laws.proofs.Lists.{both}
 use Rattle.front_laws.proofs.RenamedTexts.{FindsNames}
 
 -- a number is one of a list, or one behind it

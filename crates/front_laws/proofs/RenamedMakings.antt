@@ -1,13 +1,10 @@
 -- Core forms that are made of renamed parts, and the tables behind them.
-use Rattle.std.specs.Prelude.{◌≡◌, ℕ, zero, suc, ◌+◌, ◌-◌, ◌==◌, Bool, true, false, not, ◌&&◌, ◌||◌, List, [], ◌∷◌, ◌++◌, Option, Some, None, if◌then◌else◌, length, take, drop, is_some, map, filter, option_map, refl}
-use Rattle.std.specs.List.{list_any, filter_map, sum}
+use Rattle.std.specs.Prelude.{◌≡◌, ℕ, zero, suc, ◌+◌, ◌-◌, Bool, true, false, not, ◌&&◌, ◌||◌, List, [], ◌∷◌, ◌++◌, Option, Some, None, if◌then◌else◌, length, take, drop, map, filter, option_map, refl}
+use Rattle.std.specs.List.{sum}
 use Rattle.std.proofs.Common.{ap, sym, ◌∙◌}
 use Rattle.std.proofs.lemmas.List.{map-append}
 use mathlib.Core.Path.{fun_ext}
-use Rattle.base.specs.declared.place.Place.{Place}
 use Rattle.base.specs.declared.datum.Name.{Name}
-use Rattle.base.specs.declared.datum.Symbol.{Symbol}
-use Rattle.base.specs.Data.{Item}
 use Rattle.lang_meaning.specs.declared.capture.Capture.{Capture}
 use Rattle.lang_meaning.specs.declared.kinds.OverTwo.{OverTwo}
 use Rattle.lang_meaning.specs.declared.kinds.OverTwo.TheVariants.{Apply, While, Catch, Throw, Unwind, WithHandler, Signal, Continue}
@@ -46,12 +43,11 @@ use Rattle.front_profile.specs.declared.elaboration.NewClass.{NewClass}
 use Rattle.front_profile.specs.declared.elaboration.Elaboration.{Elaboration}
 use Rattle.front_profile.specs.declared.elaboration.Elaboration.TheVariants.{Ready, OfOne, OfTwo, OfBody, InSequence, CallOf, CallOfValue, CallOfLocal, CallOfPrimitive, OfClauses, OfVariables, OfDynamics, OfFunction, OfBlock, OfSegments, OfFunctionNamed, OfProcedure, OfAccessor, OfMethods, OfClass}
 use Rattle.front_profile.specs.declared.elaboration.Made.{Made}
-use Rattle.front_profile.specs.Elaborations.{leaf_form, form_found, variable_found, forms_found, variables_found, bindings_found, body_of, one_of, two_of, make_one, make_two, make_with_body, clause_body, behind_clause, make_clauses, make_segments, make_dynamics, behind_dynamics, rest_found, make_function, elaborate, at_site, made_form, with_global, with_dynamic, prelude_with, with_procedure, with_callee, with_function, procedure_found, accessor_procedure, with_generic, with_method_at, with_methods, finish_methods, generic_named, accessor_head, arguments_of, with_accessor_in, with_slot_function, with_slot_functions, prelude_count, with_new_class, finish_class, finish_one, finish, finished}
-use Rattle.front_laws.specs.Renaming.{Renames, name_by, names_by, form_by, forms_by, clauses_by, body_by, bindings_by, dynamics_by, procedure_by, function_by, class_by, generic_by, hierarchy_by, global_by, dynamic_by, tables_by, leaf_by, one_by, taker_by, slot_function_by, spec_by, new_class_by, making_by, made_by, found_by}
-use Rattle.front_laws.proofs.Lists.{both, if_by, length_by, take_by, drop_by, chosen_by}
+use Rattle.front_profile.specs.Elaborations.{leaf_form, form_found, variable_found, forms_found, variables_found, bindings_found, body_of, one_of, two_of, make_one, make_two, make_with_body, clause_body, behind_clause, make_clauses, make_segments, make_dynamics, behind_dynamics, rest_found, make_function, elaborate, at_site, made_form, prelude_with, with_procedure, with_callee, with_function, procedure_found, accessor_procedure, with_generic, with_method_at, with_methods, finish_methods, generic_named, accessor_head, arguments_of, with_accessor_in, with_slot_function, with_slot_functions, prelude_count, with_new_class, finish_class, finish_one, finish, finished}
+use Rattle.front_laws.specs.Renaming.{Renames, name_by, names_by, form_by, forms_by, clauses_by, body_by, bindings_by, dynamics_by, procedure_by, function_by, class_by, generic_by, hierarchy_by, global_by, dynamic_by, tables_by, leaf_by, one_by, taker_by, slot_function_by, new_class_by, making_by, made_by, found_by}
+use Rattle.front_laws.proofs.Lists.{both, length_by, take_by, drop_by, chosen_by}
 use Rattle.front_laws.proofs.RenamedTexts.{FindsNames}
 use Rattle.front_laws.proofs.RenamedShapes.{chosen_same}
-use Rattle.front_laws.proofs.RenamedBinders.{three}
 use Rattle.front_laws.proofs.RenamedMethods.{generic_of_name}
 use Rattle.front_laws.proofs.RenamedHierarchies.{given_specs_by, with_class_by}
 

@@ -1,20 +1,18 @@
 -- The rows of definitions of generic functions and methods, for renamed data and tables.
-use Rattle.std.specs.Prelude.{◌≡◌, ℕ, ◌+◌, ◌==◌, nat_le, Bool, true, false, not, ◌&&◌, ◌||◌, List, [], ◌∷◌, ◌++◌, Option, Some, None, if◌then◌else◌, length, is_some, map, option_map, slice_get, codes, refl}
+use Rattle.std.specs.Prelude.{◌≡◌, ℕ, ◌+◌, ◌==◌, nat_le, Bool, not, ◌&&◌, List, [], ◌∷◌, ◌++◌, Option, Some, None, length, is_some, map, option_map, slice_get, codes, refl}
 use Rattle.std.specs.List.{list_any}
-use Rattle.std.proofs.Common.{ap, sym, ◌∙◌}
-use Rattle.std.proofs.lemmas.List.{map-append}
+use Rattle.std.proofs.Common.{ap, ◌∙◌}
 use Rattle.base.specs.declared.place.Place.{Place}
 use Rattle.base.specs.declared.datum.Name.{Name}
 use Rattle.base.specs.declared.datum.Symbol.{Symbol}
 use Rattle.base.specs.declared.datum.Symbol.TheVariants.{Named, Fresh}
-use Rattle.base.specs.declared.reason.Reason.TheVariants.{NotTopLevel, ReservedName, LeftOut, UnknownGeneric, BadMethod, BadBinding, UnknownClass}
-use Rattle.base.specs.Data.{Item, item, symbol, place_of}
-use Rattle.base.specs.DataNames.{symbol_text, text_of}
+use Rattle.base.specs.declared.reason.Reason.TheVariants.{NotTopLevel, ReservedName, LeftOut, BadMethod, BadBinding}
+use Rattle.base.specs.Data.{Item, item, symbol}
+use Rattle.base.specs.DataNames.{symbol_text}
 use Rattle.lang_meaning.specs.declared.program.ClassRow.{ClassRow}
 use Rattle.lang_meaning.specs.declared.program.GenericRow.{GenericRow}
 use Rattle.lang_meaning.specs.declared.program.Qualifier.{Qualifier}
-use Rattle.lang_meaning.specs.declared.program.Qualifier.TheVariants.{Primary, Before, After, Around as AroundMethod}
-use Rattle.lang_classes.specs.InheritedClasses.{class_named}
+use Rattle.lang_meaning.specs.declared.program.Qualifier.TheVariants.{Around as AroundMethod}
 use Rattle.lang_derived.specs.Asked.{list_items, is_word, setf_text}
 use Rattle.lang_dispatch.specs.Methods.{new_row, same_truth}
 use Rattle.front_profile.specs.declared.parameters.Parameters.{Parameters}
@@ -24,22 +22,22 @@ use Rattle.front_profile.specs.declared.elaboration.MethodHead.{MethodHead}
 use Rattle.front_profile.specs.declared.elaboration.Taker.{Taker}
 use Rattle.front_profile.specs.declared.elaboration.Taker.TheVariants.{New, There}
 use Rattle.front_profile.specs.declared.elaboration.Elaboration.TheVariants.{OfMethods}
-use Rattle.front_profile.specs.Nodes.{StaticContext, Part, wrong, function, method, Node, offends, whole}
-use Rattle.front_profile.specs.Shapes.{parameters_in, parameter_in, symbol_of, is_rest_word, behind_rest, with_required, all_symbols, all_differ, only_if}
-use Rattle.front_profile.specs.RowWords.{within_depth, bad_shape}
+use Rattle.front_profile.specs.Nodes.{StaticContext, Part, wrong, offends, whole}
+use Rattle.front_profile.specs.Shapes.{parameters_in, parameter_in, symbol_of, is_rest_word, behind_rest, with_required, all_symbols, all_differ}
+use Rattle.front_profile.specs.RowWords.{bad_shape}
 use Rattle.front_profile.specs.Elaborations.{generic_named}
-use Rattle.front_profile.specs.DefiningRows.{defining, is_taken, is_reserved, with_name, named_form}
+use Rattle.front_profile.specs.DefiningRows.{is_reserved, with_name}
 use Rattle.front_profile.specs.GivenNames.{GivenName, no_name, unfit, lacking, given, number_of, in_table, longest_set, setter_of_text, setter_of_symbol, setter_in, named_by, given_name}
-use Rattle.front_profile.specs.MethodShapes.{Asked, any_object, of_class, Specialised, Taken, asked_by, taken, taken_in, taken_by, without_classes, maybe_parameters, with_taken, specialised_of, where_they_differ, specialised_of_items, specialised_in, is_fresh, has_fresh_class, some_fresh_class, number_and, class_asked, classes_asked, unless_known, first_unknown, WrittenMethod, qualifier_of, written, method_in, may_have_next}
+use Rattle.front_profile.specs.MethodShapes.{Asked, any_object, of_class, Specialised, Taken, asked_by, taken, taken_in, taken_by, without_classes, maybe_parameters, with_taken, specialised_of, where_they_differ, specialised_of_items, specialised_in, is_fresh, has_fresh_class, some_fresh_class, number_and, class_asked, classes_asked, unless_known, first_unknown, WrittenMethod, qualifier_of, written, method_in}
 use Rattle.front_profile.specs.GenericRows.{head_with, head_of, fits_by_number, is_there, fits, method_function, unless_unknown, specialised_parts, method_parts, heads_of, written_head, written_heads, name_datum, methods_of, kept_by, keeps, GenericOption, no_option, left_out, standard, of_method, method_option, is_standard, is_left_out_option, option_of, options_of, is_no_option, is_of_left_out, methods_among, with_head, all_fit, generic_row, each_method, all_heads, generic_with, generic_checked, generic_of, generic_named_as, defgeneric_row, takes_methods, is_closed, method_for, method_of, method_named_as, method_as, defmethod_row}
-use Rattle.front_laws.specs.Renaming.{Renames, name_by, symbol_by, item_by, data_by, class_by, generic_by, procedure_by, words_by, context_by, tables_by, parameters_by, part_by, parts_by, leaf_by, taker_by, making_by, node_by}
-use Rattle.front_laws.proofs.Lists.{both, if_by, if_same, and_same, or_same, any_by, length_by, get_by, map_by}
-use Rattle.front_laws.proofs.RenamedData.{place_by, symbol_of_by, list_items_by, same_number, symbol_text_by, text_of_by, word_by}
+use Rattle.front_laws.specs.Renaming.{Renames, name_by, symbol_by, item_by, data_by, class_by, generic_by, procedure_by, words_by, context_by, tables_by, parameters_by, parts_by, taker_by, node_by}
+use Rattle.front_laws.proofs.Lists.{both, three, if_by, if_same, and_same, or_same, any_by, length_by, get_by, map_by}
+use Rattle.front_laws.proofs.RenamedData.{place_by, symbol_of_by, list_items_by, same_number, symbol_text_by, word_by}
 use Rattle.front_laws.proofs.RenamedTexts.{FindsNames}
 use Rattle.front_laws.proofs.RenamedShapes.{only_by, with_required_by, parameter_in_by, behind_rest_by, rest_word_by, all_symbols_by, all_differ_by, parameters_in_by}
 use Rattle.front_laws.proofs.RenamedNodes.{some_same, within_by, bad_binding_by, both_parts, with_name_by, named_form_by}
 use Rattle.front_laws.proofs.RenamedForms.{class_named_by}
-use Rattle.front_laws.proofs.RenamedBinders.{three, defining_by, is_taken_by, reserved_by}
+use Rattle.front_laws.proofs.RenamedBinders.{defining_by, is_taken_by, reserved_by}
 
 module _ (r : ℕ → ℕ) where
   abbrev pub given_by : GivenName → GivenName

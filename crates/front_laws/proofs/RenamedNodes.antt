@@ -1,5 +1,5 @@
 -- What rows are made of, for renamed data and tables.
-use Rattle.std.specs.Prelude.{◌≡◌, ℕ, ◌+◌, nat_le, Bool, true, false, List, [], ◌∷◌, ◌++◌, Option, Some, None, if◌then◌else◌, length, is_some, map, option_map, refl}
+use Rattle.std.specs.Prelude.{◌≡◌, ℕ, ◌+◌, nat_le, Bool, true, false, List, [], ◌∷◌, ◌++◌, Option, Some, None, length, is_some, option_map, refl}
 use Rattle.std.proofs.Common.{ap, sym, ◌∙◌}
 use Rattle.std.proofs.lemmas.List.{map-append}
 use Rattle.base.specs.declared.place.Place.{Place}
@@ -7,7 +7,7 @@ use Rattle.base.specs.declared.datum.Name.{Name}
 use Rattle.base.specs.declared.datum.Symbol.{Symbol}
 use Rattle.base.specs.declared.reason.Reason.{Reason}
 use Rattle.base.specs.declared.reason.Reason.TheVariants.{DepthLimit, BadBinding}
-use Rattle.base.specs.Data.{Item, place_of}
+use Rattle.base.specs.Data.{Item}
 use Rattle.lang_meaning.specs.declared.program.LiteralRow.{LiteralRow}
 use Rattle.lang_meaning.specs.declared.program.LiteralRow.TheVariants as row
 use Rattle.front_profile.specs.declared.elaboration.Leaf.{Leaf}
@@ -19,7 +19,7 @@ use Rattle.front_profile.specs.declared.tables.Tables.{Tables}
 use Rattle.front_profile.specs.Nodes.{StaticContext, Part, form, below, inner, bind, parameter, Node, offends, whole}
 use Rattle.front_profile.specs.FunctionNodes.{body_alone, function_parts}
 use Rattle.front_profile.specs.Shapes.{Pair, all_symbols}
-use Rattle.front_profile.specs.RowWords.{deeper, alone, with_site_if, with_site, next_site, within_depth, made_of, made_at_once, unsited, with_literal, literal_node, each_form, each_below, each_inner, each_bound, each_parameter, bad_binding, no_such}
+use Rattle.front_profile.specs.RowWords.{deeper, with_site_if, next_site, within_depth, made_of, made_at_once, unsited, with_literal, literal_node, each_form, each_below, each_inner, each_bound, each_parameter, bad_binding, no_such}
 use Rattle.front_profile.specs.DefiningRows.{with_name, named_form}
 use Rattle.front_laws.specs.Renaming.{Renames, name_by, symbol_by, item_by, data_by, literal_by, context_by, tables_by, parameters_by, part_by, parts_by, leaf_by, making_by, node_by}
 use Rattle.front_laws.proofs.Lists.{both, if_by, length_by, map_by}

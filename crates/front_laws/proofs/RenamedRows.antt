@@ -1,23 +1,20 @@
 -- Each datum is where it stands what the renamed datum is there: the renamed node.
-use Rattle.std.specs.Prelude.{◌≡◌, ℕ, Bool, true, false, List, [], ◌∷◌, Option, Some, None, if◌then◌else◌, length, is_some, map, option_map, codes, refl}
-use Rattle.std.specs.List.{list_any}
-use Rattle.std.proofs.Common.{ap, sym, ◌∙◌}
+use Rattle.std.specs.Prelude.{◌≡◌, ℕ, true, false, List, [], ◌∷◌, Option, Some, None, length, is_some, map, option_map, codes, refl}
+use Rattle.std.proofs.Common.{ap, ◌∙◌}
 use Rattle.base.specs.declared.place.Place.{Place}
 use Rattle.base.specs.declared.datum.Symbol.{Symbol}
 use Rattle.base.specs.declared.datum.Symbol.TheVariants.{Named, Fresh}
-use Rattle.base.specs.declared.reason.Reason.{Reason}
-use Rattle.base.specs.declared.reason.Reason.TheVariants.{NotAForm, LeftOut, BadShape, UnknownClass}
+use Rattle.base.specs.declared.reason.Reason.TheVariants.{NotAForm, LeftOut, UnknownClass}
 use Rattle.base.specs.declared.reason.Refusal.{Refusal}
-use Rattle.base.specs.Data.{Item, item, integer, character, symbol, string, vector, nil, list, items_list, Tail, no_tail, dotted, place_of}
-use Rattle.base.specs.DataNames.{symbol_text, text_of}
+use Rattle.base.specs.Data.{Item, item, integer, character, symbol, string, vector, nil, list, items_list, Tail, no_tail, dotted}
+use Rattle.base.specs.DataNames.{symbol_text}
 use Rattle.lang_meaning.specs.declared.program.LiteralRow.TheVariants as row
 use Rattle.lang_meaning.specs.declared.primitive.Primitive.{Primitive}
 use Rattle.lang_meaning.specs.declared.kinds.OverTwo.TheVariants.{Apply, While, Catch, Throw, Unwind, WithHandler, Signal, Continue}
-use Rattle.lang_classes.specs.InheritedClasses.{class_named}
-use Rattle.lang_derived.specs.Asked.{list_items, is_word}
+use Rattle.lang_derived.specs.Asked.{list_items}
 use Rattle.lang_derived.specs.Derived.{Derivation, plain, unfit, becomes, derivation}
 use Rattle.front_profile.specs.declared.elaboration.Leaf.TheVariants.{NextMethod, HasNext}
-use Rattle.front_profile.specs.declared.elaboration.Elaboration.TheVariants.{OfTwo, CallOf, CallOfValue, CallOfPrimitive}
+use Rattle.front_profile.specs.declared.elaboration.Elaboration.TheVariants.{OfTwo, CallOfValue}
 use Rattle.front_profile.specs.declared.special.Special.{Special}
 use Rattle.front_profile.specs.declared.special.Special.TheVariants as name
 use Rattle.front_profile.specs.declared.tables.Tables.{Tables}
@@ -25,14 +22,14 @@ use Rattle.base.specs.declared.datum.Name.{Name}
 use Rattle.front_profile.specs.Primitives.{primitive_called}
 use Rattle.front_profile.specs.Words.{is_left_out}
 use Rattle.front_profile.specs.Names.{function_of}
-use Rattle.front_profile.specs.Nodes.{StaticContext, Node, offends, steps}
+use Rattle.front_profile.specs.Nodes.{StaticContext, Node, offends}
 use Rattle.front_profile.specs.Shapes.{symbol_of}
 use Rattle.front_profile.specs.RowWords.{bad_shape}
 use Rattle.front_profile.specs.BindingRows.{with_functions_row}
 use Rattle.front_profile.specs.DefiningRows.{defun_row}
 use Rattle.front_profile.specs.CallRows.{all_parts, named_making, is_value_call, is_pair_call, call_making, named_call}
-use Rattle.front_profile.specs.Rows.{kept_text, reserved_text, first_reserved, first_kept, some_kept, functions_kept, special_row, special_node, without_dot, call_named, call_symbol, call_as, special_of, headed_as, is_lambda_name, is_lambda_items, is_lambda, headed_by_form, headed_by, list_node, plain_node, class_offence, class_refusal, class_in_front, unless_refused, derived_as, node}
-use Rattle.front_laws.specs.Renaming.{Renames, name_by, symbol_by, item_by, items_by, tail_by, data_by, context_by, tables_by, making_by, node_by}
+use Rattle.front_profile.specs.Rows.{kept_text, reserved_text, first_reserved, first_kept, some_kept, functions_kept, special_row, special_node, without_dot, call_symbol, call_as, special_of, headed_as, is_lambda_name, is_lambda_items, is_lambda, headed_by_form, headed_by, list_node, plain_node, class_offence, class_refusal, class_in_front, unless_refused, derived_as, node}
+use Rattle.front_laws.specs.Renaming.{Renames, name_by, symbol_by, item_by, tail_by, data_by, context_by, tables_by, making_by, node_by}
 use Rattle.front_laws.proofs.Lists.{both, if_by, if_same, any_by, length_by}
 use Rattle.front_laws.proofs.RenamedData.{place_by, symbol_of_by, list_items_by, listed_by, symbol_text_by, text_of_by, word_by}
 use Rattle.front_laws.proofs.RenamedSteps.{derivation_by, derivation_same}

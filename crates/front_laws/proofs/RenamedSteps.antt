@@ -1,9 +1,9 @@
 -- The steps of derived forms, for renamed data: a renamed form becomes the renamed datum.
-use Rattle.std.specs.Prelude.{◌≡◌, ℕ, ◌+◌, Bool, true, false, List, [], ◌∷◌, Option, Some, None, if◌then◌else◌, length, map, option_map, slice_get, refl}
+use Rattle.std.specs.Prelude.{◌≡◌, ℕ, List, [], ◌∷◌, Option, Some, None, map, option_map, refl}
 use Rattle.std.specs.Str.{bytes_eq}
 use Rattle.std.proofs.Common.{ap, sym, ◌∙◌, subst}
 use Rattle.base.specs.declared.place.Place.{Place}
-use Rattle.base.specs.Data.{Item, item, Content, integer, character, symbol, string, vector, nil, list, Items, no_item, item_and, items_list, Tail, no_tail, dotted, place_of}
+use Rattle.base.specs.Data.{Item, item, integer, character, symbol, string, vector, nil, list, Items, no_item, item_and, items_list, Tail, no_tail, dotted, place_of}
 use Rattle.base.specs.DataNames.{text_of}
 use Rattle.lang_derived.specs.Pieces.{Piece, word, made, taken, parens, Pieces, no_piece, piece_and, Right, in_parens, Builds, BuildsAll}
 use Rattle.lang_derived.specs.Patterns.{Parts, fit_all}
@@ -105,6 +105,6 @@ module _ (r : ℕ → ℕ) (old new : List (List ℕ)) (w : Renames r old new) w
     right = right_by r x.right;
     fits = derivation_same s d ∙ ap (derivation_by r) x.fits;
     builds = let P : Place → Type 0 = λ p. Builds new p (piece_by r x.right.piece) (item_by r e) in
-    subst P (sym (place_by r d)) (builds_by (place_of d) x.right.piece e x.builds);
+        subst P (sym (place_by r d)) (builds_by (place_of d) x.right.piece e x.builds);
     serials = x.serials;
   }

@@ -1,18 +1,17 @@
 -- A text is read as the renamed datum under a table that has the same texts in another order.
-use Rattle.std.specs.Prelude.{◌≡◌, ℕ, zero, suc, ◌+◌, Bool, true, false, List, [], ◌∷◌, ◌++◌, Option, Some, None, if◌then◌else◌, map, option_map, slice_get, codes, refl}
+use Rattle.std.specs.Prelude.{◌≡◌, ℕ, zero, suc, ◌+◌, Bool, true, false, List, [], ◌∷◌, Option, Some, None, if◌then◌else◌, option_map, slice_get, codes, refl}
 use Rattle.std.specs.Str.{bytes_eq}
-use Rattle.std.proofs.Common.{arith, ap, sym, ◌∙◌, subst}
+use Rattle.std.proofs.Common.{arith, ap, sym, ◌∙◌}
 use Rattle.std.proofs.lemmas.List.{map-append}
 use Rattle.std.proofs.lemmas.Slice.Eq.{bytes_eq-Decides}
 use Rattle.base.specs.declared.place.Place.{Place}
 use Rattle.base.specs.Names.{IsTable}
-use Rattle.base.specs.declared.datum.Symbol.TheVariants.{Named}
-use Rattle.base.specs.Data.{Item, item, Content, integer, character, symbol, string, vector, nil, list, Items, no_item, item_and, items_of, Tail, no_tail, dotted}
+use Rattle.base.specs.Data.{Item, item, integer, character, symbol, string, vector, nil, list, Items, item_and, no_tail, dotted}
 use Rattle.front_profile.specs.GivenNames.{number_of}
 use Rattle.front_reader.specs.Characters.{place_behind}
 use Rattle.front_reader.specs.Atoms.{Atom, an_integer, a_character, a_symbol, a_string}
-use Rattle.front_reader.specs.Trees.{Tree, atom, proper, improper, row, prefixed, Trees, no_tree, then_tree, prefix_bytes, behind_all}
-use Rattle.front_reader.specs.Meanings.{one_later, number_in, named, atom_content, prefix_name, list_content, in_front, joined, prefix_item, Means, MeansAll}
+use Rattle.front_reader.specs.Trees.{Tree, atom, proper, improper, row, prefixed, Trees, no_tree, then_tree}
+use Rattle.front_reader.specs.Meanings.{one_later, number_in, named, atom_content, prefix_name, list_content, in_front, joined, Means, MeansAll}
 use Rattle.front_reader.specs.Reads.{ReadsNext}
 use Rattle.front_laws.specs.Renaming.{Renames, item_by, content_by, items_by, tail_by, data_by}
 use Rattle.front_laws.proofs.RenamedData.{items_of_by}

@@ -9,8 +9,7 @@ ghost use Rattle.front_files.specs.Verdicts.{FileVerdict, Verdict, Accepts, Refu
 ghost use Rattle.front_laws.specs.Renaming.{Renames, file_verdict_by};
 ghost use Rattle.front_laws.specs.SamePrograms.{SameProgram};
 
-use front_files::laws::law_names_apart;
-use front_files::laws::law_one_verdict as law_one_verdict_of_a_table;
+use front_files::laws::{law_names_apart, law_one_verdict as law_one_verdict_of_a_table};
 
 /// A verdict on a file is the same under a table that has the same texts in another order, with the names of its
 /// program renamed.
