@@ -13,7 +13,7 @@ use Rattle.front_profile.specs.Shapes.{Pair, pairs_in, parameters_in, symbol_of}
 use Rattle.front_profile.specs.RowWords.{each_bound, each_inner, each_below}
 use Rattle.front_profile.specs.BindingRows.{let_as, let_row, names_of, values_of, dynamics_as, dynamic_let_as, dynamic_let_row, lambda_as, lambda_row, functions_of, functions_as, with_functions_as, with_functions_row}
 use Rattle.front_profile.specs.DefiningRows.{named, has_global, has_dynamic, is_set, is_taken, is_truth, is_reserved, defining_offence, unless_offending, defining, global_as, global_row, defdynamic_as, defdynamic_row, defun_with, defun_as, defun_row}
-use Rattle.front_laws.specs.Places.{AllPlaces}
+use Rattle.front_laws.proofs.AllPlaces.{AllPlaces}
 use Rattle.front_laws.proofs.Parts.{its_place, AllPairs, MaybePairs, all_pairs}
 use Rattle.front_laws.proofs.Nodes.{PlacesOfPart, PlacesOfNode, either, within, both, below_too, inner_too, bound_too, function_too}
 use Rattle.front_laws.proofs.FormRows.{one_in}

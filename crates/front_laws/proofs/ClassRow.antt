@@ -22,7 +22,7 @@ use Rattle.front_profile.specs.DefiningRows.{named}
 use Rattle.front_profile.specs.GivenNames.{GivenName, no_name, unfit, lacking, given, given_name, setter_of_text}
 use Rattle.front_profile.specs.ClassShapes.{SlotOption, wrong_option, initform_of, initarg_of, method_of, accessor_of, initarg_by, method_by, accessor_with, accessor_by, slot_option, option_and, slot_options, WrittenSlot, slot_with, name_in, slot_in_list, slot_by, slot_and, each_slot, slots_in, WrittenSuper, super_and, each_super, supers_in, ClassOption, class_options, are_options, is_of_left_out}
 use Rattle.front_profile.specs.ClassRows.{Function, for_initform, for_method, functions_of_option, functions_of, all_functions, uses, is_lacking, fits_generic, names_differ, known_supers, place_unless, first_unknown_super, are_supers, few_inherited, has_wrong_options, part_of, slot_parts, class_parts, class_checked, class_of, class_shaped, defclass_row}
-use Rattle.front_laws.specs.Places.{AllPlaces}
+use Rattle.front_laws.proofs.AllPlaces.{AllPlaces}
 use Rattle.front_laws.proofs.Parts.{its_place, MaybeAll, list_all_places}
 use Rattle.front_laws.proofs.Nodes.{PlacesOfPart, PlacesOfNode, either, within, both}
 use Rattle.front_laws.proofs.BinderRows.{defining_in}

@@ -16,7 +16,8 @@ use Rattle.front_scope.specs.Scopes.{top, IsFormStopped, IsRefusedWhole, at_form
 use Rattle.front_files.specs.declared.mode.Mode.{Mode}
 use Rattle.front_files.specs.Shown.{printing_at, IsForm, runs, not_last, last_stays, last_shown}
 use Rattle.front_files.specs.Verdicts.{Judgement, all_taken, one_refused, Judges, at_end, form_taken, form_refused, text_stops, IsOfFile, its_length, in_it}
-use Rattle.front_laws.specs.Places.{InText, AllPlaces}
+use Rattle.front_laws.specs.Places.{InText}
+use Rattle.front_laws.proofs.AllPlaces.{AllPlaces}
 use Rattle.front_laws.proofs.Parts.{its_place}
 use Rattle.front_laws.proofs.Judging.{offence_too}
 use Rattle.front_laws.proofs.Texts.{bytes_in, next_in, stop_in}

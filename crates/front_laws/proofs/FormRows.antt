@@ -20,7 +20,7 @@ use Rattle.front_profile.specs.RowWords.{each_below}
 use Rattle.front_profile.specs.ValueRows.{free_symbol, symbol_as, symbol_node, quote_row, is_constant, one_part, set_free, set_as, set_datum, setq_row, progn_row, clause_parts, own_depth, cond_as, cond_row, two_row, body_row, dynamic_name, dynamic_as, dynamic_row, set_dynamic_as, set_dynamic_row, function_named, function_as, function_symbol, function_row, method_row, class_of, class_symbol, class_datum, class_row}
 use Rattle.front_profile.specs.ExitRows.{block_as, block_row, return_to_exit, return_as, return_from_row, tagbody_row, go_to, go_as, go_row}
 use Rattle.front_profile.specs.CallRows.{all_parts, local_call}
-use Rattle.front_laws.specs.Places.{AllPlaces}
+use Rattle.front_laws.proofs.AllPlaces.{AllPlaces}
 use Rattle.front_laws.proofs.Parts.{its_place, AllClauses, MaybeClauses, all_clauses, all_forms}
 use Rattle.front_laws.proofs.Nodes.{PlacesOfPart, PlacesOfNode, either, within, without_site, a_literal, at_once, none_such, both, forms_too, below_too, inner_too}
 

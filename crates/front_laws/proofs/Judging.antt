@@ -12,7 +12,8 @@ use Rattle.front_profile.specs.RowWords.{deeper}
 use Rattle.front_profile.specs.FunctionNodes.{function_node}
 use Rattle.front_profile.specs.Rows.{node}
 use Rattle.front_profile.specs.Judged.{with_fresh, with_variable, subject, Verdicts, all_stand, one_ended, in_front, made_verdict, Elaborates, offence, step, made, ElaboratesAll, ends, goes, stops}
-use Rattle.front_laws.specs.Places.{AllPlaces, IsPlaceIn}
+use Rattle.front_laws.specs.Places.{IsPlaceIn}
+use Rattle.front_laws.proofs.AllPlaces.{AllPlaces}
 use Rattle.front_laws.proofs.Parts.{each_then_all}
 use Rattle.front_laws.proofs.Steps.{step_too}
 use Rattle.front_laws.proofs.Nodes.{PlacesOfFunction, PlacesOfPart, PlacesOfNode, function_too}

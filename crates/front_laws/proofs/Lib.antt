@@ -1,3 +1,4 @@
+pub mod AllPlaces
 pub mod Parts
 pub mod Steps
 pub mod Nodes
@@ -10,6 +11,7 @@ pub mod Judging
 pub mod Texts
 pub mod Files
 pub mod Lists
+pub mod RenamedTables
 pub mod RenamedData
 pub mod RenamedPieces
 pub mod RenamedSteps

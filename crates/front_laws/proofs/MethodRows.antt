@@ -21,7 +21,7 @@ use Rattle.front_profile.specs.DefiningRows.{is_taken, is_reserved}
 use Rattle.front_profile.specs.GivenNames.{GivenName, no_name, unfit, lacking, given, given_name}
 use Rattle.front_profile.specs.MethodShapes.{Asked, any_object, of_class, Specialised, Taken, asked_by, taken, taken_in, taken_by, without_classes, maybe_parameters, with_taken, specialised_of, where_they_differ, specialised_of_items, specialised_in, some_fresh_class, unless_known, first_unknown, WrittenMethod, written, method_in}
 use Rattle.front_profile.specs.GenericRows.{unless_unknown, method_function, specialised_parts, method_parts, GenericOption, no_option, left_out, standard, of_method, method_option, is_standard, is_left_out_option, option_of, options_of, is_no_option, is_of_left_out, methods_among, all_fit, fits, generic_row, each_method, generic_with, generic_of, generic_named_as, defgeneric_row, keeps, is_closed, method_for, method_of, method_named_as, method_as, defmethod_row}
-use Rattle.front_laws.specs.Places.{AllPlaces}
+use Rattle.front_laws.proofs.AllPlaces.{AllPlaces}
 use Rattle.front_laws.proofs.Parts.{its_place, MaybeAll, list_all_places}
 use Rattle.front_laws.proofs.Nodes.{PlacesOfPart, PlacesOfNode, either, within, both}
 use Rattle.front_laws.proofs.BinderRows.{defining_in}

@@ -14,7 +14,7 @@ use Rattle.front_profile.specs.Nodes.{StaticContext, Part, form, below, inner, b
 use Rattle.front_profile.specs.FunctionNodes.{function_parts}
 use Rattle.front_profile.specs.Shapes.{Pair, all_symbols}
 use Rattle.front_profile.specs.RowWords.{within_depth, made_at_once, unsited, literal_node, each_form, each_below, each_inner, each_bound, each_parameter, no_such}
-use Rattle.front_laws.specs.Places.{AllPlaces}
+use Rattle.front_laws.proofs.AllPlaces.{AllPlaces}
 use Rattle.front_laws.proofs.Parts.{AllPairs}
 
 module _ (P : Place → Type 0) where

@@ -9,7 +9,8 @@ use Rattle.base.specs.DataParts.{AllItems, OfDotted, AllParts}
 use Rattle.lang_derived.specs.Asked.{list_items}
 use Rattle.front_profile.specs.declared.tables.ReservedWords.{ReservedWords}
 use Rattle.front_profile.specs.Shapes.{symbol_of, all_differ, only_if, variable_in, Pair, pair_named, pair_items, pair_in, pair_and, each_pair, names_of_pairs, where_names_differ, pairs_of_items, pairs_in, ClauseParts, clause_of, clause_and_more, clauses_in, form_unless, forms_in}
-use Rattle.front_laws.specs.Places.{IsPlaceIn, IsPlaceInside, IsPlaceAmong, IsPlaceBehind, AllPlaces, AllPlacesInside, AllPlacesAmong, AllPlacesBehind}
+use Rattle.front_laws.specs.Places.{IsPlaceIn, IsPlaceInside, IsPlaceAmong, IsPlaceBehind}
+use Rattle.front_laws.proofs.AllPlaces.{AllPlaces, AllPlacesInside, AllPlacesAmong, AllPlacesBehind}
 
 -- ---- all places, and each
 

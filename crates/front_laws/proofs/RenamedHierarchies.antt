@@ -14,7 +14,8 @@ use Rattle.lang_classes.specs.Given.{given, is_wrong}
 use Rattle.lang_classes.specs.InheritedPrecedence.{each_last, superclasses, above, precedence_below, is_open, share_more, clash, supers_fit}
 use Rattle.lang_classes.specs.InheritedSlots.{same_name, has_name, without_name, each_first, with_name, of_name, last_initform, initargs_of, initform_of, slot_of, slots_of, names_of, united, slots_said_by, own_slots, said_by}
 use Rattle.lang_classes.specs.InheritedClasses.{Hierarchy, GivenSlot, slots_given, slot_limit, inherited_names, row_of, with_own, with_class}
-use Rattle.front_laws.specs.Renaming.{Renames, name_by, names_by, slot_by, slots_by, class_by, hierarchy_by, spec_by}
+use Rattle.front_laws.specs.Renaming.{Renames, name_by, names_by, slot_by, slots_by, class_by}
+use Rattle.front_laws.proofs.RenamedTables.{hierarchy_by, spec_by}
 use Rattle.front_laws.proofs.Lists.{both, if_by, or_same, any_by, length_by, get_by, filter_by, map_by, flat_by}
 use Rattle.front_laws.proofs.RenamedData.{same_number}
 

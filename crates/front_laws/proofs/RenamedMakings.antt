@@ -44,7 +44,8 @@ use Rattle.front_profile.specs.declared.elaboration.Elaboration.{Elaboration}
 use Rattle.front_profile.specs.declared.elaboration.Elaboration.TheVariants.{Ready, OfOne, OfTwo, OfBody, InSequence, CallOf, CallOfValue, CallOfLocal, CallOfPrimitive, OfClauses, OfVariables, OfDynamics, OfFunction, OfBlock, OfSegments, OfFunctionNamed, OfProcedure, OfAccessor, OfMethods, OfClass}
 use Rattle.front_profile.specs.declared.elaboration.Made.{Made}
 use Rattle.front_profile.specs.Elaborations.{leaf_form, form_found, variable_found, forms_found, variables_found, bindings_found, body_of, one_of, two_of, make_one, make_two, make_with_body, clause_body, behind_clause, make_clauses, make_segments, make_dynamics, behind_dynamics, rest_found, make_function, elaborate, at_site, made_form, prelude_with, with_procedure, with_callee, with_function, procedure_found, accessor_procedure, with_generic, with_method_at, with_methods, finish_methods, generic_named, accessor_head, arguments_of, with_accessor_in, with_slot_function, with_slot_functions, prelude_count, with_new_class, finish_class, finish_one, finish, finished}
-use Rattle.front_laws.specs.Renaming.{Renames, name_by, names_by, form_by, forms_by, clauses_by, body_by, bindings_by, dynamics_by, procedure_by, function_by, class_by, generic_by, hierarchy_by, global_by, dynamic_by, tables_by, leaf_by, one_by, taker_by, slot_function_by, new_class_by, making_by, made_by, found_by}
+use Rattle.front_laws.specs.Renaming.{Renames, name_by, names_by, form_by, forms_by, clauses_by, body_by, bindings_by, dynamics_by, procedure_by, function_by, class_by, generic_by}
+use Rattle.front_laws.proofs.RenamedTables.{hierarchy_by, global_by, dynamic_by, tables_by, leaf_by, one_by, taker_by, slot_function_by, new_class_by, making_by, made_by, found_by}
 use Rattle.front_laws.proofs.Lists.{both, length_by, take_by, drop_by, chosen_by}
 use Rattle.front_laws.proofs.RenamedTexts.{FindsNames}
 use Rattle.front_laws.proofs.RenamedShapes.{chosen_same}

@@ -22,7 +22,7 @@ use Rattle.front_profile.specs.Nodes.{StaticContext, Node}
 use Rattle.front_profile.specs.Shapes.{symbol_of}
 use Rattle.front_profile.specs.CallRows.{call_making}
 use Rattle.front_profile.specs.Rows.{first_reserved, functions_kept, special_row, special_node, without_dot, call_symbol, call_as, special_of, headed_as, is_lambda, headed_by_form, headed_by, list_node, plain_node, class_offence, class_refusal, class_in_front, unless_refused, derived_as, node}
-use Rattle.front_laws.specs.Places.{AllPlaces}
+use Rattle.front_laws.proofs.AllPlaces.{AllPlaces}
 use Rattle.front_laws.proofs.Parts.{its_place, items_all, MaybeAll, list_all_places}
 use Rattle.front_laws.proofs.Nodes.{PlacesOfNode, either, a_literal}
 use Rattle.front_laws.proofs.FormRows.{symbol_in, quote_in, setq_in, progn_in, cond_in, two_in, body_in, dynamic_in, set_dynamic_in, function_in, method_in, class_in, block_in, return_from_in, tagbody_in, go_in, all_parts_in, local_call_in}

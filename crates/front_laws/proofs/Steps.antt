@@ -10,7 +10,7 @@ use Rattle.lang_derived.specs.Ends.{AllFurther, AllFurtherIn}
 use Rattle.lang_derived.proofs.Parts.{GoesDown, goes_down}
 use Rattle.lang_derived.proofs.Derivations.{OfDerivation}
 use Rattle.lang_derived.proofs.Further.{arguments_too, derivation_further}
-use Rattle.front_laws.specs.Places.{AllPlaces, AllPlacesAmong}
+use Rattle.front_laws.proofs.AllPlaces.{AllPlaces, AllPlacesAmong}
 use Rattle.front_laws.proofs.Parts.{its_place, its_parts}
 
 module _ (P : Place → Type 0) where

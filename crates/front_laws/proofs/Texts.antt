@@ -14,7 +14,8 @@ use Rattle.front_reader.specs.Meanings.{named, atom_content, list_content, in_fr
 use Rattle.front_reader.specs.Reads.{ReadsNext}
 use Rattle.front_reader.specs.Fronts.{Level, in_list, at_dot, at_tail, in_vector, at_prefix, opening_place, dot_after, level_behind, levels_behind, front_behind}
 use Rattle.front_reader.specs.Stops.{EndsAtDot, ends_at_dot, EndsAtTail, ends_at_tail, InnermostAt, innermost_at, Row, bad_byte, bad_byte_in_bars, bad_byte_escaped, unclosed_list, unclosed_string, unclosed_string_escaped, unclosed_bar, unclosed_bar_escaped, unclosed_comment, stray_close, bad_dot, dot_closed, dot_second, dot_opening, bad_sharp, float_literal, integer_too_wide, based_too_wide, nest_too_deep, token_too_long, bar_too_long, Stops}
-use Rattle.front_laws.specs.Places.{InText, AllPlaces, AllPlacesInside, AllPlacesAmong}
+use Rattle.front_laws.specs.Places.{InText}
+use Rattle.front_laws.proofs.AllPlaces.{AllPlaces, AllPlacesInside, AllPlacesAmong}
 
 -- ---- behind bytes
 

@@ -1,4 +1,4 @@
--- Places of data: whether one is a place of a datum, what holds of all of them, and which places are those of a text.
+-- Places: whether one is that of a datum or of one inside it, and whether it is one of a text.
 use Rattle.std.specs.Prelude.{◌≡◌, ◌≤◌, ◌⊎◌}
 use Rattle.base.specs.declared.place.Place.{Place}
 use Rattle.base.specs.Data.{Item, item, Content, integer, character, symbol, string, vector, nil, list, Items, no_item, item_and, Tail, no_tail, dotted}
@@ -30,25 +30,3 @@ unfoldable mutual
   pub IsPlaceBehind : Place → Tail → Type 0
   IsPlaceBehind q no_tail = ⊥
   IsPlaceBehind q (dotted d) = IsPlaceIn q d
-
--- `AllPlaces P d`: P holds of the place of d, and of those of all data inside it
-unfoldable mutual
-  pub AllPlaces : (Place → Type 0) → Item → Type 0
-  AllPlaces P (item p c) = P p × AllPlacesInside P c
-
-  pub AllPlacesInside : (Place → Type 0) → Content → Type 0
-  AllPlacesInside P (integer n) = Unit {0}
-  AllPlacesInside P (character c) = Unit {0}
-  AllPlacesInside P (symbol s) = Unit {0}
-  AllPlacesInside P (string bytes) = Unit {0}
-  AllPlacesInside P (vector ds) = AllPlacesAmong P ds
-  AllPlacesInside P nil = Unit {0}
-  AllPlacesInside P (list ds t) = AllPlacesAmong P ds × AllPlacesBehind P t
-
-  pub AllPlacesAmong : (Place → Type 0) → Items → Type 0
-  AllPlacesAmong P no_item = Unit {0}
-  AllPlacesAmong P (item_and d ds) = AllPlaces P d × AllPlacesAmong P ds
-
-  pub AllPlacesBehind : (Place → Type 0) → Tail → Type 0
-  AllPlacesBehind P no_tail = Unit {0}
-  AllPlacesBehind P (dotted d) = AllPlaces P d
