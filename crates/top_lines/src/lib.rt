@@ -2,6 +2,7 @@
 #![tactic(auto)]
 
 pub mod lines;
+mod sentences;
 pub mod status;
 
 pub use lines::{end_with, write_counts};

@@ -22,7 +22,7 @@ use Rattle.top_lines.specs.declared.status.CommandAnswer.TheVariants as answer
 use Rattle.top_lines.specs.Lines.{counts_line}
 use Rattle.top_exec.specs.Runs.{Sent, the_run}
 use Rattle.top_exec.specs.Executes.{ExecAnswers}
-use Rattle.top_main.specs.Theorem.{Offends, IsLarge, Came, RunsPrograms, FileEnds, FileIsLarge, FileBreaks, IsFileOf, Writes, MakesText, class_text}
+use Rattle.top_main.specs.Theorem.{Offends, IsLarge, Came, RunsPrograms, FileEnds, FileIsLarge, FileBreaks, IsFileOf, Writes, MakesText, class_text, name_of}
 use Rattle.top_main.specs.Images.{AreBytes}
 use Rattle.top_main.specs.declared.image_run.ProgramEnd.{ProgramEnd}
 use Rattle.top_main.specs.declared.run.ProgramRun.{ProgramRun}
@@ -193,11 +193,11 @@ pub data Obeys (a : CommandAnswer) (c : Request) (held : Option (List ℕ)) (kep
   was_exec : c.action ≡ Exec → kept ≡ None → ExecAnswers a held c.arena c.steps left left' sent ShelfRises SourceRises Rises (Same × InputSame)
       → Obeys a c held kept left left' sent ShelfRises SourceRises Rises Same InputSame ShelfSame
 
--- the answer to words: they are no command, or memory was wanting to tell, or a command was obeyed
-pub data WordsAnswers (a : CommandAnswer) (words : List (List ℕ)) (holds : List ℕ → Option (List ℕ)) (kept : Option Image) (left left' : Option (List ℕ)) (sent : Sent) (ShelfRises SourceRises Rises Same InputSame ShelfSame : Type 0) : Type 0 where
+-- the answer to words, of which a line calls the text so: they are no command, or memory was wanting to tell, or a command was obeyed
+pub data WordsAnswers (a : CommandAnswer) (name : List ℕ) (words : List (List ℕ)) (holds : List ℕ → Option (List ℕ)) (kept : Option Image) (left left' : Option (List ℕ)) (sent : Sent) (ShelfRises SourceRises Rises Same InputSame ShelfSame : Type 0) : Type 0 where
   was_usage : a ≡ answer.Usage → asked words ≡ None → ShelfSame → Same → InputSame → kept ≡ None
-      → WordsAnswers a words holds kept left left' sent ShelfRises SourceRises Rises Same InputSame ShelfSame
+      → WordsAnswers a name words holds kept left left' sent ShelfRises SourceRises Rises Same InputSame ShelfSame
   was_untold : a ≡ answer.NoMemory → ShelfSame → Same → InputSame → kept ≡ None
-      → WordsAnswers a words holds kept left left' sent ShelfRises SourceRises Rises Same InputSame ShelfSame
-  was_asked : (c : Request) → asked words ≡ Some c → Obeys a c (holds c.file) kept left left' sent ShelfRises SourceRises Rises Same InputSame ShelfSame
-      → WordsAnswers a words holds kept left left' sent ShelfRises SourceRises Rises Same InputSame ShelfSame
+      → WordsAnswers a name words holds kept left left' sent ShelfRises SourceRises Rises Same InputSame ShelfSame
+  was_asked : (c : Request) → asked words ≡ Some c → name ≡ name_of c → Obeys a c (holds c.file) kept left left' sent ShelfRises SourceRises Rises Same InputSame ShelfSame
+      → WordsAnswers a name words holds kept left left' sent ShelfRises SourceRises Rises Same InputSame ShelfSame

@@ -1,0 +1,8 @@
+-- The first line, and behind it the sentence.
+use Rattle.std.proofs.lemmas.Result.{on_ok_weaker}
+use Rattle.top_lines.proofs.Fronts.{given_both}
+use Rattle.top_lines.proofs.lines.write_refusal.Goals as goal
+
+pub returns-clause-given : goal.returns-clause-given
+returns-clause-given g c =
+    on_ok_weaker c.write_sentence.result (given_both _ _ _ _ _ c.in_ok-write_refused.ensures.given) c.write_sentence.ensures.given
