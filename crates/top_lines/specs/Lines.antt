@@ -12,6 +12,7 @@ use Rattle.rv_machine.specs.declared.ending.TrapKind.{TrapKind}
 use Rattle.rv_image_file.specs.Reasons.{number_of as number_of_bad_image, text_of as name_of_bad_image}
 use Rattle.rv_image_file.specs.declared.faults.BadImage.{BadImage as ImageFault}
 use Rattle.top_lines.specs.Sentences.{sentence_of}
+use Rattle.top_lines.specs.Excerpts.{excerpt}
 use Rattle.top_lines.specs.declared.status.Status.{Status}
 use Rattle.top_lines.specs.declared.status.Status.TheVariants.{Done, Unhandled, Usage, Refused, ArenaFull, Budget, FileFault, ReadFault, WriteFault, NoMemory, BadImage, Trap}
 use Rattle.top_lines.specs.declared.status.CommandAnswer.{CommandAnswer}
@@ -57,9 +58,9 @@ reason_text r = (decimal (number_of_reason r) ++ codes " ") ++ name_of_reason r
 abbrev pub refused_line : (file : List ℕ) → Refusal → List ℕ
 refused_line file r = line ((place_in file r.place ++ codes ": refused ") ++ reason_text r.reason)
 
--- and behind it the line that says why
-abbrev pub refusal_lines : (file : List ℕ) → Refusal → List ℕ
-refusal_lines file r = refused_line file r ++ line (sentence_of r.reason)
+-- and behind it the place in the text, and the line that says why
+abbrev pub refusal_lines : (file text : List ℕ) → Refusal → List ℕ
+refusal_lines file text r = (refused_line file r ++ excerpt text r.place) ++ line (sentence_of r.reason)
 
 -- `arena full ASKED LEFT`
 abbrev pub arena_full_line : (asked left : ℕ) → List ℕ
@@ -102,12 +103,12 @@ read_fault_line = line (codes "read fault")
 abbrev pub no_memory_line : List ℕ
 no_memory_line = line (codes "no memory")
 
--- the line of an answer about a text that is called so; a refusal has two
+-- the line of an answer about a text that is called so; a refusal has four
 abbrev pub line_of : (file : List ℕ) → CommandAnswer → List ℕ
 line_of file answer.Done = []
 line_of file (answer.Unhandled class site) = unhandled_line file class site
 line_of file answer.Usage = usage_line
-line_of file (answer.Refused r) = refusal_lines file r
+line_of file (answer.Refused r text) = refusal_lines file text r
 line_of file (answer.ArenaFull asked left) = arena_full_line asked left
 line_of file (answer.Budget n) = budget_line n
 line_of file answer.Spent = spent_line
@@ -123,7 +124,7 @@ abbrev pub status_of : CommandAnswer → Status
 status_of answer.Done = Done
 status_of (answer.Unhandled class site) = Unhandled
 status_of answer.Usage = Usage
-status_of (answer.Refused r) = Refused
+status_of (answer.Refused r text) = Refused
 status_of (answer.ArenaFull asked left) = ArenaFull
 status_of (answer.Budget n) = Budget
 status_of answer.Spent = Budget
@@ -150,6 +151,6 @@ number_of BadImage = 10
 number_of Trap = 11
 
 -- the answer of a text that is no program
-abbrev pub answer_of_stop : Stop → CommandAnswer
-answer_of_stop (stop.Refused r) = answer.Refused r
-answer_of_stop stop.NoMemory = answer.NoMemory
+abbrev pub answer_of_stop : (text : List ℕ) → Stop → CommandAnswer
+answer_of_stop text (stop.Refused r) = answer.Refused r text
+answer_of_stop text stop.NoMemory = answer.NoMemory

@@ -1,4 +1,4 @@
--- **Why a text is refused, in one sentence** for each reason, which is the second line of a refusal.
+-- **Why a text is refused, in one sentence** for each reason, which is the last line of a refusal.
 use Rattle.std.specs.Prelude.{ℕ, List, codes}
 use Rattle.base.specs.declared.reason.Reason.{Reason}
 use Rattle.base.specs.declared.reason.Reason.TheVariants.{BadByte, UnclosedList, UnclosedString, UnclosedComment, StrayClose, BadDot, BadSharp, FloatLiteral, IntegerTooWide, NestTooDeep, SourceTooLong, NameTooLong, BadShape, NotAForm, BadBinding, DuplicateName, NotTopLevel, ReservedName, UnknownBlock, UnknownTag, ConstantSet, LeftOut, DepthLimit, ProgramTooLarge, UnknownClass, BadSupers, BadSlot, UnknownGeneric, BadMethod, DispatchTooLarge, ExpanderUnhandled, ExpanderPrinted, ExpanderArena, ExpanderBudget, ExpansionNotForm, ExpansionTooLarge, ExpansionDepth, TooManyExpansions, NotBuilt}

@@ -1,6 +1,7 @@
 // The statuses that a call ends with, and the lines that tell of them.
 #![tactic(auto)]
 
+mod excerpts;
 pub mod lines;
 mod sentences;
 pub mod status;

@@ -8,13 +8,14 @@ ghost use Rattle.top_lines.specs.Lines.{line, line_of, unhandled_line, site_in, 
 ghost use Rattle.top_lines.specs.Sentences.{sentence_of as sentence};
 ghost use Rattle.top_lines.specs.declared.status.Status.TheVariants.{WriteFault};
 
+use crate::excerpts::write_excerpt;
 use crate::sentences::sentence_of;
 use crate::status::{CommandAnswer, Status};
 use base::{Failed, Place, Reason, Refusal, Sink, write_all};
 use rv_image_file::BadImage;
 use rv_machine::TrapKind;
 
-/// Writes the line of an answer about a text that is called so, whose status is then given; a refusal has two lines.
+/// Writes the line of an answer about a text that is called so, whose status is then given; a refusal has four lines.
 /// `WriteFault` where the line can't be written whole.
 pub fn end_with<E: Sink>(err: &mut E, file: &[u8], answer: CommandAnswer) -> Status
     ensures written { result ≢ WriteFault → result ≡ status_of answer }
@@ -60,7 +61,9 @@ fn write_line<E: Sink>(err: &mut E, file: &[u8], answer: &CommandAnswer) -> Resu
             err,
             b"usage: isl [--steps N] [--arena W] run|show|check|build|exec|plain FILE, or make N; isl --help tells more\n",
         ),
-        CommandAnswer::Refused(refusal) => write_refusal(err, file, *refusal),
+        CommandAnswer::Refused { refusal, text } => {
+            write_refusal(err, file, text.as_slice(), *refusal)
+        }
         CommandAnswer::ArenaFull { asked, left } => write_arena_full(err, *asked, *left),
         CommandAnswer::Budget(steps) => write_budget(err, *steps),
         CommandAnswer::Spent => write_all(err, b"spent 9223372036854775808\n"),
@@ -143,13 +146,19 @@ fn write_file_site<E: Sink>(err: &mut E, site: Option<Place>) -> Result<(), Fail
     }
 }
 
-// The two lines of a refusal.
-fn write_refusal<E: Sink>(err: &mut E, file: &[u8], refusal: Refusal) -> Result<(), Failed>
-    ensures given { OnOk result (WasGiven (E.given err.old) (refusal_lines file.now refusal) (E.given err.new)) }
+// The lines of a refusal.
+fn write_refusal<E: Sink>(
+    err: &mut E,
+    file: &[u8],
+    text: &[u8],
+    refusal: Refusal,
+) -> Result<(), Failed>
+    ensures given { OnOk result (WasGiven (E.given err.old) (refusal_lines file.now text.now refusal) (E.given err.new)) }
     ensures fault { OnErr result (Rose (E.faults err.old) (E.faults err.new)) }
     ensures count { E.faults err.old ≤ E.faults err.new }
 {
     write_refused(err, file, refusal)?;
+    write_excerpt(err, text, refusal.place)?;
     write_sentence(err, refusal.reason)
 }
 

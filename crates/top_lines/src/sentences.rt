@@ -5,7 +5,7 @@ ghost use Rattle.top_lines.specs.Sentences.{sentence_of};
 
 use base::Reason;
 
-/// The sentence that a refusal has in its second line; at most 110 bytes.
+/// The sentence that a refusal has in its last line; at most 110 bytes.
 pub(crate) fn sentence_of(reason: Reason) -> &'static str
     ensures { result.now ≡ sentence_of reason }
 {

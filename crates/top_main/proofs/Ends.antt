@@ -1,7 +1,7 @@
 -- How the status that is answered comes from the answer to the words.
 use Rattle.std.proofs.Common.{◌≡◌, ◌≢◌, ℕ, List, [], ◌∷◌, ◌++◌, refl, sym, ap, subst, ◌∙◌, ◌⊎◌, inl, inr, Some, None}
 use Rattle.std.specs.Prelude.{Option, ⊤, length, codes}
-use Rattle.base.specs.Given.{WasGiven, WasGivenFront}
+use Rattle.base.specs.Given.{WasGiven}
 use Rattle.base.specs.declared.place.Place.{Place}
 use Rattle.base.specs.declared.reason.Refusal.{Refusal}
 use Rattle.rv_machine.specs.Ends.{trap_number}
@@ -184,17 +184,17 @@ module _ (v : View) (said said' : Option (List ℕ)) where
   usage (is_ended c is named h) line = absurd h
   usage (is_executed c is named x k h) line = absurd h
 
-  abbrev refused_so : Refusal → (name : List ℕ) → Type 0
-  refused_so r name = Line (refusal_lines name r)
+  abbrev refused_so : Refusal → (text name : List ℕ) → Type 0
+  refused_so r text name = Line (refusal_lines name text r)
 
-  refused : (r : Refusal) → Heard v (answer.Refused r) → Line (refusal_lines v.name r) → Says Refused
-  refused r (is_usage e none same) line = absurd (cc)
-  refused r (is_untold e same) line = absurd (cc)
-  refused r (is_written c is named i h) line =
-      (record { command = c; asked_for = is; refusal = r; offends = h.0; line = subst (refused_so r) named line }, h.1.0, i, h.1.1)
-  refused r (is_ended c is named h) line =
-      (record { command = c; asked_for = is; refusal = r; offends = h.0; line = subst (refused_so r) named line }, h.1.0.0, h.1.0.1, h.1.1)
-  refused r (is_executed c is named x k h) line = absurd h
+  refused : (r : Refusal) (text : List ℕ) → Heard v (answer.Refused r text) → Line (refusal_lines v.name text r) → Says Refused
+  refused r text (is_usage e none same) line = absurd (cc)
+  refused r text (is_untold e same) line = absurd (cc)
+  refused r text (is_written c is named i h) line =
+      (record { command = c; asked_for = is; refusal = r; text = text; offends = h.0; line = subst (refused_so r text) named line }, h.1.0, i, h.1.1)
+  refused r text (is_ended c is named h) line =
+      (record { command = c; asked_for = is; refusal = r; text = text; offends = h.0; line = subst (refused_so r text) named line }, h.1.0.0, h.1.0.1, h.1.1)
+  refused r text (is_executed c is named x k h) line = absurd h
 
   arena_full : (wanted room : ℕ) → Heard v (answer.ArenaFull wanted room) → Line (arena_full_line wanted room) → Says ArenaFull
   arena_full wanted room (is_usage e none same) line = absurd (cc)
@@ -280,7 +280,7 @@ module _ (v : View) (said said' : Option (List ℕ)) where
   says answer.Done w line = done w line
   says (answer.Unhandled class site) w line = unhandled class site w line
   says answer.Usage w line = usage w line
-  says (answer.Refused x) w line = refused x w line
+  says (answer.Refused x text) w line = refused x text w line
   says (answer.ArenaFull wanted room) w line = arena_full wanted room w line
   says (answer.Budget n) w line = budget n w line
   says answer.Spent w line = spent w line
@@ -323,12 +323,12 @@ module _ (v : View) where
   usage_same (is_ended c is named h) = absurd h
   usage_same (is_executed c is named x k h) = absurd h
 
-  refused_same : (r : Refusal) → Heard v (answer.Refused r) → v.Same × v.InputSame
-  refused_same r (is_usage e none same) = same
-  refused_same r (is_untold e same) = same
-  refused_same r (is_written c is named i h) = (h.1.0, i)
-  refused_same r (is_ended c is named h) = h.1.0
-  refused_same r (is_executed c is named x k h) = absurd h
+  refused_same : (r : Refusal) (text : List ℕ) → Heard v (answer.Refused r text) → v.Same × v.InputSame
+  refused_same r text (is_usage e none same) = same
+  refused_same r text (is_untold e same) = same
+  refused_same r text (is_written c is named i h) = (h.1.0, i)
+  refused_same r text (is_ended c is named h) = h.1.0
+  refused_same r text (is_executed c is named x k h) = absurd h
 
   file_fault_same : Heard v answer.FileFault → v.Same × v.InputSame
   file_fault_same (is_usage e none same) = same
@@ -419,7 +419,7 @@ module _ (v : View) where
       done_is_none h = cc
   write_fault (answer.Unhandled class site) r ErrRises w e fault quiet = unhandled_untold ErrRises class site (fault e (λ h. cc)) w
   write_fault answer.Usage r ErrRises w e fault quiet = inl (fault e (λ h. cc), usage_same w)
-  write_fault (answer.Refused x) r ErrRises w e fault quiet = inl (fault e (λ h. cc), refused_same x w)
+  write_fault (answer.Refused x text) r ErrRises w e fault quiet = inl (fault e (λ h. cc), refused_same x text w)
   write_fault (answer.ArenaFull wanted room) r ErrRises w e fault quiet = full_untold ErrRises wanted room (fault e (λ h. cc)) w
   write_fault (answer.Budget n) r ErrRises w e fault quiet = budget_untold ErrRises n (fault e (λ h. cc)) w
   write_fault answer.Spent r ErrRises w e fault quiet = spent_untold ErrRises (fault e (λ h. cc)) w

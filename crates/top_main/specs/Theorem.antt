@@ -79,8 +79,7 @@ pub record Passes (action : Action) (held : Option (List ℕ)) : Type 0 where
   pub whole : IsWhole action text
 
 -- the text is refused so, and is none
-pub record Offends (action : Action) (held : Option (List ℕ)) (refusal : Refusal) : Type 0 where
-  pub text : List ℕ
+pub record Offends (action : Action) (held : Option (List ℕ)) (refusal : Refusal) (text : List ℕ) : Type 0 where
   pub is_text : IsTextOf action held text
   pub refuses : RefusesWhole library text (mode_of action) refusal
 
@@ -306,13 +305,15 @@ pub record IsWrittenCutOff (words : List (List ℕ)) (holds : List ℕ → Optio
   pub writes : Writes command.action (holds command.file) kept bytes
   pub printed : WasGivenFront sent.before bytes sent.after
 
--- Refused, by any action that judges a text: it is no whole program; the lines say where in which file its first offence stands, which it is, and why
+-- Refused, by any action that judges a text: it is no whole program; the lines say where in which file its first offence stands, which it is, and why, and
+-- show the place
 pub record IsRefused (words : List (List ℕ)) (holds : List ℕ → Option (List ℕ)) (said said' : Option (List ℕ)) : Type 0 where
   pub command : Request
   pub asked_for : asked words ≡ Some command
   pub refusal : Refusal
-  pub offends : Offends command.action (holds command.file) refusal
-  pub line : WasGiven said (refusal_lines (name_of command) refusal) said'
+  pub text : List ℕ
+  pub offends : Offends command.action (holds command.file) refusal text
+  pub line : WasGiven said (refusal_lines (name_of command) text refusal) said'
 
 -- The statuses of `exec`, of which no image is left
 
