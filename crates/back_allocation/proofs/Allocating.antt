@@ -17,7 +17,7 @@ use Rattle.back_places.proofs.LinesInForm.{frame_words}
 use Rattle.back_trivial.specs.OwnSlots.{is_there, IsPlacedWell}
 use Rattle.back_allocation.specs.LineSteps.{line_gives}
 use Rattle.back_allocation.specs.Allocated.{Choice, is_chosen, place_given, target_in, IsAllocated, LawOfAllocated}
-use Rattle.back_allocation.proofs.Facts.{told, at_line}
+use Rattle.back_allocation.proofs.Facts.{Stands, told, at_line}
 use Rattle.back_allocation.proofs.GoodLines.{good_line}
 use Rattle.back_allocation.proofs.Parameters.{more_frame, nowhere_placed, own_somewhere, place, count_of, place_at, place_there, place_entered, each_place, parameters_placed, all_apart}
 
@@ -88,17 +88,28 @@ module _ (program : LineProgram) (l : Located) (c : Choice) (t : IsAllocated pro
       put v q f false e =
           let below : v < p.parameters = leb-false p.parameters v e in
           let s = told program c number 0 v q f in
-          let names = t.owned number p h in
-          let own : s.name ≡ v = sym (names.own s.name (names.entry s.name s.below s.alive)) ∙ s.owner_is in
-          let alive : c.alive number v 0 ≡ true = ap (λ w. c.alive number w 0) (sym own) ∙ s.alive in
-          let place_is : q ≡ c.spot number v = s.place_is ∙ ap (c.spot number) own in
-          let z : 0 + v ≡ v = omega arith in
-          let a = place_there (c.spot number) (c.enters number) 0 p.parameters v below in
-          let b = ap (place (c.spot number) (c.enters number)) z ∙ place_entered (c.spot number) (c.enters number) v ((t.stand number p h).entered v below alive) in
-          inr (inr (
-            ap (λ ps. slice_get ps v) (t.parameters number p h) ∙ (a ∙ ap Some (b ∙ sym place_is)),
-            subst IsSomewhere (sym place_is) (own_somewhere v (c.spot number v) ((t.stand number p h).passed v below ((t.stand number p h).entered v below alive))),
-          ))
+          elim ((t.owned number p h).entry s.name s.below s.alive) [
+            | inl own ↦ by_itself below s own
+            | inr stays ↦
+                (let same = s.owner_is in
+                inr (inl (omega (arith, stays.0, same), s.place_is ∙ (stays.1 ∙ ap (λ u. InRegister (argument_register u)) same))))
+          ]
+        where
+          -- a parameter by its own name
+          by_itself :
+              v < p.parameters → (s : Stands program c number 0 v q) → s.name < p.registers
+              → (p.parameters ≤ v) ⊎ ((v < 14) × (q ≡ InRegister (argument_register v))) ⊎ ((slice_get (l.parameters number) v ≡ Some q) × IsSomewhere q)
+          by_itself below s low =
+              let own : s.name ≡ v = sym ((t.owned number p h).own s.name low) ∙ s.owner_is in
+              let alive : c.alive number v 0 ≡ true = ap (λ w. c.alive number w 0) (sym own) ∙ s.alive in
+              let place_is : q ≡ c.spot number v = s.place_is ∙ ap (c.spot number) own in
+              let z : 0 + v ≡ v = omega arith in
+              let a = place_there (c.spot number) (c.enters number) 0 p.parameters v below in
+              let b = ap (place (c.spot number) (c.enters number)) z ∙ place_entered (c.spot number) (c.enters number) v ((t.stand number p h).entered v below alive) in
+              inr (inr (
+                ap (λ ps. slice_get ps v) (t.parameters number p h) ∙ (a ∙ ap Some (b ∙ sym place_is)),
+                subst IsSomewhere (sym place_is) (own_somewhere v (c.spot number v) ((t.stand number p h).passed v below ((t.stand number p h).entered v below alive))),
+              ))
 
   pub placed_well : IsPlacedWell program l Fact
   placed_well = record {

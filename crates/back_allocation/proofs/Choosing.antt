@@ -15,7 +15,7 @@ use Rattle.back_liveness.specs.declared.barrier.Barrier.{Barrier}
 use Rattle.back_liveness.specs.declared.step.Interval.{Interval}
 use Rattle.back_liveness.specs.declared.step.Step.{Step}
 use Rattle.back_liveness.specs.Barriers.{Crosses, barrier_at}
-use Rattle.back_liveness.specs.Liveness.{GoesAlong, IsWithin, IsCovered, Covers}
+use Rattle.back_liveness.specs.Liveness.{GoesAlong, IsWithin, IsCovered, have_line, is_held, Covers}
 use Rattle.back_liveness.proofs.Around.{there_below}
 use Rattle.back_scan.specs.declared.spot.Spot.{Spot}
 use Rattle.back_scan.specs.declared.spot.Spot.TheVariants.{Held, Slot}
@@ -24,10 +24,10 @@ use Rattle.back_scan.specs.declared.spot.Wish.TheVariants as asks
 use Rattle.back_scan.specs.Spots.{Allows, IsAllowed, spot_of, interval_of, StandWell}
 use Rattle.back_allocation.specs.LineSteps.{line_gives, step_of, steps_from}
 use Rattle.back_allocation.specs.Barriers.{may_cut, AreBarriers}
-use Rattle.back_allocation.specs.Constants.{constant_in, AreConstants, AreKept}
+use Rattle.back_allocation.specs.Constants.{constant_in, AreConstants, AreKept, AreKeptParts}
 use Rattle.back_allocation.specs.Wishes.{IsOwnWish, wish_at, WishesHold}
 use Rattle.back_allocation.specs.Standing.{MayCut, CanBeGiven, IsOwnPlace}
-use Rattle.back_allocation.specs.Places.{place_of, place_chosen, place_in, is_entered, enters_in, ChosenWell}
+use Rattle.back_allocation.specs.Places.{place_of, place_chosen, place_in, is_entered, enters_in, begins_in, ChosenWell}
 use Rattle.back_allocation.proofs.Facts.{step_there}
 use Rattle.back_allocation.proofs.Naming.{below_or_not}
 
@@ -174,6 +174,31 @@ somewhere_given (Cut block word) p h = h
 somewhere_given (Halt r) p h = h
 somewhere_given (Unhandled class site condition) p h = h
 
+-- where all that is held is covered
+abbrev pub Inside : List (Option Interval) → (parts : List (List Interval)) → Type 0
+Inside intervals parts = (v x : ℕ) → is_held parts v x ≡ true → IsCovered intervals v x
+
+-- nothing is held behind the end
+none_held : (ps : List (List Interval)) (v x : ℕ) → length ps ≤ v → is_held ps v x ≡ true → ⊥
+none_held [] v x h k = absurd (cc k)
+none_held (q ∷ ps) zero x h k = absurd (omega (arith, h))
+none_held (q ∷ ps) (suc v) x h k = none_held ps v x (omega (arith, h)) k
+
+-- so it is where names of constants have nothing
+pub kept_inside :
+    (constants : List (Option ℕ)) (found kept : List (Option Interval)) (parts kept_parts : List (List Interval)) → AreKept constants found kept
+    → AreKeptParts constants parts kept_parts → Inside found parts → Inside kept kept_parts
+kept_inside constants found kept parts kept_parts k p inside v x h = by (constant_in constants v) refl
+  where
+    by : (c : Option ℕ) → constant_in constants v ≡ c → IsCovered kept v x
+    by None e =
+        subst (λ i. IsWithin i x) (sym (k.same v e)) (inside v x (subst (λ (ps : List Interval). have_line ps x ≡ true) (p.same v e) h))
+    by (Some w) e =
+        elim (below_or_not v (length kept_parts)) [
+          | inl low ↦ (let l = p.long in let none = p.none v w (omega (arith, low, l)) e in absurd (cc (h, none)))
+          | inr beyond ↦ absurd (none_held kept_parts v x beyond h)
+        ]
+
 -- two tests that go along with lines go along both
 both_along :
     (steps : List Step) (one other : (register line : ℕ) → Bool) → GoesAlong steps one → GoesAlong steps other
@@ -188,12 +213,13 @@ both_along steps one other a b = record {
 }
 
 module _
-    (lines : List Line) (parameters : ℕ) (landings : ℕ → List ℕ) (registers : ℕ) (found again kept : List (Option Interval)) (crossed told : List Bool)
+    (lines : List Line) (parameters : ℕ) (landings : ℕ → List ℕ) (registers : ℕ) (found again kept : List (Option Interval)) (parts parts_again kept_parts : List (List Interval)) (crossed told : List Bool)
     (barriers overwritten : List Barrier) (constants : List (Option ℕ)) (wishes : List Wish) (spots : List (Option Spot)) (slots : ℕ)
-    (count : length found ≡ registers) (same_count : length again ≡ registers) (covers : Covers (steps_from landings 0 lines) barriers found crossed)
-    (more : Covers (steps_from landings 0 lines) overwritten again told) (b : AreBarriers lines landings (length lines) barriers)
+    (count : length found ≡ registers) (same_count : length again ≡ registers) (covers : Covers (steps_from landings 0 lines) barriers found parts crossed)
+    (more : Covers (steps_from landings 0 lines) overwritten again parts_again told) (b : AreBarriers lines landings (length lines) barriers)
     (are : AreConstants lines (length lines) parameters registers constants) (keep : AreKept constants found kept)
-    (w : WishesHold kept crossed parameters (length kept) wishes) (s : StandWell kept wishes spots slots)
+    (w : WishesHold kept crossed parameters (length kept) wishes) (s : StandWell kept kept_parts wishes spots slots) (keep_parts : AreKeptParts constants parts kept_parts)
+    (inside : Inside kept kept_parts)
     (form : (line to : ℕ) (x : Line) → slice_get lines line ≡ Some x → line_gives x ≡ Some to → to < registers) where
   abbrev alive : (name line : ℕ) → Bool
   alive v line = covers.test v line && more.test v line
@@ -217,9 +243,13 @@ module _
   kept_line : (v line : ℕ) → IsCovered found v line → constant_in constants v ≡ None → IsCovered kept v line
   kept_line v line h e = subst (λ i. IsWithin i line) (sym (keep.same v e)) h
 
-  -- two whose intervals have a line are apart
+  -- and is held at a line
+  kept_held : (v line : ℕ) → is_held parts v line ≡ true → constant_in constants v ≡ None → is_held kept_parts v line ≡ true
+  kept_held v line h e = subst (λ (ps : List Interval). have_line ps line ≡ true) (sym (keep_parts.same v e)) h
+
+  -- two that are held at a line are apart
   two_kept :
-      (v u line : ℕ) → (constant_in constants v ≡ None → IsCovered kept v line) → (constant_in constants u ≡ None → IsCovered kept u line) → v ≢ u
+      (v u line : ℕ) → (constant_in constants v ≡ None → is_held kept_parts v line ≡ true) → (constant_in constants u ≡ None → is_held kept_parts u line ≡ true) → v ≢ u
       → Apart (place_in constants spots v) (place_in constants spots u)
   two_kept v u line h k ne = by (constant_in constants v) refl (constant_in constants u) refl
     where
@@ -229,15 +259,15 @@ module _
       by (Some a) e d g = subst (λ p. Apart p (place_in constants spots u)) (sym (place_word constants spots v a e)) (word_apart a (place_in constants spots u))
       by None e (Some a) g = subst (λ p. Apart (place_in constants spots v) p) (sym (place_word constants spots u a g)) (apart_word a (place_in constants spots v))
       by None e None g =
-          let p = spot_at v line (h e) in
-          let q = spot_at u line (k g) in
+          let p = spot_at v line (inside v line (h e)) in
+          let q = spot_at u line (inside u line (k g)) in
           subst (λ o. Apart o (place_in constants spots u)) (sym (place_not constants spots v e ∙ ap place_of p.1))
           (subst (λ o. Apart (place_of (Some p.0)) o) (sym (place_not constants spots u g ∙ ap place_of q.1))
           (spots_apart p.0 q.0 (wish_at wishes v) (wish_at wishes u) (s.allowed v p.0 p.1) (s.allowed u q.0 q.1)
           (λ same. ne (s.apart v u q.0 line (p.1 ∙ ap Some same) q.1 (h e) (k g)))))
 
-  two_apart : (v u line : ℕ) → IsCovered found v line → IsCovered found u line → v ≢ u → Apart (place_in constants spots v) (place_in constants spots u)
-  two_apart v u line h k ne = two_kept v u line (kept_line v line h) (kept_line u line k) ne
+  two_apart : (v u line : ℕ) → is_held parts v line ≡ true → is_held parts u line ≡ true → v ≢ u → Apart (place_in constants spots v) (place_in constants spots u)
+  two_apart v u line h k ne = two_kept v u line (kept_held v line h) (kept_held u line k) ne
 
   apart : (v u line : ℕ) → alive v line ≡ true → alive u line ≡ true → v ≢ u → Apart (place_in constants spots v) (place_in constants spots u)
   apart v u line h k ne =
@@ -250,8 +280,8 @@ module _
             ]
       ]
 
-  given_covered : (line to : ℕ) (x : Line) → slice_get lines line ≡ Some x → line_gives x ≡ Some to → IsCovered found to (line + 1)
-  given_covered line to x e g =
+  given_held : (line to : ℕ) (x : Line) → slice_get lines line ≡ Some x → line_gives x ≡ Some to → is_held parts to (line + 1) ≡ true
+  given_held line to x e g =
       let low = form line to x e g in
       covers.written to line (step_of (landings line) x) (omega (arith, low, count)) (step_there landings line lines x e) g
 
@@ -261,7 +291,7 @@ module _
   given line to v x e g h ne =
       elim (below_or_not v (length found)) [
         | inr beyond ↦ subst (λ p. Apart p (place_in constants spots to)) (sym (none_beyond v beyond)) (word_apart 0 (place_in constants spots to))
-        | inl low ↦ two_apart v to (line + 1) (covers.within v (line + 1) low (alive_first v (line + 1) h)) (given_covered line to x e g) ne
+        | inl low ↦ two_apart v to (line + 1) (covers.within v (line + 1) low (alive_first v (line + 1) h)) (given_held line to x e g) ne
       ]
 
   somewhere : (line to : ℕ) (x : Line) → slice_get lines line ≡ Some x → line_gives x ≡ Some to → CanBeGiven x (place_in constants spots to)
@@ -272,7 +302,7 @@ module _
           subst (CanBeGiven x) (sym (place_word constants spots to a k))
           (subst (λ y. CanBeGiven y (AsConstant a)) (sym (are.given line to a x (there_below lines line x e) e g k)) refl)
       by None k =
-          let p = spot_at to (line + 1) (kept_line to (line + 1) (given_covered line to x e g) k) in
+          let p = spot_at to (line + 1) (inside to (line + 1) (kept_held to (line + 1) (given_held line to x e g) k)) in
           subst (CanBeGiven x) (sym (place_not constants spots to k ∙ ap place_of p.1)) (somewhere_given x (place_of (Some p.0)) (spot_somewhere p.0))
 
   -- one that is alive where a barrier crosses it outlasts calls
@@ -286,26 +316,28 @@ module _
       by : v < length found → (c : Option ℕ) → constant_in constants v ≡ c → Outlasts (place_in constants spots v)
       by low (Some a) e = subst Outlasts (sym (place_word constants spots v a e)) tt
       by low None e =
-          let i = kept_line v line (covers.within v line low (alive_first v line h)) e in
+          let i = inside v line (kept_held v line (covers.within v line low (alive_first v line h)) e) in
           let p = spot_at v line i in
           let l = keep.long in
           subst Outlasts (sym (place_not constants spots v e ∙ ap place_of p.1))
           (slot_outlasts p.0 (wish_at wishes v) (s.allowed v p.0 p.1) (w.outlasting v (omega (arith, low, l)) (covers.crossings v line low (alive_first v line h) k)))
 
-  entered : (v : ℕ) → parameters ≤ registers → v < parameters → alive v 0 ≡ true → enters_in kept v ≡ true
+  begun : (v : ℕ) → v < registers → alive v 0 ≡ true → begins_in found v ≡ true
+  begun v low h = within_entered (interval_of found v) (covers.inside v 0 (covers.within v 0 (omega (arith, low, count)) (alive_first v 0 h)))
+
+  entered : (v : ℕ) → parameters ≤ registers → v < parameters → alive v 0 ≡ true → enters_in kept_parts v ≡ true
   entered v few low h =
-      within_entered (interval_of kept v)
-      (kept_line v 0 (covers.within v 0 (omega (arith, few, low, count)) (alive_first v 0 h)) (are.passed v low))
+      kept_held v 0 (covers.within v 0 (omega (arith, few, low, count)) (alive_first v 0 h)) (are.passed v low)
 
-  entered_apart : (v u : ℕ) → enters_in kept v ≡ true → enters_in kept u ≡ true → v ≢ u → Apart (place_in constants spots v) (place_in constants spots u)
+  entered_apart : (v u : ℕ) → enters_in kept_parts v ≡ true → enters_in kept_parts u ≡ true → v ≢ u → Apart (place_in constants spots v) (place_in constants spots u)
   entered_apart v u h k ne =
-      two_kept v u 0 (λ e. entered_within (interval_of kept v) h) (λ e. entered_within (interval_of kept u) k) ne
+      two_kept v u 0 (λ e. h) (λ e. k) ne
 
-  passed : (v : ℕ) → parameters ≤ registers → v < parameters → enters_in kept v ≡ true → IsOwnPlace v (place_in constants spots v)
+  passed : (v : ℕ) → parameters ≤ registers → v < parameters → enters_in kept_parts v ≡ true → IsOwnPlace v (place_in constants spots v)
   passed v few low h =
       let l = keep.long in
       let there : v < length kept = omega (arith, few, low, count, l) in
-      let i = entered_within (interval_of kept v) h in
+      let i = inside v 0 h in
       let p = spot_at v 0 i in
       subst (IsOwnPlace v) (sym (place_not constants spots v (are.passed v low) ∙ ap place_of p.1))
       (own_place v p.0 (wish_at wishes v) (s.allowed v p.0 p.1) (w.passed v there low i))
@@ -325,7 +357,7 @@ module _
 
   pub chosen_well :
       parameters ≤ registers → (clear : Bool) → (clear ≡ true → (v : ℕ) → get_or told v false ≡ true → ⊥)
-      → ChosenWell lines parameters landings (place_in constants spots) (enters_in kept) slots overwritten registers clear
+      → ChosenWell lines parameters landings (place_in constants spots) (enters_in kept_parts) (begins_in found) slots overwritten registers clear
   chosen_well few clear none = record {
     alive = alive;
     stand = record {
@@ -344,5 +376,6 @@ module _
       passed = λ v low h. passed v few low h;
       places = λ v. placed v (constant_in constants v) refl;
     };
+    begun = begun;
     clear_is = λ c v line low h k. clear_is (none c) v line low h k;
   }

@@ -53,7 +53,7 @@ module _ (program : LineProgram) (l : Located) (c : Choice) (t : IsAllocated pro
     well : StandsWell (c.lines number) (λ n. landings_of (l.records number n)) (c.spot number) (c.alive number)
     well = (t.stand number i.procedure i.there).well
 
-    alone : NamesStand (c.lines number) i.procedure.registers (c.owner number) (c.names number) (c.alive number)
+    alone : NamesStand (c.lines number) i.procedure.registers (c.owner number) (c.names number) (c.spot number) (c.alive number)
     alone = t.owned number i.procedure i.there
 
     abbrev step : Step

@@ -11,6 +11,7 @@ use Rattle.mid_code.specs.declared.operation.Operation.{Operation}
 use Rattle.mid_code.specs.declared.operation.Operation.TheVariants as operation
 use Rattle.mid_lines.specs.declared.line.Line.{Line}
 use Rattle.mid_lines.specs.declared.line.Line.TheVariants.{Do, Branch, Switch, Jump, Lay, Landed, GiveBack, Lend, GiveBackLent, Return, Cut, Halt, Unhandled}
+use Rattle.back_places.specs.declared.place.Place.{Place}
 use Rattle.back_places.specs.Facts.{callee_registers}
 use Rattle.back_liveness.specs.declared.barrier.Barrier.{Barrier}
 use Rattle.back_liveness.specs.Barriers.{Crosses, barrier_at}
@@ -18,7 +19,7 @@ use Rattle.back_liveness.proofs.Around.{there_below}
 use Rattle.back_liveness.proofs.Lists.{or_back}
 use Rattle.back_liveness.proofs.Forwards.{or_front}
 use Rattle.back_allocation.specs.LineSteps.{operation_reads, operation_gives, line_reads, line_gives, line_falls, line_aside}
-use Rattle.back_allocation.specs.Names.{named_callee, named_operation, named_line, name_among, read_name, name_or_none, given_name, IsNaming, AreNamings, NamesStand}
+use Rattle.back_allocation.specs.Names.{named_callee, named_operation, named_line, name_among, read_name, name_or_none, given_name, IsNaming, AreNamings, IsPassedIn, NamesStand}
 use Rattle.back_allocation.specs.NamesFound.{owner_in, checked_name, name_in, AreGrouped, AreOverwritten}
 use Rattle.back_allocation.specs.Standing.{MayCut}
 
@@ -350,25 +351,29 @@ given_low owner names lines named are line to y h e =
         let same : given_name y u ≡ to = ap name_or_none e in
         omega (arith, low, same)
 
--- Where none is alive where it is overwritten, names say what registers have.
+-- Where none is alive where it is overwritten, and all but the first that are there at the entry stand where their registers are passed, names
+-- say what registers have.
 pub names_clear :
-    (named : List Line) (owners starts ends : List ℕ) (registers : ℕ) (barriers : List Barrier) (alive : (name line : ℕ) → Bool)
-    → AreGrouped owners starts ends registers → AreOverwritten named (owner_in owners) (length owners) registers barriers (length named)
+    (named : List Line) (owners starts ends : List ℕ) (registers : ℕ) (barriers : List Barrier) (spot : (name : ℕ) → Place) (begins : (name : ℕ) → Bool)
+    (alive : (name line : ℕ) → Bool) → AreGrouped owners starts ends registers → AreOverwritten named (owner_in owners) (length owners) barriers (length named)
     → ((v line : ℕ) → v < length owners → alive v line ≡ true → Crosses (barrier_at barriers line) v → ⊥)
-    → NamesStand named registers (owner_in owners) (length owners) alive
-names_clear named owners starts ends registers barriers alive g o clear = record {
+    → ((v : ℕ) → v < length owners → alive v 0 ≡ true → begins v ≡ true)
+    → ((w : ℕ) → registers ≤ w → w < length owners → begins w ≡ true → IsPassedIn (owner_in owners w) (spot w))
+    → NamesStand named registers (owner_in owners) (length owners) spot alive
+names_clear named owners starts ends registers barriers spot begins alive g o clear begun passed = record {
   alone = λ line to w y h e low live ne same. clear w (line + 1) low live (o.written line to w y (there_below named line y h) h e low same ne);
-  entry = λ w low live. elim (below_or_not w registers) [ inl k ↦ k | inr k ↦ absurd (clear w 0 low live (o.entry w k)) ];
+  entry = λ w low live. elim (below_or_not w registers) [ inl k ↦ inl k | inr k ↦ inr (passed w k low (begun w low live)) ];
   own = g.own;
 }
 
 -- So they do where each register has one name, itself.
 pub names_own :
-    (named : List Line) (owners starts ends : List ℕ) (registers : ℕ) (alive : (name line : ℕ) → Bool) → AreGrouped owners starts ends registers
-    → length owners ≡ registers → ((line to : ℕ) (y : Line) → slice_get named line ≡ Some y → line_gives y ≡ Some to → to < registers)
-    → NamesStand named registers (owner_in owners) (length owners) alive
-names_own named owners starts ends registers alive g count low = record {
+    (named : List Line) (owners starts ends : List ℕ) (registers : ℕ) (spot : (name : ℕ) → Place) (alive : (name line : ℕ) → Bool)
+    → AreGrouped owners starts ends registers → length owners ≡ registers
+    → ((line to : ℕ) (y : Line) → slice_get named line ≡ Some y → line_gives y ≡ Some to → to < registers)
+    → NamesStand named registers (owner_in owners) (length owners) spot alive
+names_own named owners starts ends registers spot alive g count low = record {
   alone = λ line to w y h e below live ne same. ne (sym (g.own w (omega (arith, below, count))) ∙ (same ∙ g.own to (low line to y h e)));
-  entry = λ w below live. omega (arith, below, count);
+  entry = λ w below live. inl (omega (arith, below, count));
   own = g.own;
 }

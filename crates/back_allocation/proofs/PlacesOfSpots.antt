@@ -94,25 +94,27 @@ parameter_more spot enters from (suc count) v e =
 -- names that stand well in places that were chosen stand so in a list of these
 pub stand_in_places :
     (p : LineProcedure) (a : RegisterPlaces) (named : List Line) (owner : ℕ → ℕ) (names : ℕ) (landings : List (List ℕ)) (spot : ℕ → Place)
-    (found : List (Option Interval)) (slots : ℕ) (barriers : List Barrier) (clear : Bool)
-    (w : ChosenWell named p.parameters (landings_in landings) spot (enters_in found) slots barriers names clear)
-    → NamesStand named p.registers owner names w.alive → AreNamings owner names p.lines named → landings ≡ line_landings 0 [] p.lines → a.lines ≡ named
-    → ((v : ℕ) → place_at a.places v ≡ spot v) → a.parameters ≡ parameter_places (place_at a.places) (enters_in found) 0 p.parameters → a.slots ≡ slots
+    (parts : List (List Interval)) (begins : ℕ → Bool) (slots : ℕ) (barriers : List Barrier) (clear : Bool)
+    (w : ChosenWell named p.parameters (landings_in landings) spot (enters_in parts) begins slots barriers names clear)
+    → NamesStand named p.registers owner names spot w.alive → AreNamings owner names p.lines named → landings ≡ line_landings 0 [] p.lines → a.lines ≡ named
+    → ((v : ℕ) → place_at a.places v ≡ spot v) → a.parameters ≡ parameter_places (place_at a.places) (enters_in parts) 0 p.parameters → a.slots ≡ slots
     → StandInPlaces p a
-stand_in_places p a named owner names landings spot found slots barriers clear w owned are told lines_are places_are entry slots_are =
+stand_in_places p a named owner names landings spot parts begins slots barriers clear w owned are told lines_are places_are entry slots_are =
     let places : place_at a.places ≡ spot = fun_ext places_are in
     record {
       owner = owner;
       names = names;
       alive = w.alive;
-      enters = enters_in found;
+      enters = enters_in parts;
       named = subst (λ ls. AreNamings owner names p.lines ls) (sym lines_are) are;
-      owned = subst (λ ls. NamesStand ls p.registers owner names w.alive) (sym lines_are) owned;
+      owned =
+          subst (λ ls. NamesStand ls p.registers owner names (place_at a.places) w.alive) (sym lines_are)
+          (subst (λ f. NamesStand named p.registers owner names f w.alive) (sym places) owned);
       stand =
-          subst (λ ls. AllStand ls p.parameters (landings_in (line_landings 0 [] p.lines)) (place_at a.places) w.alive (enters_in found) a.slots) (sym lines_are)
-          (subst (λ n. AllStand named p.parameters (landings_in (line_landings 0 [] p.lines)) (place_at a.places) w.alive (enters_in found) n) (sym slots_are)
-          (subst (λ f. AllStand named p.parameters (landings_in (line_landings 0 [] p.lines)) f w.alive (enters_in found) slots) (sym places)
-          (subst (λ t. AllStand named p.parameters (landings_in t) spot w.alive (enters_in found) slots) told w.stand)));
+          subst (λ ls. AllStand ls p.parameters (landings_in (line_landings 0 [] p.lines)) (place_at a.places) w.alive (enters_in parts) a.slots) (sym lines_are)
+          (subst (λ n. AllStand named p.parameters (landings_in (line_landings 0 [] p.lines)) (place_at a.places) w.alive (enters_in parts) n) (sym slots_are)
+          (subst (λ f. AllStand named p.parameters (landings_in (line_landings 0 [] p.lines)) f w.alive (enters_in parts) slots) (sym places)
+          (subst (λ t. AllStand named p.parameters (landings_in t) spot w.alive (enters_in parts) slots) told w.stand)));
       entry = entry;
     }
 

@@ -79,12 +79,12 @@ module _ (program : MidProgram) (chosen : List RegisterPlaces) (fit : PlacesFit 
 
   owned_in :
       (number : ℕ) (o : Option MidProcedure) (e : slice_get program.procedures number ≡ o) (p : MidProcedure) → o ≡ Some p
-      → NamesStand (places_for chosen number).lines p.registers (owner_in number o e) (names_in number o e) (alive_in number o e)
+      → NamesStand (places_for chosen number).lines p.registers (owner_in number o e) (names_in number o e) (place_at (places_for chosen number).places) (alive_in number o e)
   owned_in number None e p g = absurd (cc g)
   owned_in number (Some q) e p g =
       let same : q ≡ p = cc g in
       let s = (fit.each number q e).stand in
-      subst (λ r. NamesStand (places_for chosen number).lines r.registers s.owner s.names s.alive) same s.owned
+      subst (λ r. NamesStand (places_for chosen number).lines r.registers s.owner s.names (place_at (places_for chosen number).places) s.alive) same s.owned
 
   -- all names stand well in it
   stand_in :
@@ -116,7 +116,7 @@ module _ (program : MidProgram) (chosen : List RegisterPlaces) (fit : PlacesFit 
         (named_in number (slice_get program.procedures number) refl o.tree o.there);
     owned = λ number p e.
         let o = procedure_of_tree program number p e in
-        subst (λ q. NamesStand (choice.lines number) q.registers (choice.owner number) (choice.names number) (choice.alive number)) o.same
+        subst (λ q. NamesStand (choice.lines number) q.registers (choice.owner number) (choice.names number) (choice.spot number) (choice.alive number)) o.same
         (owned_in number (slice_get program.procedures number) refl o.tree o.there);
     stand = λ number p e.
         let o = procedure_of_tree program number p e in

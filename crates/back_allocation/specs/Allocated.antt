@@ -71,7 +71,7 @@ pub record IsAllocated (program : LineProgram) (l : Located) (c : Choice) : Type
       (number : ℕ) (p : LineProcedure) → slice_get program.procedures number ≡ Some p → AreNamings (c.owner number) (c.names number) p.lines (c.lines number)
   pub owned :
       (number : ℕ) (p : LineProcedure) → slice_get program.procedures number ≡ Some p
-      → NamesStand (c.lines number) p.registers (c.owner number) (c.names number) (c.alive number)
+      → NamesStand (c.lines number) p.registers (c.owner number) (c.names number) (c.spot number) (c.alive number)
   pub sources :
       (number line v : ℕ) → l.source number line v ≡ source_in (c.spot number) (line_of program number line) (slice_get (c.lines number) line) v
   pub targets : (number line : ℕ) → l.target number line ≡ target_in (c.spot number) (line_of program number line) (slice_get (c.lines number) line)

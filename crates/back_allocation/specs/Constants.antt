@@ -1,5 +1,5 @@
 -- Names to which one constant alone is given: they need no place, since the constant is made again wherever it is read.
-use Rattle.std.specs.Prelude.{◌≡◌, ◌<◌, ℕ, ◌^◌, List, length, slice_get, slice_index_or, Option, Some, None}
+use Rattle.std.specs.Prelude.{◌≡◌, ◌<◌, ℕ, ◌^◌, List, [], length, slice_get, slice_index_or, Option, Some, None}
 use Rattle.mid_code.specs.declared.operation.Operation.TheVariants.{Constant}
 use Rattle.mid_lines.specs.declared.line.Line.{Line}
 use Rattle.mid_lines.specs.declared.line.Line.TheVariants.{Do}
@@ -22,7 +22,12 @@ pub record AreConstants (lines : List Line) (count parameters names : ℕ) (cons
   pub passed : (v : ℕ) → v < parameters → constant_in constants v ≡ None
   pub words : AreWords constants
 
--- names of constants have no intervals, and all others have theirs
+-- names of constants have no intervals and no parts, and all others have theirs
 pub record AreKept (constants : List (Option ℕ)) (found kept : List (Option Interval)) : Type 0 where
   pub long : length kept ≡ length found
   pub same : (v : ℕ) → constant_in constants v ≡ None → slice_index_or kept v None ≡ slice_index_or found v None
+
+pub record AreKeptParts (constants : List (Option ℕ)) (parts kept : List (List Interval)) : Type 0 where
+  pub long : length kept ≡ length parts
+  pub same : (v : ℕ) → constant_in constants v ≡ None → slice_index_or kept v [] ≡ slice_index_or parts v []
+  pub none : (v w : ℕ) → v < length parts → constant_in constants v ≡ Some w → slice_index_or kept v [] ≡ []

@@ -1,6 +1,6 @@
 -- Lines with names in the place of their registers. A register may have several names, one after the other, so that each has a place of its own: a
 -- line reads a register by a name, and gives its word to a name.
-use Rattle.std.specs.Prelude.{◌≡◌, ◌≢◌, ◌<◌, ℕ, ◌+◌, ◌==◌, Bool, true, List, [], ◌∷◌, map, length, slice_get, Option, Some, None, if◌then◌else◌}
+use Rattle.std.specs.Prelude.{◌≡◌, ◌≢◌, ◌⊎◌, ◌<◌, ℕ, ◌+◌, ◌==◌, Bool, true, List, [], ◌∷◌, map, length, slice_get, Option, Some, None, if◌then◌else◌}
 use Rattle.std.specs.List.{list_any}
 use Rattle.mid_code.specs.declared.operation.Callee.{Callee}
 use Rattle.mid_code.specs.declared.operation.Callee.TheVariants.{Procedure, Word}
@@ -9,6 +9,9 @@ use Rattle.mid_code.specs.declared.operation.Operation.TheVariants as operation
 use Rattle.mid_code.specs.declared.operation.Test.{Test}
 use Rattle.mid_lines.specs.declared.line.Line.{Line}
 use Rattle.mid_lines.specs.declared.line.Line.TheVariants.{Do, Branch, Switch, Jump, Lay, Landed, GiveBack, Lend, GiveBackLent, Return, Cut, Halt, Unhandled}
+use Rattle.back_places.specs.declared.place.Place.{Place}
+use Rattle.back_places.specs.declared.place.Place.TheVariants.{InRegister}
+use Rattle.back_places.specs.Places.{argument_register}
 use Rattle.back_allocation.specs.LineSteps.{line_reads, line_gives}
 
 -- a line with these names, of the registers that it reads and of the one to which it gives a word
@@ -75,11 +78,17 @@ pub record AreNamings (owner : (name : ℕ) → ℕ) (names : ℕ) (lines named 
   pub count : length named ≡ length lines
   pub each : (line : ℕ) (x y : Line) → slice_get lines line ≡ Some x → slice_get named line ≡ Some y → IsNaming owner names x y
 
+-- the place in which a parameter is passed, where that is a register
+abbrev pub IsPassedIn : (parameter : ℕ) → Place → Type 0
+IsPassedIn v p = (v < 14) × (p ≡ InRegister (argument_register v))
+
 -- Names say what registers have: where a test tells names that may be alive, no other name of the same register is behind a line that gives a
--- word to a name. The first names are those of registers by themselves, and no other one is alive at the entry.
-pub record NamesStand (named : List Line) (registers : ℕ) (owner : (name : ℕ) → ℕ) (names : ℕ) (alive : (name line : ℕ) → Bool) : Type 0 where
+-- word to a name. The first names are those of registers by themselves, and any other one that is alive at the entry stands where its
+-- register is passed: there its word is until it is overwritten, wherever the entry brings it besides.
+pub record NamesStand
+    (named : List Line) (registers : ℕ) (owner : (name : ℕ) → ℕ) (names : ℕ) (spot : (name : ℕ) → Place) (alive : (name line : ℕ) → Bool) : Type 0 where
   pub alone :
       (line to w : ℕ) (y : Line) → slice_get named line ≡ Some y → line_gives y ≡ Some to → w < names → alive w (line + 1) ≡ true → w ≢ to
       → owner w ≢ owner to
-  pub entry : (w : ℕ) → w < names → alive w 0 ≡ true → w < registers
+  pub entry : (w : ℕ) → w < names → alive w 0 ≡ true → (w < registers) ⊎ IsPassedIn (owner w) (spot w)
   pub own : (w : ℕ) → w < registers → owner w ≡ w

@@ -17,18 +17,21 @@ checked_name owners v w = if nat_lt w (length owners) && (slice_index owners w =
 abbrev pub name_in : (owners current : List ℕ) → (register : ℕ) → ℕ
 name_in owners current v = checked_name owners v (slice_index current v)
 
+-- a name but the first one of its register stands among those from where they start up to where they end
+abbrev pub AreTogether : (owners starts ends : List ℕ) → Type 0
+AreTogether owners starts ends =
+    (w : ℕ) → w < length owners
+    → (w ≡ owner_in owners w) ⊎ ((slice_index starts (owner_in owners w) ≤ w) × (w < slice_index ends (owner_in owners w)))
+
 -- The first names are those of registers by themselves, and the others of a register stand one behind the other.
 pub record AreGrouped (owners starts ends : List ℕ) (registers : ℕ) : Type 0 where
   pub few : registers ≤ length owners
   pub own : (w : ℕ) → w < registers → owner_in owners w ≡ w
-  pub groups :
-      (w : ℕ) → w < length owners
-      → (w ≡ owner_in owners w) ⊎ ((slice_index starts (owner_in owners w) ≤ w) × (w < slice_index ends (owner_in owners w)))
+  pub groups : AreTogether owners starts ends
 
--- Barriers at lines: names but the first ones are crossed at the entry, and behind a line that gives a word to a name, all others of its register.
-pub record AreOverwritten (named : List Line) (owner : (name : ℕ) → ℕ) (names registers : ℕ) (barriers : List Barrier) (count : ℕ) : Type 0 where
+-- Barriers at lines: behind a line that gives a word to a name, all other names of its register are crossed.
+pub record AreOverwritten (named : List Line) (owner : (name : ℕ) → ℕ) (names : ℕ) (barriers : List Barrier) (count : ℕ) : Type 0 where
   pub long : length barriers ≡ count + 1
-  pub entry : (w : ℕ) → registers ≤ w → Crosses (barrier_at barriers 0) w
   pub written :
       (line to w : ℕ) (y : Line) → line < count → slice_get named line ≡ Some y → line_gives y ≡ Some to → w < names → owner w ≡ owner to → w ≢ to
       → Crosses (barrier_at barriers (line + 1)) w

@@ -8,6 +8,7 @@ use Rattle.back_trivial.specs.OwnSlots.{no_target}
 use Rattle.back_liveness.specs.declared.barrier.Barrier.{Barrier}
 use Rattle.back_liveness.specs.declared.step.Interval.{Interval}
 use Rattle.back_liveness.specs.Barriers.{Crosses, barrier_at}
+use Rattle.back_liveness.specs.Liveness.{is_held}
 use Rattle.back_scan.specs.declared.spot.Spot.{Spot}
 use Rattle.back_scan.specs.declared.spot.Spot.TheVariants.{Held, Slot}
 use Rattle.back_allocation.specs.Standing.{AllStand}
@@ -30,20 +31,25 @@ place_in constants spots v = place_chosen (slice_index_or constants v None) (sli
 abbrev pub place_at : List Place → (register : ℕ) → Place
 place_at places v = slice_index_or places v no_target
 
--- the entry brings a register to its place where its interval begins with the first line
+-- the entry brings a register to its place where it is held at the first line
+abbrev pub enters_in : (parts : List (List Interval)) → (register : ℕ) → Bool
+enters_in parts v = is_held parts v 0
+
+-- whether its interval begins there
 abbrev pub is_entered : Option Interval → Bool
 is_entered None = false
 is_entered (Some i) = i.from == 0
 
-abbrev pub enters_in : List (Option Interval) → (register : ℕ) → Bool
-enters_in intervals v = is_entered (slice_index_or intervals v None)
+abbrev pub begins_in : List (Option Interval) → (register : ℕ) → Bool
+begins_in intervals v = is_entered (slice_index_or intervals v None)
 
--- Some test tells where names may be alive, with which all stand well. Where that is told to be clear, none of the first names is alive at a line
--- at which a barrier of these crosses it.
+-- Some test tells where names may be alive, with which all stand well; one that is alive at the first line is told to begin there. Where that is told to
+-- be clear, none of the first names is alive at a line at which a barrier of these crosses it.
 pub record ChosenWell
-    (lines : List Line) (parameters : ℕ) (landings : ℕ → List ℕ) (spot : (name : ℕ) → Place) (enters : (name : ℕ) → Bool) (slots : ℕ)
+    (lines : List Line) (parameters : ℕ) (landings : ℕ → List ℕ) (spot : (name : ℕ) → Place) (enters begins : (name : ℕ) → Bool) (slots : ℕ)
     (barriers : List Barrier) (names : ℕ) (clear : Bool)
     : Type 0 where
   pub alive : (name line : ℕ) → Bool
   pub stand : AllStand lines parameters landings spot alive enters slots
+  pub begun : (v : ℕ) → v < names → alive v 0 ≡ true → begins v ≡ true
   pub clear_is : clear ≡ true → (v line : ℕ) → v < names → alive v line ≡ true → Crosses (barrier_at barriers line) v → ⊥

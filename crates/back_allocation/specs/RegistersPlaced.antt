@@ -17,6 +17,6 @@ pub record StandInPlaces (p : LineProcedure) (a : RegisterPlaces) : Type 0 where
   pub alive : (name line : ℕ) → Bool
   pub enters : (name : ℕ) → Bool
   pub named : AreNamings owner names p.lines a.lines
-  pub owned : NamesStand a.lines p.registers owner names alive
+  pub owned : NamesStand a.lines p.registers owner names (place_at a.places) alive
   pub stand : AllStand a.lines p.parameters (landings_in (line_landings 0 [] p.lines)) (place_at a.places) alive enters a.slots
   pub entry : a.parameters ≡ parameter_places (place_at a.places) enters 0 p.parameters

@@ -41,7 +41,7 @@ pub record FitsTree (program : MidProgram) (c : Choice) : Type 0 where
       → AreNamings (c.owner number) (c.names number) p.lines (c.lines number)
   pub owned :
       (number : ℕ) (p : LineProcedure) → slice_get (program_lines program).procedures number ≡ Some p
-      → NamesStand (c.lines number) p.registers (c.owner number) (c.names number) (c.alive number)
+      → NamesStand (c.lines number) p.registers (c.owner number) (c.names number) (c.spot number) (c.alive number)
   pub stand :
       (number : ℕ) (p : LineProcedure) → slice_get (program_lines program).procedures number ≡ Some p
       → AllStand (c.lines number) p.parameters (λ line. landings_of (tree_records program number line)) (c.spot number) (c.alive number) (c.enters number) (c.slots number)

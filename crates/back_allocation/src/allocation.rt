@@ -3,62 +3,70 @@
 ghost use Rattle.std.specs.Prelude.{◌≡◌, ◌≤◌, ◌<◌, ◌^◌, ℕ, true, false, length, slice_get, slice_index_or, Some, IfOk};
 ghost use Rattle.mid_lines.specs.declared.line.Line.{Line};
 ghost use Rattle.back_allocation.specs.LineSteps.{line_gives, landings_in};
-ghost use Rattle.back_allocation.specs.Places.{place_in, enters_in, ChosenWell};
+ghost use Rattle.back_allocation.specs.Places.{place_in, enters_in, begins_in, ChosenWell};
 
 use crate::barriers::barriers_of;
-use crate::constants::{constants_of, without_constants};
+use crate::constants::{constants_of, parts_without_constants, without_constants};
 use crate::hints::hints_of;
 use crate::steps::{LandingsList, steps_of};
 use crate::wishes::wishes_of;
-use back_liveness::{Barrier, CrossedList, IntervalList, LiveIntervals, live_intervals};
+use back_liveness::{Barrier, CrossedList, IntervalList, LiveIntervals, PartLists, live_intervals};
 use back_scan::{Allocation, linear_scan};
 use base::NoMemory;
 use mid_lines::LineList;
 use std::alloc::Global;
 
-/// Where names stand, and their constants and intervals: the entry brings those to their places whose intervals begin with the first line; and
-/// whether it is clear that none is alive where it is overwritten.
+/// Where names stand, their constants, the intervals in which they are alive, and the parts of these of names that have no constant: the entry brings
+/// those to their places that are held at the first line; and whether it is clear that none is alive where it is overwritten.
 #[derive(Drop)]
 pub struct Chosen {
     pub allocation: Allocation,
     pub constants: Vec<Option<u32>>,
-    pub intervals: IntervalList,
+    pub lives: IntervalList,
+    pub parts: PartLists,
     pub is_clear: bool,
 }
 
-/// Where the names of registers stand, by which lines go, of which these are the landings of the records that stand at them; how many slots they
-/// need, no more than there are names; and whether it is clear that none is alive where one of the barriers crosses it.
+/// Where the names of registers with these owners stand, by which lines go, of which these are the landings of the records that stand at them; how
+/// many slots they need, no more than there are names; and whether it is clear that none is alive where one of the barriers crosses it.
 pub fn allocate(
     alloc: Global,
     lines: &LineList,
     landings: &LandingsList,
     overwritten: &[Barrier],
     parameters: usize,
-    registers: usize,
+    owners: &[usize],
 ) -> Result<Chosen, NoMemory>
     requires room { length lines.now < 2 ^ 62 }
-    requires registers { (line to : ℕ) (x : Line) → slice_get lines.now line ≡ Some x → line_gives x ≡ Some to → to < registers }
-    requires parameters { parameters ≤ registers }
+    requires registers { (line to : ℕ) (x : Line) → slice_get lines.now line ≡ Some x → line_gives x ≡ Some to → to < length owners.now }
+    requires parameters { parameters ≤ length owners.now }
     ensures chosen { IfOk result (λ a. ChosenWell lines.now parameters (landings_in landings.now) (place_in a.constants.items a.allocation.spots.items)
-        (enters_in a.intervals) a.allocation.slots overwritten.now registers a.is_clear) }
-    ensures few { IfOk result (λ a. a.allocation.slots ≤ registers) }
+        (enters_in a.parts) (begins_in a.lives) a.allocation.slots overwritten.now (length owners.now) a.is_clear) }
+    ensures few { IfOk result (λ a. a.allocation.slots ≤ length owners.now) }
     ensures long { IfOk result (λ a. length a.constants.items ≡ length a.allocation.spots.items) }
 {
+    let names = owners.len();
     let steps = steps_of(alloc, lines, landings)?;
     let barriers = barriers_of(alloc, lines, landings)?;
-    let found = live_intervals(alloc, &steps, barriers.as_slice(), registers)?;
-    let again = live_intervals(alloc, &steps, overwritten, registers)?;
+    let found = live_intervals(alloc, &steps, barriers.as_slice(), names)?;
+    let again = live_intervals(alloc, &steps, overwritten, names)?;
     let is_clear = none_told(&again.crossed);
-    let LiveIntervals { intervals, crossed } = found;
-    let constants = constants_of(alloc, lines, parameters, registers)?;
+    let LiveIntervals {
+        intervals,
+        parts,
+        crossed,
+    } = found;
+    let constants = constants_of(alloc, lines, parameters, names)?;
     let kept = without_constants(alloc, &intervals, constants.as_slice())?;
-    let wishes = wishes_of(alloc, &kept, &crossed, parameters)?;
-    let hints = hints_of(alloc, lines, registers)?;
-    let allocation = linear_scan(alloc, &kept, &wishes, &hints)?;
+    let kept_parts = parts_without_constants(alloc, parts, constants.as_slice());
+    let wishes = wishes_of(alloc, &kept, &crossed, parameters, owners)?;
+    let hints = hints_of(alloc, lines, names)?;
+    let allocation = linear_scan(alloc, &kept, &kept_parts, &wishes, &hints)?;
     Ok(Chosen {
         allocation,
         constants,
-        intervals: kept,
+        lives: intervals,
+        parts: kept_parts,
         is_clear,
     })
 }

@@ -110,7 +110,6 @@ fn all_but(barrier: Barrier, to: Register) -> Barrier
                 Barrier::Closed
             }
         }
-        Barrier::ClosedFrom(_) => Barrier::Closed,
         Barrier::ClosedAmong { .. } => Barrier::Closed,
     }
 }

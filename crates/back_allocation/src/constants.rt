@@ -1,14 +1,14 @@
 // Names to which one constant alone is given, which need no place.
 
-ghost use Rattle.std.specs.Prelude.{◌≡◌, ◌≤◌, ◌<◌, ◌^◌, ℕ, true, length, slice_get, slice_index_or, Some, None, IfOk, OnOk};
+ghost use Rattle.std.specs.Prelude.{◌≡◌, ◌≤◌, ◌<◌, ◌^◌, ℕ, true, false, [], length, slice_get, slice_index_or, Some, None, IfOk, OnOk};
 ghost use Rattle.mid_code.specs.declared.operation.Operation.TheVariants.{Constant};
 ghost use Rattle.mid_lines.specs.declared.line.Line.{Line};
 ghost use Rattle.mid_lines.specs.declared.line.Line.TheVariants.{Do};
 ghost use Rattle.back_allocation.specs.LineSteps.{line_gives};
-ghost use Rattle.back_allocation.specs.Constants.{AreConstants, AreKept, AreWords, constant_in};
+ghost use Rattle.back_allocation.specs.Constants.{AreConstants, AreKept, AreKeptParts, AreWords, constant_in};
 
 use crate::steps::gives_of;
-use back_liveness::IntervalList;
+use back_liveness::{IntervalList, PartList, PartLists};
 use base::NoMemory;
 use mid_code::{Operation, Register};
 use mid_lines::{Line, LineList};
@@ -158,8 +158,26 @@ pub fn without_constants(
     Ok(kept)
 }
 
+/// The parts of names that have no constant.
+pub fn parts_without_constants(
+    alloc: Global,
+    parts: PartLists,
+    constants: &[Option<u32>],
+) -> PartLists
+    ensures { AreKeptParts constants.now parts result }
+{
+    let mut kept = parts;
+    for name in 0..kept.len() {
+        if has_constant(constants, name) {
+            let _gone = kept.replace(name, PartList::new(alloc));
+        }
+    }
+    kept
+}
+
 fn has_constant(constants: &[Option<u32>], name: usize) -> bool
-    ensures { result ≡ true → constant_in constants.now name ≡ None → ⊥ }
+    ensures some { result ≡ true → constant_in constants.now name ≡ None → ⊥ }
+    ensures none { result ≡ false → constant_in constants.now name ≡ None }
 {
     if name < constants.len() {
         constants[name].is_some()

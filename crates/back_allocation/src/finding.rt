@@ -1,11 +1,13 @@
 // Names for the registers of a procedure, so that each word that is given to a register may have a place of its own. Reads of a register
-// that a word may reach have the name to which it is given. Nothing rests on that: whether names say what registers have is tested.
+// that a word may reach have the name to which it is given. A parameter that outlasts calls has two: it is put into a slot, and it is read from where
+// it is passed as long as it is there. Nothing rests on that: whether names say what registers have is tested.
 
-ghost use Rattle.std.specs.Prelude.{◌≡◌, length};
+ghost use Rattle.std.specs.Prelude.{◌≡◌, ◌<◌, ◌^◌, length};
 
+use crate::barriers::barriers_of;
 use crate::names::{Names, number_at};
 use crate::steps::{LandingsList, steps_of};
-use back_liveness::{Step, StepList};
+use back_liveness::{Barrier, Step, StepList};
 use base::NoMemory;
 use mid_code::Register;
 use mid_lines::LineProcedure;
@@ -15,8 +17,9 @@ use std::alloc::Global;
 const NONE: usize = usize::MAX;
 
 // What is found so far: the names with their owners, which names are one, and those of the reads and of the given words of lines; where the
-// reads of a line stand; the first and the last line with a point of a register, and the last line from which one comes back to a line. Of
-// the register that is looked at: its name at each line, and at heads of loops.
+// reads of a line stand; the first and the last line with a point of a register, and the last line from which one comes back to a line; which
+// names are alive where a barrier crosses them, and the names of parameters where they are passed. Of the register that is looked at: its name
+// at each line, and at heads of loops.
 #[derive(Drop)]
 struct Finding {
     owners: Vec<usize>,
@@ -29,6 +32,9 @@ struct Finding {
     firsts: Vec<usize>,
     lasts: Vec<usize>,
     latest: Vec<usize>,
+    barriers: Vec<Barrier>,
+    crossed: Vec<bool>,
+    passed: Vec<usize>,
     here: Vec<usize>,
     heads: Vec<usize>,
 }
@@ -38,9 +44,12 @@ pub fn names_of(
     alloc: Global,
     procedure: &LineProcedure,
     landings: &LandingsList,
-) -> Result<Names, NoMemory> {
+) -> Result<Names, NoMemory>
+    requires { length procedure.now.lines < 2 ^ 62 }
+{
     let steps = steps_of(alloc, &procedure.lines, landings)?;
-    let mut finding = begun(alloc, &steps, procedure.registers)?;
+    let barriers = barriers_of(alloc, &procedure.lines, landings)?;
+    let mut finding = begun(alloc, &steps, barriers, procedure.registers)?;
     let parameters = procedure.parameters;
     for line in 0..steps.len() {
         add_points(&mut finding, &steps, line);
@@ -51,10 +60,17 @@ pub fn names_of(
         }
         let start = finding.owners.len();
         finding.starts.push(start)?;
+        if register < parameters && register < 14 {
+            let name = new_name(&mut finding, register)?;
+            finding.passed.push(name)?;
+        }
         find_names(&mut finding, &steps, register)?;
         let end = finding.owners.len();
         finding.ends.push(end)?;
     }
+    let mut crossed = filled_flags(alloc, finding.passed.len())?;
+    tell_crossed(&mut finding, crossed.as_mut_slice());
+    read_passed(&mut finding, &steps, crossed.as_mut_slice());
     settle(&mut finding);
     Ok(names_found(finding))
 }
@@ -78,7 +94,12 @@ fn names_found(finding: Finding) -> Names {
 }
 
 // Nothing is found yet: each register has itself for a name.
-fn begun(alloc: Global, steps: &StepList, registers: usize) -> Result<Finding, NoMemory> {
+fn begun(
+    alloc: Global,
+    steps: &StepList,
+    barriers: Vec<Barrier>,
+    registers: usize,
+) -> Result<Finding, NoMemory> {
     let lines = steps.len();
     let mut bases = Vec::new(alloc);
     let mut reads = Vec::new(alloc);
@@ -101,6 +122,9 @@ fn begun(alloc: Global, steps: &StepList, registers: usize) -> Result<Finding, N
         firsts: filled(alloc, registers, NONE)?,
         lasts: filled(alloc, registers, 0)?,
         latest: counted(alloc, lines)?,
+        barriers,
+        crossed: filled_flags(alloc, registers)?,
+        passed: Vec::new(alloc),
         here: filled(alloc, lines, NONE)?,
         heads: filled(alloc, lines, NONE)?,
     })
@@ -108,6 +132,10 @@ fn begun(alloc: Global, steps: &StepList, registers: usize) -> Result<Finding, N
 
 fn filled(alloc: Global, count: usize, number: usize) -> Result<Vec<usize>, NoMemory> {
     Ok(vec![in alloc; number; count]?)
+}
+
+fn filled_flags(alloc: Global, count: usize) -> Result<Vec<bool>, NoMemory> {
+    Ok(vec![in alloc; false; count]?)
 }
 
 fn counted(alloc: Global, count: usize) -> Result<Vec<usize>, NoMemory> {
@@ -218,6 +246,9 @@ fn look(
     }
     set_at(finding.heads.as_mut_slice(), line, NONE);
     set_at(finding.here.as_mut_slice(), line, name);
+    if name != NONE && is_crossed(finding, register, line) {
+        set_flag(finding.crossed.as_mut_slice(), name);
+    }
     Ok(())
 }
 
@@ -305,6 +336,7 @@ fn new_name(finding: &mut Finding, register: Register) -> Result<usize, NoMemory
     let name = finding.owners.len();
     finding.owners.push(register)?;
     finding.parents.push(name)?;
+    finding.crossed.push(false)?;
     Ok(name)
 }
 
@@ -336,6 +368,85 @@ fn root(parents: &mut [usize], name: usize) -> usize {
         at = next;
     }
     at
+}
+
+// Whether the barrier at a line crosses a register.
+fn is_crossed(finding: &Finding, register: Register, line: usize) -> bool {
+    match barrier_at(finding, line) {
+        Barrier::Open => false,
+        Barrier::ClosedBut(to) => register != to,
+        _ => true,
+    }
+}
+
+fn barrier_at(finding: &Finding, line: usize) -> Barrier {
+    if line < finding.barriers.len() {
+        finding.barriers[line]
+    } else {
+        Barrier::Closed
+    }
+}
+
+fn flag_at(flags: &[bool], at: usize) -> bool {
+    at < flags.len() && flags[at]
+}
+
+fn set_flag(flags: &mut [bool], at: usize) {
+    if at < flags.len() {
+        flags[at] = true;
+    }
+}
+
+// Which of the first parameters outlast calls with the words with which they are passed.
+fn tell_crossed(finding: &mut Finding, told: &mut [bool]) {
+    for name in 0..finding.crossed.len() {
+        if flag_at(finding.crossed.as_slice(), name) {
+            let one = root(finding.parents.as_mut_slice(), name);
+            set_flag(told, one);
+        }
+    }
+}
+
+// Such parameters are read where they are passed from the first line on, up to one that gives a word to them, that something has to outlast, or
+// to which one comes back.
+fn read_passed(finding: &mut Finding, steps: &StepList, crossed: &mut [bool]) {
+    for line in 0..steps.len() {
+        if ends_passing(finding, line) {
+            return;
+        }
+        if let Some(step) = steps.get(line) {
+            read_step_passed(finding, step, crossed, line);
+        }
+    }
+}
+
+fn ends_passing(finding: &Finding, line: usize) -> bool {
+    match barrier_at(finding, line) {
+        Barrier::Open => number_at(finding.latest.as_slice(), line) != line,
+        _ => true,
+    }
+}
+
+fn read_step_passed(finding: &mut Finding, step: &Step, crossed: &mut [bool], line: usize) {
+    let mut at = number_at(finding.bases.as_slice(), line);
+    for read in step.reads.as_slice() {
+        if is_passed(finding, crossed, *read, at) {
+            let name = number_at(finding.passed.as_slice(), *read);
+            set_at(finding.reads.as_mut_slice(), at, name);
+        }
+        at = at.saturating_add(1);
+    }
+    if let Some(written) = step.written {
+        if written < crossed.len() {
+            crossed[written] = false;
+        }
+    }
+}
+
+// Whether a read is one of a parameter that was told, of the word with which it is passed.
+fn is_passed(finding: &mut Finding, told: &[bool], register: Register, at: usize) -> bool {
+    let name = number_at(finding.reads.as_slice(), at);
+    flag_at(told, register) && root(finding.parents.as_mut_slice(), name) == register
 }
 
 // Each read and each given word has the first of all names that are one with its own.

@@ -6,7 +6,7 @@ ghost use Rattle.mid_lines.specs.declared.line.Line.{Line};
 ghost use Rattle.back_liveness.specs.Barriers.{Crosses};
 ghost use Rattle.back_allocation.specs.LineSteps.{line_reads, line_gives};
 ghost use Rattle.back_allocation.specs.Names.{named_callee, named_operation, named_line, AreNamings};
-ghost use Rattle.back_allocation.specs.NamesFound.{owner_in, checked_name, name_in, AreGrouped, AreOverwritten};
+ghost use Rattle.back_allocation.specs.NamesFound.{owner_in, checked_name, name_in, AreTogether, AreGrouped, AreOverwritten};
 
 use crate::steps::gives_of;
 use back_liveness::Barrier;
@@ -70,8 +70,7 @@ fn have_own(owners: &[usize], registers: usize) -> bool
 }
 
 fn are_within(owners: &[usize], starts: &[usize], ends: &[usize]) -> bool
-    ensures { result ≡ true → (w : ℕ) → w < length owners.now
-        → (w ≡ owner_in owners.now w) ⊎ ((slice_index starts.now (owner_in owners.now w) ≤ w) × (w < slice_index ends.now (owner_in owners.now w))) }
+    ensures { result ≡ true → AreTogether owners.now starts.now ends.now }
 {
     for name in 0..owners.len() {
         if !is_within(owners[name], starts, ends, name) {
@@ -400,19 +399,17 @@ fn take_name(current: &mut [usize], register: Register, reads: &[usize], at: usi
     at.saturating_add(1)
 }
 
-/// Barriers that tell whether names say what registers have: at the entry all names but the first ones are crossed, and behind a line that gives a
-/// word to a name all others of its register.
+/// Barriers that tell whether names say what registers have: behind a line that gives a word to a name all others of its register are crossed.
 pub fn overwritten_of(
     alloc: Global,
     named: &LineList,
     names: &Names,
-    registers: usize,
 ) -> Result<Vec<Barrier>, NoMemory>
-    requires grouped { AreGrouped names.now.owners.items names.now.starts.items names.now.ends.items registers }
-    ensures { IfOk result (λ barriers. AreOverwritten named.now (owner_in names.now.owners.items) (length names.now.owners.items) registers barriers.items (length named.now)) }
+    requires { AreTogether names.now.owners.items names.now.starts.items names.now.ends.items }
+    ensures { IfOk result (λ barriers. AreOverwritten named.now (owner_in names.now.owners.items) (length names.now.owners.items) barriers.items (length named.now)) }
 {
     let mut barriers = Vec::new(alloc);
-    barriers.push(Barrier::ClosedFrom(registers))?;
+    barriers.push(Barrier::Open)?;
     for at in 0..named.len() {
         let Some(line) = named.get(at) else {
             unreachable!()
@@ -424,8 +421,7 @@ pub fn overwritten_of(
 
 // What is crossed behind a line.
 fn overwritten_by(line: &Line, names: &Names) -> Barrier
-    requires groups { (w : ℕ) → w < length names.now.owners.items
-        → (w ≡ owner_in names.now.owners.items w) ⊎ ((slice_index names.now.starts.items (owner_in names.now.owners.items w) ≤ w) × (w < slice_index names.now.ends.items (owner_in names.now.owners.items w))) }
+    requires { AreTogether names.now.owners.items names.now.starts.items names.now.ends.items }
     ensures { (to w : ℕ) → line_gives line.now ≡ Some to → w < length names.now.owners.items → owner_in names.now.owners.items w ≡ owner_in names.now.owners.items to → w ≢ to
         → Crosses result w }
 {

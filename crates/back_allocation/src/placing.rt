@@ -9,18 +9,19 @@ ghost use Rattle.back_places.specs.Places.{argument_register};
 ghost use Rattle.back_places.specs.Facts.{IsPlace};
 ghost use Rattle.back_allocation.specs.LineSteps.{line_reads, line_gives, landings_in};
 ghost use Rattle.back_allocation.specs.StandingLandings.{line_landings};
-ghost use Rattle.back_allocation.specs.Names.{AreNamings, NamesStand};
+ghost use Rattle.back_allocation.specs.Names.{AreNamings, IsPassedIn, NamesStand};
 ghost use Rattle.back_allocation.specs.NamesFound.{owner_in, AreGrouped, AreOverwritten};
 ghost use Rattle.back_allocation.specs.Allocated.{parameter_places};
-ghost use Rattle.back_allocation.specs.Places.{place_of, place_chosen, place_in, place_at, enters_in, ChosenWell};
+ghost use Rattle.back_allocation.specs.Places.{place_of, place_chosen, place_in, place_at, enters_in, begins_in, ChosenWell};
 ghost use Rattle.back_allocation.specs.RegistersPlaced.{StandInPlaces};
+ghost use Rattle.back_liveness.specs.Liveness.{have_line};
 
 use crate::allocation::{Chosen, allocate};
 use crate::finding::names_of;
 use crate::landings::landings_of_lines;
 use crate::names::{Names, are_grouped, named_lines, overwritten_of, own_names};
 use crate::steps::LandingsList;
-use back_liveness::IntervalList;
+use back_liveness::{Interval, IntervalList, PartLists};
 use back_places::Place;
 use back_scan::Spot;
 use base::{ItemList, NoMemory};
@@ -81,18 +82,22 @@ fn with_names(
     if !are_grouped(names, procedure.registers) {
         return Ok(None);
     }
+    let owners = names.owners.as_slice();
     let lines = named_lines(alloc, &procedure.lines, names, procedure.registers)?;
-    let overwritten = overwritten_of(alloc, &lines, names, procedure.registers)?;
+    let overwritten = overwritten_of(alloc, &lines, names)?;
     let chosen = allocate(
         alloc,
         &lines,
         landings,
         overwritten.as_slice(),
         procedure.parameters,
-        names.owners.len(),
+        owners,
     )?;
     let slots = chosen.allocation.slots;
     if !chosen.is_clear || procedure.frame as usize <= slots || procedure.registers < slots {
+        return Ok(None);
+    }
+    if !are_passed_in(&chosen, owners, procedure.registers) {
         return Ok(None);
     }
     let placed = placed(alloc, lines, &chosen, procedure.parameters)?;
@@ -121,7 +126,7 @@ fn with_own_names(
         landings,
         &[],
         procedure.parameters,
-        procedure.registers,
+        names.owners.as_slice(),
     )?;
     let slots = chosen.allocation.slots;
     if procedure.frame as usize <= slots {
@@ -129,6 +134,42 @@ fn with_own_names(
     }
     let placed = placed(alloc, lines, &chosen, procedure.parameters)?;
     Ok(Some(placed))
+}
+
+// Whether each name but the first ones that is there at the entry stands where its register is passed.
+fn are_passed_in(chosen: &Chosen, owners: &[usize], registers: usize) -> bool
+    ensures { result ≡ true → (w : ℕ) → registers ≤ w → w < length owners.now → begins_in chosen.now.lives w ≡ true
+        → IsPassedIn (owner_in owners.now w) (place_in chosen.now.constants.items chosen.now.allocation.spots.items w) }
+{
+    for name in registers..owners.len() {
+        if !is_passed_in(chosen, name, owners[name]) {
+            return false;
+        }
+    }
+    true
+}
+
+// Whether a name stands where a register is passed, if it is there at the entry.
+fn is_passed_in(chosen: &Chosen, name: usize, register: Register) -> bool
+    ensures { result ≡ true → begins_in chosen.now.lives name ≡ true
+        → IsPassedIn register (place_in chosen.now.constants.items chosen.now.allocation.spots.items name) }
+{
+    if !begins(&chosen.lives, name) {
+        return true;
+    }
+    let constant = constant_at(chosen.constants.as_slice(), name);
+    let spot = spot_at(chosen.allocation.spots.as_slice(), name);
+    is_held_by(constant, spot, register)
+}
+
+// Whether a name with that constant and spot stands where a register is passed.
+fn is_held_by(constant: Option<u32>, spot: Option<Spot>, register: Register) -> bool
+    ensures { result ≡ true → IsPassedIn register (place_chosen constant spot) }
+{
+    match (constant, spot) {
+        (None, Some(Spot::Held(number))) => register < 14 && number == register,
+        _ => false,
+    }
 }
 
 // The places of names that were chosen, for lines with these names.
@@ -143,7 +184,7 @@ fn placed(
     requires long { length chosen.now.constants.items ≡ length chosen.now.allocation.spots.items }
     ensures lines { IfOk result (λ a. a.lines ≡ lines) }
     ensures places { IfOk result (λ a. (v : ℕ) → place_at a.places v ≡ place_in chosen.now.constants.items chosen.now.allocation.spots.items v) }
-    ensures parameters { IfOk result (λ a. a.parameters ≡ parameter_places (place_at a.places) (enters_in chosen.now.intervals) 0 parameters) }
+    ensures parameters { IfOk result (λ a. a.parameters ≡ parameter_places (place_at a.places) (enters_in chosen.now.parts) 0 parameters) }
     ensures slots { IfOk result (λ a. a.slots ≡ chosen.now.allocation.slots) }
 {
     let slots = chosen.allocation.slots;
@@ -153,7 +194,7 @@ fn placed(
         chosen.allocation.spots.as_slice(),
         slots,
     )?;
-    let parameters = parameters_of(alloc, &places, &chosen.intervals, parameters)?;
+    let parameters = parameters_of(alloc, &places, &chosen.parts, parameters)?;
     Ok(RegisterPlaces {
         lines,
         places,
@@ -260,30 +301,51 @@ pub fn place_at(places: &PlaceList, register: Register) -> Place
 fn parameters_of(
     alloc: Global,
     places: &PlaceList,
-    intervals: &IntervalList,
+    parts: &PartLists,
     parameters: usize,
 ) -> Result<PlaceList, NoMemory>
-    ensures { IfOk result (λ list. list ≡ parameter_places (place_at places.now) (enters_in intervals.now) 0 parameters) }
+    ensures { IfOk result (λ list. list ≡ parameter_places (place_at places.now) (enters_in parts.now) 0 parameters) }
 {
     let mut list = PlaceList::new(alloc);
     for register in 0..parameters {
-        list.push(parameter_place(places, intervals, register))?;
+        list.push(parameter_place(places, parts, register))?;
     }
     Ok(list)
 }
 
-fn parameter_place(places: &PlaceList, intervals: &IntervalList, register: Register) -> Place
-    ensures { result ≡ (if enters_in intervals.now register then place_at places.now register else no_target) }
+fn parameter_place(places: &PlaceList, parts: &PartLists, register: Register) -> Place
+    ensures { result ≡ (if enters_in parts.now register then place_at places.now register else no_target) }
 {
-    if enters(intervals, register) {
+    if enters(parts, register) {
         place_at(places, register)
     } else {
         Place::AsConstant(0)
     }
 }
 
-fn enters(intervals: &IntervalList, register: Register) -> bool
-    ensures { result ≡ enters_in intervals.now register }
+fn enters(parts: &PartLists, register: Register) -> bool
+    ensures { result ≡ enters_in parts.now register }
+{
+    match parts.get(register) {
+        Some(own) => have_first(own.as_slice()),
+        None => false,
+    }
+}
+
+// Whether some of the parts has the first line.
+fn have_first(own: &[Interval]) -> bool
+    ensures { result ≡ have_line own.now 0 }
+{
+    for at in 0..own.len() {
+        if own[at].from == 0 {
+            return true;
+        }
+    }
+    false
+}
+
+fn begins(intervals: &IntervalList, register: Register) -> bool
+    ensures { result ≡ begins_in intervals.now register }
 {
     match intervals.get(register) {
         Some(Some(interval)) => interval.from == 0,

@@ -11,13 +11,14 @@ use base::NoMemory;
 use mid_code::Register;
 use std::alloc::Global;
 
-/// What registers ask: a slot where a barrier crosses them, for they have to outlast calls; its own value register, if it is a parameter that is alive at the
-/// entry, or a slot where it is passed in none; else any.
+/// What names ask: a slot where a barrier crosses them, for they have to outlast calls; where one is alive at the entry, the value register in which its
+/// owner is passed, or a slot where that is passed in none; else any.
 pub fn wishes_of(
     alloc: Global,
     intervals: &IntervalList,
     crossed: &CrossedList,
     parameters: usize,
+    owners: &[usize],
 ) -> Result<WishList, NoMemory>
     requires { length crossed.now ≡ length intervals.now }
     ensures count { IfOk result (λ wishes. length wishes ≡ length intervals.now) }
@@ -27,7 +28,8 @@ pub fn wishes_of(
     let all = intervals.as_slice();
     let told = crossed.as_slice();
     for register in 0..all.len() {
-        let wish = wish_of(all[register], told[register], register, parameters);
+        let owner = owner_of(owners, register);
+        let wish = wish_of(all[register], told[register], register, owner, parameters);
         wishes.push(wish)?;
     }
     Ok(wishes)
@@ -37,6 +39,7 @@ fn wish_of(
     interval: Option<Interval>,
     is_crossed: bool,
     register: Register,
+    owner: Register,
     parameters: usize,
 ) -> Wish
     ensures crossed { is_crossed ≡ true → result ≡ InSlot }
@@ -49,10 +52,21 @@ fn wish_of(
                 Wish::InSlot
             } else if interval.from == 0 && register < parameters {
                 own_wish(register)
+            } else if interval.from == 0 && owner < parameters {
+                own_wish(owner)
             } else {
                 Wish::Any
             }
         }
+    }
+}
+
+// The register that a name is one of; itself behind the end.
+fn owner_of(owners: &[usize], name: usize) -> usize {
+    if name < owners.len() {
+        owners[name]
+    } else {
+        name
     }
 }
 

@@ -37,7 +37,7 @@ written_not (Some r) v ne = by (r == v) refl
     by true e = absurd (ne (ap Some (eqb-true r v e)))
     by false e = e
 
-below_or_not : (a b : ℕ) → (a < b) ⊎ (b ≤ a)
+pub below_or_not : (a b : ℕ) → (a < b) ⊎ (b ≤ a)
 below_or_not a b = by (nat_lt a b) refl
   where
     by : (c : Bool) → nat_lt a b ≡ c → (a < b) ⊎ (b ≤ a)

@@ -1,5 +1,5 @@
 -- Intervals of all registers.
-use Rattle.std.proofs.Common.{◌≡◌, ℕ, ◌+◌, ◌<◌, ◌≤◌, Bool, true, false, List, [], ◌∷◌, ◌++◌, length, length-append, get_or, Option, None, Some, Result, Ok, Err, sym, subst, ◌∙◌, arith, inl, inr}
+use Rattle.std.proofs.Common.{◌≡◌, ℕ, zero, suc, ◌+◌, ◌<◌, ◌≤◌, Bool, true, false, List, [], ◌∷◌, ◌++◌, length, length-append, get_or, Option, None, Some, Result, Ok, Err, sym, subst, ◌∙◌, arith, inl, inr}
 use Rattle.std.specs.Prelude.{slice_get, slice_index, nat_le, IfOk}
 use Rattle.std.proofs.lemmas.List.{get_or_append_left, get_or_push}
 use borrow.Author.Tests.{leb-true, le-leb}
@@ -9,14 +9,14 @@ use Rattle.back_liveness.specs.declared.lives.Life.{Life}
 use Rattle.back_liveness.specs.declared.step.Interval.{Interval}
 use Rattle.back_liveness.specs.declared.step.Step.{Step}
 use Rattle.back_liveness.specs.Barriers.{TellsLoop}
-use Rattle.back_liveness.specs.Liveness.{is_read, IsLive, IsWithin, IsCovered, Covers}
+use Rattle.back_liveness.specs.Liveness.{is_read, IsLive, have_line, is_held, IsWithin, IsCovered, Covers}
 use Rattle.back_liveness.specs.Ahead.{alive_ahead, alive_around}
 use Rattle.back_liveness.specs.Heads.{AreHeads, AreNested}
-use Rattle.back_liveness.specs.Points.{HasLoop, HaveLives, is_told, HaveCrossings}
+use Rattle.back_liveness.specs.Points.{HasLoop, HaveLives, PartsOf, HaveParts, is_told, HaveCrossings}
 use Rattle.back_liveness.specs.Settled.{Settled}
 use Rattle.back_liveness.proofs.Forwards.{all_told}
 use Rattle.back_liveness.proofs.Lists.{same_or_other}
-use Rattle.back_liveness.proofs.Around.{there_below, around_found, goes_along, law_of_alive}
+use Rattle.back_liveness.proofs.Around.{below_or_not, there_below, around_found, goes_along, law_of_alive}
 
 -- a register that is read nowhere is alive nowhere
 pub none_alive :
@@ -38,18 +38,48 @@ pub loop_there : (i : Option Interval) (line at last : ℕ) → HasLoop i line l
 loop_there None line at last h low up = h
 loop_there (Some i) line at last h low up = (omega (arith, h.0), omega (arith, h.1))
 
+-- lines of parts, by the interval
+part_there :
+    (steps : List Step) (latest : List ℕ) (v : ℕ) (o : Option Interval) (parts : List Interval) (head line : ℕ) → PartsOf steps latest v o parts
+    → HasLoop o head (slice_index latest head) → alive_ahead steps v head ≡ true → head ≤ line → line ≤ slice_index latest head → have_line parts line ≡ true
+part_there steps latest v None parts head line are loop a before back = absurd loop
+part_there steps latest v (Some i) parts head line are loop a before back = are.ahead head line a before back
+
+part_written :
+    (steps : List Step) (latest : List ℕ) (v : ℕ) (o : Option Interval) (parts : List Interval) (line : ℕ) (s : Step) → PartsOf steps latest v o parts
+    → slice_get steps line ≡ Some s → s.written ≡ Some v → IsWithin o (line + 1) → have_line parts (line + 1) ≡ true
+part_written steps latest v None parts line s are e w there = absurd there
+part_written steps latest v (Some i) parts line s are e w there = are.written line s e w there
+
+part_inside :
+    (steps : List Step) (latest : List ℕ) (v : ℕ) (o : Option Interval) (parts : List Interval) (line : ℕ) → PartsOf steps latest v o parts
+    → have_line parts line ≡ true → IsWithin o line
+part_inside steps latest v None parts line are h = absurd (cc (h, are))
+part_inside steps latest v (Some i) parts line are h = are.inside line h
+
+no_part : (parts : List (List Interval)) (v line : ℕ) → length parts ≤ v → is_held parts v line ≡ true → ⊥
+no_part [] v line h k = absurd (cc k)
+no_part (x ∷ parts) zero line h k = absurd (omega (arith, h))
+no_part (x ∷ parts) (suc v) line h k = no_part parts v line (omega (arith, h)) k
+
 -- intervals that have the lives of registers cover lines
 pub lives_cover :
-    (steps : List Step) (barriers : List Barrier) (earliest latest : List ℕ) (found : List (Option Interval)) (crossed : List Bool)
+    (steps : List Step) (barriers : List Barrier) (earliest latest : List ℕ) (found : List (Option Interval)) (parts : List (List Interval)) (crossed : List Bool)
     → AreHeads steps earliest latest → AreNested earliest latest → HaveLives steps latest (length found) found
-    → HaveCrossings steps barriers latest (length found) crossed → Covers steps barriers found crossed
-lives_cover steps barriers earliest latest found crossed heads nested lives crossings = record {
+    → length parts ≡ length found → HaveParts steps latest (length found) found parts
+    → HaveCrossings steps barriers latest (length found) crossed → Covers steps barriers found parts crossed
+lives_cover steps barriers earliest latest found parts crossed heads nested lives count own crossings = record {
   test = alive_around steps latest;
   along = goes_along steps earliest latest heads nested;
   within = λ v line h a.
       let i = around_found steps latest v line a in
-      loop_there (get_or found v None) i.head line (slice_index latest i.head) (lives.ahead v i.head h i.ahead) i.before i.back;
-  written = lives.written;
+      part_there steps latest v (get_or found v None) (get_or parts v []) i.head line (own v h) (lives.ahead v i.head h i.ahead) i.ahead i.before i.back;
+  written = λ v line s h e w. part_written steps latest v (get_or found v None) (get_or parts v []) line s (own v h) e w (lives.written v line s h e w);
+  inside = λ v line h.
+      elim (below_or_not v (length found)) [
+        | inl low ↦ part_inside steps latest v (get_or found v None) (get_or parts v []) line (own v low) h
+        | inr beyond ↦ absurd (no_part parts v line (omega (arith, count, beyond)) h)
+      ];
   crossings = λ v line h a c.
       let i = around_found steps latest v line a in
       crossings v i.head h i.ahead line i.before i.back c;
@@ -57,10 +87,11 @@ lives_cover steps barriers earliest latest found crossed heads nested lives cros
 
 -- and so do intervals that have all lines
 pub all_cover :
-    (steps : List Step) (barriers : List Barrier) (found : List (Option Interval)) (crossed : List Bool)
-    → ((v line : ℕ) → v < length found → line ≤ length steps → IsCovered found v line) → ((v : ℕ) → v < length found → is_told crossed v ≡ true)
-    → Covers steps barriers found crossed
-all_cover steps barriers found crossed all told = record {
+    (steps : List Step) (barriers : List Barrier) (found : List (Option Interval)) (parts : List (List Interval)) (crossed : List Bool)
+    → ((v line : ℕ) → v < length found → line ≤ length steps → is_held parts v line ≡ true)
+    → ((v line : ℕ) → is_held parts v line ≡ true → IsCovered found v line) → ((v : ℕ) → v < length found → is_told crossed v ≡ true)
+    → Covers steps barriers found parts crossed
+all_cover steps barriers found parts crossed all inside told = record {
   test = λ v line. nat_le line (length steps);
   along = record {
     reads = λ v line s e r. le-leb line (length steps) (omega (arith, there_below steps line s e));
@@ -69,21 +100,22 @@ all_cover steps barriers found crossed all told = record {
   };
   within = λ v line h a. all v line h (leb-true line (length steps) a);
   written = λ v line s h e w. all v (line + 1) h (omega (arith, there_below steps line s e));
+  inside = inside;
   crossings = λ v line h a c. told v h;
 }
 
 -- what is covered has all lines at which registers are alive
 pub covers_alive :
-    (steps : List Step) (barriers : List Barrier) (found : List (Option Interval)) (crossed : List Bool) → Covers steps barriers found crossed
-    → (v line : ℕ) → v < length found → IsLive steps v line → IsCovered found v line
-covers_alive steps barriers found crossed c v line h l = c.within v line h (law_of_alive steps c.test c.along v line l)
+    (steps : List Step) (barriers : List Barrier) (found : List (Option Interval)) (parts : List (List Interval)) (crossed : List Bool)
+    → Covers steps barriers found parts crossed → (v line : ℕ) → v < length found → IsLive steps v line → IsCovered found v line
+covers_alive steps barriers found parts crossed c v line h l = c.inside v line (c.within v line h (law_of_alive steps c.test c.along v line l))
 
 pub if_all_alive :
     {E : Type 0} (steps : List Step) (barriers : List Barrier) (registers : ℕ) (r : Result LiveIntervals E) → IfOk r (λ found. length found.intervals ≡ registers)
-    → IfOk r (λ found. Covers steps barriers found.intervals found.crossed)
+    → IfOk r (λ found. Covers steps barriers found.intervals found.parts found.crossed)
     → IfOk r (λ found. (v line : ℕ) → v < registers → IsLive steps v line → IsCovered found.intervals v line)
 if_all_alive steps barriers registers (Ok found) count covers = λ v line h l.
-    covers_alive steps barriers found.intervals found.crossed covers v line (omega (arith, count, h)) l
+    covers_alive steps barriers found.intervals found.parts found.crossed covers v line (omega (arith, count, h)) l
 if_all_alive steps barriers registers (Err e) count covers = tt
 
 -- a list with an item more
@@ -115,6 +147,23 @@ lives_more steps latest n found i count lives ahead written = record {
             (lives.written v line s (omega (arith, h, ne)) e w)
       ];
 }
+
+-- and with its parts
+pub parts_more :
+    (steps : List Step) (latest : List ℕ) (n : ℕ) (found : List (Option Interval)) (i : Option Interval) (parts : List (List Interval)) (own : List Interval)
+    → length found ≡ n → length parts ≡ n → HaveParts steps latest n found parts → PartsOf steps latest n i own
+    → HaveParts steps latest (n + 1) (found ++ i ∷ []) (parts ++ own ∷ [])
+parts_more steps latest n found i parts own count count_parts have are v h =
+    elim (same_or_other v n) [
+      | inl q ↦
+          subst (λ o. PartsOf steps latest v o (get_or (parts ++ own ∷ []) v [])) (sym (get_or_push found i None v (omega (arith, count, q))))
+          (subst (λ ps. PartsOf steps latest v i ps) (sym (get_or_push parts own [] v (omega (arith, count_parts, q))))
+          (subst (λ u. PartsOf steps latest u i own) (sym q) are))
+      | inr ne ↦
+          subst (λ o. PartsOf steps latest v o (get_or (parts ++ own ∷ []) v [])) (sym (get_or_append_left found (i ∷ []) None v (omega (arith, count, h, ne))))
+          (subst (λ ps. PartsOf steps latest v (get_or found v None) ps) (sym (get_or_append_left parts (own ∷ []) [] v (omega (arith, count_parts, h, ne))))
+          (have v (omega (arith, h, ne))))
+    ]
 
 -- and with whether it is crossed
 pub crossings_more :

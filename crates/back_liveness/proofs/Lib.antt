@@ -4,3 +4,4 @@ pub mod Forwards
 pub mod Around
 pub mod Closing
 pub mod Covering
+pub mod Parting

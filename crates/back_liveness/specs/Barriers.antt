@@ -1,14 +1,13 @@
 -- Barriers at lines: which registers have to outlast something there.
 use Rattle.std.specs.Prelude.{◌≡◌, ◌≢◌, ◌≤◌, ◌<◌, ◌⊎◌, ℕ, Bool, true, List, slice_index, slice_index_or}
 use Rattle.back_liveness.specs.declared.barrier.Barrier.{Barrier}
-use Rattle.back_liveness.specs.declared.barrier.Barrier.TheVariants.{Open, Closed, ClosedBut, ClosedFrom, ClosedAmong}
+use Rattle.back_liveness.specs.declared.barrier.Barrier.TheVariants.{Open, Closed, ClosedBut, ClosedAmong}
 
 -- a register that is alive where the barrier is has to outlast it
 abbrev pub Crosses : Barrier → (register : ℕ) → Type 0
 Crosses Open v = ⊥
 Crosses Closed v = Unit {0}
 Crosses (ClosedBut to) v = v ≢ to
-Crosses (ClosedFrom from) v = from ≤ v
 Crosses (ClosedAmong register from to written) v = (v ≢ written) × ((v ≡ register) ⊎ ((from ≤ v) × (v < to)))
 
 -- beyond the end all is closed

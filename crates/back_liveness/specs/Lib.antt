@@ -4,4 +4,5 @@ pub mod Ahead
 pub mod Heads
 pub mod Points
 pub mod Settled
+pub mod Parts
 pub mod Closed

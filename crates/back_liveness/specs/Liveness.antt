@@ -1,5 +1,5 @@
 -- When a register is alive at a line, by paths, and what an interval of lines covers.
-use Rattle.std.specs.Prelude.{◌≡◌, ◌≢◌, ◌≤◌, ◌<◌, ℕ, ◌+◌, ◌==◌, Bool, true, false, List, length, slice_get, slice_index_or, Option, Some, None}
+use Rattle.std.specs.Prelude.{◌≡◌, ◌≢◌, ◌≤◌, ◌<◌, ℕ, ◌+◌, ◌==◌, ◌&&◌, nat_le, Bool, true, false, List, [], length, slice_get, slice_index_or, Option, Some, None}
 use Rattle.std.specs.List.{list_any}
 use Rattle.back_liveness.specs.declared.barrier.Barrier.{Barrier}
 use Rattle.back_liveness.specs.declared.step.Interval.{Interval}
@@ -25,6 +25,16 @@ abbrev pub IsWithin : Option Interval → (line : ℕ) → Type 0
 IsWithin None line = ⊥
 IsWithin (Some i) line = (i.from ≤ line) × (line ≤ i.to)
 
+-- whether an interval has a line, some of these does, and one of a register
+abbrev pub has_line : Interval → (line : ℕ) → Bool
+has_line i line = nat_le i.from line && nat_le line i.to
+
+abbrev pub have_line : List Interval → (line : ℕ) → Bool
+have_line parts line = list_any (λ i. has_line i line) parts
+
+abbrev pub is_held : (parts : List (List Interval)) → (register line : ℕ) → Bool
+is_held parts v line = have_line (slice_index_or parts v []) line
+
 -- a line of the interval of a register
 abbrev pub IsCovered : List (Option Interval) → (register line : ℕ) → Type 0
 IsCovered found v line = IsWithin (slice_index_or found v None) line
@@ -37,14 +47,16 @@ pub record GoesAlong (steps : List Step) (test : (register line : ℕ) → Bool)
       (v line : ℕ) (s : Step) → slice_get steps line ≡ Some s → s.falls ≡ true → s.written ≢ Some v → test v (line + 1) ≡ true → test v line ≡ true
   pub aside : (v line to : ℕ) (s : Step) → slice_get steps line ≡ Some s → goes_aside s to ≡ true → test v to ≡ true → test v line ≡ true
 
--- The intervals of the first registers. They have the lines at which a test that goes along tells that the registers are alive, and
--- each line behind one that writes them; and where a barrier crosses a register at a line at which that test tells it, the register was told to be
--- crossed.
-pub record Covers (steps : List Step) (barriers : List Barrier) (found : List (Option Interval)) (crossed : List Bool) : Type 0 where
+-- The intervals of the first registers, and their parts. These have the lines at which a test that goes along tells that the registers are alive,
+-- and each line behind one that writes them; and where a barrier crosses a register at a line at which that test tells it, the register was
+-- told to be crossed.
+pub record Covers
+    (steps : List Step) (barriers : List Barrier) (found : List (Option Interval)) (parts : List (List Interval)) (crossed : List Bool) : Type 0 where
   pub test : (register line : ℕ) → Bool
   pub along : GoesAlong steps test
-  pub within : (v line : ℕ) → v < length found → test v line ≡ true → IsCovered found v line
-  pub written : (v line : ℕ) (s : Step) → v < length found → slice_get steps line ≡ Some s → s.written ≡ Some v → IsCovered found v (line + 1)
+  pub within : (v line : ℕ) → v < length found → test v line ≡ true → is_held parts v line ≡ true
+  pub written : (v line : ℕ) (s : Step) → v < length found → slice_get steps line ≡ Some s → s.written ≡ Some v → is_held parts v (line + 1) ≡ true
+  pub inside : (v line : ℕ) → is_held parts v line ≡ true → IsCovered found v line
   pub crossings :
       (v line : ℕ) → v < length found → test v line ≡ true → Crosses (barrier_at barriers line) v → slice_index_or crossed v false ≡ true
 

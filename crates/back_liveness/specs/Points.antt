@@ -1,10 +1,10 @@
 -- Intervals that have the points of registers.
-use Rattle.std.specs.Prelude.{◌≡◌, ◌≤◌, ◌<◌, ℕ, ◌+◌, Bool, true, false, List, length, slice_get, slice_index, slice_index_or, Option, Some, None}
+use Rattle.std.specs.Prelude.{◌≡◌, ◌≤◌, ◌<◌, ℕ, ◌+◌, Bool, true, false, List, [], length, slice_get, slice_index, slice_index_or, Option, Some, None}
 use Rattle.back_liveness.specs.declared.barrier.Barrier.{Barrier}
 use Rattle.back_liveness.specs.declared.step.Interval.{Interval}
 use Rattle.back_liveness.specs.declared.step.Step.{Step}
 use Rattle.back_liveness.specs.Barriers.{TellsLoop}
-use Rattle.back_liveness.specs.Liveness.{is_read, IsCovered}
+use Rattle.back_liveness.specs.Liveness.{is_read, have_line, IsWithin, IsCovered}
 use Rattle.back_liveness.specs.Ahead.{alive_ahead}
 
 -- all points of the first lines: lines that read a register, and lines behind those that write it
@@ -33,6 +33,22 @@ pub record HaveLives (steps : List Step) (latest : List ℕ) (registers : ℕ) (
   pub ahead :
       (v line : ℕ) → v < registers → alive_ahead steps v line ≡ true → HasLoop (slice_index_or found v None) line (slice_index latest line)
   pub written : (v line : ℕ) (s : Step) → v < registers → slice_get steps line ≡ Some s → s.written ≡ Some v → IsCovered found v (line + 1)
+
+-- the parts of the interval of a register: they have the lines at which it is alive along paths forwards, with the loops of which these are the heads,
+-- and those lines of it that are behind lines that write the register
+pub record AreParts (steps : List Step) (latest : List ℕ) (v : ℕ) (i : Interval) (parts : List Interval) : Type 0 where
+  pub ahead : (h line : ℕ) → alive_ahead steps v h ≡ true → h ≤ line → line ≤ slice_index latest h → have_line parts line ≡ true
+  pub written : (line : ℕ) (s : Step) → slice_get steps line ≡ Some s → s.written ≡ Some v → IsWithin (Some i) (line + 1) → have_line parts (line + 1) ≡ true
+  pub inside : (line : ℕ) → have_line parts line ≡ true → IsWithin (Some i) line
+
+-- and those of the first registers
+abbrev pub PartsOf : List Step → (latest : List ℕ) → (register : ℕ) → Option Interval → List Interval → Type 0
+PartsOf steps latest v None parts = parts ≡ []
+PartsOf steps latest v (Some i) parts = AreParts steps latest v i parts
+
+abbrev pub HaveParts : (steps : List Step) (latest : List ℕ) (registers : ℕ) (found : List (Option Interval)) (parts : List (List Interval)) → Type 0
+HaveParts steps latest registers found parts =
+    (v : ℕ) → v < registers → PartsOf steps latest v (slice_index_or found v None) (slice_index_or parts v [])
 
 -- the registers that were told to be crossed: each at whose lines a barrier crosses it where it is alive, along paths forwards or in a loop of which
 -- such a line is the head

@@ -7,14 +7,13 @@ ghost use Rattle.back_liveness.specs.Liveness.{IsWithin};
 use crate::step::Interval;
 use mid_code::Register;
 
-/// Which registers have to outlast something if they are alive at a line: none, all, all but the result of a call, all from a number on; or
-/// one register and those from a number up to another, but the one that was written.
+/// Which registers have to outlast something if they are alive at a line: none, all, all but the result of a call; or one register and those
+/// from a number up to another, but the one that was written.
 #[derive(Clone, Copy)]
 pub enum Barrier {
     Open,
     Closed,
     ClosedBut(Register),
-    ClosedFrom(Register),
     ClosedAmong {
         register: Register,
         from: Register,
@@ -45,7 +44,6 @@ fn is_crossed(barrier: Barrier, register: Register) -> bool
         Barrier::Open => false,
         Barrier::Closed => true,
         Barrier::ClosedBut(to) => register != to,
-        Barrier::ClosedFrom(from) => from <= register,
         Barrier::ClosedAmong {
             register: one,
             from,

@@ -7,13 +7,14 @@ ghost use Rattle.back_liveness.specs.Liveness.{is_read, IsLive, IsWithin, IsCove
 ghost use Rattle.back_liveness.specs.Ahead.{alive_ahead};
 ghost use Rattle.back_liveness.specs.Barriers.{TellsLoop};
 ghost use Rattle.back_liveness.specs.Heads.{AreHeads, AreFloors, AreRoofs, AreNested};
-ghost use Rattle.back_liveness.specs.Points.{EndsBy, EndBy, ArePoints, HasLoop, HaveLives};
+ghost use Rattle.back_liveness.specs.Points.{EndsBy, EndBy, ArePoints, HasLoop, HaveLives, PartsOf};
 
 use crate::barrier::Barrier;
 use crate::heads::{Heads, are_nested, heads_of};
-use crate::lives::life_of;
+use crate::lives::{Lived, life_of};
+use crate::parts::in_one;
 use crate::points::points_of;
-use crate::step::{Interval, IntervalList, StepList};
+use crate::step::{Interval, IntervalList, PartList, PartLists, StepList};
 use base::{ItemList, NoMemory};
 use mid_code::Register;
 use std::alloc::Global;
@@ -22,6 +23,7 @@ use std::alloc::Global;
 #[derive(Drop)]
 pub struct LiveIntervals {
     pub intervals: IntervalList,
+    pub parts: PartLists,
     pub crossed: CrossedList,
 }
 
@@ -29,7 +31,7 @@ pub struct LiveIntervals {
 pub type CrossedList = ItemList<bool>;
 
 /// For each of so many registers an interval that has all lines at which the register is alive, and those behind lines that write
-/// it; none for a register that has no such line; and whether a barrier crosses it where it is alive. Where loops are entered elsewhere than at
+/// it; none for a register that has no such line; its parts, which have these lines too; and whether a barrier crosses it where it is alive. Where loops are entered elsewhere than at
 /// their heads, the interval has all lines, and the register is taken for crossed.
 pub fn live_intervals(
     alloc: Global,
@@ -39,8 +41,9 @@ pub fn live_intervals(
 ) -> Result<LiveIntervals, NoMemory>
     requires { length steps.now < 2 ^ 62 }
     ensures count { IfOk result (λ found. length found.intervals ≡ registers) }
+    ensures count_parts { IfOk result (λ found. length found.parts ≡ registers) }
     ensures crossed { IfOk result (λ found. length found.crossed ≡ registers) }
-    ensures covers { IfOk result (λ found. Covers steps.now barriers.now found.intervals found.crossed) }
+    ensures covers { IfOk result (λ found. Covers steps.now barriers.now found.intervals found.parts found.crossed) }
     ensures alive { IfOk result (λ found. (v line : ℕ) → v < registers → IsLive steps.now v line → IsCovered found.intervals v line) }
 {
     let heads = heads_of(alloc, steps)?;
@@ -59,8 +62,9 @@ fn whole(
     registers: usize,
 ) -> Result<LiveIntervals, NoMemory>
     ensures count { IfOk result (λ found. length found.intervals ≡ registers) }
+    ensures count_parts { IfOk result (λ found. length found.parts ≡ registers) }
     ensures crossed { IfOk result (λ found. length found.crossed ≡ registers) }
-    ensures covers { IfOk result (λ found. Covers steps.now barriers.now found.intervals found.crossed) }
+    ensures covers { IfOk result (λ found. Covers steps.now barriers.now found.intervals found.parts found.crossed) }
 {
     let _ = barriers;
     let all = Interval {
@@ -68,12 +72,18 @@ fn whole(
         to: steps.len(),
     };
     let mut intervals = IntervalList::new(alloc);
+    let mut parts = PartLists::new(alloc);
     let mut crossed = CrossedList::new(alloc);
     for register in 0..registers {
         intervals.push(Some(all))?;
+        parts.push(in_one(alloc, all)?)?;
         crossed.push(true)?;
     }
-    Ok(LiveIntervals { intervals, crossed })
+    Ok(LiveIntervals {
+        intervals,
+        parts,
+        crossed,
+    })
 }
 
 // The intervals of all registers, with all lines at which they are alive along paths forwards and the loops of those.
@@ -90,8 +100,9 @@ fn lives(
     requires nested { AreNested heads.now.earliest.items heads.now.latest.items }
     requires room { length steps.now < 2 ^ 62 }
     ensures count { IfOk result (λ found. length found.intervals ≡ registers) }
+    ensures count_parts { IfOk result (λ found. length found.parts ≡ registers) }
     ensures crossed { IfOk result (λ found. length found.crossed ≡ registers) }
-    ensures covers { IfOk result (λ found. Covers steps.now barriers.now found.intervals found.crossed) }
+    ensures covers { IfOk result (λ found. Covers steps.now barriers.now found.intervals found.parts found.crossed) }
 {
     let points = points_of(alloc, steps, registers)?;
     let mut marks = vec![in alloc; false; steps.len() + 1]?;
@@ -123,35 +134,57 @@ fn lives_with(
     requires ends { EndBy (length steps.now) points.now }
     requires marks { length marks.old ≡ length steps.now + 1 }
     ensures count { IfOk result (λ found. length found.intervals ≡ length points.now) }
+    ensures count_parts { IfOk result (λ found. length found.parts ≡ length points.now) }
     ensures crossed { IfOk result (λ found. length found.crossed ≡ length points.now) }
-    ensures covers { IfOk result (λ found. Covers steps.now barriers.now found.intervals found.crossed) }
+    ensures covers { IfOk result (λ found. Covers steps.now barriers.now found.intervals found.parts found.crossed) }
 {
     let mut intervals = IntervalList::new(alloc);
+    let mut parts = PartLists::new(alloc);
     let mut crossed = CrossedList::new(alloc);
     for register in 0..points.len() {
-        let lived = interval_of(steps, heads, barriers, register, points[register], marks);
-        intervals.push(lived.interval)?;
-        crossed.push(lived.crossed)?;
+        let found = interval_of(
+            alloc,
+            steps,
+            heads,
+            barriers,
+            register,
+            points[register],
+            marks,
+        )?;
+        let Found {
+            interval,
+            parts: own,
+            crossed: is_crossed,
+        } = found;
+        intervals.push(interval)?;
+        parts.push(own)?;
+        crossed.push(is_crossed)?;
     }
-    Ok(LiveIntervals { intervals, crossed })
+    Ok(LiveIntervals {
+        intervals,
+        parts,
+        crossed,
+    })
 }
 
-// The interval of a register, if it has one, and whether a barrier crosses it.
-#[derive(Clone, Copy)]
+// The interval of a register, if it has one, its parts, and whether a barrier crosses it.
+#[derive(Drop)]
 pub(crate) struct Found {
     pub interval: Option<Interval>,
+    pub parts: PartList,
     pub crossed: bool,
 }
 
 // The interval of a register with these points.
 fn interval_of(
+    alloc: Global,
     steps: &StepList,
     heads: &Heads,
     barriers: &[Barrier],
     register: Register,
     points: Option<Interval>,
     marks: &mut [bool],
-) -> Found
+) -> Result<Found, NoMemory>
     requires heads { AreHeads steps.now heads.now.earliest.items heads.now.latest.items }
     requires floors { AreFloors heads.now.earliest.items heads.now.floors.items }
     requires roofs { AreRoofs heads.now.latest.items heads.now.roofs.items }
@@ -159,21 +192,31 @@ fn interval_of(
     requires marks { length marks.old ≡ length steps.now + 1 }
     requires points { (line : ℕ) (s : Step) → slice_get steps.now line ≡ Some s → is_read s register ≡ true → IsWithin points line }
     requires ends { EndsBy (length steps.now) points }
-    ensures ahead { (line : ℕ) → alive_ahead steps.now register line ≡ true → HasLoop result.interval line (slice_index heads.now.latest.items line) }
-    ensures points { (line : ℕ) → IsWithin points line → IsWithin result.interval line }
-    ensures crossed { (line : ℕ) → alive_ahead steps.now register line ≡ true → TellsLoop barriers.now heads.now.latest.items register line result.crossed }
+    ensures ahead { IfOk result (λ found. (line : ℕ) → alive_ahead steps.now register line ≡ true
+        → HasLoop found.interval line (slice_index heads.now.latest.items line)) }
+    ensures points { IfOk result (λ found. (line : ℕ) → IsWithin points line → IsWithin found.interval line) }
+    ensures parts { IfOk result (λ found. PartsOf steps.now heads.now.latest.items register found.interval found.parts) }
+    ensures crossed { IfOk result (λ found. (line : ℕ) → alive_ahead steps.now register line ≡ true
+        → TellsLoop barriers.now heads.now.latest.items register line found.crossed) }
 {
     match points {
         Some(points) => {
-            let lived = life_of(steps, heads, barriers, register, points, marks);
-            Found {
-                interval: Some(lived.interval),
-                crossed: lived.crossed,
-            }
+            let lived = life_of(alloc, steps, heads, barriers, register, points, marks)?;
+            let Lived {
+                interval,
+                parts,
+                crossed,
+            } = lived;
+            Ok(Found {
+                interval: Some(interval),
+                parts,
+                crossed,
+            })
         }
-        None => Found {
+        None => Ok(Found {
             interval: None,
+            parts: PartList::new(alloc),
             crossed: false,
-        },
+        }),
     }
 }

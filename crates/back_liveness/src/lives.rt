@@ -1,6 +1,6 @@
 // The interval of one register: its lines are marked backwards, from its last point on.
 
-ghost use Rattle.std.specs.Prelude.{◌≡◌, ◌≤◌, ◌<◌, ◌+◌, ◌-◌, ◌^◌, ◌==◌, ℕ, true, false, length, slice_get, slice_index, Some, IsTrue};
+ghost use Rattle.std.specs.Prelude.{◌≡◌, ◌≤◌, ◌<◌, ◌+◌, ◌-◌, ◌^◌, ◌==◌, ℕ, true, false, length, slice_get, slice_index, Some, IsTrue, IfOk};
 ghost use Rattle.std.specs.List.{list_any};
 ghost use Rattle.back_liveness.specs.declared.step.Step.{Step};
 ghost use Rattle.back_liveness.specs.Liveness.{is_read, goes_aside, IsWithin};
@@ -8,19 +8,27 @@ ghost use Rattle.back_liveness.specs.Ahead.{is_written, alive_ahead};
 ghost use Rattle.back_liveness.specs.Heads.{AreHeads, AreFloors, AreRoofs};
 ghost use Rattle.back_liveness.specs.Barriers.{Crosses, barrier_at, TellsLoop};
 ghost use Rattle.back_liveness.specs.Settled.{is_marked, Settled, CrossingsTold};
+ghost use Rattle.back_liveness.specs.Points.{AreParts};
 ghost use Rattle.back_liveness.specs.Closed.{IsWrittenBefore, IsClosed};
 
 use crate::barrier::{Barrier, crosses};
 use crate::heads::Heads;
-use crate::step::{Interval, StepList};
+use crate::parts::{in_one, parts_of};
+use crate::step::{Interval, PartList, StepList};
+use base::NoMemory;
 use mid_code::Register;
+use std::alloc::Global;
 
-/// The interval of a register, and whether a barrier crosses it at a line at which it is alive.
-#[derive(Clone, Copy)]
+/// The interval of a register, its parts, and whether a barrier crosses it at a line at which it is alive.
+#[derive(Drop)]
 pub struct Lived {
     pub interval: Interval,
+    pub parts: PartList,
     pub crossed: bool,
 }
+
+// Of an interval that is this long or shorter the parts are told, though it is known that it is the right one.
+const SHORT: usize = 64;
 
 /// What is known of a register: the first line that is still to be looked at, the first and the last line of its interval, and whether a
 /// barrier crosses it.
@@ -33,15 +41,17 @@ pub struct Life {
 }
 
 /// The interval of a register whose points are in one, with all lines at which it is alive along paths forwards, and from heads of
-/// loops at which it is alive up to the last lines from which one comes back to them; and whether a barrier at one of these lines crosses it.
+/// loops at which it is alive up to the last lines from which one comes back to them; its parts, which have these lines and those behind lines
+/// that write the register; and whether a barrier at one of these lines crosses it.
 pub fn life_of(
+    alloc: Global,
     steps: &StepList,
     heads: &Heads,
     barriers: &[Barrier],
     register: Register,
     points: Interval,
     marks: &mut [bool],
-) -> Lived
+) -> Result<Lived, NoMemory>
     requires heads { AreHeads steps.now heads.now.earliest.items heads.now.latest.items }
     requires floors { AreFloors heads.now.earliest.items heads.now.floors.items }
     requires roofs { AreRoofs heads.now.latest.items heads.now.roofs.items }
@@ -49,10 +59,12 @@ pub fn life_of(
     requires marks { length marks.old ≡ length steps.now + 1 }
     requires points { (line : ℕ) (s : Step) → slice_get steps.now line ≡ Some s → is_read s register ≡ true → IsWithin (Some points) line }
     requires ends { points.to ≤ length steps.now }
-    ensures ahead { (line : ℕ) → alive_ahead steps.now register line ≡ true
-        → (result.interval.from ≤ line) × (slice_index heads.now.latest.items line ≤ result.interval.to) }
-    ensures points { (line : ℕ) → IsWithin (Some points) line → IsWithin (Some result.interval) line }
-    ensures crossed { (line : ℕ) → alive_ahead steps.now register line ≡ true → TellsLoop barriers.now heads.now.latest.items register line result.crossed }
+    ensures ahead { IfOk result (λ found. (line : ℕ) → alive_ahead steps.now register line ≡ true
+        → (found.interval.from ≤ line) × (slice_index heads.now.latest.items line ≤ found.interval.to)) }
+    ensures points { IfOk result (λ found. (line : ℕ) → IsWithin (Some points) line → IsWithin (Some found.interval) line) }
+    ensures parts { IfOk result (λ found. AreParts steps.now heads.now.latest.items register found.interval found.parts) }
+    ensures crossed { IfOk result (λ found. (line : ℕ) → alive_ahead steps.now register line ≡ true
+        → TellsLoop barriers.now heads.now.latest.items register line found.crossed) }
 {
     if is_closed(
         steps,
@@ -61,11 +73,12 @@ pub fn life_of(
         register,
         points,
     ) {
-        if !crosses(points, barriers, register) {
-            return Lived {
+        if points.from + SHORT < points.to && !crosses(points, barriers, register) {
+            return Ok(Lived {
                 interval: points,
+                parts: in_one(alloc, points)?,
                 crossed: false,
-            };
+            });
         }
     }
     let mut life = Life {
@@ -89,13 +102,16 @@ pub fn life_of(
             line,
         );
     }
-    Lived {
-        interval: Interval {
-            from: life.from,
-            to: life.to,
-        },
+    let interval = Interval {
+        from: life.from,
+        to: life.to,
+    };
+    let latest = heads.latest.as_slice();
+    Ok(Lived {
+        interval,
+        parts: parts_of(alloc, steps, latest, register, marks, points.to, interval)?,
         crossed: life.crossed,
-    }
+    })
 }
 
 // Whether an interval begins behind a line that writes the register, or at the first line, and no line goes into it from before it, nor

@@ -29,3 +29,8 @@ pub struct Interval {
 
 /// Intervals, by the numbers of registers; none where a register has no place in lines.
 pub type IntervalList = ItemList<Option<Interval>>;
+
+/// The parts of an interval, and those of registers by their numbers.
+pub type PartList = ItemList<Interval>;
+
+pub type PartLists = ItemList<PartList>;

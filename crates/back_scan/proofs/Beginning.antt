@@ -12,16 +12,17 @@ use Rattle.back_scan.specs.declared.spot.Wish.{Wish}
 use Rattle.back_scan.specs.Spots.{spot_of, interval_of, StandWell}
 use Rattle.back_scan.specs.Entries.{AreEntries, begins}
 use Rattle.back_scan.specs.Scanned.{IsTaken, taken_of, Scanned}
+use Rattle.back_scan.specs.declared.windows.Window.{Window}
 use Rattle.back_scan.specs.Chosen.{GoesOn}
 use Rattle.back_scan.specs.Run.{HasScanned}
 use Rattle.back_scan.proofs.Steps.{later_line}
 
 -- where nothing has a spot and nothing is taken
 pub none_scanned :
-    (intervals : List (Option Interval)) (wishes : List Wish) (entries : List Entry) (spots : List (Option Spot)) (taken : List (Option ℕ))
-    → length spots ≡ length intervals → length taken ≡ 14 → ((v : ℕ) → spot_of spots v ≡ None) → ((q : ℕ) → taken_of taken q ≡ None)
-    → HasScanned intervals wishes entries 0 spots taken 0
-none_scanned intervals wishes entries spots taken count places empty free = record {
+    (intervals : List (Option Interval)) (parts : List (List Interval)) (wishes : List Wish) (entries : List Entry) (spots : List (Option Spot)) (taken : List (Option ℕ)) (windows : List Window)
+    → length spots ≡ length intervals → length taken ≡ 14 → ((v : ℕ) → spot_of spots v ≡ None) → ((q : ℕ) → taken_of taken q ≡ None) → windows ≡ []
+    → HasScanned intervals parts wishes entries 0 spots taken windows 0
+none_scanned intervals parts wishes entries spots taken windows count places empty free none = record {
   scanned = record {
     known = λ v p h. absurd (cc (h, empty v));
     taken_up = λ v p x h c. absurd (cc (h, empty v));
@@ -30,6 +31,7 @@ none_scanned intervals wishes entries spots taken count places empty free = reco
     allowed = λ v p h. absurd (cc (h, empty v));
     full = λ v k i h e. absurd (cc (h, empty v));
   };
+  clear = λ r x v o h held. absurd (cc (h, empty v));
   count = count;
   room = omega (arith, places);
   few = omega (arith, places);
@@ -44,10 +46,10 @@ interval_below (x ∷ intervals) (suc v) i h = let more = interval_below interva
 
 -- where all have their spots
 pub all_scanned :
-    (intervals : List (Option Interval)) (wishes : List Wish) (entries : List Entry) (spots : List (Option Spot)) (taken : List (Option ℕ)) (line : ℕ)
-    → AreEntries intervals (length intervals) entries → HasScanned intervals wishes entries (length entries) spots taken line
-    → StandWell intervals wishes spots (length taken - 14)
-all_scanned intervals wishes entries spots taken line are s = record {
+    (intervals : List (Option Interval)) (parts : List (List Interval)) (wishes : List Wish) (entries : List Entry) (spots : List (Option Spot)) (taken : List (Option ℕ)) (windows : List Window) (line : ℕ)
+    → AreEntries intervals (length intervals) entries → HasScanned intervals parts wishes entries (length entries) spots taken windows line
+    → StandWell intervals parts wishes spots (length taken - 14)
+all_scanned intervals parts wishes entries spots taken windows line are s = record {
   count = s.count;
   all = λ v i h.
       let e : Entry = record { register = v; interval = i } in
@@ -67,13 +69,14 @@ entry_below (x ∷ entries) (suc j) e h = let more = entry_below entries j e h i
 
 -- one entry more
 pub entry_more :
-    (intervals : List (Option Interval)) (wishes : List Wish) (entries : List Entry) (at : ℕ) (spots new : List (Option Spot))
-    (taken more : List (Option ℕ)) (line : ℕ) (d : Entry) → at < length entries → IsNonDecreasingBy begins entries
-    → HasScanned intervals wishes entries at spots taken line
-    → GoesOn intervals wishes (get_or entries at d).register (get_or entries at d).interval.from spots new taken more
-    → HasScanned intervals wishes entries (at + 1) new more (get_or entries at d).interval.from
-entry_more intervals wishes entries at spots new taken more line d below sorted s g = record {
+    (intervals : List (Option Interval)) (parts : List (List Interval)) (wishes : List Wish) (entries : List Entry) (at : ℕ) (spots new : List (Option Spot))
+    (taken more : List (Option ℕ)) (windows windows' : List Window) (line : ℕ) (d : Entry) → at < length entries → IsNonDecreasingBy begins entries
+    → HasScanned intervals parts wishes entries at spots taken windows line
+    → GoesOn intervals parts wishes (get_or entries at d).register (get_or entries at d).interval.from spots new taken more windows'
+    → HasScanned intervals parts wishes entries (at + 1) new more windows' (get_or entries at d).interval.from
+entry_more intervals parts wishes entries at spots new taken more windows windows' line d below sorted s g = record {
   scanned = g.scanned;
+  clear = g.clear;
   count = g.count ∙ s.count;
   room = (let a = s.room in let b = g.room in omega (arith, a, b));
   few = (let a = s.few in let b = g.few in omega (arith, a, b));
@@ -89,9 +92,9 @@ entry_more intervals wishes entries at spots new taken more line d below sorted 
 }
 
 pub entry_later :
-    (intervals : List (Option Interval)) (wishes : List Wish) (entries : List Entry) (at : ℕ) (spots : List (Option Spot)) (taken : List (Option ℕ))
-    (line : ℕ) (d : Entry) → at < length entries → HasScanned intervals wishes entries at spots taken line
-    → Scanned intervals wishes spots taken (get_or entries at d).interval.from
-entry_later intervals wishes entries at spots taken line d below s =
-    later_line intervals wishes spots taken line (get_or entries at d).interval.from s.scanned
+    (intervals : List (Option Interval)) (parts : List (List Interval)) (wishes : List Wish) (entries : List Entry) (at : ℕ) (spots : List (Option Spot)) (taken : List (Option ℕ))
+    (windows : List Window) (line : ℕ) (d : Entry) → at < length entries → HasScanned intervals parts wishes entries at spots taken windows line
+    → Scanned intervals parts wishes spots taken (get_or entries at d).interval.from
+entry_later intervals parts wishes entries at spots taken windows line d below s =
+    later_line intervals parts wishes spots taken line (get_or entries at d).interval.from s.scanned
     (s.later at (get_or entries at d) (omega arith) (slice_get-get_or entries at d below))

@@ -1,10 +1,10 @@
 -- One register more has its spot, and the scan comes to a later line.
-use Rattle.std.proofs.Common.{◌≡◌, ◌≢◌, ℕ, ◌<◌, ◌≤◌, Bool, true, false, List, length, get_or, set, Option, None, Some, refl, sym, ap, subst, ◌∙◌, arith, inl, inr, get_or-set_other, get_or-set_same}
+use Rattle.std.proofs.Common.{◌≡◌, ◌≢◌, ℕ, ◌<◌, ◌≤◌, Bool, true, false, List, [], length, get_or, set, Option, None, Some, refl, sym, ap, subst, ◌∙◌, arith, inl, inr, get_or-set_other, get_or-set_same}
 use Rattle.std.specs.Prelude.{◌⊎◌, nat_le}
 use Rattle.std.proofs.Math.ListN.{length-set}
 use borrow.Author.Tests.{leb-true, leb-false}
 use Rattle.back_liveness.specs.declared.step.Interval.{Interval}
-use Rattle.back_liveness.specs.Liveness.{IsWithin, IsCovered}
+use Rattle.back_liveness.specs.Liveness.{is_held, IsWithin, IsCovered}
 use Rattle.back_liveness.proofs.Lists.{same_or_other}
 use Rattle.back_scan.specs.declared.spot.Spot.{Spot}
 use Rattle.back_scan.specs.declared.spot.Spot.TheVariants.{Held, Slot}
@@ -12,7 +12,9 @@ use Rattle.back_scan.specs.declared.spot.Wish.{Wish}
 use Rattle.back_scan.specs.declared.spot.Wish.TheVariants.{Any, Only, InSlot}
 use Rattle.back_scan.specs.Spots.{Allows, IsAllowed, spot_of, interval_of, HasHolder, NoneIsLeft}
 use Rattle.back_scan.specs.Scanned.{rank, IsTaken, IsFree, IsLater, taken_of, Scanned}
-use Rattle.back_scan.specs.Chosen.{IsChosen, IsSame, GoesOn}
+use Rattle.back_scan.specs.declared.windows.Window.{Window}
+use Rattle.back_scan.specs.Chosen.{IsChosen, IsSame, IsSpotFor, GoesOn}
+use Rattle.back_scan.specs.Windows.{AreOpen, IsOpenFor, AreKept}
 
 -- a place that is free from a line on is not taken there or later
 free_not_taken : (t : Option ℕ) (line x : ℕ) → IsFree t line → line ≤ x → IsTaken t x → ⊥
@@ -36,9 +38,9 @@ held_of (Slot k) r e h = absurd (omega (arith, e, h))
 
 -- the scan at a later line
 pub later_line :
-    (intervals : List (Option Interval)) (wishes : List Wish) (spots : List (Option Spot)) (taken : List (Option ℕ)) (line next : ℕ)
-    → Scanned intervals wishes spots taken line → line ≤ next → Scanned intervals wishes spots taken next
-later_line intervals wishes spots taken line next s h = record {
+    (intervals : List (Option Interval)) (parts : List (List Interval)) (wishes : List Wish) (spots : List (Option Spot)) (taken : List (Option ℕ)) (line next : ℕ)
+    → Scanned intervals parts wishes spots taken line → line ≤ next → Scanned intervals parts wishes spots taken next
+later_line intervals parts wishes spots taken line next s h = record {
   known = s.known;
   taken_up = s.taken_up;
   apart = s.apart;
@@ -49,9 +51,9 @@ later_line intervals wishes spots taken line next s h = record {
 
 -- and with a place more that nothing is in
 pub same_taken :
-    (intervals : List (Option Interval)) (wishes : List Wish) (spots : List (Option Spot)) (taken more : List (Option ℕ)) (line : ℕ)
-    → Scanned intervals wishes spots taken line → IsSame taken more → Scanned intervals wishes spots more line
-same_taken intervals wishes spots taken more line s same = record {
+    (intervals : List (Option Interval)) (parts : List (List Interval)) (wishes : List Wish) (spots : List (Option Spot)) (taken more : List (Option ℕ)) (line : ℕ)
+    → Scanned intervals parts wishes spots taken line → IsSame taken more → Scanned intervals parts wishes spots more line
+same_taken intervals parts wishes spots taken more line s same = record {
   known = λ v p h. (let k = s.known v p h in omega (arith, k, same.more));
   taken_up = λ v p x h c. subst (λ t. IsTaken t x) (sym (same.same (rank p))) (s.taken_up v p x h c);
   apart = s.apart;
@@ -60,9 +62,57 @@ same_taken intervals wishes spots taken more line s same = record {
   full = s.full;
 }
 
-module _ (intervals : List (Option Interval)) (wishes : List Wish) (spots : List (Option Spot)) (taken : List (Option ℕ)) (v last : ℕ) (i : Interval)
-    (p : Spot) (s : Scanned intervals wishes spots taken i.from) (entry : interval_of intervals v ≡ Some i) (there : v < length spots)
-    (unplaced : spot_of spots v ≡ None) (c : IsChosen (get_or wishes v InSlot) taken i.from p) (l : IsLater (taken_of taken (rank p)) i.to last) where
+-- a spot for a register: no other is held in it where the register is; a slot only where all that may be had is taken at the line
+pub record IsFound
+    (intervals : List (Option Interval)) (parts : List (List Interval)) (spots : List (Option Spot)) (wish : Wish) (taken : List (Option ℕ)) (v line : ℕ) (p : Spot)
+    : Type 0 where
+  pub known : rank p < length taken
+  pub alone : (u x : ℕ) → spot_of spots u ≡ Some p → is_held parts u x ≡ true → is_held parts v x ≡ true → ⊥
+  pub allowed : IsAllowed wish p
+  pub full : (k r : ℕ) → p ≡ Slot k → Allows wish r → IsTaken (taken_of taken r) line
+
+abbrev Inside : List (Option Interval) → (parts : List (List Interval)) → Type 0
+Inside intervals parts = (u x : ℕ) → is_held parts u x ≡ true → IsCovered intervals u x
+
+cover_from : (intervals : List (Option Interval)) (v x : ℕ) (i : Interval) → interval_of intervals v ≡ Some i → IsCovered intervals v x → i.from ≤ x
+cover_from intervals v x i e h = (subst (λ o. IsWithin o x) e h).0
+
+-- where all else has ended, and where there are windows
+found_ended :
+    (intervals : List (Option Interval)) (parts : List (List Interval)) (wishes : List Wish) (spots : List (Option Spot)) (wish : Wish) (taken : List (Option ℕ)) (v : ℕ)
+    (i : Interval) (p : Spot) → Scanned intervals parts wishes spots taken i.from → Inside intervals parts → interval_of intervals v ≡ Some i
+    → IsChosen wish taken i.from p → IsFound intervals parts spots wish taken v i.from p
+found_ended intervals parts wishes spots wish taken v i p s inside entry c = record {
+  known = c.known;
+  alone = λ u x h a b.
+      free_not_taken (taken_of taken (rank p)) i.from x c.free (cover_from intervals v x i entry (inside v x b)) (s.taken_up u p x h (inside u x a));
+  allowed = c.allowed;
+  full = c.full;
+}
+
+found_open :
+    (intervals : List (Option Interval)) (parts : List (List Interval)) (spots : List (Option Spot)) (wish : Wish) (taken : List (Option ℕ)) (windows : List Window)
+    (v line : ℕ) (p : Spot) → 14 ≤ length taken → AreOpen parts spots windows → IsOpenFor wish windows (get_or parts v []) p
+    → IsFound intervals parts spots wish taken v line p
+found_open intervals parts spots wish taken windows v line (Held r) room clear fits = record {
+  known = (let low = allowed_below wish r fits.0 in omega (arith, low, room));
+  alone = λ u x h a b. clear r x u (fits.1 x b) h a;
+  allowed = fits.0;
+  full = λ k q h a. absurd (cc h);
+}
+found_open intervals parts spots wish taken windows v line (Slot k) room clear fits = absurd fits
+
+pub found_by :
+    (intervals : List (Option Interval)) (parts : List (List Interval)) (wishes : List Wish) (spots : List (Option Spot)) (wish : Wish) (taken : List (Option ℕ))
+    (windows : List Window) (v : ℕ) (i : Interval) (ended : Bool) (p : Spot) → Scanned intervals parts wishes spots taken i.from → Inside intervals parts
+    → interval_of intervals v ≡ Some i → 14 ≤ length taken → AreOpen parts spots windows → IsSpotFor wish taken windows (get_or parts v []) i.from ended p
+    → IsFound intervals parts spots wish taken v i.from p
+found_by intervals parts wishes spots wish taken windows v i true p s inside entry room clear c = found_ended intervals parts wishes spots wish taken v i p s inside entry c
+found_by intervals parts wishes spots wish taken windows v i false p s inside entry room clear c = found_open intervals parts spots wish taken windows v i.from p room clear c
+
+module _ (intervals : List (Option Interval)) (parts : List (List Interval)) (wishes : List Wish) (spots : List (Option Spot)) (taken : List (Option ℕ)) (v last : ℕ) (i : Interval)
+    (p : Spot) (s : Scanned intervals parts wishes spots taken i.from) (entry : interval_of intervals v ≡ Some i) (there : v < length spots)
+    (unplaced : spot_of spots v ≡ None) (c : IsFound intervals parts spots (get_or wishes v InSlot) taken v i.from p) (l : IsLater (taken_of taken (rank p)) i.to last) where
   abbrev new : List (Option Spot)
   new = set spots v (Some p)
 
@@ -126,29 +176,28 @@ module _ (intervals : List (Option Interval)) (wishes : List Wish) (spots : List
         | inr ne ↦ still_taken (rank q) x (s.taken_up u q x (old_spot u q ne h) k)
       ]
 
-  -- no other register stands where the new one does
-  not_both : (u : ℕ) (q : Spot) (x : ℕ) → spot_of spots u ≡ Some q → q ≡ p → IsCovered intervals u x → i.from ≤ x → ⊥
-  not_both u q x h e k low =
-      free_not_taken (taken_of taken (rank p)) i.from x c.free low (subst (λ n. IsTaken (taken_of taken (rank n)) x) e (s.taken_up u q x h k))
+  -- no other register is held where the new one is
+  not_both : (u : ℕ) (q : Spot) (x : ℕ) → spot_of spots u ≡ Some q → q ≡ p → is_held parts u x ≡ true → is_held parts v x ≡ true → ⊥
+  not_both u q x h e k own = c.alone u x (h ∙ ap Some e) k own
 
   apart :
-      (a b : ℕ) (q : Spot) (x : ℕ) → spot_of new a ≡ Some q → spot_of new b ≡ Some q → IsCovered intervals a x → IsCovered intervals b x → a ≡ b
+      (a b : ℕ) (q : Spot) (x : ℕ) → spot_of new a ≡ Some q → spot_of new b ≡ Some q → is_held parts a x ≡ true → is_held parts b x ≡ true → a ≡ b
   apart a b q x h k first second =
       elim (same_or_other a v) [
         | inl e ↦
             elim (same_or_other b v) [
               | inl f ↦ e ∙ sym f
-              | inr ne ↦ absurd (not_both b q x (old_spot b q ne k) (own_spot a q e h) second (own_cover a x e first).0)
+              | inr ne ↦ absurd (not_both b q x (old_spot b q ne k) (own_spot a q e h) second (subst (λ n. is_held parts n x ≡ true) e first))
             ]
         | inr ne ↦
             elim (same_or_other b v) [
-              | inl f ↦ absurd (not_both a q x (old_spot a q ne h) (own_spot b q f k) first (own_cover b x f second).0)
+              | inl f ↦ absurd (not_both a q x (old_spot a q ne h) (own_spot b q f k) first (subst (λ n. is_held parts n x ≡ true) f second))
               | inr nf ↦ s.apart a b q x (old_spot a q ne h) (old_spot b q nf k) first second
             ]
       ]
 
   -- holders hold on
-  holds : (x r : ℕ) → HasHolder intervals spots x r → HasHolder intervals new x r
+  holds : (x r : ℕ) → HasHolder intervals parts spots x r → HasHolder intervals parts new x r
   holds x r h = record { holder = h.holder; stands = kept h.holder (Held r) h.stands; covers = h.covers }
 
   below_or_above : (a b : ℕ) → (a ≤ b) ⊎ (b < a)
@@ -158,7 +207,7 @@ module _ (intervals : List (Option Interval)) (wishes : List Wish) (spots : List
       by true e = inl (leb-true a b e)
       by false e = inr (leb-false a b e)
 
-  held : (r x : ℕ) → r < 14 → i.from ≤ x → IsTaken (taken_of more r) x → HasHolder intervals new x r
+  held : (r x : ℕ) → r < 14 → i.from ≤ x → IsTaken (taken_of more r) x → HasHolder intervals parts new x r
   held r x low above t =
       elim (same_or_other r (rank p)) [
         | inl e ↦
@@ -170,7 +219,7 @@ module _ (intervals : List (Option Interval)) (wishes : List Wish) (spots : List
                     stands = new_same ∙ ap Some (held_of p r (sym e) low);
                     covers = subst (λ o. IsWithin o x) (sym entry) (above, within);
                   }
-              | inr beyond ↦ absurd (free_not_taken (taken_of taken (rank p)) i.from x c.free above (l.only x last_is beyond))
+              | inr beyond ↦ holds x r (s.held r x low above (subst (λ n. IsTaken (taken_of taken n) x) (sym e) (l.only x last_is beyond)))
             ])
         | inr ne ↦ holds x r (s.held r x low above (subst (λ o. IsTaken o x) (more_other r ne) t))
       ]
@@ -189,41 +238,71 @@ module _ (intervals : List (Option Interval)) (wishes : List Wish) (spots : List
 
   full :
       (u k : ℕ) (j : Interval) → spot_of new u ≡ Some (Slot k) → interval_of intervals u ≡ Some j
-      → NoneIsLeft intervals new (get_or wishes u InSlot) j.from
+      → NoneIsLeft intervals parts new (get_or wishes u InSlot) j.from
   full u k j h is r allows =
       elim (same_or_other u v) [
         | inl e ↦
             (let a = subst (λ n. Allows (get_or wishes n InSlot) r) e allows in
             let t = c.full k r (sym (own_spot u (Slot k) e h)) a in
-            subst (λ x. HasHolder intervals new x r) (same_interval j u e is)
+            subst (λ x. HasHolder intervals parts new x r) (same_interval j u e is)
             (holds i.from r (s.held r i.from (allowed_below (get_or wishes v InSlot) r a) (omega arith) t)))
         | inr ne ↦ holds j.from r (s.full u k j (old_spot u (Slot k) ne h) is r allows)
       ]
 
-  pub one_more : Scanned intervals wishes new more i.from
+  pub one_more : Scanned intervals parts wishes new more i.from
   one_more = record { known = known; taken_up = taken_up; apart = apart; held = held; allowed = allowed; full = full }
 
   pub placed : spot_of new v ≡ Some p
   placed = new_same
 
--- the scan goes on where a register stands in the spot that is chosen
+-- windows are clear when the register has come to its spot
+still_open :
+    (intervals : List (Option Interval)) (parts : List (List Interval)) (wishes : List Wish) (spots : List (Option Spot)) (taken : List (Option ℕ)) (windows windows' : List Window)
+    (v : ℕ) (i : Interval) (ended : Bool) (p : Spot) (wish : Wish) → Scanned intervals parts wishes spots taken i.from → Inside intervals parts → v < length spots
+    → AreOpen parts spots windows → IsSpotFor wish taken windows (get_or parts v []) i.from ended p → AreKept windows windows' p ended (get_or parts v []) i.from
+    → AreOpen parts (set spots v (Some p)) windows'
+still_open intervals parts wishes spots taken windows windows' v i ended p wish s inside there clear c kept r x u o h held =
+    elim (same_or_other u v) [
+      | inl e ↦
+          kept.apart r x o (same_spot p (Held r) (sym (get_or-set_same spots v (Some p) None there) ∙ (ap (spot_of (set spots v (Some p))) (sym e) ∙ h)))
+          (subst (λ n. is_held parts n x ≡ true) e held)
+      | inr ne ↦
+          (let old : spot_of spots u ≡ Some (Held r) = sym (get_or-set_other spots v u (Some p) None ne) ∙ h in
+          elim (kept.were r x o) [
+            | inl was ↦ clear r x u was old held
+            | inr new ↦ ended_before ended refl c old new.0 new.1 new.2
+          ])
+    ]
+  where
+    ended_before :
+        (b : Bool) → ended ≡ b → IsSpotFor wish taken windows (get_or parts v []) i.from b p → spot_of spots u ≡ Some (Held r) → ended ≡ true → p ≡ Held r
+        → i.from ≤ x → ⊥
+    ended_before true e c old is same low =
+        free_not_taken (taken_of taken (rank p)) i.from x c.free low
+        (subst (λ q. IsTaken (taken_of taken (rank q)) x) (sym same) (s.taken_up u (Held r) x old (inside u x held)))
+    ended_before false e c old is same low = absurd (cc (e, is))
+
+-- the scan goes on where a register stands in the spot that is found
 pub goes_on :
-    (intervals : List (Option Interval)) (wishes : List Wish) (spots spots' : List (Option Spot)) (taken more taken' : List (Option ℕ)) (v : ℕ)
-    (i : Interval) (wish : Wish) (p : Spot) → Scanned intervals wishes spots taken i.from → interval_of intervals v ≡ Some i → v < length spots
-    → spot_of spots v ≡ None → wish ≡ get_or wishes v InSlot → IsChosen wish more i.from p → IsSame taken more → spots' ≡ set spots v (Some p)
-    → (last : ℕ) × (taken' ≡ set more (rank p) (Some last)) × IsLater (taken_of more (rank p)) i.to last
-    → GoesOn intervals wishes v i.from spots spots' taken taken'
-goes_on intervals wishes spots spots' taken more taken' v i wish p s entry there unplaced asks c same e l =
-    let s1 = same_taken intervals wishes spots taken more i.from s same in
-    let c1 = subst (λ w. IsChosen w more i.from p) asks c in
+    (intervals : List (Option Interval)) (parts : List (List Interval)) (wishes : List Wish) (spots spots' : List (Option Spot)) (taken more taken' : List (Option ℕ))
+    (windows windows' : List Window) (v : ℕ) (i : Interval) (wish : Wish) (ended : Bool) (p : Spot) → Scanned intervals parts wishes spots taken i.from → Inside intervals parts
+    → 14 ≤ length taken → AreOpen parts spots windows → interval_of intervals v ≡ Some i → v < length spots
+    → spot_of spots v ≡ None → wish ≡ get_or wishes v InSlot → IsSpotFor wish more windows (get_or parts v []) i.from ended p → IsSame taken more
+    → spots' ≡ set spots v (Some p) → (last : ℕ) × (taken' ≡ set more (rank p) (Some last)) × IsLater (taken_of more (rank p)) i.to last
+    → AreKept windows windows' p ended (get_or parts v []) i.from → GoesOn intervals parts wishes v i.from spots spots' taken taken' windows'
+goes_on intervals parts wishes spots spots' taken more taken' windows windows' v i wish ended p s inside room clear entry there unplaced asks c same e l kept_windows =
+    let s1 = same_taken intervals parts wishes spots taken more i.from s same in
+    let c0 = found_by intervals parts wishes spots wish more windows v i ended p s1 inside entry (omega (arith, room, same.more)) clear c in
+    let c1 = subst (λ w. IsFound intervals parts spots w more v i.from p) asks c0 in
     let e1 = length-set spots v (Some p) in
     let e2 : length taken' ≡ length more = ap length l.1 ∙ length-set more (rank p) (Some l.0) in
-    let scanned = one_more intervals wishes spots more v l.0 i p s1 entry there unplaced c1 l.2 in
+    let scanned = one_more intervals parts wishes spots more v l.0 i p s1 entry there unplaced c1 l.2 in
     record {
-      scanned = subst (λ x. Scanned intervals wishes x taken' i.from) (sym e) (subst (λ x. Scanned intervals wishes (set spots v (Some p)) x i.from) (sym l.1) scanned);
+      scanned = subst (λ x. Scanned intervals parts wishes x taken' i.from) (sym e) (subst (λ x. Scanned intervals parts wishes (set spots v (Some p)) x i.from) (sym l.1) scanned);
+      clear = subst (λ x. AreOpen parts x windows') (sym e) (still_open intervals parts wishes spots more windows windows' v i ended p wish s1 inside there clear c kept_windows);
       count = ap length e ∙ e1;
-      placed = (p, subst (λ x. spot_of x v ≡ Some p) (sym e) (placed intervals wishes spots more v l.0 i p s1 entry there unplaced c1 l.2));
-      kept = λ u q h. subst (λ x. spot_of x u ≡ Some q) (sym e) (kept intervals wishes spots more v l.0 i p s1 entry there unplaced c1 l.2 u q h);
+      placed = (p, subst (λ x. spot_of x v ≡ Some p) (sym e) (placed intervals parts wishes spots more v l.0 i p s1 entry there unplaced c1 l.2));
+      kept = λ u q h. subst (λ x. spot_of x u ≡ Some q) (sym e) (kept intervals parts wishes spots more v l.0 i p s1 entry there unplaced c1 l.2 u q h);
       room = omega (arith, e2, same.more);
       few = omega (arith, e2, same.few);
     }

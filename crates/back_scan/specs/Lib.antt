@@ -1,4 +1,5 @@
 pub mod Spots
+pub mod Windows
 pub mod Entries
 pub mod Scanned
 pub mod Chosen

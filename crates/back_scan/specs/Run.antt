@@ -7,12 +7,15 @@ use Rattle.back_scan.specs.declared.spot.Wish.{Wish}
 use Rattle.back_scan.specs.Spots.{spot_of}
 use Rattle.back_scan.specs.Entries.{begins}
 use Rattle.back_scan.specs.Scanned.{Scanned}
+use Rattle.back_scan.specs.declared.windows.Window.{Window}
+use Rattle.back_scan.specs.Windows.{AreOpen}
 
 -- the registers of so many entries have their spots, and the entries behind them begin at a line or later
 pub record HasScanned
-    (intervals : List (Option Interval)) (wishes : List Wish) (entries : List Entry) (at : ℕ) (spots : List (Option Spot)) (taken : List (Option ℕ))
-    (line : ℕ) : Type 0 where
-  pub scanned : Scanned intervals wishes spots taken line
+    (intervals : List (Option Interval)) (parts : List (List Interval)) (wishes : List Wish) (entries : List Entry) (at : ℕ) (spots : List (Option Spot))
+    (taken : List (Option ℕ)) (windows : List Window) (line : ℕ) : Type 0 where
+  pub scanned : Scanned intervals parts wishes spots taken line
+  pub clear : AreOpen parts spots windows
   pub count : length spots ≡ length intervals
   pub room : 14 ≤ length taken
   pub few : length taken ≤ at + 14

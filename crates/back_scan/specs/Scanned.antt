@@ -30,10 +30,12 @@ pub record IsLater (taken : Option ℕ) (to last : ℕ) : Type 0 where
   pub added : to ≤ last
   pub only : (x : ℕ) → x ≤ last → to < x → IsTaken taken x
 
-pub record Scanned (intervals : List (Option Interval)) (wishes : List Wish) (spots : List (Option Spot)) (taken : List (Option ℕ)) (line : ℕ) : Type 0 where
+pub record Scanned
+    (intervals : List (Option Interval)) (parts : List (List Interval)) (wishes : List Wish) (spots : List (Option Spot)) (taken : List (Option ℕ)) (line : ℕ)
+    : Type 0 where
   pub known : (v : ℕ) (p : Spot) → spot_of spots v ≡ Some p → rank p < length taken
   pub taken_up : (v : ℕ) (p : Spot) (x : ℕ) → spot_of spots v ≡ Some p → IsCovered intervals v x → IsTaken (taken_of taken (rank p)) x
-  pub apart : StandApart intervals spots
-  pub held : (r x : ℕ) → r < 14 → line ≤ x → IsTaken (taken_of taken r) x → HasHolder intervals spots x r
-  pub allowed : AreAllowed intervals spots wishes
-  pub full : AreFull intervals spots wishes
+  pub apart : StandApart intervals parts spots
+  pub held : (r x : ℕ) → r < 14 → line ≤ x → IsTaken (taken_of taken r) x → HasHolder intervals parts spots x r
+  pub allowed : AreAllowed intervals parts spots wishes
+  pub full : AreFull intervals parts spots wishes

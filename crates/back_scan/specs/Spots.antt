@@ -1,7 +1,7 @@
--- When registers stand well: apart where their intervals meet, as they ask, and in a slot only where no value register was left.
-use Rattle.std.specs.Prelude.{◌≡◌, ◌≤◌, ◌<◌, ℕ, List, length, slice_index_or, Option, Some, None}
+-- When registers stand well: apart where they are held, as they ask, and in a slot only where no value register was left.
+use Rattle.std.specs.Prelude.{◌≡◌, ◌≤◌, ◌<◌, ℕ, true, List, length, slice_index_or, Option, Some, None}
 use Rattle.back_liveness.specs.declared.step.Interval.{Interval}
-use Rattle.back_liveness.specs.Liveness.{IsCovered}
+use Rattle.back_liveness.specs.Liveness.{is_held, IsCovered}
 use Rattle.back_scan.specs.declared.spot.Spot.{Spot}
 use Rattle.back_scan.specs.declared.spot.Spot.TheVariants.{Held, Slot}
 use Rattle.back_scan.specs.declared.spot.Wish.{Wish}
@@ -25,7 +25,7 @@ spot_of spots v = slice_index_or spots v None
 abbrev pub interval_of : List (Option Interval) → (register : ℕ) → Option Interval
 interval_of intervals v = slice_index_or intervals v None
 
-module _ (intervals : List (Option Interval)) (spots : List (Option Spot)) where
+module _ (intervals : List (Option Interval)) (parts : List (List Interval)) (spots : List (Option Spot)) where
   -- some register whose interval has a line stands in that value register
   pub record HasHolder (line number : ℕ) : Type 0 where
     pub holder : ℕ
@@ -36,10 +36,10 @@ module _ (intervals : List (Option Interval)) (spots : List (Option Spot)) where
   abbrev pub NoneIsLeft : Wish → (line : ℕ) → Type 0
   NoneIsLeft wish line = (r : ℕ) → Allows wish r → HasHolder line r
 
-  -- No line lies in the intervals of two registers that stand in one spot.
+  -- No line lies in parts of two registers that stand in one spot.
   abbrev pub StandApart : Type 0
   StandApart =
-      (v u : ℕ) (p : Spot) (line : ℕ) → spot_of spots v ≡ Some p → spot_of spots u ≡ Some p → IsCovered intervals v line → IsCovered intervals u line → v ≡ u
+      (v u : ℕ) (p : Spot) (line : ℕ) → spot_of spots v ≡ Some p → spot_of spots u ≡ Some p → is_held parts v line ≡ true → is_held parts u line ≡ true → v ≡ u
 
   -- a register in a slot: others hold all that it may have where its interval begins
   abbrev pub AreFull : List Wish → Type 0
@@ -50,11 +50,12 @@ module _ (intervals : List (Option Interval)) (spots : List (Option Spot)) where
   AreAllowed wishes = (v : ℕ) (p : Spot) → spot_of spots v ≡ Some p → IsAllowed (slice_index_or wishes v InSlot) p
 
 -- All registers stand well. A register has a spot where it has an interval, and slots are no more than registers.
-pub record StandWell (intervals : List (Option Interval)) (wishes : List Wish) (spots : List (Option Spot)) (slots : ℕ) : Type 0 where
+pub record StandWell
+    (intervals : List (Option Interval)) (parts : List (List Interval)) (wishes : List Wish) (spots : List (Option Spot)) (slots : ℕ) : Type 0 where
   pub count : length spots ≡ length intervals
   pub all : (v : ℕ) (i : Interval) → interval_of intervals v ≡ Some i → (p : Spot) × (spot_of spots v ≡ Some p)
-  pub apart : StandApart intervals spots
-  pub allowed : AreAllowed intervals spots wishes
-  pub full : AreFull intervals spots wishes
+  pub apart : StandApart intervals parts spots
+  pub allowed : AreAllowed intervals parts spots wishes
+  pub full : AreFull intervals parts spots wishes
   pub within : (v k : ℕ) → spot_of spots v ≡ Some (Slot k) → k < slots
   pub few : slots ≤ length intervals

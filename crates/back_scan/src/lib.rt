@@ -7,6 +7,7 @@ mod leaving;
 mod placing;
 pub mod scan;
 pub mod spot;
+mod windows;
 
 pub use scan::linear_scan;
 pub use spot::{Allocation, Hint, HintList, Spot, Wish, WishList};

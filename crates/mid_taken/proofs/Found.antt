@@ -26,6 +26,7 @@ use Rattle.mid_arena.proofs.Owners.{same_number}
 use Rattle.mid_arena.proofs.Telling.{IntegerTold, integer_found, no_integer, integer_told, ConsTold, cons_found, no_cons, cons_told, nil_told, integer_low, symbol_low, object_low}
 use Rattle.mid_arena.proofs.Sameness.{same_value_same_word}
 use Rattle.mid_arena.proofs.WordFacts.{signed_integer_word}
+use Rattle.mid_start.proofs.Joining.{symbol_told}
 use Rattle.lang_taken.specs.Shapes.{Shape, shape_of, shape_of_object}
 use Rattle.lang_taken.specs.Shapes as shape
 use Rattle.lang_taken.specs.Taken.{SymbolFor, of_name, of_other_expansion, of_this_expansion}
@@ -127,19 +128,9 @@ cons_told_at from w at car cdr tag place first second = record {
 
 -- ---- symbols that were there before the run
 
-pub symbol_same : (s r : SymbolValue) → same_symbol s r ≡ true → s ≡ r
-symbol_same (named a) (named b) h = ap named ((bytes_eq-Decides a b).0 h)
-symbol_same (named a) (unnamed x s) h = absurd (cc h)
-symbol_same (unnamed x s) (named b) h = absurd (cc h)
-symbol_same (unnamed x s) (unnamed y r) h =
-    let both : (x ≡ y) × (s ≡ r) = parts_same x y s r h in cc (both.0, both.1)
-  where
-    parts_same : (x y s r : ℕ) → (x == y && s == r) ≡ true → (x ≡ y) × (s ≡ r)
-    parts_same x y s r h = grind (arith, nat_tests)
-
 -- what is the same as a symbol is that symbol
 symbol_is : (v : Value) (s : SymbolValue) → same v (symbol s) ≡ true → v ≡ symbol s
-symbol_is (symbol a) s e = ap symbol (symbol_same a s e)
+symbol_is (symbol a) s e = ap symbol (symbol_told a s e)
 symbol_is nil s e = absurd (cc e)
 symbol_is (integer n) s e = absurd (cc e)
 symbol_is (character c) s e = absurd (cc e)

@@ -13,11 +13,11 @@ use Rattle.lang_meaning.specs.State as meaning
 use Rattle.mid_arena.specs.Places.{Spot, pointer_to, pointer_in, Places, spot_of_symbol, word_of}
 use Rattle.mid_start.specs.declared.symbol_words.SymbolWord.{SymbolWord}
 use Rattle.mid_start.specs.LaidWell.{IsSymbolThere, AreSymbolsThere, AreDistinct}
+use Rattle.mid_start.proofs.Joining.{symbol_itself, symbol_told}
 use Rattle.mid_taken.specs.Index.{Index, symbol_at}
 use Rattle.mid_taken.specs.IndexOf.{IsIndexOfFirst, IsIndexOf}
 use Rattle.mid_taken.specs.Stands.{Stands}
 use Rattle.mid_taken.specs.TakenFrom.{TakenFrom}
-use Rattle.mid_taken.proofs.Found.{symbol_same}
 
 -- ---- the index
 
@@ -80,13 +80,6 @@ spot_at names (x ∷ xs) (q ∷ qs) all zero p e =
     let same : q ≡ p = cc e in (x, (refl, subst (λ (r : SymbolValue × Spot). IsSymbolThere names x r.0 r.1) same all.0))
 spot_at names (x ∷ xs) (q ∷ qs) all (suc i) p e = spot_at names xs qs all.1 i p e
 
-symbol_self : (s : SymbolValue) → same_symbol s s ≡ true
-symbol_self (named a) = (bytes_eq-Decides a a).1 refl
-symbol_self (unnamed x s) = numbers x s
-  where
-    numbers : (x s : ℕ) → (x == x && s == s) ≡ true
-    numbers x s = grind (arith, nat_tests)
-
 -- a symbol that has one spot is found there
 spot_found :
     (ps : List (SymbolValue × Spot)) (i : ℕ) (p : SymbolValue × Spot) → slice_get ps i ≡ Some p
@@ -94,14 +87,14 @@ spot_found :
 spot_found [] i p e once = absurd (cc e)
 spot_found (x ∷ xs) zero p e once =
     let same : x ≡ p = cc e in
-    let test : same_symbol p.0 x.0 ≡ true = ap (λ (q : SymbolValue × Spot). same_symbol p.0 q.0) same ∙ symbol_self p.0 in
+    let test : same_symbol p.0 x.0 ≡ true = ap (λ (q : SymbolValue × Spot). same_symbol p.0 q.0) same ∙ symbol_itself p.0 in
     rw test (ap (λ (q : SymbolValue × Spot). Some q.1) same)
 spot_found (x ∷ xs) (suc i) p e once =
     by (same_symbol p.0 x.0) refl
     (spot_found xs i p e (λ j q there same. let next : suc j ≡ suc i = once (suc j) q there same in omega (arith, next)))
   where
     by : (b : Bool) → same_symbol p.0 x.0 ≡ b → spot_of_symbol p.0 xs ≡ Some p.1 → (if b then Some x.1 else spot_of_symbol p.0 xs) ≡ Some p.1
-    by true test further = let first : 0 ≡ suc i = once 0 x refl (sym (symbol_same p.0 x.0 test)) in absurd (omega (arith, first))
+    by true test further = let first : 0 ≡ suc i = once 0 x refl (sym (symbol_told p.0 x.0 test)) in absurd (omega (arith, first))
     by false test further = further
 
 -- a spot that is found for a symbol is one of the list

@@ -4,4 +4,4 @@ use Rattle.back_allocation.proofs.names.overwritten_of.Given as goal
 
 abbrev pub invariant-loop-at : goal.invariant-loop-at
 invariant-loop-at l =
-    AreOverwritten l.named (owner_in l.names.owners.items) (length l.names.owners.items) l.registers l.barriers.items l.at
+    AreOverwritten l.named (owner_in l.names.owners.items) (length l.names.owners.items) l.barriers.items l.at

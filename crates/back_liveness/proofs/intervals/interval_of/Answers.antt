@@ -3,8 +3,8 @@ use Rattle.back_liveness.specs.Liveness.{IsWithin}
 use Rattle.back_liveness.proofs.Covering.{none_alive}
 use Rattle.back_liveness.proofs.intervals.interval_of.Goals as goal
 
-pub life_of-lived-requires-clause-points : goal.life_of-lived-requires-clause-points
-life_of-lived-requires-clause-points c line s e r = subst (λ i. IsWithin i line) c.in-Some.is (c.requires.points line s e r)
+pub life_of-requires-clause-points : goal.life_of-requires-clause-points
+life_of-requires-clause-points c line s e r = subst (λ i. IsWithin i line) c.in-Some.is (c.requires.points line s e r)
 
 pub returns-in-None-clause-ahead : goal.returns-in-None-clause-ahead
 returns-in-None-clause-ahead c line h =

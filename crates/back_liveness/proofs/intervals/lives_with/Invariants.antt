@@ -1,11 +1,13 @@
 use Rattle.std.proofs.Common.{◌≡◌, length}
-use Rattle.back_liveness.specs.Points.{HaveLives, HaveCrossings}
+use Rattle.back_liveness.specs.Points.{HaveLives, HaveParts, HaveCrossings}
 use Rattle.back_liveness.proofs.intervals.lives_with.Given as goal
 
 abbrev pub invariant-loop-register : goal.invariant-loop-register
 invariant-loop-register l = record {
   count : length l.intervals ≡ l.register;
+  count_parts : length l.parts ≡ l.register;
   count_crossed : length l.crossed ≡ l.register;
   lives : HaveLives l.steps l.heads.latest.items l.register l.intervals;
+  own : HaveParts l.steps l.heads.latest.items l.register l.intervals l.parts;
   crossings : HaveCrossings l.steps l.barriers l.heads.latest.items l.register l.crossed;
 }
