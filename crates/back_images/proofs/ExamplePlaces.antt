@@ -1,5 +1,5 @@
 -- The registers of the worked program stand well in those of the machine.
-use Rattle.std.proofs.Common.{◌≡◌, ◌≢◌, ℕ, zero, suc, ◌<◌, Bool, true, false, List, [], ◌∷◌, length, Some, refl, sym, subst, ◌∙◌, arith, eqb-true}
+use Rattle.std.proofs.Common.{inl, ◌≡◌, ◌≢◌, ℕ, zero, suc, ◌<◌, Bool, true, false, List, [], ◌∷◌, length, Some, refl, sym, subst, ◌∙◌, arith, eqb-true}
 use Rattle.std.specs.Prelude.{slice_get, ◌==◌, ◌||◌}
 use Rattle.std.specs.List.{list_any}
 use Rattle.mid_code.specs.declared.operation.Arithmetic.TheVariants as which
@@ -178,7 +178,7 @@ fits = record {
     };
     owned = record {
       alone = λ line to w y h e below a ne same. ne same;
-      entry = λ w below a. below;
+      entry = λ w below a. inl below;
       own = λ w below. refl;
     };
     stand = record {
