@@ -4,7 +4,7 @@ ghost use Rattle.std.specs.Prelude.{◌≡◌, ◌≤◌, ◌==◌, OnOk, OnErr,
 ghost use Rattle.std.specs.List.{slice_split};
 ghost use Rattle.base.specs.Outside.{Rose};
 ghost use Rattle.base.specs.Given.{WasGiven};
-ghost use Rattle.top_lines.specs.Excerpts.{blank as blank_of, excerpt, line_at as line_of_number, shown as shown_of};
+ghost use Rattle.top_lines.specs.Excerpts.{blank as blank_of, excerpt, line_at as line_of_number, passed, shown as shown_of};
 
 use base::{Failed, Place, Sink, write_all};
 
@@ -56,7 +56,7 @@ fn shown(line: &[u8], column: usize) -> &[u8]
 
 // What stands of it in front of the column.
 fn before(part: &[u8], column: usize) -> &[u8]
-    ensures { result.now ≡ take (column - 1 - (column - 61)) part.now }
+    ensures { result.now ≡ take (column - 1 - passed column) part.now }
 {
     front(part, column.saturating_sub(1).min(MOST_BEFORE))
 }
