@@ -17,11 +17,13 @@ build() {
     (cd "$crate" && rt run -- run data/yes.lsp) </dev/null >&2 && touch "$program"
 }
 
-# Runs the words on a program that is not proved. A file that the last word names is passed on as a copy.
+# Runs the words on a program that is not proved. A file that the last word names is passed on as a copy, and lines that
+# begin with the copy's name get that of the file.
 try() {
-    local said last words=("$@") data=()
+    local said last line name= words=("$@") data=()
     if [[ $# != 0 && ${words[-1]} != -* && -f ${words[-1]} ]]; then
         data=(--data "program.lsp=$(realpath "${words[-1]}")")
+        name=${words[-1]}
         words[-1]=program.lsp
     fi
     said=$(mktemp) || return 125
@@ -30,7 +32,10 @@ try() {
     # one before them where its output does not end a line
     last=$(tail -n 1 "$said")
     if [[ $last =~ ^run=ended\ status=([0-9]+) ]]; then
-        head -n -2 "$said" | sed '${/^$/d}' >&2
+        head -n -2 "$said" | sed '${/^$/d}' | while IFS= read -r line; do
+            [[ -n $name && $line == program.lsp:* ]] && line=$name:${line#program.lsp:}
+            printf '%s\n' "$line"
+        done >&2
         rm "$said"
         return "${BASH_REMATCH[1]}"
     fi

@@ -16,10 +16,13 @@ use std::alloc::Global;
 // No name.
 const NONE: usize = usize::MAX;
 
+// How many registers are looked at for each line, in the mean. Registers that are left over have one name each, so that time is in proportion to lines.
+const EACH: usize = 200;
+
 // What is found so far: the names with their owners, which names are one, and those of the reads and of the given words of lines; where the
-// reads of a line stand; the first and the last line with a point of a register, and the last line from which one comes back to a line; which
-// names are alive where a barrier crosses them, and the names of parameters where they are passed. Of the register that is looked at: its name
-// at each line, and at heads of loops.
+// reads of a line stand; the first and the last line with a point of a register, how many lines give it a word, and the last line from which one
+// comes back to a line; which names are alive where a barrier crosses them, and the names of parameters where they are passed. Of the register
+// that is looked at: its name at each line, and at heads of loops. So many lines may be looked at yet.
 #[derive(Drop)]
 struct Finding {
     owners: Vec<usize>,
@@ -31,12 +34,14 @@ struct Finding {
     bases: Vec<usize>,
     firsts: Vec<usize>,
     lasts: Vec<usize>,
+    writes: Vec<usize>,
     latest: Vec<usize>,
     barriers: Vec<Barrier>,
     crossed: Vec<bool>,
     passed: Vec<usize>,
     here: Vec<usize>,
     heads: Vec<usize>,
+    left: usize,
 }
 
 /// Names for the registers of a procedure, at whose lines records with these landings stand.
@@ -64,7 +69,7 @@ pub fn names_of(
             let name = new_name(&mut finding, register)?;
             finding.passed.push(name)?;
         }
-        find_names(&mut finding, &steps, register)?;
+        find_names(&mut finding, &steps, register, register < parameters)?;
         let end = finding.owners.len();
         finding.ends.push(end)?;
     }
@@ -121,12 +126,14 @@ fn begun(
         bases,
         firsts: filled(alloc, registers, NONE)?,
         lasts: filled(alloc, registers, 0)?,
+        writes: filled(alloc, registers, 0)?,
         latest: counted(alloc, lines)?,
         barriers,
         crossed: filled_flags(alloc, registers)?,
         passed: Vec::new(alloc),
         here: filled(alloc, lines, NONE)?,
         heads: filled(alloc, lines, NONE)?,
+        left: lines.saturating_mul(EACH),
     })
 }
 
@@ -163,6 +170,12 @@ fn add_points(finding: &mut Finding, steps: &StepList, line: usize) {
         }
         if let Some(register) = step.written {
             add_point(finding, register, line);
+            let writes = number_at(finding.writes.as_slice(), register);
+            set_at(
+                finding.writes.as_mut_slice(),
+                register,
+                writes.saturating_add(1),
+            );
         }
         for target in step.aside.as_slice() {
             if *target <= line {
@@ -179,17 +192,26 @@ fn add_point(finding: &mut Finding, register: Register, line: usize) {
     set_at(finding.lasts.as_mut_slice(), register, line);
 }
 
-// The names of a register, from its last line back to its first one.
-fn find_names(finding: &mut Finding, steps: &StepList, register: Register) -> Result<(), NoMemory> {
+// The names of a register, from its last line back to its first one; where one word alone is given to it, its own does.
+fn find_names(
+    finding: &mut Finding,
+    steps: &StepList,
+    register: Register,
+    is_passed: bool,
+) -> Result<(), NoMemory> {
+    if !is_passed && number_at(finding.writes.as_slice(), register) < 2 {
+        return Ok(());
+    }
     let first = number_at(finding.firsts.as_slice(), register);
     let last = last_line(
         finding,
         first,
         number_at(finding.lasts.as_slice(), register),
     );
-    if last < first || steps.len() <= last {
+    if last < first || steps.len() <= last || finding.left < last - first {
         return Ok(());
     }
+    finding.left -= last - first;
     for back in 0..last - first {
         look(finding, steps, register, first, last, last - back)?;
     }

@@ -27,8 +27,11 @@ pub struct Lived {
     pub crossed: bool,
 }
 
-// Of an interval that is this long or shorter the parts are told, though it is known that it is the right one.
+// Of an interval that is this long or shorter the parts are told, though it is known that it is the right one; and in one that is longer than that
+// a register is taken for crossed where a barrier crosses its interval, so that time is in proportion to lines and registers.
 const SHORT: usize = 64;
+
+const LONG: usize = 1024;
 
 /// What is known of a register: the first line that is still to be looked at, the first and the last line of its interval, and whether a
 /// barrier crosses it.
@@ -73,12 +76,15 @@ pub fn life_of(
         register,
         points,
     ) {
-        if points.from + SHORT < points.to && !crosses(points, barriers, register) {
-            return Ok(Lived {
-                interval: points,
-                parts: in_one(alloc, points)?,
-                crossed: false,
-            });
+        if points.from + SHORT < points.to {
+            let crossed = crosses(points, barriers, register);
+            if !crossed || points.from + LONG < points.to {
+                return Ok(Lived {
+                    interval: points,
+                    parts: in_one(alloc, points)?,
+                    crossed,
+                });
+            }
         }
     }
     let mut life = Life {

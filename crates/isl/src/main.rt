@@ -1,10 +1,11 @@
 // The program: the words of the command line, and the files, the input and the outputs of the system.
 #![tactic(auto)]
 
-ghost use Rattle.std.specs.Prelude.{◌≡◌, ◌≢◌, ◌⊎◌, None};
+ghost use Rattle.std.specs.Prelude.{◌≡◌, ◌≢◌, ◌⊎◌, [], None};
 ghost use Rattle.std.specs.Process.{exit_status};
 ghost use Rattle.top_command.specs.Command.{asked};
 ghost use Rattle.top_help.specs.Told.{told as told_of};
+ghost use Rattle.top_main.specs.Theorem.{name_in};
 ghost use Rattle.base.specs.Given.{WasGiven};
 ghost use Rattle.top_lines.specs.Lines.{line_of, number_of, status_of as status_of_answer};
 ghost use Rattle.top_lines.specs.declared.status.CommandAnswer.{CommandAnswer as AnswerValue};
@@ -30,7 +31,7 @@ fn main(rt: HostRuntime) -> ExitCode {
     let mut err = StdSink::new(rt.stderr());
     let status = match command_words(&rt) {
         Ok(words) => status_of(&rt, &words, &mut err),
-        Err(answer) => end_with(&mut err, answer),
+        Err(answer) => end_with(&mut err, b"", answer),
     };
     exit_code(status)
 }
@@ -42,7 +43,7 @@ fn status_of<E: Sink>(rt: &HostRuntime, words: &Words, err: &mut E) -> Status
         (result ≡ Usage) ⊎ ((result ≡ WriteFault) ⊎ (result ≡ WantsMemory)) }
     ensures told { told_of words.now ≢ None → (result ≡ Done) ⊎ (result ≡ WriteFault) }
     ensures line { result ≢ WriteFault → (answer : AnswerValue) × ((result ≡ status_of_answer answer)
-        × WasGiven (E.given err.old) (line_of answer) (E.given err.new)) }
+        × WasGiven (E.given err.old) (line_of (name_in (asked words.now)) answer) (E.given err.new)) }
 {
     match told(words) {
         Some(text) => told_status(rt, text, err),
@@ -53,13 +54,12 @@ fn status_of<E: Sink>(rt: &HostRuntime, words: &Words, err: &mut E) -> Status
 // A text is printed; the status says whether all of it was.
 fn told_status<E: Sink>(rt: &HostRuntime, text: &[u8], err: &mut E) -> Status
     ensures told { (result ≡ Done) ⊎ (result ≡ WriteFault) }
-    ensures line { result ≢ WriteFault → (answer : AnswerValue) × ((result ≡ status_of_answer answer)
-        × WasGiven (E.given err.old) (line_of answer) (E.given err.new)) }
+    ensures quiet { result ≢ WriteFault → WasGiven (E.given err.old) [] (E.given err.new) }
 {
     let mut out = StdSink::new(rt.stdout());
     match write_all(&mut out, text) {
-        Ok(()) => end_with(err, CommandAnswer::Done),
-        Err(Failed) => end_with(err, CommandAnswer::WriteFault),
+        Ok(()) => end_with(err, b"", CommandAnswer::Done),
+        Err(Failed) => end_with(err, b"", CommandAnswer::WriteFault),
     }
 }
 
@@ -69,7 +69,7 @@ fn called<E: Sink>(rt: &HostRuntime, words: &Words, err: &mut E) -> Status
     ensures words_first { asked words.now ≡ None →
         (result ≡ Usage) ⊎ ((result ≡ WriteFault) ⊎ (result ≡ WantsMemory)) }
     ensures line { result ≢ WriteFault → (answer : AnswerValue) × ((result ≡ status_of_answer answer)
-        × WasGiven (E.given err.old) (line_of answer) (E.given err.new)) }
+        × WasGiven (E.given err.old) (line_of (name_in (asked words.now)) answer) (E.given err.new)) }
 {
     let mut shelf = FileShelf::new(rt, rt.alloc());
     let mut input = StdSource::new(rt.stdin());

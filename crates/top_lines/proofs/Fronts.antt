@@ -1,5 +1,5 @@
 -- What is written in pieces, and a front of it.
-use Rattle.std.proofs.Common.{◌≡◌, ℕ, List, ◌++◌, Some, None, Result, Ok, Err, OnErr, sym, ap, ◌∙◌, append_assoc}
+use Rattle.std.proofs.Common.{◌≡◌, ℕ, List, [], ◌∷◌, ◌++◌, Some, None, Result, Ok, Err, OnErr, sym, ap, ◌∙◌, append_assoc}
 use Rattle.std.specs.Prelude.{Option}
 use Rattle.base.specs.Given.{WasGiven, WasGivenFront}
 
@@ -26,3 +26,9 @@ front_of_second given between given' first second h t =
 pub after_error : {T E P : Type 0} (r : Result T E) → P → OnErr r P
 after_error (Ok x) p = tt
 after_error (Err e) p = p
+
+-- what ends with a line is not empty
+pub ends_some : (front text : List ℕ) → front ++ (text ++ 10 ∷ []) ≡ [] → ⊥
+ends_some [] [] h = cc
+ends_some [] (x ∷ xs) h = cc
+ends_some (x ∷ xs) text h = cc

@@ -11,6 +11,8 @@ use Rattle.rv_machine.specs.Ends.{trap_number}
 use Rattle.rv_machine.specs.declared.ending.TrapKind.{TrapKind}
 use Rattle.rv_image_file.specs.Reasons.{number_of as number_of_bad_image, text_of as name_of_bad_image}
 use Rattle.rv_image_file.specs.declared.faults.BadImage.{BadImage as ImageFault}
+use Rattle.top_lines.specs.Sentences.{sentence_of}
+use Rattle.top_lines.specs.Excerpts.{excerpt}
 use Rattle.top_lines.specs.declared.status.Status.{Status}
 use Rattle.top_lines.specs.declared.status.Status.TheVariants.{Done, Unhandled, Usage, Refused, ArenaFull, Budget, FileFault, ReadFault, WriteFault, NoMemory, BadImage, Trap}
 use Rattle.top_lines.specs.declared.status.CommandAnswer.{CommandAnswer}
@@ -27,13 +29,17 @@ labelled label number = label ++ decimal number
 abbrev pub place_text : Place → List ℕ
 place_text p = (decimal p.line ++ codes ":") ++ decimal p.column
 
--- ` at LINE:COLUMN`; nothing of the place 0:0
-abbrev pub at_text : Place → List ℕ
-at_text p = if p.line == 0 && p.column == 0 then [] else codes " at " ++ place_text p
+-- `FILE:LINE:COLUMN`, where FILE is what the text is called
+abbrev pub place_in : (file : List ℕ) → Place → List ℕ
+place_in file p = (file ++ codes ":") ++ place_text p
 
--- `unhandled CLASS at LINE:COLUMN`, or `unhandled CLASS`
-abbrev pub unhandled_line : List ℕ → Place → List ℕ
-unhandled_line class site = line ((codes "unhandled " ++ class) ++ at_text site)
+-- the same of the site of a condition; FILE alone where it has no place, 0:0
+abbrev pub site_in : (file : List ℕ) → Place → List ℕ
+site_in file p = if p.line == 0 && p.column == 0 then file else place_in file p
+
+-- `FILE:LINE:COLUMN: unhandled CLASS`, or `FILE: unhandled CLASS`
+abbrev pub unhandled_line : (file class : List ℕ) → Place → List ℕ
+unhandled_line file class site = line ((site_in file site ++ codes ": unhandled ") ++ class)
 
 -- ` at LINE:COLUMN` of the place of a site, where there is one
 abbrev pub site_text : Option Place → List ℕ
@@ -48,10 +54,13 @@ unhandled_class_line class site = line (labelled (codes "unhandled class ") clas
 abbrev pub reason_text : Reason → List ℕ
 reason_text r = (decimal (number_of_reason r) ++ codes " ") ++ name_of_reason r
 
--- `LINE:COLUMN: refused NUMBER NAME`
-abbrev pub refused_line : Refusal → List ℕ
-refused_line r =
-    line ((place_text r.place ++ codes ": refused ") ++ reason_text r.reason)
+-- `FILE:LINE:COLUMN: refused NUMBER NAME`
+abbrev pub refused_line : (file : List ℕ) → Refusal → List ℕ
+refused_line file r = line ((place_in file r.place ++ codes ": refused ") ++ reason_text r.reason)
+
+-- and behind it the place in the text, and the line that says why
+abbrev pub refusal_lines : (file text : List ℕ) → Refusal → List ℕ
+refusal_lines file text r = (refused_line file r ++ excerpt text r.place) ++ line (sentence_of r.reason)
 
 -- `arena full ASKED LEFT`
 abbrev pub arena_full_line : (asked left : ℕ) → List ℕ
@@ -94,27 +103,28 @@ read_fault_line = line (codes "read fault")
 abbrev pub no_memory_line : List ℕ
 no_memory_line = line (codes "no memory")
 
-abbrev pub line_of : CommandAnswer → List ℕ
-line_of answer.Done = []
-line_of (answer.Unhandled class site) = unhandled_line class site
-line_of answer.Usage = usage_line
-line_of (answer.Refused r) = refused_line r
-line_of (answer.ArenaFull asked left) = arena_full_line asked left
-line_of (answer.Budget n) = budget_line n
-line_of answer.Spent = spent_line
-line_of answer.FileFault = file_fault_line
-line_of answer.ReadFault = read_fault_line
-line_of answer.WriteFault = []
-line_of answer.NoMemory = no_memory_line
-line_of (answer.UnhandledClass class site) = unhandled_class_line class site
-line_of (answer.BadImage fault) = bad_image_line fault
-line_of (answer.Trap kind address) = trap_line kind address
+-- the line of an answer about a text that is called so; a refusal has four
+abbrev pub line_of : (file : List ℕ) → CommandAnswer → List ℕ
+line_of file answer.Done = []
+line_of file (answer.Unhandled class site) = unhandled_line file class site
+line_of file answer.Usage = usage_line
+line_of file (answer.Refused r text) = refusal_lines file text r
+line_of file (answer.ArenaFull asked left) = arena_full_line asked left
+line_of file (answer.Budget n) = budget_line n
+line_of file answer.Spent = spent_line
+line_of file answer.FileFault = file_fault_line
+line_of file answer.ReadFault = read_fault_line
+line_of file answer.WriteFault = []
+line_of file answer.NoMemory = no_memory_line
+line_of file (answer.UnhandledClass class site) = unhandled_class_line class site
+line_of file (answer.BadImage fault) = bad_image_line fault
+line_of file (answer.Trap kind address) = trap_line kind address
 
 abbrev pub status_of : CommandAnswer → Status
 status_of answer.Done = Done
 status_of (answer.Unhandled class site) = Unhandled
 status_of answer.Usage = Usage
-status_of (answer.Refused r) = Refused
+status_of (answer.Refused r text) = Refused
 status_of (answer.ArenaFull asked left) = ArenaFull
 status_of (answer.Budget n) = Budget
 status_of answer.Spent = Budget
@@ -141,6 +151,6 @@ number_of BadImage = 10
 number_of Trap = 11
 
 -- the answer of a text that is no program
-abbrev pub answer_of_stop : Stop → CommandAnswer
-answer_of_stop (stop.Refused r) = answer.Refused r
-answer_of_stop stop.NoMemory = answer.NoMemory
+abbrev pub answer_of_stop : (text : List ℕ) → Stop → CommandAnswer
+answer_of_stop text (stop.Refused r) = answer.Refused r text
+answer_of_stop text stop.NoMemory = answer.NoMemory

@@ -1,7 +1,9 @@
 // The statuses that a call ends with, and the lines that tell of them.
 #![tactic(auto)]
 
+mod excerpts;
 pub mod lines;
+mod sentences;
 pub mod status;
 
 pub use lines::{end_with, write_counts};

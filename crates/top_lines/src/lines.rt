@@ -4,59 +4,66 @@ ghost use Rattle.std.specs.Prelude.{◌≡◌, ◌≢◌, ◌≤◌, ◌<◌, Li
 ghost use Rattle.std.specs.Fmt.{decimal};
 ghost use Rattle.base.specs.Outside.{Rose};
 ghost use Rattle.base.specs.Given.{WasGiven, WasGivenFront};
-ghost use Rattle.top_lines.specs.Lines.{line_of, unhandled_line, at_text, unhandled_class_line, site_text, bad_image_line, trap_line, labelled, counts_line, refused_line, place_text, reason_text, arena_full_line, budget_line, status_of};
+ghost use Rattle.top_lines.specs.Lines.{line, line_of, unhandled_line, site_in, place_in, unhandled_class_line, site_text, bad_image_line, trap_line, labelled, counts_line, refusal_lines, refused_line, place_text, reason_text, arena_full_line, budget_line, status_of};
+ghost use Rattle.top_lines.specs.Sentences.{sentence_of as sentence};
 ghost use Rattle.top_lines.specs.declared.status.Status.TheVariants.{WriteFault};
 
+use crate::excerpts::write_excerpt;
+use crate::sentences::sentence_of;
 use crate::status::{CommandAnswer, Status};
 use base::{Failed, Place, Reason, Refusal, Sink, write_all};
 use rv_image_file::BadImage;
 use rv_machine::TrapKind;
 
-/// Writes the line of an answer, whose status is then given; `WriteFault` where the line can't be
-/// written whole.
-pub fn end_with<E: Sink>(err: &mut E, answer: CommandAnswer) -> Status
+/// Writes the line of an answer about a text that is called so, whose status is then given; a refusal has four lines.
+/// `WriteFault` where the line can't be written whole.
+pub fn end_with<E: Sink>(err: &mut E, file: &[u8], answer: CommandAnswer) -> Status
     ensures written { result ≢ WriteFault → result ≡ status_of answer }
-    ensures line { result ≢ WriteFault → WasGiven (E.given err.old) (line_of answer) (E.given err.new) }
-    ensures quiet { line_of answer ≡ [] → result ≡ status_of answer }
+    ensures line { result ≢ WriteFault → WasGiven (E.given err.old) (line_of file.now answer) (E.given err.new) }
+    ensures quiet { line_of file.now answer ≡ [] → result ≡ status_of answer }
     ensures fault { result ≡ WriteFault → status_of answer ≢ WriteFault →
         Rose (E.faults err.old) (E.faults err.new) }
     ensures count { E.faults err.old ≤ E.faults err.new }
 {
-    let status = status_with(err, &answer);
+    let status = status_with(err, file, &answer);
     drop(answer);
     status
 }
 
 // The same of an answer that is kept.
-fn status_with<E: Sink>(err: &mut E, answer: &CommandAnswer) -> Status
+fn status_with<E: Sink>(err: &mut E, file: &[u8], answer: &CommandAnswer) -> Status
     ensures written { result ≢ WriteFault → result ≡ status_of answer.now }
-    ensures line { result ≢ WriteFault → WasGiven (E.given err.old) (line_of answer.now) (E.given err.new) }
-    ensures quiet { line_of answer.now ≡ [] → result ≡ status_of answer.now }
+    ensures line { result ≢ WriteFault → WasGiven (E.given err.old) (line_of file.now answer.now) (E.given err.new) }
+    ensures quiet { line_of file.now answer.now ≡ [] → result ≡ status_of answer.now }
     ensures fault { result ≡ WriteFault → status_of answer.now ≢ WriteFault →
         Rose (E.faults err.old) (E.faults err.new) }
     ensures count { E.faults err.old ≤ E.faults err.new }
 {
-    match write_line(err, answer) {
+    match write_line(err, file, answer) {
         Ok(()) => answer.status(),
         Err(Failed) => Status::WriteFault,
     }
 }
 
 // Writes the line of an answer; nothing for those that have none.
-fn write_line<E: Sink>(err: &mut E, answer: &CommandAnswer) -> Result<(), Failed>
-    ensures given { OnOk result (WasGiven (E.given err.old) (line_of answer.now) (E.given err.new)) }
-    ensures quiet { line_of answer.now ≡ [] → IsOk result }
+fn write_line<E: Sink>(err: &mut E, file: &[u8], answer: &CommandAnswer) -> Result<(), Failed>
+    ensures given { OnOk result (WasGiven (E.given err.old) (line_of file.now answer.now) (E.given err.new)) }
+    ensures quiet { line_of file.now answer.now ≡ [] → IsOk result }
     ensures fault { OnErr result (Rose (E.faults err.old) (E.faults err.new)) }
     ensures count { E.faults err.old ≤ E.faults err.new }
 {
     match answer {
         CommandAnswer::Done | CommandAnswer::WriteFault => Ok(()),
-        CommandAnswer::Unhandled { class, site } => write_unhandled(err, class.as_slice(), *site),
+        CommandAnswer::Unhandled { class, site } => {
+            write_unhandled(err, file, class.as_slice(), *site)
+        }
         CommandAnswer::Usage => write_all(
             err,
             b"usage: isl [--steps N] [--arena W] run|show|check|build|exec|plain FILE, or make N; isl --help tells more\n",
         ),
-        CommandAnswer::Refused(refusal) => write_refusal(err, *refusal),
+        CommandAnswer::Refused { refusal, text } => {
+            write_refusal(err, file, text.as_slice(), *refusal)
+        }
         CommandAnswer::ArenaFull { asked, left } => write_arena_full(err, *asked, *left),
         CommandAnswer::Budget(steps) => write_budget(err, *steps),
         CommandAnswer::Spent => write_all(err, b"spent 9223372036854775808\n"),
@@ -69,29 +76,44 @@ fn write_line<E: Sink>(err: &mut E, answer: &CommandAnswer) -> Result<(), Failed
     }
 }
 
-// `unhandled CLASS at LINE:COLUMN`, or `unhandled CLASS`
-fn write_unhandled<E: Sink>(err: &mut E, class: &[u8], site: Place) -> Result<(), Failed>
-    ensures given { OnOk result (WasGiven (E.given err.old) (unhandled_line class.now site) (E.given err.new)) }
+// `FILE:LINE:COLUMN: unhandled CLASS`, or `FILE: unhandled CLASS`
+fn write_unhandled<E: Sink>(
+    err: &mut E,
+    file: &[u8],
+    class: &[u8],
+    site: Place,
+) -> Result<(), Failed>
+    ensures given { OnOk result (WasGiven (E.given err.old) (unhandled_line file.now class.now site) (E.given err.new)) }
     ensures fault { OnErr result (Rose (E.faults err.old) (E.faults err.new)) }
     ensures count { E.faults err.old ≤ E.faults err.new }
 {
-    write_all(err, b"unhandled ")?;
+    write_site_in(err, file, site)?;
+    write_all(err, b": unhandled ")?;
     write_all(err, class)?;
-    write_site(err, site)?;
     write_all(err, b"\n")
 }
 
-// ` at LINE:COLUMN`; nothing of the place 0:0
-fn write_site<E: Sink>(err: &mut E, site: Place) -> Result<(), Failed>
-    ensures given { OnOk result (WasGiven (E.given err.old) (at_text site) (E.given err.new)) }
+// `FILE:LINE:COLUMN` of the site of a condition; FILE alone where it has no place, 0:0
+fn write_site_in<E: Sink>(err: &mut E, file: &[u8], site: Place) -> Result<(), Failed>
+    ensures given { OnOk result (WasGiven (E.given err.old) (site_in file.now site) (E.given err.new)) }
     ensures fault { OnErr result (Rose (E.faults err.old) (E.faults err.new)) }
     ensures count { E.faults err.old ≤ E.faults err.new }
 {
     if site.line == 0 && site.column == 0 {
-        return Ok(());
+        return write_all(err, file);
     }
-    write_all(err, b" at ")?;
-    write_place(err, site)
+    write_place_in(err, file, site)
+}
+
+// `FILE:LINE:COLUMN`
+fn write_place_in<E: Sink>(err: &mut E, file: &[u8], place: Place) -> Result<(), Failed>
+    ensures given { OnOk result (WasGiven (E.given err.old) (place_in file.now place) (E.given err.new)) }
+    ensures fault { OnErr result (Rose (E.faults err.old) (E.faults err.new)) }
+    ensures count { E.faults err.old ≤ E.faults err.new }
+{
+    write_all(err, file)?;
+    write_all(err, b":")?;
+    write_place(err, place)
 }
 
 // `unhandled class N at LINE:COLUMN`, or `unhandled class N`
@@ -124,15 +146,41 @@ fn write_file_site<E: Sink>(err: &mut E, site: Option<Place>) -> Result<(), Fail
     }
 }
 
-// `LINE:COLUMN: refused NUMBER NAME`
-fn write_refusal<E: Sink>(err: &mut E, refusal: Refusal) -> Result<(), Failed>
-    ensures given { OnOk result (WasGiven (E.given err.old) (refused_line refusal) (E.given err.new)) }
+// The lines of a refusal.
+fn write_refusal<E: Sink>(
+    err: &mut E,
+    file: &[u8],
+    text: &[u8],
+    refusal: Refusal,
+) -> Result<(), Failed>
+    ensures given { OnOk result (WasGiven (E.given err.old) (refusal_lines file.now text.now refusal) (E.given err.new)) }
     ensures fault { OnErr result (Rose (E.faults err.old) (E.faults err.new)) }
     ensures count { E.faults err.old ≤ E.faults err.new }
 {
-    write_place(err, refusal.place)?;
+    write_refused(err, file, refusal)?;
+    write_excerpt(err, text, refusal.place)?;
+    write_sentence(err, refusal.reason)
+}
+
+// `FILE:LINE:COLUMN: refused NUMBER NAME`
+fn write_refused<E: Sink>(err: &mut E, file: &[u8], refusal: Refusal) -> Result<(), Failed>
+    ensures given { OnOk result (WasGiven (E.given err.old) (refused_line file.now refusal) (E.given err.new)) }
+    ensures fault { OnErr result (Rose (E.faults err.old) (E.faults err.new)) }
+    ensures count { E.faults err.old ≤ E.faults err.new }
+{
+    write_place_in(err, file, refusal.place)?;
     write_all(err, b": refused ")?;
     write_reason(err, refusal.reason)?;
+    write_all(err, b"\n")
+}
+
+// The sentence of a reason.
+fn write_sentence<E: Sink>(err: &mut E, reason: Reason) -> Result<(), Failed>
+    ensures given { OnOk result (WasGiven (E.given err.old) (line (sentence reason)) (E.given err.new)) }
+    ensures fault { OnErr result (Rose (E.faults err.old) (E.faults err.new)) }
+    ensures count { E.faults err.old ≤ E.faults err.new }
+{
+    write_all(err, sentence_of(reason).as_bytes())?;
     write_all(err, b"\n")
 }
 

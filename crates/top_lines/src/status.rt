@@ -60,7 +60,7 @@ impl Status {
 }
 
 /// A status with what its line tells: the name of the class of a condition, and the place of the form that
-/// signalled it, or 0:0; why and where the file is refused; how many words were asked for, and how many were
+/// signalled it, or 0:0; why and where the file is refused, and its text; how many words were asked for, and how many were
 /// left; how many instructions were executed, or how many levels there were. `Spent` is the status `Budget`
 /// of an evaluation in which as many forms began as may begin. `UnhandledClass` is the status `Unhandled` of an
 /// image of which no program is known: the number of the class, and the place of the site where the file has it.
@@ -71,7 +71,7 @@ pub enum CommandAnswer {
     Unhandled { class: Bytes, site: Place },
     UnhandledClass { class: u32, site: Option<Place> },
     Usage,
-    Refused(Refusal),
+    Refused { refusal: Refusal, text: Bytes },
     ArenaFull { asked: u64, left: u64 },
     Budget(u32),
     Spent,
@@ -85,12 +85,15 @@ pub enum CommandAnswer {
 
 impl CommandAnswer {
     /// The answer of a text that is no program.
-    pub fn of_stop(stop: Stop) -> CommandAnswer
-        ensures { result ≡ answer_of_stop stop }
+    pub fn of_stop(text: Bytes, stop: Stop) -> CommandAnswer
+        ensures { result ≡ answer_of_stop text stop }
     {
         match stop {
-            Stop::Refused(refusal) => CommandAnswer::Refused(refusal),
-            Stop::NoMemory => CommandAnswer::NoMemory,
+            Stop::Refused(refusal) => CommandAnswer::Refused { refusal, text },
+            Stop::NoMemory => {
+                drop(text);
+                CommandAnswer::NoMemory
+            }
         }
     }
 
@@ -104,7 +107,7 @@ impl CommandAnswer {
                 Status::Unhandled
             }
             CommandAnswer::Usage => Status::Usage,
-            CommandAnswer::Refused(_) => Status::Refused,
+            CommandAnswer::Refused { .. } => Status::Refused,
             CommandAnswer::ArenaFull { .. } => Status::ArenaFull,
             CommandAnswer::Budget(_) | CommandAnswer::Spent => Status::Budget,
             CommandAnswer::FileFault => Status::FileFault,

@@ -1,7 +1,7 @@
 -- How the status that is answered comes from the answer to the words.
 use Rattle.std.proofs.Common.{◌≡◌, ◌≢◌, ℕ, List, [], ◌∷◌, ◌++◌, refl, sym, ap, subst, ◌∙◌, ◌⊎◌, inl, inr, Some, None}
 use Rattle.std.specs.Prelude.{Option, ⊤, length, codes}
-use Rattle.base.specs.Given.{WasGiven, WasGivenFront}
+use Rattle.base.specs.Given.{WasGiven}
 use Rattle.base.specs.declared.place.Place.{Place}
 use Rattle.base.specs.declared.reason.Refusal.{Refusal}
 use Rattle.rv_machine.specs.Ends.{trap_number}
@@ -17,11 +17,11 @@ use Rattle.top_lines.specs.declared.status.Status.{Status}
 use Rattle.top_lines.specs.declared.status.Status.TheVariants.{Done, Unhandled, Usage, Refused, ArenaFull, Budget, FileFault, ReadFault, WriteFault, NoMemory, BadImage, Trap}
 use Rattle.top_lines.specs.declared.status.CommandAnswer.{CommandAnswer}
 use Rattle.top_lines.specs.declared.status.CommandAnswer.TheVariants as answer
-use Rattle.top_lines.specs.Lines.{line_of, status_of, unhandled_line, budget_line, refused_line, arena_full_line, spent_line, file_fault_line, read_fault_line, no_memory_line, bad_image_line, labelled, site_text}
+use Rattle.top_lines.specs.Lines.{line_of, status_of, unhandled_line, budget_line, refusal_lines, arena_full_line, spent_line, file_fault_line, read_fault_line, no_memory_line, bad_image_line, labelled, site_text}
 use Rattle.top_exec.specs.Runs.{Sent}
 use Rattle.top_exec.specs.Executes.{ExecAnswers, Executes}
 use Rattle.top_main.specs.Answers.{WriteAnswers, FileAnswers, was_ended, was_plain, was_check, was_build, was_exec, WordsAnswers, was_usage, was_untold, was_asked}
-use Rattle.top_main.specs.Theorem.{FileEnds, HasLine, IsEnded, IsUsage, IsDone, IsWritten, IsUnhandled, IsArenaFull, IsTooLarge, IsBudget, IsSpent, IsRefused, IsReadFault, IsCutOff, IsWrittenCutOff, IsUnnamed, IsBroken, IsUntold, IsExecuted, IsExecutedSo, IsExecutedUntold, IsLargeImage, IsBadImage, RunsPrograms, ReadsNothing, KeepsNothing, MakesText}
+use Rattle.top_main.specs.Theorem.{FileEnds, HasLine, IsEnded, IsUsage, IsDone, IsWritten, IsUnhandled, IsArenaFull, IsTooLarge, IsBudget, IsSpent, IsRefused, IsReadFault, IsCutOff, IsWrittenCutOff, IsUnnamed, IsBroken, IsUntold, IsExecuted, IsExecutedSo, IsExecutedUntold, IsLargeImage, IsBadImage, RunsPrograms, ReadsNothing, KeepsNothing, MakesText, name_of, name_in}
 
 -- a status is a write fault or that of the answer
 settled : (r s : Status) → (r ≢ WriteFault → r ≡ s) → (r ≡ s) ⊎ (r ≡ WriteFault)
@@ -39,10 +39,11 @@ line_some : (text : List ℕ) → text ++ 10 ∷ [] ≢ []
 line_some [] e = cc
 line_some (x ∷ xs) e = cc
 
--- the words of a call, the shelf that they name files of, the image that is kept, what is left of the input and what the output was sent, and where
+-- the words of a call, what its line calls their text, the shelf that they name files of, the image that is kept, what is left of the input and what the output was sent, and where
 -- the shelf, the input and the output rose in faults or are the same
 pub record View : Type 1 where
   pub words : List (List ℕ)
+  pub name : List ℕ
   pub holds : List ℕ → Option (List ℕ)
   pub kept : Option Image
   pub left : Option (List ℕ)
@@ -56,7 +57,7 @@ pub record View : Type 1 where
   pub ShelfSame : Type 0
 
 abbrev pub Told : View → CommandAnswer → Type 0
-Told v a = WordsAnswers a v.words v.holds v.kept v.left v.left' v.sent v.ShelfRises v.SourceRises v.Rises v.Same v.InputSame v.ShelfSame
+Told v a = WordsAnswers a v.name v.words v.holds v.kept v.left v.left' v.sent v.ShelfRises v.SourceRises v.Rises v.Same v.InputSame v.ShelfSame
 
 -- the answer for the text of a command that is run or evaluated, or of which bytes are written, and for an image file
 abbrev Ended : View → CommandAnswer → Request → Type 0
@@ -72,24 +73,24 @@ Executed v a c = ExecAnswers a (v.holds c.file) c.arena c.steps v.left v.left' v
 data Heard (v : View) (a : CommandAnswer) : Type 0 where
   is_usage : a ≡ answer.Usage → asked v.words ≡ None → v.Same × v.InputSame → Heard v a
   is_untold : a ≡ answer.NoMemory → v.Same × v.InputSame → Heard v a
-  is_written : (c : Request) → asked v.words ≡ Some c → v.InputSame → Written v a c → Heard v a
-  is_ended : (c : Request) → asked v.words ≡ Some c → Ended v a c → Heard v a
-  is_executed : (c : Request) → asked v.words ≡ Some c → c.action ≡ Exec → v.kept ≡ None → Executed v a c → Heard v a
+  is_written : (c : Request) → asked v.words ≡ Some c → v.name ≡ name_of c → v.InputSame → Written v a c → Heard v a
+  is_ended : (c : Request) → asked v.words ≡ Some c → v.name ≡ name_of c → Ended v a c → Heard v a
+  is_executed : (c : Request) → asked v.words ≡ Some c → v.name ≡ name_of c → c.action ≡ Exec → v.kept ≡ None → Executed v a c → Heard v a
 
 heard : (v : View) (a : CommandAnswer) → Told v a → Heard v a
 heard v a (was_usage e none shelf same i k) = is_usage e none (same, i)
 heard v a (was_untold e shelf same i k) = is_untold e (same, i)
-heard v a (was_asked c is (was_ended r m h)) = is_ended c is h
-heard v a (was_asked c is (was_plain p k h)) =
+heard v a (was_asked c is named (was_ended r m h)) = is_ended c is named h
+heard v a (was_asked c is named (was_plain p k h)) =
     let F : Action → Option Image → Type 0 = λ x kept. FileAnswers a x (v.holds c.file) kept c.arena c.steps v.left v.left' v.sent v.ShelfRises v.SourceRises v.Rises (v.Same × v.InputSame) in
-    is_ended c is (subst (λ x. F x v.kept) (sym p) (subst (λ kept. F Plain kept) (sym k) h))
-heard v a (was_asked c is (was_check p i k h)) =
+    is_ended c is named (subst (λ x. F x v.kept) (sym p) (subst (λ kept. F Plain kept) (sym k) h))
+heard v a (was_asked c is named (was_check p i k h)) =
     let W : Action → Option Image → Type 0 = λ x kept. WriteAnswers a x (v.holds c.file) kept v.sent.before v.sent.after v.ShelfRises v.Rises v.Same in
-    is_written c is i (subst (λ x. W x v.kept) (sym p) (subst (λ kept. W Check kept) (sym k) h))
-heard v a (was_asked c is (was_build p i h)) =
+    is_written c is named i (subst (λ x. W x v.kept) (sym p) (subst (λ kept. W Check kept) (sym k) h))
+heard v a (was_asked c is named (was_build p i h)) =
     let W : Action → Option Image → Type 0 = λ x kept. WriteAnswers a x (v.holds c.file) kept v.sent.before v.sent.after v.ShelfRises v.Rises v.Same in
-    is_written c is i (subst (λ x. W x v.kept) (sym p) h)
-heard v a (was_asked c is (was_exec p k h)) = is_executed c is p k h
+    is_written c is named i (subst (λ x. W x v.kept) (sym p) h)
+heard v a (was_asked c is named (was_exec p k h)) = is_executed c is named p k h
 
 -- a call whose program came to this end
 abbrev EndedSo : View → EvaluationEnd → Type 0
@@ -112,11 +113,11 @@ Wanting v = (v.Same × v.InputSame) ⊎ (IsUnnamed v.words v.holds v.kept v.left
 wanting : (v : View) → Heard v answer.NoMemory → Wanting v
 wanting v (is_usage e none same) = absurd (cc)
 wanting v (is_untold e same) = inl same
-wanting v (is_written c is i h) = inl (h, i)
-wanting v (is_ended c is (inl same)) = inl same
-wanting v (is_ended c is (inr (inl h))) = inr (inl (record { class = h.0; site = h.1.0; ended = ended v c (endings.Unhandled h.0 h.1.0) is h.1.1 }))
-wanting v (is_ended c is (inr (inr h))) = inr (inr (record { command = c; asked_for = is; is_plain = h.0; breaks = h.1 }))
-wanting v (is_executed c is x k h) = inl h
+wanting v (is_written c is named i h) = inl (h, i)
+wanting v (is_ended c is named (inl same)) = inl same
+wanting v (is_ended c is named (inr (inl h))) = inr (inl (record { class = h.0; site = h.1.0; ended = ended v c (endings.Unhandled h.0 h.1.0) is h.1.1 }))
+wanting v (is_ended c is named (inr (inr h))) = inr (inr (record { command = c; asked_for = is; is_plain = h.0; breaks = h.1 }))
+wanting v (is_executed c is named x k h) = inl h
 
 -- what the answer to the words says, with its line
 module _ (v : View) (said said' : Option (List ℕ)) where
@@ -127,8 +128,10 @@ module _ (v : View) (said said' : Option (List ℕ)) where
   abbrev ImageSays : Status → Type 0
   ImageSays status = IsExecutedSo v.words v.holds v.kept v.left v.left' v.sent said said' status
 
-  image_says : (told : CommandAnswer) → ExecutedSo v told → Line (line_of told) → ImageSays (status_of told)
-  image_says told h line = record { told = told; executed = h; status_is = refl; line = line }
+  image_says : (told : CommandAnswer) (h : ExecutedSo v told) → v.name ≡ name_of h.command → Line (line_of v.name told) → ImageSays (status_of told)
+  image_says told h named line =
+      let P : List ℕ → Type 0 = λ name. WasGiven said (line_of name told) said' in
+      record { told = told; executed = h; status_is = refl; line = subst P named line }
 
   -- what stands at a status that is no write fault
   abbrev Says : Status → Type 0
@@ -149,49 +152,57 @@ module _ (v : View) (said said' : Option (List ℕ)) where
   done : Heard v answer.Done → Line [] → Says Done
   done (is_usage e none same) line = absurd (cc)
   done (is_untold e same) line = absurd (cc)
-  done (is_written c is i h) line = inr (inl (record { command = c; asked_for = is; bytes = h.bytes; writes = h.are; printed = h.given_so; line = line }))
-  done (is_ended c is h) line = inl (record { ended = ended v c endings.Value is h; line = line })
-  done (is_executed c is x k h) line = inr (inr (image_says answer.Done (executed v c answer.Done is x k h) line))
+  done (is_written c is named i h) line = inr (inl (record { command = c; asked_for = is; bytes = h.bytes; writes = h.are; printed = h.given_so; line = line }))
+  done (is_ended c is named h) line = inl (record { ended = ended v c endings.Value is h; line = line })
+  done (is_executed c is named x k h) line = inr (inr (image_says answer.Done (executed v c answer.Done is x k h) named line))
 
-  unhandled : (class : List ℕ) (site : Place) → Heard v (answer.Unhandled class site) → Line (unhandled_line class site) → Says Unhandled
+  unhandled : (class : List ℕ) (site : Place) → Heard v (answer.Unhandled class site) → Line (unhandled_line v.name class site) → Says Unhandled
   unhandled class site (is_usage e none same) line = absurd (cc)
   unhandled class site (is_untold e same) line = absurd (cc)
-  unhandled class site (is_written c is i h) line = absurd h
-  unhandled class site (is_ended c is h) line =
-      let P : List ℕ → Type 0 = λ n. WasGiven said (unhandled_line n site) said' in
-      inl (record { class = h.class; site = site; ended = ended v c (endings.Unhandled h.class site) is h.ends; line = subst P h.named line })
-  unhandled class site (is_executed c is x k h) line = absurd h
+  unhandled class site (is_written c is named i h) line = absurd h
+  unhandled class site (is_ended c is named h) line =
+      let P : List ℕ → List ℕ → Type 0 = λ name class. WasGiven said (unhandled_line name class site) said' in
+      inl (record {
+        class = h.class;
+        site = site;
+        ended = ended v c (endings.Unhandled h.class site) is h.ends;
+        line = subst (P (name_of c)) h.named (subst (λ name. P name class) named line);
+      })
+  unhandled class site (is_executed c is named x k h) line = absurd h
 
-  unhandled_class : (class : ℕ) (site : Option Place) → Heard v (answer.UnhandledClass class site) → Line (line_of (answer.UnhandledClass class site)) → Says Unhandled
+  unhandled_class : (class : ℕ) (site : Option Place) → Heard v (answer.UnhandledClass class site) → Line (line_of v.name (answer.UnhandledClass class site)) → Says Unhandled
   unhandled_class class site (is_usage e none same) line = absurd (cc)
   unhandled_class class site (is_untold e same) line = absurd (cc)
-  unhandled_class class site (is_written c is i h) line = absurd h
-  unhandled_class class site (is_ended c is h) line = absurd h
-  unhandled_class class site (is_executed c is x k h) line = inr (image_says (answer.UnhandledClass class site) (executed v c (answer.UnhandledClass class site) is x k h) line)
+  unhandled_class class site (is_written c is named i h) line = absurd h
+  unhandled_class class site (is_ended c is named h) line = absurd h
+  unhandled_class class site (is_executed c is named x k h) line = inr (image_says (answer.UnhandledClass class site) (executed v c (answer.UnhandledClass class site) is x k h) named line)
 
-  usage : Heard v answer.Usage → Line (line_of answer.Usage) → Says Usage
+  usage : Heard v answer.Usage → Line (line_of v.name answer.Usage) → Says Usage
   usage (is_usage e none same) line = (record { asked_for = none; line = line }, same.1)
   usage (is_untold e same) line = absurd (cc)
-  usage (is_written c is i h) line = absurd h
-  usage (is_ended c is h) line = absurd h
-  usage (is_executed c is x k h) line = absurd h
+  usage (is_written c is named i h) line = absurd h
+  usage (is_ended c is named h) line = absurd h
+  usage (is_executed c is named x k h) line = absurd h
 
-  refused : (r : Refusal) → Heard v (answer.Refused r) → Line (refused_line r) → Says Refused
-  refused r (is_usage e none same) line = absurd (cc)
-  refused r (is_untold e same) line = absurd (cc)
-  refused r (is_written c is i h) line =
-      (record { command = c; asked_for = is; refusal = r; offends = h.0; line = line }, h.1.0, i, h.1.1)
-  refused r (is_ended c is h) line =
-      (record { command = c; asked_for = is; refusal = r; offends = h.0; line = line }, h.1.0.0, h.1.0.1, h.1.1)
-  refused r (is_executed c is x k h) line = absurd h
+  abbrev refused_so : Refusal → (text name : List ℕ) → Type 0
+  refused_so r text name = Line (refusal_lines name text r)
+
+  refused : (r : Refusal) (text : List ℕ) → Heard v (answer.Refused r text) → Line (refusal_lines v.name text r) → Says Refused
+  refused r text (is_usage e none same) line = absurd (cc)
+  refused r text (is_untold e same) line = absurd (cc)
+  refused r text (is_written c is named i h) line =
+      (record { command = c; asked_for = is; refusal = r; text = text; offends = h.0; line = subst (refused_so r text) named line }, h.1.0, i, h.1.1)
+  refused r text (is_ended c is named h) line =
+      (record { command = c; asked_for = is; refusal = r; text = text; offends = h.0; line = subst (refused_so r text) named line }, h.1.0.0, h.1.0.1, h.1.1)
+  refused r text (is_executed c is named x k h) line = absurd h
 
   arena_full : (wanted room : ℕ) → Heard v (answer.ArenaFull wanted room) → Line (arena_full_line wanted room) → Says ArenaFull
   arena_full wanted room (is_usage e none same) line = absurd (cc)
   arena_full wanted room (is_untold e same) line = absurd (cc)
-  arena_full wanted room (is_written c is i h) line = absurd h
-  arena_full wanted room (is_ended c is (inl h)) line =
+  arena_full wanted room (is_written c is named i h) line = absurd h
+  arena_full wanted room (is_ended c is named (inl h)) line =
       inl (record { wanted = wanted; room = room; ended = ended v c (endings.Full wanted room) is h; line = line })
-  arena_full wanted room (is_ended c is (inr h)) line =
+  arena_full wanted room (is_ended c is named (inr h)) line =
       let words : ℕ = length h.0.large.is_large.built.image.words in
       let P : ℕ → ℕ → Type 0 = λ n m. WasGiven said (arena_full_line n m) said' in
       inr (inr (
@@ -204,8 +215,8 @@ module _ (v : View) (said said' : Option (List ℕ)) where
         }),
         h.1,
       ))
-  arena_full wanted room (is_executed c is x k (inl h)) line = inr (inl (image_says (answer.ArenaFull wanted room) (executed v c (answer.ArenaFull wanted room) is x k h) line))
-  arena_full wanted room (is_executed c is x k (inr h)) line =
+  arena_full wanted room (is_executed c is named x k (inl h)) line = inr (inl (image_says (answer.ArenaFull wanted room) (executed v c (answer.ArenaFull wanted room) is x k h) named line))
+  arena_full wanted room (is_executed c is named x k (inr h)) line =
       let words : ℕ = length h.0.large.file.image.words in
       let P : ℕ → ℕ → Type 0 = λ n m. WasGiven said (arena_full_line n m) said' in
       inr (inr (
@@ -223,53 +234,53 @@ module _ (v : View) (said said' : Option (List ℕ)) where
   budget : (n : ℕ) → Heard v (answer.Budget n) → Line (budget_line n) → Says Budget
   budget n (is_usage e none same) line = absurd (cc)
   budget n (is_untold e same) line = absurd (cc)
-  budget n (is_written c is i h) line = absurd h
-  budget n (is_ended c is h) line =
+  budget n (is_written c is named i h) line = absurd h
+  budget n (is_ended c is named h) line =
       let P : ℕ → Type 0 = λ m. WasGiven said (budget_line m) said' in
       inl (record { ended = ended v c endings.More is h.1; line = subst P h.0 line })
-  budget n (is_executed c is x k h) line = inr (inr (image_says (answer.Budget n) (executed v c (answer.Budget n) is x k h) line))
+  budget n (is_executed c is named x k h) line = inr (inr (image_says (answer.Budget n) (executed v c (answer.Budget n) is x k h) named line))
 
   spent : Heard v answer.Spent → Line spent_line → Says Budget
   spent (is_usage e none same) line = absurd (cc)
   spent (is_untold e same) line = absurd (cc)
-  spent (is_written c is i h) line = absurd h
-  spent (is_ended c is h) line = inr (inl (record { ended = ended v c endings.Spent is h; line = line }))
-  spent (is_executed c is x k h) line = absurd h
+  spent (is_written c is named i h) line = absurd h
+  spent (is_ended c is named h) line = inr (inl (record { ended = ended v c endings.Spent is h; line = line }))
+  spent (is_executed c is named x k h) line = absurd h
 
   file_fault : Heard v answer.FileFault → Line file_fault_line → Says FileFault
   file_fault (is_usage e none same) line = absurd (cc)
   file_fault (is_untold e same) line = absurd (cc)
-  file_fault (is_written c is i h) line = (h.0, h.1.0, i, h.1.1, line)
-  file_fault (is_ended c is h) line = (h.0, h.1.0.0, h.1.0.1, h.1.1, line)
-  file_fault (is_executed c is x k h) line = (h.0, h.1.0, h.1.1, k, line)
+  file_fault (is_written c is named i h) line = (h.0, h.1.0, i, h.1.1, line)
+  file_fault (is_ended c is named h) line = (h.0, h.1.0.0, h.1.0.1, h.1.1, line)
+  file_fault (is_executed c is named x k h) line = (h.0, h.1.0, h.1.1, k, line)
 
   read_fault : Heard v answer.ReadFault → Line read_fault_line → Says ReadFault
   read_fault (is_usage e none same) line = absurd (cc)
   read_fault (is_untold e same) line = absurd (cc)
-  read_fault (is_written c is i h) line = absurd h
-  read_fault (is_ended c is h) line = (h.0, inl (record { ended = ended v c endings.ReadFault is h.1; line = line }))
-  read_fault (is_executed c is x k h) line = (h.0, inr (image_says answer.ReadFault (executed v c answer.ReadFault is x k h.1) line))
+  read_fault (is_written c is named i h) line = absurd h
+  read_fault (is_ended c is named h) line = (h.0, inl (record { ended = ended v c endings.ReadFault is h.1; line = line }))
+  read_fault (is_executed c is named x k h) line = (h.0, inr (image_says answer.ReadFault (executed v c answer.ReadFault is x k h.1) named line))
 
   bad_image : (r : ImageFault) → Heard v (answer.BadImage r) → Line (bad_image_line r) → Says BadImage
   bad_image r (is_usage e none same) line = absurd (cc)
   bad_image r (is_untold e same) line = absurd (cc)
-  bad_image r (is_written c is i h) line = absurd h
-  bad_image r (is_ended c is h) line = absurd h
-  bad_image r (is_executed c is x k h) line =
+  bad_image r (is_written c is named i h) line = absurd h
+  bad_image r (is_ended c is named h) line = absurd h
+  bad_image r (is_executed c is named x k h) line =
       (record { command = c; asked_for = is; is_exec = x; unkept = k; reason = r; bad = h.0; line = line }, h.1)
 
-  trap : (kind : TrapKind) (address : ℕ) → Heard v (answer.Trap kind address) → Line (line_of (answer.Trap kind address)) → Says Trap
+  trap : (kind : TrapKind) (address : ℕ) → Heard v (answer.Trap kind address) → Line (line_of v.name (answer.Trap kind address)) → Says Trap
   trap kind address (is_usage e none same) line = absurd (cc)
   trap kind address (is_untold e same) line = absurd (cc)
-  trap kind address (is_written c is i h) line = absurd h
-  trap kind address (is_ended c is h) line = absurd h
-  trap kind address (is_executed c is x k h) line = image_says (answer.Trap kind address) (executed v c (answer.Trap kind address) is x k h) line
+  trap kind address (is_written c is named i h) line = absurd h
+  trap kind address (is_ended c is named h) line = absurd h
+  trap kind address (is_executed c is named x k h) line = image_says (answer.Trap kind address) (executed v c (answer.Trap kind address) is x k h) named line
 
-  says : (a : CommandAnswer) → Heard v a → Line (line_of a) → Says (status_of a)
+  says : (a : CommandAnswer) → Heard v a → Line (line_of v.name a) → Says (status_of a)
   says answer.Done w line = done w line
   says (answer.Unhandled class site) w line = unhandled class site w line
   says answer.Usage w line = usage w line
-  says (answer.Refused x) w line = refused x w line
+  says (answer.Refused x text) w line = refused x text w line
   says (answer.ArenaFull wanted room) w line = arena_full wanted room w line
   says (answer.Budget n) w line = budget n w line
   says answer.Spent w line = spent w line
@@ -294,44 +305,44 @@ module _ (v : View) where
   untold : (end : EvaluationEnd) → HasLine end → EndedSo v end → Untold
   untold end l h = inl (record { end = end; has_line = l; ended = h })
 
-  image_untold : (told : CommandAnswer) → line_of told ≢ [] → ExecutedSo v told → Untold
-  image_untold told l h = inr (inr (record { told = told; has_line = l; executed = h }))
+  image_untold : (told : CommandAnswer) → ((name : List ℕ) → line_of name told ≢ []) → ExecutedSo v told → Untold
+  image_untold told l h = inr (inr (record { told = told; executed = h; has_line = l (name_of h.command) }))
 
   cut : Heard v answer.WriteFault → v.Rises × Cut
   cut (is_usage e none same) = absurd (cc)
   cut (is_untold e same) = absurd (cc)
-  cut (is_written c is i h) = (h.0, inr (inl (record { command = c; asked_for = is; bytes = h.1.bytes; writes = h.1.are; printed = h.1.given_so })))
-  cut (is_ended c is h) = (h.0, inl (record { ended = ended v c endings.WriteFault is h.1 }))
-  cut (is_executed c is x k h) = (h.0, inr (inr (executed v c answer.WriteFault is x k h.1)))
+  cut (is_written c is named i h) = (h.0, inr (inl (record { command = c; asked_for = is; bytes = h.1.bytes; writes = h.1.are; printed = h.1.given_so })))
+  cut (is_ended c is named h) = (h.0, inl (record { ended = ended v c endings.WriteFault is h.1 }))
+  cut (is_executed c is named x k h) = (h.0, inr (inr (executed v c answer.WriteFault is x k h.1)))
 
   -- the outside stays where the words, the text or the image file are refused, or the shelf fails
   usage_same : Heard v answer.Usage → v.Same × v.InputSame
   usage_same (is_usage e none same) = same
   usage_same (is_untold e same) = same
-  usage_same (is_written c is i h) = absurd h
-  usage_same (is_ended c is h) = absurd h
-  usage_same (is_executed c is x k h) = absurd h
+  usage_same (is_written c is named i h) = absurd h
+  usage_same (is_ended c is named h) = absurd h
+  usage_same (is_executed c is named x k h) = absurd h
 
-  refused_same : (r : Refusal) → Heard v (answer.Refused r) → v.Same × v.InputSame
-  refused_same r (is_usage e none same) = same
-  refused_same r (is_untold e same) = same
-  refused_same r (is_written c is i h) = (h.1.0, i)
-  refused_same r (is_ended c is h) = h.1.0
-  refused_same r (is_executed c is x k h) = absurd h
+  refused_same : (r : Refusal) (text : List ℕ) → Heard v (answer.Refused r text) → v.Same × v.InputSame
+  refused_same r text (is_usage e none same) = same
+  refused_same r text (is_untold e same) = same
+  refused_same r text (is_written c is named i h) = (h.1.0, i)
+  refused_same r text (is_ended c is named h) = h.1.0
+  refused_same r text (is_executed c is named x k h) = absurd h
 
   file_fault_same : Heard v answer.FileFault → v.Same × v.InputSame
   file_fault_same (is_usage e none same) = same
   file_fault_same (is_untold e same) = same
-  file_fault_same (is_written c is i h) = (h.1.0, i)
-  file_fault_same (is_ended c is h) = h.1.0
-  file_fault_same (is_executed c is x k h) = h.1
+  file_fault_same (is_written c is named i h) = (h.1.0, i)
+  file_fault_same (is_ended c is named h) = h.1.0
+  file_fault_same (is_executed c is named x k h) = h.1
 
   bad_image_same : (r : ImageFault) → Heard v (answer.BadImage r) → v.Same × v.InputSame
   bad_image_same r (is_usage e none same) = same
   bad_image_same r (is_untold e same) = same
-  bad_image_same r (is_written c is i h) = absurd h
-  bad_image_same r (is_ended c is h) = absurd h
-  bad_image_same r (is_executed c is x k h) = h.1
+  bad_image_same r (is_written c is named i h) = absurd h
+  bad_image_same r (is_ended c is named h) = absurd h
+  bad_image_same r (is_executed c is named x k h) = h.1
 
   -- a write fault is one of a line with nothing touched before it, one of the output, or one of the line of a run or of an evaluation
   abbrev Faults : Type 0 → Type 0
@@ -341,74 +352,74 @@ module _ (v : View) where
   unhandled_untold : (ErrRises : Type 0) (class : List ℕ) (site : Place) → ErrRises → Heard v (answer.Unhandled class site) → Faults ErrRises
   unhandled_untold ErrRises class site f (is_usage e none same) = inl (f, same)
   unhandled_untold ErrRises class site f (is_untold e same) = inl (f, same)
-  unhandled_untold ErrRises class site f (is_written c is i h) = absurd h
-  unhandled_untold ErrRises class site f (is_ended c is h) =
+  unhandled_untold ErrRises class site f (is_written c is named i h) = absurd h
+  unhandled_untold ErrRises class site f (is_ended c is named h) =
       inr (inr (f, untold (endings.Unhandled h.class site) tt (ended v c (endings.Unhandled h.class site) is h.ends)))
-  unhandled_untold ErrRises class site f (is_executed c is x k h) = absurd h
+  unhandled_untold ErrRises class site f (is_executed c is named x k h) = absurd h
 
   class_untold : (ErrRises : Type 0) (class : ℕ) (site : Option Place) → ErrRises → Heard v (answer.UnhandledClass class site) → Faults ErrRises
   class_untold ErrRises class site f (is_usage e none same) = inl (f, same)
   class_untold ErrRises class site f (is_untold e same) = inl (f, same)
-  class_untold ErrRises class site f (is_written c is i h) = absurd h
-  class_untold ErrRises class site f (is_ended c is h) = absurd h
-  class_untold ErrRises class site f (is_executed c is x k h) =
-      inr (inr (f, image_untold (answer.UnhandledClass class site) (line_some (labelled (codes "unhandled class ") class ++ site_text site)) (executed v c (answer.UnhandledClass class site) is x k h)))
+  class_untold ErrRises class site f (is_written c is named i h) = absurd h
+  class_untold ErrRises class site f (is_ended c is named h) = absurd h
+  class_untold ErrRises class site f (is_executed c is named x k h) =
+      inr (inr (f, image_untold (answer.UnhandledClass class site) (λ name. line_some (labelled (codes "unhandled class ") class ++ site_text site)) (executed v c (answer.UnhandledClass class site) is x k h)))
 
   full_untold : (ErrRises : Type 0) (wanted room : ℕ) → ErrRises → Heard v (answer.ArenaFull wanted room) → Faults ErrRises
   full_untold ErrRises wanted room f (is_usage e none same) = inl (f, same)
   full_untold ErrRises wanted room f (is_untold e same) = inl (f, same)
-  full_untold ErrRises wanted room f (is_written c is i h) = absurd h
-  full_untold ErrRises wanted room f (is_ended c is (inl h)) =
+  full_untold ErrRises wanted room f (is_written c is named i h) = absurd h
+  full_untold ErrRises wanted room f (is_ended c is named (inl h)) =
       inr (inr (f, untold (endings.Full wanted room) tt (ended v c (endings.Full wanted room) is h)))
-  full_untold ErrRises wanted room f (is_ended c is (inr h)) = inl (f, h.1)
-  full_untold ErrRises wanted room f (is_executed c is x k (inl h)) =
-      inr (inr (f, image_untold (answer.ArenaFull wanted room) (λ no. cc) (executed v c (answer.ArenaFull wanted room) is x k h)))
-  full_untold ErrRises wanted room f (is_executed c is x k (inr h)) = inl (f, h.1)
+  full_untold ErrRises wanted room f (is_ended c is named (inr h)) = inl (f, h.1)
+  full_untold ErrRises wanted room f (is_executed c is named x k (inl h)) =
+      inr (inr (f, image_untold (answer.ArenaFull wanted room) (λ name no. cc) (executed v c (answer.ArenaFull wanted room) is x k h)))
+  full_untold ErrRises wanted room f (is_executed c is named x k (inr h)) = inl (f, h.1)
 
   budget_untold : (ErrRises : Type 0) (n : ℕ) → ErrRises → Heard v (answer.Budget n) → Faults ErrRises
   budget_untold ErrRises n f (is_usage e none same) = inl (f, same)
   budget_untold ErrRises n f (is_untold e same) = inl (f, same)
-  budget_untold ErrRises n f (is_written c is i h) = absurd h
-  budget_untold ErrRises n f (is_ended c is h) = inr (inr (f, untold endings.More tt (ended v c endings.More is h.1)))
-  budget_untold ErrRises n f (is_executed c is x k h) =
-      inr (inr (f, image_untold (answer.Budget n) (λ no. cc) (executed v c (answer.Budget n) is x k h)))
+  budget_untold ErrRises n f (is_written c is named i h) = absurd h
+  budget_untold ErrRises n f (is_ended c is named h) = inr (inr (f, untold endings.More tt (ended v c endings.More is h.1)))
+  budget_untold ErrRises n f (is_executed c is named x k h) =
+      inr (inr (f, image_untold (answer.Budget n) (λ name no. cc) (executed v c (answer.Budget n) is x k h)))
 
   spent_untold : (ErrRises : Type 0) → ErrRises → Heard v answer.Spent → Faults ErrRises
   spent_untold ErrRises f (is_usage e none same) = inl (f, same)
   spent_untold ErrRises f (is_untold e same) = inl (f, same)
-  spent_untold ErrRises f (is_written c is i h) = absurd h
-  spent_untold ErrRises f (is_ended c is h) = inr (inr (f, untold endings.Spent tt (ended v c endings.Spent is h)))
-  spent_untold ErrRises f (is_executed c is x k h) = absurd h
+  spent_untold ErrRises f (is_written c is named i h) = absurd h
+  spent_untold ErrRises f (is_ended c is named h) = inr (inr (f, untold endings.Spent tt (ended v c endings.Spent is h)))
+  spent_untold ErrRises f (is_executed c is named x k h) = absurd h
 
   read_fault_untold : (ErrRises : Type 0) → ErrRises → Heard v answer.ReadFault → Faults ErrRises
   read_fault_untold ErrRises f (is_usage e none same) = inl (f, same)
   read_fault_untold ErrRises f (is_untold e same) = inl (f, same)
-  read_fault_untold ErrRises f (is_written c is i h) = absurd h
-  read_fault_untold ErrRises f (is_ended c is h) = inr (inr (f, untold endings.ReadFault tt (ended v c endings.ReadFault is h.1)))
-  read_fault_untold ErrRises f (is_executed c is x k h) =
-      inr (inr (f, image_untold answer.ReadFault (λ no. cc) (executed v c answer.ReadFault is x k h.1)))
+  read_fault_untold ErrRises f (is_written c is named i h) = absurd h
+  read_fault_untold ErrRises f (is_ended c is named h) = inr (inr (f, untold endings.ReadFault tt (ended v c endings.ReadFault is h.1)))
+  read_fault_untold ErrRises f (is_executed c is named x k h) =
+      inr (inr (f, image_untold answer.ReadFault (λ name no. cc) (executed v c answer.ReadFault is x k h.1)))
 
   trap_untold : (ErrRises : Type 0) (kind : TrapKind) (address : ℕ) → ErrRises → Heard v (answer.Trap kind address) → Faults ErrRises
   trap_untold ErrRises kind address f (is_usage e none same) = inl (f, same)
   trap_untold ErrRises kind address f (is_untold e same) = inl (f, same)
-  trap_untold ErrRises kind address f (is_written c is i h) = absurd h
-  trap_untold ErrRises kind address f (is_ended c is h) = absurd h
-  trap_untold ErrRises kind address f (is_executed c is x k h) =
-      inr (inr (f, image_untold (answer.Trap kind address) (line_some (labelled (codes "trap ") (trap_number kind) ++ labelled (codes " ") address)) (executed v c (answer.Trap kind address) is x k h)))
+  trap_untold ErrRises kind address f (is_written c is named i h) = absurd h
+  trap_untold ErrRises kind address f (is_ended c is named h) = absurd h
+  trap_untold ErrRises kind address f (is_executed c is named x k h) =
+      inr (inr (f, image_untold (answer.Trap kind address) (λ name. line_some (labelled (codes "trap ") (trap_number kind) ++ labelled (codes " ") address)) (executed v c (answer.Trap kind address) is x k h)))
 
   by_line : (ErrRises : Type 0) → ErrRises → Wanting v → Faults ErrRises
   by_line ErrRises f (inl same) = inl (f, same)
   by_line ErrRises f (inr (inl h)) = inr (inr (f, untold (endings.Unhandled h.class h.site) tt h.ended))
   by_line ErrRises f (inr (inr b)) = inr (inr (f, inr (inl b)))
 
-  write_fault : (a : CommandAnswer) (r : Status) (ErrRises : Type 0) → Heard v a → r ≡ WriteFault → (r ≡ WriteFault → status_of a ≢ WriteFault → ErrRises) → (line_of a ≡ [] → r ≡ status_of a) → Faults ErrRises
+  write_fault : (a : CommandAnswer) (r : Status) (ErrRises : Type 0) → Heard v a → r ≡ WriteFault → (r ≡ WriteFault → status_of a ≢ WriteFault → ErrRises) → (line_of v.name a ≡ [] → r ≡ status_of a) → Faults ErrRises
   write_fault answer.Done r ErrRises w e fault quiet = absurd (done_is_none (sym (quiet refl) ∙ e))
     where
       done_is_none : Done ≡ WriteFault → ⊥
       done_is_none h = cc
   write_fault (answer.Unhandled class site) r ErrRises w e fault quiet = unhandled_untold ErrRises class site (fault e (λ h. cc)) w
   write_fault answer.Usage r ErrRises w e fault quiet = inl (fault e (λ h. cc), usage_same w)
-  write_fault (answer.Refused x) r ErrRises w e fault quiet = inl (fault e (λ h. cc), refused_same x w)
+  write_fault (answer.Refused x text) r ErrRises w e fault quiet = inl (fault e (λ h. cc), refused_same x text w)
   write_fault (answer.ArenaFull wanted room) r ErrRises w e fault quiet = full_untold ErrRises wanted room (fault e (λ h. cc)) w
   write_fault (answer.Budget n) r ErrRises w e fault quiet = budget_untold ErrRises n (fault e (λ h. cc)) w
   write_fault answer.Spent r ErrRises w e fault quiet = spent_untold ErrRises (fault e (λ h. cc)) w
@@ -420,11 +431,17 @@ module _ (v : View) where
   write_fault (answer.Trap kind address) r ErrRises w e fault quiet = trap_untold ErrRises kind address (fault e (λ h. cc)) w
   write_fault answer.NoMemory r ErrRises w e fault quiet = by_line ErrRises (fault e (λ h. cc)) (wanting v w)
 
+  -- the line calls the text as the words do, where it calls it anything
+  line_named : (a : CommandAnswer) → Told v a → line_of v.name a ≡ line_of (name_in (asked v.words)) a
+  line_named a (was_usage e none shelf same i k) = subst (λ (x : CommandAnswer). line_of v.name x ≡ line_of (name_in (asked v.words)) x) (sym e) refl
+  line_named a (was_untold e shelf same i k) = subst (λ (x : CommandAnswer). line_of v.name x ≡ line_of (name_in (asked v.words)) x) (sym e) refl
+  line_named a (was_asked c is named o) = ap (λ name. line_of name a) (named ∙ ap name_in (sym is))
+
   -- where the words are no command, nothing is touched
   untouched : (a : CommandAnswer) → Told v a → asked v.words ≡ None → ((a ≡ answer.Usage) ⊎ (a ≡ answer.NoMemory)) × v.ShelfSame × v.Same × v.InputSame × (v.kept ≡ None)
   untouched a (was_usage e none shelf same i k) h = (inl e, shelf, same, i, k)
   untouched a (was_untold e shelf same i k) h = (inr e, shelf, same, i, k)
-  untouched a (was_asked c is o) h = absurd (cc)
+  untouched a (was_asked c is named o) h = absurd (cc)
 
   words_first : (a : CommandAnswer) (r : Status) → Told v a → (r ≢ WriteFault → r ≡ status_of a) → asked v.words ≡ None
       → ((r ≡ Usage) ⊎ ((r ≡ WriteFault) ⊎ (r ≡ NoMemory))) × v.ShelfSame × v.Same × v.InputSame × (v.kept ≡ None)
@@ -463,37 +480,37 @@ module _ (v : View) where
     input_same : (a : CommandAnswer) → Told v a → ReadsNothing command.action → v.InputSame
     input_same a (was_usage e none shelf same i k) h = i
     input_same a (was_untold e shelf same i k) h = i
-    input_same a (was_asked c is (was_ended r m o)) h = absurd (reads c.action r (never ReadsNothing c c.action is refl h))
-    input_same a (was_asked c is (was_plain p k o)) h = absurd (never ReadsNothing c Plain is p h)
-    input_same a (was_asked c is (was_check p i k o)) h = i
-    input_same a (was_asked c is (was_build p i o)) h = i
-    input_same a (was_asked c is (was_exec p k o)) h = absurd (never ReadsNothing c Exec is p h)
+    input_same a (was_asked c is named (was_ended r m o)) h = absurd (reads c.action r (never ReadsNothing c c.action is refl h))
+    input_same a (was_asked c is named (was_plain p k o)) h = absurd (never ReadsNothing c Plain is p h)
+    input_same a (was_asked c is named (was_check p i k o)) h = i
+    input_same a (was_asked c is named (was_build p i o)) h = i
+    input_same a (was_asked c is named (was_exec p k o)) h = absurd (never ReadsNothing c Exec is p h)
 
     unkept : (a : CommandAnswer) → Told v a → KeepsNothing command.action → v.kept ≡ None
     unkept a (was_usage e none shelf same i k) h = k
     unkept a (was_untold e shelf same i k) h = k
-    unkept a (was_asked c is (was_ended r m o)) h = absurd (keeps c.action r (never KeepsNothing c c.action is refl h))
-    unkept a (was_asked c is (was_plain p k o)) h = k
-    unkept a (was_asked c is (was_check p i k o)) h = k
-    unkept a (was_asked c is (was_build p i o)) h = absurd (never KeepsNothing c Build is p h)
-    unkept a (was_asked c is (was_exec p k o)) h = k
+    unkept a (was_asked c is named (was_ended r m o)) h = absurd (keeps c.action r (never KeepsNothing c c.action is refl h))
+    unkept a (was_asked c is named (was_plain p k o)) h = k
+    unkept a (was_asked c is named (was_check p i k o)) h = k
+    unkept a (was_asked c is named (was_build p i o)) h = absurd (never KeepsNothing c Build is p h)
+    unkept a (was_asked c is named (was_exec p k o)) h = k
 
     shelf_same : (a : CommandAnswer) → Told v a → MakesText command.action → v.ShelfSame
     shelf_same a (was_usage e none shelf same i k) h = shelf
     shelf_same a (was_untold e shelf same i k) h = shelf
-    shelf_same a (was_asked c is (was_ended r m o)) h = m (never MakesText c c.action is refl h)
-    shelf_same a (was_asked c is (was_plain p k o)) h = absurd (never MakesText c Plain is p h)
-    shelf_same a (was_asked c is (was_check p i k o)) h = absurd (never MakesText c Check is p h)
-    shelf_same a (was_asked c is (was_build p i o)) h = absurd (never MakesText c Build is p h)
-    shelf_same a (was_asked c is (was_exec p k o)) h = absurd (never MakesText c Exec is p h)
+    shelf_same a (was_asked c is named (was_ended r m o)) h = m (never MakesText c c.action is refl h)
+    shelf_same a (was_asked c is named (was_plain p k o)) h = absurd (never MakesText c Plain is p h)
+    shelf_same a (was_asked c is named (was_check p i k o)) h = absurd (never MakesText c Check is p h)
+    shelf_same a (was_asked c is named (was_build p i o)) h = absurd (never MakesText c Build is p h)
+    shelf_same a (was_asked c is named (was_exec p k o)) h = absurd (never MakesText c Exec is p h)
 
 -- a call that answered a and ended with the status r, whose line was written
 pub record CallEnded (v : View) (ErrRises : Type 0) (said said' : Option (List ℕ)) (a : CommandAnswer) (r : Status) : Type 0 where
-  pub told : WordsAnswers a v.words v.holds v.kept v.left v.left' v.sent v.ShelfRises v.SourceRises v.Rises v.Same v.InputSame v.ShelfSame
+  pub told : WordsAnswers a v.name v.words v.holds v.kept v.left v.left' v.sent v.ShelfRises v.SourceRises v.Rises v.Same v.InputSame v.ShelfSame
   pub written : r ≢ WriteFault → r ≡ status_of a
-  pub line : r ≢ WriteFault → WasGiven said (line_of a) said'
+  pub line : r ≢ WriteFault → WasGiven said (line_of v.name a) said'
   pub fault : r ≡ WriteFault → status_of a ≢ WriteFault → ErrRises
-  pub quiet : line_of a ≡ [] → r ≡ status_of a
+  pub quiet : line_of v.name a ≡ [] → r ≡ status_of a
 
 -- what stands after it
 module _ {v : View} {ErrRises : Type 0} {said said' : Option (List ℕ)} {a : CommandAnswer} {r : Status} (c : CallEnded v ErrRises said said' a r) where
@@ -543,8 +560,8 @@ module _ {v : View} {ErrRises : Type 0} {said said' : Option (List ℕ)} {a : Co
   pub ends_no_memory : r ≡ NoMemory → ((v.Same × v.InputSame) ⊎ (IsUnnamed v.words v.holds v.kept v.left v.left' v.sent ⊎ IsBroken v.words v.holds v.kept v.left v.left' v.sent)) × WasGiven said no_memory_line said'
   ends_no_memory e = ends NoMemory e (λ h. cc)
 
-  pub ends_line : r ≢ WriteFault → (told : CommandAnswer) × ((r ≡ status_of told) × WasGiven said (line_of told) said')
-  ends_line other = (a, (c.written other, c.line other))
+  pub ends_line : r ≢ WriteFault → (told : CommandAnswer) × ((r ≡ status_of told) × WasGiven said (line_of (name_in (asked v.words)) told) said')
+  ends_line other = (a, (c.written other, subst (λ text. WasGiven said text said') (line_named v a c.told) (c.line other)))
 
   pub ends_input : (command : Request) → asked v.words ≡ Some command → ReadsNothing command.action → v.InputSame
   ends_input command is h = input_same v command is a c.told h

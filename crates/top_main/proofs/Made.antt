@@ -75,7 +75,7 @@ module _ (n : ℕ) (names : List (List ℕ)) (program : ProgramRows) (kept : Opt
   of_other answer.Spent other h = h
   of_other answer.ReadFault other h = h
   of_other answer.WriteFault other h = (h.0, inl h.1)
-  of_other (answer.Refused r) other h = h
+  of_other (answer.Refused r text) other h = h
   of_other answer.FileFault other h = h
   of_other answer.NoMemory other (inl h) = inl h
   of_other answer.NoMemory other (inr (inl h)) = inr (inl h)
@@ -114,7 +114,7 @@ module _ (n : ℕ) (names : List (List ℕ)) (program : ProgramRows) (kept : Opt
   of_counts (answer.Budget m) run done counted ran h = absurd h
   of_counts answer.Spent run done counted ran h = absurd h
   of_counts answer.ReadFault run done counted ran h = absurd h
-  of_counts (answer.Refused r) run done counted ran h = absurd h.0
+  of_counts (answer.Refused r text) run done counted ran h = absurd h.0
   of_counts answer.FileFault run done counted ran h = absurd h.0
   of_counts answer.NoMemory run done counted ran h = absurd h
   of_counts answer.Usage run done counted ran h = absurd h

@@ -91,7 +91,7 @@ of_large names program image wanted arena steps left left' sent SourceRises Rise
     )
 
 -- an answer, where each thing that it may tell is told in other words
-module _ (Ends Ends' : EvaluationEnd → Type 0) (Signals Signals' : List ℕ → Place → Type 0) (Large Large' : ℕ → ℕ → Type 0) (Breaks Breaks' : Type 0) (Bad Bad' : Refusal → Type 0) (ShelfRises ShelfRises' SourceRises Rises Same Unkept Unkept' : Type 0) (ends : (end : EvaluationEnd) → Ends end → Ends' end) (signals : (name : List ℕ) (site : Place) → Signals name site → Signals' name site) (large : (wanted room : ℕ) → Large wanted room → Large' wanted room) (breaks : Breaks → Breaks') (bad : (r : Refusal) → Bad r → Bad' r) (shelf : ShelfRises → ShelfRises') (unkept : Unkept → Unkept') where
+module _ (Ends Ends' : EvaluationEnd → Type 0) (Signals Signals' : List ℕ → Place → Type 0) (Large Large' : ℕ → ℕ → Type 0) (Breaks Breaks' : Type 0) (Bad Bad' : Refusal → List ℕ → Type 0) (ShelfRises ShelfRises' SourceRises Rises Same Unkept Unkept' : Type 0) (ends : (end : EvaluationEnd) → Ends end → Ends' end) (signals : (name : List ℕ) (site : Place) → Signals name site → Signals' name site) (large : (wanted room : ℕ) → Large wanted room → Large' wanted room) (breaks : Breaks → Breaks') (bad : (r : Refusal) (text : List ℕ) → Bad r text → Bad' r text) (shelf : ShelfRises → ShelfRises') (unkept : Unkept → Unkept') where
   pub retold : (a : CommandAnswer) (steps : ℕ) → EndedAnswers a steps Ends Signals Large Breaks Bad ShelfRises SourceRises Rises Same Unkept → EndedAnswers a steps Ends' Signals' Large' Breaks' Bad' ShelfRises' SourceRises Rises Same Unkept'
   retold answer.Done steps h = ends endings.Value h
   retold (answer.Unhandled class site) steps h = signals class site h
@@ -101,7 +101,7 @@ module _ (Ends Ends' : EvaluationEnd → Type 0) (Signals Signals' : List ℕ �
   retold answer.Spent steps h = ends endings.Spent h
   retold answer.ReadFault steps h = (h.0, ends endings.ReadFault h.1)
   retold answer.WriteFault steps h = (h.0, ends endings.WriteFault h.1)
-  retold (answer.Refused r) steps h = (bad r h.0, (h.1.0, unkept h.1.1))
+  retold (answer.Refused r text) steps h = (bad r text h.0, (h.1.0, unkept h.1.1))
   retold answer.FileFault steps h = (shelf h.0, (h.1.0, unkept h.1.1))
   retold answer.NoMemory steps (inl same) = inl same
   retold answer.NoMemory steps (inr (inl h)) = inr (inl (h.0, (h.1.0, ends (endings.Unhandled h.0 h.1.0) h.1.1)))
@@ -152,15 +152,15 @@ module _ (action : Action) (held : Option (List ℕ)) (text : List ℕ) (whole :
       (ProgramSignals action whole.names whole.program kept arena steps left left' sent) (FileSignals action held kept arena steps left left' sent)
       (ProgramIsLarge action whole.names whole.program kept arena) (FileIsLargeSo action held kept arena)
       (ProgramBreaks action whole.names whole.program kept arena steps left left' sent) ((action ≡ Plain) × FileBreaks action held kept arena steps left left' sent)
-      (λ r. ⊥) (Offends action held) ⊥ ShelfRises SourceRises Rises Same ⊥ (kept ≡ None)
-      ends signals large breaks (λ r x. absurd x) (λ x. absurd x) (λ x. absurd x) a steps h
+      (λ r text. ⊥) (Offends action held) ⊥ ShelfRises SourceRises Rises Same ⊥ (kept ≡ None)
+      ends signals large breaks (λ r text x. absurd x) (λ x. absurd x) (λ x. absurd x) a steps h
 
 -- the text is none
 pub of_stop : (a : CommandAnswer) (s : Stop) (action : Action) (m : Mode) (held : Option (List ℕ)) (text : List ℕ) (kept : Option Image) (arena steps : ℕ) (left left' : Option (List ℕ)) (sent : Sent) (ShelfRises SourceRises Rises Same : Type 0)
-    → a ≡ answer_of_stop s → m ≡ mode_of action → IsTextOf action held text → IsNoProgram library text m s → Same → kept ≡ None
+    → a ≡ answer_of_stop text s → m ≡ mode_of action → IsTextOf action held text → IsNoProgram library text m s → Same → kept ≡ None
     → FileAnswers a action held kept arena steps left left' sent ShelfRises SourceRises Rises Same
 of_stop a (stop.Refused r) action m held text kept arena steps left left' sent ShelfRises SourceRises Rises Same is mode_is is_text refuses same empty =
-    let offends : Offends action held r = record { text = text; is_text = is_text; refuses = subst (λ (x : Mode). IsNoProgram library text x (stop.Refused r)) mode_is refuses } in
+    let offends : Offends action held r text = record { is_text = is_text; refuses = subst (λ (x : Mode). IsNoProgram library text x (stop.Refused r)) mode_is refuses } in
     subst (λ x. FileAnswers x action held kept arena steps left left' sent ShelfRises SourceRises Rises Same) (sym is) (offends, (same, empty))
 of_stop a stop.NoMemory action m held text kept arena steps left left' sent ShelfRises SourceRises Rises Same is mode_is is_text refuses same empty =
     subst (λ x. FileAnswers x action held kept arena steps left left' sent ShelfRises SourceRises Rises Same) (sym is) (inl same)
@@ -187,8 +187,8 @@ module _ (names : List (List ℕ)) (program : ProgramRows) (kept : Option Image)
         (ProgramSignals Run names program kept arena steps left left' sent) (ProgramSignals action names program kept arena steps left left' sent)
         (ProgramIsLarge Run names program kept arena) (ProgramIsLarge action names program kept arena)
         (ProgramBreaks Run names program kept arena steps left left' sent) (ProgramBreaks action names program kept arena steps left left' sent)
-        (λ r. ⊥) (λ r. ⊥) ⊥ ⊥ SourceRises Rises Same ⊥ ⊥
-        ends its_signals its_large its_breaks (λ r x. x) (λ x. x) (λ x. x) a steps h
+        (λ r text. ⊥) (λ r text. ⊥) ⊥ ⊥ SourceRises Rises Same ⊥ ⊥
+        ends its_signals its_large its_breaks (λ r text x. x) (λ x. x) (λ x. x) a steps h
 
   shown : (end : EvaluationEnd) → RunCame names program kept arena steps left left' sent end → Came Show names program kept arena steps left left' sent end
   shown end h = h
@@ -212,7 +212,7 @@ of_no_shelf (answer.Budget n) action held kept arena steps left left' sent Shelf
 of_no_shelf answer.Spent action held kept arena steps left left' sent ShelfRises SourceRises Rises Same h = h
 of_no_shelf answer.ReadFault action held kept arena steps left left' sent ShelfRises SourceRises Rises Same h = h
 of_no_shelf answer.WriteFault action held kept arena steps left left' sent ShelfRises SourceRises Rises Same h = h
-of_no_shelf (answer.Refused r) action held kept arena steps left left' sent ShelfRises SourceRises Rises Same h = h
+of_no_shelf (answer.Refused r text) action held kept arena steps left left' sent ShelfRises SourceRises Rises Same h = h
 of_no_shelf answer.FileFault action held kept arena steps left left' sent ShelfRises SourceRises Rises Same h = absurd h.0
 of_no_shelf answer.NoMemory action held kept arena steps left left' sent ShelfRises SourceRises Rises Same h = h
 of_no_shelf answer.Usage action held kept arena steps left left' sent ShelfRises SourceRises Rises Same h = absurd h

@@ -19,11 +19,11 @@ use Rattle.top_main.specs.Answers.{Wrote, WrittenAnswers, WriteAnswers, BytesAns
 use Rattle.top_main.specs.Theorem.{library, mode_of, IsTextOf, IsWhole, Offends, IsFileOf, Writes}
 
 -- an answer, where each thing that it may tell is told in other words
-module _ (All All' Front Front' : Type 0) (Bad Bad' : Refusal → Type 0) (ShelfRises ShelfRises' Rises Same Same' Unkept Unkept' : Type 0) (all : All → All') (front : Front → Front') (bad : (r : Refusal) → Bad r → Bad' r) (shelf : ShelfRises → ShelfRises') (same : Same → Same') (unkept : Unkept → Unkept') where
+module _ (All All' Front Front' : Type 0) (Bad Bad' : Refusal → List ℕ → Type 0) (ShelfRises ShelfRises' Rises Same Same' Unkept Unkept' : Type 0) (all : All → All') (front : Front → Front') (bad : (r : Refusal) (text : List ℕ) → Bad r text → Bad' r text) (shelf : ShelfRises → ShelfRises') (same : Same → Same') (unkept : Unkept → Unkept') where
   pub rewritten : (a : CommandAnswer) → WrittenAnswers a All Front Bad ShelfRises Rises Same Unkept → WrittenAnswers a All' Front' Bad' ShelfRises' Rises Same' Unkept'
   rewritten answer.Done h = all h
   rewritten answer.WriteFault h = (h.0, front h.1)
-  rewritten (answer.Refused r) h = (bad r h.0, (same h.1.0, unkept h.1.1))
+  rewritten (answer.Refused r text) h = (bad r text h.0, (same h.1.0, unkept h.1.1))
   rewritten answer.FileFault h = (shelf h.0, (same h.1.0, unkept h.1.1))
   rewritten answer.NoMemory h = same h
   rewritten (answer.Budget n) h = absurd h
@@ -41,11 +41,11 @@ module _ (Bytes : List ℕ → Type 0) (bytes : List ℕ) (are : Bytes bytes) (g
   wrote : (Given : Option (List ℕ) → List ℕ → Option (List ℕ) → Type 0) → Given given bytes given' → Wrote Bytes Given given given'
   wrote Given h = record { bytes = bytes; are = are; given_so = h }
 
-  pub of_bytes : (a : CommandAnswer) (Bad : Refusal → Type 0) (ShelfRises Rises Same Unkept : Type 0) → BytesAnswers a bytes given given' Rises
+  pub of_bytes : (a : CommandAnswer) (Bad : Refusal → List ℕ → Type 0) (ShelfRises Rises Same Unkept : Type 0) → BytesAnswers a bytes given given' Rises
       → WrittenAnswers a (Wrote Bytes WasGiven given given') (Wrote Bytes WasGivenFront given given') Bad ShelfRises Rises Same Unkept
   of_bytes a Bad ShelfRises Rises Same Unkept h =
-      rewritten (WasGiven given bytes given') (Wrote Bytes WasGiven given given') (WasGivenFront given bytes given') (Wrote Bytes WasGivenFront given given') (λ r. ⊥) Bad ⊥ ShelfRises Rises ⊥ Same ⊥ Unkept
-      (wrote WasGiven) (wrote WasGivenFront) (λ r x. absurd x) (λ x. absurd x) (λ x. absurd x) (λ x. absurd x) a h
+      rewritten (WasGiven given bytes given') (Wrote Bytes WasGiven given given') (WasGivenFront given bytes given') (Wrote Bytes WasGivenFront given given') (λ r text. ⊥) Bad ⊥ ShelfRises Rises ⊥ Same ⊥ Unkept
+      (wrote WasGiven) (wrote WasGivenFront) (λ r text x. absurd x) (λ x. absurd x) (λ x. absurd x) (λ x. absurd x) a h
 
 -- the line `ok` of a text that is a whole program
 pub of_ok : (a : CommandAnswer) (held : Option (List ℕ)) (text : List ℕ) (whole : IsWhole Check text) (given given' : Option (List ℕ)) (ShelfRises Rises Same : Type 0) → IsTextOf Check held text
@@ -58,7 +58,7 @@ pub of_file : (a : CommandAnswer) (names : List (List ℕ)) (program : ProgramRo
     → IsImageOf names program image → ImageText bytes 2 image program.sites → BytesAnswers a bytes given given' Rises
     → BuildAnswers a names program (Some image) given given' Rises Same
 of_file a names program image bytes given given' Rises Same is_image text h =
-    of_bytes (IsFileOf names program (Some image)) bytes (record { built = record { image = image; is_kept = refl; is_image = is_image }; is_file = text }) given given' a (λ r. ⊥) ⊥ Rises Same ⊥ h
+    of_bytes (IsFileOf names program (Some image)) bytes (record { built = record { image = image; is_kept = refl; is_image = is_image }; is_file = text }) given given' a (λ r text. ⊥) ⊥ Rises Same ⊥ h
 
 -- of a text that is a whole program
 module _ (held : Option (List ℕ)) (text : List ℕ) (whole : IsWhole Build text) (kept : Option Image) (given given' : Option (List ℕ)) (is_text : IsTextOf Build held text) where
@@ -68,14 +68,14 @@ module _ (held : Option (List ℕ)) (text : List ℕ) (whole : IsWhole Build tex
   pub of_built : (a : CommandAnswer) (ShelfRises Rises Same : Type 0) → BuildAnswers a whole.names whole.program kept given given' Rises Same → WriteAnswers a Build held kept given given' ShelfRises Rises Same
   of_built a ShelfRises Rises Same h =
       rewritten (Wrote (IsFileOf whole.names whole.program kept) WasGiven given given') (Wrote (Writes Build held kept) WasGiven given given')
-      (Wrote (IsFileOf whole.names whole.program kept) WasGivenFront given given') (Wrote (Writes Build held kept) WasGivenFront given given') (λ r. ⊥) (Offends Build held) ⊥ ShelfRises Rises Same Same ⊥ (kept ≡ None)
-      (builds WasGiven) (builds WasGivenFront) (λ r x. absurd x) (λ x. absurd x) (λ x. x) (λ x. absurd x) a h
+      (Wrote (IsFileOf whole.names whole.program kept) WasGivenFront given given') (Wrote (Writes Build held kept) WasGivenFront given given') (λ r text. ⊥) (Offends Build held) ⊥ ShelfRises Rises Same Same ⊥ (kept ≡ None)
+      (builds WasGiven) (builds WasGivenFront) (λ r text x. absurd x) (λ x. absurd x) (λ x. x) (λ x. absurd x) a h
 
 -- of a text that is none
 pub of_no_program : (a : CommandAnswer) (s : Stop) (action : Action) (held : Option (List ℕ)) (text : List ℕ) (kept : Option Image) (given given' : Option (List ℕ)) (ShelfRises Rises Same : Type 0)
-    → a ≡ answer_of_stop s → IsTextOf action held text → IsNoProgram library text (mode_of action) s → Same → kept ≡ None → WriteAnswers a action held kept given given' ShelfRises Rises Same
+    → a ≡ answer_of_stop text s → IsTextOf action held text → IsNoProgram library text (mode_of action) s → Same → kept ≡ None → WriteAnswers a action held kept given given' ShelfRises Rises Same
 of_no_program a (stop.Refused r) action held text kept given given' ShelfRises Rises Same is is_text refuses same empty =
-    let offends : Offends action held r = record { text = text; is_text = is_text; refuses = refuses } in
+    let offends : Offends action held r text = record { is_text = is_text; refuses = refuses } in
     subst (λ x. WriteAnswers x action held kept given given' ShelfRises Rises Same) (sym is) (offends, (same, empty))
 of_no_program a stop.NoMemory action held text kept given given' ShelfRises Rises Same is is_text refuses same empty =
     subst (λ x. WriteAnswers x action held kept given given' ShelfRises Rises Same) (sym is) same
@@ -86,4 +86,4 @@ pub of_shelf : (a : CommandAnswer) (action : Action) (held : Option (List ℕ)) 
 of_shelf a action held kept given given' ShelfRises Rises Same h =
     let All : Type 0 = Wrote (Writes action held kept) WasGiven given given' in
     let Front : Type 0 = Wrote (Writes action held kept) WasGivenFront given given' in
-    rewritten All All Front Front (Offends action held) (Offends action held) ⊥ ShelfRises Rises Same Same (kept ≡ None) (kept ≡ None) (λ x. x) (λ x. x) (λ r x. x) (λ x. absurd x) (λ x. x) (λ x. x) a h
+    rewritten All All Front Front (Offends action held) (Offends action held) ⊥ ShelfRises Rises Same Same (kept ≡ None) (kept ≡ None) (λ x. x) (λ x. x) (λ r text x. x) (λ x. absurd x) (λ x. x) (λ x. x) a h

@@ -22,7 +22,7 @@ use Rattle.top_lines.specs.declared.status.CommandAnswer.TheVariants as answer
 use Rattle.top_lines.specs.Lines.{counts_line}
 use Rattle.top_exec.specs.Runs.{Sent, the_run}
 use Rattle.top_exec.specs.Executes.{ExecAnswers}
-use Rattle.top_main.specs.Theorem.{Offends, IsLarge, Came, RunsPrograms, FileEnds, FileIsLarge, FileBreaks, IsFileOf, Writes, MakesText, class_text}
+use Rattle.top_main.specs.Theorem.{Offends, IsLarge, Came, RunsPrograms, FileEnds, FileIsLarge, FileBreaks, IsFileOf, Writes, MakesText, class_text, name_of}
 use Rattle.top_main.specs.Images.{AreBytes}
 use Rattle.top_main.specs.declared.image_run.ProgramEnd.{ProgramEnd}
 use Rattle.top_main.specs.declared.run.ProgramRun.{ProgramRun}
@@ -44,12 +44,12 @@ pub record Wrote (Bytes : List ℕ → Type 0) (Given : Option (List ℕ) → Li
   pub are : Bytes bytes
   pub given_so : Given given bytes given'
 
--- the answer of an action that runs nothing: where all was written, or a front of it; which refusals the text has; where the shelf or the output rose in
+-- the answer of an action that runs nothing: where all was written, or a front of it; which refusals the text has, and which text that is; where the shelf or the output rose in
 -- faults, where the outside is the same, and where no image is kept
-abbrev pub WrittenAnswers : CommandAnswer → (All Front : Type 0) → (Bad : Refusal → Type 0) → (ShelfRises Rises Same Unkept : Type 0) → Type 0
+abbrev pub WrittenAnswers : CommandAnswer → (All Front : Type 0) → (Bad : Refusal → List ℕ → Type 0) → (ShelfRises Rises Same Unkept : Type 0) → Type 0
 WrittenAnswers answer.Done All Front Bad ShelfRises Rises Same Unkept = All
 WrittenAnswers answer.WriteFault All Front Bad ShelfRises Rises Same Unkept = Rises × Front
-WrittenAnswers (answer.Refused r) All Front Bad ShelfRises Rises Same Unkept = Bad r × (Same × Unkept)
+WrittenAnswers (answer.Refused r text) All Front Bad ShelfRises Rises Same Unkept = Bad r text × (Same × Unkept)
 WrittenAnswers answer.FileFault All Front Bad ShelfRises Rises Same Unkept = ShelfRises × (Same × Unkept)
 WrittenAnswers answer.NoMemory All Front Bad ShelfRises Rises Same Unkept = Same
 WrittenAnswers (answer.Budget n) All Front Bad ShelfRises Rises Same Unkept = ⊥
@@ -69,12 +69,12 @@ WriteAnswers a action held kept given given' ShelfRises Rises Same =
 
 -- the answer where these bytes were written, or a front of them
 abbrev pub BytesAnswers : CommandAnswer → (bytes : List ℕ) → (given given' : Option (List ℕ)) → (Rises : Type 0) → Type 0
-BytesAnswers a bytes given given' Rises = WrittenAnswers a (WasGiven given bytes given') (WasGivenFront given bytes given') (λ r. ⊥) ⊥ Rises ⊥ ⊥
+BytesAnswers a bytes given given' Rises = WrittenAnswers a (WasGiven given bytes given') (WasGivenFront given bytes given') (λ r text. ⊥) ⊥ Rises ⊥ ⊥
 
 -- the answer for a program of which the bytes of its image file are to be written
 abbrev pub BuildAnswers : CommandAnswer → (names : List (List ℕ)) (program : ProgramRows) → (kept : Option Image) → (given given' : Option (List ℕ)) → (Rises Same : Type 0) → Type 0
 BuildAnswers a names program kept given given' Rises Same =
-    WrittenAnswers a (Wrote (IsFileOf names program kept) WasGiven given given') (Wrote (IsFileOf names program kept) WasGivenFront given given') (λ r. ⊥) ⊥ Rises Same ⊥
+    WrittenAnswers a (Wrote (IsFileOf names program kept) WasGiven given given') (Wrote (IsFileOf names program kept) WasGivenFront given given') (λ r text. ⊥) ⊥ Rises Same ⊥
 
 -- the place that is told of a site by its number, where 0 is that of none
 abbrev pub site_told : List Place → ℕ → Place
@@ -106,9 +106,9 @@ IsCounted kept arena steps left r =
     → r.executed ≡ (the_run image arena steps input).at.executed)
 
 -- the answer for a program that is run or evaluated within so many instructions or levels: where it comes to an end, or to a condition whose class
--- has a name, at a site; where its image is too large, or its evaluation breaks off; which refusals it has; where the shelf, the source or the output
+-- has a name, at a site; where its image is too large, or its evaluation breaks off; which refusals its text has, and which text that is; where the shelf, the source or the output
 -- rose in faults; where the outside is the same, and no image is kept
-abbrev pub EndedAnswers : CommandAnswer → (steps : ℕ) → (Ends : EvaluationEnd → Type 0) → (Signals : List ℕ → Place → Type 0) → (Large : ℕ → ℕ → Type 0) → (Breaks : Type 0) → (Bad : Refusal → Type 0) → (ShelfRises SourceRises Rises Same Unkept : Type 0) → Type 0
+abbrev pub EndedAnswers : CommandAnswer → (steps : ℕ) → (Ends : EvaluationEnd → Type 0) → (Signals : List ℕ → Place → Type 0) → (Large : ℕ → ℕ → Type 0) → (Breaks : Type 0) → (Bad : Refusal → List ℕ → Type 0) → (ShelfRises SourceRises Rises Same Unkept : Type 0) → Type 0
 EndedAnswers answer.Done steps Ends Signals Large Breaks Bad ShelfRises SourceRises Rises Same Unkept = Ends endings.Value
 EndedAnswers (answer.Unhandled class site) steps Ends Signals Large Breaks Bad ShelfRises SourceRises Rises Same Unkept = Signals class site
 EndedAnswers (answer.ArenaFull wanted room) steps Ends Signals Large Breaks Bad ShelfRises SourceRises Rises Same Unkept =
@@ -117,7 +117,7 @@ EndedAnswers (answer.Budget n) steps Ends Signals Large Breaks Bad ShelfRises So
 EndedAnswers answer.Spent steps Ends Signals Large Breaks Bad ShelfRises SourceRises Rises Same Unkept = Ends endings.Spent
 EndedAnswers answer.ReadFault steps Ends Signals Large Breaks Bad ShelfRises SourceRises Rises Same Unkept = SourceRises × Ends endings.ReadFault
 EndedAnswers answer.WriteFault steps Ends Signals Large Breaks Bad ShelfRises SourceRises Rises Same Unkept = Rises × Ends endings.WriteFault
-EndedAnswers (answer.Refused r) steps Ends Signals Large Breaks Bad ShelfRises SourceRises Rises Same Unkept = Bad r × (Same × Unkept)
+EndedAnswers (answer.Refused r text) steps Ends Signals Large Breaks Bad ShelfRises SourceRises Rises Same Unkept = Bad r text × (Same × Unkept)
 EndedAnswers answer.FileFault steps Ends Signals Large Breaks Bad ShelfRises SourceRises Rises Same Unkept = ShelfRises × (Same × Unkept)
 EndedAnswers answer.NoMemory steps Ends Signals Large Breaks Bad ShelfRises SourceRises Rises Same Unkept =
     Same ⊎ (((class : ℕ) × ((site : Place) × Ends (endings.Unhandled class site))) ⊎ Breaks)
@@ -148,7 +148,7 @@ pub record ProgramBreaks (action : Action) (names : List (List ℕ)) (program : 
 -- the answer for a program
 abbrev pub ProgramAnswers : CommandAnswer → Action → (names : List (List ℕ)) (program : ProgramRows) → (kept : Option Image) → (arena steps : ℕ) → (left left' : Option (List ℕ)) → Sent → (SourceRises Rises Same : Type 0) → Type 0
 ProgramAnswers a action names program kept arena steps left left' sent SourceRises Rises Same =
-    EndedAnswers a steps (Came action names program kept arena steps left left' sent) (ProgramSignals action names program kept arena steps left left' sent) (ProgramIsLarge action names program kept arena) (ProgramBreaks action names program kept arena steps left left' sent) (λ _. ⊥) ⊥ SourceRises Rises Same ⊥
+    EndedAnswers a steps (Came action names program kept arena steps left left' sent) (ProgramSignals action names program kept arena steps left left' sent) (ProgramIsLarge action names program kept arena) (ProgramBreaks action names program kept arena steps left left' sent) (λ r text. ⊥) ⊥ SourceRises Rises Same ⊥
 
 -- the file's text is a whole program, which comes to a condition of a class of that name
 pub record FileSignals (action : Action) (held : Option (List ℕ)) (kept : Option Image) (arena steps : ℕ) (left left' : Option (List ℕ)) (sent : Sent) (name : List ℕ) (site : Place) : Type 0 where
@@ -193,11 +193,11 @@ pub data Obeys (a : CommandAnswer) (c : Request) (held : Option (List ℕ)) (kep
   was_exec : c.action ≡ Exec → kept ≡ None → ExecAnswers a held c.arena c.steps left left' sent ShelfRises SourceRises Rises (Same × InputSame)
       → Obeys a c held kept left left' sent ShelfRises SourceRises Rises Same InputSame ShelfSame
 
--- the answer to words: they are no command, or memory was wanting to tell, or a command was obeyed
-pub data WordsAnswers (a : CommandAnswer) (words : List (List ℕ)) (holds : List ℕ → Option (List ℕ)) (kept : Option Image) (left left' : Option (List ℕ)) (sent : Sent) (ShelfRises SourceRises Rises Same InputSame ShelfSame : Type 0) : Type 0 where
+-- the answer to words, of which a line calls the text so: they are no command, or memory was wanting to tell, or a command was obeyed
+pub data WordsAnswers (a : CommandAnswer) (name : List ℕ) (words : List (List ℕ)) (holds : List ℕ → Option (List ℕ)) (kept : Option Image) (left left' : Option (List ℕ)) (sent : Sent) (ShelfRises SourceRises Rises Same InputSame ShelfSame : Type 0) : Type 0 where
   was_usage : a ≡ answer.Usage → asked words ≡ None → ShelfSame → Same → InputSame → kept ≡ None
-      → WordsAnswers a words holds kept left left' sent ShelfRises SourceRises Rises Same InputSame ShelfSame
+      → WordsAnswers a name words holds kept left left' sent ShelfRises SourceRises Rises Same InputSame ShelfSame
   was_untold : a ≡ answer.NoMemory → ShelfSame → Same → InputSame → kept ≡ None
-      → WordsAnswers a words holds kept left left' sent ShelfRises SourceRises Rises Same InputSame ShelfSame
-  was_asked : (c : Request) → asked words ≡ Some c → Obeys a c (holds c.file) kept left left' sent ShelfRises SourceRises Rises Same InputSame ShelfSame
-      → WordsAnswers a words holds kept left left' sent ShelfRises SourceRises Rises Same InputSame ShelfSame
+      → WordsAnswers a name words holds kept left left' sent ShelfRises SourceRises Rises Same InputSame ShelfSame
+  was_asked : (c : Request) → asked words ≡ Some c → name ≡ name_of c → Obeys a c (holds c.file) kept left left' sent ShelfRises SourceRises Rises Same InputSame ShelfSame
+      → WordsAnswers a name words holds kept left left' sent ShelfRises SourceRises Rises Same InputSame ShelfSame

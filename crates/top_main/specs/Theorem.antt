@@ -4,7 +4,7 @@
 -- (`top_made`), the meaning of a program and what an evaluation reads and prints and how it ends by it (`lang_meaning`), the machine and its runs
 -- (`rv_machine`, `Runs`), what the image of a program does by its meaning (`Images`), the bytes of image files (`rv_image_file`) and what is told of one
 -- that is run (`Executes`), and the lines of statuses (`Lines`), and nothing of how code is made or a program is evaluated.
-use Rattle.std.specs.Prelude.{◌≡◌, ◌≢◌, ◌⊎◌, ⊤, ℕ, ◌<◌, ◌≤◌, List, [], length, slice_get, Option, Some, None}
+use Rattle.std.specs.Prelude.{◌≡◌, ◌≢◌, ◌⊎◌, ⊤, ℕ, ◌<◌, ◌≤◌, List, [], length, slice_get, Option, Some, None, codes}
 use Rattle.base.specs.declared.place.Place.{Place}
 use Rattle.base.specs.declared.reason.Refusal.{Refusal}
 use Rattle.base.specs.Given.{WasGiven, WasGivenFront}
@@ -30,7 +30,7 @@ use Rattle.top_command.specs.declared.command.Action.{Action}
 use Rattle.top_command.specs.declared.command.Action.TheVariants.{Run, Show, Check, Build, Exec, Plain, Make}
 use Rattle.top_lines.specs.declared.status.Status.{Status}
 use Rattle.top_lines.specs.declared.status.CommandAnswer.{CommandAnswer}
-use Rattle.top_lines.specs.Lines.{usage_line, unhandled_line, refused_line, arena_full_line, budget_line, spent_line, read_fault_line, bad_image_line, ok_line, counts_line, line_of, status_of}
+use Rattle.top_lines.specs.Lines.{usage_line, unhandled_line, refusal_lines, arena_full_line, budget_line, spent_line, read_fault_line, bad_image_line, ok_line, counts_line, line_of, status_of}
 use Rattle.top_made.specs.Text.{text_of as made_text}
 use Rattle.top_exec.specs.Loads.{IsTextTaken}
 use Rattle.top_exec.specs.Runs.{Sent, sent_to, the_run, SaysAll, RunIsCut}
@@ -53,6 +53,19 @@ abbrev pub IsTextOf : Action → (held : Option (List ℕ)) → List ℕ → Typ
 IsTextOf (Make n) held text = text ≡ made_text n
 IsTextOf action held text = IsTextTaken held text
 
+-- what a line calls it: the file, as the command has it, or `make`
+abbrev pub called : Action → (file : List ℕ) → List ℕ
+called (Make n) file = codes "make"
+called action file = file
+
+abbrev pub name_of : Request → List ℕ
+name_of command = called command.action command.file
+
+-- and that of words, where they are a command
+abbrev pub name_in : Option Request → List ℕ
+name_in None = []
+name_in (Some command) = name_of command
+
 -- a text is a whole program of the language behind the library
 pub record IsWhole (action : Action) (text : List ℕ) : Type 0 where
   pub names : List (List ℕ)
@@ -66,8 +79,7 @@ pub record Passes (action : Action) (held : Option (List ℕ)) : Type 0 where
   pub whole : IsWhole action text
 
 -- the text is refused so, and is none
-pub record Offends (action : Action) (held : Option (List ℕ)) (refusal : Refusal) : Type 0 where
-  pub text : List ℕ
+pub record Offends (action : Action) (held : Option (List ℕ)) (refusal : Refusal) (text : List ℕ) : Type 0 where
   pub is_text : IsTextOf action held text
   pub refuses : RefusesWhole library text (mode_of action) refusal
 
@@ -214,12 +226,12 @@ pub record IsDone (words : List (List ℕ)) (holds : List ℕ → Option (List �
   pub ended : IsEnded words holds kept left left' sent endings.Value
   pub line : WasGiven said [] said'
 
--- Unhandled: it ended by a condition that no handler took; the line says of which class, and where it was signalled
+-- Unhandled: it ended by a condition that no handler took; the line says where in which file it was signalled, and of which class
 pub record IsUnhandled (words : List (List ℕ)) (holds : List ℕ → Option (List ℕ)) (kept : Option Image) (left left' : Option (List ℕ)) (sent : Sent) (said said' : Option (List ℕ)) : Type 0 where
   pub class : ℕ
   pub site : Place
   pub ended : IsEnded words holds kept left left' sent (endings.Unhandled class site)
-  pub line : WasGiven said (unhandled_line (class_text ended.ends.whole.names ended.ends.whole.program class) site) said'
+  pub line : WasGiven said (unhandled_line (name_of ended.command) (class_text ended.ends.whole.names ended.ends.whole.program class) site) said'
 
 -- Arena full: it ended for want of words; the line says how many were asked for, and how many were left
 pub record IsArenaFull (words : List (List ℕ)) (holds : List ℕ → Option (List ℕ)) (kept : Option Image) (left left' : Option (List ℕ)) (sent : Sent) (said said' : Option (List ℕ)) : Type 0 where
@@ -293,13 +305,15 @@ pub record IsWrittenCutOff (words : List (List ℕ)) (holds : List ℕ → Optio
   pub writes : Writes command.action (holds command.file) kept bytes
   pub printed : WasGivenFront sent.before bytes sent.after
 
--- Refused, by any action that judges a text: it is no whole program; the line says where its first offence stands, and which it is
+-- Refused, by any action that judges a text: it is no whole program; the lines say where in which file its first offence stands, which it is, and why, and
+-- show the place
 pub record IsRefused (words : List (List ℕ)) (holds : List ℕ → Option (List ℕ)) (said said' : Option (List ℕ)) : Type 0 where
   pub command : Request
   pub asked_for : asked words ≡ Some command
   pub refusal : Refusal
-  pub offends : Offends command.action (holds command.file) refusal
-  pub line : WasGiven said (refused_line refusal) said'
+  pub text : List ℕ
+  pub offends : Offends command.action (holds command.file) refusal text
+  pub line : WasGiven said (refusal_lines (name_of command) text refusal) said'
 
 -- The statuses of `exec`, of which no image is left
 
@@ -316,13 +330,13 @@ pub record IsExecutedSo (words : List (List ℕ)) (holds : List ℕ → Option (
   pub told : CommandAnswer
   pub executed : IsExecuted words holds kept left left' sent told
   pub status_is : status ≡ status_of told
-  pub line : WasGiven said (line_of told) said'
+  pub line : WasGiven said (line_of (name_of executed.command) told) said'
 
 -- a run came to an end of which a line is to be written
 pub record IsExecutedUntold (words : List (List ℕ)) (holds : List ℕ → Option (List ℕ)) (kept : Option Image) (left left' : Option (List ℕ)) (sent : Sent) : Type 0 where
   pub told : CommandAnswer
-  pub has_line : line_of told ≢ []
   pub executed : IsExecuted words holds kept left left' sent told
+  pub has_line : line_of (name_of executed.command) told ≢ []
 
 -- Arena full too: the image has more words than the arena; the line says how many each has
 pub record IsLargeImage (words : List (List ℕ)) (holds : List ℕ → Option (List ℕ)) (kept : Option Image) (said said' : Option (List ℕ)) : Type 0 where

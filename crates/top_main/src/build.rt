@@ -10,7 +10,7 @@ ghost use Rattle.top_main.specs.Answers.{WriteAnswers, BuildAnswers};
 use crate::kept::Kept;
 use crate::writing::write_bytes;
 use back_build::build;
-use base::{LONGEST_TEXT, NoMemory, Shelf, Sink};
+use base::{Bytes, LONGEST_TEXT, NoMemory, Shelf, Sink};
 use front_files::{Mode, Whole, read_program};
 use front_library::PRELUDE;
 use rv_image_file::write_image;
@@ -37,30 +37,27 @@ pub(crate) fn build_file<F: Shelf, O: Sink>(
         (Rose (O.faults out.old) (O.faults out.new)) (out.new ≡ out.old) }
 {
     match loading::load(alloc, shelf, file, LONGEST_TEXT + 1) {
-        Ok(text) => {
-            let answer = build_text(alloc, text.as_slice(), out, kept);
-            drop(text);
-            answer
-        }
+        Ok(text) => build_text(alloc, text, out, kept),
         Err(LoadStop::Failed) => CommandAnswer::FileFault,
         Err(LoadStop::NoMemory) => CommandAnswer::NoMemory,
     }
 }
 
 // Judges a text as a whole program, and writes its image.
-fn build_text<O: Sink>(alloc: Global, text: &[u8], out: &mut O, kept: &mut Kept) -> CommandAnswer
+fn build_text<O: Sink>(alloc: Global, text: Bytes, out: &mut O, kept: &mut Kept) -> CommandAnswer
     requires empty { kept.old.image ≡ None }
-    ensures { (held : Option (List ℕ)) → IsTextOf ToBuild held text.now →
+    ensures { (held : Option (List ℕ)) → IsTextOf ToBuild held text →
         WriteAnswers result ToBuild held kept.new.image (O.given out.old) (O.given out.new) ⊥
         (Rose (O.faults out.old) (O.faults out.new)) (out.new ≡ out.old) }
 {
-    match read_program(alloc, text, PRELUDE, Mode::Run) {
+    match read_program(alloc, text.as_slice(), PRELUDE, Mode::Run) {
         Ok(whole) => {
+            drop(text);
             let answer = build_whole(alloc, &whole, out, kept);
             drop(whole);
             answer
         }
-        Err(stop) => CommandAnswer::of_stop(stop),
+        Err(stop) => CommandAnswer::of_stop(text, stop),
     }
 }
 

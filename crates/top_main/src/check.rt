@@ -7,7 +7,7 @@ ghost use Rattle.top_main.specs.Theorem.{IsTextOf};
 ghost use Rattle.top_main.specs.Answers.{WriteAnswers};
 
 use crate::writing::write_bytes;
-use base::{LONGEST_TEXT, Shelf, Sink};
+use base::{Bytes, LONGEST_TEXT, Shelf, Sink};
 use front_files::{Mode, read_program};
 use front_library::PRELUDE;
 use std::alloc::Global;
@@ -27,27 +27,24 @@ pub(crate) fn check_file<F: Shelf, O: Sink>(
         (Rose (O.faults out.old) (O.faults out.new)) (out.new ≡ out.old) }
 {
     match loading::load(alloc, shelf, file, LONGEST_TEXT + 1) {
-        Ok(text) => {
-            let answer = check(alloc, text.as_slice(), out);
-            drop(text);
-            answer
-        }
+        Ok(text) => check(alloc, text, out),
         Err(LoadStop::Failed) => CommandAnswer::FileFault,
         Err(LoadStop::NoMemory) => CommandAnswer::NoMemory,
     }
 }
 
 // Judges a text, and writes `ok` where it is a whole program.
-fn check<O: Sink>(alloc: Global, text: &[u8], out: &mut O) -> CommandAnswer
-    ensures { (held : Option (List ℕ)) → IsTextOf ToCheck held text.now →
+fn check<O: Sink>(alloc: Global, text: Bytes, out: &mut O) -> CommandAnswer
+    ensures { (held : Option (List ℕ)) → IsTextOf ToCheck held text →
         WriteAnswers result ToCheck held None (O.given out.old) (O.given out.new) ⊥
         (Rose (O.faults out.old) (O.faults out.new)) (out.new ≡ out.old) }
 {
-    match read_program(alloc, text, PRELUDE, Mode::Run) {
+    match read_program(alloc, text.as_slice(), PRELUDE, Mode::Run) {
         Ok(whole) => {
+            drop(text);
             drop(whole);
             write_bytes(out, b"ok\n")
         }
-        Err(stop) => CommandAnswer::of_stop(stop),
+        Err(stop) => CommandAnswer::of_stop(text, stop),
     }
 }

@@ -10,6 +10,7 @@ pub mod laws;
 pub mod main_call;
 mod make;
 mod mode;
+mod name;
 mod plain;
 mod run;
 mod writing;

@@ -1,6 +1,6 @@
 // The call that does all that the program does.
 
-ghost use Rattle.std.specs.Prelude.{◌≡◌, ◌≢◌, ◌≤◌, ◌⊎◌, Some, None};
+ghost use Rattle.std.specs.Prelude.{◌≡◌, ◌≢◌, ◌≤◌, ◌⊎◌, Some, None, option_map};
 ghost use Rattle.std.specs.String.{string_bytes};
 ghost use Rattle.base.specs.Outside.{Rose};
 ghost use Rattle.base.specs.Given.{WasGiven};
@@ -10,13 +10,14 @@ ghost use Rattle.top_lines.specs.declared.status.CommandAnswer.{CommandAnswer as
 ghost use Rattle.top_lines.specs.declared.status.CommandAnswer.TheVariants.{WriteFault as AnswerCut};
 ghost use Rattle.top_lines.specs.declared.status.Status.TheVariants.{Done, Unhandled, Usage, Refused, ArenaFull, Budget, FileFault, ReadFault, WriteFault, NoMemory as WantsMemory, BadImage, Trap};
 ghost use Rattle.top_exec.specs.Runs.{sent_to};
-ghost use Rattle.top_main.specs.Theorem.{IsUsage, IsDone, IsWritten, IsUnhandled, IsArenaFull, IsTooLarge, IsBudget, IsSpent, IsRefused, IsReadFault, IsCutOff, IsWrittenCutOff, IsUnnamed, IsBroken, IsUntold, IsExecuted, IsExecutedSo, IsExecutedUntold, IsLargeImage, IsBadImage, ReadsNothing, KeepsNothing, MakesText};
+ghost use Rattle.top_main.specs.Theorem.{IsUsage, IsDone, IsWritten, IsUnhandled, IsArenaFull, IsTooLarge, IsBudget, IsSpent, IsRefused, IsReadFault, IsCutOff, IsWrittenCutOff, IsUnnamed, IsBroken, IsUntold, IsExecuted, IsExecutedSo, IsExecutedUntold, IsLargeImage, IsBadImage, ReadsNothing, KeepsNothing, MakesText, name_in as name_of_asked};
 ghost use Rattle.top_main.specs.Answers.{WordsAnswers, Obeys};
 
 use crate::build::build_file;
 use crate::check::check_file;
 use crate::kept::Kept;
 use crate::make::make_text;
+use crate::name::name_in;
 use crate::plain::plain_file;
 use crate::run::run_file;
 use base::{NoMemory, Shelf, Sink, Source, Words};
@@ -59,7 +60,7 @@ pub fn isl_main<F: Shelf, S: Source, O: Sink, E: Sink>(
         ⊎ IsExecutedSo words.now (F.holds shelf.old) kept.new.image (S.left input.old) (S.left input.new)
         (sent_to (O.given out.old) (O.writes out.old) (O.given out.new) (O.writes out.new)) (E.given err.old) (E.given err.new) Done) }
 
-    // It ends by a condition that no handler took; the line says of which class, and where it was signalled.
+    // It ends by a condition that no handler took; the line says where in which file it was signalled, and of which class.
     ensures unhandled { result ≡ Unhandled →
         IsUnhandled words.now (F.holds shelf.old) kept.new.image (S.left input.old) (S.left input.new)
         (sent_to (O.given out.old) (O.writes out.old) (O.given out.new) (O.writes out.new)) (E.given err.old) (E.given err.new)
@@ -87,7 +88,7 @@ pub fn isl_main<F: Shelf, S: Source, O: Sink, E: Sink>(
         ⊎ IsExecutedSo words.now (F.holds shelf.old) kept.new.image (S.left input.old) (S.left input.new)
         (sent_to (O.given out.old) (O.writes out.old) (O.given out.new) (O.writes out.new)) (E.given err.old) (E.given err.new) Budget) }
 
-    // The text is refused; the line says where and why.
+    // The text is refused; the lines say where in which file and why.
     ensures refused { result ≡ Refused →
         IsRefused words.now (F.holds shelf.old) (E.given err.old) (E.given err.new)
         × (out.new ≡ out.old) × (input.new ≡ input.old) × (kept.new.image ≡ None) }
@@ -142,7 +143,7 @@ pub fn isl_main<F: Shelf, S: Source, O: Sink, E: Sink>(
         × WasGiven (E.given err.old) no_memory_line (E.given err.new) }
     // The line is that of an answer with this status.
     ensures line { result ≢ WriteFault → (told : AnswerValue) × ((result ≡ status_of told)
-        × WasGiven (E.given err.old) (line_of told) (E.given err.new)) }
+        × WasGiven (E.given err.old) (line_of (name_of_asked (asked_of words.now)) told) (E.given err.new)) }
     // A check and a build do not read the input.
     ensures input { (command : Request) → asked_of words.now ≡ Some command → ReadsNothing command.action →
         input.new ≡ input.old }
@@ -154,8 +155,17 @@ pub fn isl_main<F: Shelf, S: Source, O: Sink, E: Sink>(
         shelf.new ≡ shelf.old }
 {
     kept.image = None;
-    let answer = answer_to(alloc, words, shelf, input, out, kept);
-    end_with(err, answer)
+    let Answered { command, answer } = answer_to(alloc, words, shelf, input, out, kept);
+    let status = end_with(err, name_in(&command), answer);
+    drop(command);
+    status
+}
+
+// The answer to the words, and the command that they ask for; none where they are none, or memory was wanting to tell.
+#[derive(Drop)]
+struct Answered {
+    command: Option<Command>,
+    answer: CommandAnswer,
 }
 
 // The answer to the words.
@@ -166,9 +176,10 @@ fn answer_to<F: Shelf, S: Source, O: Sink>(
     input: &mut S,
     out: &mut O,
     kept: &mut Kept,
-) -> CommandAnswer
+) -> Answered
     requires empty { kept.old.image ≡ None }
-    ensures { WordsAnswers result words.now (F.holds shelf.old) kept.new.image
+    ensures { WordsAnswers result.answer (name_of_asked (option_map parts_of result.command)) words.now
+        (F.holds shelf.old) kept.new.image
         (S.left input.old) (S.left input.new)
         (sent_to (O.given out.old) (O.writes out.old) (O.given out.new) (O.writes out.new))
         (Rose (F.faults shelf.old) (F.faults shelf.new)) (Rose (S.faults input.old) (S.faults input.new))
@@ -178,11 +189,19 @@ fn answer_to<F: Shelf, S: Source, O: Sink>(
     match asked(alloc, words) {
         Ok(Some(command)) => {
             let answer = obey(alloc, &command, shelf, input, out, kept);
-            drop(command);
-            answer
+            Answered {
+                command: Some(command),
+                answer,
+            }
         }
-        Ok(None) => CommandAnswer::Usage,
-        Err(NoMemory) => CommandAnswer::NoMemory,
+        Ok(None) => Answered {
+            command: None,
+            answer: CommandAnswer::Usage,
+        },
+        Err(NoMemory) => Answered {
+            command: None,
+            answer: CommandAnswer::NoMemory,
+        },
     }
 }
 

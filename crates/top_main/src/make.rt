@@ -44,11 +44,12 @@ pub(crate) fn make_text<S: Source, O: Sink>(
     };
     match read_program(alloc, text.as_slice(), PRELUDE, Mode::Run) {
         Ok(whole) => {
+            drop(text);
             let answer = make(alloc, &whole, bounds, input, out, kept);
             drop(whole);
             answer
         }
-        Err(stop) => CommandAnswer::of_stop(stop),
+        Err(stop) => CommandAnswer::of_stop(text, stop),
     }
 }
 

@@ -38,11 +38,12 @@ pub(crate) fn plain_file<F: Shelf, S: Source, O: Sink>(
     };
     match read_program(alloc, text.as_slice(), PRELUDE, Mode::Run) {
         Ok(whole) => {
+            drop(text);
             let answer = plain(alloc, &whole, bounds, input, out);
             drop(whole);
             answer
         }
-        Err(stop) => CommandAnswer::of_stop(stop),
+        Err(stop) => CommandAnswer::of_stop(text, stop),
     }
 }
 

@@ -59,11 +59,12 @@ pub(crate) fn run_file<F: Shelf, S: Source, O: Sink>(
     };
     match read_program(alloc, text.as_slice(), PRELUDE, mode_of(action)) {
         Ok(whole) => {
+            drop(text);
             let ProgramRun { answer, .. } = run(alloc, &whole, bounds, input, out, kept);
             drop(whole);
             answer
         }
-        Err(stop) => CommandAnswer::of_stop(stop),
+        Err(stop) => CommandAnswer::of_stop(text, stop),
     }
 }
 

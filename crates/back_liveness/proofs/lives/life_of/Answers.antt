@@ -1,4 +1,4 @@
-use Rattle.std.proofs.Common.{◌≤◌, arith, ℕ, ◌+◌, List, subst, sym}
+use Rattle.std.proofs.Common.{refl, ◌≡◌, Bool, true, false, ◌≤◌, arith, ℕ, ◌+◌, List, subst, sym}
 use Rattle.std.specs.Prelude.{slice_index}
 use Rattle.back_liveness.specs.declared.step.Interval.{Interval}
 use Rattle.back_liveness.specs.Heads.{AreFloors, AreRoofs}
@@ -19,18 +19,23 @@ returns-clause-ahead c k h =
     let l = i.settled.looked k (omega (arith, low, told.0)) told.1 told.2 in
     (l.2, l.3)
 
-pub returns-then-not-crosses-clause-ahead : goal.returns-then-not-crosses-clause-ahead
-returns-then-not-crosses-clause-ahead c k h =
+pub returns-then-not-crossed-clause-ahead : goal.returns-then-not-crossed-clause-ahead
+returns-then-not-crossed-clause-ahead c k h =
     closed_has c.args.steps.now c.args.heads.now.earliest.items c.args.heads.now.latest.items c.as_slice.result.now c.as_slice-2.result.now
     c.args.register c.args.points c.requires.heads
     (subst (λ (f : List ℕ). AreFloors c.args.heads.now.earliest.items f) (sym c.as_slice.ensures.value) c.requires.floors)
     (subst (λ (f : List ℕ). AreRoofs c.args.heads.now.latest.items f) (sym c.as_slice-2.ensures.value) c.requires.roofs)
     (c.is_closed.ensures c.if-is_closed.true) c.requires.points k h
 
-pub returns-then-not-crosses-clause-crossed : goal.returns-then-not-crosses-clause-crossed
-returns-then-not-crosses-clause-crossed c k h x low up crosses =
-    let within = returns-then-not-crosses-clause-ahead c k h in
-    absurd (c.crosses.ensures c.if-not-crosses.true x (omega (arith, within.0, low), omega (arith, within.1, up)) crosses)
+pub returns-then-not-crossed-clause-crossed : goal.returns-then-not-crossed-clause-crossed
+returns-then-not-crossed-clause-crossed c k h x low up crosses = told c.crosses-crossed.result refl
+  where
+    within : (c.args.points.from ≤ k) × (slice_index c.args.heads.now.latest.items k ≤ c.args.points.to)
+    within = returns-then-not-crossed-clause-ahead c k h
+
+    told : (b : Bool) → c.crosses-crossed.result ≡ b → c.crosses-crossed.result ≡ true
+    told true e = e
+    told false e = absurd (c.crosses-crossed.ensures e x (omega (arith, within.0, low), omega (arith, within.1, up)) crosses)
 
 pub returns-clause-crossed : goal.returns-clause-crossed
 returns-clause-crossed c k h =
@@ -42,8 +47,8 @@ returns-clause-crossed c k h =
     (λ j x e r. let p = c.requires.points j x e r in (omega (arith, p.0, i.need), p.1)) k h in
     i.crossings k (omega (arith, low, told.0)) told.1 told.2
 
-pub returns-then-not-crosses-clause-parts : goal.returns-then-not-crosses-clause-parts
-returns-then-not-crosses-clause-parts c =
+pub returns-then-not-crossed-clause-parts : goal.returns-then-not-crossed-clause-parts
+returns-then-not-crossed-clause-parts c =
     let i = c.args.points in
     subst (λ (parts : List Interval). AreParts c.args.steps.now c.args.heads.now.latest.items c.args.register i parts) (sym c.in_ok-in_one.ensures)
     (record {

@@ -1,4 +1,5 @@
 -- The answer to a command's words is that of the command.
+use Rattle.std.proofs.Common.{refl}
 use Rattle.top_main.specs.Answers.{was_asked}
 use Rattle.top_command.proofs.Digits.{asked_within}
 use Rattle.top_main.proofs.main_call.answer_to.Goals as goal
@@ -7,4 +8,4 @@ pub obey-answer-requires-clause-most : goal.obey-answer-requires-clause-most
 obey-answer-requires-clause-most g c = let is = rw c.in-Ok-Some.field-0-is at c.in-Ok-Some.ensures in (asked_within c.args.words.now _ is).1
 
 pub returns-in-Ok-Some : goal.returns-in-Ok-Some
-returns-in-Ok-Some g c = let is = rw c.in-Ok-Some.field-0-is at c.in-Ok-Some.ensures in was_asked _ is c.obey-answer.ensures
+returns-in-Ok-Some g c = let is = rw c.in-Ok-Some.field-0-is at c.in-Ok-Some.ensures in was_asked _ is refl c.obey-answer.ensures
