@@ -11,4 +11,3 @@ pub mod Told
 pub mod Before
 pub mod Outset
 pub mod Cells
-pub mod Halving

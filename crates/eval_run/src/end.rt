@@ -13,7 +13,6 @@ ghost use Rattle.eval_state.specs.View.{configuration_of};
 ghost use Rattle.lang_meaning.specs.Evaluation.{end_of};
 
 use crate::answer::Counted;
-use crate::units::taken_units;
 use base::Place;
 use eval_primitives::class_of;
 use eval_state::frame::{Landing, Outcome};
@@ -21,14 +20,15 @@ use eval_step::evaluator::Evaluator;
 use eval_store::{Store, Word};
 use lang_meaning::{ClassId, EvaluationEnd};
 
-/// The end that an evaluator has come to, and the units that it has counted. It is told once: then the evaluator is of no more use.
-pub(crate) fn counted_at(evaluator: &mut Evaluator<'_>) -> Counted
-    ensures end { (names : List (List ℕ)) (b : Beside) → end_of (done (configuration_of names evaluator.old.machine b)) ≡ result.end }
-    ensures units { (names : List (List ℕ)) (b : Beside) → units_at (configuration_of names evaluator.old.machine b) ≡ result.units }
+/// The end that an evaluator has come to, and the units that it has counted.
+pub(crate) fn counted_at(evaluator: &Evaluator<'_>) -> Counted
+    ensures end { (names : List (List ℕ)) (b : Beside) → end_of (done (configuration_of names evaluator.now.machine b)) ≡ result.end }
+    ensures units { (names : List (List ℕ)) (b : Beside) → units_at (configuration_of names evaluator.now.machine b) ≡ result.units }
 {
-    let end = end_at(evaluator);
-    let units = taken_units(evaluator);
-    Counted { end, units }
+    Counted {
+        end: end_at(evaluator),
+        units: evaluator.machine.store.units(),
+    }
 }
 
 // The end that an evaluator has come to.

@@ -8,7 +8,6 @@ mod feeding;
 mod running;
 mod setting_up;
 pub mod stop;
-mod units;
 mod writing;
 
 pub use answer::Counted;

@@ -102,6 +102,13 @@ impl<'p> Store<'p> {
         Ok(())
     }
 
+    /// The units that were counted.
+    pub fn units(&self) -> u64
+        ensures { (names : List (List ℕ)) (b : Beside) → result ≡ (seen names self.now b).state.units }
+    {
+        self.units
+    }
+
     /// The words of the stack that are in use.
     pub fn stack(&self) -> u64
         ensures { (names : List (List ℕ)) (b : Beside) → result ≡ (seen names self.now b).state.stack }
