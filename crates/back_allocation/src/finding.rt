@@ -16,7 +16,7 @@ use std::alloc::Global;
 // No name.
 const NONE: usize = usize::MAX;
 
-// How many registers are looked at for each line, in the mean. Registers that are left over have one name each, so that time is in proportion to lines.
+// How many registers are looked at for each line, in the mean. Those that are left over have one name each, so that time is in proportion to lines.
 const EACH: usize = 200;
 
 // What is found so far: the names with their owners, which names are one, and those of the reads and of the given words of lines; where the
@@ -55,23 +55,18 @@ pub fn names_of(
     let steps = steps_of(alloc, &procedure.lines, landings)?;
     let barriers = barriers_of(alloc, &procedure.lines, landings)?;
     let mut finding = begun(alloc, &steps, barriers, procedure.registers)?;
-    let parameters = procedure.parameters;
+    let parameters = procedure.parameters.min(procedure.registers);
+    finding.passed = filled(alloc, parameters.min(14), 0)?;
     for line in 0..steps.len() {
         add_points(&mut finding, &steps, line);
     }
-    for register in 0..procedure.registers {
-        if register < parameters {
-            set_at(finding.firsts.as_mut_slice(), register, 0);
-        }
-        let start = finding.owners.len();
-        finding.starts.push(start)?;
-        if register < parameters && register < 14 {
-            let name = new_name(&mut finding, register)?;
-            finding.passed.push(name)?;
-        }
-        find_names(&mut finding, &steps, register, register < parameters)?;
-        let end = finding.owners.len();
-        finding.ends.push(end)?;
+    for register in 0..parameters {
+        set_at(finding.firsts.as_mut_slice(), register, 0);
+        find_group(&mut finding, &steps, register, true)?;
+    }
+    for back in parameters..procedure.registers {
+        let register = procedure.registers - 1 - (back - parameters);
+        find_group(&mut finding, &steps, register, false)?;
     }
     let mut crossed = filled_flags(alloc, finding.passed.len())?;
     tell_crossed(&mut finding, crossed.as_mut_slice());
@@ -119,8 +114,8 @@ fn begun(
     Ok(Finding {
         owners: counted(alloc, registers)?,
         parents: counted(alloc, registers)?,
-        starts: Vec::new(alloc),
-        ends: Vec::new(alloc),
+        starts: filled(alloc, registers, 0)?,
+        ends: filled(alloc, registers, 0)?,
         reads,
         given: filled(alloc, lines, 0)?,
         bases,
@@ -190,6 +185,25 @@ fn add_point(finding: &mut Finding, register: Register, line: usize) {
         set_at(finding.firsts.as_mut_slice(), register, line);
     }
     set_at(finding.lasts.as_mut_slice(), register, line);
+}
+
+// The names of a register, one behind the other. Those of the innermost forms come first, since they have most words.
+fn find_group(
+    finding: &mut Finding,
+    steps: &StepList,
+    register: Register,
+    is_passed: bool,
+) -> Result<(), NoMemory> {
+    let start = finding.owners.len();
+    set_at(finding.starts.as_mut_slice(), register, start);
+    if is_passed && register < finding.passed.len() {
+        let name = new_name(finding, register)?;
+        set_at(finding.passed.as_mut_slice(), register, name);
+    }
+    find_names(finding, steps, register, is_passed)?;
+    let end = finding.owners.len();
+    set_at(finding.ends.as_mut_slice(), register, end);
+    Ok(())
 }
 
 // The names of a register, from its last line back to its first one; where one word alone is given to it, its own does.
