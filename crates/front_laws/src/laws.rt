@@ -7,9 +7,11 @@ ghost use Rattle.lang_meaning.specs.declared.program.ProgramRows.{ProgramRows as
 ghost use Rattle.front_files.specs.declared.mode.Mode.{Mode as mode_of};
 ghost use Rattle.front_files.specs.Verdicts.{FileVerdict, Verdict, Accepts, Refuses};
 ghost use Rattle.front_laws.specs.Renaming.{Renames, file_verdict_by};
+ghost use Rattle.front_laws.specs.SameMeanings.{MeansTheSame};
 ghost use Rattle.front_laws.specs.SamePrograms.{SameProgram};
 
 use front_files::laws::{law_names_apart, law_one_verdict as law_one_verdict_of_a_table};
+use lang_renamed::laws::law_meaning;
 
 /// A verdict on a file is the same under a table that has the same texts in another order, with the names of its
 /// program renamed.
@@ -37,4 +39,13 @@ pub fn law_one_program()
 {
     law_names_apart();
     law_one_verdict_of_a_table();
+}
+
+/// Two programs that a text is accepted as mean the same, with every input, with any number of levels and of words.
+pub fn law_one_meaning()
+    ensures { (prelude text : List ℕ) (mode : mode_of) (a b : List (List ℕ)) (p q : program_rows) →
+        Accepts prelude text mode a p → Accepts prelude text mode b q → MeansTheSame a p b q }
+{
+    law_one_program();
+    law_meaning();
 }

@@ -11,11 +11,11 @@ use Rattle.lang_meaning.specs.declared.program.ProgramRows.{ProgramRows}
 use Rattle.lang_meaning.specs.Values.{Value, integer, character, symbol, named, nil, in_range, int_equal, same}
 use Rattle.lang_meaning.specs.Objects.{Object, cons, string, vector, instance, vector_class, string_class, character_class, cons_class, symbol_class, integer_class, stream_class, standard_class_class, standard_object_class, serious_condition_class, division_by_zero_class, integer_overflow_class, program_error_class}
 use Rattle.lang_meaning.specs.State.{State, charged}
-use Rattle.lang_meaning.specs.Lookup.{text, is_in, passed}
+use Rattle.lang_meaning.specs.Lookup.{is_in, passed}
 use Rattle.lang_meaning.specs.Classes.{class_of, fetch, precedence, slots, is_condition}
 use Rattle.lang_meaning.specs.InitialHeap.{class as class_key, initargs, initform, input, output, class_value}
 use Rattle.lang_meaning.specs.Primitives.{Answer, result, makes, makes_symbol, fails, domain_error, program_error, needs, as_integer, as_character, as_cons, as_string, as_vector, as_class, as_instance, as_stream, as_symbol, Spelt, by_name, by_serial, an_integer, a_character, a_cons, a_string, a_vector, a_class, an_instance, a_symbol, an_index, integer_result, floor_quotient, floor_remainder, division, index_of, length_of, byte_of, instance_words, change, is_function, is_generic, first_byte, other_bytes, is_fresh_line, class_name, can_be_made, is_slot, slot_place, slot_value, has_value, a_slot, of_none, of_one, of_two, of_three, of_integers, says, primitive}
-use Rattle.lang_renamed.specs.Renaming.{slot_by, slots_by, class_by, program_by}
+use Rattle.lang_renamed.specs.Renaming.{KeepsTexts, slot_by, slots_by, class_by, program_by}
 use Rattle.lang_renamed.specs.RenamedRuns.{object_by, state_by}
 use Rattle.lang_renamed.proofs.Lists.{both, if_same, get_by, length_by}
 use Rattle.lang_renamed.proofs.Stores.{class_of_by, cons_by, string_by, vector_by, class_object_by, instance_by, stream_by, symbol_by_value, function_by_value, generic_by_value, change_by}
@@ -196,7 +196,7 @@ module _ {r : ℕ → ℕ} where
       let it : AnswerRenamed r (place_in (position_or_len p rows) (length rows) z) (place_in (position_or_len p rows) (length rows) z') = places (position_or_len p rows) (length rows) s in
       record { is = both (λ (at count : ℕ). place_in at count z') _ _ _ _ (positions r p p' e rows) (length_by (slot_by r) rows) ∙ it.is }
 
-module _ (r : ℕ → ℕ) (old new : List (List ℕ)) (w : (n : ℕ) → text new (r n) ≡ text old n) (program : ProgramRows) where
+module _ (r : ℕ → ℕ) (old new : List (List ℕ)) (w : KeepsTexts r old new) (program : ProgramRows) where
   slot_named : (s : Spelt) (x : SlotRow) → is_slot new s (slot_by r x) ≡ is_slot old s x
   slot_named (by_name name) x = ap (bytes_eq name) (w x.name.0)
   slot_named (by_serial serial) x = refl

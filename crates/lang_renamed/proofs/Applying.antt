@@ -18,7 +18,7 @@ use Rattle.lang_meaning.specs.Classes.{class_of, fetch, chain}
 use Rattle.lang_meaning.specs.InitialHeap.{class as class_key, class_value}
 use Rattle.lang_meaning.specs.Primitives.{instance_words}
 use Rattle.lang_meaning.specs.Signals.{Context, Task, nothing, form, methods, Evaluation, Signals, takes, marked, descend, gathered, with_record, with_boxes, enter, apply_procedure, apply_closure, apply_method, apply_each, run_primary, run_around, run_chain, undefined_function, signal_domain_error, apply_chain, apply_generic_row, apply_generic, apply_object, apply_value, apply_callee, apply_row, new_condition, signal_under, signal, to_exit, transfer, throw_to, continue_with, is_catch, is_signal, is_continuable}
-use Rattle.lang_renamed.specs.Renaming.{form_by, procedure_by, function_by, generic_by, program_by}
+use Rattle.lang_renamed.specs.Renaming.{KeepsTexts, form_by, procedure_by, function_by, generic_by, program_by}
 use Rattle.lang_renamed.specs.RenamedRuns.{object_by, state_by, task_by}
 use Rattle.lang_renamed.proofs.Lists.{get_by}
 use Rattle.lang_renamed.proofs.Walks.{nodes_by}
@@ -35,7 +35,7 @@ Within r below below' = (task : Task) (env : Environment) → Acts r (below task
 pub record Beside (r : ℕ → ℕ) : Type 0 where
   pub old : List (List ℕ)
   pub new : List (List ℕ)
-  pub texts : (n : ℕ) → text new (r n) ≡ text old n
+  pub texts : KeepsTexts r old new
   pub program : ProgramRows
   pub limit : Limit
   pub below : Task → Evaluation

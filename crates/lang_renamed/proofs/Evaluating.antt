@@ -9,13 +9,13 @@ use Rattle.lang_meaning.specs.State.{words}
 use Rattle.lang_meaning.specs.Meaning.{Meant}
 use Rattle.lang_meaning.specs.Evaluation.{Evaluation, meaning_with, end_for, end_of, Taken, Begins}
 use Rattle.lang_meaning.specs.Evaluates.{HasEnded, IsCutOff, most_forms, IsSpent, ReadsOn, EndsSo}
-use Rattle.lang_renamed.specs.Renaming.{Renames}
+use Rattle.lang_renamed.specs.Renaming.{KeepsTexts}
 use Rattle.lang_renamed.specs.RenamedRuns.{meant_by, evaluation_by}
 use Rattle.lang_renamed.specs.Laws.{LawOfEvaluations}
 use Rattle.lang_renamed.proofs.Stores.{ending_by}
 use Rattle.lang_renamed.proofs.Levels.{law_of_meaning}
 
-module _ (r : ℕ → ℕ) (new : List (List ℕ)) (e : Evaluation) (h : Renames r e.names new) where
+module _ (r : ℕ → ℕ) (new : List (List ℕ)) (e : Evaluation) (h : KeepsTexts r e.names new) where
   same_meaning : (input : List ℕ) → meaning_with (evaluation_by r new e) input ≡ meant_by r (meaning_with e input)
   same_meaning input = law_of_meaning r e.names new e.program input e.levels (words e.words) h
 

@@ -7,21 +7,20 @@ use Rattle.lang_meaning.specs.Counts.{nodes, application_words}
 use Rattle.lang_meaning.specs.Values.{Value, nil}
 use Rattle.lang_meaning.specs.Objects.{no_environment}
 use Rattle.lang_meaning.specs.State.{State, first_state, main_context, more, Limit, request, gives, go_on}
-use Rattle.lang_meaning.specs.Lookup.{text}
 use Rattle.lang_meaning.specs.InitialHeap.{objects_at_start}
 use Rattle.lang_meaning.specs.Signals.{Task, form, Evaluation}
 use Rattle.lang_meaning.specs.Meaning.{mean_task, none_below, context_of, meaning_at, mean_mains, meant, meaning}
-use Rattle.lang_renamed.specs.Renaming.{Renames, form_by, program_by}
+use Rattle.lang_renamed.specs.Renaming.{KeepsTexts, form_by, program_by}
 use Rattle.lang_renamed.specs.RenamedRuns.{state_by, meant_by}
 use Rattle.lang_renamed.specs.Laws.{LawOfTasks, LawOfMeaning}
 use Rattle.lang_renamed.proofs.Walks.{nodes_by}
-use Rattle.lang_renamed.proofs.Starting.{text_by, start_by}
+use Rattle.lang_renamed.proofs.Starting.{start_by}
 use Rattle.lang_renamed.proofs.NoClosures.{no_closures}
 use Rattle.lang_renamed.proofs.Alike.{Renamed, StateRenamed, now, moved, at_state, ended, given, on, requests}
 use Rattle.lang_renamed.proofs.Applying.{Within}
 use Rattle.lang_renamed.proofs.Forms.{tasks}
 
-module _ (r : ℕ → ℕ) (old new : List (List ℕ)) (w : (n : ℕ) → text new (r n) ≡ text old n) (program : ProgramRows) (limit : Limit) where
+module _ (r : ℕ → ℕ) (old new : List (List ℕ)) (w : KeepsTexts r old new) (program : ProgramRows) (limit : Limit) where
   none_within : Within r none_below none_below
   none_within task env around z z' s = ended more s
 
@@ -66,13 +65,9 @@ module _ (r : ℕ → ℕ) (old new : List (List ℕ)) (w : (n : ℕ) → text n
   unfolding meaning
   means_same input k = ap meant (mains k program.main nil (starts input)).is
 
--- the texts of one table are those of the other
-pub texts_by : (r : ℕ → ℕ) (old new : List (List ℕ)) → Renames r old new → (n : ℕ) → text new (r n) ≡ text old n
-texts_by r old new h n = text_by old new (r n) n (h.texts n)
-
 pub law_of_tasks : LawOfTasks
 law_of_tasks r old new program limit k task env around z h =
-    (levels_within r old new (texts_by r old new h) program limit k task env around z (state_by r z) (now z)).is
+    (levels_within r old new h program limit k task env around z (state_by r z) (now z)).is
 
 pub law_of_meaning : LawOfMeaning
-law_of_meaning r old new program input k limit h = means_same r old new (texts_by r old new h) program limit input k
+law_of_meaning r old new program input k limit h = means_same r old new h program limit input k

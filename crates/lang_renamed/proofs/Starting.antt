@@ -23,7 +23,7 @@ use Rattle.lang_meaning.specs.State.{no_place}
 use Rattle.lang_meaning.specs.Lookup.{text, numbered}
 use Rattle.lang_meaning.specs.Literals.{Laid, after_parts, symbol_of, lay, lay_content, lay_items, lay_list, lay_tail, function_row}
 use Rattle.lang_meaning.specs.InitialHeap.{Key, input, output, function_of, literal, initargs, initform, Keyed, Thing, single, class_things, function_object, function_things, literal_objects, literal_things, initargs_list, initform_objects, slot_things, things, laid_out, layout, objects_at_start, under_key, stands_for, literal_value}
-use Rattle.lang_renamed.specs.Renaming.{name_by, names_by, symbol_by, item_by, content_by, items_by, tail_by, literal_by, function_by, slot_by, class_by, program_by}
+use Rattle.lang_renamed.specs.Renaming.{KeepsTexts, name_by, names_by, symbol_by, item_by, content_by, items_by, tail_by, literal_by, function_by, slot_by, class_by, program_by}
 use Rattle.lang_renamed.proofs.Lists.{both, if_by, length_by}
 
 -- a text of one table is that of the other
@@ -54,7 +54,7 @@ of_objects : (names : List (List ℕ)) (program : ProgramRows) (id : ℕ) (d : I
     stands_for names program (literal id) ≡ v → literal_value names program id d ≡ v
 of_objects names program id d o os v e h = rw e h
 
-module _ (r : ℕ → ℕ) (old new : List (List ℕ)) (w : (n : ℕ) → text new (r n) ≡ text old n) where
+module _ (r : ℕ → ℕ) (old new : List (List ℕ)) (w : KeepsTexts r old new) where
   -- ---- data
 
   symbol_text_by : (x : Symbol) → symbol_of new (symbol_by r x) ≡ symbol_of old x

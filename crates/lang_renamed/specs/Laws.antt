@@ -8,24 +8,24 @@ use Rattle.lang_meaning.specs.Signals.{Task}
 use Rattle.lang_meaning.specs.Meaning.{meaning, meaning_at}
 use Rattle.lang_meaning.specs.Evaluation.{Evaluation}
 use Rattle.lang_meaning.specs.Evaluates.{Evaluates}
-use Rattle.lang_renamed.specs.Renaming.{Renames, program_by}
+use Rattle.lang_renamed.specs.Renaming.{KeepsTexts, program_by}
 use Rattle.lang_renamed.specs.RenamedRuns.{state_by, evaluated_by, task_by, meant_by, evaluation_by}
 
 -- of each task with any number of levels, from any environment, dynamic context and state
 abbrev pub LawOfTasks : Type 0
 LawOfTasks =
     (r : ℕ → ℕ) (old new : List (List ℕ)) (program : ProgramRows) (limit : Limit) (k : ℕ) (task : Task) (env : Environment) (around : DynamicContext) (z : State) →
-    Renames r old new →
+    KeepsTexts r old new →
     meaning_at new (program_by r program) limit k (task_by r task) env around (state_by r z) ≡ evaluated_by r (meaning_at old program limit k task env around z)
 
 -- of whole programs: the end is the same, and all else but the bodies of functions in the store
 abbrev pub LawOfMeaning : Type 0
 LawOfMeaning =
-    (r : ℕ → ℕ) (old new : List (List ℕ)) (program : ProgramRows) (input : List ℕ) (k : ℕ) (limit : Limit) → Renames r old new →
+    (r : ℕ → ℕ) (old new : List (List ℕ)) (program : ProgramRows) (input : List ℕ) (k : ℕ) (limit : Limit) → KeepsTexts r old new →
     meaning new (program_by r program) input k limit ≡ meant_by r (meaning old program input k limit)
 
 -- so an evaluation of the one is one of the other, with the same bytes read and written and the same end
 abbrev pub LawOfEvaluations : Type 0
 LawOfEvaluations =
-    (r : ℕ → ℕ) (new : List (List ℕ)) (e : Evaluation) (left left' given given' : Option (List ℕ)) (end : EvaluationEnd) → Renames r e.names new →
+    (r : ℕ → ℕ) (new : List (List ℕ)) (e : Evaluation) (left left' given given' : Option (List ℕ)) (end : EvaluationEnd) → KeepsTexts r e.names new →
     Evaluates e left left' given given' end → Evaluates (evaluation_by r new e) left left' given given' end

@@ -1,5 +1,5 @@
 -- Names under other numbers: data, core forms, tables and programs in which each name has the number that a renaming gives it.
-use Rattle.std.specs.Prelude.{◌≡◌, ℕ, ◌+◌, List, Some, length, map, option_map, slice_get}
+use Rattle.std.specs.Prelude.{◌≡◌, ℕ, List, map, option_map}
 use Rattle.base.specs.declared.datum.Name.{Name}
 use Rattle.base.specs.declared.datum.Symbol.{Symbol}
 use Rattle.base.specs.declared.datum.Symbol.TheVariants.{Named, Fresh}
@@ -12,16 +12,13 @@ use Rattle.lang_meaning.specs.declared.program.SlotRow.{SlotRow}
 use Rattle.lang_meaning.specs.declared.program.ClassRow.{ClassRow}
 use Rattle.lang_meaning.specs.declared.program.GenericRow.{GenericRow}
 use Rattle.lang_meaning.specs.declared.program.ProgramRows.{ProgramRows}
+use Rattle.lang_meaning.specs.Lookup.{text}
 use Rattle.lang_meaning.specs.Form.{Form, literal, local, set_local, global, set_global, def_global, clauses, sequence, let_form, lambda, call, call_value, apply, prim, while_form, block, return_from, tagbody, go, catch_form, throw, unwind, dynamic_let, dynamic, set_dynamic, def_dynamic, with_handler, signal_form, continue_form, next_method, has_next, sited}
 use Rattle.lang_meaning.specs.Form.{Forms, no_form, form_and, ClauseForms, no_clause, clause_and, MaybeForm, no_body, with_body, BindingForms, no_binding, binding_and, DynamicForms, no_dynamic, dynamic_and}
 
--- The two tables have the same texts, in another order: name n of the old one is name r n of the new one. Numbers of no name follow in
--- their order.
-pub record Renames (r : ℕ → ℕ) (old new : List (List ℕ)) : Type 0 where
-  pub once : (m n : ℕ) → r m ≡ r n → m ≡ n
-  pub texts : (n : ℕ) → slice_get new (r n) ≡ slice_get old n
-  pub back : (m : ℕ) (t : List ℕ) → slice_get new m ≡ Some t → (n : ℕ) × (slice_get old n ≡ Some t)
-  pub behind : (k : ℕ) → r (length old + k) ≡ length new + k
+-- each name has its text under its new number
+abbrev pub KeepsTexts : (r : ℕ → ℕ) (old new : List (List ℕ)) → Type 0
+KeepsTexts r old new = (n : ℕ) → text new (r n) ≡ text old n
 
 module _ (r : ℕ → ℕ) where
   -- ---- data
