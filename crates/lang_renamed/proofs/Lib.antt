@@ -10,3 +10,4 @@ pub mod Answering
 pub mod Forms
 pub mod Levels
 pub mod Evaluating
+pub mod Names

@@ -1,3 +1,4 @@
 pub mod Renaming
 pub mod RenamedRuns
 pub mod Laws
+pub mod ProgramNames
