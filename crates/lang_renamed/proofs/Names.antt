@@ -17,7 +17,7 @@ use Rattle.lang_meaning.specs.declared.program.GenericRow.{GenericRow}
 use Rattle.lang_meaning.specs.declared.program.ProgramRows.{ProgramRows}
 use Rattle.lang_meaning.specs.Form.{Form, literal, local, set_local, global, set_global, def_global, clauses, sequence, let_form, lambda, call, call_value, apply, prim, while_form, block, return_from, tagbody, go, catch_form, throw, unwind, dynamic_let, dynamic, set_dynamic, def_dynamic, with_handler, signal_form, continue_form, next_method, has_next, sited}
 use Rattle.lang_meaning.specs.Form.{Forms, no_form, form_and, ClauseForms, no_clause, clause_and, MaybeForm, no_body, with_body, BindingForms, no_binding, binding_and, DynamicForms, no_dynamic, dynamic_and}
-use Rattle.lang_renamed.specs.Renaming.{name_by, names_by, symbol_by, item_by, content_by, items_by, tail_by, form_by, forms_by, clauses_by, body_by, bindings_by, dynamics_by, literal_by, procedure_by, function_by, slot_by, slots_by, class_by, generic_by, program_by}
+use Rattle.lang_renamed.specs.Renaming.{name_by, names_by, symbol_by, item_by, content_by, items_by, tail_by, form_by, forms_by, clauses_by, body_by, bindings_by, dynamics_by, literal_by, procedure_by, function_by, slot_by, class_by, generic_by, program_by}
 use Rattle.lang_renamed.specs.ProgramNames.{symbol_names, item_names, content_names, items_names, tail_names, form_names, forms_names, clauses_names, body_names, bindings_names, dynamics_names, literal_names, own_name, procedure_names, function_names, initarg_names, slot_names, class_names, generic_names, program_names}
 use Rattle.lang_renamed.proofs.Lists.{both, three, flat_by}
 

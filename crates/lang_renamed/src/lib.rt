@@ -3,4 +3,4 @@
 
 pub mod laws;
 
-pub use laws::{law_evaluations, law_meaning, law_tasks};
+pub use laws::{law_evaluations, law_meaning, law_renamed_runs, law_same_runs, law_tasks};
