@@ -31,4 +31,6 @@ pub mod RenamedFirst
 pub mod RenamedFiles
 pub mod Joined
 pub mod OneVerdict
+pub mod FreshTexts
+pub mod NamesInTable
 pub mod OneMeaning
