@@ -1,4 +1,4 @@
-// One verdict on a file, whatever names are numbered by, as the contracts of functions that do nothing.
+// One verdict on a file and one meaning, whatever names are numbered by, as the contracts of functions that do nothing.
 
 ghost use Rattle.std.specs.Prelude.{◌≡◌, ◌<◌, ℕ, List, Option, length};
 ghost use Rattle.base.specs.declared.reason.Refusal.{Refusal as refusal};

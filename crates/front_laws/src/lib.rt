@@ -1,4 +1,5 @@
-// Laws of the verdict on a file: where what refuses it stands, and that there is one, whatever names are numbered by.
+// Laws of the verdict on a file: where what refuses it stands, and that there is one verdict and one meaning, whatever
+// names are numbered by.
 #![tactic(auto)]
 
 pub mod laws;

@@ -107,7 +107,7 @@ module _ (r : ℕ → ℕ) where
 
   -- ---- nodes
 
-  pub forms_count : (fs : Forms) → count_forms (forms_by r fs) ≡ count_forms fs
+  forms_count : (fs : Forms) → count_forms (forms_by r fs) ≡ count_forms fs
   forms_count no_form = refl
   forms_count (form_and f fs) = ap (λ (n : ℕ). n + 1) (forms_count fs)
 
