@@ -10,7 +10,6 @@ pub mod Rows
 pub mod Judging
 pub mod Texts
 pub mod Files
-pub mod Lists
 pub mod RenamedTables
 pub mod RenamedData
 pub mod RenamedPieces
@@ -32,3 +31,6 @@ pub mod RenamedFirst
 pub mod RenamedFiles
 pub mod Joined
 pub mod OneVerdict
+pub mod FreshTexts
+pub mod NamesInTable
+pub mod OneMeaning

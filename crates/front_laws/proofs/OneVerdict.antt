@@ -7,7 +7,8 @@ use Rattle.front_files.specs.declared.mode.Mode.{Mode}
 use Rattle.front_files.specs.declared.mode.Mode.TheVariants.{Run}
 use Rattle.front_files.specs.Verdicts.{FileVerdict, accepted, refused, Verdict, IsOfFile, Accepts, Refuses}
 use Rattle.front_laws.specs.Places.{InText}
-use Rattle.front_laws.specs.Renaming.{program_by, file_verdict_by}
+use Rattle.lang_renamed.specs.Renaming.{program_by}
+use Rattle.front_laws.specs.Renaming.{file_verdict_by}
 use Rattle.front_laws.specs.SamePrograms.{SameProgram}
 use Rattle.front_laws.proofs.Files.{refusal_in}
 use Rattle.front_laws.proofs.RenamedFiles.{file_by}

@@ -22,9 +22,10 @@ use Rattle.front_profile.specs.FunctionNodes.{function_parts}
 use Rattle.front_profile.specs.BindingRows.{let_as, let_row, name_and, names_of, values_of, dynamics_as, dynamic_let_as, dynamic_let_row, lambda_as, lambda_row, function_and, variable_that_is, functions_of, functions_as, with_functions_as, with_functions_row}
 use Rattle.front_profile.specs.DefiningRows.{named, is_that, counts, has_global, has_dynamic, is_of_prelude, has_function, is_taken, is_set, defining_offence, unless_offending, defining, is_truth, global_variable, global_as, global_row, dynamic_variable, defdynamic_as, defdynamic_row, with_name, named_form, defun_of, defun_with, is_reserved, defun_as, defun_row}
 use Rattle.front_profile.specs.ValueRows.{one_part}
-use Rattle.front_laws.specs.Renaming.{Renames, name_by, names_by, symbol_by, item_by, function_by}
+use Rattle.lang_renamed.specs.Renaming.{name_by, names_by, symbol_by, item_by, function_by}
+use Rattle.front_laws.specs.Renaming.{Renames}
 use Rattle.front_laws.proofs.RenamedTables.{data_by, global_by, dynamic_by, bound_by, context_by, tables_by, parameters_by, part_by, parts_by, node_by}
-use Rattle.front_laws.proofs.Lists.{both, three, if_by, and_same, or_same, any_by, length_by, map_by}
+use Rattle.lang_renamed.proofs.Lists.{both, three, if_by, and_same, or_same, any_by, length_by, map_by}
 use Rattle.front_laws.proofs.RenamedData.{symbol_of_by, name_of_by, same_number}
 use Rattle.front_laws.proofs.RenamedShapes.{pair_by, pairs_by, variable_of_by, around_by, pairs_in_by, parameters_in_by}
 use Rattle.front_laws.proofs.RenamedNodes.{some_same, within_by, made_by_parts, bad_binding_by, each_below_by, each_inner_by, each_bound_by, both_parts, with_name_by, named_form_by, alone_by, function_parts_by}

@@ -32,9 +32,10 @@ use Rattle.front_profile.specs.GivenNames.{GivenName, no_name, unfit, lacking, g
 use Rattle.front_profile.specs.ClassShapes.{SlotOption, wrong_option, initform_of, initarg_of, method_of, accessor_of, initarg_by, method_by, accessor_with, accessor_by, slot_option, option_and, slot_options, WrittenSlot, slot_with, name_in, slot_in_list, slot_by, slot_and, each_slot, slots_in, WrittenSuper, super_and, each_super, supers_in, ClassOption, no_option, abstract, is_nil, abstract_option, is_left_out_option, class_option, class_options, are_options, is_of_left_out, is_abstract}
 use Rattle.front_profile.specs.ClassRows.{Function, for_initform, for_method, functions_of_option, functions_of, all_functions, Use, use_of, uses, is_lacking, is_of_function, is_kept_name, takes_it, row_named, fits_generic, names_differ, known_supers, unknown_names, some_twice, place_unless, first_unknown_super, are_supers, few_inherited, is_wrong_option, initform_in, initarg_in, has_wrong_options, part_of, slot_parts, class_parts, initform_from, slot_spec, slot_specs, slot_function, slot_functions, class_made, class_in_text, class_of_prelude, is_taken_class, is_reserved_class, class_checked, class_of, class_shaped, defclass_row}
 use Rattle.front_profile.specs.GenericRows.{unless_unknown}
-use Rattle.front_laws.specs.Renaming.{Renames, name_by, names_by, symbol_by, item_by, class_by, generic_by, procedure_by}
+use Rattle.lang_renamed.specs.Renaming.{name_by, names_by, symbol_by, item_by, class_by, generic_by, procedure_by}
+use Rattle.front_laws.specs.Renaming.{Renames}
 use Rattle.front_laws.proofs.RenamedTables.{data_by, context_by, tables_by, part_by, parts_by, leaf_by, slot_function_by, spec_by, node_by}
-use Rattle.front_laws.proofs.Lists.{both, three, if_by, if_same, and_same, or_same, any_by, all_by, length_by, get_by, flat_by, chosen_by}
+use Rattle.lang_renamed.proofs.Lists.{both, three, if_by, if_same, and_same, or_same, any_by, all_by, length_by, get_by, flat_by, chosen_by}
 use Rattle.front_laws.proofs.RenamedData.{place_by, symbol_of_by, name_of_by, list_items_by, symbol_text_by, word_by}
 use Rattle.front_laws.proofs.RenamedTexts.{FindsNames}
 use Rattle.front_laws.proofs.RenamedShapes.{chosen_same}

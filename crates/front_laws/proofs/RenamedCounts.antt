@@ -1,6 +1,6 @@
 -- A renamed program has as many nodes and cells.
-use Rattle.std.specs.Prelude.{◌≡◌, ℕ, ◌+◌, ◌*◌, ◌==◌, Bool, List, [], ◌∷◌, nat_lt, length, map, filter, refl}
-use Rattle.std.specs.List.{range_with_len, sum_by, position_or_len}
+use Rattle.std.specs.Prelude.{◌≡◌, ℕ, ◌+◌, ◌*◌, List, [], length, map, filter, refl}
+use Rattle.std.specs.List.{range_with_len, sum_by}
 use Rattle.std.proofs.Common.{ap}
 use mathlib.Core.Path.{fun_ext}
 use Rattle.lang_meaning.specs.declared.program.LiteralRow.{LiteralRow}
@@ -9,19 +9,18 @@ use Rattle.lang_meaning.specs.declared.program.Procedure.{Procedure}
 use Rattle.lang_meaning.specs.declared.program.SlotRow.{SlotRow}
 use Rattle.lang_meaning.specs.declared.program.ClassRow.{ClassRow}
 use Rattle.lang_meaning.specs.declared.program.GenericRow.{GenericRow}
-use Rattle.lang_meaning.specs.declared.program.MethodRow.{MethodRow}
 use Rattle.lang_meaning.specs.declared.program.Qualifier.TheVariants.{Primary}
 use Rattle.lang_meaning.specs.declared.program.ProgramRows.{ProgramRows}
 use Rattle.lang_meaning.specs.Counts.{all_nodes, parameter_count}
 use Rattle.lang_meaning.specs.Lookup.{is_in}
-use Rattle.lang_meaning.specs.Classes.{precedence, applies, more_specific, ordered, applicable, of_kind, chain_of}
+use Rattle.lang_meaning.specs.Classes.{of_kind, chain_of}
 use Rattle.lang_meaning.specs.ProgramCounts.{row_nodes, procedure_nodes, slot_nodes, class_nodes, program_nodes}
 use Rattle.lang_meaning.specs.Cells.{argument_classes, is_specialised, one_of_each, groups, tuples, chain_length, tuple_cells, generic_cells, program_cells}
-use Rattle.front_laws.specs.Renaming.{literal_by, procedure_by, slot_by, class_by, generic_by, form_by, name_by, program_by}
-use Rattle.front_laws.proofs.Lists.{both, if_same, and_same, length_by, total_by}
+use Rattle.lang_renamed.specs.Renaming.{literal_by, procedure_by, slot_by, class_by, generic_by, form_by, name_by, program_by}
+use Rattle.lang_renamed.proofs.Lists.{both, length_by, total_by}
 use Rattle.front_laws.proofs.RenamedData.{size_by}
-use Rattle.front_laws.proofs.RenamedMakings.{all_nodes_by}
-use Rattle.front_laws.proofs.RenamedHierarchies.{precedence_by}
+use Rattle.lang_renamed.proofs.Walks.{all_nodes_by}
+use Rattle.lang_renamed.proofs.Classes.{line_by, applicable_by}
 
 module _ (r : ℕ → ℕ) where
   -- ---- nodes
@@ -54,33 +53,13 @@ module _ (r : ℕ → ℕ) where
   -- ---- cells
 
   module _ (p : ProgramRows) where
-    line_by : (c : ℕ) → precedence (program_by r p) c ≡ precedence p c
-    line_by c = precedence_by r p.classes c
-
-    applies_by : (cs ms : List ℕ) → applies (program_by r p) cs ms ≡ applies p cs ms
-    applies_by [] [] = refl
-    applies_by [] (m ∷ ms) = refl
-    applies_by (c ∷ cs) [] = refl
-    applies_by (c ∷ cs) (m ∷ ms) = and_same _ _ _ _ (ap (is_in m) (line_by c)) (applies_by cs ms)
-
-    specific_by : (cs ms ns : List ℕ) → more_specific (program_by r p) cs ms ns ≡ more_specific p cs ms ns
-    specific_by (c ∷ cs) (m ∷ ms) (n ∷ ns) =
-        if_same (m == n) (m == n) _ _ _ _ refl (specific_by cs ms ns)
-        (ap (λ (ds : List ℕ). nat_lt (position_or_len (λ d. d == m) ds) (position_or_len (λ d. d == n) ds)) (line_by c))
-    specific_by cs ms ns = refl
-
-    applicable_by : (cs : List ℕ) (ms : List MethodRow) → applicable (program_by r p) cs ms ≡ applicable p cs ms
-    applicable_by cs ms =
-        both (λ (f : MethodRow → MethodRow → Bool) (g : MethodRow → Bool). ordered f (filter g ms)) _ _ _ _
-        (fun_ext (λ m. fun_ext (λ n. specific_by cs m.classes n.classes))) (fun_ext (λ m. applies_by cs m.classes))
-
     tuple_by : (g : GenericRow) (cs : List ℕ) → tuple_cells (program_by r p) (generic_by r g) cs ≡ tuple_cells p g cs
-    tuple_by g cs = ap (λ ms. 1 + chain_length (chain_of ms (of_kind Primary ms))) (applicable_by cs g.methods)
+    tuple_by g cs = ap (λ ms. 1 + chain_length (chain_of ms (of_kind Primary ms))) (applicable_by r p cs g.methods)
 
     groups_by : (g : GenericRow) (i : ℕ) → groups (program_by r p) (generic_by r g) i ≡ groups p g i
     groups_by g i =
         both (λ (f : ℕ → List ℕ) (n : ℕ). one_of_each f [] (range_with_len 0 n)) _ _ _ _
-        (fun_ext (λ c. ap (filter (λ d. is_in d (argument_classes g i))) (line_by c))) (length_by (class_by r) p.classes)
+        (fun_ext (λ c. ap (filter (λ d. is_in d (argument_classes g i))) (line_by r p c))) (length_by (class_by r) p.classes)
 
     generic_cells_by : (g : GenericRow) → generic_cells (program_by r p) (generic_by r g) ≡ generic_cells p g
     generic_cells_by g =

@@ -11,9 +11,10 @@ use Rattle.base.specs.DataNames.{symbol_text, text_of}
 use Rattle.lang_derived.specs.Asked.{is_text, is_word, is_symbol, list_items}
 use Rattle.front_profile.specs.Names.{same_symbol}
 use Rattle.front_profile.specs.Shapes.{symbol_of, name_of}
-use Rattle.front_laws.specs.Renaming.{Renames, name_by, symbol_by, item_by, content_by, items_by, tail_by}
+use Rattle.lang_renamed.specs.Renaming.{name_by, symbol_by, item_by, content_by, items_by, tail_by}
+use Rattle.front_laws.specs.Renaming.{Renames}
 use Rattle.front_laws.proofs.RenamedTables.{data_by}
-use Rattle.front_laws.proofs.Lists.{both}
+use Rattle.lang_renamed.proofs.Lists.{both}
 
 module _ (r : ℕ → ℕ) where
   pub place_by : (d : Item) → place_of (item_by r d) ≡ place_of d

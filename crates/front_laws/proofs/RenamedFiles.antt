@@ -23,7 +23,8 @@ use Rattle.front_files.specs.declared.mode.Mode.TheVariants.{Run}
 use Rattle.front_files.specs.Shown.{first_text, head_text, is_among, not_shown, stays, printing_at, IsPrinting, IsForm, runs, not_last, last_stays, last_shown}
 use Rattle.front_files.specs.Verdicts.{Judgement, all_taken, one_refused, Judges, at_end, form_taken, form_refused, text_stops, FileVerdict, BehindPrelude, source_too_long, prelude_refused, file_refused, file_accepted}
 use Rattle.front_files.specs.Verdicts.{Verdict as FileIs}
-use Rattle.front_laws.specs.Renaming.{Renames, name_by, item_by, items_by, form_by, file_verdict_by}
+use Rattle.lang_renamed.specs.Renaming.{name_by, item_by, items_by, form_by}
+use Rattle.front_laws.specs.Renaming.{Renames, file_verdict_by}
 use Rattle.front_laws.proofs.RenamedTables.{context_by, tables_by, verdict_by}
 use Rattle.front_laws.proofs.RenamedData.{place_by, text_of_by}
 use Rattle.front_laws.proofs.RenamedTexts.{FindsNames, number_of_by, next_by}

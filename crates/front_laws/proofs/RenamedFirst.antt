@@ -12,9 +12,10 @@ use Rattle.lang_classes.specs.InheritedBuiltIn.{built_in_own, own_initarg, texts
 use Rattle.front_profile.specs.declared.tables.ReservedWords.{ReservedWords}
 use Rattle.front_profile.specs.declared.tables.Tables.{Tables}
 use Rattle.front_scope.specs.Scopes.{AreWords, first_tables, AreInitialTables}
-use Rattle.front_laws.specs.Renaming.{Renames, name_by, names_by, slot_by, slots_by, class_by}
+use Rattle.lang_renamed.specs.Renaming.{name_by, names_by, slot_by, slots_by, class_by}
+use Rattle.front_laws.specs.Renaming.{Renames}
 use Rattle.front_laws.proofs.RenamedTables.{hierarchy_by, words_by, tables_by}
-use Rattle.front_laws.proofs.Lists.{length_by, get_by, take_by}
+use Rattle.lang_renamed.proofs.Lists.{length_by, get_by, take_by}
 use Rattle.front_laws.proofs.RenamedForms.{class_named_by}
 use Rattle.front_laws.proofs.RenamedHierarchies.{names_of_by, said_by_by, above_by, fit_by_rows, united_by}
 

@@ -29,9 +29,10 @@ use Rattle.front_profile.specs.RowWords.{deeper, deeper_at_top, within_depth, ma
 use Rattle.front_profile.specs.ValueRows.{free_symbol, symbol_as, symbol_node, quote_row, is_constant_row, is_constant, with_set, one_part, set_free, set_as, set_symbol, set_datum, setq_row, progn_row, length_if, clause_length, clause_lengths, clause_parts, own_depth, cond_as, cond_row, two_row, body_row, dynamic_name, dynamic_as, dynamic_row, set_dynamic_as, set_dynamic_row, function_named, function_as, function_symbol, function_row, method_row, class_of, class_symbol, class_datum, class_row}
 use Rattle.front_profile.specs.ExitRows.{with_exit, block_as, block_row, return_to_exit, return_as, return_from_row, tagbody_row, go_to, go_as, go_row}
 use Rattle.front_profile.specs.CallRows.{all_parts, local_call}
-use Rattle.front_laws.specs.Renaming.{Renames, name_by, symbol_by, item_by, class_by}
+use Rattle.lang_renamed.specs.Renaming.{name_by, symbol_by, item_by, class_by}
+use Rattle.front_laws.specs.Renaming.{Renames}
 use Rattle.front_laws.proofs.RenamedTables.{data_by, bound_by, global_by, words_by, context_by, tables_by, parts_by, leaf_by, one_by, making_by, node_by}
-use Rattle.front_laws.proofs.Lists.{both, if_by, if_same, any_by, length_by}
+use Rattle.lang_renamed.proofs.Lists.{both, if_by, if_same, any_by, length_by}
 use Rattle.front_laws.proofs.RenamedData.{place_by, symbol_of_by, name_of_by, same_number}
 use Rattle.front_laws.proofs.RenamedShapes.{symbols_by, clause_by, clause_parts_by, variable_of_by, function_of_by, block_of_by, tag_of_by, is_true_by, all_differ_by, clauses_in_by, tags_in_by, forms_in_by, lengths_in_by}
 use Rattle.front_laws.proofs.RenamedNodes.{within_by, made_by_parts, at_once_by, unsited_by, literal_node_by, no_such_by, each_form_by, each_below_by, each_inner_by, both_parts}

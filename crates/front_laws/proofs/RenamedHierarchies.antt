@@ -7,16 +7,17 @@ use mathlib.Core.Path.{fun_ext}
 use Rattle.base.specs.declared.datum.Name.{Name}
 use Rattle.lang_meaning.specs.declared.program.ClassRow.{ClassRow}
 use Rattle.lang_meaning.specs.declared.program.SlotRow.{SlotRow}
-use Rattle.lang_meaning.specs.Classes.{precedence_of}
 use Rattle.lang_meaning.specs.Lookup.{all_differ}
 use Rattle.lang_classes.specs.declared.slot_spec.SlotSpec.{SlotSpec}
 use Rattle.lang_classes.specs.Given.{given, is_wrong}
 use Rattle.lang_classes.specs.InheritedPrecedence.{each_last, superclasses, above, precedence_below, is_open, share_more, clash, supers_fit}
 use Rattle.lang_classes.specs.InheritedSlots.{same_name, has_name, without_name, each_first, with_name, of_name, last_initform, initargs_of, initform_of, slot_of, slots_of, names_of, united, slots_said_by, own_slots, said_by}
 use Rattle.lang_classes.specs.InheritedClasses.{Hierarchy, GivenSlot, slots_given, slot_limit, inherited_names, row_of, with_own, with_class}
-use Rattle.front_laws.specs.Renaming.{Renames, name_by, names_by, slot_by, slots_by, class_by}
+use Rattle.lang_renamed.specs.Renaming.{name_by, names_by, slot_by, slots_by, class_by}
+use Rattle.front_laws.specs.Renaming.{Renames}
 use Rattle.front_laws.proofs.RenamedTables.{hierarchy_by, spec_by}
-use Rattle.front_laws.proofs.Lists.{both, if_by, or_same, any_by, length_by, get_by, filter_by, map_by, flat_by}
+use Rattle.lang_renamed.proofs.Classes.{precedence_by}
+use Rattle.lang_renamed.proofs.Lists.{both, if_by, or_same, any_by, length_by, get_by, filter_by, map_by, flat_by}
 use Rattle.front_laws.proofs.RenamedData.{same_number}
 
 module _ (r : ℕ → ℕ) where
@@ -51,19 +52,12 @@ module _ (r : ℕ → ℕ) where
 
   -- ---- precedence lists
 
-  precedence_some : (o : Option ClassRow) → precedence_of (option_map (class_by r) o) ≡ precedence_of o
-  precedence_some None = refl
-  precedence_some (Some c) = refl
-
-  pub precedence_by : (rows : List ClassRow) (c : ℕ) → precedence_of (slice_get (map (class_by r) rows) c) ≡ precedence_of (slice_get rows c)
-  precedence_by rows c = ap precedence_of (get_by (class_by r) rows c) ∙ precedence_some (slice_get rows c)
-
   pub above_by : (rows : List ClassRow) (cs : List ℕ) → above (map (class_by r) rows) cs ≡ above rows cs
   unfolding above
-  above_by rows cs = ap (λ (f : ℕ → List ℕ). each_last (flat_map f (superclasses cs))) (fun_ext (precedence_by rows))
+  above_by rows cs = ap (λ (f : ℕ → List ℕ). each_last (flat_map f (superclasses cs))) (fun_ext (precedence_by r rows))
 
   clash_by : (rows : List ClassRow) (a b : ℕ) → clash (map (class_by r) rows) a b ≡ clash rows a b
-  clash_by rows a b = ap (λ c. a == b || c) (both share_more _ _ _ _ (precedence_by rows a) (precedence_by rows b))
+  clash_by rows a b = ap (λ c. a == b || c) (both share_more _ _ _ _ (precedence_by r rows a) (precedence_by r rows b))
 
   pub fit_by_rows : (rows : List ClassRow) (cs : List ℕ) → supers_fit (map (class_by r) rows) cs ≡ supers_fit rows cs
   unfolding supers_fit

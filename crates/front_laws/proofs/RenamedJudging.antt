@@ -19,9 +19,10 @@ use Rattle.front_profile.specs.RowWords.{deeper}
 use Rattle.front_profile.specs.FunctionNodes.{variables_of, function_parts, function_node}
 use Rattle.front_profile.specs.Rows.{node}
 use Rattle.front_profile.specs.Judged.{with_fresh, with_variable, subject, AllFound, Verdicts, all_stand, one_ended, in_front, made_verdict, Elaborates, offence, step, made, ElaboratesAll, ends, goes, stops}
-use Rattle.front_laws.specs.Renaming.{Renames, name_by, symbol_by, item_by, form_by, literal_by}
+use Rattle.lang_renamed.specs.Renaming.{name_by, symbol_by, item_by, form_by, literal_by}
+use Rattle.front_laws.specs.Renaming.{Renames}
 use Rattle.front_laws.proofs.RenamedTables.{bound_by, context_by, tables_by, written_by, part_by, parts_by, made_by, found_by, node_by, end_by, standing_by, verdict_by}
-use Rattle.front_laws.proofs.Lists.{both, length_by}
+use Rattle.lang_renamed.proofs.Lists.{both, length_by}
 use Rattle.front_laws.proofs.RenamedTexts.{FindsNames}
 use Rattle.front_laws.proofs.RenamedSteps.{step_by}
 use Rattle.front_laws.proofs.RenamedNodes.{some_same, with_literal_by, alone_by, function_parts_by}

@@ -1,6 +1,5 @@
 -- Core forms that are made of renamed parts, and the tables behind them.
-use Rattle.std.specs.Prelude.{◌≡◌, ℕ, zero, suc, ◌+◌, ◌-◌, Bool, true, false, not, ◌&&◌, ◌||◌, List, [], ◌∷◌, ◌++◌, Option, Some, None, if◌then◌else◌, length, take, drop, map, filter, option_map, refl}
-use Rattle.std.specs.List.{sum}
+use Rattle.std.specs.Prelude.{◌≡◌, ℕ, zero, suc, ◌+◌, Bool, true, false, List, [], ◌∷◌, ◌++◌, Option, Some, None, length, take, drop, map, filter, option_map, refl}
 use Rattle.std.proofs.Common.{ap, sym, ◌∙◌}
 use Rattle.std.proofs.lemmas.List.{map-append}
 use mathlib.Core.Path.{fun_ext}
@@ -14,12 +13,9 @@ use Rattle.lang_meaning.specs.declared.program.FunctionRow.{FunctionRow}
 use Rattle.lang_meaning.specs.declared.program.GenericRow.{GenericRow}
 use Rattle.lang_meaning.specs.declared.program.MethodRow.{MethodRow}
 use Rattle.lang_meaning.specs.declared.program.Procedure.{Procedure}
-use Rattle.lang_meaning.specs.Form.{Form, literal, local, set_local, global, set_global, def_global, clauses, sequence, let_form, lambda, call, call_value, apply, prim, while_form, block, return_from, tagbody, go, catch_form, throw, unwind, dynamic_let, dynamic, set_dynamic, def_dynamic, with_handler, signal_form, continue_form, next_method, has_next, sited}
-use Rattle.lang_meaning.specs.Form.{Forms, no_form, form_and, ClauseForms, no_clause, clause_and, MaybeForm, no_body, with_body, BindingForms, no_binding, binding_and, DynamicForms, no_dynamic, dynamic_and}
+use Rattle.lang_meaning.specs.Form.{Form, local, clauses, sequence, let_form, lambda, call, call_value, prim, block, tagbody, dynamic_let}
+use Rattle.lang_meaning.specs.Form.{form_and, clause_and, with_body, binding_and, dynamic_and}
 use Rattle.lang_meaning.specs.model.View.{forms}
-use Rattle.lang_meaning.specs.Subforms.{fold, fold_forms, fold_clauses, fold_body, fold_values, fold_dynamics}
-use Rattle.lang_meaning.specs.Mentions.{variables_bound, owns, binds, names_part, some, mentions_step, mentions}
-use Rattle.lang_meaning.specs.Counts.{count_forms, count_clauses, count_bindings, count_dynamics, own_nodes, is_function, parameters, all_nodes}
 use Rattle.lang_classes.specs.Given.{given}
 use Rattle.lang_classes.specs.InheritedClasses.{with_class}
 use Rattle.lang_dispatch.specs.Methods.{new_row, with_method}
@@ -44,148 +40,17 @@ use Rattle.front_profile.specs.declared.elaboration.Elaboration.{Elaboration}
 use Rattle.front_profile.specs.declared.elaboration.Elaboration.TheVariants.{Ready, OfOne, OfTwo, OfBody, InSequence, CallOf, CallOfValue, CallOfLocal, CallOfPrimitive, OfClauses, OfVariables, OfDynamics, OfFunction, OfBlock, OfSegments, OfFunctionNamed, OfProcedure, OfAccessor, OfMethods, OfClass}
 use Rattle.front_profile.specs.declared.elaboration.Made.{Made}
 use Rattle.front_profile.specs.Elaborations.{leaf_form, form_found, variable_found, forms_found, variables_found, bindings_found, body_of, one_of, two_of, make_one, make_two, make_with_body, clause_body, behind_clause, make_clauses, make_segments, make_dynamics, behind_dynamics, rest_found, make_function, elaborate, at_site, made_form, prelude_with, with_procedure, with_callee, with_function, procedure_found, accessor_procedure, with_generic, with_method_at, with_methods, finish_methods, generic_named, accessor_head, arguments_of, with_accessor_in, with_slot_function, with_slot_functions, prelude_count, with_new_class, finish_class, finish_one, finish, finished}
-use Rattle.front_laws.specs.Renaming.{Renames, name_by, names_by, form_by, forms_by, clauses_by, body_by, bindings_by, dynamics_by, procedure_by, function_by, class_by, generic_by}
+use Rattle.lang_renamed.specs.Renaming.{name_by, names_by, form_by, forms_by, clauses_by, body_by, bindings_by, dynamics_by, procedure_by, function_by, class_by, generic_by}
+use Rattle.front_laws.specs.Renaming.{Renames}
 use Rattle.front_laws.proofs.RenamedTables.{hierarchy_by, global_by, dynamic_by, tables_by, leaf_by, one_by, taker_by, slot_function_by, new_class_by, making_by, made_by, found_by}
-use Rattle.front_laws.proofs.Lists.{both, length_by, take_by, drop_by, chosen_by}
+use Rattle.lang_renamed.proofs.Walks.{mentions_by}
+use Rattle.lang_renamed.proofs.Lists.{both, length_by, take_by, drop_by, chosen_by}
 use Rattle.front_laws.proofs.RenamedTexts.{FindsNames}
 use Rattle.front_laws.proofs.RenamedShapes.{chosen_same}
 use Rattle.front_laws.proofs.RenamedMethods.{generic_of_name}
 use Rattle.front_laws.proofs.RenamedHierarchies.{given_specs_by, with_class_by}
 
--- ---- a walk that sees no names
-
-module _ (r : ℕ → ℕ) {X : Type 0} (step : Form → List X → List X → X) (e : (f : Form) (o i : List X) → step (form_by r f) o i ≡ step f o i) where
-  one_outer : (f : Form) (x y : X) → x ≡ y → step (form_by r f) (x ∷ []) [] ≡ step f (y ∷ []) []
-  one_outer f x y p = ap (λ z. step (form_by r f) (z ∷ []) []) p ∙ e f (y ∷ []) []
-
-  two_outer : (f : Form) (x y u v : X) → x ≡ y → u ≡ v → step (form_by r f) (x ∷ u ∷ []) [] ≡ step f (y ∷ v ∷ []) []
-  two_outer f x y u v p q = both (λ a b. step (form_by r f) (a ∷ b ∷ []) []) x y u v p q ∙ e f (y ∷ v ∷ []) []
-
-  one_inner : (f : Form) (x y : X) → x ≡ y → step (form_by r f) [] (x ∷ []) ≡ step f [] (y ∷ [])
-  one_inner f x y p = ap (λ z. step (form_by r f) [] (z ∷ [])) p ∙ e f [] (y ∷ [])
-
-  all_of : (f : Form) (xs ys us vs : List X) → xs ≡ ys → us ≡ vs → step (form_by r f) xs us ≡ step f ys vs
-  all_of f xs ys us vs p q = both (λ a b. step (form_by r f) a b) xs ys us vs p q ∙ e f ys vs
-
-  mutual
-    pub fold_by : (f : Form) → fold step (form_by r f) ≡ fold step f
-    fold_by (literal i) = e (literal i) [] []
-    fold_by (local v) = e (local v) [] []
-    fold_by (set_local v f) = one_outer (set_local v f) _ _ (fold_by f)
-    fold_by (global n) = e (global n) [] []
-    fold_by (set_global n f) = one_outer (set_global n f) _ _ (fold_by f)
-    fold_by (def_global n f) = one_outer (def_global n f) _ _ (fold_by f)
-    fold_by (clauses cs) = all_of (clauses cs) _ _ _ _ (fold_clauses_by cs) refl
-    fold_by (sequence fs) = all_of (sequence fs) _ _ _ _ (fold_forms_by fs) refl
-    fold_by (let_form bs f) = all_of (let_form bs f) _ _ _ _ (fold_values_by bs) (ap (λ x. x ∷ []) (fold_by f))
-    fold_by (lambda vs rest f ps) = one_inner (lambda vs rest f ps) _ _ (fold_by f)
-    fold_by (call n fs) = all_of (call n fs) _ _ _ _ (fold_forms_by fs) refl
-    fold_by (call_value fs) = all_of (call_value fs) _ _ _ _ (fold_forms_by fs) refl
-    fold_by (apply f g) = two_outer (apply f g) _ _ _ _ (fold_by f) (fold_by g)
-    fold_by (prim p fs) = all_of (prim p fs) _ _ _ _ (fold_forms_by fs) refl
-    fold_by (while_form f g) = two_outer (while_form f g) _ _ _ _ (fold_by f) (fold_by g)
-    fold_by (block x f) = one_inner (block x f) _ _ (fold_by f)
-    fold_by (return_from x f) = one_outer (return_from x f) _ _ (fold_by f)
-    fold_by (tagbody x fs) = all_of (tagbody x fs) _ _ _ _ refl (fold_forms_by fs)
-    fold_by (go x n) = e (go x n) [] []
-    fold_by (catch_form f g) = two_outer (catch_form f g) _ _ _ _ (fold_by f) (fold_by g)
-    fold_by (throw f g) = two_outer (throw f g) _ _ _ _ (fold_by f) (fold_by g)
-    fold_by (unwind f g) = two_outer (unwind f g) _ _ _ _ (fold_by f) (fold_by g)
-    fold_by (dynamic_let ds f) = all_of (dynamic_let ds f) _ _ _ _ (fold_dynamics_by ds) (ap (λ x. x ∷ []) (fold_by f))
-    fold_by (dynamic n) = e (dynamic n) [] []
-    fold_by (set_dynamic n f) = one_outer (set_dynamic n f) _ _ (fold_by f)
-    fold_by (def_dynamic n f) = one_outer (def_dynamic n f) _ _ (fold_by f)
-    fold_by (with_handler f g) = two_outer (with_handler f g) _ _ _ _ (fold_by f) (fold_by g)
-    fold_by (signal_form f g) = two_outer (signal_form f g) _ _ _ _ (fold_by f) (fold_by g)
-    fold_by (continue_form f g) = two_outer (continue_form f g) _ _ _ _ (fold_by f) (fold_by g)
-    fold_by next_method = e next_method [] []
-    fold_by has_next = e has_next [] []
-    fold_by (sited site f) = one_outer (sited site f) _ _ (fold_by f)
-
-    fold_forms_by : (fs : Forms) → fold_forms step (forms_by r fs) ≡ fold_forms step fs
-    fold_forms_by no_form = refl
-    fold_forms_by (form_and f fs) = both (λ (x : X) (xs : List X). x ∷ xs) _ _ _ _ (fold_by f) (fold_forms_by fs)
-
-    fold_clauses_by : (cs : ClauseForms) → fold_clauses step (clauses_by r cs) ≡ fold_clauses step cs
-    fold_clauses_by no_clause = refl
-    fold_clauses_by (clause_and f b cs) =
-        both (λ (x : X) (xs : List X). x ∷ xs) _ _ _ _ (fold_by f) (both (λ (xs ys : List X). xs ++ ys) _ _ _ _ (fold_body_by b) (fold_clauses_by cs))
-
-    fold_body_by : (b : MaybeForm) → fold_body step (body_by r b) ≡ fold_body step b
-    fold_body_by no_body = refl
-    fold_body_by (with_body f) = ap (λ x. x ∷ []) (fold_by f)
-
-    fold_values_by : (bs : BindingForms) → fold_values step (bindings_by r bs) ≡ fold_values step bs
-    fold_values_by no_binding = refl
-    fold_values_by (binding_and v f bs) = both (λ (x : X) (xs : List X). x ∷ xs) _ _ _ _ (fold_by f) (fold_values_by bs)
-
-    fold_dynamics_by : (ds : DynamicForms) → fold_dynamics step (dynamics_by r ds) ≡ fold_dynamics step ds
-    fold_dynamics_by no_dynamic = refl
-    fold_dynamics_by (dynamic_and n f ds) = both (λ (x : X) (xs : List X). x ∷ xs) _ _ _ _ (fold_by f) (fold_dynamics_by ds)
-
 module _ (r : ℕ → ℕ) where
-  -- ---- what a form mentions
-
-  bound_same : (bs : BindingForms) → variables_bound (bindings_by r bs) ≡ variables_bound bs
-  bound_same no_binding = refl
-  bound_same (binding_and v f bs) = ap (λ (vs : List ℕ). v ∷ vs) (bound_same bs)
-
-  binds_by : (p : Capture) (f : Form) → binds p (form_by r f) ≡ binds p f
-  binds_by p (let_form bs f) = ap (λ vs. owns vs p) (bound_same bs)
-  binds_by p f = refl
-
-  names_part_by : (p : Capture) (f : Form) → names_part p (form_by r f) ≡ names_part p f
-  names_part_by p (local v) = refl
-  names_part_by p f = refl
-
-  mention_by : (p : Capture) (f : Form) (o i : List Bool) → mentions_step p (form_by r f) o i ≡ mentions_step p f o i
-  mention_by p f o i = both (λ (a b : Bool). a || some o || (not b && some i)) _ _ _ _ (names_part_by p f) (binds_by p f)
-
-  mentions_by : (f : Form) (p : Capture) → mentions p (form_by r f) ≡ mentions p f
-  mentions_by f p = fold_by r (mentions_step p) (mention_by p) f
-
-  -- ---- nodes
-
-  forms_count : (fs : Forms) → count_forms (forms_by r fs) ≡ count_forms fs
-  forms_count no_form = refl
-  forms_count (form_and f fs) = ap (λ (n : ℕ). n + 1) (forms_count fs)
-
-  clauses_count : (cs : ClauseForms) → count_clauses (clauses_by r cs) ≡ count_clauses cs
-  clauses_count no_clause = refl
-  clauses_count (clause_and f b cs) = ap (λ (n : ℕ). n + 1) (clauses_count cs)
-
-  bindings_count : (bs : BindingForms) → count_bindings (bindings_by r bs) ≡ count_bindings bs
-  bindings_count no_binding = refl
-  bindings_count (binding_and v f bs) = ap (λ (n : ℕ). n + 1) (bindings_count bs)
-
-  dynamics_count : (ds : DynamicForms) → count_dynamics (dynamics_by r ds) ≡ count_dynamics ds
-  dynamics_count no_dynamic = refl
-  dynamics_count (dynamic_and n f ds) = ap (λ (k : ℕ). k + 1) (dynamics_count ds)
-
-  own_by : (f : Form) → own_nodes (form_by r f) ≡ own_nodes f
-  own_by (clauses cs) = ap (λ (n : ℕ). 1 + n) (clauses_count cs)
-  own_by (let_form bs f) = ap (λ (n : ℕ). 1 + n) (bindings_count bs)
-  own_by (call n fs) = ap (λ (k : ℕ). 2 + k) (forms_count fs)
-  own_by (call_value fs) = ap (λ (n : ℕ). 1 + n) (forms_count fs)
-  own_by (prim p fs) = ap (λ (n : ℕ). 1 + n) (forms_count fs)
-  own_by (tagbody x fs) = ap (λ (n : ℕ). 2 + (n - 1)) (forms_count fs)
-  own_by (dynamic_let ds f) = ap (λ (n : ℕ). 1 + n) (dynamics_count ds)
-  own_by f = refl
-
-  -- what a form counts, of what is found of its outer and its inner forms
-  abbrev counted : Form → List ℕ → List ℕ → ℕ
-  counted f outer inner = own_nodes f + sum outer + (if is_function f then sum inner + parameters f + 4 else sum inner)
-
-  inner_by : (f : Form) (n : ℕ) → (if is_function (form_by r f) then n + parameters (form_by r f) + 4 else n) ≡ (if is_function f then n + parameters f + 4 else n)
-  inner_by (lambda vs rest f ps) n = refl
-  inner_by f n = refl
-
-  counted_by : (f : Form) (o i : List ℕ) → counted (form_by r f) o i ≡ counted f o i
-  counted_by f o i = both (λ (a b : ℕ). a + sum o + b) _ _ _ _ (own_by f) (inner_by f (sum i))
-
-  pub all_nodes_by : (f : Form) → all_nodes (form_by r f) ≡ all_nodes f
-  all_nodes_by f = fold_by r counted counted_by f
-
   -- ---- what was found
 
   form_found_by : (x : ElaboratedPart) → form_found (found_by r x) ≡ option_map (form_by r) (form_found x)
@@ -291,7 +156,7 @@ module _ (r : ℕ → ℕ) where
 
   function_made_by : (n : ℕ) (rest : Bool) (ps : List Capture) (vs : List ℕ) (f : Form) → make_function n rest ps vs (form_by r f) ≡ form_by r (make_function n rest ps vs f)
   function_made_by n rest ps vs f =
-      ap (λ (t : Capture → Bool). lambda (take n vs) (rest_found rest (drop n vs)) (form_by r f) (filter t ps)) (fun_ext (mentions_by f))
+      ap (λ (t : Capture → Bool). lambda (take n vs) (rest_found rest (drop n vs)) (form_by r f) (filter t ps)) (fun_ext (mentions_by r f))
 
   elaborate_by : (m : Elaboration) (xs : List ElaboratedPart) → elaborate (making_by r m) (map (found_by r) xs) ≡ form_by r (elaborate m xs)
   elaborate_by (Ready l) xs = leaf_form_by l

@@ -30,9 +30,10 @@ use Rattle.front_profile.specs.DefiningRows.{is_reserved, with_name}
 use Rattle.front_profile.specs.GivenNames.{GivenName, no_name, unfit, lacking, given, number_of, in_table, longest_set, setter_of_text, setter_of_symbol, setter_in, named_by, given_name}
 use Rattle.front_profile.specs.MethodShapes.{Asked, any_object, of_class, Specialised, Taken, asked_by, taken, taken_in, taken_by, without_classes, maybe_parameters, with_taken, specialised_of, where_they_differ, specialised_of_items, specialised_in, is_fresh, has_fresh_class, some_fresh_class, number_and, class_asked, classes_asked, unless_known, first_unknown, WrittenMethod, qualifier_of, written, method_in}
 use Rattle.front_profile.specs.GenericRows.{head_with, head_of, fits_by_number, is_there, fits, method_function, unless_unknown, specialised_parts, method_parts, heads_of, written_head, written_heads, name_datum, methods_of, kept_by, keeps, GenericOption, no_option, left_out, standard, of_method, method_option, is_standard, is_left_out_option, option_of, options_of, is_no_option, is_of_left_out, methods_among, with_head, all_fit, generic_row, each_method, all_heads, generic_with, generic_checked, generic_of, generic_named_as, defgeneric_row, takes_methods, is_closed, method_for, method_of, method_named_as, method_as, defmethod_row}
-use Rattle.front_laws.specs.Renaming.{Renames, name_by, symbol_by, item_by, class_by, generic_by, procedure_by}
+use Rattle.lang_renamed.specs.Renaming.{name_by, symbol_by, item_by, class_by, generic_by, procedure_by}
+use Rattle.front_laws.specs.Renaming.{Renames}
 use Rattle.front_laws.proofs.RenamedTables.{data_by, words_by, context_by, tables_by, parameters_by, parts_by, taker_by, node_by}
-use Rattle.front_laws.proofs.Lists.{both, three, if_by, if_same, and_same, or_same, any_by, length_by, get_by, map_by}
+use Rattle.lang_renamed.proofs.Lists.{both, three, if_by, if_same, and_same, or_same, any_by, length_by, get_by, map_by}
 use Rattle.front_laws.proofs.RenamedData.{place_by, symbol_of_by, list_items_by, same_number, symbol_text_by, word_by}
 use Rattle.front_laws.proofs.RenamedTexts.{FindsNames}
 use Rattle.front_laws.proofs.RenamedShapes.{only_by, with_required_by, parameter_in_by, behind_rest_by, rest_word_by, all_symbols_by, all_differ_by, parameters_in_by}

@@ -21,9 +21,10 @@ use Rattle.front_profile.specs.FunctionNodes.{body_alone, function_parts}
 use Rattle.front_profile.specs.Shapes.{Pair, all_symbols}
 use Rattle.front_profile.specs.RowWords.{deeper, with_site_if, next_site, within_depth, made_of, made_at_once, unsited, with_literal, literal_node, each_form, each_below, each_inner, each_bound, each_parameter, bad_binding, no_such}
 use Rattle.front_profile.specs.DefiningRows.{with_name, named_form}
-use Rattle.front_laws.specs.Renaming.{Renames, name_by, symbol_by, item_by, literal_by}
+use Rattle.lang_renamed.specs.Renaming.{name_by, symbol_by, item_by, literal_by}
+use Rattle.front_laws.specs.Renaming.{Renames}
 use Rattle.front_laws.proofs.RenamedTables.{data_by, context_by, tables_by, parameters_by, part_by, parts_by, leaf_by, making_by, node_by}
-use Rattle.front_laws.proofs.Lists.{both, if_by, length_by, map_by}
+use Rattle.lang_renamed.proofs.Lists.{both, if_by, length_by, map_by}
 use Rattle.front_laws.proofs.RenamedData.{place_by}
 use Rattle.front_laws.proofs.RenamedShapes.{pairs_by, pair_by, symbols_by, all_symbols_by}
 

@@ -10,9 +10,10 @@ use Rattle.lang_derived.specs.Asked.{is_word, is_symbol, list_items, setter}
 use Rattle.lang_derived.specs.Patterns.{Pattern, a_datum, a_symbol, the_word, an_operator, inside, others, one_at_most, each_fits, Patterns, no_pattern, pattern_and, pattern_count, taken_by, Parts, part_if, nothing_if, one_datum, is_none, is_some, all_data, has_setter, joined, opened, of_one, fit, fit_all}
 use Rattle.lang_derived.specs.RightSides.{Template, datum, all_of, the_setter, the_quotation, the_symbol, new_symbol, new_behind, own_symbol, group, for_each, Templates, no_template, template_and, part_of, data_or_none, of_first, word_or_none, setter_piece, before_others, repeated, write, write_all}
 use Rattle.lang_derived.specs.Quotation.{template, template_of, tail_part, template_list, unquoted, spliced, part, parts, kept_prefix, one_piece, appended}
-use Rattle.front_laws.specs.Renaming.{Renames, item_by, content_by, items_by, tail_by}
+use Rattle.lang_renamed.specs.Renaming.{item_by, content_by, items_by, tail_by}
+use Rattle.front_laws.specs.Renaming.{Renames}
 use Rattle.front_laws.proofs.RenamedTables.{data_by}
-use Rattle.front_laws.proofs.Lists.{both, if_by, if_same, length_by, get_by, take_by, drop_by}
+use Rattle.lang_renamed.proofs.Lists.{both, if_by, if_same, length_by, get_by, take_by, drop_by}
 use Rattle.front_laws.proofs.RenamedData.{is_symbol_by, list_items_by, text_of_by, word_by}
 
 module _ (r : ℕ → ℕ) where

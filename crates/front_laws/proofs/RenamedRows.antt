@@ -29,9 +29,10 @@ use Rattle.front_profile.specs.BindingRows.{with_functions_row}
 use Rattle.front_profile.specs.DefiningRows.{defun_row}
 use Rattle.front_profile.specs.CallRows.{all_parts, named_making, is_value_call, is_pair_call, call_making, named_call}
 use Rattle.front_profile.specs.Rows.{kept_text, reserved_text, first_reserved, first_kept, some_kept, functions_kept, special_row, special_node, without_dot, call_symbol, call_as, special_of, headed_as, is_lambda_name, is_lambda_items, is_lambda, headed_by_form, headed_by, list_node, plain_node, class_offence, class_refusal, class_in_front, unless_refused, derived_as, node}
-use Rattle.front_laws.specs.Renaming.{Renames, name_by, symbol_by, item_by, tail_by}
+use Rattle.lang_renamed.specs.Renaming.{name_by, symbol_by, item_by, tail_by}
+use Rattle.front_laws.specs.Renaming.{Renames}
 use Rattle.front_laws.proofs.RenamedTables.{data_by, context_by, tables_by, making_by, node_by}
-use Rattle.front_laws.proofs.Lists.{both, if_by, if_same, any_by, length_by}
+use Rattle.lang_renamed.proofs.Lists.{both, if_by, if_same, any_by, length_by}
 use Rattle.front_laws.proofs.RenamedData.{place_by, symbol_of_by, list_items_by, listed_by, symbol_text_by, text_of_by, word_by}
 use Rattle.front_laws.proofs.RenamedSteps.{derivation_by, derivation_same}
 use Rattle.front_laws.proofs.RenamedTexts.{FindsNames}

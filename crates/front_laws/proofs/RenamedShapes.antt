@@ -15,9 +15,10 @@ use Rattle.front_profile.specs.declared.parameters.Parameters.{Parameters}
 use Rattle.front_profile.specs.declared.tables.ReservedWords.{ReservedWords}
 use Rattle.front_profile.specs.Names.{same_symbol, given_by, as_variable, as_function, as_block, target_among, as_tag, or_first, innermost, variable_of, function_of, block_of, tag_of, variable_part, exit_part, method_part, parts_around}
 use Rattle.front_profile.specs.Shapes.{symbol_of, is_name, is_true, is_rest, all_differ, only_if, variable_in, Pair, pair_named, pair_items, pair_in, pair_and, each_pair, names_of_pairs, where_names_differ, pairs_of_items, pairs_in, rest_alone, with_required, parameter_in, behind_rest, is_rest_word, maybe_required, parameters_of, symbols_of_rest, all_symbols, where_parameters_differ, parameters_of_items, parameters_in, ClauseParts, clause_of, clause_and_more, clauses_in, tags_in, form_unless, forms_in, before, lengths_in}
-use Rattle.front_laws.specs.Renaming.{Renames, name_by, symbol_by, item_by}
+use Rattle.lang_renamed.specs.Renaming.{name_by, symbol_by, item_by}
+use Rattle.front_laws.specs.Renaming.{Renames}
 use Rattle.front_laws.proofs.RenamedTables.{data_by, bound_by, parameters_by, words_by}
-use Rattle.front_laws.proofs.Lists.{both, if_by, if_same, and_same, or_same, any_by, map_by}
+use Rattle.lang_renamed.proofs.Lists.{both, if_by, if_same, and_same, or_same, any_by, map_by}
 use Rattle.front_laws.proofs.RenamedData.{symbol_of_by, list_items_by, same_number, same_symbol_by}
 
 pub only_by : {X Y : Type 0} (f : X → Y) (b c : Bool) (x : X) → b ≡ c → only_if b (f x) ≡ option_map f (only_if c x)

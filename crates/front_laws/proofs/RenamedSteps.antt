@@ -10,9 +10,10 @@ use Rattle.lang_derived.specs.Patterns.{Parts, fit_all}
 use Rattle.lang_derived.specs.RightSides.{write_all}
 use Rattle.lang_derived.specs.Table.{Row, table, is_derived}
 use Rattle.lang_derived.specs.Derived.{right_of, row_right, or_else, first_right, table_right, Derivation, plain, unfit, becomes, judged, by_table, by_name, list_derivation, derivation, Derives}
-use Rattle.front_laws.specs.Renaming.{Renames, item_by, items_by, tail_by}
+use Rattle.lang_renamed.specs.Renaming.{item_by, items_by, tail_by}
+use Rattle.front_laws.specs.Renaming.{Renames}
 use Rattle.front_laws.proofs.RenamedTables.{data_by}
-use Rattle.front_laws.proofs.Lists.{both, if_by, length_by}
+use Rattle.lang_renamed.proofs.Lists.{both, if_by, length_by}
 use Rattle.front_laws.proofs.RenamedData.{place_by, listed_by, text_of_by}
 use Rattle.front_laws.proofs.RenamedPieces.{piece_by, pieces_by, parts_by, fit_all_by, write_all_by}
 

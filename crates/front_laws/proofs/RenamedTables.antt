@@ -25,7 +25,7 @@ use Rattle.front_profile.specs.declared.elaboration.Made.{Made}
 use Rattle.front_profile.specs.declared.elaboration.ElaboratedPart.{ElaboratedPart}
 use Rattle.front_profile.specs.declared.elaboration.ElaboratedPart.TheVariants as found
 use Rattle.front_profile.specs.Nodes.{StaticContext, Part, form, below, inner, bind, parameter, wrong, function, Written, initform, accessor, method, Node, offends, unnamed, steps, whole, EarlyEnd, refused, wants_expansion, Standing, Verdict, stands, ended}
-use Rattle.front_laws.specs.Renaming.{name_by, names_by, symbol_by, item_by, form_by, literal_by, procedure_by, function_by, slots_by, class_by, generic_by}
+use Rattle.lang_renamed.specs.Renaming.{name_by, names_by, symbol_by, item_by, form_by, literal_by, procedure_by, function_by, slots_by, class_by, generic_by}
 
 module _ (r : ℕ → ℕ) where
   abbrev pub data_by : List Item → List Item

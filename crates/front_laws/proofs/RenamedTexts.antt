@@ -13,7 +13,8 @@ use Rattle.front_reader.specs.Atoms.{Atom, an_integer, a_character, a_symbol, a_
 use Rattle.front_reader.specs.Trees.{Tree, atom, proper, improper, row, prefixed, Trees, no_tree, then_tree}
 use Rattle.front_reader.specs.Meanings.{one_later, number_in, named, atom_content, prefix_name, list_content, in_front, joined, Means, MeansAll}
 use Rattle.front_reader.specs.Reads.{ReadsNext}
-use Rattle.front_laws.specs.Renaming.{Renames, item_by, content_by, items_by, tail_by}
+use Rattle.lang_renamed.specs.Renaming.{item_by, content_by, items_by, tail_by}
+use Rattle.front_laws.specs.Renaming.{Renames}
 use Rattle.front_laws.proofs.RenamedTables.{data_by}
 use Rattle.front_laws.proofs.RenamedData.{items_of_by}
 

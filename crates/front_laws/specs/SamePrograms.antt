@@ -2,7 +2,8 @@
 use Rattle.std.specs.Prelude.{◌≡◌, ℕ, List}
 use Rattle.base.specs.Names.{Extends}
 use Rattle.lang_meaning.specs.declared.program.ProgramRows.{ProgramRows}
-use Rattle.front_laws.specs.Renaming.{Renames, program_by}
+use Rattle.lang_renamed.specs.Renaming.{program_by}
+use Rattle.front_laws.specs.Renaming.{Renames}
 
 -- p, whose names stand in the table a, is q, whose names stand in the table b, renamed: there are later tables of both with the same texts
 pub record SameProgram (a : List (List ℕ)) (p : ProgramRows) (b : List (List ℕ)) (q : ProgramRows) : Type 0 where

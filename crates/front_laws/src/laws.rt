@@ -1,15 +1,21 @@
-// One verdict on a file, whatever names are numbered by, as the contracts of functions that do nothing.
+// One verdict on a file and one meaning, whatever names are numbered by, as the contracts of functions that do nothing.
 
-ghost use Rattle.std.specs.Prelude.{◌≡◌, ℕ, List};
+ghost use Rattle.std.specs.Prelude.{◌≡◌, ◌<◌, ℕ, List, Option, length};
 ghost use Rattle.base.specs.declared.reason.Refusal.{Refusal as refusal};
+ghost use Rattle.base.specs.AllOf.{AllOf};
 ghost use Rattle.base.specs.Names.{IsTable};
 ghost use Rattle.lang_meaning.specs.declared.program.ProgramRows.{ProgramRows as program_rows};
+ghost use Rattle.lang_meaning.specs.declared.evaluation.EvaluationEnd.{EvaluationEnd as evaluation_end};
+ghost use Rattle.lang_meaning.specs.Evaluates.{Evaluates};
+ghost use Rattle.lang_renamed.specs.ProgramNames.{program_names};
 ghost use Rattle.front_files.specs.declared.mode.Mode.{Mode as mode_of};
 ghost use Rattle.front_files.specs.Verdicts.{FileVerdict, Verdict, Accepts, Refuses};
 ghost use Rattle.front_laws.specs.Renaming.{Renames, file_verdict_by};
+ghost use Rattle.front_laws.specs.SameMeanings.{MeansTheSame};
 ghost use Rattle.front_laws.specs.SamePrograms.{SameProgram};
 
 use front_files::laws::{law_names_apart, law_one_verdict as law_one_verdict_of_a_table};
+use lang_renamed::laws::{law_meaning, law_renamed_runs, law_same_runs};
 
 /// A verdict on a file is the same under a table that has the same texts in another order, with the names of its
 /// program renamed.
@@ -37,4 +43,37 @@ pub fn law_one_program()
 {
     law_names_apart();
     law_one_verdict_of_a_table();
+}
+
+/// All names of a program that a text is accepted as stand in its table.
+pub fn law_names_in_table()
+    ensures { (prelude text : List ℕ) (mode : mode_of) (names : List (List ℕ)) (program : program_rows) →
+        Accepts prelude text mode names program → AllOf (λ n. n < length names) (program_names program) }
+{
+    law_names_apart();
+    law_one_program();
+}
+
+/// Two programs that a text is accepted as mean the same, with every input, with any number of levels and of words.
+pub fn law_one_meaning()
+    ensures { (prelude text : List ℕ) (mode : mode_of) (a b : List (List ℕ)) (p q : program_rows) →
+        Accepts prelude text mode a p → Accepts prelude text mode b q → MeansTheSame a p b q }
+{
+    law_one_program();
+    law_names_in_table();
+    law_meaning();
+}
+
+/// What is evaluated of one program that a text is accepted as is so of every other one: with as many levels and words
+/// it reads and writes the same, and ends the same.
+pub fn law_one_evaluation()
+    ensures { (prelude text : List ℕ) (mode : mode_of) (a b : List (List ℕ)) (p q : program_rows) (levels words : ℕ)
+        (left left' given given' : Option (List ℕ)) (end : evaluation_end) →
+        Accepts prelude text mode a p → Accepts prelude text mode b q →
+        Evaluates (record { names = a; program = p; levels = levels; words = words }) left left' given given' end →
+        Evaluates (record { names = b; program = q; levels = levels; words = words }) left left' given given' end }
+{
+    law_one_meaning();
+    law_renamed_runs();
+    law_same_runs();
 }

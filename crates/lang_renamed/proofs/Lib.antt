@@ -1,0 +1,13 @@
+pub mod Lists
+pub mod Walks
+pub mod Stores
+pub mod Classes
+pub mod Starting
+pub mod NoClosures
+pub mod Alike
+pub mod Applying
+pub mod Answering
+pub mod Forms
+pub mod Levels
+pub mod Evaluating
+pub mod Names

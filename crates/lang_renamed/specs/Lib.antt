@@ -1,0 +1,5 @@
+pub mod Renaming
+pub mod RenamedRuns
+pub mod SameRuns
+pub mod Laws
+pub mod ProgramNames
