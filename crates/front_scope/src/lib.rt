@@ -2,8 +2,10 @@
 #![tactic(auto)]
 
 mod below;
+mod calls;
 mod cells;
 mod counts;
+pub mod expanding;
 mod first;
 mod functions;
 mod judge;
@@ -11,4 +13,5 @@ mod keep;
 mod mark;
 pub mod scope;
 
+pub use expanding::{Expanding, MacroCall, NoExpander};
 pub use scope::Scope;

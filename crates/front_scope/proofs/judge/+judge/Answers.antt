@@ -20,36 +20,38 @@ use Rattle.front_scope.proofs.judge.+judge.Goals as goal
 
 -- a form, with its steps
 
-pub judge-returns-in_err-settle : goal.judge-returns-in_err-settle
-judge-returns-in_err-settle c c' =
+pub judge-returns-in_err-settled : goal.judge-returns-in_err-settled
+judge-returns-in_err-settled c c' =
     let p = err_from_is_err_and c'.from_residual.result c'.from_residual.ensures.1 in
     rw (p.1, p.2) (
     record {
-      names = c'.in_err-settle.ensures.names;
-      grows = c'.in_err-settle.ensures.grows;
+      names = c'.in_err-settled.ensures.names;
+      grows = c'.in_err-settled.ensures.grows;
       bound = tt;
       stands = tt;
-      stops = c'.in_err-settle.ensures.stops (at c'.args.bound.now c'.args.spot);
+      stops = c'.in_err-settled.ensures.stops;
     }
     )
 
 pub judge-returns-in-None : goal.judge-returns-in-None
 judge-returns-in-None c c' =
     let d = c'.args.datum.now in
-    let settles : Settles c'.settle.new.names c'.args.tables.now d c'.settle.new.tables d =
-    subst (λ o. Settles c'.settle.new.names c'.args.tables.now d c'.settle.new.tables (settled_datum o d)) c'.in-None.is c'.in_ok-settle.ensures.settles in
-    walked_then _ _ _ _ _ _ _ _ _ _ _ _ _ c'.in_ok-settle.ensures.names c'.in_ok-settle.ensures.grows c'.judge_plain.ensures
-    (λ f p. settled_comes _ _ _ _ _ _ _ _ c'.judge_plain.ensures.names settles p)
-    (λ stop p. settled_stops _ _ _ _ _ _ _ stop c'.judge_plain.ensures.names settles p)
+    let b = at c'.args.bound.now c'.in_ok-settled.settled.spot in
+    let settled : Settled c'.settle_calls.new.names (at c'.args.bound.now c'.args.spot) c'.args.tables.now d b c'.settle_calls.new.tables d =
+    subst (λ o. Settled c'.settle_calls.new.names (at c'.args.bound.now c'.args.spot) c'.args.tables.now d b c'.settle_calls.new.tables (settled_datum o d)) c'.in-None.is c'.in_ok-settled.ensures.settled in
+    walked_then _ _ _ _ _ _ _ _ _ _ _ _ _ c'.in_ok-settled.ensures.names c'.in_ok-settled.ensures.grows c'.judge_plain.ensures
+    (λ f p. settled_comes _ _ _ _ _ _ _ _ _ c'.judge_plain.ensures.names settled p)
+    (λ stop p. settled_stops _ _ _ _ _ _ _ _ stop c'.judge_plain.ensures.names settled p)
 
 pub judge-returns-in-Some : goal.judge-returns-in-Some
 judge-returns-in-Some c c' =
     let d = c'.args.datum.now in
-    let settles : Settles c'.settle.new.names c'.args.tables.now d c'.settle.new.tables c'.in-Some.step =
-    subst (λ o. Settles c'.settle.new.names c'.args.tables.now d c'.settle.new.tables (settled_datum o d)) c'.in-Some.is c'.in_ok-settle.ensures.settles in
-    walked_then _ _ _ _ _ _ _ _ _ _ _ _ _ c'.in_ok-settle.ensures.names c'.in_ok-settle.ensures.grows c'.judge_plain-form.ensures
-    (λ f p. settled_comes _ _ _ _ _ _ _ _ c'.judge_plain-form.ensures.names settles p)
-    (λ stop p. settled_stops _ _ _ _ _ _ _ stop c'.judge_plain-form.ensures.names settles p)
+    let b = at c'.args.bound.now c'.in_ok-settled.settled.spot in
+    let settled : Settled c'.settle_calls.new.names (at c'.args.bound.now c'.args.spot) c'.args.tables.now d b c'.settle_calls.new.tables c'.in-Some.last =
+    subst (λ o. Settled c'.settle_calls.new.names (at c'.args.bound.now c'.args.spot) c'.args.tables.now d b c'.settle_calls.new.tables (settled_datum o d)) c'.in-Some.is c'.in_ok-settled.ensures.settled in
+    walked_then _ _ _ _ _ _ _ _ _ _ _ _ _ c'.in_ok-settled.ensures.names c'.in_ok-settled.ensures.grows c'.judge_plain-form.ensures
+    (λ f p. settled_comes _ _ _ _ _ _ _ _ _ c'.judge_plain-form.ensures.names settled p)
+    (λ stop p. settled_stops _ _ _ _ _ _ _ _ stop c'.judge_plain-form.ensures.names settled p)
 
 -- a form that is no derived one
 

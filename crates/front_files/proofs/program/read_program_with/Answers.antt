@@ -1,7 +1,7 @@
 -- A file that is too long is refused at its begin; else the program is judged under the table of names that is left.
 use Rattle.std.proofs.Common.{rules}
 use Rattle.front_files.proofs.Both.{too_long_refused, no_program}
-use Rattle.front_files.proofs.program.read_program.Goals as goal
+use Rattle.front_files.proofs.program.read_program_with.Goals as goal
 
 pub returns-then-text-gt-LONGEST_TEXT-clause-stops :
     goal.returns-then-text-gt-LONGEST_TEXT-clause-stops
