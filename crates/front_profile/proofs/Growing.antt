@@ -134,8 +134,7 @@ starts_called : (names : List (List ℕ)) (s : Tables) (m : Option ℕ) (a : Sta
 starts_called names s None a d c = starts_plain_node names s a d
 starts_called names s (Some m) a d c =
     starts_if s a.spot.top (nat_le most_expansions s.expansions) _ _ tt
-    (starts_if s a.spot.top (nat_le most_in_row a.spot.in_row) _ _ tt
-    (
+    (starts_if s a.spot.top (nat_le most_in_row a.spot.in_row) _ _ tt (
       record { grows = tables_grow_reflexive s; names = names_same s; low = λ e. (e, none_defined s) },
       λ e. absurd (cc (c, none_called names s a d e)),
     ))

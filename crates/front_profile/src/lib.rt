@@ -13,8 +13,8 @@ pub mod whole_laws;
 
 pub use bound::{Bound, BoundList, Target};
 pub use elaboration::{
-    Accessor, BodyLengths, DefinedAs, ElaboratedPart, ElaboratedParts, Elaboration, Leaf, Lengths, Made,
-    MethodHead, MethodHeads, NewClass, One, SlotFunction, SlotFunctions, Taker,
+    Accessor, BodyLengths, DefinedAs, ElaboratedPart, ElaboratedParts, Elaboration, Leaf, Lengths,
+    Made, MethodHead, MethodHeads, NewClass, One, SlotFunction, SlotFunctions, Taker,
 };
 pub use mark::Mark;
 pub use parameters::Parameters;

@@ -6,11 +6,13 @@ use Rattle.base.specs.Names.{Extends, Extends-then}
 use Rattle.front_profile.specs.declared.tables.Tables.{Tables}
 use Rattle.front_profile.specs.Expansions.{HasExpander, Expands, ExpansionStops, is_unhandled, has_printed, is_no_datum, too_many_nodes, large_image, full, long, endless}
 
+-- the program of the call is under the same table
 expander_later : (old new : List (List ℕ)) (s : Tables) (m : ℕ) (d : Item) → Extends old new → HasExpander old s m d → HasExpander new s m d
 expander_later old new s m d x h = record { table = h.table; begins = Extends-then h.table old new h.begins x; named = h.named; small = h.small }
 
 pub expands_later : (old new : List (List ℕ)) (s : Tables) (m : ℕ) (d : Item) (expansion : ℕ) (e : Item) → Extends old new → Expands old s m d expansion e
     → Expands new s m d expansion e
+unfolding expander_later
 expands_later old new s m d expansion e x h = record {
   expander = expander_later old new s m d x h.expander;
   levels = h.levels;
@@ -21,6 +23,7 @@ expands_later old new s m d expansion e x h = record {
 
 pub stops_later : (old new : List (List ℕ)) (s : Tables) (m : ℕ) (d : Item) (expansion : ℕ) (r : Reason) → Extends old new → ExpansionStops old s m d expansion r
     → ExpansionStops new s m d expansion r
+unfolding expander_later
 stops_later old new s m d expansion r x (is_unhandled h levels c p e) = is_unhandled (expander_later old new s m d x h) levels c p e
 stops_later old new s m d expansion r x (has_printed h levels v e k) = has_printed (expander_later old new s m d x h) levels v e k
 stops_later old new s m d expansion r x (is_no_datum h levels v q g f) = is_no_datum (expander_later old new s m d x h) levels v q g f
