@@ -51,7 +51,7 @@ nothing_around origin = record { bound = refl; method = refl }
 
 -- tables where a form begins are as whole as those in front of it
 
-opened_between : (s : Tables) → TopLevelTables s → TopLevelTables (opened s)
+pub opened_between : (s : Tables) → TopLevelTables s → TopLevelTables (opened s)
 opened_between s w = record { whole = w.whole; classes = w.classes; sites = w.sites }
 
 pub opened_whole : (s : Tables) → IsWhole s → IsWhole (opened s)

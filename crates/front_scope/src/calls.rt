@@ -40,8 +40,8 @@ fn macro_named(macros: &[MacroRow], name: Name) -> Option<usize>
     macro_named(others, name).map(|at| at + 1)
 }
 
-// Those that were defined before the top-level form.
-fn macros_before(tables: &Tables) -> &[MacroRow]
+/// Those that were defined before the top-level form.
+pub(crate) fn macros_before(tables: &Tables) -> &[MacroRow]
     ensures { result.now ≡ row.macros_before tables.now }
 {
     let macros = tables.macros.as_slice();

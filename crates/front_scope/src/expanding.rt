@@ -8,6 +8,7 @@ use front_profile::Tables;
 use std::alloc::Global;
 
 /// A call of a macro, which is that of this number, beside these tables; and the number of its expansion, from 1.
+#[derive(Drop)]
 pub struct MacroCall<'a> {
     pub tables: &'a Tables,
     pub macro_number: usize,

@@ -11,6 +11,7 @@ mod functions;
 mod judge;
 mod keep;
 mod mark;
+mod program;
 pub mod scope;
 
 pub use expanding::{Expanding, MacroCall, NoExpander};

@@ -1,21 +1,21 @@
 // The program of a macro's call: what was defined before the top-level form, and the form that applies the expander.
 
-ghost use Rattle.std.specs.Prelude.{◌≡◌, ◌≤◌, ◌∷◌, [], length, take, min, slice_get, IfOk, IfErr, MatchOption, Some, None};
-ghost use Rattle.base.specs.Data.{items_of, list};
-ghost use Rattle.lang_meaning.specs.Form.{apply, literal as literal_form};
-ghost use Rattle.lang_meaning.specs.ProgramCounts.{program_nodes};
-ghost use Rattle.front_profile.specs.Cuts.{ReachMethods, cut_generics};
-ghost use Rattle.front_profile.specs.Expanders.{list_of, arguments, procedure_of, function_of_procedure, expander_form, program_of};
+ghost use Rattle.std.specs.Prelude.{◌≡◌, ◌≤◌, ℕ, ◌∷◌, ◌++◌, [], length, take, IfOk, IfErr};
+ghost use Rattle.base.specs.Data.{item, items_of, Tail, list};
+ghost use Rattle.lang_meaning.specs.declared.program.LiteralRow.TheVariants as literal_row;
+ghost use Rattle.front_profile.specs.Cuts.{ReachMethods, ReachesMark, cut_generics};
+ghost use Rattle.front_profile.specs.Expanders as expanders;
 ghost use Rattle.front_scope.specs.Calls.{IsCall, ProgramStops};
 
+use crate::calls::macros_before;
 use crate::expanding::MacroCall;
-use base::{Datum, DatumList, Kind, Names, NoMemory, Place, Reason, Refusal, Stop};
+use base::{Datum, DatumList, Kind, NoMemory, Place, Reason, Refusal, Stop};
 use front_profile::whole_laws::law_expanders;
-use front_profile::{Lengths, MacroRow, Tables};
+use front_profile::{Lengths, Tables};
 use lang_meaning::{
-    CaptureList, Core, CoreForm, CoreList, GenericRows, LiteralId, LiteralRow, LiteralRows, Procedure,
-    ProcedureList, Program, ProgramRows, VarList, class_list_nodes, form_list_nodes,
-    literal_list_nodes, procedure_list_nodes,
+    CaptureList, ClassIds, ClassRows, Core, CoreForm, CoreList, GenericRow, GenericRows,
+    LiteralRow, LiteralRows, MethodRow, MethodRows, Procedure, ProcedureList, Program, ProgramRows,
+    VarList,
 };
 use lang_rows::copies;
 use std::alloc::Global;
@@ -28,42 +28,58 @@ fn copy_items(alloc: Global, items: &[Datum]) -> Result<DatumList, NoMemory>
     ensures { IfOk result (λ copy. copy ≡ items.now) }
 {
     let mut copied = DatumList::new(alloc);
-    for item in items {
-        copied.push(item.copy(alloc)?)?;
+    for datum in items {
+        copied.push(datum.copy(alloc)?)?;
     }
     Ok(copied)
 }
 
-// The list of these data: nil where there are none.
-fn list_of(alloc: Global, items: &[Datum]) -> Result<Kind, NoMemory>
-    ensures { IfOk result (λ kind. kind ≡ list_of (items_of items.now)) }
+// The list of these data, at that place: nil where there are none.
+fn list_at(alloc: Global, place: Place, items: &[Datum]) -> Result<Datum, NoMemory>
+    ensures { IfOk result (λ d. d ≡ item place (expanders.list_of (items_of items.now))) }
 {
     if items.is_empty() {
-        return Ok(Kind::Nil);
+        return Ok(Datum::new(place, Kind::Nil));
     }
-    Ok(Kind::List {
-        items: copy_items(alloc, items)?,
-        tail: None,
-    })
+    let items = copy_items(alloc, items)?;
+    Ok(Datum::new(place, Kind::List { items, tail: None }))
+}
+
+// The list of what stands behind the head of these data, at that place.
+fn list_behind(alloc: Global, place: Place, items: &[Datum]) -> Result<Datum, NoMemory>
+    ensures { IfOk result (λ d. (t : Tail) → d ≡ item place (expanders.behind_head (list (items_of items.now) t))) }
+{
+    match items.split_first() {
+        None => Ok(Datum::new(place, Kind::Nil)),
+        Some((_name, arguments)) => list_at(alloc, place, arguments),
+    }
 }
 
 // The list of a call's arguments, where the call stands.
 fn arguments(alloc: Global, datum: &Datum) -> Result<Datum, NoMemory>
-    ensures { IfOk result (λ d. d ≡ arguments datum.now) }
+    ensures { IfOk result (λ d. d ≡ expanders.arguments datum.now) }
 {
-    let kind = match &datum.kind {
-        Kind::List { items, .. } => match items.as_slice() {
-            [] => Kind::Nil,
-            [_name, arguments @ ..] => list_of(alloc, arguments)?,
-        },
-        Kind::Int(_) => Kind::Nil,
-        Kind::Char(_) => Kind::Nil,
-        Kind::Sym(_) => Kind::Nil,
-        Kind::Str(_) => Kind::Nil,
-        Kind::Vector(_) => Kind::Nil,
-        Kind::Nil => Kind::Nil,
-    };
-    Ok(Datum::new(datum.place, kind))
+    match &datum.kind {
+        Kind::List { items, .. } => list_behind(alloc, datum.place, items.as_slice()),
+        Kind::Int(_)
+        | Kind::Char(_)
+        | Kind::Sym(_)
+        | Kind::Str(_)
+        | Kind::Vector(_)
+        | Kind::Nil => Ok(Datum::new(datum.place, Kind::Nil)),
+    }
+}
+
+// The literals, and the list of arguments as the last.
+fn literals(alloc: Global, tables: &Tables, datum: &Datum) -> Result<LiteralRows, NoMemory>
+    requires { ReachesMark tables.now.before tables.now }
+    ensures { IfOk result (λ rows. rows
+        ≡ (expanders.tables_before tables.now).literals ++ literal_row.Datum (expanders.arguments datum.now) ∷ []) }
+{
+    let mut rows = copies::literals(alloc, &tables.literals)?;
+    rows.cut(tables.before.literals);
+    rows.push(LiteralRow::Datum(arguments(alloc, datum)?))?;
+    Ok(rows)
 }
 
 // Variables, copied.
@@ -91,59 +107,69 @@ fn copy_procedure(alloc: Global, row: &Procedure) -> Result<Procedure, NoMemory>
     })
 }
 
-// The first so many procedures, copied.
-fn first_procedures(
-    alloc: Global,
-    list: &ProcedureList,
-    count: usize,
-) -> Result<ProcedureList, NoMemory>
-    requires { count ≤ length list.now }
-    ensures { IfOk result (λ copy. copy ≡ take count list.now) }
+// The procedures.
+fn procedures(alloc: Global, rows: &[Procedure]) -> Result<ProcedureList, NoMemory>
+    ensures { IfOk result (λ copy. copy ≡ rows.now) }
 {
     let mut copied = ProcedureList::new(alloc);
-    for at in 0..count {
-        let Some(row) = list.get(at) else {
-            unreachable!()
-        };
+    for row in rows {
         copied.push(copy_procedure(alloc, row)?)?;
     }
     Ok(copied)
 }
 
-// A method, copied.
-fn copy_method(alloc: Global, row: &MethodRow) -> Result<MethodRow, NoMemory>
-    ensures { IfOk result (λ copy. copy ≡ row.now) }
+// Those that were there before the top-level form.
+fn procedures_before(tables: &Tables) -> &[Procedure]
+    ensures { result.now ≡ (expanders.tables_before tables.now).procedures }
 {
-    let mut classes = ClassIds::new(alloc);
-    for class in row.classes.as_slice() {
-        classes.push(*class)?;
-    }
-    Ok(MethodRow {
-        qualifier: row.qualifier,
-        classes,
-        procedure: row.procedure,
-    })
+    let procedures = tables.procedures.as_slice();
+    &procedures[..tables.before.procedures.min(procedures.len())]
 }
 
-// The first so many methods, copied; all of them, where there are fewer.
-fn first_methods(alloc: Global, list: &MethodRows, count: usize) -> Result<MethodRows, NoMemory>
-    ensures { IfOk result (λ copy. copy ≡ take count list.now) }
+// The classes.
+fn classes(alloc: Global, tables: &Tables) -> Result<ClassRows, NoMemory>
+    requires { ReachesMark tables.now.before tables.now }
+    ensures { IfOk result (λ rows. rows ≡ (expanders.tables_before tables.now).classes.rows) }
+{
+    let mut rows = copies::classes(alloc, tables.classes.rows())?;
+    rows.cut(tables.before.classes);
+    Ok(rows)
+}
+
+// The classes of a method, copied.
+fn class_ids(alloc: Global, list: &ClassIds) -> Result<ClassIds, NoMemory>
+    ensures { IfOk result (λ copy. copy ≡ list.now) }
+{
+    let mut copied = ClassIds::new(alloc);
+    for id in list.as_slice() {
+        copied.push(*id)?;
+    }
+    Ok(copied)
+}
+
+// Methods, copied.
+fn methods(alloc: Global, list: &MethodRows) -> Result<MethodRows, NoMemory>
+    ensures { IfOk result (λ copy. copy ≡ list.now) }
 {
     let mut copied = MethodRows::new(alloc);
     for row in list.as_slice() {
-        if copied.len() == count {
-            return Ok(copied);
-        }
-        copied.push(copy_method(alloc, row)?)?;
+        let classes = class_ids(alloc, &row.classes)?;
+        copied.push(MethodRow {
+            qualifier: row.qualifier,
+            classes,
+            procedure: row.procedure,
+        })?;
     }
     Ok(copied)
 }
 
 // A generic function with its first so many methods, copied.
-fn first_generic(alloc: Global, row: &GenericRow, count: usize) -> Result<GenericRow, NoMemory>
+fn first_methods(alloc: Global, row: &GenericRow, count: usize) -> Result<GenericRow, NoMemory>
+    requires { count ≤ length row.now.methods }
     ensures { IfOk result (λ copy. copy ≡ record row.now { methods = take count row.now.methods }) }
 {
-    let methods = first_methods(alloc, &row.methods, count)?;
+    let mut methods = methods(alloc, &row.methods)?;
+    methods.cut(count);
     Ok(GenericRow {
         name: row.name,
         required: row.required,
@@ -155,76 +181,119 @@ fn first_generic(alloc: Global, row: &GenericRow, count: usize) -> Result<Generi
 // So many generic functions, each with so many methods, copied.
 fn first_generics(
     alloc: Global,
-    list: &[GenericRow],
-    methods: &[usize],
+    list: &GenericRows,
+    counts: &Lengths,
 ) -> Result<GenericRows, NoMemory>
-    ensures { IfOk result (λ copy. copy ≡ cut_generics methods.now list.now) }
+    requires { ReachMethods counts.now list.now }
+    ensures { IfOk result (λ copy. copy ≡ cut_generics counts.now list.now) }
 {
     let mut copied = GenericRows::new(alloc);
-    for (row, count) in list.iter().zip(methods) {
-        copied.push(first_generic(alloc, row, *count)?)?;
+    for at in 0..counts.len() {
+        let Some(count) = counts.get(at) else {
+            unreachable!()
+        };
+        let Some(row) = list.get(at) else {
+            unreachable!()
+        };
+        copied.push(first_methods(alloc, row, *count)?)?;
     }
     Ok(copied)
 }
 
-// The function of that procedure, which captures nothing; no forms where there is none.
-fn function_of(alloc: Global, procedure: Option<&Procedure>) -> Result<Core, NoMemory>
-    ensures { MatchOption procedure (IfOk result (λ core. core ≡ function_of_procedure None))
-        (λ p. IfOk result (λ core. core ≡ function_of_procedure (Some p.now))) }
+// The function of a procedure, which captures nothing.
+fn function_of(alloc: Global, procedure: &Procedure) -> Result<Core, NoMemory>
+    ensures { IfOk result (λ core. core ≡ expanders.function_of_procedure (Some procedure.now)) }
 {
-    let Some(procedure) = procedure else {
-        return Ok(Core::sequence(CoreList::new(alloc)));
-    };
-    let copy = copy_procedure(alloc, procedure)?;
+    let required = variables(alloc, &procedure.required)?;
+    let body = Box::new(alloc, procedure.body.copy(alloc)?)?;
     Ok(Core::new(CoreForm::Lambda(
-        copy.required,
-        copy.rest,
-        Box::new(alloc, copy.body)?,
+        required,
+        procedure.rest,
+        body,
         CaptureList::new(alloc),
     )))
 }
 
-// The nodes of a program; 2^64 - 1 where that is more.
-fn count_nodes(rows: &ProgramRows) -> u64
-    ensures { result ≡ min (program_nodes rows.now) 18446744073709551615 }
+// The function that expands calls of that macro; no forms where there is none.
+fn expander(alloc: Global, tables: &Tables, macro_number: usize) -> Result<Core, NoMemory>
+    ensures { IfOk result (λ core. core ≡ expanders.function_of_procedure (expanders.expander tables.now macro_number)) }
 {
-    literal_list_nodes(&rows.literals, 0)
-        .saturating_add(procedure_list_nodes(&rows.procedures, 0))
-        .saturating_add(class_list_nodes(&rows.classes))
-        .saturating_add((rows.generics.len() as u64).saturating_mul(4))
-        .saturating_add(form_list_nodes(&rows.main, 0))
-}
-
-// The function that expands calls of the macro of that number, by the macros and the procedures that were there where the
-// top-level form began.
-fn expander(
-    alloc: Global,
-    macros: &[MacroRow],
-    procedures: &ProcedureList,
-    macro_number: usize,
-) -> Result<Core, NoMemory>
-    ensures { IfOk result (λ core. core ≡ function_of_procedure (procedure_of procedures.now (slice_get macros.now macro_number))) }
-{
-    match macros.get(macro_number) {
-        None => function_of(alloc, None),
-        Some(row) => function_of(alloc, procedures.get(row.procedure)),
+    let Some(row) = macros_before(tables).get(macro_number) else {
+        return Ok(Core::sequence(CoreList::new(alloc)));
+    };
+    match procedures_before(tables).get(row.procedure) {
+        None => Ok(Core::sequence(CoreList::new(alloc))),
+        Some(procedure) => function_of(alloc, procedure),
     }
 }
 
-// The form that applies it to the list of arguments, which is that literal.
-fn application(
-    alloc: Global,
-    function: Core,
-    literal: LiteralId,
-) -> Result<CoreList, NoMemory>
-    ensures { IfOk result (λ main. main ≡ apply function (literal_form literal) ∷ []) }
+// The form that applies it to the list of arguments.
+fn expander_form(alloc: Global, tables: &Tables, macro_number: usize) -> Result<Core, NoMemory>
+    requires { ReachesMark tables.now.before tables.now }
+    ensures { IfOk result (λ core. core ≡ expanders.expander_form tables.now macro_number) }
 {
-    let function = Box::new(alloc, function)?;
-    let Ok(list) = Box::new(alloc, Core::new(CoreForm::Literal(literal))) else {
-        drop(function);
-        return Err(NoMemory);
-    };
+    let list = Box::new(alloc, Core::literal(tables.before.literals))?;
+    let function = Box::new(alloc, expander(alloc, tables, macro_number)?)?;
+    Ok(Core::new(CoreForm::Apply(function, list)))
+}
+
+// The one main form.
+fn main_form(alloc: Global, tables: &Tables, macro_number: usize) -> Result<CoreList, NoMemory>
+    requires { ReachesMark tables.now.before tables.now }
+    ensures { IfOk result (λ main. main ≡ expanders.expander_form tables.now macro_number ∷ []) }
+{
     let mut main = CoreList::new(alloc);
-    main.push(Core::new(CoreForm::Apply(function, list)))?;
+    main.push(expander_form(alloc, tables, macro_number)?)?;
     Ok(main)
+}
+
+// The rows of the program.
+fn program_rows(
+    alloc: Global,
+    tables: &Tables,
+    macro_number: usize,
+    datum: &Datum,
+) -> Result<ProgramRows, NoMemory>
+    requires { ReachesMark tables.now.before tables.now }
+    ensures { IfOk result (λ rows. rows ≡ expanders.program_of tables.now macro_number datum.now) }
+{
+    let literals = literals(alloc, tables, datum)?;
+    let procedures = procedures(alloc, procedures_before(tables))?;
+    let classes = classes(alloc, tables)?;
+    let generics = first_generics(alloc, tables.generics.rows(), &tables.before.methods)?;
+    let mut functions = copies::functions(alloc, &tables.functions)?;
+    functions.cut(tables.before.functions);
+    let mut sites = copies::sites(alloc, &tables.sites)?;
+    sites.cut(tables.before.sites);
+    let main = main_form(alloc, tables, macro_number)?;
+    Ok(ProgramRows {
+        literals,
+        procedures,
+        classes,
+        generics,
+        functions,
+        main,
+        sites,
+    })
+}
+
+impl<'a> MacroCall<'a> {
+    /// The program of the call: what was defined before the top-level form, and one form that applies the expander to the
+    /// list of the call's arguments. `ExpanderArena`, at the call, where it has more than 100,000 nodes. Condition: the
+    /// macro was defined before the top-level form, and the call is in form with its names in the table.
+    pub fn program(&self, alloc: Global) -> Result<Program, Stop>
+        requires { (names : ℕ) × IsCall names self.now }
+        ensures program { IfOk result (λ program. program ≡ expanders.program_of self.now.tables.now self.now.macro_number self.now.datum.now) }
+        ensures stops { IfErr result (ProgramStops self.now) }
+    {
+        law_expanders();
+        let rows = program_rows(alloc, self.tables, self.macro_number, self.datum)?;
+        if rows.nodes() > MOST_NODES {
+            return Err(Stop::Refused(Refusal {
+                place: self.datum.place,
+                reason: Reason::ExpanderArena,
+            }));
+        }
+        Ok(Program::new(rows))
+    }
 }
