@@ -8,3 +8,4 @@ pub mod Keeping
 pub mod ClassCounts
 pub mod CellBounds
 pub mod Programs
+pub mod MacroNames

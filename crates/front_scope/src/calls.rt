@@ -1,12 +1,10 @@
 // Calls of macros: the steps and the expansions that are taken before a form is judged.
 
-ghost use Rattle.std.specs.Prelude.{◌≡◌, ◌<◌, length, OnErr, IfOk, IfErr, MatchOption, Some, None, take};
+ghost use Rattle.std.specs.Prelude.{◌≡◌, length, is_some, take, IfOk, IfErr};
 ghost use Rattle.base.specs.Names.{Extends};
+ghost use Rattle.base.specs.DataNames.{symbol_text as text_of_symbol};
 ghost use Rattle.base.specs.WellFormedData.{WellFormed};
-ghost use Rattle.lang_derived.specs.Asked.{list_items};
-ghost use Rattle.front_profile.specs.Judged.{again_spot};
 ghost use Rattle.front_profile.specs.Marks.{TablesGrow};
-ghost use Rattle.front_profile.specs.Names.{function_of};
 ghost use Rattle.front_profile.specs.Promises.{FormStops, settled_datum};
 ghost use Rattle.front_profile.specs.Rows as row;
 ghost use Rattle.front_profile.specs.Sound.{weight};
@@ -14,7 +12,7 @@ ghost use Rattle.front_drafts.specs.Views.{at};
 ghost use Rattle.front_scope.specs.Calls.{Begun, NodeEnds, Calls, CallGives, TurnGives, Settled as IsSettled};
 
 use crate::expanding::{Expanding, MacroCall};
-use base::{Datum, Name, Names, Reason, Refusal, Stop, Symbol, symbol_text};
+use base::{Datum, ItemList, Name, Names, Reason, Refusal, Stop, Symbol, symbol_text};
 use front_context::Bindings;
 use front_forms::settle;
 use front_profile::{MacroRow, Spot, Tables, special_named};
@@ -27,25 +25,29 @@ use std::alloc::Global;
 const MOST_EXPANSIONS: u32 = 5000;
 const MOST_IN_ROW: u32 = 200;
 
-// The first of these macros that has the name.
-fn macro_named(macros: &[MacroRow], name: Name) -> Option<usize>
-    ensures { result ≡ row.macro_named macros.now name }
+// The first of so many macros that has the name.
+fn macro_named(macros: &ItemList<MacroRow>, count: usize, name: Name) -> Option<usize>
+    ensures { result ≡ row.macro_named (take count macros.now) name }
 {
-    let Some((first, others)) = macros.split_first() else {
-        return None;
-    };
-    if name.0 == first.name.0 {
-        return Some(0);
+    for at in 0..count {
+        let Some(row) = macros.get(at) else {
+            return None;
+        };
+        if name.0 == row.name.0 {
+            return Some(at);
+        }
     }
-    macro_named(others, name).map(|at| at + 1)
+    None
 }
 
-/// Those that were defined before the top-level form.
-pub(crate) fn macros_before(tables: &Tables) -> &[MacroRow]
-    ensures { result.now ≡ row.macros_before tables.now }
+// Whether the symbol names a special form.
+fn is_special(names: &Names, symbol: Symbol) -> bool
+    ensures { result ≡ is_some (row.special_of (text_of_symbol names.now symbol)) }
 {
-    let macros = tables.macros.as_slice();
-    &macros[..tables.before.macros.min(macros.len())]
+    match symbol_text(names, symbol) {
+        Some(text) => special_named(text).is_some(),
+        None => false,
+    }
 }
 
 // The number of the macro that a symbol in front of a call has the name of.
@@ -61,14 +63,10 @@ fn macro_of_symbol(
     let Some(Symbol::Named(name)) = head else {
         return None;
     };
-    let is_special = match symbol_text(names, Symbol::Named(name)) {
-        Some(text) => special_named(text).is_some(),
-        None => false,
-    };
-    if is_special || bound.function_of(Symbol::Named(name)).is_some() {
+    if is_special(names, Symbol::Named(name)) || bound.function_of(Symbol::Named(name)).is_some() {
         return None;
     }
-    macro_named(macros_before(tables), name)
+    macro_named(&tables.macros, tables.before.macros, name)
 }
 
 // The number of the macro that a datum, which is no derived form, calls where it stands.

@@ -1,21 +1,20 @@
 // The program of a macro's call: what was defined before the top-level form, and the form that applies the expander.
 
-ghost use Rattle.std.specs.Prelude.{◌≡◌, ◌≤◌, ℕ, ◌∷◌, ◌++◌, [], length, take, IfOk, IfErr};
+ghost use Rattle.std.specs.Prelude.{◌≡◌, ◌≤◌, ◌<◌, ℕ, ◌∷◌, ◌++◌, [], length, take, slice_get, option_map, IfOk, IfErr};
 ghost use Rattle.base.specs.Data.{item, items_of, Tail, list};
 ghost use Rattle.lang_meaning.specs.declared.program.LiteralRow.TheVariants as literal_row;
 ghost use Rattle.front_profile.specs.Cuts.{ReachMethods, ReachesMark, cut_generics};
 ghost use Rattle.front_profile.specs.Expanders as expanders;
 ghost use Rattle.front_scope.specs.Calls.{IsCall, ProgramStops};
 
-use crate::calls::macros_before;
 use crate::expanding::MacroCall;
 use base::{Datum, DatumList, Kind, NoMemory, Place, Reason, Refusal, Stop};
 use front_profile::whole_laws::law_expanders;
 use front_profile::{Lengths, Tables};
 use lang_meaning::{
     CaptureList, ClassIds, ClassRows, Core, CoreForm, CoreList, GenericRow, GenericRows,
-    LiteralRow, LiteralRows, MethodRow, MethodRows, Procedure, ProcedureList, Program, ProgramRows,
-    VarList,
+    LiteralRow, LiteralRows, MethodRow, MethodRows, Procedure, ProcedureId, ProcedureList, Program,
+    ProgramRows, VarList,
 };
 use lang_rows::copies;
 use std::alloc::Global;
@@ -107,23 +106,23 @@ fn copy_procedure(alloc: Global, row: &Procedure) -> Result<Procedure, NoMemory>
     })
 }
 
-// The procedures.
-fn procedures(alloc: Global, rows: &[Procedure]) -> Result<ProcedureList, NoMemory>
-    ensures { IfOk result (λ copy. copy ≡ rows.now) }
+// The first so many procedures, copied.
+fn first_procedures(
+    alloc: Global,
+    list: &ProcedureList,
+    count: usize,
+) -> Result<ProcedureList, NoMemory>
+    requires { count ≤ length list.now }
+    ensures { IfOk result (λ copy. copy ≡ take count list.now) }
 {
     let mut copied = ProcedureList::new(alloc);
-    for row in rows {
+    for at in 0..count {
+        let Some(row) = list.get(at) else {
+            unreachable!()
+        };
         copied.push(copy_procedure(alloc, row)?)?;
     }
     Ok(copied)
-}
-
-// Those that were there before the top-level form.
-fn procedures_before(tables: &Tables) -> &[Procedure]
-    ensures { result.now ≡ (expanders.tables_before tables.now).procedures }
-{
-    let procedures = tables.procedures.as_slice();
-    &procedures[..tables.before.procedures.min(procedures.len())]
 }
 
 // The classes.
@@ -214,14 +213,26 @@ fn function_of(alloc: Global, procedure: &Procedure) -> Result<Core, NoMemory>
     )))
 }
 
+// The procedure of a macro, if it was there before the top-level form.
+fn procedure_before(tables: &Tables, procedure: ProcedureId) -> Option<&Procedure>
+    ensures { option_map (λ p. p.now) result ≡ slice_get (expanders.tables_before tables.now).procedures procedure }
+{
+    if procedure < tables.before.procedures {
+        tables.procedures.get(procedure)
+    } else {
+        None
+    }
+}
+
 // The function that expands calls of that macro; no forms where there is none.
 fn expander(alloc: Global, tables: &Tables, macro_number: usize) -> Result<Core, NoMemory>
+    requires { macro_number < length (expanders.tables_before tables.now).macros }
     ensures { IfOk result (λ core. core ≡ expanders.function_of_procedure (expanders.expander tables.now macro_number)) }
 {
-    let Some(row) = macros_before(tables).get(macro_number) else {
-        return Ok(Core::sequence(CoreList::new(alloc)));
+    let Some(row) = tables.macros.get(macro_number) else {
+        unreachable!()
     };
-    match procedures_before(tables).get(row.procedure) {
+    match procedure_before(tables, row.procedure) {
         None => Ok(Core::sequence(CoreList::new(alloc))),
         Some(procedure) => function_of(alloc, procedure),
     }
@@ -229,7 +240,8 @@ fn expander(alloc: Global, tables: &Tables, macro_number: usize) -> Result<Core,
 
 // The form that applies it to the list of arguments.
 fn expander_form(alloc: Global, tables: &Tables, macro_number: usize) -> Result<Core, NoMemory>
-    requires { ReachesMark tables.now.before tables.now }
+    requires reaches { ReachesMark tables.now.before tables.now }
+    requires there { macro_number < length (expanders.tables_before tables.now).macros }
     ensures { IfOk result (λ core. core ≡ expanders.expander_form tables.now macro_number) }
 {
     let list = Box::new(alloc, Core::literal(tables.before.literals))?;
@@ -239,7 +251,8 @@ fn expander_form(alloc: Global, tables: &Tables, macro_number: usize) -> Result<
 
 // The one main form.
 fn main_form(alloc: Global, tables: &Tables, macro_number: usize) -> Result<CoreList, NoMemory>
-    requires { ReachesMark tables.now.before tables.now }
+    requires reaches { ReachesMark tables.now.before tables.now }
+    requires there { macro_number < length (expanders.tables_before tables.now).macros }
     ensures { IfOk result (λ main. main ≡ expanders.expander_form tables.now macro_number ∷ []) }
 {
     let mut main = CoreList::new(alloc);
@@ -254,11 +267,12 @@ fn program_rows(
     macro_number: usize,
     datum: &Datum,
 ) -> Result<ProgramRows, NoMemory>
-    requires { ReachesMark tables.now.before tables.now }
+    requires reaches { ReachesMark tables.now.before tables.now }
+    requires there { macro_number < length (expanders.tables_before tables.now).macros }
     ensures { IfOk result (λ rows. rows ≡ expanders.program_of tables.now macro_number datum.now) }
 {
     let literals = literals(alloc, tables, datum)?;
-    let procedures = procedures(alloc, procedures_before(tables))?;
+    let procedures = first_procedures(alloc, &tables.procedures, tables.before.procedures)?;
     let classes = classes(alloc, tables)?;
     let generics = first_generics(alloc, tables.generics.rows(), &tables.before.methods)?;
     let mut functions = copies::functions(alloc, &tables.functions)?;
