@@ -1,6 +1,6 @@
 -- Steps and expansions lead on: from a form to what is judged in its place.
 use Rattle.std.proofs.Common.{◌≡◌, ◌≤◌, ◌<◌, ◌+◌, ◌∙◌, ℕ, nat_le, Bool, true, false, List, Option, Some, None, length, if◌then◌else◌, refl, sym, ap, subst, arith}
-use Rattle.std.proofs.lemmas.Bool.{le-leb}
+use Rattle.std.proofs.lemmas.Bool.{le-leb, lt-leb}
 use Rattle.base.specs.declared.place.Place.{Place}
 use Rattle.base.specs.declared.reason.Reason.{Reason}
 use Rattle.base.specs.declared.reason.Reason.TheVariants.{TooManyExpansions, ExpansionDepth}
@@ -12,7 +12,10 @@ use Rattle.base.specs.Names.{Extends, Extends-same, Extends-then}
 use Rattle.base.specs.WellFormedData.{WellFormed, good_stays}
 use Rattle.front_profile.specs.declared.tables.Tables.{Tables}
 use Rattle.front_profile.specs.Cuts.{opened}
-use Rattle.front_profile.specs.Expansions.{Expands, ExpansionStops}
+use Rattle.lang_meaning.specs.State.{unlimited}
+use Rattle.lang_taken.specs.Laws.{LawOfForm}
+use Rattle.lang_taken.specs.Taken.{greatest_depth, greatest_size}
+use Rattle.front_profile.specs.Expansions.{expander_means, Expands, ExpansionStops}
 use Rattle.front_profile.specs.Known.{KnownTables}
 use Rattle.front_profile.specs.Marks.{TablesGrow}
 use Rattle.front_profile.specs.Nodes.{StaticContext, Node, offends, calls, refused, Verdict, ended}
@@ -24,7 +27,8 @@ use Rattle.front_profile.specs.bridge.Later.{macro_later}
 use Rattle.front_profile.specs.bridge.LaterExpansions.{expands_later, stops_later}
 use Rattle.front_forms.specs.Settled.{with_symbols}
 use Rattle.front_scope.proofs.Judging.{symbols_known}
-use Rattle.front_scope.specs.Calls.{Begun, Leads, Ends, NodeEnds, Calls, Settled, Expansion}
+use Rattle.front_scope.specs.declared.expanding.MacroCall.{MacroCall}
+use Rattle.front_scope.specs.Calls.{Begun, Leads, Ends, NodeEnds, Calls, Settled, Expansion, CallStops}
 
 pub begun_grows : (s t : Tables) → TablesGrow s t → Begun s → Begun t
 begun_grows s t g b = record {
@@ -120,6 +124,37 @@ too_deep_ends names a s d m g is few long = record {
       subst (λ (x : Node). Elaborates later x (ended (refused (place_of d) ExpansionDepth))) (sym (is_called names later a s d m k g is ∙ offends_so))
       (offence (place_of d) ExpansionDepth);
 }
+
+-- what is answered of a call
+
+pub expansion_good : LawOfForm → (names : List (List ℕ)) (s : Tables) (m : ℕ) (d : Item) (n : ℕ) (e : Item) → Expands names s m d n e → WellFormed (length names) e
+expansion_good law names s m d n e h =
+    good_stays h.expander.table names e h.expander.begins
+    (law h.expander.table (expander_means h.expander.table s m d h.levels unlimited).store (place_of d) n greatest_depth greatest_size h.value e h.datum.rest h.datum.taken).0
+
+pub call_gives : LawOfForm → (names : List (List ℕ)) (a : StaticContext) (s : Tables) (d : Item) (m n : ℕ) (e : Item) → WellFormed (length names) d
+    → macro_called names a s d ≡ Some m → s.expansions < most_expansions → a.spot.in_row < most_in_row → n ≡ s.expansions + 1
+    → Expands names s m d n e → Calls names a s d (record s { expansions = n }) e
+call_gives law names a s d m n e g is few short same h =
+    let there : Expands names s m d (s.expansions + 1) e = subst (λ k. Expands names s m d k e) same h in
+    subst (λ k. Calls names a s d (record s { expansions = k }) e) (sym same)
+    (
+      record {
+        leads = call_leads names a s d m e g is (lt-leb most_expansions s.expansions few) (lt-leb most_in_row a.spot.in_row short) there;
+        good = expansion_good law names s m d (s.expansions + 1) e there;
+        known = λ k. k;
+        room = short;
+      }
+    )
+
+pub call_stops : (names : List (List ℕ)) (a : StaticContext) (call : MacroCall) (stop : Stop) → WellFormed (length names) call.datum.now
+    → macro_called names a call.tables.now call.datum.now ≡ Some call.macro_number → call.tables.now.expansions < most_expansions → a.spot.in_row < most_in_row
+    → call.number ≡ call.tables.now.expansions + 1 → CallStops names call stop
+    → NodeEnds names (λ later. settled_node later a call.tables.now call.datum.now) stop
+call_stops names a call (Refused r) g is few short same h =
+    call_ends names a call.tables.now call.datum.now call.macro_number r g is (lt-leb most_expansions call.tables.now.expansions few) (lt-leb most_in_row a.spot.in_row short) h.0
+    (subst (λ k. ExpansionStops names call.tables.now call.macro_number call.datum.now k r.reason) same h.1)
+call_stops names a call NoMemory g is few short same h = tt
 
 -- turns
 

@@ -1,12 +1,20 @@
--- The first of so many macros that has a name, as far as they were looked through.
-use Rattle.std.proofs.Common.{◌≡◌, ◌≤◌, ◌<◌, ◌∙◌, ◌+◌, ◌==◌, ℕ, zero, suc, Bool, true, false, List, [], ◌∷◌, Option, Some, None, option_map, take, drop, length, slice_get, get_or, if◌then◌else◌, refl, ap, sym, arith}
-use Rattle.std.proofs.lemmas.Bool.{eqb-true}
+-- The first of so many macros that has a name, as far as they were looked through; the macro that is called is one of those that apply.
+use Rattle.std.proofs.Common.{◌≡◌, ◌≤◌, ◌<◌, ◌∙◌, ◌+◌, ◌||◌, is_some, ℕ, zero, suc, Bool, true, false, List, [], ◌∷◌, Option, Some, None, option_map, take, drop, length, slice_get, get_or, if◌then◌else◌, refl, ap, arith}
 use Rattle.std.proofs.lemmas.List.{drop_more, drop_all, get_or-take, length-take}
 use Rattle.std.proofs.lemmas.Option.{slice_get_within, get_or_from_slice_get}
 use Rattle.base.specs.declared.datum.Name.{Name}
+use Rattle.base.specs.declared.datum.Symbol.{Symbol}
+use Rattle.base.specs.declared.datum.Symbol.TheVariants.{Named, Fresh}
+use Rattle.base.specs.Data.{Item}
+use Rattle.base.specs.DataNames.{symbol_text}
+use Rattle.lang_derived.specs.Asked.{list_items}
 use Rattle.front_profile.specs.declared.tables.MacroRow.{MacroRow}
 use Rattle.front_profile.specs.DefiningRows.{is_that}
-use Rattle.front_profile.specs.Rows.{macro_named}
+use Rattle.front_profile.specs.declared.tables.Tables.{Tables}
+use Rattle.front_profile.specs.Names.{function_of}
+use Rattle.front_profile.specs.Nodes.{StaticContext}
+use Rattle.front_profile.specs.Rows.{special_of, macro_named, macros_before, macro_of_symbol, macro_of_items, macro_called}
+use Rattle.front_profile.specs.Shapes.{symbol_of}
 
 -- what those from a number on say
 abbrev pub from_there : ℕ → List MacroRow → Name → Option ℕ
@@ -67,3 +75,23 @@ named_below (m ∷ ms) n i e = by_test (is_that n m.name) e
     by_test : (b : Bool) → (if b then Some 0 else option_map (λ j. j + 1) (macro_named ms n)) ≡ Some i → i < suc (length ms)
     by_test true h = let same : 0 ≡ i = cc h in omega (arith, same)
     by_test false h = some_below (length ms) (macro_named ms n) i (λ j k. named_below ms n j k) h
+
+-- the macro that is called is one of those that apply
+
+of_symbol : (names : List (List ℕ)) (a : StaticContext) (s : Tables) (x : Option Symbol) (m : ℕ) → macro_of_symbol names a s x ≡ Some m → m < length (macros_before s)
+of_symbol names a s None m e = absurd (cc e)
+of_symbol names a s (Some (Fresh k serial)) m e = absurd (cc e)
+of_symbol names a s (Some (Named n)) m e =
+    by_test (is_some (special_of (symbol_text names (Named n))) || is_some (function_of a.bound (Named n))) e
+  where
+    by_test : (b : Bool) → (if b then None else macro_named (macros_before s) n) ≡ Some m → m < length (macros_before s)
+    by_test true h = absurd (cc h)
+    by_test false h = named_below (macros_before s) n m h
+
+of_items : (names : List (List ℕ)) (a : StaticContext) (s : Tables) (ds : Option (List Item)) (m : ℕ) → macro_of_items names a s ds ≡ Some m → m < length (macros_before s)
+of_items names a s None m e = absurd (cc e)
+of_items names a s (Some []) m e = absurd (cc e)
+of_items names a s (Some (h ∷ ds)) m e = of_symbol names a s (symbol_of h) m e
+
+pub called_below : (names : List (List ℕ)) (a : StaticContext) (s : Tables) (d : Item) (m : ℕ) → macro_called names a s d ≡ Some m → m < length (macros_before s)
+called_below names a s d m e = of_items names a s (list_items d) m e

@@ -1,6 +1,7 @@
 // Calls of macros: the steps and the expansions that are taken before a form is judged.
 
 ghost use Rattle.std.specs.Prelude.{◌≡◌, length, is_some, take, IfOk, IfErr};
+ghost use Rattle.base.specs.Data.{place_of};
 ghost use Rattle.base.specs.Names.{Extends};
 ghost use Rattle.base.specs.DataNames.{symbol_text as text_of_symbol};
 ghost use Rattle.base.specs.WellFormedData.{WellFormed};
@@ -84,7 +85,9 @@ fn macro_called(
 }
 
 // A refusal of a call.
-fn refused(datum: &Datum, reason: Reason) -> Stop {
+fn refused(datum: &Datum, reason: Reason) -> Stop
+    ensures { result ≡ Stop.Refused (record { place = place_of datum.now; reason = reason }) }
+{
     Stop::Refused(Refusal {
         place: datum.place,
         reason,
