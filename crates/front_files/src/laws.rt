@@ -10,31 +10,39 @@ ghost use Rattle.front_profile.specs.Exact.{OneExpansion};
 ghost use Rattle.front_files.specs.Exact.{IsExactRefusal, IsExactVerdict};
 ghost use Rattle.front_files.specs.Verdicts.{FileVerdict, accepted, refused, Verdict, IsOfFile};
 
-use front_profile::laws::law_one_verdict as law_one_verdict_of_a_form;
+use front_profile::laws::{law_macros, law_one_verdict as law_one_verdict_of_a_form};
 use front_reader::laws::{law_end, law_next_or_stops, law_one_datum, law_one_stop};
 
-/// A prelude and a text have at most one verdict in each mode that is not given for want of words or of instructions of an
-/// expander, where names are numbered by one table and calls of macros have one expansion.
+/// A prelude and a text have at most one verdict in each mode, where names are numbered by one table: as long as no form
+/// defines a macro; and with macros, of verdicts that are not given for want of words or of instructions of an expander,
+/// where calls of macros have one expansion.
 pub fn law_one_verdict()
-    ensures { (names : List (List ℕ)) (prelude text : List ℕ) (mode : mode_of) (v w : FileVerdict) → IsTable names → OneExpansion names →
+    ensures without { (names : List (List ℕ)) (prelude text : List ℕ) (mode : mode_of) (v w : FileVerdict) → IsTable names →
+        Verdict names prelude text mode v → Verdict names prelude text mode w → v ≡ w }
+    ensures exact { (names : List (List ℕ)) (prelude text : List ℕ) (mode : mode_of) (v w : FileVerdict) → IsTable names → OneExpansion names →
         IsExactVerdict v → IsExactVerdict w →
         Verdict names prelude text mode v → Verdict names prelude text mode w → v ≡ w }
 {
     law_one_verdict_of_a_form();
+    law_macros();
     law_one_datum();
     law_one_stop();
     law_next_or_stops();
     law_end();
 }
 
-/// A prelude that is accepted in front of the empty file refuses no file, where calls of macros have one expansion: what refuses a
-/// file, unless it is want of words or of instructions of an expander, is its length, or stands in it.
+/// A prelude that is accepted in front of the empty file refuses no file: what refuses a file is its length, or stands in
+/// it. So it is as long as no form defines a macro; and with macros, of refusals that are not for want of words or of
+/// instructions of an expander, where calls of macros have one expansion.
 pub fn law_prelude()
-    ensures { (names : List (List ℕ)) (prelude text : List ℕ) (mode : mode_of) (program : program_rows) (r : refusal) → IsTable names → OneExpansion names →
+    ensures without { (names : List (List ℕ)) (prelude text : List ℕ) (mode : mode_of) (program : program_rows) (r : refusal) → IsTable names →
+        Verdict names prelude [] Run (accepted program) → Verdict names prelude text mode (refused r) → IsOfFile names text mode r }
+    ensures exact { (names : List (List ℕ)) (prelude text : List ℕ) (mode : mode_of) (program : program_rows) (r : refusal) → IsTable names → OneExpansion names →
         IsExactRefusal r →
         Verdict names prelude [] Run (accepted program) → Verdict names prelude text mode (refused r) → IsOfFile names text mode r }
 {
     law_one_verdict_of_a_form();
+    law_macros();
     law_one_datum();
     law_one_stop();
     law_next_or_stops();

@@ -248,7 +248,7 @@ pub(crate) fn settle_calls<X: Expanding>(
 {
     let mut found: Option<Datum> = None;
     let mut here = spot;
-    loop {
+    'turns: loop {
         let last = last_datum(&found, datum);
         match turn(alloc, names, tables, bound, here, last, expander)? {
             Turn::Stands(None) => return Ok(Settled { found, spot: here }),

@@ -5,7 +5,7 @@ use Rattle.front_scope.proofs.Keeping.{given_whole, few_at, are_many, are_few}
 use Rattle.front_scope.proofs.scope.take_form.Goals as goal
 
 pub returns-then-nodes-gt-MOST_NODES-clause-stop : goal.returns-then-nodes-gt-MOST_NODES-clause-stop
-returns-then-nodes-gt-MOST_NODES-clause-stop c =
+returns-then-nodes-gt-MOST_NODES-clause-stop g c =
     rw c.too_large.ensures (
     inr (
     inl (
@@ -21,12 +21,12 @@ returns-then-nodes-gt-MOST_NODES-clause-stop c =
     )
 
 pub has_too_many_cells-requires : goal.has_too_many_cells-requires
-has_too_many_cells-requires c = record {
+has_too_many_cells-requires g c = record {
   few = few_at c.args.tables.now c.judge_top.new.tables c.judge_top.new.tables.before c.in_ok-judge_top.ensures.grows (c.in_ok-judge_top.ensures.grows.before ∙ c.requires.mark) c.requires.whole.few;
 }
 
 pub returns-then-branch-clause-stop : goal.returns-then-branch-clause-stop
-returns-then-branch-clause-stop c =
+returns-then-branch-clause-stop g c =
     let same = counted_exactly c.args.tables.now c.judge_top.new.tables c.judge_top.new.tables.before c.args.nodes _ c.in_ok-judge_top.ensures.grows (c.in_ok-judge_top.ensures.grows.before ∙ c.requires.mark) c.requires.nodes
     c.with_added-nodes.ensures (omega (arith, c.if-nodes-gt-MOST_NODES.false)) in
     rw c.too_large-then-branch.ensures (
@@ -44,7 +44,7 @@ returns-then-branch-clause-stop c =
     )
 
 pub returns-clause-taken : goal.returns-clause-taken
-returns-clause-taken c =
+returns-clause-taken g c =
     let same = counted_exactly c.args.tables.now c.judge_top.new.tables c.judge_top.new.tables.before c.args.nodes _ c.in_ok-judge_top.ensures.grows (c.in_ok-judge_top.ensures.grows.before ∙ c.requires.mark) c.requires.nodes
     c.with_added-nodes.ensures (omega (arith, c.if-nodes-gt-MOST_NODES.false)) in
     record {
@@ -54,7 +54,7 @@ returns-clause-taken c =
     }
 
 pub returns-clause-whole : goal.returns-clause-whole
-returns-clause-whole c =
+returns-clause-whole g c =
     let laws = c.law_top_forms.ensures in
     let same = counted_exactly c.args.tables.now c.judge_top.new.tables c.judge_top.new.tables.before c.args.nodes _ c.in_ok-judge_top.ensures.grows (c.in_ok-judge_top.ensures.grows.before ∙ c.requires.mark) c.requires.nodes
     c.with_added-nodes.ensures (omega (arith, c.if-nodes-gt-MOST_NODES.false)) in
@@ -66,6 +66,6 @@ returns-clause-whole c =
     }
 
 pub returns-clause-nodes : goal.returns-clause-nodes
-returns-clause-nodes c =
+returns-clause-nodes g c =
     counted_exactly c.args.tables.now c.judge_top.new.tables c.judge_top.new.tables.before c.args.nodes _ c.in_ok-judge_top.ensures.grows (c.in_ok-judge_top.ensures.grows.before ∙ c.requires.mark) c.requires.nodes
     c.with_added-nodes.ensures (omega (arith, c.if-nodes-gt-MOST_NODES.false))
