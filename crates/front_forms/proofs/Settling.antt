@@ -18,7 +18,7 @@ use Rattle.lang_derived.specs.declared.one_step.Step.{Step}
 use Rattle.lang_derived.specs.declared.one_step.Step.TheVariants.{Derived, Plain}
 use Rattle.front_profile.specs.declared.tables.Tables.{Tables}
 use Rattle.front_profile.specs.Nodes.{StaticContext, Verdict, refused, ended}
-use Rattle.front_profile.specs.Rows.{class_offence, class_refusal, class_in_front, node, plain_node}
+use Rattle.front_profile.specs.Rows.{class_offence, class_refusal, class_in_front, node, settled_node}
 use Rattle.front_profile.specs.Judged.{Elaborates, step, offence, with_fresh}
 use Rattle.front_profile.specs.Marks.{TablesGrow}
 use Rattle.front_profile.specs.Shapes.{symbol_of}

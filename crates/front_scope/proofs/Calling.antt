@@ -39,6 +39,30 @@ begun_grows s t g b = record {
   grown = tables_grow_transitive (opened b.first) s t b.grown g;
 }
 
+-- an expansion is counted
+pub expansion_grows : (s : Tables) (n : ℕ) → n ≡ s.expansions + 1 → TablesGrow s (record s { expansions = n })
+expansion_grows s n same = let g = tables_grow_reflexive s in record {
+  words = g.words;
+  classes = g.classes;
+  slots = g.slots;
+  generics = g.generics;
+  literals = g.literals;
+  procedures = g.procedures;
+  functions = g.functions;
+  macros = g.macros;
+  prelude = g.prelude;
+  globals = g.globals;
+  set = g.set;
+  dynamics = g.dynamics;
+  sites = g.sites;
+  fresh = g.fresh;
+  main = g.main;
+  variables = g.variables;
+  exits = g.exits;
+  expansions = omega (arith, same);
+  before = g.before;
+}
+
 -- one after another
 
 pub leads_then : (names more : List (List ℕ)) (x y z : List (List ℕ) → Node) → Extends names more → Leads names x y → Leads more y z → Leads more x z

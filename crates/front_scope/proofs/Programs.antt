@@ -1,18 +1,22 @@
--- The program of a macro's call: the tables where the top-level form began, as those behind it tell them; and generic functions that are copied one
--- after another, with their first methods.
-use Rattle.std.proofs.Common.{◌≡◌, ◌≤◌, ◌<◌, ◌∙◌, ◌+◌, ◌++◌, ℕ, zero, suc, true, List, [], ◌∷◌, Some, take, length, slice_get, refl, ap, sym, subst, arith, add-one}
+-- The program of a macro's call: the tables where the top-level form began, as those behind it tell them; generic functions that are copied one after
+-- another, with their first methods; and the procedure of a macro.
+use Rattle.std.proofs.Common.{◌≡◌, ◌≤◌, ◌<◌, ◌∙◌, ◌+◌, ◌++◌, ◌⊎◌, ⊎_elim, ℕ, zero, suc, true, List, [], ◌∷◌, Option, Some, None, take, length, slice_get, refl, ap, sym, subst, arith, add-one}
+use Rattle.std.proofs.lemmas.List.{get_or-take, length-take}
+use Rattle.std.proofs.lemmas.Option.{slice_get_within, slice_get_past, slice_get-get_or, get_or_from_slice_get}
 use Rattle.base.specs.Data.{Item}
 use Rattle.base.specs.WellFormedData.{WellFormed}
 use Rattle.lang_meaning.specs.declared.program.GenericRow.{GenericRow}
+use Rattle.lang_meaning.specs.declared.program.Procedure.{Procedure}
 use Rattle.lang_meaning.specs.Cells.{program_cells}
 use Rattle.lang_meaning.specs.Facts.{is_whole}
 use Rattle.lang_meaning.specs.ProgramCounts.{program_nodes}
 use Rattle.front_profile.specs.declared.mark.Mark.{Mark}
+use Rattle.front_profile.specs.declared.tables.MacroRow.{MacroRow}
 use Rattle.front_profile.specs.declared.tables.Tables.{Tables}
 use Rattle.front_profile.specs.Between.{TopLevelTables}
 use Rattle.front_profile.specs.Cuts.{ReachMethods, ReachesMark, cut_generics, cut_to, opened}
 use Rattle.front_profile.specs.Definitions.{defined, rows_of}
-use Rattle.front_profile.specs.Expanders.{tables_before, definitions, program_of}
+use Rattle.front_profile.specs.Expanders.{tables_before, definitions, procedure_of, expander, program_of}
 use Rattle.front_profile.specs.bridge.Cutting.{grown_reaches, cut_grown}
 use Rattle.front_scope.specs.Calls.{Begun}
 use Rattle.front_scope.proofs.Keeping.{opened_between}
@@ -72,3 +76,29 @@ cut_one_more (suc k) (m ∷ ns) (f ∷ gs) n g h i = ap (λ hs. record f { metho
 pub cut_next : (k : ℕ) (ns : List ℕ) (gs : List GenericRow) (n : ℕ) (g : GenericRow) → slice_get ns k ≡ Some n → slice_get gs k ≡ Some g
     → cut_generics (take (k + 1) ns) gs ≡ cut_generics (take k ns) gs ++ record g { methods = take n g.methods } ∷ []
 cut_next k ns gs n g h i = rw (add-one k) (cut_one_more k ns gs n g h i)
+
+-- an item among the first of a list
+
+pub get_taken : {X : Type 0} (n k : ℕ) (xs : List X) (x : X) → k < length (take n xs) → slice_get xs k ≡ Some x → slice_get (take n xs) k ≡ Some x
+get_taken n k xs x h e =
+    slice_get-get_or (take n xs) k x h ∙ ap Some (get_or-take n xs k x (omega (arith, h, length-take n xs)) ∙ get_or_from_slice_get xs k x x e)
+
+get_none : {X : Type 0} (n k : ℕ) (xs : List X) → n ≤ k ⊎ length xs ≤ k → slice_get (take n xs) k ≡ None
+get_none n k xs h = slice_get_past (take n xs) k (⊎_elim (λ l. omega (arith, l, length-take n xs)) (λ l. omega (arith, l, length-take n xs)) h)
+
+-- the procedure of a macro
+
+expander_is : (s : Tables) (m : ℕ) (row : MacroRow) (o : Option Procedure) → m < length (tables_before s).macros → slice_get s.macros m ≡ Some row
+    → slice_get (tables_before s).procedures row.procedure ≡ o → expander s m ≡ o
+expander_is s m row o h e p = ap (procedure_of (tables_before s).procedures) (get_taken s.before.macros m s.macros row h e) ∙ p
+
+pub expander_missing : (s : Tables) (m : ℕ) (row : MacroRow) → m < length (tables_before s).macros → slice_get s.macros m ≡ Some row
+    → s.before.procedures ≤ row.procedure ⊎ length s.procedures ≤ row.procedure → expander s m ≡ None
+expander_missing s m row h e l = expander_is s m row None h e (get_none s.before.procedures row.procedure s.procedures l)
+
+pub expander_there : (s : Tables) (m : ℕ) (row : MacroRow) (p : Procedure) → m < length (tables_before s).macros → slice_get s.macros m ≡ Some row
+    → row.procedure < s.before.procedures → slice_get s.procedures row.procedure ≡ Some p → expander s m ≡ Some p
+expander_there s m row p h e l i =
+    let within : row.procedure < length (take s.before.procedures s.procedures) =
+    omega (arith, l, slice_get_within s.procedures row.procedure p i, length-take s.before.procedures s.procedures) in
+    expander_is s m row (Some p) h e (get_taken s.before.procedures row.procedure s.procedures p within i)

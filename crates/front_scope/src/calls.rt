@@ -80,7 +80,12 @@ fn macro_called(
 ) -> Option<usize>
     ensures { result ≡ row.macro_called names.now (at bound.now spot) tables.now datum.now }
 {
-    let (head, _arguments) = list_items(datum)?.split_first()?;
+    let Some(items) = list_items(datum) else {
+        return None;
+    };
+    let Some((head, _arguments)) = items.split_first() else {
+        return None;
+    };
     macro_of_symbol(names, bound, spot, tables, symbol_of(head))
 }
 
@@ -166,6 +171,16 @@ fn expand_once<X: Expanding>(
     }
 }
 
+// The last datum that was found, or the one that it began with.
+fn last_datum<'a>(found: &'a Option<Datum>, datum: &'a Datum) -> &'a Datum
+    ensures { result.now ≡ settled_datum found.now datum.now }
+{
+    match found {
+        Some(last) => last,
+        None => datum,
+    }
+}
+
 /// What a form comes to by its steps and, where they end in a call of a macro, by its expansion: it stands, as the datum that the
 /// steps led to or as itself; or it is judged as what it expands to.
 #[derive(Drop)]
@@ -191,22 +206,18 @@ fn turn<X: Expanding>(
     ensures names { Extends names.old names.new }
     ensures grows { TablesGrow tables.old tables.new }
 {
-    match settle(alloc, names, tables, datum)? {
-        None => match expand_once(alloc, names, tables, bound, spot, datum, expander)? {
-            None => Ok(Turn::Stands(None)),
-            Some(expansion) => Ok(Turn::Expanded(expansion)),
-        },
-        Some(step) => match expand_once(alloc, names, tables, bound, spot, &step, expander) {
-            Ok(None) => Ok(Turn::Stands(Some(step))),
-            Ok(Some(expansion)) => {
-                drop(step);
-                Ok(Turn::Expanded(expansion))
-            }
-            Err(stop) => {
-                drop(step);
-                Err(stop)
-            }
-        },
+    let found = settle(alloc, names, tables, datum)?;
+    let last = last_datum(&found, datum);
+    match expand_once(alloc, names, tables, bound, spot, last, expander) {
+        Ok(None) => Ok(Turn::Stands(found)),
+        Ok(Some(expansion)) => {
+            drop(found);
+            Ok(Turn::Expanded(expansion))
+        }
+        Err(stop) => {
+            drop(found);
+            Err(stop)
+        }
     }
 }
 
@@ -215,16 +226,6 @@ fn turn<X: Expanding>(
 pub(crate) struct Settled {
     pub(crate) found: Option<Datum>,
     pub(crate) spot: Spot,
-}
-
-// The last datum that was found, or the one that it began with.
-fn last_datum<'a>(found: &'a Option<Datum>, datum: &'a Datum) -> &'a Datum
-    ensures { result.now ≡ settled_datum found.now datum.now }
-{
-    match found {
-        Some(last) => last,
-        None => datum,
-    }
 }
 
 /// Takes the steps of a form and expands calls of macros, as long as the one or the other is to be done.

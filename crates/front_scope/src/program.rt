@@ -1,6 +1,6 @@
 // The program of a macro's call: what was defined before the top-level form, and the form that applies the expander.
 
-ghost use Rattle.std.specs.Prelude.{◌≡◌, ◌≤◌, ◌<◌, ℕ, ◌∷◌, ◌++◌, [], length, take, slice_get, option_map, IfOk, IfErr};
+ghost use Rattle.std.specs.Prelude.{◌≡◌, ◌≤◌, ◌<◌, ℕ, ◌∷◌, ◌++◌, [], length, take, IfOk, IfErr};
 ghost use Rattle.base.specs.Data.{item, items_of, Tail, list};
 ghost use Rattle.lang_meaning.specs.declared.program.LiteralRow.TheVariants as literal_row;
 ghost use Rattle.front_profile.specs.Cuts.{ReachMethods, ReachesMark, cut_generics};
@@ -13,8 +13,8 @@ use front_profile::whole_laws::law_expanders;
 use front_profile::{Lengths, Tables};
 use lang_meaning::{
     CaptureList, ClassIds, ClassRows, Core, CoreForm, CoreList, GenericRow, GenericRows,
-    LiteralRow, LiteralRows, MethodRow, MethodRows, Procedure, ProcedureId, ProcedureList, Program,
-    ProgramRows, VarList,
+    LiteralRow, LiteralRows, MethodRow, MethodRows, Procedure, ProcedureList, Program, ProgramRows,
+    VarList,
 };
 use lang_rows::copies;
 use std::alloc::Global;
@@ -213,17 +213,6 @@ fn function_of(alloc: Global, procedure: &Procedure) -> Result<Core, NoMemory>
     )))
 }
 
-// The procedure of a macro, if it was there before the top-level form.
-fn procedure_before(tables: &Tables, procedure: ProcedureId) -> Option<&Procedure>
-    ensures { option_map (λ p. p.now) result ≡ slice_get (expanders.tables_before tables.now).procedures procedure }
-{
-    if procedure < tables.before.procedures {
-        tables.procedures.get(procedure)
-    } else {
-        None
-    }
-}
-
 // The function that expands calls of that macro; no forms where there is none.
 fn expander(alloc: Global, tables: &Tables, macro_number: usize) -> Result<Core, NoMemory>
     requires { macro_number < length (expanders.tables_before tables.now).macros }
@@ -232,7 +221,10 @@ fn expander(alloc: Global, tables: &Tables, macro_number: usize) -> Result<Core,
     let Some(row) = tables.macros.get(macro_number) else {
         unreachable!()
     };
-    match procedure_before(tables, row.procedure) {
+    if row.procedure >= tables.before.procedures {
+        return Ok(Core::sequence(CoreList::new(alloc)));
+    }
+    match tables.procedures.get(row.procedure) {
         None => Ok(Core::sequence(CoreList::new(alloc))),
         Some(procedure) => function_of(alloc, procedure),
     }

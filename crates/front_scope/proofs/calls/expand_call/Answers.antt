@@ -1,8 +1,9 @@
 -- Past the limits a call is refused; within them it is what its expansion comes to, or is refused with it.
+use Rattle.std.proofs.Common.{refl}
 use Rattle.std.proofs.lemmas.Bool.{le-leb, lt-leb}
 use Rattle.std.proofs.lemmas.Result.{err_from_is_err_and}
 use Rattle.front_profile.specs.Rows.{most_expansions, most_in_row}
-use Rattle.front_scope.proofs.Calling.{call_gives, call_stops, too_many_ends, too_deep_ends}
+use Rattle.front_scope.proofs.Calling.{expansion_grows, call_gives, call_stops, too_many_ends, too_deep_ends}
 use Rattle.front_scope.proofs.MacroNames.{called_below}
 use Rattle.front_scope.proofs.calls.expand_call.Goals as goal
 
@@ -23,3 +24,19 @@ expand-requires g c = record {
   there = called_below _ _ _ _ _ c.requires.called;
   good = c.requires.good;
 }
+
+pub returns-in_err-expansion-clause-stops : goal.returns-in_err-expansion-clause-stops
+returns-in_err-expansion-clause-stops g c =
+    let p = err_from_is_err_and c.from_residual.result c.from_residual.ensures.1 in
+    rw (p.1, p.2) (
+    call_stops _ _ _ _ c.requires.good c.requires.called c.if-expansions-ge-MOST_EXPANSIONS.false c.if-in_row-ge-MOST_IN_ROW.false refl
+    c.in_err-expansion.ensures.stops
+    )
+
+pub returns-clause-gives : goal.returns-clause-gives
+returns-clause-gives g c =
+    call_gives c.law_form.ensures _ _ _ _ _ _ _ c.requires.good c.requires.called c.if-expansions-ge-MOST_EXPANSIONS.false c.if-in_row-ge-MOST_IN_ROW.false refl
+    c.in_ok-expansion.ensures.expands
+
+pub returns-clause-grows : goal.returns-clause-grows
+returns-clause-grows g c = expansion_grows _ _ refl

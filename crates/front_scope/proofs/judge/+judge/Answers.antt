@@ -55,6 +55,26 @@ judge-returns-in-Some g c c' =
     (λ f p. settled_comes _ _ _ _ _ _ _ _ _ c'.judge_plain-form.ensures.names settled p)
     (λ stop p. settled_stops _ _ _ _ _ _ _ _ stop c'.judge_plain-form.ensures.names settled p)
 
+-- what is judged in its place: known tables, a datum in form, and as deep
+
+pub judge-judge_plain-requires : goal.judge-judge_plain-requires
+judge-judge_plain-requires g c c' =
+    let known : KnownTables c'.settle_calls.new.tables = c'.in_ok-settled.ensures.settled.known c'.requires.known in
+    let begun : Begun c'.settle_calls.new.tables = c'.in_ok-settled.ensures.begun in
+    let same : weight c'.in_ok-settled.settled.spot ≡ weight c'.args.spot = c'.in_ok-settled.ensures.weight in
+    let good : WellFormed (length c'.settle_calls.new.names) c'.args.datum.now =
+    subst (λ o. WellFormed (length c'.settle_calls.new.names) (settled_datum o c'.args.datum.now)) c'.in-None.is c'.in_ok-settled.ensures.settled.good in
+    search rules
+
+pub judge-judge_plain-form-requires : goal.judge-judge_plain-form-requires
+judge-judge_plain-form-requires g c c' =
+    let known : KnownTables c'.settle_calls.new.tables = c'.in_ok-settled.ensures.settled.known c'.requires.known in
+    let begun : Begun c'.settle_calls.new.tables = c'.in_ok-settled.ensures.begun in
+    let same : weight c'.in_ok-settled.settled.spot ≡ weight c'.args.spot = c'.in_ok-settled.ensures.weight in
+    let good : WellFormed (length c'.settle_calls.new.names) c'.in-Some.last =
+    subst (λ o. WellFormed (length c'.settle_calls.new.names) (settled_datum o c'.args.datum.now)) c'.in-Some.is c'.in_ok-settled.ensures.settled.good in
+    search rules
+
 -- a form that is no derived one
 
 pub judge_plain-carry_out-requires : goal.judge_plain-carry_out-requires
