@@ -89,8 +89,8 @@ fn macro_called(
     macro_of_symbol(names, bound, spot, tables, symbol_of(head))
 }
 
-// A refusal of a call.
-fn refused(datum: &Datum, reason: Reason) -> Stop
+/// A refusal of a call.
+pub(crate) fn refused(datum: &Datum, reason: Reason) -> Stop
     ensures { result ≡ Stop.Refused (record { place = place_of datum.now; reason = reason }) }
 {
     Stop::Refused(Refusal {
@@ -190,7 +190,7 @@ pub(crate) enum Turn {
 }
 
 // The steps of a form, and then the expansion.
-fn turn<X: Expanding>(
+fn take_turn<X: Expanding>(
     alloc: Global,
     names: &mut Names,
     tables: &mut Tables,
@@ -251,7 +251,7 @@ pub(crate) fn settle_calls<X: Expanding>(
     let mut here = spot;
     'turns: loop {
         let last = last_datum(&found, datum);
-        match turn(alloc, names, tables, bound, here, last, expander)? {
+        match take_turn(alloc, names, tables, bound, here, last, expander)? {
             Turn::Stands(None) => return Ok(Settled { found, spot: here }),
             Turn::Stands(Some(step)) => {
                 drop(found);

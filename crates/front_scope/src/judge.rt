@@ -11,7 +11,7 @@ ghost use Rattle.front_scope.specs.Calls.{Begun};
 ghost use Rattle.front_drafts.specs.Views.{at, view_part, view_parts, view_inner, view_function};
 ghost use Rattle.front_scope.specs.Walk.{Walked, FormGives, PlainGives, WholeGives, NodeGives, NodeStops, ValueFound, AllFound, PartsFound, PartsEnded, InnerFound, InnerEnded};
 
-use crate::calls::settle_calls;
+use crate::calls::{Settled, settle_calls};
 use crate::expanding::Expanding;
 use crate::functions::{above_body, function_work};
 use crate::keep::{complete_found, keep_binding, keep_value, take_parameter, take_variable};
@@ -51,17 +51,18 @@ pub(crate) fn judge<X: Expanding>(
         (FormStops names.new (at bound.old spot) tables.old datum.now) }
 {
     let settled = settle_calls(alloc, names, tables, bound, spot, datum, expander)?;
-    match settled.found {
-        None => judge_plain(alloc, names, tables, bound, settled.spot, datum, expander),
+    let Settled { found, spot: here } = settled;
+    match found {
+        None => judge_plain(alloc, names, tables, bound, here, datum, expander),
         Some(last) => {
-            let form = judge_plain(alloc, names, tables, bound, settled.spot, &last, expander);
+            let form = judge_plain(alloc, names, tables, bound, here, &last, expander);
             drop(last);
             form
         }
     }
 }
 
-// Judges a datum that is no derived form.
+// Judges a datum that is neither a derived form nor a call of a macro.
 #[cycle(judge)]
 fn judge_plain<X: Expanding>(
     alloc: Global,

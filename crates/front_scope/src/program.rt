@@ -7,8 +7,9 @@ ghost use Rattle.front_profile.specs.Cuts.{ReachMethods, ReachesMark, cut_generi
 ghost use Rattle.front_profile.specs.Expanders as expanders;
 ghost use Rattle.front_scope.specs.Calls.{IsCall, ProgramStops};
 
+use crate::calls::refused;
 use crate::expanding::MacroCall;
-use base::{Datum, DatumList, Kind, NoMemory, Place, Reason, Refusal, Stop};
+use base::{Datum, DatumList, Kind, NoMemory, Place, Reason, Stop};
 use front_profile::whole_laws::law_expanders;
 use front_profile::{Lengths, Tables};
 use lang_meaning::{
@@ -293,12 +294,10 @@ impl<'a> MacroCall<'a> {
         ensures stops { IfErr result (ProgramStops self.now) }
     {
         law_expanders();
-        let rows = program_rows(alloc, self.tables, self.macro_number, self.datum)?;
+        let datum = self.datum;
+        let rows = program_rows(alloc, self.tables, self.macro_number, datum)?;
         if rows.nodes() > MOST_NODES {
-            return Err(Stop::Refused(Refusal {
-                place: self.datum.place,
-                reason: Reason::ExpanderArena,
-            }));
+            return Err(refused(datum, Reason::ExpanderArena));
         }
         Ok(Program::new(rows))
     }

@@ -3,7 +3,7 @@ use Rattle.std.proofs.Common.{◌≡◌, refl, sym, subst}
 use Rattle.std.proofs.lemmas.Result.{err_from_is_err_and}
 use Rattle.front_profile.specs.bridge.Growing.{tables_grow_transitive}
 use Rattle.front_scope.proofs.Calling.{begun_grows, settled_same, expanded_then, stops_then}
-use Rattle.front_scope.proofs.calls.turn.Goals as goal
+use Rattle.front_scope.proofs.calls.take_turn.Goals as goal
 
 pub expand_once-requires-clause-begun : goal.expand_once-requires-clause-begun
 expand_once-requires-clause-begun g c = begun_grows _ _ c.settle.ensures.grows c.requires.begun
