@@ -27,8 +27,7 @@ use Rattle.front_profile.specs.bridge.Later.{macro_later}
 use Rattle.front_profile.specs.bridge.LaterExpansions.{expands_later, stops_later}
 use Rattle.front_forms.specs.Settled.{with_symbols}
 use Rattle.front_scope.proofs.Judging.{symbols_known}
-use Rattle.front_scope.specs.declared.expanding.MacroCall.{MacroCall}
-use Rattle.front_scope.specs.Calls.{Begun, Leads, Ends, NodeEnds, Calls, Settled, Expansion, CallStops}
+use Rattle.front_scope.specs.Calls.{Begun, Leads, Ends, NodeEnds, Calls, Settled, Expansion}
 
 pub begun_grows : (s t : Tables) → TablesGrow s t → Begun s → Begun t
 begun_grows s t g b = record {
@@ -171,14 +170,18 @@ call_gives law names a s d m n e g is few short same h =
       }
     )
 
-pub call_stops : (names : List (List ℕ)) (a : StaticContext) (call : MacroCall) (stop : Stop) → WellFormed (length names) call.datum.now
-    → macro_called names a call.tables.now call.datum.now ≡ Some call.macro_number → call.tables.now.expansions < most_expansions → a.spot.in_row < most_in_row
-    → call.number ≡ call.tables.now.expansions + 1 → CallStops names call stop
-    → NodeEnds names (λ later. settled_node later a call.tables.now call.datum.now) stop
-call_stops names a call (Refused r) g is few short same h =
-    call_ends names a call.tables.now call.datum.now call.macro_number r g is (lt-leb most_expansions call.tables.now.expansions few) (lt-leb most_in_row a.spot.in_row short) h.0
-    (subst (λ k. ExpansionStops names call.tables.now call.macro_number call.datum.now k r.reason) same h.1)
-call_stops names a call NoMemory g is few short same h = tt
+-- as a call is refused, by its parts
+abbrev pub StopsCall : List (List ℕ) → Tables → (macro : ℕ) → Item → (expansion : ℕ) → Stop → Type 0
+StopsCall names s m d n (Refused r) = (r.place ≡ place_of d) × ExpansionStops names s m d n r.reason
+StopsCall names s m d n NoMemory = Unit {0}
+
+pub call_stops : (names : List (List ℕ)) (a : StaticContext) (s : Tables) (d : Item) (m n : ℕ) (stop : Stop) → WellFormed (length names) d
+    → macro_called names a s d ≡ Some m → s.expansions < most_expansions → a.spot.in_row < most_in_row → n ≡ s.expansions + 1
+    → StopsCall names s m d n stop → NodeEnds names (λ later. settled_node later a s d) stop
+call_stops names a s d m n (Refused r) g is few short same h =
+    call_ends names a s d m r g is (lt-leb most_expansions s.expansions few) (lt-leb most_in_row a.spot.in_row short) h.0
+    (subst (λ k. ExpansionStops names s m d k r.reason) same h.1)
+call_stops names a s d m n NoMemory g is few short same h = tt
 
 -- turns
 

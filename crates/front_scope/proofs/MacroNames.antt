@@ -68,13 +68,13 @@ some_below : (n : ℕ) (o : Option ℕ) (i : ℕ) → ((j : ℕ) → o ≡ Some 
 some_below n None i h e = absurd (cc e)
 some_below n (Some j) i h e = let same : j + 1 ≡ i = cc e in omega (arith, h j refl, same)
 
+below_by : (b : Bool) (n : ℕ) (o : Option ℕ) (i : ℕ) → ((j : ℕ) → o ≡ Some j → j < n) → (if b then Some 0 else option_map (λ j. j + 1) o) ≡ Some i → i < suc n
+below_by true n o i h e = let same : 0 ≡ i = cc e in omega (arith, same)
+below_by false n o i h e = some_below n o i h e
+
 pub named_below : (ms : List MacroRow) (n : Name) (i : ℕ) → macro_named ms n ≡ Some i → i < length ms
 named_below [] n i e = absurd (cc e)
-named_below (m ∷ ms) n i e = by_test (is_that n m.name) e
-  where
-    by_test : (b : Bool) → (if b then Some 0 else option_map (λ j. j + 1) (macro_named ms n)) ≡ Some i → i < suc (length ms)
-    by_test true h = let same : 0 ≡ i = cc h in omega (arith, same)
-    by_test false h = some_below (length ms) (macro_named ms n) i (λ j k. named_below ms n j k) h
+named_below (m ∷ ms) n i e = below_by (is_that n m.name) (length ms) (macro_named ms n) i (λ j k. named_below ms n j k) e
 
 -- the macro that is called is one of those that apply
 

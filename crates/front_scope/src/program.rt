@@ -107,20 +107,12 @@ fn copy_procedure(alloc: Global, row: &Procedure) -> Result<Procedure, NoMemory>
     })
 }
 
-// The first so many procedures, copied.
-fn first_procedures(
-    alloc: Global,
-    list: &ProcedureList,
-    count: usize,
-) -> Result<ProcedureList, NoMemory>
-    requires { count ≤ length list.now }
-    ensures { IfOk result (λ copy. copy ≡ take count list.now) }
+// Procedures, copied.
+fn procedures(alloc: Global, list: &ProcedureList) -> Result<ProcedureList, NoMemory>
+    ensures { IfOk result (λ copy. copy ≡ list.now) }
 {
     let mut copied = ProcedureList::new(alloc);
-    for at in 0..count {
-        let Some(row) = list.get(at) else {
-            unreachable!()
-        };
+    for row in list.as_slice() {
         copied.push(copy_procedure(alloc, row)?)?;
     }
     Ok(copied)
@@ -265,7 +257,8 @@ fn program_rows(
     ensures { IfOk result (λ rows. rows ≡ expanders.program_of tables.now macro_number datum.now) }
 {
     let literals = literals(alloc, tables, datum)?;
-    let procedures = first_procedures(alloc, &tables.procedures, tables.before.procedures)?;
+    let mut procedures = procedures(alloc, &tables.procedures)?;
+    procedures.cut(tables.before.procedures);
     let classes = classes(alloc, tables)?;
     let generics = first_generics(alloc, tables.generics.rows(), &tables.before.methods)?;
     let mut functions = copies::functions(alloc, &tables.functions)?;
