@@ -1,7 +1,7 @@
 -- The nodes of the program with the form are counted, and its cells.
 use Rattle.std.proofs.Common.{inl, inr, refl, ◌∙◌, arith}
 use Rattle.front_scope.proofs.Counting.{counted_exactly, counted_too_many}
-use Rattle.front_scope.proofs.Keeping.{given_whole, few_at, are_many, are_few}
+use Rattle.front_scope.proofs.Keeping.{begun_here, given_whole, few_at, are_many, are_few}
 use Rattle.front_scope.proofs.scope.take_form.Goals as goal
 
 pub returns-then-nodes-gt-MOST_NODES-clause-stop : goal.returns-then-nodes-gt-MOST_NODES-clause-stop
@@ -69,3 +69,6 @@ pub returns-clause-nodes : goal.returns-clause-nodes
 returns-clause-nodes g c =
     counted_exactly c.args.tables.now c.judge_top.new.tables c.judge_top.new.tables.before c.args.nodes _ c.in_ok-judge_top.ensures.grows (c.in_ok-judge_top.ensures.grows.before ∙ c.requires.mark) c.requires.nodes
     c.with_added-nodes.ensures (omega (arith, c.if-nodes-gt-MOST_NODES.false))
+
+pub judge_top-requires-clause-begun : goal.judge_top-requires-clause-begun
+judge_top-requires-clause-begun g c = begun_here c.args.tables.now c.requires.mark c.requires.whole

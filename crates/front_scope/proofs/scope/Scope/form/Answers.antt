@@ -41,8 +41,8 @@ invariant_of-self-in-Err g c =
     ∙ closed_grown c.self.inside.tables c.take_form.new.tables _ grown c.self.invariant.1.between.whole.sound.classes.hierarchy.classes.paired c.in_ok-before.ensures.before in
     subst (λ (t : Tables). (c.self.inside.nodes ≡ nodes_of t) × IsWhole t) (sym same) c.self.invariant
 
-pub returns-clause-unchanged : goal.returns-clause-unchanged
-returns-clause-unchanged g c =
+pub returns-in-Err-clause-unchanged : goal.returns-in-Err-clause-unchanged
+returns-in-Err-clause-unchanged g c =
     let grown : TablesGrow (opened c.self.inside.tables) c.take_form.new.tables =
     subst (λ (t : Tables). TablesGrow t c.take_form.new.tables) c.in_ok-before.ensures.opened c.take_form.ensures.grows in
     let same : c.close.new.tables ≡ c.self.inside.tables =
