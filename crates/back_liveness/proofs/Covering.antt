@@ -8,7 +8,7 @@ use Rattle.back_liveness.specs.declared.intervals.LiveIntervals.{LiveIntervals}
 use Rattle.back_liveness.specs.declared.lives.Life.{Life}
 use Rattle.back_liveness.specs.declared.step.Interval.{Interval}
 use Rattle.back_liveness.specs.declared.step.Step.{Step}
-use Rattle.back_liveness.specs.Barriers.{TellsLoop}
+use Rattle.back_liveness.specs.Barriers.{Crosses, barrier_at, TellsLoop}
 use Rattle.back_liveness.specs.Liveness.{is_read, IsLive, have_line, is_held, IsWithin, IsCovered, Covers}
 use Rattle.back_liveness.specs.Ahead.{alive_ahead, alive_around}
 use Rattle.back_liveness.specs.Heads.{AreHeads, AreNested}
@@ -89,7 +89,8 @@ lives_cover steps barriers earliest latest found parts crossed heads nested live
 pub all_cover :
     (steps : List Step) (barriers : List Barrier) (found : List (Option Interval)) (parts : List (List Interval)) (crossed : List Bool)
     → ((v line : ℕ) → v < length found → line ≤ length steps → is_held parts v line ≡ true)
-    → ((v line : ℕ) → is_held parts v line ≡ true → IsCovered found v line) → ((v : ℕ) → v < length found → is_told crossed v ≡ true)
+    → ((v line : ℕ) → is_held parts v line ≡ true → IsCovered found v line)
+    → ((v line : ℕ) → v < length found → line ≤ length steps → Crosses (barrier_at barriers line) v → is_told crossed v ≡ true)
     → Covers steps barriers found parts crossed
 all_cover steps barriers found parts crossed all inside told = record {
   test = λ v line. nat_le line (length steps);
@@ -101,7 +102,7 @@ all_cover steps barriers found parts crossed all inside told = record {
   within = λ v line h a. all v line h (leb-true line (length steps) a);
   written = λ v line s h e w. all v (line + 1) h (omega (arith, there_below steps line s e));
   inside = inside;
-  crossings = λ v line h a c. told v h;
+  crossings = λ v line h a c. told v line h (leb-true line (length steps) a) c;
 }
 
 -- what is covered has all lines at which registers are alive

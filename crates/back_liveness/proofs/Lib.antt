@@ -4,4 +4,5 @@ pub mod Forwards
 pub mod Around
 pub mod Closing
 pub mod Covering
+pub mod Crossing
 pub mod Parting

@@ -39,6 +39,17 @@ is_held parts v line = have_line (slice_index_or parts v []) line
 abbrev pub IsCovered : List (Option Interval) → (register line : ℕ) → Type 0
 IsCovered found v line = IsWithin (slice_index_or found v None) line
 
+-- a barrier crosses the register at some line of its interval
+pub record IsCrossedWithin (barriers : List Barrier) (interval : Option Interval) (v : ℕ) : Type 0 where
+  pub line : ℕ
+  pub within : IsWithin interval line
+  pub crosses : Crosses (barrier_at barriers line) v
+
+-- only such registers are told to be crossed
+abbrev pub OnlyCrossed : List Barrier → (found : List (Option Interval)) → (crossed : List Bool) → Type 0
+OnlyCrossed barriers found crossed =
+    (v : ℕ) → slice_index_or crossed v false ≡ true → IsCrossedWithin barriers (slice_index_or found v None) v
+
 -- A test that goes along with lines: it holds where a register is read, and before each line at which it holds, but behind a line
 -- that writes the register.
 pub record GoesAlong (steps : List Step) (test : (register line : ℕ) → Bool) : Type 0 where

@@ -4,7 +4,7 @@ use Rattle.back_liveness.specs.declared.lives.Life.{Life}
 use Rattle.back_liveness.specs.declared.barrier.Barrier.{Barrier}
 use Rattle.back_liveness.specs.declared.step.Step.{Step}
 use Rattle.back_liveness.specs.Barriers.{TellsLoop}
-use Rattle.back_liveness.specs.Liveness.{is_read, goes_aside}
+use Rattle.back_liveness.specs.Liveness.{is_read, goes_aside, IsCrossedWithin}
 use Rattle.back_liveness.specs.Ahead.{is_written}
 
 abbrev pub is_marked : List Bool → (line : ℕ) → Bool
@@ -28,3 +28,7 @@ pub record Settled (steps : List Step) (earliest latest : List ℕ) (v : ℕ) (m
 abbrev pub CrossingsTold : (barriers : List Barrier) (latest : List ℕ) (v : ℕ) (marks : List Bool) (high : ℕ) (crossed : Bool) (line : ℕ) → Type 0
 CrossingsTold barriers latest v marks high crossed line =
     (k : ℕ) → line ≤ k → k ≤ high → is_marked marks k ≡ true → TellsLoop barriers latest v k crossed
+
+-- what was told to be crossed so far is crossed at some line of the life
+abbrev pub OnlyWithin : (barriers : List Barrier) (v : ℕ) → Life → Type 0
+OnlyWithin barriers v life = life.crossed ≡ true → IsCrossedWithin barriers (Some (record { from = life.from; to = life.to })) v

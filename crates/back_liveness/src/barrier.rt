@@ -1,8 +1,8 @@
 // Barriers: lines at which registers that are alive have to outlast something.
 
-ghost use Rattle.std.specs.Prelude.{◌≡◌, ℕ, false, Some, MatchBool};
+ghost use Rattle.std.specs.Prelude.{◌≡◌, ℕ, false, true, Some, MatchBool};
 ghost use Rattle.back_liveness.specs.Barriers.{Crosses, barrier_at};
-ghost use Rattle.back_liveness.specs.Liveness.{IsWithin};
+ghost use Rattle.back_liveness.specs.Liveness.{IsWithin, IsCrossedWithin};
 
 use crate::step::Interval;
 use mid_code::Register;
@@ -24,8 +24,12 @@ pub enum Barrier {
 
 /// Whether a barrier at some line of the interval crosses the register.
 pub fn crosses(interval: Interval, barriers: &[Barrier], register: Register) -> bool
-    ensures { result ≡ false → (x : ℕ) → IsWithin (Some interval) x → Crosses (barrier_at barriers.now x) register → ⊥ }
+    ensures none { result ≡ false → (x : ℕ) → IsWithin (Some interval) x → Crosses (barrier_at barriers.now x) register → ⊥ }
+    ensures some { result ≡ true → IsCrossedWithin barriers.now (Some interval) register }
 {
+    if interval.to < interval.from {
+        return false;
+    }
     if interval.to >= barriers.len() {
         return true;
     }

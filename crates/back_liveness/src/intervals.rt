@@ -3,13 +3,13 @@
 ghost use Rattle.std.specs.Prelude.{◌≡◌, ◌≤◌, ◌<◌, ◌+◌, ◌^◌, ℕ, true, length, slice_get, slice_index, slice_index_or, Some, None, IfOk};
 ghost use Rattle.back_liveness.specs.declared.step.Interval.{Interval};
 ghost use Rattle.back_liveness.specs.declared.step.Step.{Step};
-ghost use Rattle.back_liveness.specs.Liveness.{is_read, IsLive, IsWithin, IsCovered, Covers};
+ghost use Rattle.back_liveness.specs.Liveness.{is_read, IsLive, IsWithin, IsCovered, IsCrossedWithin, OnlyCrossed, Covers};
 ghost use Rattle.back_liveness.specs.Ahead.{alive_ahead};
 ghost use Rattle.back_liveness.specs.Barriers.{TellsLoop};
 ghost use Rattle.back_liveness.specs.Heads.{AreHeads, AreFloors, AreRoofs, AreNested};
 ghost use Rattle.back_liveness.specs.Points.{EndsBy, EndBy, ArePoints, HasLoop, HaveLives, PartsOf};
 
-use crate::barrier::Barrier;
+use crate::barrier::{Barrier, crosses};
 use crate::heads::{Heads, are_nested, heads_of};
 use crate::lives::{Lived, life_of};
 use crate::parts::in_one;
@@ -30,9 +30,10 @@ pub struct LiveIntervals {
 /// Whether barriers cross registers.
 pub type CrossedList = ItemList<bool>;
 
-/// For each of so many registers an interval that has all lines at which the register is alive, and those behind lines that write
-/// it; none for a register that has no such line; its parts, which have these lines too; and whether a barrier crosses it where it is alive. Where loops are entered elsewhere than at
-/// their heads, the interval has all lines, and the register is taken for crossed.
+/// For each of so many registers an interval that has all lines at which the register is alive, and those behind lines that
+/// write it; none for a register that has no such line; its parts, which have these lines too; and whether a barrier crosses it: told
+/// of each that is crossed where it is alive, and only of such as are crossed at some line of their interval. Where loops are
+/// entered elsewhere than at their heads, the interval has all lines.
 pub fn live_intervals(
     alloc: Global,
     steps: &StepList,
@@ -44,6 +45,7 @@ pub fn live_intervals(
     ensures count_parts { IfOk result (λ found. length found.parts ≡ registers) }
     ensures crossed { IfOk result (λ found. length found.crossed ≡ registers) }
     ensures covers { IfOk result (λ found. Covers steps.now barriers.now found.intervals found.parts found.crossed) }
+    ensures only { IfOk result (λ found. OnlyCrossed barriers.now found.intervals found.crossed) }
     ensures alive { IfOk result (λ found. (v line : ℕ) → v < registers → IsLive steps.now v line → IsCovered found.intervals v line) }
 {
     let heads = heads_of(alloc, steps)?;
@@ -65,8 +67,8 @@ fn whole(
     ensures count_parts { IfOk result (λ found. length found.parts ≡ registers) }
     ensures crossed { IfOk result (λ found. length found.crossed ≡ registers) }
     ensures covers { IfOk result (λ found. Covers steps.now barriers.now found.intervals found.parts found.crossed) }
+    ensures only { IfOk result (λ found. OnlyCrossed barriers.now found.intervals found.crossed) }
 {
-    let _ = barriers;
     let all = Interval {
         from: 0,
         to: steps.len(),
@@ -77,7 +79,7 @@ fn whole(
     for register in 0..registers {
         intervals.push(Some(all))?;
         parts.push(in_one(alloc, all)?)?;
-        crossed.push(true)?;
+        crossed.push(crosses(all, barriers, register))?;
     }
     Ok(LiveIntervals {
         intervals,
@@ -103,6 +105,7 @@ fn lives(
     ensures count_parts { IfOk result (λ found. length found.parts ≡ registers) }
     ensures crossed { IfOk result (λ found. length found.crossed ≡ registers) }
     ensures covers { IfOk result (λ found. Covers steps.now barriers.now found.intervals found.parts found.crossed) }
+    ensures only { IfOk result (λ found. OnlyCrossed barriers.now found.intervals found.crossed) }
 {
     let points = points_of(alloc, steps, registers)?;
     let mut marks = vec![in alloc; false; steps.len() + 1]?;
@@ -137,6 +140,7 @@ fn lives_with(
     ensures count_parts { IfOk result (λ found. length found.parts ≡ length points.now) }
     ensures crossed { IfOk result (λ found. length found.crossed ≡ length points.now) }
     ensures covers { IfOk result (λ found. Covers steps.now barriers.now found.intervals found.parts found.crossed) }
+    ensures only { IfOk result (λ found. OnlyCrossed barriers.now found.intervals found.crossed) }
 {
     let mut intervals = IntervalList::new(alloc);
     let mut parts = PartLists::new(alloc);
@@ -198,6 +202,7 @@ fn interval_of(
     ensures parts { IfOk result (λ found. PartsOf steps.now heads.now.latest.items register found.interval found.parts) }
     ensures crossed { IfOk result (λ found. (line : ℕ) → alive_ahead steps.now register line ≡ true
         → TellsLoop barriers.now heads.now.latest.items register line found.crossed) }
+    ensures only { IfOk result (λ found. found.crossed ≡ true → IsCrossedWithin barriers.now found.interval register) }
 {
     match points {
         Some(points) => {

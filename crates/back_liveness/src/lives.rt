@@ -1,13 +1,13 @@
 // The interval of one register: its lines are marked backwards, from its last point on.
 
-ghost use Rattle.std.specs.Prelude.{◌≡◌, ◌≤◌, ◌<◌, ◌+◌, ◌-◌, ◌^◌, ◌==◌, ℕ, true, false, length, slice_get, slice_index, Some, IsTrue, IfOk};
+ghost use Rattle.std.specs.Prelude.{◌≡◌, ◌≤◌, ◌<◌, ◌+◌, ◌-◌, ◌^◌, ◌==◌, ◌⊎◌, ℕ, true, false, length, slice_get, slice_index, Some, IsTrue, IfOk};
 ghost use Rattle.std.specs.List.{list_any};
 ghost use Rattle.back_liveness.specs.declared.step.Step.{Step};
-ghost use Rattle.back_liveness.specs.Liveness.{is_read, goes_aside, IsWithin};
+ghost use Rattle.back_liveness.specs.Liveness.{is_read, goes_aside, IsWithin, IsCrossedWithin};
 ghost use Rattle.back_liveness.specs.Ahead.{is_written, alive_ahead};
 ghost use Rattle.back_liveness.specs.Heads.{AreHeads, AreFloors, AreRoofs};
 ghost use Rattle.back_liveness.specs.Barriers.{Crosses, barrier_at, TellsLoop};
-ghost use Rattle.back_liveness.specs.Settled.{is_marked, Settled, CrossingsTold};
+ghost use Rattle.back_liveness.specs.Settled.{is_marked, Settled, CrossingsTold, OnlyWithin};
 ghost use Rattle.back_liveness.specs.Points.{AreParts};
 ghost use Rattle.back_liveness.specs.Closed.{IsWrittenBefore, IsClosed};
 
@@ -68,6 +68,7 @@ pub fn life_of(
     ensures parts { IfOk result (λ found. AreParts steps.now heads.now.latest.items register found.interval found.parts) }
     ensures crossed { IfOk result (λ found. (line : ℕ) → alive_ahead steps.now register line ≡ true
         → TellsLoop barriers.now heads.now.latest.items register line found.crossed) }
+    ensures only { IfOk result (λ found. found.crossed ≡ true → IsCrossedWithin barriers.now (Some found.interval) register) }
 {
     if is_closed(
         steps,
@@ -177,6 +178,7 @@ fn look(
     ensures need { result.need ≤ life.need }
     ensures from { result.from ≤ life.from }
     ensures to { life.to ≤ result.to }
+    ensures only { OnlyWithin barriers.now register life → OnlyWithin barriers.now register result }
 {
     let is_alive = is_alive(steps, marks, register, line, high);
     marks[line] = is_alive;
@@ -201,6 +203,7 @@ fn is_crossed(
 ) -> bool
     ensures known { known ≡ true → result ≡ true }
     ensures crossed { (x : ℕ) → line ≤ x → x ≤ last → Crosses (barrier_at barriers.now x) register → result ≡ true }
+    ensures only { result ≡ true → (known ≡ true) ⊎ IsCrossedWithin barriers.now (Some (record { from = line; to = last })) register }
 {
     if known {
         return true;
@@ -227,6 +230,7 @@ fn with_line(
     ensures to { life.to ≤ result.to }
     ensures known { life.crossed ≡ true → result.crossed ≡ true }
     ensures crossed { is_marked ≡ true → (x : ℕ) → line ≤ x → x ≤ last → Crosses (barrier_at barriers.now x) register → result.crossed ≡ true }
+    ensures only { OnlyWithin barriers.now register life → OnlyWithin barriers.now register result }
     ensures marked { is_marked ≡ true → (result.need ≤ line - 1) × (result.need ≤ first) × (result.from ≤ line) × (last ≤ result.to) }
 {
     if is_marked {

@@ -6,4 +6,4 @@ pub returns-clause-covers : goal.returns-clause-covers
 returns-clause-covers c =
     all_cover c.args.steps.now c.args.barriers.now c.loop-register.intervals c.loop-register.parts c.loop-register.crossed
     (λ v line h l. c.loop-register.invariant.whole v line (omega (arith, c.loop-register.invariant.count, h)) l) c.loop-register.invariant.inside
-    (λ v h. c.loop-register.invariant.told v (omega (arith, c.loop-register.invariant.count, h)))
+    (λ v line h l x. c.loop-register.invariant.told v line (omega (arith, c.loop-register.invariant.count, h)) l x)

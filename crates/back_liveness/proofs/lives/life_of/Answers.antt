@@ -35,7 +35,7 @@ returns-then-not-crossed-clause-crossed c k h x low up crosses = told c.crosses-
 
     told : (b : Bool) → c.crosses-crossed.result ≡ b → c.crosses-crossed.result ≡ true
     told true e = e
-    told false e = absurd (c.crosses-crossed.ensures e x (omega (arith, within.0, low), omega (arith, within.1, up)) crosses)
+    told false e = absurd (c.crosses-crossed.ensures.none e x (omega (arith, within.0, low), omega (arith, within.1, up)) crosses)
 
 pub returns-clause-crossed : goal.returns-clause-crossed
 returns-clause-crossed c k h =
