@@ -6,7 +6,7 @@ use Rattle.back_liveness.specs.declared.barrier.Barrier.{Barrier}
 use Rattle.back_liveness.specs.declared.lives.Life.{Life}
 use Rattle.back_liveness.specs.declared.step.Interval.{Interval}
 use Rattle.back_liveness.specs.Liveness.{IsCrossedWithin, OnlyCrossed}
-use Rattle.back_liveness.specs.Points.{is_told}
+use Rattle.back_liveness.specs.Points.{EndsBy, EndBy, is_told}
 use Rattle.back_liveness.proofs.Lists.{same_or_other}
 use Rattle.back_liveness.proofs.Around.{below_or_not}
 use Rattle.back_liveness.proofs.Covering.{count_more}
@@ -53,5 +53,23 @@ only_more barriers n found i crossed b count count_crossed known told v h =
                 subst (λ o. IsCrossedWithin barriers o v) (sym (get_or_append_left found (i ∷ []) None v (omega (arith, count, low))))
                 (known v (sym (get_or_append_left crossed (b ∷ []) false v (omega (arith, count_crossed, low))) ∙ h))
             | inr high ↦ absurd (told_nowhere (crossed ++ b ∷ []) v (omega (arith, count_more crossed b n count_crossed, high, ne)) h)
+          ]
+    ]
+
+no_end : (n : ℕ) (found : List (Option Interval)) (v : ℕ) → length found ≤ v → EndsBy n (get_or found v None)
+no_end n [] v h = tt
+no_end n (x ∷ found) zero h = absurd (omega (arith, h))
+no_end n (x ∷ found) (suc v) h = no_end n found v (omega (arith, h))
+
+-- and it ends as the others do
+pub ends_more :
+    (n count : ℕ) (found : List (Option Interval)) (i : Option Interval) → length found ≡ count → EndBy n found → EndsBy n i → EndBy n (found ++ i ∷ [])
+ends_more n count found i is known ends v =
+    elim (same_or_other v count) [
+      | inl q ↦ subst (EndsBy n) (sym (get_or_push found i None v (omega (arith, is, q)))) ends
+      | inr ne ↦
+          elim (below_or_not v count) [
+            | inl low ↦ subst (EndsBy n) (sym (get_or_append_left found (i ∷ []) None v (omega (arith, is, low)))) (known v)
+            | inr high ↦ no_end n (found ++ i ∷ []) v (omega (arith, count_more found i count is, high, ne))
           ]
     ]

@@ -46,6 +46,7 @@ pub fn live_intervals(
     ensures crossed { IfOk result (λ found. length found.crossed ≡ registers) }
     ensures covers { IfOk result (λ found. Covers steps.now barriers.now found.intervals found.parts found.crossed) }
     ensures only { IfOk result (λ found. OnlyCrossed barriers.now found.intervals found.crossed) }
+    ensures ends { IfOk result (λ found. EndBy (length steps.now) found.intervals) }
     ensures alive { IfOk result (λ found. (v line : ℕ) → v < registers → IsLive steps.now v line → IsCovered found.intervals v line) }
 {
     let heads = heads_of(alloc, steps)?;
@@ -68,6 +69,7 @@ fn whole(
     ensures crossed { IfOk result (λ found. length found.crossed ≡ registers) }
     ensures covers { IfOk result (λ found. Covers steps.now barriers.now found.intervals found.parts found.crossed) }
     ensures only { IfOk result (λ found. OnlyCrossed barriers.now found.intervals found.crossed) }
+    ensures ends { IfOk result (λ found. EndBy (length steps.now) found.intervals) }
 {
     let all = Interval {
         from: 0,
@@ -106,6 +108,7 @@ fn lives(
     ensures crossed { IfOk result (λ found. length found.crossed ≡ registers) }
     ensures covers { IfOk result (λ found. Covers steps.now barriers.now found.intervals found.parts found.crossed) }
     ensures only { IfOk result (λ found. OnlyCrossed barriers.now found.intervals found.crossed) }
+    ensures ends { IfOk result (λ found. EndBy (length steps.now) found.intervals) }
 {
     let points = points_of(alloc, steps, registers)?;
     let mut marks = vec![in alloc; false; steps.len() + 1]?;
@@ -141,6 +144,7 @@ fn lives_with(
     ensures crossed { IfOk result (λ found. length found.crossed ≡ length points.now) }
     ensures covers { IfOk result (λ found. Covers steps.now barriers.now found.intervals found.parts found.crossed) }
     ensures only { IfOk result (λ found. OnlyCrossed barriers.now found.intervals found.crossed) }
+    ensures ends { IfOk result (λ found. EndBy (length steps.now) found.intervals) }
 {
     let mut intervals = IntervalList::new(alloc);
     let mut parts = PartLists::new(alloc);
@@ -203,6 +207,7 @@ fn interval_of(
     ensures crossed { IfOk result (λ found. (line : ℕ) → alive_ahead steps.now register line ≡ true
         → TellsLoop barriers.now heads.now.latest.items register line found.crossed) }
     ensures only { IfOk result (λ found. found.crossed ≡ true → IsCrossedWithin barriers.now found.interval register) }
+    ensures ends { IfOk result (λ found. EndsBy (length steps.now) found.interval) }
 {
     match points {
         Some(points) => {

@@ -69,6 +69,7 @@ pub fn life_of(
     ensures crossed { IfOk result (λ found. (line : ℕ) → alive_ahead steps.now register line ≡ true
         → TellsLoop barriers.now heads.now.latest.items register line found.crossed) }
     ensures only { IfOk result (λ found. found.crossed ≡ true → IsCrossedWithin barriers.now (Some found.interval) register) }
+    ensures ends { IfOk result (λ found. found.interval.to ≤ length steps.now) }
 {
     if is_closed(
         steps,
@@ -178,6 +179,7 @@ fn look(
     ensures need { result.need ≤ life.need }
     ensures from { result.from ≤ life.from }
     ensures to { life.to ≤ result.to }
+    ensures ends { (n : ℕ) → life.to ≤ n → slice_index latest.now line ≤ n → result.to ≤ n }
     ensures only { OnlyWithin barriers.now register life → OnlyWithin barriers.now register result }
 {
     let is_alive = is_alive(steps, marks, register, line, high);
@@ -228,6 +230,7 @@ fn with_line(
     ensures need { result.need ≤ life.need }
     ensures from { result.from ≤ life.from }
     ensures to { life.to ≤ result.to }
+    ensures ends { (n : ℕ) → life.to ≤ n → last ≤ n → result.to ≤ n }
     ensures known { life.crossed ≡ true → result.crossed ≡ true }
     ensures crossed { is_marked ≡ true → (x : ℕ) → line ≤ x → x ≤ last → Crosses (barrier_at barriers.now x) register → result.crossed ≡ true }
     ensures only { OnlyWithin barriers.now register life → OnlyWithin barriers.now register result }

@@ -1,5 +1,5 @@
 use Rattle.std.proofs.Common.{◌≡◌, length}
-use Rattle.back_liveness.specs.Points.{HaveLives, HaveParts, HaveCrossings}
+use Rattle.back_liveness.specs.Points.{EndBy, HaveLives, HaveParts, HaveCrossings}
 use Rattle.back_liveness.specs.Liveness.{OnlyCrossed}
 use Rattle.back_liveness.proofs.intervals.lives_with.Given as goal
 
@@ -10,6 +10,7 @@ invariant-loop-register l = record {
   count_crossed : length l.crossed ≡ l.register;
   lives : HaveLives l.steps l.heads.latest.items l.register l.intervals;
   own : HaveParts l.steps l.heads.latest.items l.register l.intervals l.parts;
+  ends : EndBy (length l.steps) l.intervals;
   only : OnlyCrossed l.barriers l.intervals l.crossed;
   crossings : HaveCrossings l.steps l.barriers l.heads.latest.items l.register l.crossed;
 }

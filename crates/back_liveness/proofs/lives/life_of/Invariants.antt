@@ -1,4 +1,4 @@
-use Rattle.std.proofs.Common.{◌≤◌, ◌+◌}
+use Rattle.std.proofs.Common.{◌≤◌, ◌+◌, length}
 use Rattle.back_liveness.specs.Settled.{Settled, CrossingsTold, OnlyWithin}
 use Rattle.back_liveness.proofs.lives.life_of.Given as goal
 
@@ -7,6 +7,7 @@ invariant-loop-life l = record {
   settled : Settled l.steps l.heads.earliest.items l.heads.latest.items l.register l.marks l.points.to l.life l.line;
   crossings : CrossingsTold l.barriers l.heads.latest.items l.register l.marks l.points.to l.life.crossed l.line;
   only : OnlyWithin l.barriers l.register l.life;
+  ends : l.life.to ≤ length l.steps;
   need : l.life.need ≤ l.points.from;
   from : l.life.from ≤ l.points.from;
   to : l.points.to ≤ l.life.to;
