@@ -6,3 +6,4 @@ pub mod Closing
 pub mod Covering
 pub mod Crossing
 pub mod Parting
+pub mod Tight

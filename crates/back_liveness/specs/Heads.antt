@@ -1,7 +1,7 @@
 -- From where one comes to a line, and loops that lie one in another.
-use Rattle.std.specs.Prelude.{◌≡◌, ◌≤◌, ◌<◌, ℕ, ◌+◌, true, List, length, slice_get, slice_index, Some}
+use Rattle.std.specs.Prelude.{◌≡◌, ◌≤◌, ◌<◌, ◌⊎◌, ℕ, ◌+◌, true, List, length, slice_get, slice_index, Some}
 use Rattle.back_liveness.specs.declared.step.Step.{Step}
-use Rattle.back_liveness.specs.Liveness.{goes_aside}
+use Rattle.back_liveness.specs.Liveness.{goes_aside, Goes}
 
 -- a line between the first and the last that are given for another
 abbrev pub IsBetween : (earliest latest : List ℕ) → (line t : ℕ) → Type 0
@@ -16,6 +16,18 @@ pub record AreHeadsOf (steps : List Step) (count : ℕ) (earliest latest : List 
       (line t : ℕ) (s : Step) → line < count → slice_get steps line ≡ Some s → goes_aside s t ≡ true → t ≤ length steps
       → IsBetween earliest latest line t
   pub within : (t : ℕ) → slice_index latest t ≤ length steps
+
+-- such a first or last line is the line itself or goes aside to it
+abbrev pub IsSource : List Step → (t line : ℕ) → Type 0
+IsSource steps t line = (line ≡ t) ⊎ Goes steps line t
+
+pub record AreSources (steps : List Step) (earliest latest : List ℕ) : Type 0 where
+  pub first : (t : ℕ) → t ≤ length steps → IsSource steps t (slice_index earliest t)
+  pub last : (t : ℕ) → t ≤ length steps → IsSource steps t (slice_index latest t)
+
+-- the same number, or that of a line
+abbrev pub IsSameOr : (old new : List ℕ) (t line : ℕ) (added : Type 0) → Type 0
+IsSameOr old new t line added = (slice_index new t ≡ slice_index old t) ⊎ ((slice_index new t ≡ line) × added)
 
 -- of all lines
 abbrev pub AreHeads : (steps : List Step) (earliest latest : List ℕ) → Type 0
@@ -37,3 +49,12 @@ IsNestedAt earliest latest h t = (h ≤ slice_index earliest t) × (slice_index 
 
 abbrev pub AreNested : (earliest latest : List ℕ) → Type 0
 AreNested earliest latest = (h t : ℕ) → h < t → t ≤ slice_index latest h → IsNestedAt earliest latest h t
+
+-- a loop and a line of it, from outside of which one comes there or comes back to it
+pub record IsCounterexample (earliest latest : List ℕ) : Type 0 where
+  pub head : ℕ
+  pub to : ℕ
+  pub there : head < length latest
+  pub behind : head < to
+  pub inside : to ≤ slice_index latest head
+  pub outside : (slice_index earliest to < head) ⊎ (slice_index latest head < slice_index latest to)

@@ -1,5 +1,5 @@
 -- When a register is alive at a line, by paths, and what an interval of lines covers.
-use Rattle.std.specs.Prelude.{◌≡◌, ◌≢◌, ◌≤◌, ◌<◌, ℕ, ◌+◌, ◌==◌, ◌&&◌, nat_le, Bool, true, false, List, [], length, slice_get, slice_index_or, Option, Some, None}
+use Rattle.std.specs.Prelude.{◌≡◌, ◌≢◌, ◌≤◌, ◌<◌, ◌⊎◌, ℕ, ◌+◌, ◌==◌, ◌&&◌, nat_le, Bool, true, false, List, [], length, slice_get, slice_index_or, Option, Some, None}
 use Rattle.std.specs.List.{list_any}
 use Rattle.back_liveness.specs.declared.barrier.Barrier.{Barrier}
 use Rattle.back_liveness.specs.declared.step.Interval.{Interval}
@@ -24,6 +24,34 @@ pub data IsLive (steps : List Step) (v : ℕ) : (line : ℕ) → Type 0 where
 abbrev pub IsWithin : Option Interval → (line : ℕ) → Type 0
 IsWithin None line = ⊥
 IsWithin (Some i) line = (i.from ≤ line) × (line ≤ i.to)
+
+-- the first and the last line of an interval
+abbrev pub IsEndOf : Option Interval → (line : ℕ) → Type 0
+IsEndOf None line = ⊥
+IsEndOf (Some i) line = (line ≡ i.from) ⊎ (line ≡ i.to)
+
+-- a line goes aside to another one
+pub record Goes (steps : List Step) (line to : ℕ) : Type 0 where
+  pub step : Step
+  pub there : slice_get steps line ≡ Some step
+  pub goes : goes_aside step to ≡ true
+
+-- A line at which a register is wanted: it is alive there; or the line before it writes the register; or it lies in a loop, between a head at which the
+-- register is alive and a line that goes back to the head.
+pub data IsWanted (steps : List Step) (v : ℕ) : (line : ℕ) → Type 0 where
+  alive : (line : ℕ) → IsLive steps v line → IsWanted steps v line
+  behind_write : (line : ℕ) (s : Step) → slice_get steps line ≡ Some s → s.written ≡ Some v → IsWanted steps v (line + 1)
+  around : (head line back : ℕ) → IsLive steps v head → head ≤ line → line ≤ back → Goes steps back head → IsWanted steps v line
+
+-- Loops lie one in another and are entered at their heads: what goes to a line of a loop but its head comes from the loop.
+abbrev pub AreStructured : List Step → Type 0
+AreStructured steps =
+    (head back line to : ℕ) → Goes steps back head → head < to → to ≤ back → Goes steps line to
+    → (head ≤ line) × ((line ≤ back) ⊎ ((last : ℕ) × (line ≤ last) × Goes steps last head))
+
+-- no interval is longer than it has to be: its register is wanted at its first line and at its last
+abbrev pub AreTight : List Step → (found : List (Option Interval)) → Type 0
+AreTight steps found = (v line : ℕ) → IsEndOf (slice_index_or found v None) line → IsWanted steps v line
 
 -- whether an interval has a line, some of these does, and one of a register
 abbrev pub has_line : Interval → (line : ℕ) → Bool

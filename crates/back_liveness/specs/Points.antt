@@ -1,10 +1,10 @@
 -- Intervals that have the points of registers.
-use Rattle.std.specs.Prelude.{◌≡◌, ◌≤◌, ◌<◌, ℕ, ◌+◌, Bool, true, false, List, [], length, slice_get, slice_index, slice_index_or, Option, Some, None}
+use Rattle.std.specs.Prelude.{◌≡◌, ◌≤◌, ◌<◌, ◌⊎◌, ℕ, ◌+◌, Bool, true, false, List, [], length, slice_get, slice_index, slice_index_or, Option, Some, None}
 use Rattle.back_liveness.specs.declared.barrier.Barrier.{Barrier}
 use Rattle.back_liveness.specs.declared.step.Interval.{Interval}
 use Rattle.back_liveness.specs.declared.step.Step.{Step}
 use Rattle.back_liveness.specs.Barriers.{TellsLoop}
-use Rattle.back_liveness.specs.Liveness.{is_read, have_line, IsWithin, IsCovered}
+use Rattle.back_liveness.specs.Liveness.{is_read, have_line, IsWithin, IsCovered, IsEndOf}
 use Rattle.back_liveness.specs.Ahead.{alive_ahead}
 
 -- all points of the first lines: lines that read a register, and lines behind those that write it
@@ -13,6 +13,15 @@ pub record ArePoints (steps : List Step) (count : ℕ) (hulls : List (Option Int
       (v line : ℕ) (s : Step) → v < length hulls → line < count → slice_get steps line ≡ Some s → is_read s v ≡ true → IsCovered hulls v line
   pub written :
       (v line : ℕ) (s : Step) → v < length hulls → line < count → slice_get steps line ≡ Some s → s.written ≡ Some v → IsCovered hulls v (line + 1)
+
+-- A point of a register is a line that reads it, or one behind a line that writes it.
+pub data IsPoint (steps : List Step) (v : ℕ) : (line : ℕ) → Type 0 where
+  reads : (line : ℕ) (s : Step) → slice_get steps line ≡ Some s → is_read s v ≡ true → IsPoint steps v line
+  behind_write : (line : ℕ) (s : Step) → slice_get steps line ≡ Some s → s.written ≡ Some v → IsPoint steps v (line + 1)
+
+-- an end of the interval of a register is one that it was before, or a line that is added
+abbrev pub HasEndOr : (old new : List (Option Interval)) (v line : ℕ) (added : Type 0) → Type 0
+HasEndOr old new v line added = IsEndOf (slice_index_or new v None) line → IsEndOf (slice_index_or old v None) line ⊎ added
 
 -- an interval that ends by a line, and all of them
 abbrev pub EndsBy : (n : ℕ) → Option Interval → Type 0

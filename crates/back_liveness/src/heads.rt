@@ -1,10 +1,10 @@
 // From where one comes to a line: the first and the last line that goes aside to it; and whether loops lie one in another.
 
-ghost use Rattle.std.specs.Prelude.{◌≡◌, ◌≤◌, ◌<◌, ◌+◌, ◌^◌, ◌==◌, ℕ, true, length, slice_get, slice_index, Some, IfOk, IsTrue};
+ghost use Rattle.std.specs.Prelude.{◌≡◌, ◌≤◌, ◌<◌, ◌+◌, ◌^◌, ◌==◌, ℕ, true, false, length, slice_get, slice_index, Some, IfOk, IsTrue};
 ghost use Rattle.std.specs.List.{list_any};
 ghost use Rattle.back_liveness.specs.declared.step.Step.{Step};
-ghost use Rattle.back_liveness.specs.Liveness.{goes_aside};
-ghost use Rattle.back_liveness.specs.Heads.{IsBetween, AreHeadsOf, AreHeads, AreFloors, AreRoofs, IsNestedAt, AreNested};
+ghost use Rattle.back_liveness.specs.Liveness.{goes_aside, Goes};
+ghost use Rattle.back_liveness.specs.Heads.{IsBetween, AreHeadsOf, AreHeads, AreSources, IsSameOr, AreFloors, AreRoofs, IsNestedAt, AreNested, IsCounterexample};
 
 use crate::step::StepList;
 use base::NoMemory;
@@ -24,6 +24,7 @@ pub struct Heads {
 pub fn heads_of(alloc: Global, steps: &StepList) -> Result<Heads, NoMemory>
     requires { length steps.now < 2 ^ 62 }
     ensures heads { IfOk result (λ h. AreHeads steps.now h.earliest.items h.latest.items) }
+    ensures sources { IfOk result (λ h. AreSources steps.now h.earliest.items h.latest.items) }
     ensures floors { IfOk result (λ h. AreFloors h.earliest.items h.floors.items) }
     ensures roofs { IfOk result (λ h. AreRoofs h.latest.items h.roofs.items) }
 {
@@ -84,8 +85,9 @@ fn fill_roofs(roofs: &mut [usize], latest: &[usize])
 
 // All lines, from which one comes to those to which they go aside.
 fn add_lines(earliest: &mut [usize], latest: &mut [usize], steps: &StepList)
-    requires { AreHeadsOf steps.now 0 earliest.old latest.old }
-    ensures { AreHeads steps.now earliest.new latest.new }
+    requires begun { AreHeadsOf steps.now 0 earliest.old latest.old }
+    ensures heads { AreHeads steps.now earliest.new latest.new }
+    ensures sources { AreSources steps.now earliest.old latest.old → AreSources steps.now earliest.new latest.new }
 {
     for line in 0..steps.len() {
         add_line(earliest, latest, steps, line);
@@ -113,6 +115,8 @@ fn add_line(earliest: &mut [usize], latest: &mut [usize], steps: &StepList, line
     ensures added { (t : ℕ) (s : Step) → slice_get steps.now line ≡ Some s → goes_aside s t ≡ true → t < length earliest.old
         → IsBetween earliest.new latest.new line t }
     ensures within { (n : ℕ) → line ≤ n → ((t : ℕ) → slice_index latest.old t ≤ n) → (t : ℕ) → slice_index latest.new t ≤ n }
+    ensures first { (t : ℕ) → IsSameOr earliest.old earliest.new t line (Goes steps.now line t) }
+    ensures last { (t : ℕ) → IsSameOr latest.old latest.new t line (Goes steps.now line t) }
 {
     match steps.get(line) {
         Some(step) => add_sources(earliest, latest, step.aside.as_slice(), line),
@@ -126,6 +130,8 @@ fn add_sources(earliest: &mut [usize], latest: &mut [usize], aside: &[usize], li
     ensures added { (t : ℕ) → list_any (λ a. a == t) aside.now ≡ true → t < length earliest.old
         → IsBetween earliest.new latest.new line t }
     ensures within { (n : ℕ) → line ≤ n → ((t : ℕ) → slice_index latest.old t ≤ n) → (t : ℕ) → slice_index latest.new t ≤ n }
+    ensures first { (t : ℕ) → IsSameOr earliest.old earliest.new t line (list_any (λ a. a == t) aside.now ≡ true) }
+    ensures last { (t : ℕ) → IsSameOr latest.old latest.new t line (list_any (λ a. a == t) aside.now ≡ true) }
 {
     for to in aside {
         add_source(earliest, latest, *to, line);
@@ -137,6 +143,8 @@ fn add_source(earliest: &mut [usize], latest: &mut [usize], to: usize, line: usi
     ensures kept { (k t : ℕ) → IsBetween earliest.old latest.old k t → IsBetween earliest.new latest.new k t }
     ensures added { to < length earliest.old → IsBetween earliest.new latest.new line to }
     ensures within { (n : ℕ) → line ≤ n → ((t : ℕ) → slice_index latest.old t ≤ n) → (t : ℕ) → slice_index latest.new t ≤ n }
+    ensures first { (t : ℕ) → IsSameOr earliest.old earliest.new t line (to ≡ t) }
+    ensures last { (t : ℕ) → IsSameOr latest.old latest.new t line (to ≡ t) }
 {
     if to < earliest.len() {
         let first = earliest[to].min(line);
@@ -150,7 +158,8 @@ fn add_source(earliest: &mut [usize], latest: &mut [usize], to: usize, line: usi
 pub fn are_nested(earliest: &[usize], latest: &[usize]) -> bool
     requires same { length earliest.now ≡ length latest.now }
     requires within { (t : ℕ) → slice_index latest.now t < length latest.now }
-    ensures { IsTrue result → AreNested earliest.now latest.now }
+    ensures nested { IsTrue result → AreNested earliest.now latest.now }
+    ensures not_nested { result ≡ false → IsCounterexample earliest.now latest.now }
 {
     for h in 0..latest.len() {
         if !is_nested(earliest, latest, h) {
@@ -165,7 +174,8 @@ fn is_nested(earliest: &[usize], latest: &[usize], h: usize) -> bool
     requires same { length earliest.now ≡ length latest.now }
     requires there { h < length latest.now }
     requires within { (t : ℕ) → slice_index latest.now t < length latest.now }
-    ensures { IsTrue result → (t : ℕ) → h < t → t ≤ slice_index latest.now h → IsNestedAt earliest.now latest.now h t }
+    ensures nested { IsTrue result → (t : ℕ) → h < t → t ≤ slice_index latest.now h → IsNestedAt earliest.now latest.now h t }
+    ensures not_nested { result ≡ false → IsCounterexample earliest.now latest.now }
 {
     let last = latest[h];
     for t in h + 1..last + 1 {

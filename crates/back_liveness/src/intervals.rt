@@ -3,11 +3,11 @@
 ghost use Rattle.std.specs.Prelude.{◌≡◌, ◌≤◌, ◌<◌, ◌+◌, ◌^◌, ℕ, true, length, slice_get, slice_index, slice_index_or, Some, None, IfOk};
 ghost use Rattle.back_liveness.specs.declared.step.Interval.{Interval};
 ghost use Rattle.back_liveness.specs.declared.step.Step.{Step};
-ghost use Rattle.back_liveness.specs.Liveness.{is_read, IsLive, IsWithin, IsCovered, IsCrossedWithin, OnlyCrossed, Covers};
+ghost use Rattle.back_liveness.specs.Liveness.{is_read, IsLive, IsWithin, IsCovered, IsEndOf, IsWanted, IsCrossedWithin, OnlyCrossed, AreStructured, AreTight, Covers};
 ghost use Rattle.back_liveness.specs.Ahead.{alive_ahead};
 ghost use Rattle.back_liveness.specs.Barriers.{TellsLoop};
-ghost use Rattle.back_liveness.specs.Heads.{AreHeads, AreFloors, AreRoofs, AreNested};
-ghost use Rattle.back_liveness.specs.Points.{EndsBy, EndBy, ArePoints, HasLoop, HaveLives, PartsOf};
+ghost use Rattle.back_liveness.specs.Heads.{AreHeads, AreSources, AreFloors, AreRoofs, AreNested};
+ghost use Rattle.back_liveness.specs.Points.{EndsBy, EndBy, ArePoints, HasLoop, HaveLives, PartsOf, IsPoint};
 
 use crate::barrier::{Barrier, crosses};
 use crate::heads::{Heads, are_nested, heads_of};
@@ -32,8 +32,8 @@ pub type CrossedList = ItemList<bool>;
 
 /// For each of so many registers an interval that has all lines at which the register is alive, and those behind lines that
 /// write it; none for a register that has no such line; its parts, which have these lines too; and whether a barrier crosses it: told
-/// of each that is crossed where it is alive, and only of such as are crossed at some line of their interval. Where loops are
-/// entered elsewhere than at their heads, the interval has all lines.
+/// of each that is crossed where it is alive, and only of such as are crossed at some line of their interval. No interval is longer than
+/// it has to be; but where loops are entered elsewhere than at their heads it has all lines.
 pub fn live_intervals(
     alloc: Global,
     steps: &StepList,
@@ -47,6 +47,7 @@ pub fn live_intervals(
     ensures covers { IfOk result (λ found. Covers steps.now barriers.now found.intervals found.parts found.crossed) }
     ensures only { IfOk result (λ found. OnlyCrossed barriers.now found.intervals found.crossed) }
     ensures ends { IfOk result (λ found. EndBy (length steps.now) found.intervals) }
+    ensures tight { AreStructured steps.now → IfOk result (λ found. AreTight steps.now found.intervals) }
     ensures alive { IfOk result (λ found. (v line : ℕ) → v < registers → IsLive steps.now v line → IsCovered found.intervals v line) }
 {
     let heads = heads_of(alloc, steps)?;
@@ -103,12 +104,14 @@ fn lives(
     requires roofs { AreRoofs heads.now.latest.items heads.now.roofs.items }
     requires nested { AreNested heads.now.earliest.items heads.now.latest.items }
     requires room { length steps.now < 2 ^ 62 }
+    requires sources { AreSources steps.now heads.now.earliest.items heads.now.latest.items }
     ensures count { IfOk result (λ found. length found.intervals ≡ registers) }
     ensures count_parts { IfOk result (λ found. length found.parts ≡ registers) }
     ensures crossed { IfOk result (λ found. length found.crossed ≡ registers) }
     ensures covers { IfOk result (λ found. Covers steps.now barriers.now found.intervals found.parts found.crossed) }
     ensures only { IfOk result (λ found. OnlyCrossed barriers.now found.intervals found.crossed) }
     ensures ends { IfOk result (λ found. EndBy (length steps.now) found.intervals) }
+    ensures tight { IfOk result (λ found. AreTight steps.now found.intervals) }
 {
     let points = points_of(alloc, steps, registers)?;
     let mut marks = vec![in alloc; false; steps.len() + 1]?;
@@ -138,6 +141,8 @@ fn lives_with(
     requires room { length steps.now < 2 ^ 62 }
     requires points { ArePoints steps.now (length steps.now) points.now }
     requires ends { EndBy (length steps.now) points.now }
+    requires sources { AreSources steps.now heads.now.earliest.items heads.now.latest.items }
+    requires only { (v x : ℕ) → IsEndOf (slice_index_or points.now v None) x → IsPoint steps.now v x }
     requires marks { length marks.old ≡ length steps.now + 1 }
     ensures count { IfOk result (λ found. length found.intervals ≡ length points.now) }
     ensures count_parts { IfOk result (λ found. length found.parts ≡ length points.now) }
@@ -145,6 +150,7 @@ fn lives_with(
     ensures covers { IfOk result (λ found. Covers steps.now barriers.now found.intervals found.parts found.crossed) }
     ensures only { IfOk result (λ found. OnlyCrossed barriers.now found.intervals found.crossed) }
     ensures ends { IfOk result (λ found. EndBy (length steps.now) found.intervals) }
+    ensures tight { IfOk result (λ found. AreTight steps.now found.intervals) }
 {
     let mut intervals = IntervalList::new(alloc);
     let mut parts = PartLists::new(alloc);
@@ -200,6 +206,8 @@ fn interval_of(
     requires marks { length marks.old ≡ length steps.now + 1 }
     requires points { (line : ℕ) (s : Step) → slice_get steps.now line ≡ Some s → is_read s register ≡ true → IsWithin points line }
     requires ends { EndsBy (length steps.now) points }
+    requires sources { AreSources steps.now heads.now.earliest.items heads.now.latest.items }
+    requires only { (x : ℕ) → IsEndOf points x → IsPoint steps.now register x }
     ensures ahead { IfOk result (λ found. (line : ℕ) → alive_ahead steps.now register line ≡ true
         → HasLoop found.interval line (slice_index heads.now.latest.items line)) }
     ensures points { IfOk result (λ found. (line : ℕ) → IsWithin points line → IsWithin found.interval line) }
@@ -208,6 +216,7 @@ fn interval_of(
         → TellsLoop barriers.now heads.now.latest.items register line found.crossed) }
     ensures only { IfOk result (λ found. found.crossed ≡ true → IsCrossedWithin barriers.now found.interval register) }
     ensures ends { IfOk result (λ found. EndsBy (length steps.now) found.interval) }
+    ensures tight { IfOk result (λ found. (x : ℕ) → IsEndOf found.interval x → IsWanted steps.now register x) }
 {
     match points {
         Some(points) => {

@@ -3,12 +3,12 @@
 ghost use Rattle.std.specs.Prelude.{◌≡◌, ◌≤◌, ◌<◌, ◌+◌, ◌-◌, ◌^◌, ◌==◌, ◌⊎◌, ℕ, true, false, length, slice_get, slice_index, Some, IsTrue, IfOk};
 ghost use Rattle.std.specs.List.{list_any};
 ghost use Rattle.back_liveness.specs.declared.step.Step.{Step};
-ghost use Rattle.back_liveness.specs.Liveness.{is_read, goes_aside, IsWithin, IsCrossedWithin};
+ghost use Rattle.back_liveness.specs.Liveness.{is_read, goes_aside, IsWithin, IsEndOf, IsWanted, IsCrossedWithin};
 ghost use Rattle.back_liveness.specs.Ahead.{is_written, alive_ahead};
-ghost use Rattle.back_liveness.specs.Heads.{AreHeads, AreFloors, AreRoofs};
+ghost use Rattle.back_liveness.specs.Heads.{AreHeads, AreSources, AreFloors, AreRoofs};
 ghost use Rattle.back_liveness.specs.Barriers.{Crosses, barrier_at, TellsLoop};
-ghost use Rattle.back_liveness.specs.Settled.{is_marked, Settled, CrossingsTold, OnlyWithin};
-ghost use Rattle.back_liveness.specs.Points.{AreParts};
+ghost use Rattle.back_liveness.specs.Settled.{is_marked, Settled, CrossingsTold, OnlyWithin, AreAlive, IsMarkedBy};
+ghost use Rattle.back_liveness.specs.Points.{AreParts, IsPoint};
 ghost use Rattle.back_liveness.specs.Closed.{IsWrittenBefore, IsClosed};
 
 use crate::barrier::{Barrier, crosses};
@@ -62,6 +62,8 @@ pub fn life_of(
     requires marks { length marks.old ≡ length steps.now + 1 }
     requires points { (line : ℕ) (s : Step) → slice_get steps.now line ≡ Some s → is_read s register ≡ true → IsWithin (Some points) line }
     requires ends { points.to ≤ length steps.now }
+    requires sources { AreSources steps.now heads.now.earliest.items heads.now.latest.items }
+    requires only { (x : ℕ) → IsEndOf (Some points) x → IsPoint steps.now register x }
     ensures ahead { IfOk result (λ found. (line : ℕ) → alive_ahead steps.now register line ≡ true
         → (found.interval.from ≤ line) × (slice_index heads.now.latest.items line ≤ found.interval.to)) }
     ensures points { IfOk result (λ found. (line : ℕ) → IsWithin (Some points) line → IsWithin (Some found.interval) line) }
@@ -70,6 +72,7 @@ pub fn life_of(
         → TellsLoop barriers.now heads.now.latest.items register line found.crossed) }
     ensures only { IfOk result (λ found. found.crossed ≡ true → IsCrossedWithin barriers.now (Some found.interval) register) }
     ensures ends { IfOk result (λ found. found.interval.to ≤ length steps.now) }
+    ensures tight { IfOk result (λ found. (x : ℕ) → IsEndOf (Some found.interval) x → IsWanted steps.now register x) }
 {
     if is_closed(
         steps,
@@ -180,6 +183,10 @@ fn look(
     ensures from { result.from ≤ life.from }
     ensures to { life.to ≤ result.to }
     ensures ends { (n : ℕ) → life.to ≤ n → slice_index latest.now line ≤ n → result.to ≤ n }
+    ensures alive { AreAlive steps.now register marks.old high (line + 1) → AreAlive steps.now register marks.new high line }
+    ensures tight { is_marked marks.new line ≡ false → (result.from ≡ life.from) × (result.to ≡ life.to) }
+    ensures from_is { (result.from ≡ life.from) ⊎ (result.from ≡ line) }
+    ensures to_is { (result.to ≡ life.to) ⊎ (result.to ≡ slice_index latest.now line) }
     ensures only { OnlyWithin barriers.now register life → OnlyWithin barriers.now register result }
 {
     let is_alive = is_alive(steps, marks, register, line, high);
@@ -231,6 +238,9 @@ fn with_line(
     ensures from { result.from ≤ life.from }
     ensures to { life.to ≤ result.to }
     ensures ends { (n : ℕ) → life.to ≤ n → last ≤ n → result.to ≤ n }
+    ensures tight { is_marked ≡ false → (result.from ≡ life.from) × (result.to ≡ life.to) }
+    ensures from_is { (result.from ≡ life.from) ⊎ (result.from ≡ line) }
+    ensures to_is { (result.to ≡ life.to) ⊎ (result.to ≡ last) }
     ensures known { life.crossed ≡ true → result.crossed ≡ true }
     ensures crossed { is_marked ≡ true → (x : ℕ) → line ≤ x → x ≤ last → Crosses (barrier_at barriers.now x) register → result.crossed ≡ true }
     ensures only { OnlyWithin barriers.now register life → OnlyWithin barriers.now register result }
@@ -257,6 +267,7 @@ fn is_alive(steps: &StepList, marks: &[bool], register: Register, line: usize, h
         → is_marked marks.now (line + 1) ≡ true → result ≡ true }
     ensures aside { (t : ℕ) (s : Step) → line < t → t ≤ high → slice_get steps.now line ≡ Some s → goes_aside s t ≡ true
         → is_marked marks.now t ≡ true → result ≡ true }
+    ensures only { result ≡ true → IsMarkedBy steps.now register marks.now high line }
 {
     let Some(step) = steps.get(line) else {
         return false;
@@ -282,7 +293,8 @@ fn writes(written: Option<Register>, register: Register) -> bool
 // Whether one of these lines is marked and stands behind a line, and not behind a last one.
 fn any_marked(aside: &[usize], marks: &[bool], line: usize, high: usize) -> bool
     requires { high < length marks.now }
-    ensures { (t : ℕ) → list_any (λ a. a == t) aside.now ≡ true → line < t → t ≤ high → is_marked marks.now t ≡ true → result ≡ true }
+    ensures all { (t : ℕ) → list_any (λ a. a == t) aside.now ≡ true → line < t → t ≤ high → is_marked marks.now t ≡ true → result ≡ true }
+    ensures only { result ≡ true → (t : ℕ) × (list_any (λ a. a == t) aside.now ≡ true) × (line < t) × (t ≤ high) × (is_marked marks.now t ≡ true) }
 {
     for t in aside {
         if line < *t && *t <= high && marks[*t] {

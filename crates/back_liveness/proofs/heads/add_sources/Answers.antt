@@ -3,6 +3,7 @@ use Rattle.std.specs.Prelude.{slice_index}
 use borrow.Author.Count.{below_more}
 use Rattle.back_liveness.specs.Heads.{IsBetween}
 use Rattle.back_liveness.proofs.Lists.{any_index}
+use Rattle.back_liveness.proofs.Tight.{same_or_more}
 use Rattle.back_liveness.proofs.heads.add_sources.Goals as goal
 
 pub loop-to-preserved : goal.loop-to-preserved
@@ -15,6 +16,12 @@ loop-to-preserved c = record {
       (λ j h below. c.add_source.ensures.kept c.args.line (slice_index c.args.aside.now j) (c.loop-to.invariant.added j h (omega arith)))
       (λ below. c.add_source.ensures.added (omega arith));
   within = λ n h all. c.add_source.ensures.within n h (c.loop-to.invariant.within n h all);
+  first = λ t.
+      same_or_more c.args.earliest.now c.loop-to.earliest c.add_source.new.earliest t c.args.line c.args.aside.now c.loop-to.to-index (omega arith)
+      (c.loop-to.invariant.first t) (c.add_source.ensures.first t);
+  last = λ t.
+      same_or_more c.args.latest.now c.loop-to.latest c.add_source.new.latest t c.args.line c.args.aside.now c.loop-to.to-index (omega arith)
+      (c.loop-to.invariant.last t) (c.add_source.ensures.last t);
 }
 
 pub returns-clause-added : goal.returns-clause-added

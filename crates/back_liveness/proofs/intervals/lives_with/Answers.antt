@@ -3,9 +3,10 @@ use Rattle.back_liveness.specs.declared.step.Interval.{Interval}
 use Rattle.back_liveness.specs.Points.{HaveLives, HaveParts, HaveCrossings}
 use Rattle.back_liveness.proofs.Around.{there_below}
 use Rattle.back_liveness.proofs.Covering.{lives_cover, count_more, lives_more, parts_more, crossings_more}
-use Rattle.back_liveness.specs.Liveness.{OnlyCrossed}
+use Rattle.back_liveness.specs.Liveness.{OnlyCrossed, AreTight}
 use Rattle.back_liveness.specs.Points.{EndBy}
 use Rattle.back_liveness.proofs.Crossing.{only_more, ends_more}
+use Rattle.back_liveness.proofs.Tight.{tight_more}
 use Rattle.back_liveness.proofs.intervals.lives_with.Goals as goal
 
 pub returns-clause-covers : goal.returns-clause-covers
@@ -40,6 +41,9 @@ loop-register-preserved c =
           subst (λ (ls : List (Option Interval)). HaveParts steps latest (c.loop-register.register + 1) ls c.push-in-loop-register.new.self) (sym c.in_ok-push.ensures.ok)
           (subst (λ (ps : List (List Interval)). HaveParts steps latest (c.loop-register.register + 1) (c.loop-register.intervals ++ found.interval ∷ []) ps) (sym c.in_ok-push-2.ensures.ok)
           (parts_more steps latest c.loop-register.register c.loop-register.intervals found.interval c.loop-register.parts found.parts known.count known.count_parts known.own is.parts));
+      tight =
+          subst (AreTight steps) (sym c.in_ok-push.ensures.ok)
+          (tight_more steps c.loop-register.register c.loop-register.intervals found.interval known.count known.tight is.tight);
       ends =
           subst (EndBy (length steps)) (sym c.in_ok-push.ensures.ok)
           (ends_more (length steps) c.loop-register.register c.loop-register.intervals found.interval known.count known.ends is.ends);

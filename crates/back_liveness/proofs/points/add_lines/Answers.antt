@@ -2,6 +2,8 @@ use Rattle.std.proofs.Common.{◌≡◌, ◌+◌, ℕ, length, Some, arith}
 use Rattle.std.specs.Prelude.{slice_get}
 use borrow.Author.Count.{below_more}
 use Rattle.back_liveness.specs.Liveness.{IsCovered}
+use Rattle.back_liveness.specs.Points.{IsPoint}
+use Rattle.back_liveness.proofs.Tight.{ends_on}
 use Rattle.back_liveness.proofs.points.add_lines.Goals as goal
 
 pub loop-line-preserved : goal.loop-line-preserved
@@ -21,4 +23,5 @@ loop-line-preserved c = record {
         line below e;
   };
   ends = c.add_line.ensures.ends (length c.args.steps.now) (omega arith) c.loop-line.invariant.ends;
+  only = λ v x. ends_on c.args.hulls.now c.loop-line.hulls c.add_line.new.hulls v x (IsPoint c.args.steps.now v x) (c.loop-line.invariant.only v x) (c.add_line.ensures.only v x);
 }
