@@ -1,6 +1,6 @@
 -- No interval is longer than it has to be: the first and the last lines of lives, and from where one comes to lines.
 use Rattle.std.proofs.Common.{◌≡◌, ◌≢◌, ℕ, zero, suc, ◌+◌, ◌<◌, ◌≤◌, Bool, true, false, List, [], ◌∷◌, ◌++◌, length, get_or, set, Option, None, Some, refl, sym, ap, subst, ◌∙◌, arith, inl, inr, eq-eqb, get_or-set_other, get_or-set_same}
-use Rattle.std.specs.Prelude.{◌⊎◌, ◌==◌, slice_get, slice_index, slice_index_or}
+use Rattle.std.specs.Prelude.{◌⊎◌, ◌==◌, slice_get, slice_index}
 use Rattle.std.specs.List.{list_any}
 use Rattle.std.proofs.lemmas.List.{get_or_append_left, get_or_push}
 use Rattle.std.proofs.lemmas.List.Folds.{list_any_at}
@@ -9,7 +9,7 @@ use Rattle.back_liveness.specs.declared.step.Interval.{Interval}
 use Rattle.back_liveness.specs.declared.step.Step.{Step}
 use Rattle.back_liveness.specs.Liveness.{IsLive, by_read, behind, aside, IsEndOf, Goes, IsWanted, alive, behind_write, around, AreStructured, AreTight}
 use Rattle.back_liveness.specs.Ahead.{is_written}
-use Rattle.back_liveness.specs.Heads.{AreHeads, IsSource, AreSources, IsSameOr, IsCounterexample}
+use Rattle.back_liveness.specs.Heads.{IsBetween, AreHeads, IsSource, AreSources, IsSameOr, IsCounterexample}
 use Rattle.back_liveness.specs.Points.{IsPoint, reads, HasEndOr}
 use Rattle.back_liveness.specs.Points as point
 use Rattle.back_liveness.specs.Settled.{is_marked, AreAlive, IsMarkedBy, by_next, by_aside, IsTight}
@@ -137,6 +137,7 @@ pub tight_life :
     → (new.from ≡ old.from) ⊎ (new.from ≡ line) → (new.to ≡ old.to) ⊎ (new.to ≡ slice_index latest line) → IsTight steps v old → IsTight steps v new
 tight_life steps earliest latest v old new line b heads sources low live same from to known x end = by b refl
   where
+    own : IsBetween earliest latest line line
     own = heads.own line low
 
     at_last : IsLive steps v line → IsWanted steps v (slice_index latest line)
@@ -186,4 +187,30 @@ tight_more steps n found i count known tight v x end =
             | inl low ↦ known v x (subst (λ o. IsEndOf o x) (get_or_append_left found (i ∷ []) None v (omega (arith, count, low))) end)
             | inr high ↦ absurd (no_end_there (found ++ i ∷ []) v x (omega (arith, count_more found i n count, high, ne)) end)
           ]
+    ]
+
+-- one more of the registers that a line reads
+pub ends_added :
+    (initial old new : List (Option Interval)) (v x line : ℕ) (read : List ℕ) (at : ℕ) → at < length read
+    → HasEndOr initial old v x ((list_any (λ r. r == v) read ≡ true) × (x ≡ line)) → HasEndOr old new v x ((slice_index read at ≡ v) × (x ≡ line))
+    → HasEndOr initial new v x ((list_any (λ r. r == v) read ≡ true) × (x ≡ line))
+ends_added initial old new v x line read at there known more h =
+    elim (more h) [
+      | inl was ↦ known was
+      | inr a ↦ inr (list_any_at (λ r. r == v) read at 0 there (ap (λ r. r == v) a.0 ∙ eq-eqb v v refl), a.1)
+    ]
+
+-- the points of a line
+pub line_ends :
+    (steps : List Step) (line : ℕ) (s : Step) (old middle new : List (Option Interval)) (v x : ℕ) → slice_get steps line ≡ Some s
+    → HasEndOr old middle v x ((list_any (λ r. r == v) s.reads ≡ true) × (x ≡ line)) → HasEndOr middle new v x ((s.written ≡ Some v) × (x ≡ line + 1))
+    → HasEndOr old new v x (IsPoint steps v x)
+line_ends steps line s old middle new v x there by_reads by_written h =
+    elim (by_written h) [
+      | inl was ↦
+          elim (by_reads was) [
+            | inl w ↦ inl w
+            | inr a ↦ inr (subst (IsPoint steps v) (sym a.1) (reads line s there a.0))
+          ]
+      | inr a ↦ inr (subst (IsPoint steps v) (sym a.1) (point.behind_write line s there a.0))
     ]

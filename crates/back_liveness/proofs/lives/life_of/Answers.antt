@@ -1,11 +1,13 @@
-use Rattle.std.proofs.Common.{refl, ◌≡◌, Bool, true, false, ◌≤◌, arith, ℕ, ◌+◌, List, subst, sym}
-use Rattle.std.specs.Prelude.{slice_index}
+use Rattle.std.proofs.Common.{refl, ◌≡◌, Bool, true, false, ◌≤◌, arith, ℕ, ◌+◌, ◌-◌, List, length, subst, sym}
+use Rattle.std.specs.Prelude.{◌⊎◌, slice_index}
+use Rattle.back_liveness.specs.Settled.{is_marked, Settled, CrossingsTold, AreAlive}
 use Rattle.back_liveness.specs.declared.step.Interval.{Interval}
 use Rattle.back_liveness.specs.Heads.{AreFloors, AreRoofs}
 use Rattle.back_liveness.specs.Points.{AreParts}
 use Rattle.back_liveness.proofs.Closing.{closed_has}
 use Rattle.back_liveness.proofs.Parting.{one_has, one_has_not}
 use Rattle.back_liveness.proofs.Forwards.{all_told}
+use Rattle.back_liveness.proofs.Tight.{point_wanted, tight_life}
 use Rattle.back_liveness.proofs.lives.life_of.Goals as goal
 
 pub returns-clause-ahead : goal.returns-clause-ahead
@@ -81,4 +83,64 @@ returns-clause-parts c =
           is.marked h line l.2 told.1 told.2 before back2 (omega (arith, back, l.3)));
       written = is.written;
       inside = is.within;
+    }
+
+pub returns-then-not-crossed-clause-tight : goal.returns-then-not-crossed-clause-tight
+returns-then-not-crossed-clause-tight c x end = point_wanted c.args.steps.now c.args.register x (c.requires.only x end)
+
+pub loop-life-init : goal.loop-life-init
+loop-life-init c = record {
+  settled = record {
+    reads = λ k s low up e r. absurd (omega (arith, low, up));
+    behind = λ k s low up e f w m. absurd (omega (arith, low, up));
+    aside = λ k t s low far up e g m. absurd (omega (arith, low, far, up));
+    looked = λ k low up m. absurd (omega (arith, low, up));
+  };
+  crossings = λ k low up m x from to crosses. absurd (omega (arith, low, up));
+  only = λ h. absurd (cc h);
+  alive = λ k low up m. absurd (omega (arith, low, up));
+  tight = λ x end. point_wanted c.args.steps.now c.args.register x (c.requires.only x end);
+  ends = c.requires.ends;
+  need = omega arith;
+  from = omega arith;
+  to = omega arith;
+  line = omega arith;
+}
+
+pub loop-life-preserved : goal.loop-life-preserved
+loop-life-preserved c =
+    let steps = c.args.steps.now in
+    let v = c.args.register in
+    let heads = c.args.heads.now in
+    let is = c.loop-life.invariant in
+    let high = c.args.points.to in
+    let line = c.loop-life.line - 1 in
+    let next : c.loop-life.line ≡ line + 1 = omega (arith, c.loop-life-test.true) in
+    let test = c.loop-life-test.true in
+    let low = is.line in
+    let alive = c.look-life.ensures.alive (subst (AreAlive steps v c.loop-life.marks high) next is.alive) in
+    let back : List ℕ → Type 0 = λ (l : List ℕ). (k : ℕ) → slice_index l k ≤ length steps in
+    let within = subst back (sym c.as_slice-in-loop-life-2.ensures.value) c.requires.heads.within in
+    record {
+      settled =
+          subst (λ (l : List ℕ). Settled steps heads.earliest.items l v c.look-life.new.marks high c.look-life.result line) c.as_slice-in-loop-life-2.ensures.value
+          (subst (λ (e : List ℕ). Settled steps e c.as_slice-in-loop-life-2.result.now v c.look-life.new.marks high c.look-life.result line)
+          c.as_slice-in-loop-life.ensures.value c.look-life.ensures.settled);
+      crossings =
+          subst (λ (l : List ℕ). CrossingsTold c.args.barriers.now l v c.look-life.new.marks high c.look-life.result.crossed line)
+          c.as_slice-in-loop-life-2.ensures.value c.look-life.ensures.crossings;
+      only = c.look-life.ensures.only is.only;
+      alive = alive;
+      tight =
+          tight_life steps heads.earliest.items heads.latest.items v c.loop-life.life c.look-life.result line (is_marked c.look-life.new.marks line)
+          c.requires.heads c.requires.sources (omega (arith, c.requires.ends, low, test))
+          (alive line (omega arith) (omega (arith, low, test)))
+          c.look-life.ensures.tight c.look-life.ensures.from_is
+          (subst (λ (l : List ℕ). (c.look-life.result.to ≡ c.loop-life.life.to) ⊎ (c.look-life.result.to ≡ slice_index l line)) c.as_slice-in-loop-life-2.ensures.value c.look-life.ensures.to_is)
+          is.tight;
+      ends = c.look-life.ensures.ends (length steps) is.ends (within line);
+      need = omega (arith, c.look-life.ensures.need, is.need);
+      from = omega (arith, c.look-life.ensures.from, is.from);
+      to = omega (arith, c.look-life.ensures.to, is.to);
+      line = omega (arith, low);
     }

@@ -1,6 +1,7 @@
 -- One line more is marked, and crossings in its loop are told.
 use Rattle.std.proofs.Common.{arith}
 use Rattle.back_liveness.proofs.Marking.{one_more, one_more_told}
+use Rattle.back_liveness.proofs.Tight.{alive_more}
 use Rattle.back_liveness.proofs.lives.look.Goals as goal
 
 pub returns-clause-settled : goal.returns-clause-settled
@@ -24,3 +25,8 @@ returns-clause-crossings c =
     one_more_told c.args.barriers.now c.args.latest.now c.args.register c.args.marks.now c.args.high c.args.line c.is_alive-is_alive.result
     c.args.life.crossed c.with_line.result.crossed (omega arith) c.requires.crossings c.with_line.ensures.known
     c.with_line.ensures.crossed
+
+pub returns-clause-alive : goal.returns-clause-alive
+returns-clause-alive c known =
+    alive_more c.args.steps.now c.args.register c.args.marks.now c.args.high c.args.line c.is_alive-is_alive.result (omega arith) known
+    c.is_alive-is_alive.ensures.only
