@@ -12,3 +12,4 @@ pub mod PlacesOfSpots
 pub mod ProgramPlaces
 pub mod FewerSlots
 pub mod GivenRegisters
+pub mod Wanted

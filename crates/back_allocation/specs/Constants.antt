@@ -26,6 +26,7 @@ pub record AreConstants (lines : List Line) (count parameters names : ℕ) (cons
 pub record AreKept (constants : List (Option ℕ)) (found kept : List (Option Interval)) : Type 0 where
   pub long : length kept ≡ length found
   pub same : (v : ℕ) → constant_in constants v ≡ None → slice_index_or kept v None ≡ slice_index_or found v None
+  pub none : (v w : ℕ) → constant_in constants v ≡ Some w → slice_index_or kept v None ≡ None
 
 pub record AreKeptParts (constants : List (Option ℕ)) (parts kept : List (List Interval)) : Type 0 where
   pub long : length kept ≡ length parts

@@ -5,6 +5,7 @@ pub mod Constants
 pub mod StandingLandings
 pub mod Barriers
 pub mod Wishes
+pub mod Slots
 pub mod Standing
 pub mod Places
 pub mod Allocated

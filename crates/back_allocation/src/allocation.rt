@@ -2,8 +2,10 @@
 
 ghost use Rattle.std.specs.Prelude.{◌≡◌, ◌≤◌, ◌<◌, ◌^◌, ℕ, true, false, length, slice_get, slice_index_or, Some, IfOk};
 ghost use Rattle.mid_lines.specs.declared.line.Line.{Line};
-ghost use Rattle.back_allocation.specs.LineSteps.{line_gives, landings_in};
+ghost use Rattle.back_allocation.specs.LineSteps.{line_gives, landings_in, steps_from};
 ghost use Rattle.back_allocation.specs.Places.{place_in, enters_in, begins_in, ChosenWell};
+ghost use Rattle.back_allocation.specs.Slots.{AreSlotsWanted};
+ghost use Rattle.back_liveness.specs.Liveness.{AreStructured, AreTight};
 
 use crate::barriers::barriers_of;
 use crate::constants::{constants_of, parts_without_constants, without_constants};
@@ -28,7 +30,9 @@ pub struct Chosen {
 }
 
 /// Where the names of registers with these owners stand, by which lines go, of which these are the landings of the records that stand at them; how
-/// many slots they need, no more than there are names; and whether it is clear that none is alive where one of the barriers crosses it.
+/// many slots they need, no more than there are names; and whether it is clear that none is alive where one of the barriers crosses it. A name is in a
+/// slot only where it has to outlast a call or a cut, where it is passed there, or where all value registers are had by others when its interval
+/// begins; and no interval is longer than it has to be.
 pub fn allocate(
     alloc: Global,
     lines: &LineList,
@@ -44,6 +48,10 @@ pub fn allocate(
         (enters_in a.parts) (begins_in a.lives) a.allocation.slots overwritten.now (length owners.now) a.is_clear) }
     ensures few { IfOk result (λ a. a.allocation.slots ≤ length owners.now) }
     ensures long { IfOk result (λ a. length a.constants.items ≡ length a.allocation.spots.items) }
+    ensures slots { IfOk result (λ a. AreSlotsWanted lines.now (landings_in landings.now) parameters owners.now a.constants.items a.lives a.parts
+        a.allocation.spots.items) }
+    ensures tight { AreStructured (steps_from (landings_in landings.now) 0 lines.now)
+        → IfOk result (λ a. AreTight (steps_from (landings_in landings.now) 0 lines.now) a.lives) }
 {
     let names = owners.len();
     let steps = steps_of(alloc, lines, landings)?;

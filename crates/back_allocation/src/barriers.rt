@@ -1,11 +1,12 @@
 // Lines at which registers that are alive have to outlast calls: those behind calls, and landings.
 
-ghost use Rattle.std.specs.Prelude.{◌≡◌, ◌≢◌, ◌≤◌, ◌<◌, ◌+◌, ◌^◌, ◌==◌, ℕ, true, false, length, slice_get, slice_index_or, Some, IfOk};
+ghost use Rattle.std.specs.Prelude.{◌≡◌, ◌≢◌, ◌≤◌, ◌<◌, ◌+◌, ◌^◌, ◌==◌, ◌⊎◌, ℕ, true, false, length, slice_get, slice_index_or, Some, IfOk};
 ghost use Rattle.std.specs.List.{list_any};
 ghost use Rattle.back_liveness.specs.Barriers.{Crosses, barrier_at};
 ghost use Rattle.mid_lines.specs.declared.line.Line.{Line};
 ghost use Rattle.back_allocation.specs.LineSteps.{landings_in};
 ghost use Rattle.back_allocation.specs.Barriers.{call_result, may_cut, AreBarriers};
+ghost use Rattle.back_allocation.specs.Slots.{IsPlain, ArePlain, OnlyOutlasting};
 
 use crate::steps::LandingsList;
 use back_liveness::Barrier;
@@ -21,7 +22,9 @@ pub fn barriers_of(
     landings: &LandingsList,
 ) -> Result<Vec<Barrier>, NoMemory>
     requires { length lines.now < 2 ^ 62 }
-    ensures { IfOk result (λ barriers. AreBarriers lines.now (landings_in landings.now) (length lines.now) barriers.items) }
+    ensures barriers { IfOk result (λ barriers. AreBarriers lines.now (landings_in landings.now) (length lines.now) barriers.items) }
+    ensures only { IfOk result (λ barriers. OnlyOutlasting lines.now (landings_in landings.now) barriers.items) }
+    ensures long { IfOk result (λ barriers. length barriers.items ≡ length lines.now + 1) }
 {
     let mut barriers = vec![in alloc; Barrier::Open; lines.len() + 1]?;
     close_lines(barriers.as_mut_slice(), lines, landings);
@@ -30,7 +33,10 @@ pub fn barriers_of(
 
 fn close_lines(barriers: &mut [Barrier], lines: &LineList, landings: &LandingsList)
     requires { length lines.now < 2 ^ 62 }
-    ensures { AreBarriers lines.now (landings_in landings.now) (length lines.now) barriers.new }
+    ensures barriers { AreBarriers lines.now (landings_in landings.now) (length lines.now) barriers.new }
+    ensures plain { ArePlain barriers.old → ArePlain barriers.new }
+    ensures only { ArePlain barriers.old → OnlyOutlasting lines.now (landings_in landings.now) barriers.old
+        → OnlyOutlasting lines.now (landings_in landings.now) barriers.new }
 {
     for line in 0..lines.len() {
         close_line(barriers, lines, landings, line);
@@ -45,6 +51,9 @@ fn close_line(barriers: &mut [Barrier], lines: &LineList, landings: &LandingsLis
         → Crosses (barrier_at barriers.new (line + 1)) v }
     ensures landed { (x : Line) (t v : ℕ) → slice_get lines.now line ≡ Some x → may_cut x ≡ true
         → list_any (λ a. a == t) (landings_in landings.now line) ≡ true → Crosses (barrier_at barriers.new t) v }
+    ensures plain { ArePlain barriers.old → ArePlain barriers.new }
+    ensures only { ArePlain barriers.old → OnlyOutlasting lines.now (landings_in landings.now) barriers.old
+        → OnlyOutlasting lines.now (landings_in landings.now) barriers.new }
 {
     match lines.get(line) {
         Some(x) => {
@@ -79,6 +88,9 @@ fn cuts(line: &Line) -> bool
 fn close_result(barriers: &mut [Barrier], line: usize, call: Option<Register>)
     ensures kept { (x v : ℕ) → Crosses (barrier_at barriers.old x) v → Crosses (barrier_at barriers.new x) v }
     ensures call { (to v : ℕ) → call ≡ Some to → v ≢ to → Crosses (barrier_at barriers.new line) v }
+    ensures plain { ArePlain barriers.old → ArePlain barriers.new }
+    ensures only { ArePlain barriers.old → (x v : ℕ) → Crosses (barrier_at barriers.new x) v
+        → Crosses (barrier_at barriers.old x) v ⊎ ((x ≡ line) × ((to : ℕ) × (call ≡ Some to) × (v ≢ to))) }
 {
     match call {
         Some(to) => close_but(barriers, line, to),
@@ -89,6 +101,9 @@ fn close_result(barriers: &mut [Barrier], line: usize, call: Option<Register>)
 fn close_but(barriers: &mut [Barrier], line: usize, to: Register)
     ensures kept { (x v : ℕ) → Crosses (barrier_at barriers.old x) v → Crosses (barrier_at barriers.new x) v }
     ensures closed { (v : ℕ) → v ≢ to → Crosses (barrier_at barriers.new line) v }
+    ensures plain { ArePlain barriers.old → ArePlain barriers.new }
+    ensures only { ArePlain barriers.old → (x v : ℕ) → Crosses (barrier_at barriers.new x) v
+        → Crosses (barrier_at barriers.old x) v ⊎ ((x ≡ line) × (v ≢ to)) }
 {
     if line < barriers.len() {
         let closed = all_but(barriers[line], to);
@@ -99,6 +114,8 @@ fn close_but(barriers: &mut [Barrier], line: usize, to: Register)
 fn all_but(barrier: Barrier, to: Register) -> Barrier
     ensures kept { (v : ℕ) → Crosses barrier v → Crosses result v }
     ensures closed { (v : ℕ) → v ≢ to → Crosses result v }
+    ensures plain { IsPlain barrier → IsPlain result }
+    ensures only { IsPlain barrier → (v : ℕ) → Crosses result v → Crosses barrier v ⊎ (v ≢ to) }
 {
     match barrier {
         Barrier::Open => Barrier::ClosedBut(to),
@@ -118,6 +135,9 @@ fn close_landings(barriers: &mut [Barrier], landings: &LandingsList, line: usize
     ensures kept { (x v : ℕ) → Crosses (barrier_at barriers.old x) v → Crosses (barrier_at barriers.new x) v }
     ensures landed { (t v : ℕ) → may_cut ≡ true → list_any (λ a. a == t) (landings_in landings.now line) ≡ true
         → Crosses (barrier_at barriers.new t) v }
+    ensures plain { ArePlain barriers.old → ArePlain barriers.new }
+    ensures only { (x v : ℕ) → Crosses (barrier_at barriers.new x) v
+        → Crosses (barrier_at barriers.old x) v ⊎ ((may_cut ≡ true) × (list_any (λ a. a == x) (landings_in landings.now line) ≡ true)) }
 {
     if may_cut {
         match landings.get(line) {
@@ -130,6 +150,9 @@ fn close_landings(barriers: &mut [Barrier], landings: &LandingsList, line: usize
 fn close_all(barriers: &mut [Barrier], landings: &[usize])
     ensures kept { (x v : ℕ) → Crosses (barrier_at barriers.old x) v → Crosses (barrier_at barriers.new x) v }
     ensures landed { (t v : ℕ) → list_any (λ a. a == t) landings.now ≡ true → Crosses (barrier_at barriers.new t) v }
+    ensures plain { ArePlain barriers.old → ArePlain barriers.new }
+    ensures only { (x v : ℕ) → Crosses (barrier_at barriers.new x) v
+        → Crosses (barrier_at barriers.old x) v ⊎ (list_any (λ a. a == x) landings.now ≡ true) }
 {
     for landing in landings {
         close_at(barriers, *landing);
@@ -139,6 +162,8 @@ fn close_all(barriers: &mut [Barrier], landings: &[usize])
 fn close_at(barriers: &mut [Barrier], line: usize)
     ensures kept { (x v : ℕ) → Crosses (barrier_at barriers.old x) v → Crosses (barrier_at barriers.new x) v }
     ensures closed { (v : ℕ) → Crosses (barrier_at barriers.new line) v }
+    ensures plain { ArePlain barriers.old → ArePlain barriers.new }
+    ensures only { (x v : ℕ) → Crosses (barrier_at barriers.new x) v → Crosses (barrier_at barriers.old x) v ⊎ (x ≡ line) }
 {
     if line < barriers.len() {
         barriers[line] = Barrier::Closed;

@@ -1,9 +1,11 @@
 // What registers ask of the places where they stand.
 
-ghost use Rattle.std.specs.Prelude.{◌≡◌, ◌<◌, true, length, IfOk};
+ghost use Rattle.std.specs.Prelude.{◌≡◌, ◌≤◌, ◌<◌, true, length, Some, IfOk};
 ghost use Rattle.back_liveness.specs.Liveness.{IsWithin};
-ghost use Rattle.back_scan.specs.declared.spot.Wish.TheVariants.{InSlot};
+ghost use Rattle.back_scan.specs.declared.spot.Wish.TheVariants.{Only, InSlot};
+ghost use Rattle.back_liveness.specs.declared.step.Interval.{Interval};
 ghost use Rattle.back_allocation.specs.Wishes.{IsOwnWish, WishesHold};
+ghost use Rattle.back_allocation.specs.Slots.{IsAskedFor, AreAsked, owner_at};
 
 use back_liveness::{CrossedList, Interval, IntervalList};
 use back_scan::{Wish, WishList};
@@ -23,6 +25,7 @@ pub fn wishes_of(
     requires { length crossed.now ≡ length intervals.now }
     ensures count { IfOk result (λ wishes. length wishes ≡ length intervals.now) }
     ensures hold { IfOk result (λ wishes. WishesHold intervals.now crossed.now parameters (length intervals.now) wishes) }
+    ensures asked { IfOk result (λ wishes. AreAsked intervals.now crossed.now parameters owners.now (length intervals.now) wishes) }
 {
     let mut wishes = WishList::new(alloc);
     let all = intervals.as_slice();
@@ -44,6 +47,7 @@ fn wish_of(
 ) -> Wish
     ensures crossed { is_crossed ≡ true → result ≡ InSlot }
     ensures passed { register < parameters → IsWithin interval 0 → IsOwnWish register result }
+    ensures asked { (i : Interval) → interval ≡ Some i → IsAskedFor parameters register owner i is_crossed result }
 {
     match interval {
         None => Wish::InSlot,
@@ -62,7 +66,9 @@ fn wish_of(
 }
 
 // The register that a name is one of; itself behind the end.
-fn owner_of(owners: &[usize], name: usize) -> usize {
+fn owner_of(owners: &[usize], name: usize) -> usize
+    ensures { result ≡ owner_at owners.now name }
+{
     if name < owners.len() {
         owners[name]
     } else {
@@ -72,7 +78,9 @@ fn owner_of(owners: &[usize], name: usize) -> usize {
 
 // A parameter stays in the register in which it is passed.
 fn own_wish(parameter: Register) -> Wish
-    ensures { IsOwnWish parameter result }
+    ensures own { IsOwnWish parameter result }
+    ensures register { parameter < 14 → result ≡ Only parameter }
+    ensures slot { 14 ≤ parameter → result ≡ InSlot }
 {
     if parameter < 14 {
         Wish::Only(parameter)
