@@ -1,5 +1,5 @@
 -- Names stand in slots for a reason.
-use Rattle.std.proofs.Common.{◌≡◌, ◌≢◌, ℕ, zero, suc, ◌+◌, ◌<◌, ◌≤◌, Bool, true, false, List, [], ◌∷◌, length, get_or, Option, None, Some, refl, sym, ap, subst, ◌∙◌, arith, inl, inr, eq-eqb}
+use Rattle.std.proofs.Common.{◌≡◌, ◌≢◌, ℕ, zero, suc, ◌+◌, ◌<◌, ◌≤◌, Bool, true, false, List, [], ◌∷◌, length, get_or, Option, None, Some, refl, sym, subst, ◌∙◌, arith, inl, inr, eq-eqb}
 use Rattle.std.specs.Prelude.{◌⊎◌, ◌==◌, slice_get, slice_index}
 use Rattle.std.specs.List.{list_any}
 use Rattle.std.proofs.lemmas.List.Folds.{list_any_at}
@@ -10,14 +10,14 @@ use Rattle.back_liveness.specs.Barriers.{Crosses, barrier_at}
 use Rattle.back_liveness.specs.Liveness.{IsWithin, IsCovered, IsCrossedWithin, OnlyCrossed}
 use Rattle.back_liveness.specs.Points.{EndsBy, EndBy}
 use Rattle.back_scan.specs.declared.spot.Spot.{Spot}
-use Rattle.back_scan.specs.declared.spot.Spot.TheVariants.{Slot}
 use Rattle.back_scan.specs.declared.spot.Wish.{Wish}
 use Rattle.back_scan.specs.declared.spot.Wish.TheVariants.{Any, Only, InSlot}
-use Rattle.back_scan.specs.Spots.{spot_of, interval_of, HasHolder, NoneIsLeft, StandWell}
+use Rattle.back_scan.specs.Spots.{interval_of, HasHolder, NoneIsLeft, StandWell}
 use Rattle.back_allocation.specs.Barriers.{call_result, may_cut}
 use Rattle.back_allocation.specs.Constants.{constant_in, AreKept}
 use Rattle.back_allocation.specs.Slots.{HasToOutlast, a_call, a_cut, IsSlotWanted, outlasting, passed, full, AreSlotsWanted, OnlyOutlasting, IsAskedFor, for_crossed, for_passed, for_passed_in_none, for_other, owner_at, AreAsked}
 use Rattle.back_allocation.specs.Wishes.{wish_at}
+use Rattle.back_allocation.proofs.Naming.{below_or_not}
 
 -- what is crossed with a line more has to outlast something, if all before did
 pub outlasting_more :
@@ -83,10 +83,20 @@ module _
       by :
           (w : Wish) → wish_at wishes v ≡ w → IsAskedFor parameters v (owner_at owners v) i (get_or crossed v false) w
           → IsSlotWanted lines landings parameters owners found parts spots v i
-      by InSlot e (for_crossed told) =
+      by w e (for_crossed told) =
           let c = subst (λ o. IsCrossedWithin barriers o v) there (only v told) in
           outlasting c.line c.within (barred c.line v (omega (arith, c.within.1, end, long)) c.crosses)
-      by (Only q) e (for_passed q from of low) =
+      by w e (for_passed q from of low) =
           passed q from of (λ l. held_too 0 q (subst (λ n. HasHolder kept parts spots n q) from (left (Only q) e q (low, refl))))
-      by InSlot e (for_passed_in_none q from of high) = passed q from of (λ l. absurd (omega (arith, l, high)))
-      by Any e for_other = full (λ r low. held_too i.from r (left Any e r low))
+      by w e (for_passed_in_none q from of high) = passed q from of (λ l. absurd (omega (arith, l, high)))
+      by w e for_other = full (λ r low. held_too i.from r (left Any e r low))
+
+-- a parameter asks for its own register or for a slot
+pub asked_own :
+    (parameters v owner q : ℕ) (i : Interval) (crossed : Bool) (w : Wish) → i.from ≡ 0 → (q < parameters) × ((q ≡ v) ⊎ (q ≡ owner))
+    → (q < 14 → w ≡ Only q) → (14 ≤ q → w ≡ InSlot) → IsAskedFor parameters v owner i crossed w
+asked_own parameters v owner q i crossed w from of register slot =
+    elim (below_or_not q 14) [
+      | inl low ↦ subst (IsAskedFor parameters v owner i crossed) (sym (register low)) (for_passed q from of low)
+      | inr high ↦ subst (IsAskedFor parameters v owner i crossed) (sym (slot high)) (for_passed_in_none q from of high)
+    ]

@@ -1,6 +1,7 @@
-use Rattle.std.proofs.Common.{ℕ, List, Option, length, ap, subst, ◌∙◌}
+use Rattle.std.proofs.Common.{ℕ, List, Option, length, ap, sym, subst, ◌∙◌}
 use Rattle.back_liveness.specs.declared.barrier.Barrier.{Barrier}
-use Rattle.back_liveness.specs.Liveness.{OnlyCrossed, Covers}
+use Rattle.back_liveness.specs.declared.step.Step.{Step}
+use Rattle.back_liveness.specs.Liveness.{OnlyCrossed, AreStructured, AreTight, Covers}
 use Rattle.back_liveness.specs.Points.{EndBy}
 use Rattle.back_allocation.specs.Constants.{AreKept, AreKeptParts}
 use Rattle.back_allocation.specs.LineSteps.{landings_in, steps_from}
@@ -53,3 +54,9 @@ returns-clause-slots c =
     (subst (λ (n : ℕ). EndBy n found) (ap length c.in_ok-steps.ensures ∙ step_count landings 0 c.args.lines.now) c.in_ok-found.ensures.ends)
     (subst (λ (b : List Barrier). OnlyCrossed b found c.in_ok-found.found.crossed) c.as_slice.ensures.value c.in_ok-found.ensures.only)
     c.in_ok-barriers.ensures.only kept c.in_ok-wishes.ensures.asked c.in_ok-allocation.ensures
+
+pub returns-clause-tight : goal.returns-clause-tight
+returns-clause-tight c structured =
+    let is = c.in_ok-steps.ensures in
+    subst (λ (s : List Step). AreTight s c.in_ok-found.found.intervals) is
+    (c.in_ok-found.ensures.tight (subst (λ (s : List Step). AreStructured s) (sym is) structured))

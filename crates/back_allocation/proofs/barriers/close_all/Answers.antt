@@ -1,4 +1,4 @@
-use Rattle.std.proofs.Common.{ℕ, arith, subst}
+use Rattle.std.proofs.Common.{arith, subst}
 use Rattle.std.specs.Prelude.{slice_index}
 use borrow.Author.Count.{below_more}
 use Rattle.back_liveness.proofs.Lists.{any_index}
