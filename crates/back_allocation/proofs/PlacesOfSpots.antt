@@ -12,14 +12,16 @@ use Rattle.back_trivial.specs.OwnSlots.{no_target}
 use Rattle.back_scan.specs.declared.spot.Spot.{Spot}
 use Rattle.back_liveness.specs.declared.barrier.Barrier.{Barrier}
 use Rattle.back_liveness.specs.declared.step.Interval.{Interval}
+use Rattle.back_liveness.specs.Liveness.{AreStructured, AreTight}
 use Rattle.back_allocation.specs.declared.placing.RegisterPlaces.{RegisterPlaces}
-use Rattle.back_allocation.specs.LineSteps.{landings_in}
+use Rattle.back_allocation.specs.LineSteps.{landings_in, steps_from}
 use Rattle.back_allocation.specs.StandingLandings.{line_landings}
 use Rattle.back_allocation.specs.Names.{AreNamings, NamesStand}
 use Rattle.back_allocation.specs.Standing.{AllStand}
 use Rattle.back_allocation.specs.Allocated.{parameter_places}
+use Rattle.back_allocation.specs.Slots.{AreSlotsWanted}
 use Rattle.back_allocation.specs.Places.{place_of, place_chosen, place_in, place_at, enters_in, ChosenWell}
-use Rattle.back_allocation.specs.RegistersPlaced.{StandInPlaces}
+use Rattle.back_allocation.specs.RegistersPlaced.{StandInPlaces, StandInSlotsForReasons}
 use Rattle.back_allocation.proofs.Naming.{below_or_not}
 use Rattle.back_allocation.proofs.Choosing.{beyond_none}
 
@@ -123,3 +125,25 @@ pub parameter_listed :
     → list ≡ parameter_places spot enters 0 v → new ≡ parameter_places spot enters 0 (v + 1)
 parameter_listed spot enters v list new place e is h =
     e ∙ ap (λ p. list ++ p ∷ []) is ∙ ap (λ k. k ++ (if enters v then spot v else no_target) ∷ []) h ∙ sym (parameter_more spot enters 0 v v (omega arith))
+
+-- and in slots for the reasons for which they were put there
+pub for_reasons :
+    (p : LineProcedure) (a : RegisterPlaces) (lines : List Line) (owners : List ℕ) (table : List (List ℕ)) (constants : List (Option ℕ))
+    (lives : List (Option Interval)) (parts : List (List Interval)) (spots : List (Option Spot)) → a.lines ≡ lines → table ≡ line_landings 0 [] p.lines
+    → ((v : ℕ) → place_at a.places v ≡ place_in constants spots v)
+    → AreSlotsWanted lines (landings_in table) p.parameters owners constants lives parts spots
+    → (AreStructured (steps_from (landings_in table) 0 lines) → AreTight (steps_from (landings_in table) 0 lines) lives) → StandInSlotsForReasons p a
+for_reasons p a lines owners table constants lives parts spots same told placed wanted tight = record {
+  owners = owners;
+  constants = constants;
+  lives = lives;
+  parts = parts;
+  spots = spots;
+  placed = placed;
+  wanted =
+      subst (λ (t : List (List ℕ)). AreSlotsWanted a.lines (landings_in t) p.parameters owners constants lives parts spots) told
+      (subst (λ (ls : List Line). AreSlotsWanted ls (landings_in table) p.parameters owners constants lives parts spots) (sym same) wanted);
+  tight =
+      subst (λ (t : List (List ℕ)). AreStructured (steps_from (landings_in t) 0 a.lines) → AreTight (steps_from (landings_in t) 0 a.lines) lives) told
+      (subst (λ (ls : List Line). AreStructured (steps_from (landings_in table) 0 ls) → AreTight (steps_from (landings_in table) 0 ls) lives) (sym same) tight);
+}

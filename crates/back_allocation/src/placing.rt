@@ -13,7 +13,7 @@ ghost use Rattle.back_allocation.specs.Names.{AreNamings, IsPassedIn, NamesStand
 ghost use Rattle.back_allocation.specs.NamesFound.{owner_in, AreGrouped, AreOverwritten};
 ghost use Rattle.back_allocation.specs.Allocated.{parameter_places};
 ghost use Rattle.back_allocation.specs.Places.{place_of, place_chosen, place_in, place_at, enters_in, begins_in, ChosenWell};
-ghost use Rattle.back_allocation.specs.RegistersPlaced.{StandInPlaces};
+ghost use Rattle.back_allocation.specs.RegistersPlaced.{StandInPlaces, StandInSlotsForReasons};
 ghost use Rattle.back_liveness.specs.Liveness.{have_line};
 
 use crate::allocation::{Chosen, allocate};
@@ -42,8 +42,8 @@ pub struct RegisterPlaces {
     pub slots: u32,
 }
 
-/// Where the registers of a procedure stand, with no more slots than there are registers; none where its frame has no word for each slot and one for
-/// the return address, so it has no more words than there are registers.
+/// Where the registers of a procedure stand, with no more slots than there are registers, and names in slots for a reason; none where its frame has no
+/// word for each slot and one for the return address, so it has no more words than there are registers.
 pub fn place_registers(
     alloc: Global,
     procedure: &LineProcedure,
@@ -51,8 +51,9 @@ pub fn place_registers(
     requires registers { (line to : ℕ) (x : Line) → slice_get procedure.now.lines line ≡ Some x → line_gives x ≡ Some to → to < procedure.now.registers }
     requires read { (line v : ℕ) (x : Line) → slice_get procedure.now.lines line ≡ Some x → list_any (λ r. r == v) (line_reads x) ≡ true → v < procedure.now.registers }
     requires parameters { procedure.now.parameters ≤ procedure.now.registers }
-    ensures { IfOk result (λ found. MatchOption found (procedure.now.frame ≤ procedure.now.registers)
+    ensures stand { IfOk result (λ found. MatchOption found (procedure.now.frame ≤ procedure.now.registers)
         (λ a. StandInPlaces procedure.now a × (a.slots < procedure.now.frame) × (a.slots ≤ procedure.now.registers))) }
+    ensures reasons { IfOk result (λ found. IfSome found (StandInSlotsForReasons procedure.now)) }
 {
     if 4_611_686_018_427_387_904 <= procedure.lines.len() {
         return Err(NoMemory);
@@ -77,7 +78,8 @@ fn with_names(
     requires read { (line v : ℕ) (x : Line) → slice_get procedure.now.lines line ≡ Some x → list_any (λ r. r == v) (line_reads x) ≡ true → v < procedure.now.registers }
     requires parameters { procedure.now.parameters ≤ procedure.now.registers }
     requires landings { landings.now ≡ line_landings 0 [] procedure.now.lines }
-    ensures { IfOk result (λ found. IfSome found (λ a. StandInPlaces procedure.now a × (a.slots < procedure.now.frame) × (a.slots ≤ procedure.now.registers))) }
+    ensures stand { IfOk result (λ found. IfSome found (λ a. StandInPlaces procedure.now a × (a.slots < procedure.now.frame) × (a.slots ≤ procedure.now.registers))) }
+    ensures reasons { IfOk result (λ found. IfSome found (StandInSlotsForReasons procedure.now)) }
 {
     if !are_grouped(names, procedure.registers) {
         return Ok(None);
@@ -115,8 +117,9 @@ fn with_own_names(
     requires read { (line v : ℕ) (x : Line) → slice_get procedure.now.lines line ≡ Some x → list_any (λ r. r == v) (line_reads x) ≡ true → v < procedure.now.registers }
     requires parameters { procedure.now.parameters ≤ procedure.now.registers }
     requires landings { landings.now ≡ line_landings 0 [] procedure.now.lines }
-    ensures { IfOk result (λ found. MatchOption found (procedure.now.frame ≤ procedure.now.registers)
+    ensures stand { IfOk result (λ found. MatchOption found (procedure.now.frame ≤ procedure.now.registers)
         (λ a. StandInPlaces procedure.now a × (a.slots < procedure.now.frame) × (a.slots ≤ procedure.now.registers))) }
+    ensures reasons { IfOk result (λ found. IfSome found (StandInSlotsForReasons procedure.now)) }
 {
     let names = own_names(alloc, procedure.registers)?;
     let lines = named_lines(alloc, &procedure.lines, &names, procedure.registers)?;

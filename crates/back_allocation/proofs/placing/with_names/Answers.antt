@@ -5,7 +5,7 @@ use Rattle.back_allocation.specs.NamesFound.{owner_in}
 use Rattle.back_allocation.specs.Places.{place_in, ChosenWell, enters_in, begins_in}
 use Rattle.back_allocation.specs.LineSteps.{landings_in}
 use Rattle.back_allocation.proofs.Naming.{given_low, names_clear}
-use Rattle.back_allocation.proofs.PlacesOfSpots.{stand_in_places}
+use Rattle.back_allocation.proofs.PlacesOfSpots.{stand_in_places, for_reasons}
 use Rattle.back_allocation.proofs.placing.with_names.Goals as goal
 
 pub overwritten_of-requires : goal.overwritten_of-requires
@@ -17,8 +17,8 @@ allocate-requires-clause-registers c line to y h e =
     subst (λ (os : List ℕ). to < length os) (sym c.as_slice-owners.ensures.value)
     (given_low (owner_in owners) (length owners) c.args.procedure.now.lines c.in_ok-lines.lines c.in_ok-lines.ensures line to y h e)
 
-pub returns : goal.returns
-returns c =
+pub returns-clause-stand : goal.returns-clause-stand
+returns-clause-stand c =
     let owners = c.args.names.now.owners.items in
     let p = c.args.procedure.now in
     let chosen = c.in_ok-chosen.chosen in
@@ -45,3 +45,10 @@ returns c =
       (let same = placed.slots in omega (arith, same)),
       (let same = placed.slots in omega (arith, same)),
     )
+
+pub returns-clause-reasons : goal.returns-clause-reasons
+returns-clause-reasons c =
+    let chosen = c.in_ok-chosen.chosen in
+    for_reasons c.args.procedure.now c.in_ok-placed.placed c.in_ok-lines.lines c.as_slice-owners.result.now c.args.landings.now chosen.constants.items chosen.lives
+    chosen.parts chosen.allocation.spots.items c.in_ok-placed.ensures.lines c.requires.landings c.in_ok-placed.ensures.places c.in_ok-chosen.ensures.slots
+    c.in_ok-chosen.ensures.tight

@@ -5,7 +5,7 @@ use Rattle.std.specs.Prelude.{slice_get}
 use Rattle.mid_lines.specs.declared.line.Line.{Line}
 use Rattle.back_allocation.specs.LineSteps.{line_gives, landings_in}
 use Rattle.back_allocation.proofs.Naming.{given_low, names_own}
-use Rattle.back_allocation.proofs.PlacesOfSpots.{stand_in_places}
+use Rattle.back_allocation.proofs.PlacesOfSpots.{stand_in_places, for_reasons}
 use Rattle.back_allocation.proofs.placing.with_own_names.Goals as goal
 
 pub allocate-requires-clause-registers : goal.allocate-requires-clause-registers
@@ -21,8 +21,8 @@ allocate-requires-clause-parameters c =
     let few = c.requires.parameters in
     omega (arith, same, only, few)
 
-pub returns : goal.returns
-returns c =
+pub returns-clause-stand : goal.returns-clause-stand
+returns-clause-stand c =
     let owners = c.in_ok-names.names.owners.items in
     let p = c.args.procedure.now in
     let chosen = c.in_ok-chosen.chosen in
@@ -42,3 +42,10 @@ returns c =
       (let same = placed.slots in omega (arith, same)),
       (let same = placed.slots in let slots = c.in_ok-chosen.ensures.few in let long = ap (λ (os : List ℕ). length os) c.as_slice.ensures.value in omega (arith, same, slots, only, long)),
     )
+
+pub returns-clause-reasons : goal.returns-clause-reasons
+returns-clause-reasons c =
+    let chosen = c.in_ok-chosen.chosen in
+    for_reasons c.args.procedure.now c.in_ok-placed.placed c.in_ok-lines.lines c.as_slice.result.now c.args.landings.now chosen.constants.items chosen.lives
+    chosen.parts chosen.allocation.spots.items c.in_ok-placed.ensures.lines c.requires.landings c.in_ok-placed.ensures.places c.in_ok-chosen.ensures.slots
+    c.in_ok-chosen.ensures.tight
