@@ -9,6 +9,7 @@ use Rattle.lang_derived.specs.Asked.{list_items}
 use Rattle.lang_derived.specs.Derived.{unfit}
 use Rattle.front_profile.specs.declared.parameters.Parameters.{Parameters}
 use Rattle.front_profile.specs.declared.tables.Tables.{Tables}
+use Rattle.front_profile.specs.declared.elaboration.DefinedAs.{DefinedAs}
 use Rattle.front_profile.specs.declared.elaboration.Elaboration.{Elaboration}
 use Rattle.front_profile.specs.declared.elaboration.ElaboratedPart.{ElaboratedPart}
 use Rattle.lang_meaning.specs.declared.program.GenericRow.{GenericRow}
@@ -90,20 +91,20 @@ starts_defdynamic s a p [] = tt
 starts_defdynamic s a p (d ∷ []) = tt
 starts_defdynamic s a p (d ∷ x ∷ e ∷ ds) = tt
 
-starts_defun_with : (s : Tables) (a : StaticContext) (n : Name) (d l : Item) (fs : List Item) (ps : Option Parameters) → a.spot.top ≡ true → Starts s a.spot.top (defun_with a s n d l fs ps)
-starts_defun_with s a n d l fs None e = tt
-starts_defun_with s a n d l fs (Some ps) e = starts_top s a.spot.top _ _ _ _ _ (grows_name a.spot.sited d s) (none_name a.spot.sited d s) (inl tt) e
+starts_defun_with : (s : Tables) (k : DefinedAs) (a : StaticContext) (n : Name) (d l : Item) (fs : List Item) (ps : Option Parameters) → a.spot.top ≡ true → Starts s a.spot.top (defun_with k a s n d l fs ps)
+starts_defun_with s k a n d l fs None e = tt
+starts_defun_with s k a n d l fs (Some ps) e = starts_top s a.spot.top _ _ _ _ _ (grows_name a.spot.sited d s) (none_name a.spot.sited d s) (inl tt) e
 
-starts_defun_as : (s : Tables) (kept : Bool) (a : StaticContext) (p : Place) (d l : Item) (fs : List Item) (n : Option Name) → Starts s a.spot.top (defun_as kept a s p d l fs n)
-starts_defun_as s kept a p d l fs None = tt
-starts_defun_as s kept a p d l fs (Some n) =
+starts_defun_as : (s : Tables) (k : DefinedAs) (kept : Bool) (a : StaticContext) (p : Place) (d l : Item) (fs : List Item) (n : Option Name) → Starts s a.spot.top (defun_as k kept a s p d l fs n)
+starts_defun_as s k kept a p d l fs None = tt
+starts_defun_as s k kept a p d l fs (Some n) =
     starts_defining s p a.spot.top (is_taken a.spot.sited s n) (is_reserved kept a s n) _
-    (λ e taken reserved. starts_within s 1 a p _ (starts_defun_with s a n d l fs (parameters_in s.words l) e))
+    (λ e taken reserved. starts_within s 1 a p _ (starts_defun_with s k a n d l fs (parameters_in s.words l) e))
 
-pub starts_defun : (s : Tables) (kept : Bool) (a : StaticContext) (p : Place) (ds : List Item) → Starts s a.spot.top (defun_row kept a s p ds)
-starts_defun s kept a p [] = tt
-starts_defun s kept a p (d ∷ []) = tt
-starts_defun s kept a p (d ∷ l ∷ fs) = starts_defun_as s kept a p d l fs (named (symbol_of d))
+pub starts_defun : (s : Tables) (k : DefinedAs) (kept : Bool) (a : StaticContext) (p : Place) (ds : List Item) → Starts s a.spot.top (defun_row k kept a s p ds)
+starts_defun s k kept a p [] = tt
+starts_defun s k kept a p (d ∷ []) = tt
+starts_defun s k kept a p (d ∷ l ∷ fs) = starts_defun_as s k kept a p d l fs (named (symbol_of d))
 
 -- classes and generic functions
 

@@ -11,6 +11,7 @@ ghost use Rattle.front_profile.specs.declared.tables.Tables.{Tables};
 ghost use Rattle.front_profile.specs.Nodes.{StaticContext, Part, Verdict, stands, NodeStays};
 ghost use Rattle.front_profile.specs.Elaborations.{made_form, finished};
 ghost use Rattle.front_profile.specs.Rows.{node, plain_node};
+ghost use Rattle.front_profile.specs.Exact.{IsExact, OneExpansion};
 ghost use Rattle.front_profile.specs.Judged.{Elaborates};
 ghost use Rattle.front_profile.specs.Sound.{weight, SoundNode};
 ghost use Rattle.front_profile.specs.Walks.{PartTaken, PartStops, Through, PartsStop, WholeComes, WholeStops};
@@ -18,10 +19,13 @@ ghost use Rattle.front_profile.specs.Walks.{PartTaken, PartStops, Through, Parts
 use lang_derived::laws::law_one_step;
 
 /// A form has at most one verdict where it stands: one core form with one numbering, or one first
-/// offence.
+/// offence. So it is where no macro applies; and where calls of macros have one expansion, of verdicts that are
+/// not given for want of words or of instructions of an expander.
 pub fn law_one_verdict()
-    ensures { (names : List (List ℕ)) (a : StaticContext) (s : Tables) (d : Item) (v w : Verdict) → IsTable names →
+    ensures without { (names : List (List ℕ)) (a : StaticContext) (s : Tables) (d : Item) (v w : Verdict) → IsTable names → s.before.macros ≡ 0 →
         Elaborates names (node names a s d) v → Elaborates names (node names a s d) w → v ≡ w }
+    ensures exact { (names : List (List ℕ)) (a : StaticContext) (s : Tables) (d : Item) (v w : Verdict) → IsTable names → OneExpansion names →
+        IsExact v → IsExact w → Elaborates names (node names a s d) v → Elaborates names (node names a s d) w → v ≡ w }
 {
     law_one_step();
 }
