@@ -48,3 +48,4 @@ pub mod Once
 pub mod Below
 pub mod Suiting
 pub mod Expanders
+pub mod Macros

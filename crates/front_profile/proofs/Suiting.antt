@@ -89,7 +89,7 @@ one_known other u w = w
 simple_known : (k : Elaboration) → IsSimple k → (rs : List ElaboratedPart) (u : Tables) → KnownTables u → KnownTables (finish k rs u)
 simple_known (OfOne k) h rs u w = one_known k u w
 simple_known (OfFunctionNamed Function name n rest of_file l) h rs u w = known_function u _ w
-simple_known (OfFunctionNamed Macro name n rest of_file l) h rs u w = w
+simple_known (OfFunctionNamed Macro name n rest of_file l) h rs u w = absurd h
 simple_known (OfMethods t hs p of_file l) h rs u w = absurd h
 simple_known (OfClass c p of_file l) h rs u w = absurd h
 simple_known other h rs u w = w
@@ -120,7 +120,7 @@ pub plain_suits : KeepsNames → (names : List (List ℕ)) (a : StaticContext) (
 plain_suits keep names a s d w = suits_so s a.spot.top (plain_node names a s d) (starts_plain_node names s a d) keep w
 
 -- how the node of a function of a definition begins
-starts_function_node : (s : Tables) (o : StaticContext) (w : Written) → Starts s true (function_node o s w)
+pub starts_function_node : (s : Tables) (o : StaticContext) (w : Written) → Starts s true (function_node o s w)
 starts_function_node s o (initform d) = record { grows = begins_function_node s o (initform d); names = names_same s; suited = inl tt; low = λ e. absurd (cc e) }
 starts_function_node s o (accessor n k d) =
     let numbers : Tables = record s { variables = s.variables + variables_of k } in
@@ -185,23 +185,22 @@ more_known : (r : ElaboratedPart) (w : Verdicts) → AllKnown w → AllKnown (in
 more_known r (all_stand more) a = a
 more_known r (one_ended e) a = tt
 
+-- that of a parameter
+pub starts_parameter : (s : Tables) (o i : StaticContext) → Starts s false (whole o i (with_variable s) [] (record { site = None; making = Ready Nothing }))
+starts_parameter s o i = record {
+  grows = grows_numbers s (s.variables + 1) s.exits (omega arith) (omega arith);
+  names = (none_numbers s (s.variables + 1) s.exits).names;
+  suited = inl tt;
+  low = λ e. record { defined = none_numbers s (s.variables + 1) s.exits; parts = tt; ordinary = tt; makes = λ rs u. none_defined u };
+}
+
 -- the node of a part
 part_begun : (names : List (List ℕ)) (o i : StaticContext) (s : Tables) (x : Part) → KnownTables s → Begun (subject names o i s x)
 part_begun names o i s (form d) k = record { tables = s; top = o.spot.top; known = k; starts = starts_node names s o d }
 part_begun names o i s (below d) k = record { tables = s; top = false; known = k; starts = starts_node names s (deeper 1 o) d }
 part_begun names o i s (inner d) k = record { tables = s; top = i.spot.top; known = k; starts = starts_node names s i d }
 part_begun names o i s (bind x d) k = record { tables = with_variable s; top = o.spot.top; known = k; starts = starts_node names (with_variable s) o d }
-part_begun names o i s (parameter x) k = record {
-  tables = s;
-  top = false;
-  known = k;
-  starts = record {
-    grows = grows_numbers s (s.variables + 1) s.exits (omega arith) (omega arith);
-    names = (none_numbers s (s.variables + 1) s.exits).names;
-    suited = inl tt;
-    low = λ e. record { defined = none_numbers s (s.variables + 1) s.exits; parts = tt; ordinary = tt; makes = λ rs u. none_defined u };
-  };
-}
+part_begun names o i s (parameter x) k = record { tables = s; top = false; known = k; starts = starts_parameter s o i }
 part_begun names o i s (wrong p r) k = record { tables = s; top = false; known = k; starts = tt }
 part_begun names o i s (function w) k = record { tables = s; top = true; known = k; starts = starts_function_node s o w }
 
