@@ -9,7 +9,9 @@ ghost use Rattle.front_profile.specs.ValueRows as row;
 use crate::here::{FormContext, deeper, fits_depth};
 use crate::plan::{Inner, Parts, one_form};
 use base::{Datum, Name, NoMemory, Place, Reason};
-use front_profile::{BoundList, DefinedAs, Elaboration, Leaf, MethodHeads, NewClass, One, Spot, Taker};
+use front_profile::{
+    BoundList, DefinedAs, Elaboration, Leaf, MethodHeads, NewClass, One, Spot, Taker,
+};
 use lang_meaning::LiteralRow;
 
 /// What the tables note of a form before its parts are judged.

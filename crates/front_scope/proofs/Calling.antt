@@ -162,12 +162,12 @@ call_gives law names a s d m n e g is few short same h =
     let there : Expands names s m d (s.expansions + 1) e = subst (λ k. Expands names s m d k e) same h in
     subst (λ k. Calls names a s d (record s { expansions = k }) e) (sym same)
     (
-      record {
-        leads = call_leads names a s d m e g is (lt-leb most_expansions s.expansions few) (lt-leb most_in_row a.spot.in_row short) there;
-        good = expansion_good law names s m d (s.expansions + 1) e there;
-        known = λ k. k;
-        room = short;
-      }
+    record {
+      leads = call_leads names a s d m e g is (lt-leb most_expansions s.expansions few) (lt-leb most_in_row a.spot.in_row short) there;
+      good = expansion_good law names s m d (s.expansions + 1) e there;
+      known = λ k. k;
+      room = short;
+    }
     )
 
 -- as a call is refused, by its parts

@@ -24,6 +24,7 @@ use std::alloc::Global;
 
 /// The most expansions of a file, and the most in a row.
 const MOST_EXPANSIONS: u32 = 5000;
+
 const MOST_IN_ROW: u32 = 200;
 
 // The first of so many macros that has the name.

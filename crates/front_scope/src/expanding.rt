@@ -33,7 +33,12 @@ pub trait Expanding {
 pub struct NoExpander;
 
 impl Expanding for NoExpander {
-    fn expand(&mut self, _alloc: Global, _names: &Names, _call: &MacroCall<'_>) -> Result<Datum, Stop> {
+    fn expand(
+        &mut self,
+        _alloc: Global,
+        _names: &Names,
+        _call: &MacroCall<'_>,
+    ) -> Result<Datum, Stop> {
         Err(Stop::NoMemory)
     }
 }

@@ -133,8 +133,9 @@ fn carry_out<'a, X: Expanding>(
         &work.parts,
         &work.inner,
         binds,
-        &mut found, expander,
-        );
+        &mut found,
+        expander,
+    );
     drop(work.parts);
     drop(work.inner);
     complete_found(alloc, walked, work.made, found, tables)
@@ -167,12 +168,14 @@ fn judge_all<X: Expanding>(
     let mut binds = binds;
     judge_parts(
         alloc, names, tables, bound, spot, spots, parts, &mut binds, found, expander,
-        )?;
+    )?;
     let base = bound.len();
     let Ok(()) = bound.append_list(binds) else {
         return Err(Stop::NoMemory);
     };
-    judge_inner(alloc, names, tables, bound, spot, spots, inner, found, expander)?;
+    judge_inner(
+        alloc, names, tables, bound, spot, spots, inner, found, expander,
+    )?;
     bound.cut(base);
     Ok(())
 }
@@ -201,7 +204,16 @@ fn judge_part<X: Expanding>(
 {
     match part {
         Part::Form(datum) => {
-            judge_value(alloc, names, tables, bound, spots.outside, datum, found, expander)
+            judge_value(
+                alloc,
+                names,
+                tables,
+                bound,
+                spots.outside,
+                datum,
+                found,
+                expander,
+            )
         }
         Part::Below(datum) => {
             let below = deeper(spots.outside, 1);
@@ -220,7 +232,16 @@ fn judge_part<X: Expanding>(
             reason: *reason,
         })),
         Part::Function(written) => {
-            let form = judge_function(alloc, names, tables, bound, spot, spots.outside, written, expander);
+            let form = judge_function(
+                alloc,
+                names,
+                tables,
+                bound,
+                spot,
+                spots.outside,
+                written,
+                expander,
+            );
             keep_value(form, found)
         }
     }
@@ -249,7 +270,15 @@ fn judge_function<X: Expanding>(
     let Ok(work) = function_work(alloc, tables, outside, written) else {
         return Err(Stop::NoMemory);
     };
-    carry_out(alloc, names, tables, bound, above_body(spot), work, expander)
+    carry_out(
+        alloc,
+        names,
+        tables,
+        bound,
+        above_body(spot),
+        work,
+        expander,
+    )
 }
 
 // Judges the parts that stand where the whole stands, in front of others.
@@ -277,7 +306,9 @@ fn judge_parts<X: Expanding>(
 {
     law_known();
     for part in parts.as_slice() {
-        judge_part(alloc, names, tables, bound, spot, spots, part, binds, found, expander)?;
+        judge_part(
+            alloc, names, tables, bound, spot, spots, part, binds, found, expander,
+        )?;
     }
     Ok(())
 }
@@ -304,7 +335,16 @@ fn judge_inner<X: Expanding>(
 {
     law_known();
     for datum in inner.as_slice() {
-        judge_value(alloc, names, tables, bound, spots.inside, datum, found, expander)?;
+        judge_value(
+            alloc,
+            names,
+            tables,
+            bound,
+            spots.inside,
+            datum,
+            found,
+            expander,
+        )?;
     }
     Ok(())
 }

@@ -61,12 +61,8 @@ fn arguments(alloc: Global, datum: &Datum) -> Result<Datum, NoMemory>
 {
     match &datum.kind {
         Kind::List { items, .. } => list_behind(alloc, datum.place, items.as_slice()),
-        Kind::Int(_)
-        | Kind::Char(_)
-        | Kind::Sym(_)
-        | Kind::Str(_)
-        | Kind::Vector(_)
-        | Kind::Nil => Ok(Datum::new(datum.place, Kind::Nil)),
+        Kind::Int(_) | Kind::Char(_) | Kind::Sym(_) | Kind::Str(_) | Kind::Vector(_) | Kind::Nil =>
+            Ok(Datum::new(datum.place, Kind::Nil)),
     }
 }
 
@@ -198,12 +194,7 @@ fn function_of(alloc: Global, procedure: &Procedure) -> Result<Core, NoMemory>
 {
     let required = variables(alloc, &procedure.required)?;
     let body = Box::new(alloc, procedure.body.copy(alloc)?)?;
-    Ok(Core::new(CoreForm::Lambda(
-        required,
-        procedure.rest,
-        body,
-        CaptureList::new(alloc),
-    )))
+    Ok(Core::new(CoreForm::Lambda(required, procedure.rest, body, CaptureList::new(alloc))))
 }
 
 // The function that expands calls of that macro; no forms where there is none.
