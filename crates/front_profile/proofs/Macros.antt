@@ -1,5 +1,6 @@
 -- A form adds no macro, since no row defines one: so behind tables without macros none ever applies.
-use Rattle.std.proofs.Common.{◌≡◌, ◌∙◌, ℕ, Bool, true, false, List, [], ◌∷◌, Option, Some, None, length, refl, ⊎_elim}
+use Rattle.std.proofs.Common.{◌≡◌, ◌∙◌, ◌+◌, ℕ, Bool, true, false, List, [], ◌∷◌, Option, Some, None, length, refl, ⊎_elim}
+use Rattle.base.specs.Data.{Item}
 use Rattle.base.specs.declared.datum.Name.{Name}
 use Rattle.front_profile.specs.declared.tables.Tables.{Tables}
 use Rattle.front_profile.specs.declared.elaboration.Accessor.{Accessor}

@@ -1,5 +1,5 @@
 -- What nodes make suits the tables behind their parts, and the tables behind a form are known.
-use Rattle.std.proofs.Common.{◌+◌, ⊎_elim, inl, ℕ, Bool, true, false, List, [], ◌∷◌, subst, arith}
+use Rattle.std.proofs.Common.{◌+◌, ⊎_elim, inl, ℕ, Bool, true, false, List, [], ◌∷◌, None, subst, arith}
 use Rattle.base.specs.Data.{Item}
 use Rattle.base.specs.Names.{Extends-same}
 use Rattle.lang_classes.specs.Keeping.{KeepsNames}
@@ -10,7 +10,8 @@ use Rattle.front_profile.specs.declared.elaboration.One.{One}
 use Rattle.front_profile.specs.declared.elaboration.One.TheVariants.{SetVariable}
 use Rattle.front_profile.specs.declared.elaboration.Elaboration.{Elaboration}
 use Rattle.front_profile.specs.declared.elaboration.DefinedAs.TheVariants.{Function, Macro}
-use Rattle.front_profile.specs.declared.elaboration.Elaboration.TheVariants.{OfOne, OfFunctionNamed, OfMethods, OfClass}
+use Rattle.front_profile.specs.declared.elaboration.Leaf.TheVariants.{Nothing}
+use Rattle.front_profile.specs.declared.elaboration.Elaboration.TheVariants.{Ready, OfOne, OfFunctionNamed, OfMethods, OfClass}
 use Rattle.front_profile.specs.Nodes.{StaticContext, Part, form, below, inner, bind, parameter, wrong, function, Written, initform, accessor, method, Node, offends, unnamed, steps, calls, whole, Standing, Verdict, stands as comes_to, ended, behind, recorded}
 use Rattle.front_profile.specs.RowWords.{deeper}
 use Rattle.front_profile.specs.FunctionNodes.{variables_of, with_accessor, function_node}
