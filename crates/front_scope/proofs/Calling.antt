@@ -27,7 +27,8 @@ use Rattle.front_profile.specs.bridge.Later.{macro_later}
 use Rattle.front_profile.specs.bridge.LaterExpansions.{expands_later, stops_later}
 use Rattle.front_forms.specs.Settled.{with_symbols}
 use Rattle.front_scope.proofs.Judging.{symbols_known}
-use Rattle.front_scope.specs.Calls.{Begun, Leads, Ends, NodeEnds, Calls, Settled, Expansion}
+use Rattle.front_programs.specs.Calls.{Begun}
+use Rattle.front_scope.specs.Calls.{Leads, Ends, NodeEnds, Calls, Settled, Expansion}
 
 pub begun_grows : (s t : Tables) → TablesGrow s t → Begun s → Begun t
 begun_grows s t g b = record {

@@ -32,7 +32,7 @@ use Rattle.front_profile.specs.Between.{TopLevelTables, HasNoForm}
 use Rattle.front_profile.specs.Places.{EmptyContext}
 use Rattle.front_profile.specs.Right.{with_main as with_form}
 use Rattle.front_profile.specs.declared.mark.Mark.{Mark}
-use Rattle.front_scope.specs.Calls.{Begun}
+use Rattle.front_programs.specs.Calls.{Begun}
 use Rattle.front_scope.specs.Cells.{FewAt}
 use Rattle.front_profile.specs.Cuts.{mark_of, opened}
 use Rattle.front_scope.specs.Scopes.{rows_of, nodes_of, cells_of, most_cells, top, first_tables, IsElaborated, AreInitialTables, IsWhole}

@@ -7,5 +7,4 @@ pub mod Beginning
 pub mod Keeping
 pub mod ClassCounts
 pub mod CellBounds
-pub mod Programs
 pub mod MacroNames

@@ -1,37 +1,18 @@
--- Calls of macros in the walk (ISO/IEC 13816:2007, 16): what a form leads to by its steps and by expansions, and what is asked of what expands a
--- call and of what it answers.
-use Rattle.std.specs.Prelude.{◌≡◌, ◌≤◌, ◌<◌, ℕ, List, Option, Some, None, length}
-use Rattle.base.specs.declared.reason.Reason.TheVariants.{ExpanderArena}
+-- Calls of macros in the walk (ISO/IEC 13816:2007, 16): what a form leads to by its steps and by expansions.
+use Rattle.std.specs.Prelude.{◌≡◌, ◌<◌, ℕ, List, Option, Some, None, length}
 use Rattle.base.specs.declared.reason.Stop.{Stop}
 use Rattle.base.specs.declared.reason.Stop.TheVariants.{Refused, NoMemory}
-use Rattle.base.specs.Data.{Item, place_of}
+use Rattle.base.specs.Data.{Item}
 use Rattle.base.specs.Names.{Extends}
 use Rattle.base.specs.WellFormedData.{WellFormed}
-use Rattle.lang_meaning.specs.ProgramCounts.{program_nodes}
-use Rattle.lang_meaning.specs.Cells.{program_cells}
 use Rattle.front_profile.specs.declared.tables.Tables.{Tables}
-use Rattle.front_profile.specs.Between.{TopLevelTables}
-use Rattle.front_profile.specs.Cuts.{opened}
-use Rattle.front_profile.specs.Definitions.{defined, rows_of}
-use Rattle.front_profile.specs.Expanders.{tables_before, program_of}
-use Rattle.front_profile.specs.Expansions.{most_expander_nodes, Expands, ExpansionStops}
 use Rattle.front_profile.specs.Known.{KnownTables}
-use Rattle.front_profile.specs.Marks.{TablesGrow}
 use Rattle.front_profile.specs.Nodes.{StaticContext, Node, refused, Verdict, ended}
 use Rattle.front_profile.specs.Judged.{again, Elaborates}
 use Rattle.front_profile.specs.Promises.{settled_datum}
 use Rattle.front_profile.specs.Rows.{node, plain_node, settled_node, most_in_row, macro_called}
-use Rattle.front_scope.specs.declared.expanding.MacroCall.{MacroCall}
 use Rattle.front_scope.specs.declared.calls.Turn.{Turn}
 use Rattle.front_scope.specs.declared.calls.Turn.TheVariants.{Stands, Expanded}
-
--- where the top-level form began the tables were a whole program, within the limits of nodes and cells, and since then they have grown
-pub record Begun (t : Tables) : Type 0 where
-  pub first : Tables
-  pub whole : TopLevelTables first
-  pub small : program_nodes (rows_of (defined first)) ≤ 100000
-  pub few : program_cells (rows_of (defined first)) ≤ 262144
-  pub grown : TablesGrow (opened first) t
 
 -- a node leads to another: whatever that comes to, under a table of names or a later one, it does
 pub record Leads (names : List (List ℕ)) (x y : List (List ℕ) → Node) : Type 0 where
@@ -73,27 +54,3 @@ pub record Expansion (names : List (List ℕ)) (a : StaticContext) (s : Tables) 
 abbrev pub TurnGives : List (List ℕ) → StaticContext → Tables → Item → Tables → Turn → Type 0
 TurnGives names a s d t (Stands found) = Settled names a s d a t (settled_datum found d)
 TurnGives names a s d t (Expanded e) = Expansion names a s d t e
-
--- what expands calls
-
--- the call is that of a macro defined before the top-level form, and its datum is in form
-pub record IsCall (names : ℕ) (call : MacroCall) : Type 0 where
-  pub begun : Begun call.tables.now
-  pub there : call.macro_number < length (tables_before call.tables.now).macros
-  pub good : WellFormed names call.datum.now
-
--- it gives what the call stands for, as that expansion, or is refused where the call stands
-abbrev pub CallExpands : List (List ℕ) → MacroCall → Item → Type 0
-CallExpands names call e = Expands names call.tables.now call.macro_number call.datum.now call.number e
-
-abbrev pub CallStops : List (List ℕ) → MacroCall → Stop → Type 0
-CallStops names call (Refused r) =
-    (r.place ≡ place_of call.datum.now) × ExpansionStops names call.tables.now call.macro_number call.datum.now call.number r.reason
-CallStops names call NoMemory = Unit {0}
-
--- there is no program of so few nodes, or memory was wanting
-abbrev pub ProgramStops : MacroCall → Stop → Type 0
-ProgramStops call (Refused r) =
-    (r ≡ record { place = place_of call.datum.now; reason = ExpanderArena })
-    × (most_expander_nodes < program_nodes (program_of call.tables.now call.macro_number call.datum.now))
-ProgramStops call NoMemory = Unit {0}

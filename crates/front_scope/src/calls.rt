@@ -1,7 +1,6 @@
 // Calls of macros: the steps and the expansions that are taken before a form is judged.
 
 ghost use Rattle.std.specs.Prelude.{◌≡◌, length, is_some, take, IfOk, IfErr};
-ghost use Rattle.base.specs.Data.{place_of};
 ghost use Rattle.base.specs.Names.{Extends};
 ghost use Rattle.base.specs.DataNames.{symbol_text as text_of_symbol};
 ghost use Rattle.base.specs.WellFormedData.{WellFormed};
@@ -10,13 +9,14 @@ ghost use Rattle.front_profile.specs.Promises.{FormStops, settled_datum};
 ghost use Rattle.front_profile.specs.Rows as row;
 ghost use Rattle.front_profile.specs.Sound.{weight};
 ghost use Rattle.front_drafts.specs.Views.{at};
-ghost use Rattle.front_scope.specs.Calls.{Begun, NodeEnds, Calls, CallGives, TurnGives, Settled as IsSettled};
+ghost use Rattle.front_programs.specs.Calls.{Begun};
+ghost use Rattle.front_scope.specs.Calls.{NodeEnds, Calls, CallGives, TurnGives, Settled as IsSettled};
 
-use crate::expanding::{Expanding, MacroCall};
-use base::{Datum, ItemList, Name, Names, Reason, Refusal, Stop, Symbol, symbol_text};
+use base::{Datum, ItemList, Name, Names, Reason, Stop, Symbol, symbol_text};
 use front_context::Bindings;
 use front_forms::settle;
 use front_profile::{MacroRow, Spot, Tables, special_named};
+use front_programs::{Expanding, MacroCall, refused};
 use front_syntax::shapes::symbol_of;
 use lang_derived::list_items;
 use lang_taken::law_form;
@@ -88,16 +88,6 @@ fn macro_called(
         return None;
     };
     macro_of_symbol(names, bound, spot, tables, symbol_of(head))
-}
-
-/// A refusal of a call.
-pub(crate) fn refused(datum: &Datum, reason: Reason) -> Stop
-    ensures { result ≡ Stop.Refused (record { place = place_of datum.now; reason = reason }) }
-{
-    Stop::Refused(Refusal {
-        place: datum.place,
-        reason,
-    })
 }
 
 // What the call of that macro expands to, with the next number: `TooManyExpansions` where the file has none left, and

@@ -7,12 +7,11 @@ ghost use Rattle.front_profile.specs.Walks.{PartTaken, PartStops, PartsStop, Who
 ghost use Rattle.front_profile.specs.FunctionNodes.{function_node};
 ghost use Rattle.front_profile.specs.Sound.{weight, SoundFunction, SoundPart, AllSound};
 ghost use Rattle.front_profile.specs.Known.{KnownTables, MakesSuited};
-ghost use Rattle.front_scope.specs.Calls.{Begun};
+ghost use Rattle.front_programs.specs.Calls.{Begun};
 ghost use Rattle.front_drafts.specs.Views.{at, view_part, view_parts, view_inner, view_function};
 ghost use Rattle.front_scope.specs.Walk.{Walked, FormGives, PlainGives, WholeGives, NodeGives, NodeStops, ValueFound, AllFound, PartsFound, PartsEnded, InnerFound, InnerEnded};
 
 use crate::calls::{Settled, settle_calls};
-use crate::expanding::Expanding;
 use crate::functions::{above_body, function_work};
 use crate::keep::{complete_found, keep_binding, keep_value, take_parameter, take_variable};
 use base::{Datum, Names, Refusal, Stop};
@@ -22,6 +21,7 @@ use front_elaboration::{Formed, FoundParts};
 use front_forms::plain_plan;
 use front_profile::whole_laws::{law_known, law_suits};
 use front_profile::{BoundList, Spot, Tables};
+use front_programs::Expanding;
 use std::alloc::Global;
 
 // Where the parts of a form stand.

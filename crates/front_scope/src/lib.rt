@@ -5,14 +5,11 @@ mod below;
 mod calls;
 mod cells;
 mod counts;
-pub mod expanding;
 mod first;
 mod functions;
 mod judge;
 mod keep;
 mod mark;
-mod program;
 pub mod scope;
 
-pub use expanding::{Expanding, MacroCall, NoExpander};
 pub use scope::Scope;

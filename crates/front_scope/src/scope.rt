@@ -2,28 +2,27 @@
 
 ghost use Rattle.std.specs.Prelude.{◌≡◌, length, OnOk, OnErr, IfOk, IfErr};
 ghost use Rattle.base.specs.WellFormedData.{WellFormed};
-ghost use Rattle.base.specs.Data.{place_of};
 ghost use Rattle.base.specs.Names.{Extends};
 ghost use Rattle.front_profile.specs.Marks.{TablesGrow};
 ghost use Rattle.front_profile.specs.Definitions.{SoundTables};
 ghost use Rattle.front_profile.specs.Cuts.{mark_of, opened};
 ghost use Rattle.front_profile.specs.Promises.{FormStops};
 ghost use Rattle.front_profile.specs.Known.{KnownTables};
-ghost use Rattle.front_scope.specs.Calls.{Begun};
+ghost use Rattle.front_programs.specs.Calls.{Begun};
 ghost use Rattle.front_scope.specs.Walk.{FormGives};
 ghost use Rattle.front_scope.specs.Scopes.{top, top_spot, with_main, rows_of, nodes_of, IsWhole, IsElaborated, IsTaken, IsFormStopped, AreInitialTables};
 
 use crate::cells::has_too_many_cells;
 use crate::counts::with_added;
-use crate::expanding::Expanding;
 use crate::first::{first_tables, reserved_words};
 use crate::judge::judge;
 use crate::mark::{close, open};
-use base::{Datum, Names, NoMemory, Origin, Reason, Refusal, Stop};
+use base::{Datum, Names, NoMemory, Origin, Reason, Stop};
 use front_context::Bindings;
 use front_elaboration::Formed;
 use front_profile::whole_laws::{law_programs, law_suits, law_top_forms};
 use front_profile::{Spot, Tables};
+use front_programs::{Expanding, refused};
 use lang_classes::Classes;
 use lang_meaning::{Core, Program, ProgramRows, class_list_nodes};
 use std::alloc::Global;
@@ -144,16 +143,6 @@ fn judge_top<X: Expanding>(
     Ok(())
 }
 
-// A form that is too large, as a whole.
-fn too_large(datum: &Datum, reason: Reason) -> Stop
-    ensures { result ≡ Stop.Refused (record { place = place_of datum.now; reason = reason }) }
-{
-    Stop::Refused(Refusal {
-        place: datum.place,
-        reason,
-    })
-}
-
 // The same, with the nodes of the program then, which are within their limit, as its cells are.
 fn take_form<X: Expanding>(
     alloc: Global,
@@ -179,10 +168,10 @@ fn take_form<X: Expanding>(
     judge_top(alloc, names, tables, datum, origin, expander)?;
     let nodes = with_added(tables, &tables.before, nodes);
     if nodes > MOST_NODES {
-        return Err(too_large(datum, Reason::ProgramTooLarge));
+        return Err(refused(datum, Reason::ProgramTooLarge));
     }
     if has_too_many_cells(alloc, tables, &tables.before)? {
-        return Err(too_large(datum, Reason::DispatchTooLarge));
+        return Err(refused(datum, Reason::DispatchTooLarge));
     }
     Ok(nodes)
 }

@@ -28,3 +28,21 @@ returns-in_err-take_turn-clause-names g c = Extends-then _ _ _ c.turns.invariant
 
 pub returns-in_err-take_turn-clause-grows : goal.returns-in_err-take_turn-clause-grows
 returns-in_err-take_turn-clause-grows g c = tables_grow_transitive _ _ _ c.turns.invariant.0.grown c.in_err-take_turn.ensures.grows
+
+pub returns-in-Stands-None-clause-begun : goal.returns-in-Stands-None-clause-begun
+returns-in-Stands-None-clause-begun g c = begun_grows _ _ c.in_ok-take_turn.ensures.grows c.turns.invariant.0.begun
+
+pub returns-in-Stands-None-clause-names : goal.returns-in-Stands-None-clause-names
+returns-in-Stands-None-clause-names g c = Extends-then _ _ _ c.turns.invariant.0.later c.in_ok-take_turn.ensures.names
+
+pub returns-in-Stands-None-clause-grows : goal.returns-in-Stands-None-clause-grows
+returns-in-Stands-None-clause-grows g c = tables_grow_transitive _ _ _ c.turns.invariant.0.grown c.in_ok-take_turn.ensures.grows
+
+pub returns-in-Stands-Some-clause-begun : goal.returns-in-Stands-Some-clause-begun
+returns-in-Stands-Some-clause-begun g c = begun_grows _ _ c.in_ok-take_turn.ensures.grows c.turns.invariant.0.begun
+
+pub returns-in-Stands-Some-clause-names : goal.returns-in-Stands-Some-clause-names
+returns-in-Stands-Some-clause-names g c = Extends-then _ _ _ c.turns.invariant.0.later c.in_ok-take_turn.ensures.names
+
+pub returns-in-Stands-Some-clause-grows : goal.returns-in-Stands-Some-clause-grows
+returns-in-Stands-Some-clause-grows g c = tables_grow_transitive _ _ _ c.turns.invariant.0.grown c.in_ok-take_turn.ensures.grows

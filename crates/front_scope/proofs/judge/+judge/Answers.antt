@@ -12,7 +12,8 @@ use Rattle.front_profile.specs.Walks.{PartTaken, PartStops, Through}
 use Rattle.front_profile.specs.bridge.Growing.{tables_grow_transitive}
 use Rattle.front_profile.specs.Known.{KnownTables, MakesSuited}
 use Rattle.front_drafts.specs.Views.{at, shown, view_part, view_parts, view_inner, view_function}
-use Rattle.front_scope.specs.Calls.{Begun, Settled}
+use Rattle.front_programs.specs.Calls.{Begun}
+use Rattle.front_scope.specs.Calls.{Settled}
 use Rattle.front_scope.specs.Walk.{FormGives, node_of}
 use Rattle.front_scope.proofs.Judging.{settled_comes, settled_stops, whole_comes, whole_stop, offends_there, row_sound, row_suited, function_weight, work_sound, work_comes, work_stops, bound_there}
 use Rattle.front_scope.proofs.Calling.{begun_grows}

@@ -3,7 +3,7 @@ use Rattle.std.proofs.Common.{◌≡◌, ◌+◌, ◌++◌, ◌*◌, drop}
 use Rattle.front_profile.specs.Sound.{weight}
 use Rattle.front_profile.specs.Known.{KnownTables}
 use Rattle.front_drafts.specs.Views.{at, view_parts, view_inner}
-use Rattle.front_scope.specs.Calls.{Begun}
+use Rattle.front_programs.specs.Calls.{Begun}
 use Rattle.front_scope.proofs.Walking.{SoFar, InsideSoFar}
 use Rattle.front_scope.proofs.judge.+judge.Given as goal
 

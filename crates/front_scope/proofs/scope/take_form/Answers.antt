@@ -6,7 +6,7 @@ use Rattle.front_scope.proofs.scope.take_form.Goals as goal
 
 pub returns-then-nodes-gt-MOST_NODES-clause-stop : goal.returns-then-nodes-gt-MOST_NODES-clause-stop
 returns-then-nodes-gt-MOST_NODES-clause-stop g c =
-    rw c.too_large.ensures (
+    rw c.refused.ensures (
     inr (
     inl (
       record {
@@ -29,7 +29,7 @@ pub returns-then-branch-clause-stop : goal.returns-then-branch-clause-stop
 returns-then-branch-clause-stop g c =
     let same = counted_exactly c.args.tables.now c.judge_top.new.tables c.judge_top.new.tables.before c.args.nodes _ c.in_ok-judge_top.ensures.grows (c.in_ok-judge_top.ensures.grows.before ∙ c.requires.mark) c.requires.nodes
     c.with_added-nodes.ensures (omega (arith, c.if-nodes-gt-MOST_NODES.false)) in
-    rw c.too_large-then-branch.ensures (
+    rw c.refused-then-branch.ensures (
     inr (
     inr (
       record {

@@ -1,9 +1,9 @@
 -- The program of a macro's call: the tables where the top-level form began, as those behind it tell them; generic functions that are copied one after
 -- another, with their first methods; and the procedure of a macro.
-use Rattle.std.proofs.Common.{◌≡◌, ◌≤◌, ◌<◌, ◌∙◌, ◌+◌, ◌++◌, ◌⊎◌, ⊎_elim, ℕ, zero, suc, true, List, [], ◌∷◌, Option, Some, None, take, length, slice_get, refl, ap, sym, subst, arith, add-one}
+use Rattle.std.proofs.Common.{◌≡◌, ◌≤◌, ◌<◌, ◌∙◌, ◌+◌, ◌++◌, ◌==◌, ◌⊎◌, ⊎_elim, ℕ, zero, suc, true, false, List, [], ◌∷◌, Option, Some, None, take, length, slice_get, refl, ap, sym, subst, arith, add-one}
 use Rattle.std.proofs.lemmas.List.{get_or-take, length-take}
 use Rattle.std.proofs.lemmas.Option.{slice_get_within, slice_get_past, slice_get-get_or, get_or_from_slice_get}
-use Rattle.base.specs.Data.{Item}
+use Rattle.base.specs.Data.{Item, items_of, list, no_tail}
 use Rattle.base.specs.WellFormedData.{WellFormed}
 use Rattle.lang_meaning.specs.declared.program.GenericRow.{GenericRow}
 use Rattle.lang_meaning.specs.declared.program.Procedure.{Procedure}
@@ -16,10 +16,9 @@ use Rattle.front_profile.specs.declared.tables.Tables.{Tables}
 use Rattle.front_profile.specs.Between.{TopLevelTables}
 use Rattle.front_profile.specs.Cuts.{ReachMethods, ReachesMark, cut_generics, cut_to, opened}
 use Rattle.front_profile.specs.Definitions.{defined, rows_of}
-use Rattle.front_profile.specs.Expanders.{tables_before, definitions, procedure_of, expander, program_of}
+use Rattle.front_profile.specs.Expanders.{list_of, tables_before, definitions, procedure_of, expander, program_of}
 use Rattle.front_profile.specs.bridge.Cutting.{grown_reaches, cut_grown}
-use Rattle.front_scope.specs.Calls.{Begun}
-use Rattle.front_scope.proofs.Keeping.{opened_between}
+use Rattle.front_programs.specs.Calls.{Begun}
 
 -- the tables have all that was there where the form began
 pub begun_reaches : (s : Tables) → Begun s → ReachesMark s.before s
@@ -42,10 +41,15 @@ pub call_is_whole : ExpandersAreWhole → (s : Tables) (m : ℕ) (d : Item) (n :
 call_is_whole law s m d n b there good few =
     let same : opened b.first ≡ tables_before s = sym (before_is s b) in
     law s m d n
-    (subst (λ (t : Tables). TopLevelTables t) same (opened_between b.first b.whole))
+    (subst (λ (t : Tables). TopLevelTables t) same (record { whole = b.whole.whole; classes = b.whole.classes; sites = b.whole.sites }))
     (subst (λ (t : Tables). program_nodes (rows_of (defined t)) ≤ 100000) same b.small)
     (subst (λ (t : Tables). program_cells (rows_of (defined t)) ≤ 262144) same b.few)
     there good few
+
+-- data of which there are some are a list
+pub list_there : (ds : List Item) → (length ds == 0) ≡ false → list_of (items_of ds) ≡ list (items_of ds) no_tail
+list_there [] h = absurd (cc h)
+list_there (d ∷ ds) h = refl
 
 -- a generic function more
 

@@ -1,9 +1,10 @@
 // What expands calls of macros.
 
-ghost use Rattle.std.specs.Prelude.{length, IfOk, IfErr};
-ghost use Rattle.front_scope.specs.Calls.{IsCall, CallExpands, CallStops};
+ghost use Rattle.std.specs.Prelude.{◌≡◌, length, IfOk, IfErr};
+ghost use Rattle.base.specs.Data.{place_of};
+ghost use Rattle.front_programs.specs.Calls.{IsCall, CallExpands, CallStops};
 
-use base::{Datum, Names, Stop};
+use base::{Datum, Names, Reason, Refusal, Stop};
 use front_profile::Tables;
 use std::alloc::Global;
 
@@ -14,6 +15,16 @@ pub struct MacroCall<'a> {
     pub macro_number: usize,
     pub datum: &'a Datum,
     pub number: u32,
+}
+
+/// A refusal at that datum, for that reason.
+pub fn refused(datum: &Datum, reason: Reason) -> Stop
+    ensures { result ≡ Stop.Refused (record { place = place_of datum.now; reason = reason }) }
+{
+    Stop::Refused(Refusal {
+        place: datum.place,
+        reason,
+    })
 }
 
 /// What expands calls of macros (ISO/IEC 13816:2007, 16).

@@ -2,8 +2,8 @@
 use Rattle.std.proofs.Common.{◌≡◌, ◌≤◌, true, sym, subst, arith}
 use Rattle.lang_meaning.specs.Facts.{is_whole}
 use Rattle.lang_meaning.specs.ProgramCounts.{program_nodes}
-use Rattle.front_scope.proofs.Programs.{begun_reaches, call_is_whole}
-use Rattle.front_scope.proofs.expanding.MacroCall.program.Goals as goal
+use Rattle.front_programs.proofs.Programs.{begun_reaches, call_is_whole}
+use Rattle.front_programs.proofs.expanding.MacroCall.program.Goals as goal
 
 pub program_rows-requires-clause-reaches : goal.program_rows-requires-clause-reaches
 program_rows-requires-clause-reaches c = begun_reaches c.args.self.now.tables.now c.requires.1.begun

@@ -5,10 +5,9 @@ ghost use Rattle.base.specs.Data.{item, items_of, Tail, list};
 ghost use Rattle.lang_meaning.specs.declared.program.LiteralRow.TheVariants as literal_row;
 ghost use Rattle.front_profile.specs.Cuts.{ReachMethods, ReachesMark, cut_generics};
 ghost use Rattle.front_profile.specs.Expanders as expanders;
-ghost use Rattle.front_scope.specs.Calls.{IsCall, ProgramStops};
+ghost use Rattle.front_programs.specs.Calls.{IsCall, ProgramStops};
 
-use crate::calls::refused;
-use crate::expanding::MacroCall;
+use crate::expanding::{MacroCall, refused};
 use base::{Datum, DatumList, Kind, NoMemory, Place, Reason, Stop};
 use front_profile::whole_laws::law_expanders;
 use front_profile::{Lengths, Tables};
