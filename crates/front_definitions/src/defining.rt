@@ -12,7 +12,7 @@ use front_drafts::plan::{inner_forms, parameter_parts};
 use front_drafts::taken::{
     defining_offence, has_dynamic, has_global, has_name, is_reserved, is_taken, is_truth,
 };
-use front_profile::{DynamicRow, GlobalRow, One, Parameters};
+use front_profile::{DefinedAs, DynamicRow, GlobalRow, One, Parameters};
 use front_syntax::shapes::{named, parameters_in};
 
 /// `(defglobal name x)` and `(defconstant name x)`: a constant is not set before.
@@ -72,17 +72,19 @@ pub fn defdynamic_draft<'a>(here: FormContext, items: &'a [Datum]) -> Result<Dra
 // The definition, with what its body binds and has.
 fn defun_of<'a>(
     here: FormContext,
+    kind: DefinedAs,
     name: Name,
     datum: &'a Datum,
     parameters: &Parameters,
     forms: &'a [Datum],
 ) -> Result<Draft<'a>, NoMemory>
     ensures { Draws here.entry
-        (row.defun_of (around here.entry) here.entry.tables.now name datum.now forms.now parameters.now) result }
+        (row.defun_of kind (around here.entry) here.entry.tables.now name datum.now forms.now parameters.now) result }
 {
     let parts = parameter_parts(here.alloc, parameters)?;
     let inner = inner_forms(here.alloc, forms)?;
     Ok(Draft::Defines(Defined {
+        kind,
         name,
         datum,
         required: parameters.required.len(),
@@ -95,28 +97,30 @@ fn defun_of<'a>(
 // The definition, where the lambda list is one.
 fn defun_with<'a>(
     here: FormContext,
+    kind: DefinedAs,
     name: Name,
     datum: &'a Datum,
     list: &Datum,
     forms: &'a [Datum],
 ) -> Result<Draft<'a>, NoMemory>
     ensures { Draws here.entry
-        (row.defun_with (around here.entry) here.entry.tables.now name datum.now list.now forms.now (parameters_in here.entry.tables.now.words list.now)) result }
+        (row.defun_with kind (around here.entry) here.entry.tables.now name datum.now list.now forms.now (parameters_in here.entry.tables.now.words list.now)) result }
 {
     match parameters_in(here.alloc, here.tables.words, list)? {
-        Some(parameters) => defun_of(here, name, datum, &parameters, forms),
+        Some(parameters) => defun_of(here, kind, name, datum, &parameters, forms),
         None => Ok(offence(list.place, Reason::BadBinding)),
     }
 }
 
-/// `(defun name lambda-list f*)`. The language keeps the name or not.
+/// `(defun name lambda-list f*)` and `(defmacro name lambda-list f*)`. The language keeps the name or not.
 pub fn defun_draft<'a>(
     here: FormContext,
+    kind: DefinedAs,
     kept: bool,
     items: &'a [Datum],
 ) -> Result<Draft<'a>, NoMemory>
     ensures { Draws here.entry
-        (row.defun_row kept (around here.entry) here.entry.tables.now here.entry.place items.now) result }
+        (row.defun_row kind kept (around here.entry) here.entry.tables.now here.entry.place items.now) result }
 {
     let [target, list, forms @ ..] = items else {
         return Ok(offence(here.place, Reason::BadShape));
@@ -132,5 +136,5 @@ pub fn defun_draft<'a>(
     if !fits_depth(here.spot, 1) {
         return Ok(offence(here.place, Reason::DepthLimit));
     }
-    defun_with(here, name, target, list, forms)
+    defun_with(here, kind, name, target, list, forms)
 }

@@ -9,7 +9,7 @@ use Rattle.front_drafts.specs.declared.here.FormContext.{FormContext}
 use Rattle.front_drafts.specs.Views.{at, view_parts, view_inner}
 use Rattle.front_profile.specs.declared.elaboration.Elaboration.TheVariants.{OfFunctionNamed, OfMethods, OfClass}
 use Rattle.front_profile.specs.declared.tables.Tables.{Tables}
-use Rattle.front_profile.specs.Nodes.{StaticContext, Node, offends, unnamed, steps, whole}
+use Rattle.front_profile.specs.Nodes.{StaticContext, Node, offends, unnamed, steps, calls, whole}
 use Rattle.front_profile.specs.RowWords.{alone, literal_node, unsited, with_site, next_site}
 use Rattle.front_profile.specs.ValueRows.{with_set}
 use Rattle.front_profile.specs.ExitRows.{with_exit}
@@ -39,7 +39,7 @@ drawn a p s (Sited b) =
     (record { site = next_site a (noting b.note s); making = b.making })
 drawn a p s (Defines f) =
     whole (alone false a) (alone false a) (with_name a.spot.sited f.datum.now s) (view_parts f.parts ++ view_inner f.inner)
-    (record { site = None; making = OfFunctionNamed f.name f.required f.rest a.spot.sited (named_form a.spot.sited s) })
+    (record { site = None; making = OfFunctionNamed f.kind f.name f.required f.rest a.spot.sited (named_form a.spot.sited s) })
 drawn a p s (DefinesMethods m) =
     whole a a (with_name a.spot.sited (item m.place (symbol (Named m.name))) s) (view_parts m.parts)
     (record { site = None; making = OfMethods m.taker m.heads (length s.procedures) a.spot.sited (named_form a.spot.sited s) })
@@ -60,4 +60,5 @@ abbrev pub is_unnamed : Node → Bool
 is_unnamed unnamed = true
 is_unnamed (offends p r) = false
 is_unnamed (steps a s d) = false
+is_unnamed (calls a s m d) = false
 is_unnamed (whole a i s xs m) = false

@@ -9,7 +9,9 @@ ghost use Rattle.front_profile.specs.ValueRows as row;
 use crate::here::{FormContext, deeper, fits_depth};
 use crate::plan::{Inner, Parts, one_form};
 use base::{Datum, Name, NoMemory, Place, Reason};
-use front_profile::{BoundList, Elaboration, Leaf, MethodHeads, NewClass, One, Spot, Taker};
+use front_profile::{
+    BoundList, DefinedAs, Elaboration, Leaf, MethodHeads, NewClass, One, Spot, Taker,
+};
 use lang_meaning::LiteralRow;
 
 /// What the tables note of a form before its parts are judged.
@@ -34,10 +36,11 @@ pub struct Sketch<'a> {
     pub making: Elaboration,
 }
 
-/// The definition of a function of that name, which the datum is: its parameters, so many of them required and one behind
+/// The definition of a function or a macro of that name, which the datum is: its parameters, so many of them required and one behind
 /// them or none, and the forms of its body.
 #[derive(Drop)]
 pub struct Defined<'a> {
+    pub kind: DefinedAs,
     pub name: Name,
     pub datum: &'a Datum,
     pub required: usize,

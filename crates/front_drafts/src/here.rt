@@ -44,6 +44,7 @@ pub fn deeper(spot: Spot, by: u32) -> Spot
         top: false,
         in_method: spot.in_method,
         sited: spot.sited,
+        in_row: 0,
     }
 }
 
@@ -57,5 +58,6 @@ pub fn deeper_at_top(spot: Spot) -> Spot
         top: spot.top,
         in_method: spot.in_method,
         sited: spot.sited,
+        in_row: 0,
     }
 }

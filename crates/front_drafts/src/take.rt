@@ -152,10 +152,11 @@ fn alone_spot(spot: Spot, in_method: bool) -> Spot
         top: false,
         in_method,
         sited: spot.sited,
+        in_row: 0,
     }
 }
 
-// The definition of a function.
+// The definition of a function or a macro.
 #[tactic(auto, using(crate::proofs::Lists::nothing_bound))]
 fn take_definition<'a>(
     here: Here,
@@ -179,6 +180,7 @@ fn take_definition<'a>(
         made: Made {
             site: None,
             making: Elaboration::OfFunctionNamed(
+                defined.kind,
                 defined.name,
                 defined.required,
                 defined.rest,

@@ -7,9 +7,9 @@ ghost use Rattle.front_profile.specs.Elaborations.{generic_named};
 ghost use Rattle.front_drafts.specs.Drafts.{around};
 
 use crate::here::FormContext;
-use base::{Name, NameList, Reason};
-use front_profile::Tables;
-use lang_meaning::{GenericId, GenericRow};
+use base::{ItemList, Name, NameList, Reason};
+use front_profile::{MacroRow, Tables};
+use lang_meaning::{FunctionRows, GenericId, GenericRow};
 
 /// Whether the name is among these.
 pub fn has_name(names: &NameList, name: Name) -> bool
@@ -54,16 +54,35 @@ pub fn has_dynamic(of_file: bool, tables: &Tables, name: Name) -> bool
     false
 }
 
-/// Whether a function has the name.
-pub fn has_function(tables: &Tables, name: Name) -> bool
-    ensures { result ≡ row.has_function tables.now name }
+// Whether one of these functions has the name.
+fn is_function(functions: &FunctionRows, name: Name) -> bool
+    ensures { result ≡ list_any (λ f. row.is_that name f.name) functions.now }
 {
-    for function in tables.functions.as_slice() {
+    for function in functions.as_slice() {
         if name.0 == function.name.0 {
             return true;
         }
     }
     false
+}
+
+// Whether one of these macros has the name.
+fn is_macro(macros: &ItemList<MacroRow>, name: Name) -> bool
+    ensures { result ≡ list_any (λ m. row.is_that name m.name) macros.now }
+{
+    for row in macros.as_slice() {
+        if name.0 == row.name.0 {
+            return true;
+        }
+    }
+    false
+}
+
+/// Whether a function or a macro has the name.
+pub fn has_function(tables: &Tables, name: Name) -> bool
+    ensures { result ≡ row.has_function tables.now name }
+{
+    is_function(&tables.functions, name) || is_macro(&tables.macros, name)
 }
 
 /// A name is taken by what the same text defined before.
@@ -80,7 +99,7 @@ pub fn is_truth(here: FormContext, name: Name) -> bool
     here.spot.sited && name.0 == here.tables.words.truth.0
 }
 
-/// A name is reserved where the language keeps it, where it is `t`, and where the prelude has a function of it.
+/// A name is reserved where the language keeps it, where it is `t`, and where the prelude has a function or a macro of it.
 pub fn is_reserved(here: FormContext, kept: bool, name: Name) -> bool
     ensures { result ≡ row.is_reserved kept (around here.entry) here.entry.tables.now name }
 {

@@ -260,7 +260,7 @@ others p (OfBlock x) rs e d = alone p (elaborate (OfBlock x) rs) _ _ (both p (el
 others p (OfSegments x ls) rs e d =
     alone p (elaborate (OfSegments x ls) rs) _ _
     (both p (elaborate (OfSegments x ls) rs) _ _ (sym d) (segments_mention p ls (forms_found rs) (eqb-true (segments_left ls (length (forms_found rs))) 0 e)))
-others p (OfFunctionNamed n r rest of_file l) rs e d = alone p (leaf_form l) _ _ (leaf_gathers p l _ _ d (none_found (mentions p) (forms_found rs) e))
+others p (OfFunctionNamed k n r rest of_file l) rs e d = alone p (leaf_form l) _ _ (leaf_gathers p l _ _ d (none_found (mentions p) (forms_found rs) e))
 others p (OfProcedure n r rest) rs e d = alone p nothing _ _ (leaf_gathers p Nothing _ _ d (none_found (mentions p) (forms_found rs) e))
 others p (OfAccessor n k v l) rs e d = alone p nothing _ _ (leaf_gathers p Nothing _ _ d (none_found (mentions p) (forms_found rs) e))
 others p (OfMethods t hs i of_file l) rs e d = alone p (leaf_form l) _ _ (leaf_gathers p l _ _ d (none_found (mentions p) (forms_found rs) e))

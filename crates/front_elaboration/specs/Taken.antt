@@ -43,7 +43,7 @@ takes_forms (OfDynamics ns) n = true
 takes_forms (OfFunction r rest parts) n = true
 takes_forms (OfBlock x) n = true
 takes_forms (OfSegments x ls) n = segments_left ls n == 0
-takes_forms (OfFunctionNamed name r rest of_file l) n = n == 0
+takes_forms (OfFunctionNamed k name r rest of_file l) n = n == 0
 takes_forms (OfProcedure name r rest) n = n == 0
 takes_forms (OfAccessor name k v l) n = n == 0
 takes_forms (OfMethods t hs p of_file l) n = n == 0

@@ -28,7 +28,7 @@ use crate::mentioning::{gather, walk};
 use accessors::accessor_procedure;
 use base::NoMemory;
 use classes::define_class;
-use finish::{complete_procedure, define_function, finish_one, procedure_found};
+use finish::{complete_procedure, define_named, finish_one, procedure_found};
 use front_profile::{ElaboratedParts, Elaboration, Leaf, Made, Tables};
 use lang_meaning::{Capture, Core, CoreForm, CoreList, SiteId};
 use lists::{make_clauses, make_dynamics, make_segments};
@@ -57,7 +57,7 @@ fn make_of_forms(alloc: Global, making: &Elaboration, forms: CoreList) -> Result
         Elaboration::OfDynamics(names) => make_dynamics(alloc, names, forms),
         Elaboration::OfBlock(exit) => make_block(alloc, *exit, forms),
         Elaboration::OfSegments(exit, lengths) => make_segments(alloc, *exit, lengths, forms),
-        Elaboration::OfFunctionNamed(_, _, _, _, leaf)
+        Elaboration::OfFunctionNamed(_, _, _, _, _, leaf)
         | Elaboration::OfMethods(_, _, _, _, leaf)
         | Elaboration::OfClass(_, _, _, leaf) => Ok(leaf_form(alloc, *leaf)),
         Elaboration::OfProcedure(_, _, _)
@@ -181,14 +181,14 @@ pub fn complete(
             };
             Ok(form)
         }
-        Elaboration::OfFunctionNamed(name, required, rest, of_file, leaf) => {
+        Elaboration::OfFunctionNamed(kind, name, required, rest, of_file, leaf) => {
             let form = leaf_made(alloc, site, leaf)?;
             let found = kept.into_found();
             let Ok(procedure) = procedure_found(alloc, Some(name), required, rest, found) else {
                 drop(form);
                 return Err(NoMemory);
             };
-            let Ok(()) = define_function(name, procedure, of_file, tables) else {
+            let Ok(()) = define_named(kind, name, procedure, of_file, tables) else {
                 drop(form);
                 return Err(NoMemory);
             };

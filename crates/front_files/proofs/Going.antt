@@ -12,6 +12,7 @@ use Rattle.front_reader.specs.Answers.{IsRead, IsEnded, IsReaderStopped}
 use Rattle.front_reader.specs.Readers.{ReaderState}
 use Rattle.front_reader.specs.bridge.LaterReads.{next_later}
 use Rattle.front_reader.specs.bridge.WellFormedReads.{next_good}
+use Rattle.front_profile.specs.Cuts.{opened}
 use Rattle.front_scope.specs.Scopes.{IsTaken, IsFormStopped as IsFormStopped}
 use Rattle.front_files.specs.declared.mode.Mode.{Mode}
 use Rattle.front_files.specs.Shown.{IsForm}
@@ -64,7 +65,7 @@ leads_refused names more last origin mode s text p t old new d (Refused x) e f l
 
 -- a datum, with the form that is judged for it
 pub was_taken : {T E : Type 0} (r : Result T E) (old names more : List (List ℕ)) (origin : Origin) (mode : Mode) (s : Tables) (d : Item) (after : List ℕ) (form : Item) (t : Tables) →
-    Extends old names → Extends names more → WellFormed (length old) d → IsForm names mode d after form → OnOk r (IsTaken more origin s form t) →
+    Extends old names → Extends names more → WellFormed (length old) d → IsForm names mode d after form → OnOk r (IsTaken more origin (opened s) form t) →
     OnOk r (FormTaken more origin mode s d after t)
 was_taken (Ok x) old names more origin mode s d after form t e f good is taken = record {
   form = form;
@@ -74,7 +75,7 @@ was_taken (Ok x) old names more origin mode s d after form t e f good is taken =
 was_taken (Err x) old names more origin mode s d after form t e f good is taken = tt
 
 has_stopped : (old names more : List (List ℕ)) (origin : Origin) (mode : Mode) (s : Tables) (d : Item) (after : List ℕ) (form : Item) (stop : Stop) →
-    Extends old names → Extends names more → WellFormed (length old) d → IsForm names mode d after form → IsFormStopped more origin s form stop →
+    Extends old names → Extends names more → WellFormed (length old) d → IsForm names mode d after form → IsFormStopped more origin (opened s) form stop →
     FormStops more origin mode s d after stop
 has_stopped old names more origin mode s d after form NoMemory e f good is h = tt
 has_stopped old names more origin mode s d after form (Refused r) e f good is h = record {
@@ -84,7 +85,7 @@ has_stopped old names more origin mode s d after form (Refused r) e f good is h 
 }
 
 pub was_stopped : {T : Type 0} (r : Result T Stop) (old names more : List (List ℕ)) (origin : Origin) (mode : Mode) (s : Tables) (d : Item) (after : List ℕ) (form : Item) →
-    Extends old names → Extends names more → WellFormed (length old) d → IsForm names mode d after form → IfErr r (IsFormStopped more origin s form) →
+    Extends old names → Extends names more → WellFormed (length old) d → IsForm names mode d after form → IfErr r (IsFormStopped more origin (opened s) form) →
     IfErr r (FormStops more origin mode s d after)
 was_stopped (Ok x) old names more origin mode s d after form e f good is h = tt
 was_stopped (Err x) old names more origin mode s d after form e f good is h = has_stopped old names more origin mode s d after form x e f good is h

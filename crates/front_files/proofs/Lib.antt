@@ -1,3 +1,4 @@
 pub mod Printing
 pub mod Going
 pub mod Both
+pub mod Told

@@ -1,3 +1,4 @@
 pub mod Shown
 pub mod Verdicts
+pub mod Exact
 pub mod bridge

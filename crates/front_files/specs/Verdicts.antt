@@ -18,22 +18,24 @@ use Rattle.front_reader.specs.Gaps.{Gap}
 use Rattle.front_reader.specs.Reads.{ReadsNext}
 use Rattle.front_reader.specs.Readers.{first_place}
 use Rattle.front_reader.specs.Stops.{StopsFirst}
+use Rattle.front_profile.specs.Cuts.{opened}
 use Rattle.front_scope.specs.Scopes.{rows_of, AreInitialTables, IsTaken, IsFormStopped}
 use Rattle.front_files.specs.declared.mode.Mode.{Mode}
 use Rattle.front_files.specs.declared.mode.Mode.TheVariants.{Run}
 use Rattle.front_files.specs.Shown.{IsForm}
 
--- a datum of a text is taken behind the forms that gave the tables s, and gives t; `after` is left of the text behind it
+-- a datum of a text is taken behind the forms that gave the tables s, and gives t: of the macros, those apply that these forms have
+-- defined; `after` is left of the text behind it
 pub record FormTaken (names : List (List ℕ)) (origin : Origin) (mode : Mode) (s : Tables) (d : Item) (after : List ℕ) (t : Tables) : Type 0 where
   pub form : Item
   pub is_form : IsForm names mode d after form
-  pub taken : IsTaken names origin s form t
+  pub taken : IsTaken names origin (opened s) form t
 
 -- it is refused
 pub record FormRefused (names : List (List ℕ)) (origin : Origin) (mode : Mode) (s : Tables) (d : Item) (after : List ℕ) (r : Refusal) : Type 0 where
   pub form : Item
   pub is_form : IsForm names mode d after form
-  pub refused : IsFormStopped names origin s form (Refused r)
+  pub refused : IsFormStopped names origin (opened s) form (Refused r)
 
 -- what the forms of a text come to: all are taken and give these tables, or one is refused, or the text stops
 pub data Judgement : Type 0 where

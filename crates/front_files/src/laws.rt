@@ -6,30 +6,43 @@ ghost use Rattle.base.specs.Names.{IsTable, Extends};
 ghost use Rattle.lang_meaning.specs.declared.program.ProgramRows.{ProgramRows as program_rows};
 ghost use Rattle.front_files.specs.declared.mode.Mode.{Mode as mode_of};
 ghost use Rattle.front_files.specs.declared.mode.Mode.TheVariants.{Run};
+ghost use Rattle.front_profile.specs.Exact.{OneExpansion};
+ghost use Rattle.front_files.specs.Exact.{IsExactRefusal, IsExactVerdict};
 ghost use Rattle.front_files.specs.Verdicts.{FileVerdict, accepted, refused, Verdict, IsOfFile};
 
-use front_profile::laws::law_one_verdict as law_one_verdict_of_a_form;
+use front_profile::laws::{law_macros, law_one_verdict as law_one_verdict_of_a_form};
 use front_reader::laws::{law_end, law_next_or_stops, law_one_datum, law_one_stop};
 
-/// A prelude and a text have at most one verdict in each mode, where names are numbered by one table.
+/// A prelude and a text have at most one verdict in each mode, where names are numbered by one table: as long as no form
+/// defines a macro; and with macros, of verdicts that are not given for want of words or of instructions of an expander,
+/// where calls of macros have one expansion.
 pub fn law_one_verdict()
-    ensures { (names : List (List ℕ)) (prelude text : List ℕ) (mode : mode_of) (v w : FileVerdict) → IsTable names →
+    ensures without { (names : List (List ℕ)) (prelude text : List ℕ) (mode : mode_of) (v w : FileVerdict) → IsTable names →
+        Verdict names prelude text mode v → Verdict names prelude text mode w → v ≡ w }
+    ensures exact { (names : List (List ℕ)) (prelude text : List ℕ) (mode : mode_of) (v w : FileVerdict) → IsTable names → OneExpansion names →
+        IsExactVerdict v → IsExactVerdict w →
         Verdict names prelude text mode v → Verdict names prelude text mode w → v ≡ w }
 {
     law_one_verdict_of_a_form();
+    law_macros();
     law_one_datum();
     law_one_stop();
     law_next_or_stops();
     law_end();
 }
 
-/// A prelude that is accepted in front of the empty file refuses no file: what refuses a file is its length, or
-/// stands in it.
+/// A prelude that is accepted in front of the empty file refuses no file: what refuses a file is its length, or stands in
+/// it. So it is as long as no form defines a macro; and with macros, of refusals that are not for want of words or of
+/// instructions of an expander, where calls of macros have one expansion.
 pub fn law_prelude()
-    ensures { (names : List (List ℕ)) (prelude text : List ℕ) (mode : mode_of) (program : program_rows) (r : refusal) → IsTable names →
+    ensures without { (names : List (List ℕ)) (prelude text : List ℕ) (mode : mode_of) (program : program_rows) (r : refusal) → IsTable names →
+        Verdict names prelude [] Run (accepted program) → Verdict names prelude text mode (refused r) → IsOfFile names text mode r }
+    ensures exact { (names : List (List ℕ)) (prelude text : List ℕ) (mode : mode_of) (program : program_rows) (r : refusal) → IsTable names → OneExpansion names →
+        IsExactRefusal r →
         Verdict names prelude [] Run (accepted program) → Verdict names prelude text mode (refused r) → IsOfFile names text mode r }
 {
     law_one_verdict_of_a_form();
+    law_macros();
     law_one_datum();
     law_one_stop();
     law_next_or_stops();

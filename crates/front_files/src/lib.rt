@@ -8,4 +8,4 @@ pub mod program;
 mod shown;
 
 pub use mode::Mode;
-pub use program::{Whole, read_program};
+pub use program::{Whole, read_program, read_program_with};

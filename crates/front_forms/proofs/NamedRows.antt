@@ -12,6 +12,8 @@ use Rattle.lang_derived.specs.Asked.{list_items}
 use Rattle.front_profile.specs.declared.bound.Bound.{Bound}
 use Rattle.front_profile.specs.declared.parameters.Parameters.{Parameters}
 use Rattle.front_profile.specs.declared.bound.Target.{Target}
+use Rattle.front_profile.specs.declared.elaboration.DefinedAs.{DefinedAs}
+use Rattle.front_profile.specs.declared.elaboration.DefinedAs.TheVariants.{Function}
 use Rattle.front_profile.specs.declared.elaboration.Leaf.{Leaf}
 use Rattle.front_profile.specs.declared.special.Special.{Special}
 use Rattle.front_profile.specs.declared.special.Special.TheVariants as name
@@ -265,19 +267,19 @@ defdynamic_said a s p (d ∷ []) = record { said = refl }
 defdynamic_said a s p (d ∷ x ∷ []) = defdynamic_as_said a s p (defining.named (symbol_of d)) x
 defdynamic_said a s p (d ∷ x ∷ e ∷ ds) = record { said = refl }
 
-defun_with_said : (a : StaticContext) (s : Tables) (n : Name) (d l : Item) (fs : List Item) (ps : Option Parameters) → Said (defining.defun_with a s n d l fs ps)
-defun_with_said a s n d l fs None = record { said = refl }
-defun_with_said a s n d l fs (Some ps) = record { said = refl }
+defun_with_said : (k : DefinedAs) (a : StaticContext) (s : Tables) (n : Name) (d l : Item) (fs : List Item) (ps : Option Parameters) → Said (defining.defun_with k a s n d l fs ps)
+defun_with_said k a s n d l fs None = record { said = refl }
+defun_with_said k a s n d l fs (Some ps) = record { said = refl }
 
-defun_as_said : (kept : Bool) (a : StaticContext) (s : Tables) (p : Place) (d l : Item) (fs : List Item) (n : Option Name) → Said (defining.defun_as kept a s p d l fs n)
-defun_as_said kept a s p d l fs None = record { said = refl }
-defun_as_said kept a s p d l fs (Some n) =
-    unless_said p _ _ (within_said 1 a p _ (defun_with_said a s n d l fs (parameters_in s.words l)))
+defun_as_said : (k : DefinedAs) (kept : Bool) (a : StaticContext) (s : Tables) (p : Place) (d l : Item) (fs : List Item) (n : Option Name) → Said (defining.defun_as k kept a s p d l fs n)
+defun_as_said k kept a s p d l fs None = record { said = refl }
+defun_as_said k kept a s p d l fs (Some n) =
+    unless_said p _ _ (within_said 1 a p _ (defun_with_said k a s n d l fs (parameters_in s.words l)))
 
-defun_said : (kept : Bool) (a : StaticContext) (s : Tables) (p : Place) (ds : List Item) → Said (defining.defun_row kept a s p ds)
-defun_said kept a s p [] = record { said = refl }
-defun_said kept a s p (d ∷ []) = record { said = refl }
-defun_said kept a s p (d ∷ l ∷ fs) = defun_as_said kept a s p d l fs (defining.named (symbol_of d))
+defun_said : (k : DefinedAs) (kept : Bool) (a : StaticContext) (s : Tables) (p : Place) (ds : List Item) → Said (defining.defun_row k kept a s p ds)
+defun_said k kept a s p [] = record { said = refl }
+defun_said k kept a s p (d ∷ []) = record { said = refl }
+defun_said k kept a s p (d ∷ l ∷ fs) = defun_as_said k kept a s p d l fs (defining.named (symbol_of d))
 
 -- generic functions and methods
 
@@ -400,7 +402,7 @@ special_said names name.WithFunctions a s p ds h = with_functions_said (function
 special_said names name.Defglobal a s p ds h = global_said false a s p ds
 special_said names name.Defconstant a s p ds h = global_said true a s p ds
 special_said names name.Defdynamic a s p ds h = defdynamic_said a s p ds
-special_said names name.Defun a s p ds h = defun_said (first_reserved names ds) a s p ds
+special_said names name.Defun a s p ds h = defun_said Function (first_reserved names ds) a s p ds
 special_said names name.Defmacro a s p ds h = record { said = refl }
 special_said names name.Defclass a s p ds h = defclass_said names a s p ds h
 special_said names name.Defgeneric a s p ds h = defgeneric_said names a s p ds h

@@ -18,7 +18,7 @@ use Rattle.lang_derived.specs.declared.one_step.Step.{Step}
 use Rattle.lang_derived.specs.declared.one_step.Step.TheVariants.{Derived, Plain}
 use Rattle.front_profile.specs.declared.tables.Tables.{Tables}
 use Rattle.front_profile.specs.Nodes.{StaticContext, Verdict, refused, ended}
-use Rattle.front_profile.specs.Rows.{class_offence, class_refusal, class_in_front, node, plain_node}
+use Rattle.front_profile.specs.Rows.{class_offence, class_refusal, class_in_front, node, settled_node}
 use Rattle.front_profile.specs.Judged.{Elaborates, step, offence, with_fresh}
 use Rattle.front_profile.specs.Marks.{TablesGrow}
 use Rattle.front_profile.specs.Shapes.{symbol_of}
@@ -99,7 +99,7 @@ leads_step names more s d t e e2 after l c x h = record { under = under }
 
 -- what is no derived form comes to what its row says
 plain_comes : (later : List (List ℕ)) (a : StaticContext) (t : Tables) (e : Item) (v : Verdict) → class_in_front later t (list_items e) ≡ None → derivation later (length t.fresh) e ≡ plain
-    → Elaborates later (plain_node later a t e) v → Elaborates later (node later a t e) v
+    → Elaborates later (settled_node later a t e) v → Elaborates later (node later a t e) v
 unfolding node
 plain_comes later a t e v p h k = rw (p, h) k
 
@@ -109,10 +109,10 @@ pub settles_there : (names more : List (List ℕ)) (s : Tables) (d : Item) (t : 
 settles_there names more s d t e after l c x h = record { under = under }
   where
     under : (later : List (List ℕ)) → Extends more later → (a : StaticContext) (v : Verdict) →
-        Elaborates later (plain_node later a (with_symbols after t) e) v → Elaborates later (node later a s d) v
+        Elaborates later (settled_node later a (with_symbols after t) e) v → Elaborates later (node later a s d) v
     under later y a v k =
         let taken : IsStep later e t.fresh Plain after = h.under later y in
-        let P : List Symbol → Type 0 = λ f. Elaborates later (plain_node later a (with_symbols f t) e) v in
+        let P : List Symbol → Type 0 = λ f. Elaborates later (settled_node later a (with_symbols f t) e) v in
         l.under later (Extends-then names more later x y) a v (plain_comes later a t e v (c.under later (Extends-then names more later x y)) taken.0 (subst P taken.1 k))
 
 -- a form that fits no row offends

@@ -26,7 +26,7 @@ use front_drafts::draft::{Draft, offence};
 use front_drafts::here::{FormContext, Here};
 use front_drafts::plan::Plan;
 use front_drafts::take::take;
-use front_profile::{Leaf, Special, Tables, special_named};
+use front_profile::{DefinedAs, Leaf, Special, Tables, special_named};
 use front_special_forms::bindings::{
     dynamic_let_draft, lambda_draft, let_draft, with_functions_draft,
 };
@@ -132,7 +132,12 @@ fn special_draft<'a>(
         Special::Defglobal => global_draft(here, false, items),
         Special::Defconstant => global_draft(here, true, items),
         Special::Defdynamic => defdynamic_draft(here, items),
-        Special::Defun => defun_draft(here, first_reserved(names, items), items),
+        Special::Defun => defun_draft(
+            here,
+            DefinedAs::Function,
+            first_reserved(names, items),
+            items,
+        ),
         Special::Defmacro => Ok(offence(here.place, Reason::NotBuilt)),
         Special::Defclass => defclass_draft(here, names, items),
         Special::Defgeneric => defgeneric_draft(here, names, items),

@@ -27,7 +27,7 @@ use Rattle.front_profile.specs.ClassRows.{Function, for_initform, for_method, Us
 use Rattle.front_profile.specs.Definitions.{Definitions, defined, rows_of, SoundTables, SoundDefinitions}
 use Rattle.front_profile.proofs.Definitions.{method_from}
 use Rattle.front_profile.proofs.Functions.{alone_more}
-use Rattle.front_profile.proofs.DefiningRows.{other_way}
+use Rattle.front_profile.proofs.DefiningRows.{no_function, other_way}
 use Rattle.front_profile.proofs.Adding.{none_more, no_generic, new_row, method_of, with_method, tables_with, later_generic, sound_generic, TakesMethod, StandsBelow, stands_generic, stands_method, all_stand_below}
 use Rattle.front_profile.proofs.Methods.{Joined, joined_same, joined_then, method_defined, joined_method}
 use Rattle.front_profile.proofs.Joining.{Joins}
@@ -89,7 +89,7 @@ none_named n (g ∷ gs) h =
     rw other (ap (option_map (λ k. k + 1)) (none_named n gs o.1))
 
 pub no_generic_named : (t : Tables) (n : Name) → SoundTables t → has_function t n ≡ false → generic_named t.generics n ≡ None
-no_generic_named t n w h = none_named n t.generics (no_generic n t.functions t.generics h w.generics.named)
+no_generic_named t n w h = none_named n t.generics (no_generic n t.functions t.generics (no_function t n h) w.generics.named)
 
 -- that of another name stays
 

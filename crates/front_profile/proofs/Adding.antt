@@ -17,7 +17,7 @@ use Rattle.front_profile.specs.declared.elaboration.MethodHead.{MethodHead}
 use Rattle.front_profile.specs.Elaborations.{with_method_at}
 use Rattle.front_profile.specs.DefiningRows.{is_that}
 use Rattle.front_profile.specs.Definitions.{Definitions, rows_of, Later, has_function, same_generic, SoundDefinitions, EachStands}
-use Rattle.front_profile.proofs.Definitions.{literals_later, procedures_later, own_later, generics_later, functions_later, mains_later, all_push}
+use Rattle.front_profile.proofs.Definitions.{literals_later, procedures_later, own_later, generics_later, functions_later, macros_later, mains_later, all_push}
 use Rattle.front_profile.proofs.Places.{any_front, any_behind}
 use Rattle.front_profile.proofs.DefiningRows.{named_more, one_name_more}
 
@@ -107,6 +107,7 @@ sound_generic g n required rest w k =
       functions = all_push (λ f. callee_fits (rows_of h) f.callee) g.functions f (functions_later g h l g.functions w.functions)
           (lt-ltb (length g.generics) (length h.generics) (omega (arith, length-append g.generics (row ∷ []))));
       names = one_name_more n (callee.Generic (length g.generics)) g.functions w.names k;
+      macros = macros_later g h l g.macros w.macros;
       main = mains_later g h l g.main w.main;
     }
 
@@ -197,6 +198,7 @@ sound_method g i m w t =
       };
       functions = functions_later g h l g.functions w.functions;
       names = w.names;
+      macros = macros_later g h l g.macros w.macros;
       main = mains_later g h l g.main w.main;
     }
 

@@ -1,6 +1,6 @@
 -- The node of every good datum at a good place beside whole tables is apt.
 use Rattle.std.proofs.Common.{◌≡◌, refl, arith}
-use Rattle.std.specs.Prelude.{ℕ, true, false, List, [], ◌∷◌, Option, Some, None, length}
+use Rattle.std.specs.Prelude.{ℕ, nat_le, true, false, List, [], ◌∷◌, Option, Some, None, length}
 use Rattle.base.specs.declared.place.Place.{Place}
 use Rattle.base.specs.declared.datum.Symbol.{Symbol}
 use Rattle.base.specs.declared.datum.Symbol.TheVariants.{Named, Fresh}
@@ -15,6 +15,7 @@ use Rattle.lang_derived.specs.Asked.{list_items}
 use Rattle.lang_derived.specs.Derived.{Derivation, plain, unfit, becomes, derivation}
 use Rattle.front_profile.specs.declared.elaboration.Leaf.TheVariants.{NextMethod, HasNext}
 use Rattle.lang_meaning.specs.declared.kinds.OverTwo.TheVariants.{Apply, While, Catch, Throw, Unwind, WithHandler}
+use Rattle.front_profile.specs.declared.elaboration.DefinedAs.TheVariants.{Function}
 use Rattle.front_profile.specs.declared.elaboration.Elaboration.TheVariants.{CallOfValue}
 use Rattle.front_profile.specs.declared.special.Special.{Special}
 use Rattle.front_profile.specs.declared.special.Special.TheVariants as name
@@ -23,13 +24,13 @@ use Rattle.front_profile.specs.Words.{is_left_out}
 use Rattle.front_profile.specs.Names.{function_of}
 use Rattle.front_profile.specs.Nodes.{StaticContext, Node}
 use Rattle.front_profile.specs.Shapes.{symbol_of}
-use Rattle.front_profile.specs.Rows.{first_reserved, functions_kept, special_row, special_node, without_dot, call_symbol, call_as, special_of, headed_as, is_lambda, headed_by_form, headed_by, list_node, plain_node, class_in_front, unless_refused, derived_as, node}
+use Rattle.front_profile.specs.Rows.{first_reserved, functions_kept, special_row, special_node, without_dot, call_symbol, call_as, special_of, headed_as, is_lambda, headed_by_form, headed_by, list_node, plain_node, class_in_front, unless_refused, macro_called, most_expansions, most_in_row, called_or, derived_as, node}
 use Rattle.front_profile.specs.bridge.WellFormedParts.{good_list}
 use Rattle.front_profile.specs.Definitions.{defined}
 use Rattle.front_profile.specs.Places.{scope_of}
 use Rattle.front_profile.proofs.Places.{function_there}
 use Rattle.front_profile.proofs.Definitions.{entered_same, counted_same}
-use Rattle.front_profile.proofs.Wanted.{AptAt, Stage}
+use Rattle.front_profile.proofs.Wanted.{right_at, AptSteps, AptAt, Stage}
 use Rattle.front_profile.proofs.Apt.{apt_if, apt_literal}
 use Rattle.front_profile.proofs.ValueRows.{apt_symbol, apt_quote, apt_setq, apt_progn, apt_cond, apt_two, apt_body, apt_dynamic, apt_set_dynamic, apt_function, apt_method, next_of_methods, has_of_methods, apt_class}
 use Rattle.front_profile.proofs.ExitRows.{apt_block, apt_return_from, apt_tagbody, apt_go}
@@ -72,7 +73,7 @@ module _ (rules : ClassRules) where
   apt_special names n name.Defglobal a s p ds b g = apt_global n false a s p ds b g
   apt_special names n name.Defconstant a s p ds b g = apt_global n true a s p ds b g
   apt_special names n name.Defdynamic a s p ds b g = apt_defdynamic n a s p ds b g
-  apt_special names n name.Defun a s p ds b g = apt_defun n (first_reserved names ds) a s p ds b g
+  apt_special names n name.Defun a s p ds b g = apt_defun n Function (first_reserved names ds) a s p ds b g
   apt_special names n name.Defmacro a s p ds b g = tt
   apt_special names n name.Defclass a s p ds b g = apt_defclass rules names n a s p ds b g
   apt_special names n name.Defgeneric a s p ds b g = apt_defgeneric names n a s p ds b g
@@ -136,12 +137,10 @@ module _ (rules : ClassRules) where
   apt_plain names n a s (item p (vector ds)) b g = apt_literal n a s p (row.Datum (item p (vector ds))) b (formed_tells (item p (vector ds)) g.formed)
   apt_plain names n a s (item p nil) b g = apt_literal n a s p (row.Datum (item p nil)) b refl
 
-  -- derived forms
+  -- calls of macros, and derived forms
 
-  apt_derived : (names : List (List ℕ)) (n : ℕ) (x : Derivation) (a : StaticContext) (s : Tables) (d : Item) → Stage a s → WellFormed n d → AptAt n a s (derived_as names x a s d)
-  apt_derived names n plain a s d b g = apt_plain names n a s d b g
-  apt_derived names n unfit a s d b g = tt
-  apt_derived names n (becomes r) a s d b g = record {
+  apt_standing : (n : ℕ) (a : StaticContext) (s : Tables) (d : Item) → Stage a s → WellFormed n d → AptSteps (right_at a) a.spot n (defined s) a s d
+  apt_standing n a s d b g = record {
     entered = entered_same (defined s) b.whole;
     good = b.good;
     datum = g;
@@ -149,6 +148,17 @@ module _ (rules : ClassRules) where
     same_spot = refl;
     start = counted_same a.spot.sited (defined s);
   }
+
+  apt_called : (names : List (List ℕ)) (n : ℕ) (m : Option ℕ) (a : StaticContext) (s : Tables) (d : Item) → Stage a s → WellFormed n d
+      → AptAt n a s (called_or m a s d (plain_node names a s d))
+  apt_called names n None a s d b g = apt_plain names n a s d b g
+  apt_called names n (Some m) a s d b g =
+      apt_if n a s (nat_le most_expansions s.expansions) _ _ tt (apt_if n a s (nat_le most_in_row a.spot.in_row) _ _ tt (apt_standing n a s d b g))
+
+  apt_derived : (names : List (List ℕ)) (n : ℕ) (x : Derivation) (a : StaticContext) (s : Tables) (d : Item) → Stage a s → WellFormed n d → AptAt n a s (derived_as names x a s d)
+  apt_derived names n plain a s d b g = apt_called names n (macro_called names a s d) a s d b g
+  apt_derived names n unfit a s d b g = tt
+  apt_derived names n (becomes r) a s d b g = apt_standing n a s d b g
 
   apt_unless : (n : ℕ) (a : StaticContext) (s : Tables) (r : Option Refusal) (x : Node) → AptAt n a s x → AptAt n a s (unless_refused r x)
   apt_unless n a s None x h = h

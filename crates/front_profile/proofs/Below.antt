@@ -9,17 +9,17 @@ use Rattle.lang_meaning.specs.declared.program.Procedure.{Procedure}
 use Rattle.base.specs.declared.datum.Symbol.{Symbol}
 use Rattle.base.specs.AllOf.{all_both}
 use Rattle.front_profile.specs.Elaborations.{finish, with_procedure, procedure_found, accessor_procedure}
-use Rattle.front_profile.specs.Nodes.{StaticContext, Part, form, below, inner, bind, parameter, wrong, function, Written, initform, accessor, method, Node, offends, unnamed, steps, whole, Standing, Verdict, stands as comes_to, ended, behind, recorded}
+use Rattle.front_profile.specs.Nodes.{StaticContext, Part, form, below, inner, bind, parameter, wrong, function, Written, initform, accessor, method, Node, offends, unnamed, steps, calls, whole, Standing, Verdict, stands as comes_to, ended, behind, recorded}
 use Rattle.front_profile.specs.RowWords.{deeper, each_inner, each_parameter}
 use Rattle.front_profile.specs.Shapes.{all_symbols}
 use Rattle.front_profile.specs.FunctionNodes.{function_parts, variables_of, with_accessor, function_node}
 use Rattle.front_profile.specs.Rows.{node}
-use Rattle.front_profile.specs.Judged.{with_fresh, with_variable, subject, Verdicts, all_stand, one_ended, in_front, made_verdict, Elaborates, offence, step, made, ElaboratesAll, ends, goes, stops}
+use Rattle.front_profile.specs.Judged.{with_fresh, with_expansion, again, with_variable, subject, Verdicts, all_stand, one_ended, in_front, made_verdict, Elaborates, offence, step, expanded, expansion_stops, made, ElaboratesAll, ends, goes, stops}
 use Rattle.front_profile.specs.Marks.{TablesGrow}
 use Rattle.front_profile.specs.bridge.Growing.{tables_grow_transitive}
 use Rattle.front_profile.specs.Below.{SameNames, NothingDefined, OneProcedure}
 use Rattle.front_profile.proofs.Procedures.{IsOrdinary, AllOrdinary, IsLow, AllLow, all_low, inner_ordinary}
-use Rattle.front_profile.proofs.Starting.{grows_numbers, names_then, none_defined, none_then, none_literal, none_numbers, none_fresh, LowWhole, JoinsSuited, Starts}
+use Rattle.front_profile.proofs.Starting.{grows_numbers, names_then, none_defined, none_then, none_literal, none_numbers, none_fresh, none_expansion, LowWhole, JoinsSuited, Starts}
 use Rattle.front_profile.proofs.Known.{known_same}
 use Rattle.front_profile.proofs.Growing.{starts_node}
 
@@ -59,10 +59,18 @@ starts_from s t top (steps a u d) g n h = record {
   names = names_then s t u n.names h.names;
   low = λ e. let l : (a.spot.top ≡ false) × NothingDefined t u = h.low e in (l.0, none_then s t u n l.1);
 }
+starts_from s t top (calls a u m d) g n h = (
+  record {
+    grows = tables_grow_transitive s t u g h.0.grows;
+    names = names_then s t u n.names h.0.names;
+    low = λ e. let l : (a.spot.top ≡ false) × NothingDefined t u = h.0.low e in (l.0, none_then s t u n l.1);
+  },
+  λ e. h.1 (ap (λ b. b.macros) g.before ∙ e),
+)
 starts_from s t top (whole o i u xs m) g n h = record {
   grows = tables_grow_transitive s t u g h.grows;
   names = names_then s t u n.names h.names;
-  suited = ⊎_elim inl (λ (j : JoinsSuited t u xs m.making). inr (record { functions = j.functions; suits = λ keep w. j.suits keep (known_same s t n.names w) })) h.suited;
+  suited = ⊎_elim inl (λ (j : JoinsSuited t u xs m.making). inr (record { functions = j.functions; macros = j.macros; suits = λ keep w. j.suits keep (known_same s t n.names w) })) h.suited;
   low = λ e.
       let l : LowWhole t o i u xs m.making = h.low e in
       record { defined = none_then s t u n l.defined; parts = l.parts; ordinary = l.ordinary; makes = l.makes };
@@ -103,6 +111,12 @@ mutual
       from_front s (with_fresh n t) v2 (none_then s t (with_fresh n t) l.1 (none_fresh t n))
       (node_nothing names (node names a (with_fresh n t) d2) v2 c (with_fresh n t)
       (record { top = a.spot.top; low = l.0; starts = starts_node names (with_fresh n t) a d2 }))
+  node_nothing names x v (expanded a t macro d e v2 h c) s b =
+      let l : (a.spot.top ≡ false) × NothingDefined s t = b.starts.0.low b.low in
+      from_front s (with_expansion t) v2 (none_then s t (with_expansion t) l.1 (none_expansion t))
+      (node_nothing names (node names (again a) (with_expansion t) e) v2 c (with_expansion t)
+      (record { top = a.spot.top; low = l.0; starts = starts_node names (with_expansion t) (again a) e }))
+  node_nothing names x v (expansion_stops a t macro d r h) s b = tt
   node_nothing names x v (made o i t xs m w g) s b =
       let l : LowWhole s o i t xs m.making = b.starts.low b.low in
       made_nothing s t o i xs m w l (all_nothing names o i t xs w g l.parts l.ordinary)
@@ -132,6 +146,7 @@ abbrev LeavesOne : Tables → Node → Type 0
 LeavesOne s (offends p r) = ⊥
 LeavesOne s unnamed = ⊥
 LeavesOne s (steps a t d) = ⊥
+LeavesOne s (calls a t m d) = ⊥
 LeavesOne s (whole o i t xs m) = OneWhole s o i t xs m.making
 
 abbrev LeftOne : Tables → Verdict → Type 0
@@ -152,6 +167,8 @@ made_one s t o i xs m (one_ended e) l h = tt
 node_one : (names : List (List ℕ)) (x : Node) (v : Verdict) → Elaborates names x v → (s : Tables) → LeavesOne s x → LeftOne s v
 node_one names x v (offence p r) s l = absurd l
 node_one names x v (step a t d d2 n v2 h c) s l = absurd l
+node_one names x v (expanded a t macro d e v2 h c) s l = absurd l
+node_one names x v (expansion_stops a t macro d r h) s l = absurd l
 node_one names x v (made o i t xs m w g) s l = made_one s t o i xs m w l (all_nothing names o i t xs w g l.parts l.ordinary)
 
 parameters_ordinary : (ps : List Symbol) → AllOrdinary (each_parameter ps)
@@ -159,7 +176,7 @@ parameters_ordinary [] = tt
 parameters_ordinary (p ∷ ps) = (tt, parameters_ordinary ps)
 
 one_names : (u : Tables) (p : Procedure) → SameNames u (with_procedure p u)
-one_names u p = record { words = refl; classes = refl; prelude_classes = refl; generics = refl; functions = refl; prelude = refl; globals = refl; dynamics = refl; main = refl }
+one_names u p = record { words = refl; classes = refl; prelude_classes = refl; generics = refl; functions = refl; macros = refl; prelude = refl; globals = refl; dynamics = refl; main = refl }
 
 one_more : (u : Tables) (p : Procedure) → OneProcedure u (with_procedure p u)
 one_more u p = record { names = one_names u p; procedure = p; procedures = refl }

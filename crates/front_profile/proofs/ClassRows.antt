@@ -31,7 +31,8 @@ use Rattle.front_profile.specs.GenericRows.{keeps, unless_unknown}
 use Rattle.front_profile.specs.ClassRows.{Function, for_initform, for_method, functions_of, all_functions, Use, uses, is_lacking, is_of_function, is_kept_name, takes_it, row_named, fits_generic, names_differ, known_supers, first_unknown_super, are_supers, few_inherited, has_wrong_options, part_of, slot_parts, class_parts, slot_specs, slot_functions, class_made, class_in_text, class_of_prelude, is_taken_class, is_reserved_class, class_of, class_shaped, defclass_row}
 use Rattle.front_profile.specs.bridge.SoundClasses.{sound_defclass}
 use Rattle.front_profile.specs.Definitions.{Definitions, defined, Later, slot_fits, SoundDefinitions}
-use Rattle.front_profile.proofs.Definitions.{literals_later, procedures_later, own_later, generics_later, functions_later, mains_later, all_push}
+use Rattle.front_profile.proofs.DefiningRows.{no_function}
+use Rattle.front_profile.proofs.Definitions.{literals_later, procedures_later, own_later, generics_later, functions_later, macros_later, mains_later, all_push}
 use Rattle.front_profile.proofs.Procedures.{MadeFrom}
 use Rattle.front_profile.proofs.Wanted.{AptAt, Stage}
 use Rattle.front_profile.proofs.ValueRows.{class_there}
@@ -133,7 +134,7 @@ use_ready names a s u None w e f k t =
     let free : has_function s u.name ≡ false =
     free_use a.spot.sited (has_function s u.name) (is_of_prelude s u.name) (is_truth a s u.name) (keeps names u.name)
     (ap (λ q. (has_function s u.name && not (is_some q)) && not (a.spot.sited && is_of_prelude s u.name)) (sym e) ∙ f) k in
-    subst (MaybeReady (length s.classes.rows) u s.functions) (sym (found_none u.name s.generics e)) free
+    subst (MaybeReady (length s.classes.rows) u s.functions) (sym (found_none u.name s.generics e)) (no_function s u.name free)
 use_ready names a s u (Some i) w e f k t = by_found (found u.name s.generics) refl
   where
     by_found : (q : Option GenericRow) → found u.name s.generics ≡ q → MaybeReady (length s.classes.rows) u s.functions q
@@ -194,6 +195,7 @@ class_joined t c of_file w hierarchy fit =
         generics = record { fit = generics_later g h l g.generics w.generics.fit; names = w.generics.names; named = w.generics.named };
         functions = functions_later g h l g.functions w.functions;
         names = w.names;
+        macros = macros_later g h l g.macros w.macros;
         main = mains_later g h l g.main w.main;
       };
       later = l;

@@ -23,19 +23,22 @@ use Rattle.lang_meaning.specs.Standing.{is_alone}
 use Rattle.lang_meaning.specs.Facts.{same_name, callee_fits}
 use Rattle.lang_meaning.specs.ProgramCounts.{procedure_nodes}
 use Rattle.front_profile.specs.declared.tables.Tables.{Tables}
+use Rattle.front_profile.specs.declared.tables.MacroRow.{MacroRow}
 use Rattle.front_profile.specs.declared.parameters.Parameters.{Parameters}
+use Rattle.front_profile.specs.declared.elaboration.DefinedAs.{DefinedAs}
+use Rattle.front_profile.specs.declared.elaboration.DefinedAs.TheVariants.{Function, Macro}
 use Rattle.front_profile.specs.declared.elaboration.One.TheVariants.{DefineGlobal, DefineDynamic}
 use Rattle.front_profile.specs.Nodes.{StaticContext, Part, Node}
-use Rattle.front_profile.specs.Elaborations.{leaf_form, forms_found, procedure_found}
+use Rattle.front_profile.specs.Elaborations.{leaf_form, forms_found, with_defined, procedure_found}
 use Rattle.front_profile.specs.Shapes.{symbol_of, parameters_in, all_symbols}
 use Rattle.front_profile.specs.RowWords.{each_parameter, each_inner, alone}
 use Rattle.front_profile.specs.FunctionNodes.{function_parts}
 use Rattle.front_profile.specs.DefiningRows.{named, is_that, has_global, has_dynamic, global_variable, dynamic_variable, is_set, is_of_prelude, has_function, is_taken, is_truth, is_reserved, defining_offence, unless_offending, global_as, global_row, defdynamic_as, defdynamic_row, with_name, named_form, defun_of, defun_with, defun_as, defun_row}
-use Rattle.front_profile.specs.Definitions.{Definitions, defined, rows_of, Later, Undefined, has_function as has_row, SoundDefinitions, EachStands}
+use Rattle.front_profile.specs.Definitions.{Definitions, defined, rows_of, Later, Undefined, has_function as has_row, macro_stands, SoundDefinitions, EachStands}
 use Rattle.front_profile.specs.Places.{scope_of}
 use Rattle.front_profile.specs.Right.{RightIn, NodesCounted}
 use Rattle.front_profile.proofs.Tests.{all_more}
-use Rattle.front_profile.proofs.Definitions.{Entered, entered_same, entered_literal, later_then, literals_later, procedures_later, own_later, generics_later, functions_later, callee_fits_later, mains_later, each_stands_same, all_push, counted_same, counted_then}
+use Rattle.front_profile.proofs.Definitions.{Entered, entered_same, entered_literal, later_then, literals_later, procedures_later, own_later, generics_later, functions_later, macros_later, callee_fits_later, mains_later, each_stands_same, all_push, counted_same, counted_then}
 use Rattle.front_profile.proofs.Procedures.{all_low}
 use Rattle.front_profile.proofs.Functions.{FitsAlone, fits_at_most, one_more, later_procedure, sound_procedure, procedure_counted, found_procedure}
 use Rattle.front_profile.proofs.Nodes.{nodes_in, found_nodes, body_nodes}
@@ -86,6 +89,9 @@ apt_defdynamic n a s p (d ∷ []) b g = tt
 apt_defdynamic n a s p (d ∷ x ∷ e ∷ ds) b g = tt
 
 -- no function has the name before
+
+pub no_function : (s : Tables) (n : Name) → has_function s n ≡ false → list_any (λ f. is_that n f.name) s.functions ≡ false
+no_function s n h = (or_parts (list_any (λ f. is_that n f.name) s.functions) (list_any (λ m. is_that n m.name) s.macros) h).0
 
 pub fresh_name : (sited has prelude truth kept : Bool) → (has && not (sited && prelude)) ≡ false → (truth || (sited && (kept || prelude))) ≡ false → has ≡ false
 fresh_name sited false prelude truth kept h k = refl
@@ -154,6 +160,39 @@ sound_row g name c w e k =
       };
       functions = all_push (λ f. callee_fits (rows_of h) f.callee) g.functions f (functions_later g h l g.functions w.functions) (callee_fits_later g h l c e);
       names = one_name_more name c g.functions w.names k;
+      macros = macros_later g h l g.macros w.macros;
+      main = mains_later g h l g.main w.main;
+    }
+
+-- with a macro
+
+abbrev with_macro_row : Definitions → MacroRow → Definitions
+with_macro_row g m = record g { macros = g.macros ++ m ∷ [] }
+
+later_macro : (g : Definitions) (m : MacroRow) → Later g (with_macro_row g m)
+later_macro g m = record {
+  literals = omega arith;
+  procedures = omega arith;
+  kept = λ i q e. e;
+  classes = omega arith;
+  generics = omega arith;
+  sites = omega arith;
+  variables = omega arith;
+  exits = omega arith;
+}
+
+sound_macro : (g : Definitions) (m : MacroRow) → SoundDefinitions g → macro_stands g m ≡ true → SoundDefinitions (with_macro_row g m)
+sound_macro g m w k =
+    let h : Definitions = with_macro_row g m in
+    let l : Later g h = later_macro g m in
+    record {
+      literals = literals_later g h l g.literals w.literals;
+      procedures = procedures_later g h l g.procedures w.procedures;
+      classes = record { hierarchy = w.classes.hierarchy; slots = own_later g h l g.classes.own w.classes.slots };
+      generics = record { fit = generics_later g h l g.generics w.generics.fit; names = w.generics.names; named = w.generics.named };
+      functions = functions_later g h l g.functions w.functions;
+      names = w.names;
+      macros = all_push (macro_stands h) g.macros m (macros_later g h l g.macros w.macros) k;
       main = mains_later g h l g.main w.main;
     }
 
@@ -177,6 +216,35 @@ stands_with g name p a s = record {
       ⊎_elim (λ front. s.stands i q front) (λ last. or_right _ _ (ap (λ r. is_alone false (Some r)) (sym last.1) ∙ a)) (slice_get-push g.procedures p i q e);
 }
 
+stands_one : (g : Definitions) (p : Procedure) → is_alone false (Some p) ≡ true → EachStands g → EachStands (one_more g p)
+stands_one g p a s = record {
+  stands = λ i q e.
+      ⊎_elim (λ front. s.stands i q front) (λ last. or_right _ _ (ap (λ r. is_alone false (Some r)) (sym last.1) ∙ a)) (slice_get-push g.procedures p i q e);
+}
+
+-- a function or a macro more
+
+later_defined : (k : DefinedAs) (name : Name) (p : Procedure) (of_file : Bool) (u : Tables) → Later (defined u) (defined (with_defined k name p of_file u))
+later_defined Function name p of_file u = later_function (defined u) name p
+later_defined Macro name p of_file u =
+    later_then (defined u) (one_more (defined u) p) (defined (with_defined Macro name p of_file u)) (later_procedure (defined u) p) (later_macro (one_more (defined u) p) _)
+
+sound_defined : (k : DefinedAs) (name : Name) (p : Procedure) (of_file : Bool) (u : Tables) → SoundDefinitions (defined u) → FitsAlone (defined u) false p
+    → list_any (λ f. is_that name f.name) u.functions ≡ false → SoundDefinitions (defined (with_defined k name p of_file u))
+sound_defined Function name p of_file u w f e = whole_function (defined u) name p w f e
+sound_defined Macro name p of_file u w f e =
+    sound_macro (one_more (defined u) p) (record { name = name; procedure = length u.procedures })
+    (sound_procedure (defined u) p w (fits_at_most (defined u) false p f)) (ap (is_alone false) (slice_get-behind u.procedures p) ∙ f.alone)
+
+main_defined : (k : DefinedAs) (name : Name) (p : Procedure) (of_file : Bool) (u : Tables) → (with_defined k name p of_file u).main ≡ u.main
+main_defined Function name p of_file u = refl
+main_defined Macro name p of_file u = refl
+
+stands_defined : (k : DefinedAs) (name : Name) (p : Procedure) (of_file : Bool) (u : Tables) → is_alone false (Some p) ≡ true → EachStands (defined u)
+    → EachStands (defined (with_defined k name p of_file u))
+stands_defined Function name p of_file u a s = stands_with (defined u) name p a s
+stands_defined Macro name p of_file u a s = record { stands = (stands_one (defined u) p a s).stands }
+
 -- the name of a file's function is a literal
 pub name_entered : (sited : Bool) (d : Item) (s : Tables) → SoundDefinitions (defined s) → is_formed d ≡ true → Entered (defined s) (defined (with_name sited d s))
 name_entered true d s w g = entered_literal (defined s) (row.Datum d) w g
@@ -191,6 +259,11 @@ name_right false d s h t k l e = made_body h t k [] l tt
 function_counted : (b : Bool) (x g : Definitions) (name : Name) (p : Procedure) (n k : ℕ) → n ≤ procedure_nodes p → NodesCounted b x g n → NodesCounted b x (with_both g name p) k
 function_counted b x g name p n k l c = let r : NodesCounted b x (one_more g p) k = procedure_counted b x g p n k l c in record { sites = r.sites }
 
+defined_counted : (b : Bool) (x : Definitions) (d : DefinedAs) (name : Name) (p : Procedure) (of_file : Bool) (u : Tables) (n k : ℕ) → n ≤ procedure_nodes p
+    → NodesCounted b x (defined u) n → NodesCounted b x (defined (with_defined d name p of_file u)) k
+defined_counted b x Function name p of_file u n k l c = function_counted b x (defined u) name p n k l c
+defined_counted b x Macro name p of_file u n k l c = let r : NodesCounted b x (one_more (defined u) p) k = procedure_counted b x (defined u) p n k l c in record { sites = r.sites }
+
 pub name_counted : (b sited : Bool) (d : Item) (s : Tables) → NodesCounted b (defined s) (defined (with_name sited d s)) 0
 name_counted b true d s = record { sites = (counted_same b (defined s)).sites }
 name_counted b false d s = record { sites = (counted_same b (defined s)).sites }
@@ -199,9 +272,9 @@ pub name_numbered : (sited : Bool) (s : Tables) (h k : Definitions) → Numbered
 name_numbered true s h k = record { numbers = refl }
 name_numbered false s h k = record { numbers = refl }
 
-apt_defun_of : (n : ℕ) (a : StaticContext) (s : Tables) (name : Name) (d : Item) (fs : List Item) (ps : Parameters) → Stage a s → WellFormed n d → AllOf (WellFormed n) fs
-    → a.spot.top ≡ true → has_function s name ≡ false → a.spot.depth + 1 ≤ 1000 → AptAt n a s (defun_of a s name d fs ps)
-apt_defun_of n a s name d fs ps b h g top fresh l =
+apt_defun_of : (n : ℕ) (k : DefinedAs) (a : StaticContext) (s : Tables) (name : Name) (d : Item) (fs : List Item) (ps : Parameters) → Stage a s → WellFormed n d → AllOf (WellFormed n) fs
+    → a.spot.top ≡ true → has_function s name ≡ false → a.spot.depth + 1 ≤ 1000 → AptAt n a s (defun_of k a s name d fs ps)
+apt_defun_of n kind a s name d fs ps b h g top fresh l =
     let i : StaticContext = alone false a in
     let t : Tables = with_name a.spot.sited d s in
     let xs : List Part = function_parts ps fs in
@@ -213,7 +286,7 @@ apt_defun_of n a s name d fs ps b h g top fresh l =
       level = λ k. absurd (cc k);
       sited = (refl, refl);
       parts = function_apt n i ps fs refl g;
-      right = λ u rs c. name_right a.spot.sited d s _ (scope_of a) a.spot.depth l (later_then (defined t) (defined u) (with_both (defined u) name _) c.later (later_function (defined u) name _));
+      right = λ u rs c. name_right a.spot.sited d s _ (scope_of a) a.spot.depth l (later_then (defined t) (defined u) _ c.later (later_defined kind name _ a.spot.sited u));
       leaves = λ u rs c.
           let p : Procedure = procedure_found (Some name) (length ps.required) (is_some ps.rest) rs in
           let fits : FitsAlone (defined u) false p =
@@ -222,37 +295,37 @@ apt_defun_of n a s name d fs ps b h g top fresh l =
           let parts : Undefined (defined t) (defined u) = c.undefined (all_ordinary n i xs refl (function_apt n i ps fs refl g)) (all_low false false xs refl refl) in
           let same : u.functions ≡ s.functions = parts.functions ∙ e.same.functions in
           record {
-            later = later_then (defined t) (defined u) (with_both (defined u) name p) c.later (later_function (defined u) name p);
-            sound = whole_function (defined u) name p c.whole fits
-                (subst (λ (fs : List FunctionRow). list_any (λ f. is_that name f.name) fs ≡ false) (sym same) fresh);
-            main = c.main;
+            later = later_then (defined t) (defined u) _ c.later (later_defined kind name p a.spot.sited u);
+            sound = sound_defined kind name p a.spot.sited u c.whole fits
+                (subst (λ (fs : List FunctionRow). list_any (λ f. is_that name f.name) fs ≡ false) (sym same) (no_function s name fresh));
+            main = main_defined kind name p a.spot.sited u ∙ c.main;
             inside = λ k. absurd (cc (top, k));
-            stand = λ k. stands_with (defined u) name p fits.alone (each_stands_same (defined t) (defined u) parts k);
+            stand = λ k. stands_defined kind name p a.spot.sited u fits.alone (each_stands_same (defined t) (defined u) parts k);
           };
       counted = λ u rs c k.
           let p : Procedure = procedure_found (Some name) (length ps.required) (is_some ps.rest) rs in
           let forms : found_nodes rs ≡ nodes_in (forms_found rs) =
           forms_counted (spots (defined u) i i rs) (function_parts ps fs) rs c.match
           (both_plain (each_parameter (all_symbols ps)) (each_inner fs) (parameters_plain (all_symbols ps)) (inner_plain fs)) in
-          function_counted a.spot.sited (defined s) (defined u) name p (0 + counted_nodes xs rs) _ (omega (arith, counted_at_most xs rs, forms, body_nodes (forms_found rs)))
+          defined_counted a.spot.sited (defined s) kind name p a.spot.sited u (0 + counted_nodes xs rs) _ (omega (arith, counted_at_most xs rs, forms, body_nodes (forms_found rs)))
           (counted_then a.spot.sited (defined s) (defined t) (defined u) 0 (counted_nodes xs rs) (name_counted a.spot.sited a.spot.sited d s) k);
       numbered = λ u rs c m. name_numbered a.spot.sited s _ _;
     }
 
-apt_defun_with : (n : ℕ) (a : StaticContext) (s : Tables) (name : Name) (d l : Item) (fs : List Item) (ps : Option Parameters) → Stage a s → WellFormed n d → AllOf (WellFormed n) fs
-    → a.spot.top ≡ true → has_function s name ≡ false → a.spot.depth + 1 ≤ 1000 → AptAt n a s (defun_with a s name d l fs ps)
-apt_defun_with n a s name d l fs None b h g top fresh k = tt
-apt_defun_with n a s name d l fs (Some ps) b h g top fresh k = apt_defun_of n a s name d fs ps b h g top fresh k
+apt_defun_with : (n : ℕ) (k : DefinedAs) (a : StaticContext) (s : Tables) (name : Name) (d l : Item) (fs : List Item) (ps : Option Parameters) → Stage a s → WellFormed n d → AllOf (WellFormed n) fs
+    → a.spot.top ≡ true → has_function s name ≡ false → a.spot.depth + 1 ≤ 1000 → AptAt n a s (defun_with k a s name d l fs ps)
+apt_defun_with n kind a s name d l fs None b h g top fresh k = tt
+apt_defun_with n kind a s name d l fs (Some ps) b h g top fresh k = apt_defun_of n kind a s name d fs ps b h g top fresh k
 
-apt_defun_as : (n : ℕ) (kept : Bool) (a : StaticContext) (s : Tables) (p : Place) (d l : Item) (fs : List Item) (name : Option Name) → Stage a s → WellFormed n d → AllOf (WellFormed n) fs
-    → AptAt n a s (defun_as kept a s p d l fs name)
-apt_defun_as n kept a s p d l fs None b h g = tt
-apt_defun_as n kept a s p d l fs (Some name) b h g =
+apt_defun_as : (n : ℕ) (k : DefinedAs) (kept : Bool) (a : StaticContext) (s : Tables) (p : Place) (d l : Item) (fs : List Item) (name : Option Name) → Stage a s → WellFormed n d → AllOf (WellFormed n) fs
+    → AptAt n a s (defun_as k kept a s p d l fs name)
+apt_defun_as n kind kept a s p d l fs None b h g = tt
+apt_defun_as n kind kept a s p d l fs (Some name) b h g =
     where_no_offence n a s p a.spot.top (is_taken a.spot.sited s name) (is_reserved kept a s name) _
-    (λ t k r. apt_within n a s 1 p _ (apt_defun_with n a s name d l fs (parameters_in s.words l) b h g t
+    (λ t k r. apt_within n a s 1 p _ (apt_defun_with n kind a s name d l fs (parameters_in s.words l) b h g t
     (fresh_name a.spot.sited (has_function s name) (is_of_prelude s name) (is_truth a s name) kept k r)))
 
-pub apt_defun : (n : ℕ) (kept : Bool) (a : StaticContext) (s : Tables) (p : Place) (ds : List Item) → Stage a s → AllOf (WellFormed n) ds → AptAt n a s (defun_row kept a s p ds)
-apt_defun n kept a s p [] b g = tt
-apt_defun n kept a s p (d ∷ []) b g = tt
-apt_defun n kept a s p (d ∷ l ∷ fs) b g = apt_defun_as n kept a s p d l fs (named (symbol_of d)) b g.0 g.1.1
+pub apt_defun : (n : ℕ) (k : DefinedAs) (kept : Bool) (a : StaticContext) (s : Tables) (p : Place) (ds : List Item) → Stage a s → AllOf (WellFormed n) ds → AptAt n a s (defun_row k kept a s p ds)
+apt_defun n k kept a s p [] b g = tt
+apt_defun n k kept a s p (d ∷ []) b g = tt
+apt_defun n k kept a s p (d ∷ l ∷ fs) b g = apt_defun_as n k kept a s p d l fs (named (symbol_of d)) b g.0 g.1.1

@@ -21,7 +21,8 @@ use Rattle.lang_meaning.specs.Lookup.{all_differ}
 use Rattle.lang_meaning.specs.Standing.{stands_alone, is_alone}
 use Rattle.lang_meaning.specs.Facts.{body_fits, literal_fits, initform_fits, is_congruent, knows_next, method_fits, same_method, generic_fits, callee_fits, same_name}
 use Rattle.lang_classes.specs.InheritedClasses.{Hierarchy, IsHierarchy}
-use Rattle.front_profile.specs.Definitions.{Definitions, rows_of, Later, Undefined, procedure_fits, takes_nothing, initform_takes_nothing, slot_fits, has_function, same_generic, main_fits, WholeClasses, WholeGenerics, SoundDefinitions, EachStands}
+use Rattle.front_profile.specs.declared.tables.MacroRow.{MacroRow}
+use Rattle.front_profile.specs.Definitions.{Definitions, rows_of, Later, Undefined, procedure_fits, takes_nothing, initform_takes_nothing, slot_fits, has_function, same_generic, macro_stands, main_fits, WholeClasses, WholeGenerics, SoundDefinitions, EachStands}
 use Rattle.front_profile.specs.Right.{Behind, NodesCounted}
 use Rattle.front_profile.proofs.Tests.{all_more}
 use Rattle.front_profile.proofs.Forms.{fits_later}
@@ -51,7 +52,7 @@ later_then g h k l m = record {
 }
 
 pub undefined_same : (g : Definitions) → Undefined g g
-undefined_same g = record { procedures = refl; classes = refl; generics = refl; functions = refl }
+undefined_same g = record { procedures = refl; classes = refl; generics = refl; functions = refl; macros = refl }
 
 pub undefined_then : (g h k : Definitions) → Undefined g h → Undefined h k → Undefined g k
 undefined_then g h k u v = record {
@@ -59,6 +60,7 @@ undefined_then g h k u v = record {
   classes = v.classes ∙ u.classes;
   generics = v.generics ∙ u.generics;
   functions = v.functions ∙ u.functions;
+  macros = v.macros ∙ u.macros;
 }
 
 -- rows fit later too
@@ -168,6 +170,9 @@ pub functions_later : (g h : Definitions) → Later g h → (fs : List FunctionR
     → list_all (λ f. callee_fits (rows_of h) f.callee) fs ≡ true
 functions_later g h l fs e = all_more (λ f. callee_fits (rows_of g) f.callee) (λ f. callee_fits (rows_of h) f.callee) (λ f k. callee_fits_later g h l f.callee k) fs e
 
+pub macros_later : (g h : Definitions) → Later g h → (ms : List MacroRow) → list_all (macro_stands g) ms ≡ true → list_all (macro_stands h) ms ≡ true
+macros_later g h l ms e = all_more (macro_stands g) (macro_stands h) (λ m k. asked_later g h l (is_alone false) refl m.procedure k) ms e
+
 pub mains_later : (g h : Definitions) → Later g h → (fs : List Form) → list_all (main_fits g) fs ≡ true → list_all (main_fits h) fs ≡ true
 mains_later g h l fs e = all_more (main_fits g) (main_fits h) (main_fits_later g h l) fs e
 
@@ -186,15 +191,16 @@ whole_generics_later g h l e f w = record {
 
 -- tables with other literals, sites and numbers, and with more procedures
 pub sound_later : (g h : Definitions) → Later g h → SoundDefinitions g → list_all (literal_fits (rows_of g)) h.literals ≡ true
-    → list_all (procedure_fits g) h.procedures ≡ true → h.classes ≡ g.classes → h.generics ≡ g.generics → h.functions ≡ g.functions → h.main ≡ g.main
+    → list_all (procedure_fits g) h.procedures ≡ true → h.classes ≡ g.classes → h.generics ≡ g.generics → h.functions ≡ g.functions → h.macros ≡ g.macros → h.main ≡ g.main
     → SoundDefinitions h
-sound_later g h l w e p k x f m = record {
+sound_later g h l w e p k x f y m = record {
   literals = literals_later g h l h.literals e;
   procedures = procedures_later g h l h.procedures p;
   classes = classes_later g h l k w.classes;
   generics = whole_generics_later g h l x f w.generics;
   functions = ap (list_all (λ f. callee_fits (rows_of h) f.callee)) f ∙ functions_later g h l g.functions w.functions;
   names = ap (all_differ same_name) f ∙ w.names;
+  macros = ap (list_all (macro_stands h)) y ∙ macros_later g h l g.macros w.macros;
   main = ap (list_all (main_fits h)) m ∙ mains_later g h l g.main w.main;
 }
 
@@ -243,10 +249,10 @@ later_literal g x = record {
 
 pub entered_literal : (g : Definitions) (x : LiteralRow) → SoundDefinitions g → literal_fits (rows_of g) x ≡ true → Entered g (record g { literals = g.literals ++ x ∷ [] })
 entered_literal g x w h = record {
-  whole = sound_later g (record g { literals = g.literals ++ x ∷ [] }) (later_literal g x) w (all_push (literal_fits (rows_of g)) g.literals x w.literals h) w.procedures refl refl refl refl;
+  whole = sound_later g (record g { literals = g.literals ++ x ∷ [] }) (later_literal g x) w (all_push (literal_fits (rows_of g)) g.literals x w.literals h) w.procedures refl refl refl refl refl;
   later = later_literal g x;
   main = refl;
-  same = record { procedures = refl; classes = refl; generics = refl; functions = refl };
+  same = record { procedures = refl; classes = refl; generics = refl; functions = refl; macros = refl };
 }
 
 later_site : (g : Definitions) (p : Place) → Later g (record g { sites = g.sites ++ p ∷ [] })
@@ -263,10 +269,10 @@ later_site g p = record {
 
 pub entered_site : (g : Definitions) (p : Place) → SoundDefinitions g → Entered g (record g { sites = g.sites ++ p ∷ [] })
 entered_site g p w = record {
-  whole = sound_later g (record g { sites = g.sites ++ p ∷ [] }) (later_site g p) w w.literals w.procedures refl refl refl refl;
+  whole = sound_later g (record g { sites = g.sites ++ p ∷ [] }) (later_site g p) w w.literals w.procedures refl refl refl refl refl;
   later = later_site g p;
   main = refl;
-  same = record { procedures = refl; classes = refl; generics = refl; functions = refl };
+  same = record { procedures = refl; classes = refl; generics = refl; functions = refl; macros = refl };
 }
 
 later_numbers : (g : Definitions) (v e : ℕ) → g.variables ≤ v → g.exits ≤ e → Later g (record g { variables = v; exits = e })
@@ -283,10 +289,10 @@ later_numbers g v e l m = record {
 
 pub entered_numbers : (g : Definitions) (v e : ℕ) → g.variables ≤ v → g.exits ≤ e → SoundDefinitions g → Entered g (record g { variables = v; exits = e })
 entered_numbers g v e l m w = record {
-  whole = sound_later g (record g { variables = v; exits = e }) (later_numbers g v e l m) w w.literals w.procedures refl refl refl refl;
+  whole = sound_later g (record g { variables = v; exits = e }) (later_numbers g v e l m) w w.literals w.procedures refl refl refl refl refl;
   later = later_numbers g v e l m;
   main = refl;
-  same = record { procedures = refl; classes = refl; generics = refl; functions = refl };
+  same = record { procedures = refl; classes = refl; generics = refl; functions = refl; macros = refl };
 }
 
 -- what stands behind a form

@@ -2,23 +2,25 @@
 use Rattle.std.proofs.Common.{◌≡◌, ℕ, true, List, length, refl, sym, ap, subst, ◌∙◌}
 use Rattle.base.specs.WellFormedData.{WellFormed}
 use Rattle.lang_derived.specs.WellFormedSteps.{StepsAreWellFormed}
+use Rattle.lang_taken.specs.Laws.{LawOfForm}
 use Rattle.front_profile.specs.declared.tables.Tables.{Tables}
 use Rattle.front_profile.specs.Nodes.{StaticContext, Part, Node, Verdict, stands as comes_to, behind}
 use Rattle.front_profile.specs.declared.spot.Spot.{Spot}
 use Rattle.front_profile.specs.Rows.{node}
-use Rattle.front_profile.specs.Judged.{with_fresh, subject, Verdicts, Elaborates, offence, step, made, ElaboratesAll, ends, goes, stops}
+use Rattle.front_profile.specs.Judged.{with_fresh, with_expansion, again, subject, Verdicts, Elaborates, offence, step, expanded, expansion_stops, made, ElaboratesAll, ends, goes, stops}
 use Rattle.front_profile.specs.Definitions.{Definitions, defined, Later, SoundDefinitions}
 use Rattle.front_profile.specs.Places.{EmptyContext, WellFormedContext}
 use Rattle.front_profile.specs.Right.{NodesCounted}
 use Rattle.front_profile.proofs.Definitions.{later_same, undefined_same, counted_same}
-use Rattle.front_profile.proofs.Good.{good_later}
+use Rattle.front_profile.proofs.Good.{good_later, good_again}
 use Rattle.front_profile.proofs.Wanted.{AllApt, Want, right_at, LeavesAs, Apt, Stage}
 use Rattle.front_profile.proofs.ClassRules.{ClassRules}
+use Rattle.front_profile.proofs.Expansions.{expansions_good}
 use Rattle.front_profile.proofs.AllRows.{apt_node}
-use Rattle.front_profile.proofs.Parts.{CameAs, CameTo, AllCameTo, part_place, part_spot, part_tables, moved, as_wanted, whole_came, part_apt}
+use Rattle.front_profile.proofs.Parts.{CameAs, CameTo, AllCameTo, part_place, part_spot, part_tables, moved, came_again, as_wanted, whole_came, part_apt}
 use Rattle.front_profile.proofs.PartsBehind.{later_part, leaves_later, leaves_sound, one_more_came, good_behind, elsewhere, same_spot}
 
-module _ (keep : StepsAreWellFormed) (rules : ClassRules) where
+module _ (keep : StepsAreWellFormed) (form : LawOfForm) (rules : ClassRules) where
   mutual
     pub node_came : (names : List (List ℕ)) (x : Node) (v : Verdict) → Elaborates names x v → (Q : Want) (spot : Spot) (g : Definitions)
         → Apt Q spot (length names) g x → CameTo Q spot g v
@@ -31,6 +33,15 @@ module _ (keep : StepsAreWellFormed) (rules : ClassRules) where
         (apt_node rules names (length names) b (with_fresh n s) d2 stage good) in
         let start : NodesCounted b.spot.sited g (defined s) 0 = subst (λ (t : Spot). NodesCounted t.sited g (defined s) 0) (sym a.same_spot) a.start in
         as_wanted b Q spot g v2 a.wanted a.same_spot (moved b g (defined s) v2 a.entered start here)
+    node_came names x v (expanded b s macro d e v2 h c) Q spot g a =
+        let stage : Stage (again b) (with_expansion s) = record { good = good_again (defined s) b a.good; whole = a.entered.whole } in
+        let good : WellFormed (length names) e = expansions_good form names s macro d _ e h in
+        let here : CameTo (right_at (again b)) (again b).spot (defined (with_expansion s)) v2 =
+        node_came names (node names (again b) (with_expansion s) e) v2 c (right_at (again b)) (again b).spot (defined (with_expansion s))
+        (apt_node rules names (length names) (again b) (with_expansion s) e stage good) in
+        let start : NodesCounted b.spot.sited g (defined s) 0 = subst (λ (t : Spot). NodesCounted t.sited g (defined s) 0) (sym a.same_spot) a.start in
+        as_wanted b Q spot g v2 a.wanted a.same_spot (moved b g (defined s) v2 a.entered start (came_again b (defined s) v2 here))
+    node_came names x v (expansion_stops b s macro d r h) Q spot g a = tt
     node_came names x v (made o i s xs m w g) Q spot g2 a =
         whole_came Q spot (length names) g2 o i s xs m w a
         (all_came names o i s xs w g a.entered.whole a.outside a.inside a.level (a.sited.1 ∙ sym a.sited.0) a.parts)

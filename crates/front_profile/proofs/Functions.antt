@@ -88,7 +88,7 @@ later_procedure g p = record {
 
 pub sound_procedure : (g : Definitions) (p : Procedure) → SoundDefinitions g → procedure_fits g p ≡ true → SoundDefinitions (one_more g p)
 sound_procedure g p w f =
-    sound_later g (one_more g p) (later_procedure g p) w w.literals (all_push (procedure_fits g) g.procedures p w.procedures f) refl refl refl refl
+    sound_later g (one_more g p) (later_procedure g p) w w.literals (all_push (procedure_fits g) g.procedures p w.procedures f) refl refl refl refl refl
 
 pub procedures_then : (ps : List Procedure) (p : Procedure) → sum_by procedure_nodes (ps ++ p ∷ []) ≡ sum_by procedure_nodes ps + procedure_nodes p
 procedures_then ps p = sum_by_push procedure_nodes ps p

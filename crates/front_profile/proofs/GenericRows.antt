@@ -33,7 +33,7 @@ use Rattle.lang_classes.specs.InheritedSlots.{same_name}
 use Rattle.front_profile.specs.Definitions.{Definitions, defined, rows_of, SoundDefinitions}
 use Rattle.front_profile.proofs.Procedures.{IsProcedureOf, MadeFrom}
 use Rattle.front_profile.proofs.Wanted.{AptAt, Stage}
-use Rattle.front_profile.proofs.DefiningRows.{fresh_name}
+use Rattle.front_profile.proofs.DefiningRows.{no_function, fresh_name}
 use Rattle.front_profile.proofs.Adding.{new_row, plus_method, method_of, tables_with, get_with, later_generic, sound_generic, TakesMethod, StandsBelow, stands_generic, stands_next, all_stand_below}
 use Rattle.front_profile.proofs.MethodViews.{AllRight, each_front, each_behind, MethodView, method_view}
 use Rattle.front_profile.proofs.Methods.{none_alike, SameGeneric, alike_same, alike_more, FitsRow, fits_row, method_fits_there, Joined, joined_same, joined_then, method_defined, joined_method}
@@ -108,7 +108,7 @@ new_joined : (s : Tables) (n : Name) (ps : Parameters) (ms : List WrittenMethod)
     → Joins (length s.procedures) (defined u) (defined (with_methods (length u.generics) (all_heads s ms) (length s.procedures) (with_generic n (length ps.required) (is_some ps.rest) of_file u)))
 new_joined s n ps ms of_file u l fresh f c =
     let t : Tables = with_generic n (length ps.required) (is_some ps.rest) of_file u in
-    let new : list_any (λ (f : FunctionRow). is_that n f.name) u.functions ≡ false = ap (λ fs. list_any (λ (f : FunctionRow). is_that n f.name) fs) c.same.functions ∙ fresh in
+    let new : list_any (λ (f : FunctionRow). is_that n f.name) u.functions ≡ false = ap (λ fs. list_any (λ (f : FunctionRow). is_that n f.name) fs) c.same.functions ∙ no_function s n fresh in
     let w : SoundDefinitions (defined t) = sound_generic (defined u) n (length ps.required) (is_some ps.rest) c.sound new in
     let x : GenericRow = new_row n (length ps.required) (is_some ps.rest) in
     let rest : Joins (length s.procedures) (defined t) (defined (with_methods (length u.generics) (all_heads s ms) (length s.procedures) t)) =

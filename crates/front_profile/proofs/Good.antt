@@ -13,6 +13,7 @@ use Rattle.front_profile.specs.Names.{variable_of}
 use Rattle.front_profile.specs.Nodes.{StaticContext, with_bound}
 use Rattle.front_profile.specs.Shapes.{Pair, symbol_of}
 use Rattle.front_profile.specs.RowWords.{deeper, deeper_at_top, with_all, alone}
+use Rattle.front_profile.specs.Judged.{again}
 use Rattle.front_profile.specs.BindingRows.{function_and, variable_that_is, functions_of}
 use Rattle.front_profile.specs.Definitions.{Definitions, Later}
 use Rattle.front_profile.specs.Places.{variables_around, exit_numbers, exits_around, scope_of, Rises, FunctionThere, EmptyContext, WellFormedContext}
@@ -33,6 +34,14 @@ good_deeper g n a o = record { variables = o.variables; exits = o.exits; functio
 
 pub good_at_top : (g : Definitions) (a : StaticContext) → WellFormedContext g a → WellFormedContext g (deeper_at_top a)
 good_at_top g a o = record {
+  variables = o.variables;
+  exits = o.exits;
+  functions = o.functions;
+  top = λ e. let n : EmptyContext a = o.top e in record { bound = n.bound; method = n.method };
+}
+
+pub good_again : (g : Definitions) (a : StaticContext) → WellFormedContext g a → WellFormedContext g (again a)
+good_again g a o = record {
   variables = o.variables;
   exits = o.exits;
   functions = o.functions;

@@ -1,6 +1,7 @@
 -- Each row begins with tables that stand behind those in front of it, and below top level nothing is defined there.
-use Rattle.std.proofs.Common.{ℕ, Bool, true, false, List, [], ◌∷◌, length, Option, Some, None}
+use Rattle.std.proofs.Common.{◌≡◌, ◌||◌, if◌then◌else◌, take, is_some, refl, ap, ℕ, nat_le, Bool, true, false, List, [], ◌∷◌, length, Option, Some, None}
 use Rattle.base.specs.declared.place.Place.{Place}
+use Rattle.base.specs.declared.datum.Name.{Name}
 use Rattle.base.specs.declared.datum.Symbol.{Symbol}
 use Rattle.base.specs.declared.datum.Symbol.TheVariants.{Named, Fresh}
 use Rattle.base.specs.declared.reason.Refusal.{Refusal}
@@ -11,6 +12,7 @@ use Rattle.lang_derived.specs.Derived.{Derivation, plain, unfit, becomes, deriva
 use Rattle.front_profile.specs.declared.tables.Tables.{Tables}
 use Rattle.front_profile.specs.declared.elaboration.Leaf.TheVariants.{NextMethod, HasNext}
 use Rattle.lang_meaning.specs.declared.kinds.OverTwo.TheVariants.{Apply, While, Catch, Throw, Unwind, WithHandler}
+use Rattle.front_profile.specs.declared.elaboration.DefinedAs.TheVariants.{Function}
 use Rattle.front_profile.specs.declared.elaboration.Elaboration.TheVariants.{CallOfValue}
 use Rattle.front_profile.specs.declared.special.Special.{Special}
 use Rattle.front_profile.specs.declared.special.Special.TheVariants as name
@@ -19,7 +21,7 @@ use Rattle.front_profile.specs.Names.{function_of}
 use Rattle.front_profile.specs.Nodes.{StaticContext, Node}
 use Rattle.front_profile.specs.Shapes.{symbol_of, clauses_in}
 use Rattle.front_profile.specs.GivenNames.{unfit}
-use Rattle.front_profile.specs.Rows.{first_reserved, functions_kept, special_row, special_node, without_dot, call_symbol, call_as, special_of, headed_as, is_lambda, headed_by_form, headed_by, list_node, plain_node, class_in_front, unless_refused, derived_as, node}
+use Rattle.front_profile.specs.Rows.{first_reserved, functions_kept, special_row, special_node, without_dot, call_symbol, call_as, special_of, headed_as, is_lambda, headed_by_form, headed_by, list_node, plain_node, class_in_front, unless_refused, macro_named, macros_before, macro_of_symbol, macro_of_items, macro_called, most_expansions, most_in_row, called_or, settled_node, derived_as, node}
 use Rattle.front_profile.specs.bridge.Growing.{tables_grow_reflexive}
 use Rattle.front_profile.proofs.Starting.{NodeBegins, names_same, none_defined, Starts, begins_so, starts_if, starts_literal}
 use Rattle.front_profile.proofs.StartingForms.{starts_symbol, starts_quote, starts_setq, starts_progn, starts_cond_as, starts_two, starts_body, starts_dynamic, starts_set_dynamic, starts_function, starts_method, starts_class, starts_block, starts_return_from, starts_tagbody, starts_go, starts_all_parts, call_nothing, call_simple, starts_local_call, starts_let, starts_dynamic_let, starts_lambda, starts_with_functions}
@@ -104,8 +106,44 @@ starts_plain_node names s a (item p (string bytes)) = starts_literal s a p _
 starts_plain_node names s a (item p (vector ds)) = starts_literal s a p _
 starts_plain_node names s a (item p nil) = starts_literal s a p _
 
+-- where no macro applies none is called
+
+none_named : (s : Tables) (n : Name) → s.before.macros ≡ 0 → macro_named (macros_before s) n ≡ None
+none_named s n e = ap (λ k. macro_named (take k s.macros) n) e
+
+none_of_symbol : (names : List (List ℕ)) (s : Tables) (x : Option Symbol) (a : StaticContext) → s.before.macros ≡ 0 → macro_of_symbol names a s x ≡ None
+none_of_symbol names s None a e = refl
+none_of_symbol names s (Some (Fresh k serial)) a e = refl
+none_of_symbol names s (Some (Named n)) a e =
+    by_test (is_some (special_of (symbol_text names (Named n))) || is_some (function_of a.bound (Named n))) (none_named s n e)
+  where
+    by_test : (b : Bool) → macro_named (macros_before s) n ≡ None → (if b then None else macro_named (macros_before s) n) ≡ None
+    by_test true h = refl
+    by_test false h = h
+
+none_of_items : (names : List (List ℕ)) (s : Tables) (ds : Option (List Item)) (a : StaticContext) → s.before.macros ≡ 0 → macro_of_items names a s ds ≡ None
+none_of_items names s None a e = refl
+none_of_items names s (Some []) a e = refl
+none_of_items names s (Some (h ∷ ds)) a e = none_of_symbol names s (symbol_of h) a e
+
+pub none_called : (names : List (List ℕ)) (s : Tables) (a : StaticContext) (d : Item) → s.before.macros ≡ 0 → macro_called names a s d ≡ None
+none_called names s a d e = none_of_items names s (list_items d) a e
+
+starts_called : (names : List (List ℕ)) (s : Tables) (m : Option ℕ) (a : StaticContext) (d : Item) → macro_called names a s d ≡ m
+    → Starts s a.spot.top (called_or m a s d (plain_node names a s d))
+starts_called names s None a d c = starts_plain_node names s a d
+starts_called names s (Some m) a d c =
+    starts_if s a.spot.top (nat_le most_expansions s.expansions) _ _ tt
+    (starts_if s a.spot.top (nat_le most_in_row a.spot.in_row) _ _ tt (
+      record { grows = tables_grow_reflexive s; names = names_same s; low = λ e. (e, none_defined s) },
+      λ e. absurd (cc (c, none_called names s a d e)),
+    ))
+
+pub starts_settled : (names : List (List ℕ)) (s : Tables) (a : StaticContext) (d : Item) → Starts s a.spot.top (settled_node names a s d)
+starts_settled names s a d = starts_called names s (macro_called names a s d) a d refl
+
 starts_derived : (names : List (List ℕ)) (s : Tables) (x : Derivation) (a : StaticContext) (d : Item) → Starts s a.spot.top (derived_as names x a s d)
-starts_derived names s plain a d = starts_plain_node names s a d
+starts_derived names s plain a d = starts_settled names s a d
 starts_derived names s unfit a d = tt
 starts_derived names s (becomes r) a d = record { grows = tables_grow_reflexive s; names = names_same s; low = λ e. (e, none_defined s) }
 

@@ -2,13 +2,13 @@
 use Rattle.std.proofs.Common.{◌+◌, ℕ, List, arith}
 use Rattle.front_profile.specs.declared.tables.Tables.{Tables}
 use Rattle.front_profile.specs.declared.elaboration.Made.{Made}
-use Rattle.front_profile.specs.Nodes.{StaticContext, Part, form, below, inner, bind, parameter, wrong, function, Node, offends, unnamed, steps, whole, Standing, Verdict, stands as comes_to, ended, behind, recorded}
+use Rattle.front_profile.specs.Nodes.{StaticContext, Part, form, below, inner, bind, parameter, wrong, function, Node, offends, unnamed, steps, calls, whole, Standing, Verdict, stands as comes_to, ended, behind, recorded}
 use Rattle.front_profile.specs.RowWords.{deeper}
 use Rattle.front_profile.specs.Rows.{node}
-use Rattle.front_profile.specs.Judged.{with_fresh, with_variable, subject, Verdicts, all_stand, one_ended, in_front, made_verdict, Elaborates, offence, step, made, ElaboratesAll, ends, goes, stops}
+use Rattle.front_profile.specs.Judged.{with_fresh, with_expansion, again, with_variable, subject, Verdicts, all_stand, one_ended, in_front, made_verdict, Elaborates, offence, step, expanded, expansion_stops, made, ElaboratesAll, ends, goes, stops}
 use Rattle.front_profile.specs.Marks.{TablesGrow}
 use Rattle.front_profile.specs.bridge.Growing.{tables_grow_transitive, tables_grow_reflexive, finish_grows}
-use Rattle.front_profile.proofs.Starting.{grows_fresh, grows_numbers, NodeBegins}
+use Rattle.front_profile.proofs.Starting.{grows_fresh, grows_expansion, grows_numbers, NodeBegins}
 use Rattle.front_profile.proofs.StartingDefinitions.{begins_function_node}
 use Rattle.front_profile.proofs.Growing.{begins_node}
 
@@ -36,12 +36,13 @@ begins_from : (s t : Tables) (x : Node) → TablesGrow s t → NodeBegins t x �
 begins_from s t (offends p r) g h = tt
 begins_from s t unnamed g h = tt
 begins_from s t (steps a u d) g h = tables_grow_transitive s t u g h
+begins_from s t (calls a u m d) g h = tables_grow_transitive s t u g h
 begins_from s t (whole o i u xs m) g h = tables_grow_transitive s t u g h
 
 grows_variable : (s : Tables) → TablesGrow s (with_variable s)
 grows_variable s = grows_numbers s (s.variables + 1) s.exits (omega arith) (omega arith)
 
-begins_part : (names : List (List ℕ)) (o i : StaticContext) (s : Tables) (x : Part) → NodeBegins s (subject names o i s x)
+pub begins_part : (names : List (List ℕ)) (o i : StaticContext) (s : Tables) (x : Part) → NodeBegins s (subject names o i s x)
 begins_part names o i s (form d) = begins_node names s o d
 begins_part names o i s (below d) = begins_node names s (deeper 1 o) d
 begins_part names o i s (inner d) = begins_node names s i d
@@ -56,6 +57,10 @@ mutual
   node_grows names x v (step a t d d2 n v2 h c) s b =
       from_front s (with_fresh n t) v2 (tables_grow_transitive s t (with_fresh n t) b (grows_fresh t n))
       (node_grows names (node names a (with_fresh n t) d2) v2 c (with_fresh n t) (begins_node names (with_fresh n t) a d2))
+  node_grows names x v (expanded a t macro d e v2 h c) s b =
+      from_front s (with_expansion t) v2 (tables_grow_transitive s t (with_expansion t) b (grows_expansion t))
+      (node_grows names (node names (again a) (with_expansion t) e) v2 c (with_expansion t) (begins_node names (with_expansion t) (again a) e))
+  node_grows names x v (expansion_stops a t macro d r h) s b = tt
   node_grows names x v (made o i t xs m w g) s b =
       from_front s t (made_verdict m w) b (made_grows t m w (all_grow names o i t xs w g))
 

@@ -13,7 +13,7 @@ use Rattle.lang_dispatch.specs.Methods.{names_of}
 use Rattle.front_profile.specs.declared.tables.Tables.{Tables}
 use Rattle.front_profile.specs.declared.elaboration.MethodHead.{MethodHead}
 use Rattle.front_profile.specs.Elaborations.{with_generic, with_method_at}
-use Rattle.front_profile.specs.DefiningRows.{has_function as has_name}
+use Rattle.front_profile.specs.DefiningRows.{is_that}
 use Rattle.front_profile.specs.Suits.{SuitsName}
 use Rattle.front_profile.specs.Below.{SameNames}
 use Rattle.front_profile.specs.Definitions.{Definitions, defined, rows_of, has_function, SoundTables}
@@ -62,7 +62,7 @@ not_in n (g ∷ gs) h =
     rw (other_way g.name.0 n.0 o.0) (not_in n gs o.1)
 
 -- in the tables
-pub name_suits : (s : Tables) (n : Name) → KnownTables s → has_name s n ≡ false → SuitsName n s
+pub name_suits : (s : Tables) (n : Name) → KnownTables s → list_any (λ f. is_that n f.name) s.functions ≡ false → SuitsName n s
 name_suits s n w h = record { new = not_in n s.generics (no_generic n s.functions s.generics h w.named) }
 
 -- with a generic function more

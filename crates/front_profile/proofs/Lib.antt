@@ -32,6 +32,7 @@ pub mod SuitedClasses
 pub mod AllRows
 pub mod Parts
 pub mod PartsBehind
+pub mod Expansions
 pub mod Elaborated
 pub mod Programs
 pub mod Classes
@@ -43,5 +44,8 @@ pub mod StartingForms
 pub mod StartingDefinitions
 pub mod Growing
 pub mod Grown
+pub mod Once
 pub mod Below
 pub mod Suiting
+pub mod Expanders
+pub mod Macros

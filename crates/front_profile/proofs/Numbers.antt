@@ -66,7 +66,7 @@ pub record AllNumbered (g h : Definitions) (rs : List ElaboratedPart) : Type 0 w
 -- what a making itself binds, or the form that it has
 abbrev pub OwnNumbers : Definitions → Definitions → Elaboration → List ElaboratedPart → Type 0
 OwnNumbers g h (Ready l) rs = Numbered g h (leaf_form l)
-OwnNumbers g h (OfFunctionNamed name n rest of_file l) rs = Numbered g h (leaf_form l)
+OwnNumbers g h (OfFunctionNamed k name n rest of_file l) rs = Numbered g h (leaf_form l)
 OwnNumbers g h (OfMethods t hs p of_file l) rs = Numbered g h (leaf_form l)
 OwnNumbers g h (OfClass c p of_file l) rs = Numbered g h (leaf_form l)
 OwnNumbers g h OfVariables rs = list_all (is_from g.variables h.variables) (variables_bound (bindings_found rs)) ≡ true

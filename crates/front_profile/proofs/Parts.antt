@@ -6,7 +6,7 @@ use Rattle.front_profile.specs.declared.elaboration.Made.{Made}
 use Rattle.front_profile.specs.Nodes.{StaticContext, Part, form, below, inner, bind, parameter, wrong, function, Standing, Verdict, stands as comes_to, ended}
 use Rattle.front_profile.specs.declared.spot.Spot.{Spot}
 use Rattle.front_profile.specs.RowWords.{deeper}
-use Rattle.front_profile.specs.Judged.{with_variable, subject, Verdicts, all_stand, one_ended, made_verdict}
+use Rattle.front_profile.specs.Judged.{again, with_variable, subject, Verdicts, all_stand, one_ended, made_verdict}
 use Rattle.front_profile.specs.Definitions.{Definitions, defined, SoundDefinitions}
 use Rattle.front_profile.specs.Places.{EmptyContext, WellFormedContext}
 use Rattle.front_profile.specs.Right.{NodesCounted}
@@ -69,6 +69,11 @@ moved b g h (comes_to m) e n c = record {
   numbered = numbered_wider h g (defined m.tables) (defined m.tables) m.form e.later (later_same (defined m.tables)) c.numbered;
 }
 moved b g h (ended x) e n c = tt
+
+-- from a call to its expansion, which stands there as a whole
+pub came_again : (b : StaticContext) (g : Definitions) (v : Verdict) → CameTo (right_at (again b)) (again b).spot g v → CameTo (right_at b) b.spot g v
+came_again b g (comes_to m) c = record { right = c.right; leaves = c.leaves; counted = c.counted; numbered = c.numbered }
+came_again b g (ended x) c = tt
 
 -- at the place that is wanted
 pub as_wanted : (b : StaticContext) (Q : Want) (spot : Spot) (g : Definitions) (v : Verdict) → right_at b ≡ Q → b.spot ≡ spot → CameTo (right_at b) b.spot g v → CameTo Q spot g v

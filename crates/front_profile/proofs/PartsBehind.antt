@@ -89,10 +89,10 @@ same_then g h k u s = record { classes = s.classes ∙ u.classes; generics = s.g
 
 -- the tables with a variable more define the same
 undefined_variable : (s : Tables) (h : Definitions) → Undefined (defined (with_variable s)) h → Undefined (defined s) h
-undefined_variable s h u = record { procedures = u.procedures; classes = u.classes; generics = u.generics; functions = u.functions }
+undefined_variable s h u = record { procedures = u.procedures; classes = u.classes; generics = u.generics; functions = u.functions; macros = u.macros }
 
 stand_variable : (s : Tables) → EachStands (defined s) → EachStands (defined (with_variable s))
-stand_variable s e = each_stands_same (defined s) (defined (with_variable s)) (record { procedures = refl; classes = refl; generics = refl; functions = refl }) e
+stand_variable s e = each_stands_same (defined s) (defined (with_variable s)) (record { procedures = refl; classes = refl; generics = refl; functions = refl; macros = refl }) e
 
 function_at : (w : Written) (g h k : Definitions) → OneProcedureMore w g h → Later h k → IsProcedureOf w k.procedures (length g.procedures)
 function_at w g h k o l = record {

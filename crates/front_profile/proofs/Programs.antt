@@ -25,14 +25,14 @@ use Rattle.front_profile.specs.Nodes.{StaticContext, Standing, stands as comes_t
 use Rattle.front_profile.specs.Rows.{node}
 use Rattle.lang_derived.specs.WellFormedSteps.{StepsAreWellFormed}
 use Rattle.front_profile.specs.Judged.{Elaborates}
-use Rattle.front_profile.specs.Definitions.{Definitions, defined, rows_of, Later, procedure_fits, has_function, same_generic, main_fits, EachStands, WholeDefinitions, SoundTables, WholeTables, FewSites}
+use Rattle.front_profile.specs.Definitions.{Definitions, defined, rows_of, Later, procedure_fits, has_function, same_generic, macro_stands, main_fits, EachStands, WholeDefinitions, SoundTables, WholeTables, FewSites}
 use Rattle.front_profile.specs.Between.{TopLevelTables, HasNoForm}
 use Rattle.front_profile.specs.Places.{variables_around, exit_numbers, exits_around, scope_of, Rises, FunctionThere, EmptyContext, WellFormedContext}
 use Rattle.front_profile.specs.Right.{RightAt, Behind, Came, with_main, NodesCounted}
 use Rattle.front_profile.specs.Classes.{BeginsBuiltIn}
 use Rattle.front_profile.proofs.Classes.{built_in_begin, begins_later, built_in_slots_fit, classes_fit}
 use Rattle.front_profile.proofs.Tests.{all_more}
-use Rattle.front_profile.proofs.Definitions.{literals_later, procedures_later, own_later, generics_later, functions_later, each_stands_same, mains_later, main_fits_later, all_push}
+use Rattle.front_profile.proofs.Definitions.{literals_later, procedures_later, own_later, generics_later, functions_later, macros_later, each_stands_same, mains_later, main_fits_later, all_push}
 use Rattle.front_profile.proofs.Wanted.{right_at}
 use Rattle.front_profile.proofs.Good.{scope_with}
 use Rattle.front_profile.proofs.ClassRules.{ClassRules}
@@ -41,13 +41,14 @@ use Rattle.front_profile.proofs.Growing.{begins_node}
 use Rattle.front_profile.proofs.Grown.{node_grows}
 use Rattle.front_profile.proofs.Parts.{CameAs}
 use Rattle.front_profile.proofs.Elaborated.{node_came}
+use Rattle.lang_taken.specs.Laws.{LawOfForm}
 
 -- a datum at a good place beside sound tables
-pub form_came : StepsAreWellFormed → ClassRules → (names : List (List ℕ)) (a : StaticContext) (s : Tables) (d : Item) (m : Standing) → WellFormed (length names) d → WellFormedContext (defined s) a
+pub form_came : StepsAreWellFormed → LawOfForm → ClassRules → (names : List (List ℕ)) (a : StaticContext) (s : Tables) (d : Item) (m : Standing) → WellFormed (length names) d → WellFormedContext (defined s) a
     → SoundTables s → Elaborates names (node names a s d) (comes_to m) → Came a s m
-form_came keep rules names a s d m g o w c =
+form_came keep form rules names a s d m g o w c =
     let r : CameAs (right_at a) a.spot (defined s) m =
-    node_came keep rules names (node names a s d) (comes_to m) c (right_at a) a.spot (defined s) (apt_node rules names (length names) a s d (record { good = o; whole = w }) g) in
+    node_came keep form rules names (node names a s d) (comes_to m) c (right_at a) a.spot (defined s) (apt_node rules names (length names) a s d (record { good = o; whole = w }) g) in
     record {
       right = r.right;
       behind = r.leaves;
@@ -105,9 +106,10 @@ main_whole a t f n r w =
         generics = record { fit = generics_later g h l t.generics w.sound.generics.fit; names = w.sound.generics.names; named = w.sound.generics.named };
         functions = functions_later g h l t.functions w.sound.functions;
         names = w.sound.names;
+        macros = macros_later g h l t.macros w.sound.macros;
         main = all_push (main_fits h) t.main f (mains_later g h l t.main w.sound.main) (main_fits_later g h l f (fits_as_main g a f n r));
       };
-      procedures = each_stands_same g h (record { procedures = refl; classes = refl; generics = refl; functions = refl }) w.procedures;
+      procedures = each_stands_same g h (record { procedures = refl; classes = refl; generics = refl; functions = refl; macros = refl }) w.procedures;
     }
 
 -- the tables in front of all forms
@@ -124,6 +126,7 @@ first_whole texts t b n = record {
     };
     functions = ap (list_all (λ (f : FunctionRow). callee_fits (rows_of (defined t)) f.callee)) n.functions;
     names = ap (all_differ same_name) n.functions;
+    macros = ap (list_all (macro_stands (defined t))) n.macros;
     main = ap (list_all (main_fits (defined t))) n.main;
   };
   procedures = record { stands = λ i p e. let none : None ≡ Some p = ap (λ ps. slice_get ps i) (sym n.procedures) ∙ e in absurd (cc none) };
@@ -191,7 +194,7 @@ procedures_fit : (g : Definitions) (ps : List Procedure) → list_all (procedure
 procedures_fit g ps h =
     all_more (procedure_fits g) (λ p. body_fits (rows_of g) p.body) (λ p e. (and_parts (body_fits (rows_of g) p.body) (is_alone true (Some p)) e).0) ps h
 
-rows_whole : (g : Definitions) → WholeDefinitions g → BeginsBuiltIn g.classes.rows → length g.sites ≤ 100000 → program_nodes (rows_of g) ≤ 100000
+pub rows_whole : (g : Definitions) → WholeDefinitions g → BeginsBuiltIn g.classes.rows → length g.sites ≤ 100000 → program_nodes (rows_of g) ≤ 100000
     → program_cells (rows_of g) ≤ 262144 → is_whole (rows_of g) ≡ true
 rows_whole g w c s n k =
     let r : ProgramRows = rows_of g in
@@ -204,7 +207,7 @@ rows_whole g w c s n k =
     (le-leb (program_cells r) 262144 k)
 
 -- each site is one of a node
-sites_within : (g : Definitions) → FewSites g → program_nodes (rows_of g) ≤ 100000 → length g.sites ≤ 100000
+pub sites_within : (g : Definitions) → FewSites g → program_nodes (rows_of g) ≤ 100000 → length g.sites ≤ 100000
 sites_within g s n = omega (arith, s.few, n)
 
 pub program_whole : (t : Tables) → TopLevelTables t → program_nodes (rows_of (defined t)) ≤ 100000 → program_cells (rows_of (defined t)) ≤ 262144

@@ -1,5 +1,5 @@
 -- The tables that nodes begin with: they stand behind those in front of them, and below top level nothing is defined there.
-use Rattle.std.proofs.Common.{◌+◌, ◌≤◌, ℕ, nat_le, Bool, true, false, List, [], ◌∷◌, length, Some, if◌then◌else◌, refl, ◌∙◌, ◌≡◌, ◌++◌, ◌⊎◌, inl}
+use Rattle.std.proofs.Common.{◌+◌, ◌≤◌, ℕ, nat_le, Bool, true, false, List, [], ◌∷◌, length, Some, if◌then◌else◌, refl, ◌∙◌, ◌≡◌, ◌++◌, ◌⊎◌, inl, arith}
 use Rattle.base.specs.declared.place.Place.{Place}
 use Rattle.base.specs.declared.datum.Name.{Name}
 use Rattle.base.specs.declared.datum.Symbol.{Symbol}
@@ -13,14 +13,15 @@ use Rattle.front_profile.specs.declared.elaboration.ElaboratedPart.{ElaboratedPa
 use Rattle.front_profile.specs.declared.elaboration.One.{One}
 use Rattle.front_profile.specs.declared.elaboration.One.TheVariants.{DefineGlobal, DefineDynamic}
 use Rattle.front_profile.specs.declared.elaboration.Elaboration.{Elaboration}
-use Rattle.front_profile.specs.declared.elaboration.Elaboration.TheVariants.{Ready, OfOne, OfMethods, OfClass}
-use Rattle.front_profile.specs.Nodes.{StaticContext, Part, function, Node, offends, unnamed, steps, whole}
+use Rattle.front_profile.specs.declared.elaboration.Elaboration.TheVariants.{Ready, OfOne, OfFunctionNamed, OfMethods, OfClass}
+use Rattle.front_profile.specs.declared.elaboration.DefinedAs.TheVariants.{Macro}
+use Rattle.front_profile.specs.Nodes.{StaticContext, Part, function, Node, offends, unnamed, steps, calls, whole}
 use Rattle.front_profile.specs.Shapes.{Pair}
 use Rattle.front_profile.specs.RowWords.{deeper, with_site_if, within_depth, made_of, made_at_once, unsited, with_literal, literal_node, each_bound}
 use Rattle.front_profile.specs.ValueRows.{with_set}
 use Rattle.front_profile.specs.DefiningRows.{with_name}
 use Rattle.front_profile.specs.Elaborations.{finish}
-use Rattle.front_profile.specs.Judged.{with_fresh}
+use Rattle.front_profile.specs.Judged.{with_fresh, with_expansion}
 use Rattle.front_profile.specs.Marks.{TablesGrow}
 use Rattle.front_profile.specs.Suits.{Suits}
 use Rattle.lang_classes.specs.Keeping.{KeepsNames}
@@ -43,6 +44,29 @@ grows_set s n = grows_by s s (record nothing_added { set = Some (n ∷ []) }) (t
 pub grows_fresh : (s : Tables) (n : ℕ) → TablesGrow s (with_fresh n s)
 grows_fresh s n = grows_by s s (record nothing_added { fresh = Some (new_symbols (length s.fresh) n) }) (tables_grow_reflexive s)
 
+pub grows_expansion : (s : Tables) → TablesGrow s (with_expansion s)
+grows_expansion s = let g = tables_grow_reflexive s in record {
+  words = g.words;
+  classes = g.classes;
+  slots = g.slots;
+  generics = g.generics;
+  literals = g.literals;
+  procedures = g.procedures;
+  functions = g.functions;
+  macros = g.macros;
+  prelude = g.prelude;
+  globals = g.globals;
+  set = g.set;
+  dynamics = g.dynamics;
+  sites = g.sites;
+  fresh = g.fresh;
+  main = g.main;
+  variables = g.variables;
+  exits = g.exits;
+  expansions = omega arith;
+  before = g.before;
+}
+
 pub grows_numbers : (s : Tables) (v e : ℕ) → s.variables ≤ v → s.exits ≤ e → TablesGrow s (record s { variables = v; exits = e })
 grows_numbers s v e l k = grows_with s s nothing_added v e l k (tables_grow_reflexive s)
 
@@ -59,12 +83,13 @@ abbrev pub NodeBegins : Tables → Node → Type 0
 NodeBegins s (offends p r) = Unit {0}
 NodeBegins s unnamed = Unit {0}
 NodeBegins s (steps a t d) = TablesGrow s t
+NodeBegins s (calls a t m d) = TablesGrow s t
 NodeBegins s (whole o i t xs m) = TablesGrow s t
 
 -- between these tables nothing is defined
 
 pub names_same : (t : Tables) → SameNames t t
-names_same t = record { words = refl; classes = refl; prelude_classes = refl; generics = refl; functions = refl; prelude = refl; globals = refl; dynamics = refl; main = refl }
+names_same t = record { words = refl; classes = refl; prelude_classes = refl; generics = refl; functions = refl; macros = refl; prelude = refl; globals = refl; dynamics = refl; main = refl }
 
 pub names_then : (s t u : Tables) → SameNames s t → SameNames t u → SameNames s u
 names_then s t u a b = record {
@@ -73,6 +98,7 @@ names_then s t u a b = record {
   prelude_classes = b.prelude_classes ∙ a.prelude_classes;
   generics = b.generics ∙ a.generics;
   functions = b.functions ∙ a.functions;
+  macros = b.macros ∙ a.macros;
   prelude = b.prelude ∙ a.prelude;
   globals = b.globals ∙ a.globals;
   dynamics = b.dynamics ∙ a.dynamics;
@@ -89,7 +115,7 @@ none_then s t u a b = record { names = names_then s t u a.names b.names; procedu
 none_with : (s : Tables) (ls : List LiteralRow) (ns : List Name) (ps : List Place) (xs : List Symbol) (v e : ℕ)
     → NothingDefined s (record s { literals = ls; set = ns; sites = ps; fresh = xs; variables = v; exits = e })
 none_with s ls ns ps xs v e = record {
-  names = record { words = refl; classes = refl; prelude_classes = refl; generics = refl; functions = refl; prelude = refl; globals = refl; dynamics = refl; main = refl };
+  names = record { words = refl; classes = refl; prelude_classes = refl; generics = refl; functions = refl; macros = refl; prelude = refl; globals = refl; dynamics = refl; main = refl };
   procedures = refl;
 }
 
@@ -105,6 +131,12 @@ none_numbers s v e = none_with s s.literals s.set s.sites s.fresh v e
 pub none_fresh : (s : Tables) (n : ℕ) → NothingDefined s (with_fresh n s)
 none_fresh s n = none_with s s.literals s.set s.sites (s.fresh ++ new_symbols (length s.fresh) n) s.variables s.exits
 
+pub none_expansion : (s : Tables) → NothingDefined s (with_expansion s)
+none_expansion s = record {
+  names = record { words = refl; classes = refl; prelude_classes = refl; generics = refl; functions = refl; macros = refl; prelude = refl; globals = refl; dynamics = refl; main = refl };
+  procedures = refl;
+}
+
 none_site : (b : Bool) (p : Place) (s : Tables) → NothingDefined s (with_site_if b p s)
 none_site true p s = none_with s s.literals s.set (s.sites ++ p ∷ []) s.fresh s.variables s.exits
 none_site false p s = none_defined s
@@ -117,22 +149,29 @@ none_name false d s = none_defined s
 abbrev pub MakesNothing : Elaboration → Type 0
 MakesNothing k = (rs : List ElaboratedPart) (u : Tables) → NothingDefined u (finish k rs u)
 
+-- what is made is no macro
+abbrev pub MakesNoMacro : Elaboration → Type 0
+MakesNoMacro (OfFunctionNamed Macro name n rest of_file l) = ⊥
+MakesNoMacro other = Unit {0}
+
 -- what is made suits the tables behind its parts, and leaves known tables: at once, or where its parts are functions and the tables that it
 -- was judged by are known
 
 abbrev pub IsSimple : Elaboration → Type 0
+IsSimple (OfFunctionNamed Macro name n rest of_file l) = ⊥
 IsSimple (OfMethods t hs p of_file l) = ⊥
 IsSimple (OfClass c p of_file l) = ⊥
 IsSimple other = Unit {0}
 
 pub record JoinsSuited (s t : Tables) (xs : List Part) (k : Elaboration) : Type 0 where
   pub functions : AllFunctions xs
+  pub macros : MakesNoMacro k
   pub suits : KeepsNames → KnownTables s → (u : Tables) (rs : List ElaboratedPart) → SameNames t u → AllRight xs → Suits k u × KnownTables (finish k rs u)
 
 abbrev pub Suited : Tables → Tables → List Part → Elaboration → Type 0
 Suited s t xs k = IsSimple k ⊎ JoinsSuited s t xs k
 
--- a node and the tables that it begins with; below top level nothing is defined there
+-- a derived form or a call of a macro, and the tables that it begins with; below top level nothing is defined there
 pub record StartsStep (s : Tables) (top : Bool) (a : StaticContext) (t : Tables) : Type 0 where
   pub grows : TablesGrow s t
   pub names : SameNames s t
@@ -154,12 +193,14 @@ abbrev pub Starts : Tables → Bool → Node → Type 0
 Starts s top (offends p r) = Unit {0}
 Starts s top unnamed = Unit {0}
 Starts s top (steps a t d) = StartsStep s top a t
+Starts s top (calls a t m d) = StartsStep s top a t × (s.before.macros ≡ 0 → ⊥)
 Starts s top (whole o i t xs m) = StartsWhole s top o i t xs m.making
 
 pub begins_so : (s : Tables) (top : Bool) (x : Node) → Starts s top x → NodeBegins s x
 begins_so s top (offends p r) h = tt
 begins_so s top unnamed h = tt
 begins_so s top (steps a t d) h = h.grows
+begins_so s top (calls a t m d) h = h.0.grows
 begins_so s top (whole o i t xs m) h = h.grows
 
 pub starts_if : (s : Tables) (top b : Bool) (x y : Node) → Starts s top x → Starts s top y → Starts s top (if b then x else y)

@@ -20,6 +20,7 @@ use Rattle.front_profile.specs.GenericRows.{fits, heads_of, method_parts, writte
 use Rattle.front_profile.specs.Suits.{takes_head, SuitsHead, SuitsHeads, SuitsMethods}
 use Rattle.front_profile.specs.Below.{SameNames}
 use Rattle.front_profile.specs.Known.{KnownTables}
+use Rattle.front_profile.proofs.DefiningRows.{no_function}
 use Rattle.front_profile.proofs.Adding.{new_row, plus_method, method_of, tables_with, get_with}
 use Rattle.front_profile.proofs.MethodViews.{AllRight, each_front, each_behind, MethodView, method_view}
 use Rattle.front_profile.proofs.Methods.{SameGeneric, alike_same, alike_more, FitsRow, fits_row}
@@ -66,7 +67,8 @@ new_suits s n ps ms p of_file u w e fresh f r =
     let x : GenericRow = new_row n (length ps.required) (is_some ps.rest) in
     let t : Tables = with_generic n (length ps.required) (is_some ps.rest) of_file u in
     let known : KnownTables u = known_same s u e w in
-    let new : has_function u n ≡ false = ap (λ fs. list_any (λ (f : FunctionRow). is_that n f.name) fs) e.functions ∙ fresh in
+    let new : list_any (λ (f : FunctionRow). is_that n f.name) u.functions ≡ false =
+    ap (λ fs. list_any (λ (f : FunctionRow). is_that n f.name) fs) e.functions ∙ no_function s n fresh in
     let rest : SuitsHeads (length u.generics) (all_heads s ms) p t × KnownTables (with_methods (length u.generics) (all_heads s ms) p t) =
     heads_suit s n (length u.generics) ms x x t p w.some (known_generic u n (length ps.required) (is_some ps.rest) of_file known) e.classes
     (slice_get-behind u.generics x) (alike_same x) f r in

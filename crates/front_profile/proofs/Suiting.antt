@@ -1,5 +1,5 @@
 -- What nodes make suits the tables behind their parts, and the tables behind a form are known.
-use Rattle.std.proofs.Common.{◌+◌, ⊎_elim, inl, ℕ, Bool, true, false, List, [], ◌∷◌, subst, arith}
+use Rattle.std.proofs.Common.{◌+◌, ⊎_elim, inl, ℕ, Bool, true, false, List, [], ◌∷◌, None, subst, arith}
 use Rattle.base.specs.Data.{Item}
 use Rattle.base.specs.Names.{Extends-same}
 use Rattle.lang_classes.specs.Keeping.{KeepsNames}
@@ -9,13 +9,15 @@ use Rattle.front_profile.specs.declared.elaboration.Made.{Made}
 use Rattle.front_profile.specs.declared.elaboration.One.{One}
 use Rattle.front_profile.specs.declared.elaboration.One.TheVariants.{SetVariable}
 use Rattle.front_profile.specs.declared.elaboration.Elaboration.{Elaboration}
-use Rattle.front_profile.specs.declared.elaboration.Elaboration.TheVariants.{OfOne, OfFunctionNamed, OfMethods, OfClass}
-use Rattle.front_profile.specs.Nodes.{StaticContext, Part, form, below, inner, bind, parameter, wrong, function, Written, initform, accessor, method, Node, offends, unnamed, steps, whole, Standing, Verdict, stands as comes_to, ended, behind, recorded}
+use Rattle.front_profile.specs.declared.elaboration.DefinedAs.TheVariants.{Function, Macro}
+use Rattle.front_profile.specs.declared.elaboration.Leaf.TheVariants.{Nothing}
+use Rattle.front_profile.specs.declared.elaboration.Elaboration.TheVariants.{Ready, OfOne, OfFunctionNamed, OfMethods, OfClass}
+use Rattle.front_profile.specs.Nodes.{StaticContext, Part, form, below, inner, bind, parameter, wrong, function, Written, initform, accessor, method, Node, offends, unnamed, steps, calls, whole, Standing, Verdict, stands as comes_to, ended, behind, recorded}
 use Rattle.front_profile.specs.RowWords.{deeper}
 use Rattle.front_profile.specs.FunctionNodes.{variables_of, with_accessor, function_node}
 use Rattle.front_profile.specs.Elaborations.{finish, finish_one}
 use Rattle.front_profile.specs.Rows.{node, plain_node}
-use Rattle.front_profile.specs.Judged.{with_fresh, with_variable, subject, Verdicts, all_stand, one_ended, in_front, made_verdict, Elaborates, offence, step, made, ElaboratesAll, ends, goes, stops}
+use Rattle.front_profile.specs.Judged.{with_fresh, with_expansion, again, with_variable, subject, Verdicts, all_stand, one_ended, in_front, made_verdict, Elaborates, offence, step, expanded, expansion_stops, made, ElaboratesAll, ends, goes, stops}
 use Rattle.front_profile.specs.Walks.{PartTaken, Through}
 use Rattle.front_profile.specs.Suits.{Suits}
 use Rattle.front_profile.specs.bridge.Turns.{front_all}
@@ -35,6 +37,7 @@ abbrev IsOffence : Node → Type 0
 IsOffence (offends p r) = Unit {0}
 IsOffence unnamed = ⊥
 IsOffence (steps a t d) = ⊥
+IsOffence (calls a t m d) = ⊥
 IsOffence (whole o i t xs m) = ⊥
 
 abbrev Ends : Verdict → Type 0
@@ -45,6 +48,8 @@ Ends (ended e) = Unit {0}
 offence_ends : (names : List (List ℕ)) (x : Node) (v : Verdict) → Elaborates names x v → IsOffence x → Ends v
 offence_ends names x v (offence p r) h = tt
 offence_ends names x v (step a s d d2 n v2 k c) h = absurd h
+offence_ends names x v (expanded a s macro d e v2 k c) h = absurd h
+offence_ends names x v (expansion_stops a s macro d r k) h = absurd h
 offence_ends names x v (made o i s xs m w g) h = absurd h
 
 -- one function that stands
@@ -84,7 +89,8 @@ one_known other u w = w
 
 simple_known : (k : Elaboration) → IsSimple k → (rs : List ElaboratedPart) (u : Tables) → KnownTables u → KnownTables (finish k rs u)
 simple_known (OfOne k) h rs u w = one_known k u w
-simple_known (OfFunctionNamed name n rest of_file l) h rs u w = known_function u _ w
+simple_known (OfFunctionNamed Function name n rest of_file l) h rs u w = known_function u _ w
+simple_known (OfFunctionNamed Macro name n rest of_file l) h rs u w = absurd h
 simple_known (OfMethods t hs p of_file l) h rs u w = absurd h
 simple_known (OfClass c p of_file l) h rs u w = absurd h
 simple_known other h rs u w = w
@@ -96,6 +102,7 @@ suits_so : (s : Tables) (top : Bool) (x : Node) → Starts s top x → KeepsName
 suits_so s top (offends p r) h keep w = tt
 suits_so s top unnamed h keep w = tt
 suits_so s top (steps a t d) h keep w = known_same s t h.names w
+suits_so s top (calls a t m d) h keep w = known_same s t h.0.names w
 suits_so s top (whole o i t xs m) h keep w = record {
   known = known_same s t h.names w;
   suits = λ names all g. ⊎_elim (λ e. simple_suits m.making e all.tables)
@@ -114,7 +121,7 @@ pub plain_suits : KeepsNames → (names : List (List ℕ)) (a : StaticContext) (
 plain_suits keep names a s d w = suits_so s a.spot.top (plain_node names a s d) (starts_plain_node names s a d) keep w
 
 -- how the node of a function of a definition begins
-starts_function_node : (s : Tables) (o : StaticContext) (w : Written) → Starts s true (function_node o s w)
+pub starts_function_node : (s : Tables) (o : StaticContext) (w : Written) → Starts s true (function_node o s w)
 starts_function_node s o (initform d) = record { grows = begins_function_node s o (initform d); names = names_same s; suited = inl tt; low = λ e. absurd (cc e) }
 starts_function_node s o (accessor n k d) =
     let numbers : Tables = record s { variables = s.variables + variables_of k } in
@@ -179,23 +186,22 @@ more_known : (r : ElaboratedPart) (w : Verdicts) → AllKnown w → AllKnown (in
 more_known r (all_stand more) a = a
 more_known r (one_ended e) a = tt
 
+-- that of a parameter
+pub starts_parameter : (s : Tables) (o i : StaticContext) → Starts s false (whole o i (with_variable s) [] (record { site = None; making = Ready Nothing }))
+starts_parameter s o i = record {
+  grows = grows_numbers s (s.variables + 1) s.exits (omega arith) (omega arith);
+  names = (none_numbers s (s.variables + 1) s.exits).names;
+  suited = inl tt;
+  low = λ e. record { defined = none_numbers s (s.variables + 1) s.exits; parts = tt; ordinary = tt; makes = λ rs u. none_defined u };
+}
+
 -- the node of a part
 part_begun : (names : List (List ℕ)) (o i : StaticContext) (s : Tables) (x : Part) → KnownTables s → Begun (subject names o i s x)
 part_begun names o i s (form d) k = record { tables = s; top = o.spot.top; known = k; starts = starts_node names s o d }
 part_begun names o i s (below d) k = record { tables = s; top = false; known = k; starts = starts_node names s (deeper 1 o) d }
 part_begun names o i s (inner d) k = record { tables = s; top = i.spot.top; known = k; starts = starts_node names s i d }
 part_begun names o i s (bind x d) k = record { tables = with_variable s; top = o.spot.top; known = k; starts = starts_node names (with_variable s) o d }
-part_begun names o i s (parameter x) k = record {
-  tables = s;
-  top = false;
-  known = k;
-  starts = record {
-    grows = grows_numbers s (s.variables + 1) s.exits (omega arith) (omega arith);
-    names = (none_numbers s (s.variables + 1) s.exits).names;
-    suited = inl tt;
-    low = λ e. record { defined = none_numbers s (s.variables + 1) s.exits; parts = tt; ordinary = tt; makes = λ rs u. none_defined u };
-  };
-}
+part_begun names o i s (parameter x) k = record { tables = s; top = false; known = k; starts = starts_parameter s o i }
 part_begun names o i s (wrong p r) k = record { tables = s; top = false; known = k; starts = tt }
 part_begun names o i s (function w) k = record { tables = s; top = true; known = k; starts = starts_function_node s o w }
 
@@ -210,6 +216,14 @@ module _ (keep : KeepsNames) where
           known = known_same b.tables t b.starts.names b.known;
           starts = starts_node names (with_fresh n t) a d2;
         })
+    node_known names x v (expanded a t macro d e v2 h c) b =
+        node_known names (node names (again a) (with_expansion t) e) v2 c (record {
+          tables = with_expansion t;
+          top = a.spot.top;
+          known = known_same b.tables t b.starts.0.names b.known;
+          starts = starts_node names (with_expansion t) (again a) e;
+        })
+    node_known names x v (expansion_stops a t macro d r h) b = tt
     node_known names x v (made o i t xs m w g) b =
         made_known keep names b.tables b.top o i t xs m w b.known b.starts g (all_known names o i t xs w g (known_same b.tables t b.starts.names b.known))
 

@@ -13,7 +13,7 @@ use Rattle.front_profile.specs.declared.spot.Spot.{Spot}
 use Rattle.front_profile.specs.declared.tables.Tables.{Tables}
 use Rattle.front_profile.specs.declared.elaboration.ElaboratedPart.{ElaboratedPart}
 use Rattle.front_profile.specs.declared.elaboration.Made.{Made}
-use Rattle.front_profile.specs.Nodes.{StaticContext, Part, form, below, inner, bind, parameter, wrong, function, Written, initform, accessor, method, Node, offends, unnamed, steps, whole}
+use Rattle.front_profile.specs.Nodes.{StaticContext, Part, form, below, inner, bind, parameter, wrong, function, Written, initform, accessor, method, Node, offends, unnamed, steps, calls, whole}
 use Rattle.front_profile.specs.Elaborations.{made_form, finished}
 use Rattle.front_profile.specs.Definitions.{Definitions, defined, Later, Undefined, SoundDefinitions, EachStands}
 use Rattle.front_profile.specs.Numbers.{Numbered}
@@ -152,6 +152,7 @@ abbrev pub Apt : Want → Spot → ℕ → Definitions → Node → Type 0
 Apt Q spot n g (offends p r) = Unit {0}
 Apt Q spot n g unnamed = Unit {0}
 Apt Q spot n g (steps a s d) = AptSteps Q spot n g a s d
+Apt Q spot n g (calls a s m d) = AptSteps Q spot n g a s d
 Apt Q spot n g (whole o i s xs m) = AptWhole Q spot n g o i s xs m
 
 -- ordinary parts leave no definition below top level, and all procedures stand

@@ -15,5 +15,6 @@ pub record HasNoForm (t : Tables) : Type 0 where
   pub procedures : t.procedures ≡ []
   pub generics : t.generics ≡ []
   pub functions : t.functions ≡ []
+  pub macros : t.macros ≡ []
   pub main : t.main ≡ []
   pub sites : t.sites ≡ []

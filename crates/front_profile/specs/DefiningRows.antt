@@ -1,4 +1,4 @@
--- The rows of forms that define, which stand at top level (ISO/IEC 13816:2007, 12.7, 12.8 and 14.3). A definition counts
+-- The rows of forms that define, which stand at top level (ISO/IEC 13816:2007, 12.7, 12.8, 14.3 and 16). A definition counts
 -- for what comes after it, and not for its own parts.
 use Rattle.std.specs.Prelude.{◌+◌, ◌==◌, Bool, true, false, not, ◌&&◌, ◌||◌, List, [], ◌∷◌, ◌++◌, Option, Some, None, if◌then◌else◌, length, is_some}
 use Rattle.std.specs.List.{list_any}
@@ -15,6 +15,7 @@ use Rattle.front_profile.specs.declared.tables.DynamicRow.{DynamicRow}
 use Rattle.front_profile.specs.declared.elaboration.Leaf.{Leaf}
 use Rattle.front_profile.specs.declared.elaboration.Leaf.TheVariants.{Literal, Nothing}
 use Rattle.front_profile.specs.declared.elaboration.One.TheVariants.{DefineGlobal, DefineDynamic}
+use Rattle.front_profile.specs.declared.elaboration.DefinedAs.{DefinedAs}
 use Rattle.front_profile.specs.declared.elaboration.Elaboration.TheVariants.{OfFunctionNamed}
 use Rattle.front_profile.specs.declared.parameters.Parameters.{Parameters}
 use Rattle.front_profile.specs.Nodes.{StaticContext, Node, offends}
@@ -46,10 +47,11 @@ has_dynamic of_file s n = list_any (λ v. is_that n v.name && counts of_file v.o
 abbrev pub is_of_prelude : Tables → Name → Bool
 is_of_prelude s n = list_any (is_that n) s.prelude
 
+-- functions and macros share a namespace
 abbrev pub has_function : Tables → Name → Bool
-has_function s n = list_any (λ f. is_that n f.name) s.functions
+has_function s n = list_any (λ f. is_that n f.name) s.functions || list_any (λ m. is_that n m.name) s.macros
 
--- a file names no function of the prelude; a name is taken by what the same text defined before
+-- a file names no function and no macro of the prelude; a name is taken by what the same text defined before
 abbrev pub is_taken : Bool → Tables → Name → Bool
 is_taken of_file s n = has_function s n && not (of_file && is_of_prelude s n)
 
@@ -108,7 +110,8 @@ defdynamic_row a s p [] = bad_shape p
 defdynamic_row a s p (d ∷ []) = bad_shape p
 defdynamic_row a s p (d ∷ x ∷ e ∷ ds) = bad_shape p
 
--- (defun name lambda-list f*): in a file the definition stands for the symbol of its name, whose literal is met first
+-- (defun name lambda-list f*) and (defmacro name lambda-list f*): in a file the definition stands for the symbol of its name, whose literal is
+-- met first
 
 abbrev pub with_name : Bool → Item → Tables → Tables
 with_name true d s = with_literal (row.Datum d) s
@@ -118,27 +121,27 @@ abbrev pub named_form : Bool → Tables → Leaf
 named_form true s = Literal (length s.literals)
 named_form false s = Nothing
 
-abbrev pub defun_of : StaticContext → Tables → Name → Item → List Item → Parameters → Node
-defun_of a s n d fs ps =
+abbrev pub defun_of : DefinedAs → StaticContext → Tables → Name → Item → List Item → Parameters → Node
+defun_of k a s n d fs ps =
     body_alone false a (with_name a.spot.sited d s) (function_parts ps fs)
-    (OfFunctionNamed n (length ps.required) (is_some ps.rest) a.spot.sited (named_form a.spot.sited s))
+    (OfFunctionNamed k n (length ps.required) (is_some ps.rest) a.spot.sited (named_form a.spot.sited s))
 
-abbrev pub defun_with : StaticContext → Tables → Name → Item → Item → List Item → Option Parameters → Node
-defun_with a s n d l fs None = bad_binding l
-defun_with a s n d l fs (Some ps) = defun_of a s n d fs ps
+abbrev pub defun_with : DefinedAs → StaticContext → Tables → Name → Item → Item → List Item → Option Parameters → Node
+defun_with k a s n d l fs None = bad_binding l
+defun_with k a s n d l fs (Some ps) = defun_of k a s n d fs ps
 
--- a name is reserved where the language keeps it, where it is `t`, and where the prelude has a function of it
+-- a name is reserved where the language keeps it, where it is `t`, and where the prelude has a function or a macro of it
 abbrev pub is_reserved : Bool → StaticContext → Tables → Name → Bool
 is_reserved kept a s n = is_truth a s n || (a.spot.sited && (kept || is_of_prelude s n))
 
-abbrev pub defun_as : Bool → StaticContext → Tables → Place → Item → Item → List Item → Option Name → Node
-defun_as kept a s p d l fs None = bad_shape p
-defun_as kept a s p d l fs (Some n) =
+abbrev pub defun_as : DefinedAs → Bool → StaticContext → Tables → Place → Item → Item → List Item → Option Name → Node
+defun_as k kept a s p d l fs None = bad_shape p
+defun_as k kept a s p d l fs (Some n) =
     defining a p (is_taken a.spot.sited s n) (is_reserved kept a s n)
-    (within_depth 1 a p (defun_with a s n d l fs (parameters_in s.words l)))
+    (within_depth 1 a p (defun_with k a s n d l fs (parameters_in s.words l)))
 
 -- where the language keeps the name or not
-abbrev pub defun_row : Bool → StaticContext → Tables → Place → List Item → Node
-defun_row kept a s p [] = bad_shape p
-defun_row kept a s p (d ∷ []) = bad_shape p
-defun_row kept a s p (d ∷ l ∷ fs) = defun_as kept a s p d l fs (named (symbol_of d))
+abbrev pub defun_row : DefinedAs → Bool → StaticContext → Tables → Place → List Item → Node
+defun_row k kept a s p [] = bad_shape p
+defun_row k kept a s p (d ∷ []) = bad_shape p
+defun_row k kept a s p (d ∷ l ∷ fs) = defun_as k kept a s p d l fs (named (symbol_of d))

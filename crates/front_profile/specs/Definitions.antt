@@ -1,5 +1,5 @@
--- What of the tables a program is made of, and when that is whole: literals in form, procedures whose bodies stand by
--- themselves or in methods, classes whose initforms take no argument, generic functions whose methods are congruent,
+-- What of the tables a program is made of, with the macros whose calls its procedures expand, and when that is whole: literals in form, procedures
+-- whose bodies stand by themselves or in methods, macros whose procedures stand alone, classes whose initforms take no argument, generic functions whose methods are congruent,
 -- functions that are there under names of their own, and main forms that stand alone.
 use Rattle.std.specs.Prelude.{◌≡◌, ℕ, ◌+◌, ◌==◌, ◌≤◌, Bool, true, false, not, ◌&&◌, ◌||◌, List, Option, Some, None, length, is_some, slice_get}
 use Rattle.std.specs.List.{list_all, list_any, sum_by}
@@ -18,6 +18,7 @@ use Rattle.lang_meaning.specs.Standing.{stands_alone, is_alone}
 use Rattle.lang_meaning.specs.Facts.{body_fits, literal_fits, initform_fits, generic_fits, callee_fits, is_of_method, same_name}
 use Rattle.lang_classes.specs.InheritedClasses.{Hierarchy, IsHierarchy}
 use Rattle.front_profile.specs.declared.tables.Tables.{Tables}
+use Rattle.front_profile.specs.declared.tables.MacroRow.{MacroRow}
 
 pub record Definitions : Type 0 where
   pub literals : List LiteralRow
@@ -25,6 +26,7 @@ pub record Definitions : Type 0 where
   pub classes : Hierarchy
   pub generics : List GenericRow
   pub functions : List FunctionRow
+  pub macros : List MacroRow
   pub main : List Form
   pub sites : List Place
   pub variables : ℕ
@@ -37,6 +39,7 @@ defined s = record {
   classes = s.classes;
   generics = s.generics;
   functions = s.functions;
+  macros = s.macros;
   main = s.main;
   sites = s.sites;
   variables = s.variables;
@@ -72,6 +75,7 @@ pub record Undefined (g h : Definitions) : Type 0 where
   pub classes : h.classes ≡ g.classes
   pub generics : h.generics ≡ g.generics
   pub functions : h.functions ≡ g.functions
+  pub macros : h.macros ≡ g.macros
 
 -- a procedure fits, and its body stands with its own variables alone, in a method at most
 abbrev pub procedure_fits : Definitions → Procedure → Bool
@@ -95,6 +99,10 @@ has_function fs g = list_any (λ f. g.name.0 == f.name.0) fs
 
 abbrev pub same_generic : GenericRow → GenericRow → Bool
 same_generic g h = g.name.0 == h.name.0
+
+-- the procedure of a macro is there, and stands alone
+abbrev pub macro_stands : Definitions → MacroRow → Bool
+macro_stands g m = is_alone false (slice_get g.procedures m.procedure)
 
 -- a main form fits, and stands alone
 abbrev pub main_fits : Definitions → Form → Bool
@@ -130,6 +138,7 @@ pub record SoundDefinitions (g : Definitions) : Type 0 where
   pub generics : WholeGenerics g
   pub functions : list_all (λ f. callee_fits (rows_of g) f.callee) g.functions ≡ true
   pub names : all_differ same_name g.functions ≡ true
+  pub macros : list_all (macro_stands g) g.macros ≡ true
   pub main : list_all (main_fits g) g.main ≡ true
 
 -- each procedure is that of a method, or stands alone

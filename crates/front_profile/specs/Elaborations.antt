@@ -21,11 +21,14 @@ use Rattle.lang_classes.specs.InheritedSlots.{same_name}
 use Rattle.lang_dispatch.specs.Methods.{new_row, with_method}
 use Rattle.front_profile.specs.declared.tables.GlobalRow.{GlobalRow}
 use Rattle.front_profile.specs.declared.tables.DynamicRow.{DynamicRow}
+use Rattle.front_profile.specs.declared.tables.MacroRow.{MacroRow}
 use Rattle.front_profile.specs.declared.tables.Tables.{Tables}
 use Rattle.front_profile.specs.declared.elaboration.ElaboratedPart.{ElaboratedPart}
 use Rattle.front_profile.specs.declared.elaboration.Leaf.{Leaf}
 use Rattle.front_profile.specs.declared.elaboration.One.{One}
 use Rattle.lang_meaning.specs.declared.kinds.OverTwo.{OverTwo}
+use Rattle.front_profile.specs.declared.elaboration.DefinedAs.{DefinedAs}
+use Rattle.front_profile.specs.declared.elaboration.DefinedAs.TheVariants.{Function, Macro}
 use Rattle.front_profile.specs.declared.elaboration.Elaboration.{Elaboration}
 use Rattle.front_profile.specs.declared.elaboration.Made.{Made}
 use Rattle.front_profile.specs.declared.elaboration.Accessor.{Accessor}
@@ -173,7 +176,7 @@ elaborate (OfDynamics ns) rs = dynamic_let (make_dynamics ns (forms_found rs)) (
 elaborate (OfFunction n rest parts) rs = make_function n rest parts (variables_found rs) (body_of (forms_found rs))
 elaborate (OfBlock x) rs = block x (body_of (forms_found rs))
 elaborate (OfSegments x ns) rs = tagbody x (make_segments ns (forms_found rs))
-elaborate (OfFunctionNamed name n rest of_file l) rs = leaf_form l
+elaborate (OfFunctionNamed k name n rest of_file l) rs = leaf_form l
 elaborate (OfProcedure name n rest) rs = nothing
 elaborate (OfAccessor name k v l) rs = nothing
 elaborate (OfMethods t hs p of_file l) rs = leaf_form l
@@ -194,7 +197,7 @@ with_global g s = record s { globals = s.globals ++ g ∷ [] }
 abbrev pub with_dynamic : DynamicRow → Tables → Tables
 with_dynamic v s = record s { dynamics = s.dynamics ++ v ∷ [] }
 
--- a function of the prelude is one that no definition of the file may name
+-- a function or a macro of the prelude is one that no definition of the file may name
 abbrev pub prelude_with : Bool → Name → List Name → List Name
 prelude_with true n ns = ns
 prelude_with false n ns = ns ++ n ∷ []
@@ -209,8 +212,19 @@ with_callee name c of_file s = record s {
   prelude = prelude_with of_file name s.prelude;
 }
 
-abbrev pub with_function : Name → Procedure → Bool → Tables → Tables
-with_function name p of_file s = with_callee name (callee.Procedure (length s.procedures)) of_file (with_procedure p s)
+abbrev pub with_macro : MacroRow → Bool → Tables → Tables
+with_macro m of_file s = record s {
+  macros = s.macros ++ m ∷ [];
+  prelude = prelude_with of_file m.name s.prelude;
+}
+
+-- the procedure of that number is that of the function, or of the macro, of that name
+abbrev pub with_name_of : DefinedAs → Name → (procedure : ℕ) → Bool → Tables → Tables
+with_name_of Function name i of_file s = with_callee name (callee.Procedure i) of_file s
+with_name_of Macro name i of_file s = with_macro (record { name = name; procedure = i }) of_file s
+
+abbrev pub with_defined : DefinedAs → Name → Procedure → Bool → Tables → Tables
+with_defined k name p of_file s = with_name_of k name (length s.procedures) of_file (with_procedure p s)
 
 abbrev pub procedure_found : Option Name → ℕ → Bool → List ElaboratedPart → Procedure
 procedure_found name n rest rs = record {
@@ -325,7 +339,7 @@ finish_one (ReturnTo x) s = s
 
 abbrev pub finish : Elaboration → List ElaboratedPart → Tables → Tables
 finish (OfOne k) rs s = finish_one k s
-finish (OfFunctionNamed name n rest of_file l) rs s = with_function name (procedure_found (Some name) n rest rs) of_file s
+finish (OfFunctionNamed k name n rest of_file l) rs s = with_defined k name (procedure_found (Some name) n rest rs) of_file s
 finish (OfProcedure name n rest) rs s = with_procedure (procedure_found name n rest rs) s
 finish (OfAccessor name k v l) rs s = with_procedure (accessor_procedure name k v l) s
 finish (OfMethods t hs p of_file l) rs s = finish_methods t hs p of_file s

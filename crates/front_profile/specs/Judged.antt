@@ -1,23 +1,36 @@
--- What a node comes to: the core form that it stands for, or the first offence in preorder (ISO/IEC 13816:2007, 12). Whatever
--- is numbered has its number from the tables when it is met, so all numbers are those of the preorder.
+-- What a node comes to: the core form that it stands for, or the first offence in preorder (ISO/IEC 13816:2007, 12 and 16). Whatever
+-- is numbered has its number from the tables when it is met, so all numbers are those of the preorder, those of expansions too.
 use Rattle.std.specs.Prelude.{ℕ, ◌+◌, List, [], ◌∷◌, ◌++◌, length, None}
 use Rattle.base.specs.declared.place.Place.{Place}
 use Rattle.base.specs.declared.reason.Reason.{Reason}
-use Rattle.base.specs.Data.{Item}
+use Rattle.base.specs.Data.{Item, place_of}
 use Rattle.lang_derived.specs.Derived.{Derives, new_symbols}
+use Rattle.front_profile.specs.declared.spot.Spot.{Spot}
 use Rattle.front_profile.specs.declared.tables.Tables.{Tables}
 use Rattle.front_profile.specs.declared.elaboration.ElaboratedPart.{ElaboratedPart}
 use Rattle.front_profile.specs.declared.elaboration.Made.{Made}
 use Rattle.front_profile.specs.declared.elaboration.Leaf.TheVariants.{Nothing}
 use Rattle.front_profile.specs.declared.elaboration.Elaboration.TheVariants.{Ready}
-use Rattle.front_profile.specs.Nodes.{StaticContext, Part, form, below, inner, bind, parameter, wrong, function, Node, offends, steps, whole, EarlyEnd, refused, Standing, Verdict, stands, ended, behind, recorded}
+use Rattle.front_profile.specs.Nodes.{StaticContext, Part, form, below, inner, bind, parameter, wrong, function, Node, offends, steps, calls, whole, EarlyEnd, refused, Standing, Verdict, stands, ended, behind, recorded}
 use Rattle.front_profile.specs.Elaborations.{made_form, finished}
 use Rattle.front_profile.specs.RowWords.{deeper}
 use Rattle.front_profile.specs.FunctionNodes.{function_node}
+use Rattle.front_profile.specs.Expansions.{Expands, ExpansionStops}
 use Rattle.front_profile.specs.Rows.{node}
 
 abbrev pub with_fresh : ℕ → Tables → Tables
 with_fresh n s = record s { fresh = s.fresh ++ new_symbols (length s.fresh) n }
+
+-- an expansion takes the next number, and what it gives as a whole is one more in a row
+
+abbrev pub with_expansion : Tables → Tables
+with_expansion s = record s { expansions = s.expansions + 1 }
+
+abbrev pub again_spot : Spot → Spot
+again_spot spot = record spot { in_row = spot.in_row + 1 }
+
+abbrev pub again : StaticContext → StaticContext
+again a = record a { spot = again_spot a.spot }
 
 -- a variable takes the next number
 abbrev pub with_variable : Tables → Tables
@@ -61,6 +74,14 @@ mutual
         Derives names d (length s.fresh) d2 (length s.fresh + n) →
         Elaborates names (node names a (with_fresh n s) d2) v →
         Elaborates names (steps a s d) v
+    -- a call of a macro stands for what it expands to; the expansions of a file are numbered from 1
+    expanded : (a : StaticContext) (s : Tables) (macro : ℕ) (d e : Item) (v : Verdict) →
+        Expands names s macro d (s.expansions + 1) e →
+        Elaborates names (node names (again a) (with_expansion s) e) v →
+        Elaborates names (calls a s macro d) v
+    expansion_stops : (a : StaticContext) (s : Tables) (macro : ℕ) (d : Item) (r : Reason) →
+        ExpansionStops names s macro d (s.expansions + 1) r →
+        Elaborates names (calls a s macro d) (ended (refused (place_of d) r))
     made : (o i : StaticContext) (s : Tables) (xs : List Part) (m : Made) (w : Verdicts) →
         ElaboratesAll names o i s xs w →
         Elaborates names (whole o i s xs m) (made_verdict m w)

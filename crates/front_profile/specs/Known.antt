@@ -8,7 +8,7 @@ use Rattle.lang_meaning.specs.declared.program.MethodRow.{MethodRow}
 use Rattle.lang_meaning.specs.declared.program.FunctionRow.{FunctionRow}
 use Rattle.front_profile.specs.declared.tables.Tables.{Tables}
 use Rattle.front_profile.specs.declared.elaboration.Made.{Made}
-use Rattle.front_profile.specs.Nodes.{StaticContext, Part, Node, offends, unnamed, steps, whole}
+use Rattle.front_profile.specs.Nodes.{StaticContext, Part, Node, offends, unnamed, steps, calls, whole}
 use Rattle.front_profile.specs.Judged.{AllFound, all_stand, ElaboratesAll}
 use Rattle.front_profile.specs.Suits.{Suits}
 use Rattle.front_profile.specs.Definitions.{has_function}
@@ -37,4 +37,5 @@ abbrev pub SuitsNode : Node → Type 0
 SuitsNode (offends p r) = Unit {0}
 SuitsNode unnamed = Unit {0}
 SuitsNode (steps a t d) = KnownTables t
+SuitsNode (calls a t m d) = KnownTables t
 SuitsNode (whole o i t xs m) = MakesSuited o i t xs m

@@ -17,9 +17,14 @@ pub mod MethodShapes
 pub mod GenericRows
 pub mod ClassShapes
 pub mod ClassRows
+pub mod ProgramNames
+pub mod Expanders
+pub mod Expansions
 pub mod Rows
 pub mod Judged
+pub mod Exact
 pub mod Marks
+pub mod Cuts
 pub mod Promises
 pub mod Sound
 pub mod Walks

@@ -24,6 +24,7 @@ pub record TablesGrow (s t : Tables) : Type 0 where
   pub literals : StandsFirst s.literals t.literals
   pub procedures : StandsFirst s.procedures t.procedures
   pub functions : StandsFirst s.functions t.functions
+  pub macros : StandsFirst s.macros t.macros
   pub prelude : StandsFirst s.prelude t.prelude
   pub globals : StandsFirst s.globals t.globals
   pub set : StandsFirst s.set t.set
@@ -33,3 +34,5 @@ pub record TablesGrow (s t : Tables) : Type 0 where
   pub main : StandsFirst s.main t.main
   pub variables : s.variables ≤ t.variables
   pub exits : s.exits ≤ t.exits
+  pub expansions : s.expansions ≤ t.expansions
+  pub before : t.before ≡ s.before

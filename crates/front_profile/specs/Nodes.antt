@@ -1,6 +1,6 @@
--- What judging meets: a node that offends, a derived form that stands for its step, or a core form with its parts, which
--- stand where the whole stands, or where what it binds is bound (ISO/IEC 13816:2007, 12).
-use Rattle.std.specs.Prelude.{◌≡◌, ◌⊎◌, Bool, List, [], ◌∷◌, ◌++◌}
+-- What judging meets: a node that offends, a derived form that stands for its step, a call of a macro that stands for its expansion, or a core form
+-- with its parts, which stand where the whole stands, or where what it binds is bound (ISO/IEC 13816:2007, 12 and 16).
+use Rattle.std.specs.Prelude.{◌≡◌, ◌⊎◌, ℕ, Bool, List, [], ◌∷◌, ◌++◌}
 use Rattle.base.specs.declared.place.Place.{Place}
 use Rattle.base.specs.declared.reason.Reason.{Reason}
 use Rattle.base.specs.declared.datum.Name.{Name}
@@ -51,6 +51,8 @@ pub data Node : Type 0 where
   unnamed : Node
   -- a derived form, there and with these tables
   steps : StaticContext → Tables → Item → Node
+  -- a call of the macro of that number, there and with these tables
+  calls : StaticContext → Tables → (macro : ℕ) → Item → Node
   -- the parts stand there, outside and inside
   whole : StaticContext → StaticContext → Tables → List Part → Made → Node
 
@@ -58,11 +60,9 @@ pub data Node : Type 0 where
 abbrev pub NodeStays : Node → Node → Type 0
 NodeStays x y = (x ≡ unnamed) ⊎ (x ≡ y)
 
--- how judging ends before all parts are judged: with the first offence; or at the call of a macro whose expansion is not there yet, which
--- is asked for. No row of today is a macro's call, so no verdict ends so yet.
+-- how judging ends before all parts are judged: with the first offence
 pub data EarlyEnd : Type 0 where
   refused : Place → Reason → EarlyEnd
-  wants_expansion : (call : Item) → EarlyEnd
 
 pub record Standing : Type 0 where
   pub form : Form

@@ -7,21 +7,21 @@ use Rattle.base.specs.Names.{Extends}
 use Rattle.base.specs.Data.{Item}
 use Rattle.front_profile.specs.declared.tables.Tables.{Tables}
 use Rattle.front_profile.specs.Nodes.{StaticContext, refused, Verdict, ended}
-use Rattle.front_profile.specs.Rows.{node, plain_node}
+use Rattle.front_profile.specs.Rows.{node, plain_node, settled_node}
 use Rattle.front_profile.specs.Judged.{Elaborates}
 
 -- the datum comes to the verdict
 pub record FormComes (names : List (List ℕ)) (a : StaticContext) (s : Tables) (d : Item) (v : Verdict) : Type 0 where
   pub under : (later : List (List ℕ)) → Extends names later → Elaborates later (node later a s d) v
 
--- the same of a datum that is taken for no derived form
+-- the same of a datum that is taken for no derived form and no call of a macro
 pub record PlainComes (names : List (List ℕ)) (a : StaticContext) (s : Tables) (d : Item) (v : Verdict) : Type 0 where
   pub under : (later : List (List ℕ)) → Extends names later → Elaborates later (plain_node later a s d) v
 
--- the steps of a datum lead to another, with these tables: whatever that one comes to, the first does
+-- the steps of a datum lead to another, with these tables: whatever that one comes to, which is no derived form, the first does
 pub record Settles (names : List (List ℕ)) (s : Tables) (d : Item) (t : Tables) (e : Item) : Type 0 where
   pub under : (later : List (List ℕ)) → Extends names later → (a : StaticContext) (v : Verdict) →
-      Elaborates later (plain_node later a t e) v → Elaborates later (node later a s d) v
+      Elaborates later (settled_node later a t e) v → Elaborates later (node later a s d) v
 
 -- a stop of a form is its first offence, or want of memory
 abbrev pub FormStops : List (List ℕ) → StaticContext → Tables → Item → Stop → Type 0

@@ -17,16 +17,16 @@ use Rattle.front_profile.specs.declared.elaboration.Elaboration.TheVariants.{Rea
 use Rattle.front_profile.specs.Nodes.{StaticContext, Part, form, below, inner, bind, parameter, Node, offends, whole}
 use Rattle.front_profile.specs.Shapes.{Pair}
 
--- so many core forms deeper, and below top level
+-- so many core forms deeper, and below top level; each part of a form begins a row of expansions anew
 abbrev pub deeper_spot : ℕ → Spot → Spot
-deeper_spot n spot = record spot { depth = spot.depth + n; top = false }
+deeper_spot n spot = record spot { depth = spot.depth + n; top = false; in_row = 0 }
 
 abbrev pub deeper : ℕ → StaticContext → StaticContext
 deeper n a = record a { spot = deeper_spot n a.spot }
 
 -- the parts of a top-level `progn` stand at top level
 abbrev pub deeper_at_top_spot : Spot → Spot
-deeper_at_top_spot spot = record spot { depth = spot.depth + 1 }
+deeper_at_top_spot spot = record spot { depth = spot.depth + 1; in_row = 0 }
 
 abbrev pub deeper_at_top : StaticContext → StaticContext
 deeper_at_top a = record a { spot = deeper_at_top_spot a.spot }
@@ -36,7 +36,7 @@ with_all bs a = record a { bound = a.bound ++ bs }
 
 -- where the forms of a definition's body stand: its depth begins anew. At top level nothing is bound.
 abbrev pub alone_spot : Bool → Spot → Spot
-alone_spot in_method spot = record spot { depth = 1; top = false; in_method = in_method }
+alone_spot in_method spot = record spot { depth = 1; top = false; in_method = in_method; in_row = 0 }
 
 abbrev pub alone : Bool → StaticContext → StaticContext
 alone in_method a = record a { spot = alone_spot in_method a.spot }

@@ -1,12 +1,13 @@
--- What each datum is where it stands: the row of its form (ISO/IEC 13816:2007, 12 to 15). The text of its head decides.
-use Rattle.std.specs.Prelude.{ℕ, Bool, true, false, List, [], ◌∷◌, Option, Some, None, if◌then◌else◌, length, is_some, codes}
+-- What each datum is where it stands: the row of its form (ISO/IEC 13816:2007, 12 to 16). The text of its head decides, and whether a macro has
+-- its name.
+use Rattle.std.specs.Prelude.{ℕ, ◌+◌, ◌||◌, nat_le, Bool, true, false, List, [], ◌∷◌, Option, Some, None, if◌then◌else◌, length, is_some, option_map, take, codes}
 use Rattle.std.specs.List.{list_any}
 use Rattle.base.specs.declared.place.Place.{Place}
 use Rattle.base.specs.declared.datum.Name.{Name}
 use Rattle.base.specs.declared.datum.Symbol.{Symbol}
 use Rattle.base.specs.declared.datum.Symbol.TheVariants.{Named, Fresh}
 use Rattle.base.specs.declared.reason.Reason.{Reason}
-use Rattle.base.specs.declared.reason.Reason.TheVariants.{NotAForm, LeftOut, NotBuilt, BadShape, UnknownClass}
+use Rattle.base.specs.declared.reason.Reason.TheVariants.{NotAForm, LeftOut, NotBuilt, BadShape, UnknownClass, TooManyExpansions, ExpansionDepth}
 use Rattle.base.specs.declared.reason.Refusal.{Refusal}
 use Rattle.base.specs.Data.{Item, item, integer, character, symbol, string, vector, nil, list, items_list, Tail, no_tail, dotted, place_of}
 use Rattle.base.specs.DataNames.{symbol_text, text_of}
@@ -17,18 +18,20 @@ use Rattle.lang_derived.specs.Derived.{Derivation, plain, unfit, becomes, deriva
 use Rattle.front_profile.specs.declared.special.Special.{Special}
 use Rattle.front_profile.specs.declared.special.Special.TheVariants as name
 use Rattle.front_profile.specs.declared.tables.Tables.{Tables}
+use Rattle.front_profile.specs.declared.tables.MacroRow.{MacroRow}
 use Rattle.front_profile.specs.Words.{special_named, is_left_out, is_kept, is_reserved_text}
 use Rattle.front_profile.specs.Names.{function_of}
 use Rattle.front_profile.specs.declared.elaboration.Leaf.TheVariants.{NextMethod, HasNext}
 use Rattle.lang_meaning.specs.declared.kinds.OverTwo.TheVariants.{Apply, While, Catch, Throw, Unwind, WithHandler}
+use Rattle.front_profile.specs.declared.elaboration.DefinedAs.TheVariants.{Function}
 use Rattle.front_profile.specs.declared.elaboration.Elaboration.TheVariants.{CallOfValue}
-use Rattle.front_profile.specs.Nodes.{StaticContext, Node, offends, steps}
+use Rattle.front_profile.specs.Nodes.{StaticContext, Node, offends, steps, calls}
 use Rattle.front_profile.specs.Shapes.{symbol_of}
 use Rattle.front_profile.specs.RowWords.{literal_node, bad_shape}
 use Rattle.front_profile.specs.ValueRows.{symbol_node, quote_row, setq_row, progn_row, cond_row, two_row, body_row, dynamic_row, set_dynamic_row, function_row, method_row, class_row}
 use Rattle.front_profile.specs.BindingRows.{let_row, dynamic_let_row, lambda_row, with_functions_row}
 use Rattle.front_profile.specs.ExitRows.{block_row, return_from_row, tagbody_row, go_row}
-use Rattle.front_profile.specs.DefiningRows.{global_row, defdynamic_row, defun_row}
+use Rattle.front_profile.specs.DefiningRows.{is_that, global_row, defdynamic_row, defun_row}
 use Rattle.front_profile.specs.GenericRows.{defgeneric_row, defmethod_row}
 use Rattle.front_profile.specs.ClassRows.{defclass_row}
 use Rattle.front_profile.specs.CallRows.{all_parts, local_call, named_call}
@@ -91,7 +94,7 @@ special_row names name.WithFunctions a s p ds = with_functions_row (functions_ke
 special_row names name.Defglobal a s p ds = global_row false a s p ds
 special_row names name.Defconstant a s p ds = global_row true a s p ds
 special_row names name.Defdynamic a s p ds = defdynamic_row a s p ds
-special_row names name.Defun a s p ds = defun_row (first_reserved names ds) a s p ds
+special_row names name.Defun a s p ds = defun_row Function (first_reserved names ds) a s p ds
 special_row names name.Defmacro a s p ds = offends p NotBuilt
 special_row names name.Defclass a s p ds = defclass_row names a s p ds
 special_row names name.Defgeneric a s p ds = defgeneric_row names a s p ds
@@ -165,7 +168,7 @@ abbrev pub list_node : List (List ℕ) → StaticContext → Tables → Place �
 list_node names a s p [] t = offends p NotAForm
 list_node names a s p (h ∷ ds) t = headed_by names h (symbol_of h) a s p ds t
 
--- what is no derived form
+-- what is neither a derived form nor a call of a macro
 abbrev pub plain_node : List (List ℕ) → StaticContext → Tables → Item → Node
 plain_node names a s (item p (list ds t)) = list_node names a s p (items_list ds) t
 plain_node names a s (item p (symbol x)) = symbol_node a p s x
@@ -199,8 +202,56 @@ abbrev pub unless_refused : Option Refusal → Node → Node
 unless_refused None x = x
 unless_refused (Some r) x = offends r.place r.reason
 
+-- calls of macros (ISO/IEC 13816:2007, 16): a list without a dot under the name of a macro that was defined before this top-level form. Neither a
+-- special form is such a call, nor is the call of a local function.
+
+-- the number of the macro of a name
+abbrev pub macro_named : List MacroRow → Name → Option ℕ
+macro_named [] n = None
+macro_named (m ∷ ms) n = if is_that n m.name then Some 0 else option_map (λ i. i + 1) (macro_named ms n)
+
+-- those that apply
+abbrev pub macros_before : Tables → List MacroRow
+macros_before s = take s.before.macros s.macros
+
+abbrev pub macro_of_symbol : List (List ℕ) → StaticContext → Tables → Option Symbol → Option ℕ
+macro_of_symbol names a s None = None
+macro_of_symbol names a s (Some (Fresh e serial)) = None
+macro_of_symbol names a s (Some (Named n)) =
+    if is_some (special_of (symbol_text names (Named n))) || is_some (function_of a.bound (Named n)) then None
+    else macro_named (macros_before s) n
+
+abbrev pub macro_of_items : List (List ℕ) → StaticContext → Tables → Option (List Item) → Option ℕ
+macro_of_items names a s None = None
+macro_of_items names a s (Some []) = None
+macro_of_items names a s (Some (h ∷ ds)) = macro_of_symbol names a s (symbol_of h)
+
+abbrev pub macro_called : List (List ℕ) → StaticContext → Tables → Item → Option ℕ
+macro_called names a s d = macro_of_items names a s (list_items d)
+
+-- a file has so many expansions at most, and each but the last in a row of so many is itself a call
+abbrev pub most_expansions : ℕ
+most_expansions = 5000
+
+abbrev pub most_in_row : ℕ
+most_in_row = 200
+
+abbrev pub called_as : ℕ → StaticContext → Tables → Item → Node
+called_as m a s d =
+    if nat_le most_expansions s.expansions then offends (place_of d) TooManyExpansions
+    else if nat_le most_in_row a.spot.in_row then offends (place_of d) ExpansionDepth
+    else calls a s m d
+
+abbrev pub called_or : Option ℕ → StaticContext → Tables → Item → Node → Node
+called_or None a s d x = x
+called_or (Some m) a s d x = called_as m a s d
+
+-- what is no derived form: the call of a macro, or what its row says
+abbrev pub settled_node : List (List ℕ) → StaticContext → Tables → Item → Node
+settled_node names a s d = called_or (macro_called names a s d) a s d (plain_node names a s d)
+
 abbrev pub derived_as : List (List ℕ) → Derivation → StaticContext → Tables → Item → Node
-derived_as names plain a s d = plain_node names a s d
+derived_as names plain a s d = settled_node names a s d
 derived_as names unfit a s d = bad_shape (place_of d)
 derived_as names (becomes r) a s d = steps a s d
 

@@ -4,7 +4,7 @@ use Rattle.std.specs.Prelude.{ℕ, ◌+◌, ◌-◌, ◌<◌, List, [], ◌∷�
 use Rattle.base.specs.AllOf.{AllOf}
 use Rattle.base.specs.WellFormedData.{WellFormed}
 use Rattle.front_profile.specs.declared.spot.Spot.{Spot}
-use Rattle.front_profile.specs.Nodes.{StaticContext, Part, form, below, inner, bind, parameter, wrong, function, Written, initform, accessor, method, Node, offends, unnamed, steps, whole}
+use Rattle.front_profile.specs.Nodes.{StaticContext, Part, form, below, inner, bind, parameter, wrong, function, Written, initform, accessor, method, Node, offends, unnamed, steps, calls, whole}
 use Rattle.front_profile.specs.RowWords.{deeper_spot}
 
 -- how far judging can still go down from there
@@ -40,4 +40,5 @@ abbrev pub SoundNode : ℕ → ℕ → Node → Type 0
 SoundNode n w (offends p r) = Unit {0}
 SoundNode n w unnamed = Unit {0}
 SoundNode n w (steps a s d) = Unit {0}
+SoundNode n w (calls a s m d) = Unit {0}
 SoundNode n w (whole o i s xs m) = AllSound n w o i xs

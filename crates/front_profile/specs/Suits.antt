@@ -86,6 +86,6 @@ Suits (OfDynamics ns) s = Unit {0}
 Suits (OfFunction n rest parts) s = Unit {0}
 Suits (OfBlock x) s = Unit {0}
 Suits (OfSegments x ns) s = Unit {0}
-Suits (OfFunctionNamed name n rest of_file l) s = Unit {0}
+Suits (OfFunctionNamed k name n rest of_file l) s = Unit {0}
 Suits (OfProcedure name n rest) s = Unit {0}
 Suits (OfAccessor name k v l) s = Unit {0}

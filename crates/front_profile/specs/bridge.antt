@@ -1,7 +1,8 @@
 -- What proofs of the code need of the definition.
 pub mod Growing
+pub mod CutGenerics
+pub mod Cutting
 pub mod Turns
-pub mod Once
 pub mod WellFormedParts
 pub mod SoundParts
 pub mod SoundForms
@@ -13,3 +14,4 @@ pub mod LaterNames
 pub mod LaterDefinitions
 pub mod LaterClasses
 pub mod Later
+pub mod LaterExpansions

@@ -100,6 +100,14 @@ pub struct NewClass {
     pub functions: SlotFunctions,
 }
 
+/// What the definition of a function under a name gives: that function, or a macro whose calls it expands
+/// (ISO/IEC 13816:2007, 12.7 and 16).
+#[derive(Clone, Copy)]
+pub enum DefinedAs {
+    Function,
+    Macro,
+}
+
 /// How a core form is made of what was found of its parts.
 #[derive(Drop)]
 pub enum Elaboration {
@@ -127,9 +135,9 @@ pub enum Elaboration {
     OfBlock(ExitVar),
     /// Segments of so many forms.
     OfSegments(ExitVar, Lengths),
-    /// The function of that name, with so many required variables, a rest variable or none, and a body.
+    /// The function or the macro of that name, with so many required variables, a rest variable or none, and a body.
     /// The definition, of a file or not, stands for that form.
-    OfFunctionNamed(Name, usize, bool, bool, Leaf),
+    OfFunctionNamed(DefinedAs, Name, usize, bool, bool, Leaf),
     /// A procedure of a definition, of that name or of none, with so many required variables, a rest variable or
     /// none, and a body.
     OfProcedure(Option<Name>, usize, bool),

@@ -8,9 +8,10 @@ ghost use Rattle.base.specs.WellFormedData.{WellFormed};
 ghost use Rattle.front_profile.specs.declared.elaboration.ElaboratedPart.{ElaboratedPart};
 ghost use Rattle.front_profile.specs.declared.elaboration.Made.{Made};
 ghost use Rattle.front_profile.specs.declared.tables.Tables.{Tables};
-ghost use Rattle.front_profile.specs.Nodes.{StaticContext, Part, Verdict, stands, NodeStays};
+ghost use Rattle.front_profile.specs.Nodes.{StaticContext, Part, Standing, Verdict, stands, NodeStays};
 ghost use Rattle.front_profile.specs.Elaborations.{made_form, finished};
 ghost use Rattle.front_profile.specs.Rows.{node, plain_node};
+ghost use Rattle.front_profile.specs.Exact.{IsExact, OneExpansion};
 ghost use Rattle.front_profile.specs.Judged.{Elaborates};
 ghost use Rattle.front_profile.specs.Sound.{weight, SoundNode};
 ghost use Rattle.front_profile.specs.Walks.{PartTaken, PartStops, Through, PartsStop, WholeComes, WholeStops};
@@ -18,10 +19,13 @@ ghost use Rattle.front_profile.specs.Walks.{PartTaken, PartStops, Through, Parts
 use lang_derived::laws::law_one_step;
 
 /// A form has at most one verdict where it stands: one core form with one numbering, or one first
-/// offence.
+/// offence. So it is where no macro applies; and where calls of macros have one expansion, of verdicts that are
+/// not given for want of words or of instructions of an expander.
 pub fn law_one_verdict()
-    ensures { (names : List (List ℕ)) (a : StaticContext) (s : Tables) (d : Item) (v w : Verdict) → IsTable names →
+    ensures without { (names : List (List ℕ)) (a : StaticContext) (s : Tables) (d : Item) (v w : Verdict) → IsTable names → s.before.macros ≡ 0 →
         Elaborates names (node names a s d) v → Elaborates names (node names a s d) w → v ≡ w }
+    ensures exact { (names : List (List ℕ)) (a : StaticContext) (s : Tables) (d : Item) (v w : Verdict) → IsTable names → OneExpansion names →
+        IsExact v → IsExact w → Elaborates names (node names a s d) v → Elaborates names (node names a s d) w → v ≡ w }
 {
     law_one_step();
 }
@@ -53,4 +57,10 @@ pub fn law_turns()
         Through names o i s xs rs i2 t [] → WholeComes names o i s xs m (stands (record { form = made_form m rs; tables = finished m rs t })) }
     ensures whole_stop { (names : List (List ℕ)) (o i : StaticContext) (s : Tables) (xs : List Part) (m : Made) (stop : Stop) →
         PartsStop names o i s xs stop → WholeStops names o i s xs m stop }
+{}
+
+/// A form adds no macro, since no form defines one yet: the row of the one that is to do so is `NotBuilt`.
+pub fn law_macros()
+    ensures { (names : List (List ℕ)) (a : StaticContext) (s : Tables) (d : Item) (m : Standing) →
+        Elaborates names (node names a s d) (stands m) → m.tables.macros ≡ s.macros }
 {}

@@ -1,9 +1,10 @@
 // What the forms judged so far gave.
 
+use crate::mark::Mark;
 use base::{FreshList, ItemList, Name, NameList, PlaceList};
 use lang_classes::Classes;
 use lang_dispatch::Generics;
-use lang_meaning::{CoreList, ExitVar, FunctionRows, LiteralRows, ProcedureList, Var};
+use lang_meaning::{CoreList, ExitVar, FunctionRows, LiteralRows, ProcedureId, ProcedureList, Var};
 
 /// The names that no variable has: `t`, and the two words in front of a rest variable.
 #[derive(Clone, Copy, Debug, PartialEq, Eq)]
@@ -29,15 +30,24 @@ pub struct DynamicRow {
     pub of_file: bool,
 }
 
+/// A macro that was defined, and the procedure that expands its calls (ISO/IEC 13816:2007, 16).
+#[derive(Clone, Copy, Debug, PartialEq, Eq)]
+pub struct MacroRow {
+    pub name: Name,
+    pub procedure: ProcedureId,
+}
+
 /// What the forms judged so far gave: rows of a program, names that were defined or set, the new
-/// symbols of steps, and the numbers of the next variable and the next exit.
+/// symbols of steps, the numbers of the next variable and the next exit, and how many calls of macros
+/// were expanded.
 #[derive(Drop)]
 pub struct Tables {
     pub words: ReservedWords,
     pub literals: LiteralRows,
     pub procedures: ProcedureList,
     pub functions: FunctionRows,
-    /// The functions that the prelude defined.
+    pub macros: ItemList<MacroRow>,
+    /// The functions and the macros that the prelude defined.
     pub prelude: NameList,
     pub classes: Classes,
     /// The classes that were there when the last definition of the prelude was met, the built-in ones among them.
@@ -52,4 +62,7 @@ pub struct Tables {
     pub variables: Var,
     pub exits: ExitVar,
     pub main: CoreList,
+    pub expansions: u32,
+    /// Where the tables stood when the top-level form that is judged began.
+    pub before: Mark,
 }

@@ -1,6 +1,6 @@
 // Laws of what forms stand for: a form is whole where it stands, and so is a program of such forms.
 
-ghost use Rattle.std.specs.Prelude.{◌≡◌, ℕ, ◌≤◌, true, false, List, [], None, length};
+ghost use Rattle.std.specs.Prelude.{◌≡◌, ℕ, ◌<◌, ◌≤◌, true, false, List, [], None, length};
 ghost use Rattle.base.specs.declared.datum.Name.{Name};
 ghost use Rattle.base.specs.Data.{Item};
 ghost use Rattle.base.specs.WellFormedData.{WellFormed};
@@ -19,6 +19,7 @@ ghost use Rattle.front_profile.specs.FunctionNodes.{function_node};
 ghost use Rattle.front_profile.specs.Rows.{node, plain_node};
 ghost use Rattle.front_profile.specs.DefiningRows.{has_function};
 ghost use Rattle.front_profile.specs.Elaborations.{generic_named};
+ghost use Rattle.front_profile.specs.Expanders.{tables_before, definitions, program_of};
 ghost use Rattle.front_profile.specs.Judged.{Elaborates};
 ghost use Rattle.front_profile.specs.Walks.{PartTaken, Through};
 ghost use Rattle.front_profile.specs.Suits.{Suits};
@@ -32,6 +33,7 @@ ghost use Rattle.front_profile.specs.Known.{KnownTables, MakesSuited, SuitsNode}
 
 use lang_classes::laws::law_definitions;
 use lang_derived::laws::law_good_steps;
+use lang_taken::laws::law_form;
 
 /// A form that stands in a scope stands in each that binds as much.
 pub fn law_scopes()
@@ -46,6 +48,7 @@ pub fn law_forms()
         SoundTables s → Elaborates names (node names a s d) (comes_to m) → Came a s m }
 {
     law_good_steps();
+    law_form();
     law_definitions();
 }
 
@@ -105,6 +108,7 @@ pub fn law_top_forms()
         a.spot.sited ≡ false → TopLevelTables s → Elaborates names (node names a s d) (comes_to m) → TopLevelTables m.tables }
 {
     law_good_steps();
+    law_form();
     law_definitions();
 }
 
@@ -112,4 +116,12 @@ pub fn law_top_forms()
 pub fn law_programs()
     ensures { (t : Tables) → TopLevelTables t → program_nodes (rows_of (defined t)) ≤ 100000 → program_cells (rows_of (defined t)) ≤ 262144 →
         is_whole (rows_of (defined t)) ≡ true }
+{}
+
+/// The program of a call of a macro is whole: where that is so of what was defined before the top-level form, and the
+/// program has at most 100,000 nodes.
+pub fn law_expanders()
+    ensures { (s : Tables) (m : ℕ) (d : Item) (n : ℕ) → TopLevelTables (tables_before s) → program_nodes (rows_of (definitions s)) ≤ 100000 →
+        program_cells (rows_of (definitions s)) ≤ 262144 → m < length (tables_before s).macros → WellFormed n d → program_nodes (program_of s m d) ≤ 100000 →
+        is_whole (program_of s m d) ≡ true }
 {}

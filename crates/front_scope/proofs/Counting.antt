@@ -7,10 +7,10 @@ use Rattle.lang_meaning.specs.Counts.{all_nodes}
 use Rattle.lang_meaning.specs.ProgramCounts.{row_nodes, procedure_nodes, class_nodes}
 use Rattle.front_profile.specs.declared.tables.Tables.{Tables}
 use Rattle.front_profile.specs.Marks.{StandsFirst, TablesGrow}
-use Rattle.front_scope.specs.declared.mark.Mark.{Mark}
-use Rattle.front_scope.specs.Cuts.{mark_of, nodes_behind}
+use Rattle.front_profile.specs.declared.mark.Mark.{Mark}
+use Rattle.front_profile.specs.Cuts.{mark_of, nodes_behind}
 use Rattle.front_scope.specs.Scopes.{nodes_of}
-use Rattle.front_scope.proofs.CutGenerics.{there_enough}
+use Rattle.front_profile.specs.bridge.CutGenerics.{there_enough}
 
 -- a list counts what a list in front of it counts, and what stands behind that
 split : {X : Type 0} (f : X → ℕ) (xs ys : List X) → StandsFirst xs ys → sum_by f ys ≡ sum_by f xs + sum_by f (drop (length xs) ys)

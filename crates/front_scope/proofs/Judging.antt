@@ -17,7 +17,7 @@ use Rattle.front_profile.specs.declared.tables.Tables.{Tables}
 use Rattle.front_profile.specs.FunctionNodes.{function_node}
 use Rattle.front_profile.specs.Nodes.{StaticContext, Part, Written, initform, accessor, method, Node, offends, unnamed, whole, Verdict, ended, refused}
 use Rattle.front_profile.specs.Judged.{with_variable, Elaborates, offence}
-use Rattle.front_profile.specs.Promises.{FormComes, FormStops, PlainComes, PlainStops, Settles}
+use Rattle.front_profile.specs.Promises.{FormComes, FormStops, PlainComes, PlainStops}
 use Rattle.front_profile.specs.Rows.{plain_node}
 use Rattle.front_profile.specs.RowWords.{alone, each_inner, each_parameter}
 use Rattle.front_profile.specs.Shapes.{all_symbols}
@@ -29,6 +29,7 @@ use Rattle.front_profile.specs.bridge.SoundRows.{sound_node}
 use Rattle.front_profile.specs.Known.{KnownTables, MakesSuited, SuitsNode}
 use Rattle.front_forms.specs.Settled.{with_symbols}
 use Rattle.front_drafts.specs.Views.{at}
+use Rattle.front_scope.specs.Calls.{Settled}
 use Rattle.front_scope.specs.Walk.{AllFound, NodeComes, NodeStops}
 
 -- what holds of the error or of the value, with what follows from it
@@ -41,19 +42,19 @@ pub ok_map : {T E : Type 0} (r : Result T E) (P Q : T → Type 0) → ((x : T) �
 ok_map (Ok x) P Q f h = f x h
 ok_map (Err e) P Q f h = tt
 
--- a stop of the last step is that of the form
-pub settled_stops : (names more : List (List ℕ)) (a : StaticContext) (s : Tables) (d : Item) (t : Tables) (e : Item) (stop : Stop) →
-    Extends names more → Settles names s d t e → PlainStops more a t e stop → FormStops more a s d stop
-settled_stops names more a s d t e (Refused r) x h p = record {
-  under = λ later y. h.under later (Extends-then names more later x y) a _ (p.under later y);
+-- a stop of what the form leads to is that of the form
+pub settled_stops : (names more : List (List ℕ)) (a : StaticContext) (s : Tables) (d : Item) (b : StaticContext) (t : Tables) (e : Item) (stop : Stop) →
+    Extends names more → Settled names a s d b t e → PlainStops more b t e stop → FormStops more a s d stop
+settled_stops names more a s d b t e (Refused r) x h p = record {
+  under = λ later y. h.leads.under later (Extends-then names more later x y) _ (p.under later y);
 }
-settled_stops names more a s d t e NoMemory x h p = tt
+settled_stops names more a s d b t e NoMemory x h p = tt
 
--- what the last step comes to, the form does
-pub settled_comes : (names more : List (List ℕ)) (a : StaticContext) (s : Tables) (d : Item) (t : Tables) (e : Item) (v : Verdict) →
-    Extends names more → Settles names s d t e → PlainComes more a t e v → FormComes more a s d v
-settled_comes names more a s d t e v x h p = record {
-  under = λ later y. h.under later (Extends-then names more later x y) a v (p.under later y);
+-- what that comes to, the form does
+pub settled_comes : (names more : List (List ℕ)) (a : StaticContext) (s : Tables) (d : Item) (b : StaticContext) (t : Tables) (e : Item) (v : Verdict) →
+    Extends names more → Settled names a s d b t e → PlainComes more b t e v → FormComes more a s d v
+settled_comes names more a s d b t e v x h p = record {
+  under = λ later y. h.leads.under later (Extends-then names more later x y) v (p.under later y);
 }
 
 -- a form is its row, also under a later table of names, where that asks for no name that is missing

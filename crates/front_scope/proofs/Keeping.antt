@@ -31,11 +31,12 @@ use Rattle.front_profile.specs.Rows.{node}
 use Rattle.front_profile.specs.Between.{TopLevelTables, HasNoForm}
 use Rattle.front_profile.specs.Places.{EmptyContext}
 use Rattle.front_profile.specs.Right.{with_main as with_form}
-use Rattle.front_scope.specs.declared.mark.Mark.{Mark}
+use Rattle.front_profile.specs.declared.mark.Mark.{Mark}
+use Rattle.front_programs.specs.Calls.{Begun}
 use Rattle.front_scope.specs.Cells.{FewAt}
-use Rattle.front_scope.specs.Cuts.{mark_of}
+use Rattle.front_profile.specs.Cuts.{mark_of, opened}
 use Rattle.front_scope.specs.Scopes.{rows_of, nodes_of, cells_of, most_cells, top, first_tables, IsElaborated, AreInitialTables, IsWhole}
-use Rattle.front_scope.proofs.CutGenerics.{same_rows, same_generics}
+use Rattle.front_profile.specs.bridge.CutGenerics.{same_rows, same_generics}
 
 -- what is known of top-level forms
 pub record TopForms : Type 0 where
@@ -47,6 +48,44 @@ pub record TopForms : Type 0 where
 
 nothing_around : (origin : Origin) → EmptyContext (top origin)
 nothing_around origin = record { bound = refl; method = refl }
+
+-- tables where a form begins are as whole as those in front of it
+
+pub opened_between : (s : Tables) → TopLevelTables s → TopLevelTables (opened s)
+opened_between s w = record { whole = w.whole; classes = w.classes; sites = w.sites }
+
+pub opened_whole : (s : Tables) → IsWhole s → IsWhole (opened s)
+opened_whole s w = record { between = opened_between s w.between; small = w.small; few = w.few }
+
+-- where a form begins
+pub begun_here : (t : Tables) → t.before ≡ mark_of t → IsWhole t → Begun t
+begun_here t e w = let g = tables_grow_reflexive t in record {
+  first = t;
+  whole = w.between;
+  small = w.small;
+  few = w.few;
+  grown = record {
+    words = g.words;
+    classes = g.classes;
+    slots = g.slots;
+    generics = g.generics;
+    literals = g.literals;
+    procedures = g.procedures;
+    functions = g.functions;
+    macros = g.macros;
+    prelude = g.prelude;
+    globals = g.globals;
+    set = g.set;
+    dynamics = g.dynamics;
+    sites = g.sites;
+    fresh = g.fresh;
+    main = g.main;
+    variables = g.variables;
+    exits = g.exits;
+    expansions = g.expansions;
+    before = e;
+  };
+}
 
 pub given_whole : TopForms → (old names : List (List ℕ)) (origin : Origin) (s : Tables) (d : Item) (t : Tables) → WellFormed (length old) d → Extends old names →
     TopLevelTables s → IsElaborated names origin s d t → TopLevelTables t
@@ -130,6 +169,7 @@ nothing_left texts t e = record {
   procedures = ap (λ (u : Tables). u.procedures) e;
   generics = ap (λ (u : Tables). u.generics) e;
   functions = ap (λ (u : Tables). u.functions) e;
+  macros = ap (λ (u : Tables). u.macros) e;
   main = ap (λ (u : Tables). u.main) e;
   sites = ap (λ (u : Tables). u.sites) e;
 }
@@ -192,6 +232,7 @@ main_grows t f = let g = tables_grow_reflexive t in record {
   literals = g.literals;
   procedures = g.procedures;
   functions = g.functions;
+  macros = g.macros;
   prelude = g.prelude;
   globals = g.globals;
   set = g.set;
@@ -201,6 +242,8 @@ main_grows t f = let g = tables_grow_reflexive t in record {
   main = grows_at_end t.main t.main (f ∷ []) g.main;
   variables = g.variables;
   exits = g.exits;
+  expansions = g.expansions;
+  before = g.before;
 }
 
 pub pushed_grows : {T E : Type 0} (r : Result T E) (t : Tables) (fs : List Form) (f : Form) → OnOk r (fs ≡ t.main ++ f ∷ []) → OnErr r (fs ≡ t.main) →

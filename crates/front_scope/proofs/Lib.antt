@@ -1,10 +1,10 @@
 pub mod Walking
 pub mod Judging
 pub mod Walked
-pub mod CutGenerics
-pub mod Cutting
+pub mod Calling
 pub mod Counting
 pub mod Beginning
 pub mod Keeping
 pub mod ClassCounts
 pub mod CellBounds
+pub mod MacroNames

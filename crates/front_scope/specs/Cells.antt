@@ -6,8 +6,8 @@ use Rattle.lang_meaning.specs.declared.program.GenericRow.{GenericRow}
 use Rattle.lang_meaning.specs.Cells.{groups, tuples}
 use Rattle.lang_dispatch.specs.OfClasses.{with_classes}
 use Rattle.front_profile.specs.declared.tables.Tables.{Tables}
-use Rattle.front_scope.specs.declared.mark.Mark.{Mark}
-use Rattle.front_scope.specs.Cuts.{method_counts}
+use Rattle.front_profile.specs.declared.mark.Mark.{Mark}
+use Rattle.front_profile.specs.Cuts.{method_counts}
 use Rattle.front_scope.specs.Scopes.{cells_of, most_cells}
 
 -- the cells are few where classes, generic functions and methods are as many as at the mark

@@ -1,5 +1,5 @@
 pub mod Scopes
-pub mod Cuts
 pub mod Walk
+pub mod Calls
 pub mod Cells
 pub mod Below

@@ -17,6 +17,7 @@ use Rattle.lang_classes.specs.InheritedBuiltIn.{AreBuiltIn}
 use Rattle.front_profile.specs.declared.spot.Spot.{Spot}
 use Rattle.front_profile.specs.declared.tables.ReservedWords.{ReservedWords}
 use Rattle.front_profile.specs.declared.tables.Tables.{Tables}
+use Rattle.front_profile.specs.declared.mark.Mark.{Mark}
 use Rattle.front_profile.specs.Between.{TopLevelTables}
 use Rattle.front_profile.specs.Nodes.{StaticContext, refused, stands, ended}
 use Rattle.front_profile.specs.Promises.{FormComes}
@@ -27,7 +28,7 @@ is_of_file Prelude = false
 is_of_file File = true
 
 abbrev pub top_spot : Origin → Spot
-top_spot origin = record { depth = 0; top = true; in_method = false; sited = is_of_file origin }
+top_spot origin = record { depth = 0; top = true; in_method = false; sited = is_of_file origin; in_row = 0 }
 
 abbrev pub top : Origin → StaticContext
 top origin = record { bound = []; spot = top_spot origin }
@@ -112,6 +113,28 @@ pub record AreWords (names : List (List ℕ)) (words : ReservedWords) : Type 0 w
   pub rest : slice_get names words.rest.0 ≡ Some (codes ":rest")
   pub and_rest : slice_get names words.and_rest.0 ≡ Some (codes "&rest")
 
+-- where tables with these classes, and nothing else, stand
+abbrev pub first_mark : Hierarchy → Mark
+first_mark classes = record {
+  literals = 0;
+  procedures = 0;
+  functions = 0;
+  macros = 0;
+  prelude = 0;
+  classes = length classes.rows;
+  prelude_classes = length classes.rows;
+  methods = [];
+  globals = 0;
+  set = 0;
+  dynamics = 0;
+  sites = 0;
+  fresh = 0;
+  main = 0;
+  variables = 0;
+  exits = 0;
+  expansions = 0;
+}
+
 -- tables with words and classes, which are there for every file, and nothing else
 abbrev pub first_tables : ReservedWords → Hierarchy → Tables
 first_tables words classes = record {
@@ -119,6 +142,7 @@ first_tables words classes = record {
   literals = [];
   procedures = [];
   functions = [];
+  macros = [];
   prelude = [];
   classes = classes;
   prelude_classes = length classes.rows;
@@ -131,6 +155,8 @@ first_tables words classes = record {
   variables = 0;
   exits = 0;
   main = [];
+  expansions = 0;
+  before = first_mark classes;
 }
 
 -- the tables in front of all forms: the words, the built-in classes, and nothing else

@@ -7,13 +7,13 @@ ghost use Rattle.lang_meaning.specs.Cells.{groups, is_specialised, generic_cells
 ghost use Rattle.lang_dispatch.specs.OfClasses.{with_classes};
 ghost use Rattle.front_scope.specs.Below.{AreBelow, special_below, special_at, is_special_at, places};
 ghost use Rattle.front_scope.specs.Cells.{FewAt, all_tuples};
-ghost use Rattle.front_scope.specs.Cuts.{method_counts};
+ghost use Rattle.front_profile.specs.Cuts.{method_counts};
 ghost use Rattle.front_scope.specs.Scopes.{cells_of, most_cells};
 
 use crate::below::{ClassCounts, below_counts};
-use crate::mark::{Mark, method_counts};
+use crate::mark::method_counts;
 use base::NoMemory;
-use front_profile::Tables;
+use front_profile::{Mark, Tables};
 use lang_classes::Classes;
 use lang_classes::laws::law_precedence;
 use lang_meaning::{ClassId, GenericRow, MethodRow};

@@ -3,10 +3,9 @@
 ghost use Rattle.std.specs.Prelude.{◌≡◌, ◌+◌, ◌-◌, ◌*◌, length, drop, min};
 ghost use Rattle.std.specs.List.{sum_by};
 ghost use Rattle.lang_meaning.specs.ProgramCounts.{slot_nodes, class_nodes};
-ghost use Rattle.front_scope.specs.Cuts.{nodes_behind};
+ghost use Rattle.front_profile.specs.Cuts.{nodes_behind};
 
-use crate::mark::Mark;
-use front_profile::Tables;
+use front_profile::{Mark, Tables};
 use lang_meaning::{
     ClassRow, ClassRows, SlotRows, form_list_nodes, literal_list_nodes, procedure_list_nodes,
 };

@@ -24,18 +24,20 @@ fn alone_spot(spot: Spot, in_method: bool) -> Spot
         top: false,
         in_method,
         sited: spot.sited,
+        in_row: 0,
     }
 }
 
 /// Right above such a body.
 pub(crate) fn above_body(spot: Spot) -> Spot
-    ensures { result ≡ record spot { depth = 0; top = false } }
+    ensures { result ≡ record spot { depth = 0; top = false; in_row = 0 } }
 {
     Spot {
         depth: 0,
         top: false,
         in_method: spot.in_method,
         sited: spot.sited,
+        in_row: 0,
     }
 }
 

@@ -2,6 +2,7 @@
 #![tactic(auto)]
 
 mod below;
+mod calls;
 mod cells;
 mod counts;
 mod first;

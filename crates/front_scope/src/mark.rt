@@ -1,35 +1,14 @@
 // The way back after a stop: what was added to the tables is cut off again.
 
-ghost use Rattle.std.specs.Prelude.{◌≡◌, ◌≤◌, length, map, IfOk};
+ghost use Rattle.std.specs.Prelude.{◌≡◌, ◌≤◌, length, map, IfOk, OnOk, OnErr};
 ghost use Rattle.lang_meaning.specs.Objects.{built_in_classes};
-ghost use Rattle.front_scope.specs.Cuts.{mark_of, method_counts, ReachesMark, ReachMethods, cut_generics, cut_to};
+ghost use Rattle.front_profile.specs.Cuts.{mark_of, method_counts, ReachesMark, ReachMethods, cut_generics, cut_to, opened, closed};
 
 use base::NoMemory;
-use front_profile::{Lengths, Tables};
+use front_profile::{Lengths, Mark, Tables};
 use lang_dispatch::Generics;
-use lang_meaning::{ExitVar, Var};
 use std::alloc::Global;
-
-/// How long the lists of the tables were, and the numbers that came next.
-#[derive(Drop)]
-pub(crate) struct Mark {
-    pub(crate) literals: usize,
-    pub(crate) procedures: usize,
-    pub(crate) functions: usize,
-    pub(crate) prelude: usize,
-    pub(crate) classes: usize,
-    pub(crate) prelude_classes: usize,
-    /// How many methods each generic function had.
-    pub(crate) methods: Lengths,
-    pub(crate) globals: usize,
-    pub(crate) set: usize,
-    pub(crate) dynamics: usize,
-    pub(crate) sites: usize,
-    pub(crate) fresh: usize,
-    pub(crate) main: usize,
-    pub(crate) variables: Var,
-    pub(crate) exits: ExitVar,
-}
+use std::mem;
 
 /// How many methods each generic function has.
 pub(crate) fn method_counts(alloc: Global, generics: &Generics) -> Result<Lengths, NoMemory>
@@ -42,8 +21,8 @@ pub(crate) fn method_counts(alloc: Global, generics: &Generics) -> Result<Length
     Ok(counts)
 }
 
-/// Where the tables stand.
-pub(crate) fn mark_of(alloc: Global, tables: &Tables) -> Result<Mark, NoMemory>
+// Where the tables stand.
+fn mark_of(alloc: Global, tables: &Tables) -> Result<Mark, NoMemory>
     ensures { IfOk result (λ mark. mark ≡ mark_of tables.now) }
 {
     let methods = method_counts(alloc, &tables.generics)?;
@@ -51,6 +30,7 @@ pub(crate) fn mark_of(alloc: Global, tables: &Tables) -> Result<Mark, NoMemory>
         literals: tables.literals.len(),
         procedures: tables.procedures.len(),
         functions: tables.functions.len(),
+        macros: tables.macros.len(),
         prelude: tables.prelude.len(),
         classes: tables.classes.rows().len(),
         prelude_classes: tables.prelude_classes,
@@ -63,6 +43,7 @@ pub(crate) fn mark_of(alloc: Global, tables: &Tables) -> Result<Mark, NoMemory>
         main: tables.main.len(),
         variables: tables.variables,
         exits: tables.exits,
+        expansions: tables.expansions,
     })
 }
 
@@ -80,8 +61,8 @@ fn cut_generics(generics: &mut Generics, methods: &Lengths)
     }
 }
 
-/// Cuts the tables back to where they stood; takes no memory.
-pub(crate) fn cut_to(tables: &mut Tables, mark: &Mark)
+// Cuts the tables back to where they stood; takes no memory.
+fn cut_to(tables: &mut Tables, mark: &Mark)
     requires built_in { built_in_classes ≤ mark.now.classes }
     requires reaches { ReachesMark mark.now tables.old }
     ensures { tables.new ≡ cut_to mark.now tables.old }
@@ -89,6 +70,7 @@ pub(crate) fn cut_to(tables: &mut Tables, mark: &Mark)
     tables.literals.cut(mark.literals);
     tables.procedures.cut(mark.procedures);
     tables.functions.cut(mark.functions);
+    tables.macros.cut(mark.macros);
     tables.prelude.cut(mark.prelude);
     tables.classes.cut(mark.classes);
     tables.prelude_classes = mark.prelude_classes;
@@ -101,4 +83,25 @@ pub(crate) fn cut_to(tables: &mut Tables, mark: &Mark)
     tables.main.cut(mark.main);
     tables.variables = mark.variables;
     tables.exits = mark.exits;
+    tables.expansions = mark.expansions;
+}
+
+/// Begins a top-level form: gives the mark of the one before, in whose place stands that of the tables now.
+pub(crate) fn open(alloc: Global, tables: &mut Tables) -> Result<Mark, NoMemory>
+    ensures opened { OnOk result (tables.new ≡ opened tables.old) }
+    ensures before { IfOk result (λ before. before ≡ tables.old.before) }
+    ensures unchanged { OnErr result (tables.new ≡ tables.old) }
+{
+    let mark = mark_of(alloc, tables)?;
+    Ok(mem::replace(&mut tables.before, mark))
+}
+
+/// The way back to where the top-level form began, and to that mark of the one before; takes no memory.
+pub(crate) fn close(tables: &mut Tables, before: Mark)
+    requires built_in { built_in_classes ≤ tables.old.before.classes }
+    requires reaches { ReachesMark tables.old.before tables.old }
+    ensures { tables.new ≡ closed before tables.old }
+{
+    let mark = mem::replace(&mut tables.before, before);
+    cut_to(tables, &mark);
 }

@@ -2,13 +2,13 @@
 
 ghost use Rattle.std.specs.Prelude.{◌≡◌, length, OnOk, OnErr, IfOk, IfErr};
 ghost use Rattle.base.specs.WellFormedData.{WellFormed};
-ghost use Rattle.base.specs.Data.{place_of};
 ghost use Rattle.base.specs.Names.{Extends};
 ghost use Rattle.front_profile.specs.Marks.{TablesGrow};
 ghost use Rattle.front_profile.specs.Definitions.{SoundTables};
-ghost use Rattle.front_scope.specs.Cuts.{mark_of};
+ghost use Rattle.front_profile.specs.Cuts.{mark_of, opened};
 ghost use Rattle.front_profile.specs.Promises.{FormStops};
 ghost use Rattle.front_profile.specs.Known.{KnownTables};
+ghost use Rattle.front_programs.specs.Calls.{Begun};
 ghost use Rattle.front_scope.specs.Walk.{FormGives};
 ghost use Rattle.front_scope.specs.Scopes.{top, top_spot, with_main, rows_of, nodes_of, IsWhole, IsElaborated, IsTaken, IsFormStopped, AreInitialTables};
 
@@ -16,12 +16,13 @@ use crate::cells::has_too_many_cells;
 use crate::counts::with_added;
 use crate::first::{first_tables, reserved_words};
 use crate::judge::judge;
-use crate::mark::{Mark, cut_to, mark_of};
-use base::{Datum, Names, NoMemory, Origin, Reason, Refusal, Stop};
+use crate::mark::{close, open};
+use base::{Datum, Names, NoMemory, Origin, Reason, Stop};
 use front_context::Bindings;
 use front_elaboration::Formed;
 use front_profile::whole_laws::{law_programs, law_suits, law_top_forms};
 use front_profile::{Spot, Tables};
+use front_programs::{Expanding, refused};
 use lang_classes::Classes;
 use lang_meaning::{Core, Program, ProgramRows, class_list_nodes};
 use std::alloc::Global;
@@ -70,6 +71,7 @@ fn top_spot(origin: Origin) -> Spot
         top: true,
         in_method: false,
         sited,
+        in_row: 0,
     }
 }
 
@@ -88,69 +90,71 @@ fn add_main(origin: Origin, form: Core, tables: &mut Tables) -> Result<(), NoMem
 }
 
 // Judges a form where nothing is bound.
-fn judge_alone(
+fn judge_alone<X: Expanding>(
     alloc: Global,
     names: &mut Names,
     tables: &mut Tables,
     datum: &Datum,
     origin: Origin,
+    expander: &mut X,
 ) -> Result<Formed, Stop>
     requires good { WellFormed (length names.old) datum.now }
     requires known { KnownTables tables.old }
+    requires begun { Begun tables.old }
     ensures gives { IfOk result (FormGives names.new (top origin) tables.old datum.now tables.new) }
     ensures stops { IfErr result (FormStops names.new (top origin) tables.old datum.now) }
     ensures names { Extends names.old names.new }
     ensures grows { TablesGrow tables.old tables.new }
 {
     let mut bound = Bindings::new(alloc);
-    let form = judge(alloc, names, tables, &mut bound, top_spot(origin), datum);
+    let form = judge(
+        alloc,
+        names,
+        tables,
+        &mut bound,
+        top_spot(origin),
+        datum,
+        expander,
+    );
     drop(bound);
     form
 }
 
 // Judges a top-level form, which is a main form then where it stands in a file.
-fn judge_top(
+fn judge_top<X: Expanding>(
     alloc: Global,
     names: &mut Names,
     tables: &mut Tables,
     datum: &Datum,
     origin: Origin,
+    expander: &mut X,
 ) -> Result<(), Stop>
     requires good { WellFormed (length names.old) datum.now }
     requires sound { SoundTables tables.old }
+    requires begun { Begun tables.old }
     ensures given { OnOk result (IsElaborated names.new origin tables.old datum.now tables.new) }
     ensures stop { IfErr result (IsFormStopped names.new origin tables.old datum.now) }
     ensures names { Extends names.old names.new }
     ensures grows { TablesGrow tables.old tables.new }
 {
     law_suits();
-    let form = judge_alone(alloc, names, tables, datum, origin)?;
+    let form = judge_alone(alloc, names, tables, datum, origin, expander)?;
     add_main(origin, form.into_core(), tables)?;
     Ok(())
 }
 
-// A form that is too large, as a whole.
-fn too_large(datum: &Datum, reason: Reason) -> Stop
-    ensures { result ≡ Stop.Refused (record { place = place_of datum.now; reason = reason }) }
-{
-    Stop::Refused(Refusal {
-        place: datum.place,
-        reason,
-    })
-}
-
 // The same, with the nodes of the program then, which are within their limit, as its cells are.
-fn take_form(
+fn take_form<X: Expanding>(
     alloc: Global,
     names: &mut Names,
     tables: &mut Tables,
-    mark: &Mark,
     nodes: u64,
     datum: &Datum,
     origin: Origin,
+    expander: &mut X,
 ) -> Result<u64, Stop>
     requires good { WellFormed (length names.old) datum.now }
-    requires mark { mark.now ≡ mark_of tables.old }
+    requires mark { tables.old.before ≡ mark_of tables.old }
     requires nodes { nodes ≡ nodes_of tables.old }
     requires whole { IsWhole tables.old }
     ensures taken { OnOk result (IsTaken names.new origin tables.old datum.now tables.new) }
@@ -161,13 +165,13 @@ fn take_form(
     ensures grows { TablesGrow tables.old tables.new }
 {
     law_top_forms();
-    judge_top(alloc, names, tables, datum, origin)?;
-    let nodes = with_added(tables, mark, nodes);
+    judge_top(alloc, names, tables, datum, origin, expander)?;
+    let nodes = with_added(tables, &tables.before, nodes);
     if nodes > MOST_NODES {
-        return Err(too_large(datum, Reason::ProgramTooLarge));
+        return Err(refused(datum, Reason::ProgramTooLarge));
     }
-    if has_too_many_cells(alloc, tables, mark)? {
-        return Err(too_large(datum, Reason::DispatchTooLarge));
+    if has_too_many_cells(alloc, tables, &tables.before)? {
+        return Err(refused(datum, Reason::DispatchTooLarge));
     }
     Ok(nodes)
 }
@@ -192,33 +196,41 @@ impl Scope {
     }
 
     /// Judges a top-level form of the prelude or of a file, and takes what it defines
-    /// (ISO/IEC 13816:2007, 11 and 12). It is refused by its first offence in preorder, with the place
+    /// (ISO/IEC 13816:2007, 11 and 12). Of the macros, those apply that were defined before it, and
+    /// their calls are expanded by what is given for that. It is refused by its first offence in preorder, with the place
     /// and the lowest reason there; else, at the form, by `ProgramTooLarge` where the program has more than 100,000
     /// nodes with it, and by `DispatchTooLarge` where its dispatch tables have more than 262,144 cells with it. The
     /// scope is unchanged after a stop; the table of names keeps its names and may have gained some. Condition: the datum is in form, and its names are in the table.
-    pub fn form(&mut self, names: &mut Names, datum: &Datum, origin: Origin) -> Result<(), Stop>
+    pub fn form<X: Expanding>(
+        &mut self,
+        names: &mut Names,
+        datum: &Datum,
+        origin: Origin,
+        expander: &mut X,
+    ) -> Result<(), Stop>
         requires good { WellFormed (length names.old) datum.now }
-        ensures taken { OnOk result (IsTaken names.new origin self.old datum.now self.new) }
-        ensures stop { IfErr result (IsFormStopped names.new origin self.old datum.now) }
+        ensures taken { OnOk result (IsTaken names.new origin (opened self.old) datum.now self.new) }
+        ensures stop { IfErr result (IsFormStopped names.new origin (opened self.old) datum.now) }
         ensures unchanged { OnErr result (self.new ≡ self.old) }
         ensures names { Extends names.old names.new }
     {
-        let mark = mark_of(self.alloc, &self.tables)?;
+        let before = open(self.alloc, &mut self.tables)?;
         match take_form(
             self.alloc,
             names,
             &mut self.tables,
-            &mark,
             self.nodes,
             datum,
             origin,
+            expander,
         ) {
             Ok(nodes) => {
+                drop(before);
                 self.nodes = nodes;
                 Ok(())
             }
             Err(stop) => {
-                cut_to(&mut self.tables, &mark);
+                close(&mut self.tables, before);
                 Err(stop)
             }
         }

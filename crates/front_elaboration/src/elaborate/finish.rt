@@ -1,15 +1,15 @@
 // What counts once a core form is made: the definition that it stands for.
 
 ghost use Rattle.std.specs.Prelude.{◌≡◌, ◌+◌, ◌∷◌, [], ◌++◌, Some, IfOk, OnOk, OnErr};
-ghost use Rattle.front_profile.specs.Elaborations.{nothing, at_site, with_global, with_dynamic, with_procedure, prelude_with, with_callee, with_function, procedure_found, finish_one};
+ghost use Rattle.front_profile.specs.Elaborations.{nothing, at_site, with_global, with_dynamic, with_procedure, prelude_with, with_callee, with_macro, with_name_of, with_defined, procedure_found, finish_one};
 
 use crate::elaborate::leaf_made;
 use crate::elaborate::parts::split_variables;
 use crate::elaborate::sort::sort_found;
 use crate::kept::Formed;
 use base::{Name, NameList, NoMemory};
-use front_profile::{ElaboratedParts, Leaf, One, Tables};
-use lang_meaning::{Callee, Core, FunctionRow, Procedure, SiteId};
+use front_profile::{DefinedAs, ElaboratedParts, Leaf, MacroRow, One, Tables};
+use lang_meaning::{Callee, Core, FunctionRow, Procedure, ProcedureId, SiteId};
 use std::alloc::Global;
 
 /// The next number, where there is one.
@@ -73,7 +73,7 @@ pub(crate) fn complete_procedure(
     Ok(form)
 }
 
-// A function of the prelude is noted as one.
+// A function or a macro of the prelude is noted as one.
 fn note_prelude(of_file: bool, name: Name, prelude: &mut NameList) -> Result<(), NoMemory>
     ensures ok { OnOk result (prelude.new ≡ prelude_with of_file name prelude.old) }
     ensures err { OnErr result (prelude.new ≡ prelude.old) }
@@ -103,19 +103,51 @@ pub(crate) fn add_callee(
     Ok(())
 }
 
-/// The function counts, with its procedure.
-pub(crate) fn define_function(
+// Calls of the name are expanded by that from the next top-level form on.
+fn add_macro(row: MacroRow, of_file: bool, tables: &mut Tables) -> Result<(), NoMemory>
+    ensures ok { OnOk result (tables.new ≡ with_macro row of_file tables.old) }
+    ensures err { OnErr result (tables.new ≡ tables.old) }
+{
+    let macros = tables.macros.len();
+    tables.macros.push(row)?;
+    if note_prelude(of_file, row.name, &mut tables.prelude).is_err() {
+        tables.macros.cut(macros);
+        return Err(NoMemory);
+    }
+    Ok(())
+}
+
+// The name is that of a function, or of a macro, with that procedure.
+fn add_name(
+    kind: DefinedAs,
+    name: Name,
+    procedure: ProcedureId,
+    of_file: bool,
+    tables: &mut Tables,
+) -> Result<(), NoMemory>
+    ensures ok { OnOk result (tables.new ≡ with_name_of kind name procedure of_file tables.old) }
+    ensures err { OnErr result (tables.new ≡ tables.old) }
+{
+    match kind {
+        DefinedAs::Function => add_callee(name, Callee::Procedure(procedure), of_file, tables),
+        DefinedAs::Macro => add_macro(MacroRow { name, procedure }, of_file, tables),
+    }
+}
+
+/// The function or the macro counts, with its procedure.
+pub(crate) fn define_named(
+    kind: DefinedAs,
     name: Name,
     procedure: Procedure,
     of_file: bool,
     tables: &mut Tables,
 ) -> Result<(), NoMemory>
-    ensures ok { OnOk result (tables.new ≡ with_function name procedure of_file tables.old) }
+    ensures ok { OnOk result (tables.new ≡ with_defined kind name procedure of_file tables.old) }
     ensures err { OnErr result (tables.new ≡ tables.old) }
 {
     let procedures = tables.procedures.len();
     tables.procedures.push(procedure)?;
-    if add_callee(name, Callee::Procedure(procedures), of_file, tables).is_err() {
+    if add_name(kind, name, procedures, of_file, tables).is_err() {
         tables.procedures.cut(procedures);
         return Err(NoMemory);
     }

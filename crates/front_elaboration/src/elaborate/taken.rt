@@ -74,7 +74,7 @@ fn takes_forms(making: &Elaboration, forms: usize) -> bool
         | Elaboration::OfFunction(_, _, _)
         | Elaboration::OfBlock(_) => true,
         Elaboration::Ready(_)
-        | Elaboration::OfFunctionNamed(_, _, _, _, _)
+        | Elaboration::OfFunctionNamed(_, _, _, _, _, _)
         | Elaboration::OfProcedure(_, _, _)
         | Elaboration::OfAccessor(_, _, _, _)
         | Elaboration::OfMethods(_, _, _, _, _)

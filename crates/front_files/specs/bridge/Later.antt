@@ -15,6 +15,7 @@ use Rattle.front_profile.specs.Nodes.{StaticContext, Verdict}
 use Rattle.front_profile.specs.Promises.{FormComes}
 use Rattle.front_reader.specs.bridge.LaterReads.{next_later}
 use Rattle.front_reader.specs.bridge.WellFormedReads.{next_good}
+use Rattle.front_profile.specs.Cuts.{opened}
 use Rattle.front_scope.specs.Scopes.{IsElaborated, IsTaken, IsTooLarge, HasManyCells, IsRefusedWhole, IsFormStopped}
 use Rattle.front_files.specs.declared.mode.Mode.{Mode}
 use Rattle.front_files.specs.Shown.{first_text, head_text, not_shown, is_among, stays, IsPrinting, IsForm, runs, not_last, last_stays, last_shown}
@@ -89,7 +90,7 @@ pub form_taken_later : (old new : List (List ℕ)) (origin : Origin) (mode : Mod
 form_taken_later old new origin mode s d after t e g f = record {
   form = f.form;
   is_form = form_later old new mode d after f.form e g f.is_form;
-  taken = taken_later old new origin s f.form t e f.taken;
+  taken = taken_later old new origin (opened s) f.form t e f.taken;
 }
 
 pub form_refused_later : (old new : List (List ℕ)) (origin : Origin) (mode : Mode) (s : Tables) (d : Item) (after : List ℕ) (r : Refusal) → Extends old new →
@@ -97,7 +98,7 @@ pub form_refused_later : (old new : List (List ℕ)) (origin : Origin) (mode : M
 form_refused_later old new origin mode s d after r e g f = record {
   form = f.form;
   is_form = form_later old new mode d after f.form e g f.is_form;
-  refused = stopped_later old new origin s f.form r e f.refused;
+  refused = stopped_later old new origin (opened s) f.form r e f.refused;
 }
 
 pub judges_later : (old new : List (List ℕ)) (origin : Origin) (mode : Mode) (s : Tables) (text : List ℕ) (p : Place) (j : Judgement) → Extends old new →

@@ -21,8 +21,11 @@ use Rattle.lang_meaning.specs.declared.program.Procedure.{Procedure}
 use Rattle.front_profile.specs.declared.tables.Tables.{Tables}
 use Rattle.front_profile.specs.declared.tables.GlobalRow.{GlobalRow}
 use Rattle.front_profile.specs.declared.tables.DynamicRow.{DynamicRow}
+use Rattle.front_profile.specs.declared.tables.MacroRow.{MacroRow}
 use Rattle.front_profile.specs.declared.elaboration.ElaboratedPart.{ElaboratedPart}
 use Rattle.front_profile.specs.declared.elaboration.One.{One}
+use Rattle.front_profile.specs.declared.elaboration.DefinedAs.{DefinedAs}
+use Rattle.front_profile.specs.declared.elaboration.DefinedAs.TheVariants.{Function, Macro}
 use Rattle.front_profile.specs.declared.elaboration.Elaboration.{Elaboration}
 use Rattle.front_profile.specs.declared.elaboration.Elaboration.TheVariants.{OfOne, OfFunctionNamed, OfProcedure, OfAccessor, OfMethods, OfClass}
 use Rattle.front_profile.specs.declared.elaboration.One.TheVariants.{DefineGlobal, DefineDynamic}
@@ -33,7 +36,7 @@ use Rattle.front_profile.specs.declared.elaboration.Taker.TheVariants.{New, Ther
 use Rattle.front_profile.specs.declared.elaboration.SlotFunction.{SlotFunction}
 use Rattle.front_profile.specs.declared.elaboration.SlotFunction.TheVariants.{Initform, Method}
 use Rattle.front_profile.specs.declared.elaboration.NewClass.{NewClass}
-use Rattle.front_profile.specs.Elaborations.{with_procedure, with_callee, procedure_found, accessor_procedure, with_generic, with_method_at, with_methods, finish_methods, generic_named, arguments_of, accessor_head, with_accessor_in, with_slot_function, with_slot_functions, with_new_class, finish_one, finish}
+use Rattle.front_profile.specs.Elaborations.{with_procedure, with_callee, with_macro, with_name_of, procedure_found, accessor_procedure, with_generic, with_method_at, with_methods, finish_methods, generic_named, arguments_of, accessor_head, with_accessor_in, with_slot_function, with_slot_functions, with_new_class, finish_one, finish}
 use Rattle.front_profile.specs.Marks.{StandsFirst, HasMore, AreThere, TablesGrow}
 
 pub first_then : {X : Type 0} (xs ys zs : List X) → StandsFirst xs ys → StandsFirst ys zs → StandsFirst xs zs
@@ -79,6 +82,7 @@ tables_grow_transitive s t u g h = record {
   literals = first_then _ _ _ g.literals h.literals;
   procedures = first_then _ _ _ g.procedures h.procedures;
   functions = first_then _ _ _ g.functions h.functions;
+  macros = first_then _ _ _ g.macros h.macros;
   prelude = first_then _ _ _ g.prelude h.prelude;
   globals = first_then _ _ _ g.globals h.globals;
   set = first_then _ _ _ g.set h.set;
@@ -88,6 +92,8 @@ tables_grow_transitive s t u g h = record {
   main = first_then _ _ _ g.main h.main;
   variables = omega (arith, g.variables, h.variables);
   exits = omega (arith, g.exits, h.exits);
+  expansions = omega (arith, g.expansions, h.expansions);
+  before = h.before ∙ g.before;
 }
 
 pub tables_grow_reflexive : (t : Tables) → TablesGrow t t
@@ -99,6 +105,7 @@ tables_grow_reflexive t = record {
   literals = take-length t.literals;
   procedures = take-length t.procedures;
   functions = take-length t.functions;
+  macros = take-length t.macros;
   prelude = take-length t.prelude;
   globals = take-length t.globals;
   set = take-length t.set;
@@ -108,6 +115,8 @@ tables_grow_reflexive t = record {
   main = take-length t.main;
   variables = omega arith;
   exits = omega arith;
+  expansions = omega arith;
+  before = refl;
 }
 
 -- a list that stands in front still does where the other grows at its end
@@ -123,6 +132,7 @@ pub record Added : Type 0 where
   pub literals : Option (List LiteralRow)
   pub procedures : Option (List Procedure)
   pub functions : Option (List FunctionRow)
+  pub macros : Option (List MacroRow)
   pub prelude : Option (List Name)
   pub globals : Option (List GlobalRow)
   pub set : Option (List Name)
@@ -131,7 +141,7 @@ pub record Added : Type 0 where
   pub fresh : Option (List Symbol)
 
 abbrev pub nothing_added : Added
-nothing_added = record { literals = None; procedures = None; functions = None; prelude = None; globals = None; set = None; dynamics = None; sites = None; fresh = None }
+nothing_added = record { literals = None; procedures = None; functions = None; macros = None; prelude = None; globals = None; set = None; dynamics = None; sites = None; fresh = None }
 
 abbrev pub with_these : {X : Type 0} → List X → Option (List X) → List X
 with_these xs None = xs
@@ -143,6 +153,7 @@ with_added a variables exits t = record t {
   literals = with_these t.literals a.literals;
   procedures = with_these t.procedures a.procedures;
   functions = with_these t.functions a.functions;
+  macros = with_these t.macros a.macros;
   prelude = with_these t.prelude a.prelude;
   globals = with_these t.globals a.globals;
   set = with_these t.set a.set;
@@ -168,6 +179,7 @@ grows_with s t a variables exits v e g = record {
   literals = first_with s.literals t.literals a.literals g.literals;
   procedures = first_with s.procedures t.procedures a.procedures g.procedures;
   functions = first_with s.functions t.functions a.functions g.functions;
+  macros = first_with s.macros t.macros a.macros g.macros;
   prelude = first_with s.prelude t.prelude a.prelude g.prelude;
   globals = first_with s.globals t.globals a.globals g.globals;
   set = first_with s.set t.set a.set g.set;
@@ -177,6 +189,8 @@ grows_with s t a variables exits v e g = record {
   main = g.main;
   variables = omega (arith, g.variables, v);
   exits = omega (arith, g.exits, e);
+  expansions = g.expansions;
+  before = g.before;
 }
 
 pub grows_by : (s t : Tables) (a : Added) → TablesGrow s t → TablesGrow s (with_added a t.variables t.exits t)
@@ -191,6 +205,14 @@ with_callee_grows mark s name c true g =
 with_callee_grows mark s name c false g =
     grows_by mark s (record nothing_added { functions = Some ((record { name = name; callee = c }) ∷ []); prelude = Some (name ∷ []) }) g
 
+with_macro_grows : (mark s : Tables) (m : MacroRow) (of_file : Bool) → TablesGrow mark s → TablesGrow mark (with_macro m of_file s)
+with_macro_grows mark s m true g = grows_by mark s (record nothing_added { macros = Some (m ∷ []) }) g
+with_macro_grows mark s m false g = grows_by mark s (record nothing_added { macros = Some (m ∷ []); prelude = Some (m.name ∷ []) }) g
+
+with_name_grows : (mark s : Tables) (k : DefinedAs) (name : Name) (i : ℕ) (of_file : Bool) → TablesGrow mark s → TablesGrow mark (with_name_of k name i of_file s)
+with_name_grows mark s Function name i of_file g = with_callee_grows mark s name (callee.Procedure i) of_file g
+with_name_grows mark s Macro name i of_file g = with_macro_grows mark s (record { name = name; procedure = i }) of_file g
+
 -- what is changed of classes and generic functions
 
 grows_in : (mark s : Tables) (h : Hierarchy) (n : ℕ) (gs : List GenericRow) → TablesGrow mark s → StandsFirst mark.classes.rows h.rows → StandsFirst mark.classes.own h.own
@@ -203,6 +225,7 @@ grows_in mark s h n gs g rows own there = record {
   literals = g.literals;
   procedures = g.procedures;
   functions = g.functions;
+  macros = g.macros;
   prelude = g.prelude;
   globals = g.globals;
   set = g.set;
@@ -212,6 +235,8 @@ grows_in mark s h n gs g rows own there = record {
   main = g.main;
   variables = g.variables;
   exits = g.exits;
+  expansions = g.expansions;
+  before = g.before;
 }
 
 grows_generics : (mark s : Tables) (gs : List GenericRow) → TablesGrow mark s → AreThere mark.generics gs → TablesGrow mark (record s { generics = gs })
@@ -282,9 +307,8 @@ finish_one_grows mark s k g = g
 -- what counts once a form is made
 pub finish_grows : (mark s : Tables) (m : Elaboration) (rs : List ElaboratedPart) → TablesGrow mark s → TablesGrow mark (finish m rs s)
 finish_grows mark s (OfOne k) rs g = finish_one_grows mark s k g
-finish_grows mark s (OfFunctionNamed name n rest of_file l) rs g =
-    with_callee_grows mark _ name (callee.Procedure (length s.procedures)) of_file
-    (with_procedure_grows mark s (procedure_found (Some name) n rest rs) g)
+finish_grows mark s (OfFunctionNamed k name n rest of_file l) rs g =
+    with_name_grows mark _ k name (length s.procedures) of_file (with_procedure_grows mark s (procedure_found (Some name) n rest rs) g)
 finish_grows mark s (OfProcedure name n rest) rs g = with_procedure_grows mark s (procedure_found name n rest rs) g
 finish_grows mark s (OfAccessor name k v l) rs g = with_procedure_grows mark s (accessor_procedure name k v l) g
 finish_grows mark s (OfMethods t hs p of_file l) rs g = methods_grow mark s t hs p of_file g

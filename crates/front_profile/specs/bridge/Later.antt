@@ -1,14 +1,16 @@
 -- The node of a datum that is no derived form stays the same under every later table of names, unless the earlier one lacks a name.
 use Rattle.std.proofs.Common.{◌≡◌, List, [], ◌∷◌, inr, length, refl, ap, subst, ◌∙◌}
-use Rattle.std.specs.Prelude.{ℕ, Bool, ◌||◌, Option, Some, None, if◌then◌else◌}
+use Rattle.std.specs.Prelude.{ℕ, Bool, ◌||◌, Option, Some, None, if◌then◌else◌, is_some}
 use Rattle.base.specs.declared.place.Place.{Place}
 use Rattle.base.specs.declared.datum.Symbol.{Symbol}
+use Rattle.base.specs.declared.datum.Symbol.TheVariants.{Named, Fresh}
 use Rattle.base.specs.Names.{Extends}
 use Rattle.base.specs.Data.{Item, item, integer, character, symbol, string, vector, nil, list, items_list, Tail, no_tail, dotted}
 use Rattle.base.specs.DataNames.{symbol_text, text_of, text_same}
 use Rattle.base.specs.AllOf.{AllOf}
 use Rattle.base.specs.WellFormedData.{WellFormed}
 use Rattle.lang_derived.specs.Asked.{list_items}
+use Rattle.front_profile.specs.declared.elaboration.DefinedAs.TheVariants.{Function}
 use Rattle.front_profile.specs.declared.elaboration.Elaboration.TheVariants.{CallOfValue}
 use Rattle.front_profile.specs.declared.special.Special.{Special}
 use Rattle.front_profile.specs.declared.special.Special.TheVariants as name
@@ -19,7 +21,7 @@ use Rattle.front_profile.specs.BindingRows.{with_functions_row}
 use Rattle.front_profile.specs.DefiningRows.{defun_row}
 use Rattle.front_profile.specs.CallRows.{all_parts}
 use Rattle.base.specs.declared.reason.Reason.TheVariants.{NotAForm}
-use Rattle.front_profile.specs.Rows.{kept_text, reserved_text, first_reserved, first_kept, some_kept, functions_kept, special_row, special_node, without_dot, call_as, special_of, headed_as, headed, is_lambda_name, is_lambda_items, is_lambda, headed_by_form, list_node, plain_node}
+use Rattle.front_profile.specs.Rows.{kept_text, reserved_text, first_reserved, first_kept, some_kept, functions_kept, special_row, special_node, without_dot, call_as, special_of, headed_as, headed, is_lambda_name, is_lambda_items, is_lambda, headed_by_form, list_node, plain_node, macro_named, macros_before, macro_of_symbol, macro_of_items, macro_called}
 use Rattle.front_profile.specs.bridge.LaterNames.{same_text}
 use Rattle.front_profile.specs.bridge.LaterDefinitions.{defgeneric_later, defmethod_later}
 use Rattle.front_profile.specs.bridge.LaterClasses.{defclass_later}
@@ -70,7 +72,7 @@ lambda_later old new (item p nil) e g = refl
 row_later : (old new : List (List ℕ)) (x : Special) (a : StaticContext) (s : Tables) (p : Place) (ds : List Item) → Extends old new →
     AllOf (WellFormed (length old)) ds → NodeStays (special_row old x a s p ds) (special_row new x a s p ds)
 row_later old new name.WithFunctions a s p ds e g = inr (ap (λ kept. with_functions_row kept a s p ds) (same_functions old new ds e g))
-row_later old new name.Defun a s p ds e g = inr (ap (λ kept. defun_row kept a s p ds) (same_reserved old new ds e g))
+row_later old new name.Defun a s p ds e g = inr (ap (λ kept. defun_row Function kept a s p ds) (same_reserved old new ds e g))
 row_later old new name.Defclass a s p ds e g = defclass_later old new a s p ds e g
 row_later old new name.Defgeneric a s p ds e g = defgeneric_later old new a s p ds e g
 row_later old new name.Defmethod a s p ds e g = defmethod_later old new a s p ds e g
@@ -119,3 +121,27 @@ plain_later old new a s (item p (character c)) e g = inr refl
 plain_later old new a s (item p (string bytes)) e g = inr refl
 plain_later old new a s (item p (vector ds)) e g = inr refl
 plain_later old new a s (item p nil) e g = inr refl
+
+-- and so does the macro that it calls
+
+macro_symbol_later : (old new : List (List ℕ)) (a : StaticContext) (s : Tables) (x : Symbol) → symbol_text old x ≡ symbol_text new x
+    → macro_of_symbol old a s (Some x) ≡ macro_of_symbol new a s (Some x)
+macro_symbol_later old new a s (Fresh e serial) same = refl
+macro_symbol_later old new a s (Named n) same =
+    ap (λ text. if is_some (special_of text) || is_some (function_of a.bound (Named n)) then None else macro_named (macros_before s) n) same
+
+macro_items_later : (old new : List (List ℕ)) (a : StaticContext) (s : Tables) (ds : Option (List Item)) → Extends old new → MaybeGood (length old) ds
+    → macro_of_items old a s ds ≡ macro_of_items new a s ds
+macro_items_later old new a s None e g = refl
+macro_items_later old new a s (Some []) e g = refl
+macro_items_later old new a s (Some (item q (symbol x) ∷ ds)) e g = macro_symbol_later old new a s x (same_text old new (item q (symbol x)) e g.0)
+macro_items_later old new a s (Some (item q (integer n) ∷ ds)) e g = refl
+macro_items_later old new a s (Some (item q (character c) ∷ ds)) e g = refl
+macro_items_later old new a s (Some (item q (string bytes) ∷ ds)) e g = refl
+macro_items_later old new a s (Some (item q (vector es) ∷ ds)) e g = refl
+macro_items_later old new a s (Some (item q nil ∷ ds)) e g = refl
+macro_items_later old new a s (Some (item q (list es u) ∷ ds)) e g = refl
+
+pub macro_later : (old new : List (List ℕ)) (a : StaticContext) (s : Tables) (d : Item) → Extends old new → WellFormed (length old) d
+    → macro_called old a s d ≡ macro_called new a s d
+macro_later old new a s d e g = macro_items_later old new a s (list_items d) e (good_parts (length old) d g)

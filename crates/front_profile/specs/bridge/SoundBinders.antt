@@ -8,6 +8,7 @@ use Rattle.base.specs.WellFormedData.{WellFormed}
 use Rattle.front_profile.specs.declared.bound.Bound.{Bound}
 use Rattle.front_profile.specs.declared.parameters.Parameters.{Parameters}
 use Rattle.front_profile.specs.declared.tables.Tables.{Tables}
+use Rattle.front_profile.specs.declared.elaboration.DefinedAs.{DefinedAs}
 use Rattle.front_profile.specs.Nodes.{StaticContext, Node}
 use Rattle.front_profile.specs.Shapes.{Pair, pairs_in, parameters_in, all_symbols, symbol_of}
 use Rattle.front_profile.specs.RowWords.{alone, deeper, with_all, each_bound, each_inner, each_below, each_parameter}
@@ -135,21 +136,21 @@ sound_defdynamic n a s p [] g = tt
 sound_defdynamic n a s p (d ∷ []) g = tt
 sound_defdynamic n a s p (d ∷ x ∷ e ∷ ds) g = tt
 
-sound_defun_with : (n : ℕ) (a : StaticContext) (s : Tables) (name : Name) (d l : Item) (fs : List Item) (ps : Option Parameters) → AllOf (WellFormed n) fs →
-    a.spot.top ≡ true → SoundNode n (weight a.spot) (defun_with a s name d l fs ps)
-sound_defun_with n a s name d l fs None g top = tt
-sound_defun_with n a s name d l fs (Some ps) g top =
+sound_defun_with : (n : ℕ) (k : DefinedAs) (a : StaticContext) (s : Tables) (name : Name) (d l : Item) (fs : List Item) (ps : Option Parameters) → AllOf (WellFormed n) fs →
+    a.spot.top ≡ true → SoundNode n (weight a.spot) (defun_with k a s name d l fs ps)
+sound_defun_with n k a s name d l fs None g top = tt
+sound_defun_with n k a s name d l fs (Some ps) g top =
     sound_variables n (weight a.spot) (alone false a) (alone false a) ps fs (weight_alone false a.spot top) g
 
-sound_defun_as : (n : ℕ) (kept : Bool) (a : StaticContext) (s : Tables) (p : Place) (d l : Item) (fs : List Item) (name : Option Name) → AllOf (WellFormed n) fs →
-    SoundNode n (weight a.spot) (defun_as kept a s p d l fs name)
-sound_defun_as n kept a s p d l fs None g = tt
-sound_defun_as n kept a s p d l fs (Some name) g =
+sound_defun_as : (n : ℕ) (k : DefinedAs) (kept : Bool) (a : StaticContext) (s : Tables) (p : Place) (d l : Item) (fs : List Item) (name : Option Name) → AllOf (WellFormed n) fs →
+    SoundNode n (weight a.spot) (defun_as k kept a s p d l fs name)
+sound_defun_as n k kept a s p d l fs None g = tt
+sound_defun_as n k kept a s p d l fs (Some name) g =
     sound_defining n (weight a.spot) a p (is_taken a.spot.sited s name) (is_reserved kept a s name) _
-    (λ top. sound_within n (weight a.spot) 1 a p _ (λ h. sound_defun_with n a s name d l fs (parameters_in s.words l) g top))
+    (λ top. sound_within n (weight a.spot) 1 a p _ (λ h. sound_defun_with n k a s name d l fs (parameters_in s.words l) g top))
 
-pub sound_defun : (n : ℕ) (kept : Bool) (a : StaticContext) (s : Tables) (p : Place) (ds : List Item) → AllOf (WellFormed n) ds →
-    SoundNode n (weight a.spot) (defun_row kept a s p ds)
-sound_defun n kept a s p [] g = tt
-sound_defun n kept a s p (d ∷ []) g = tt
-sound_defun n kept a s p (d ∷ l ∷ fs) g = sound_defun_as n kept a s p d l fs (named (symbol_of d)) g.1.1
+pub sound_defun : (n : ℕ) (k : DefinedAs) (kept : Bool) (a : StaticContext) (s : Tables) (p : Place) (ds : List Item) → AllOf (WellFormed n) ds →
+    SoundNode n (weight a.spot) (defun_row k kept a s p ds)
+sound_defun n k kept a s p [] g = tt
+sound_defun n k kept a s p (d ∷ []) g = tt
+sound_defun n k kept a s p (d ∷ l ∷ fs) g = sound_defun_as n k kept a s p d l fs (named (symbol_of d)) g.1.1

@@ -5,10 +5,10 @@ use Rattle.front_files.proofs.Going.{FormsTaken}
 use Rattle.front_files.proofs.forms.judge_forms.Given as goal
 
 abbrev pub invariant-loop-datum : goal.invariant-loop-datum
-invariant-loop-datum l =
+invariant-loop-datum g l =
     FormsTaken l.names l.origin l.mode l.fn.scope l.fn.reader.rest l.fn.reader.place l.scope l.reader.rest l.reader.place
     × (l.reader.stop ≡ None)
     × Extends l.fn.names l.names
 
 abbrev pub decreases-loop-datum : goal.decreases-loop-datum
-decreases-loop-datum l = length l.reader.rest
+decreases-loop-datum g l = length l.reader.rest

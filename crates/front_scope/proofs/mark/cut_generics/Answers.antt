@@ -2,7 +2,7 @@
 use Rattle.std.proofs.Common.{◌<◌, ◌∙◌, ap, arith, length, take}
 use Rattle.std.proofs.lemmas.Option.{slice_get_within}
 use Rattle.lang_dispatch.specs.Methods.{with_first_methods}
-use Rattle.front_scope.proofs.CutGenerics.{reach_enough, reach_taken, next_there, next_enough, one_cut, all_cut}
+use Rattle.front_profile.specs.bridge.CutGenerics.{reach_enough, reach_taken, next_there, next_enough, one_cut, all_cut}
 use Rattle.front_scope.proofs.mark.cut_generics.Goals as goal
 
 pub cut-requires : goal.cut-requires

@@ -1,6 +1,6 @@
 -- Those in front are cut.
 use Rattle.std.proofs.Common.{◌≡◌, take, length}
-use Rattle.front_scope.proofs.CutGenerics.{cut_first}
+use Rattle.front_profile.specs.bridge.CutGenerics.{cut_first}
 use Rattle.front_scope.proofs.mark.cut_generics.Given as goal
 
 abbrev pub invariant-loop-at : goal.invariant-loop-at

@@ -1,6 +1,6 @@
 -- The counts of those that were seen.
 use Rattle.std.proofs.Common.{◌≡◌, take}
-use Rattle.front_scope.specs.Cuts.{method_counts}
+use Rattle.front_profile.specs.Cuts.{method_counts}
 use Rattle.front_scope.proofs.mark.method_counts.Given as goal
 
 abbrev pub invariant-loop-generic : goal.invariant-loop-generic

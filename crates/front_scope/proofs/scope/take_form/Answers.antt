@@ -1,18 +1,18 @@
 -- The nodes of the program with the form are counted, and its cells.
-use Rattle.std.proofs.Common.{inl, inr, refl, arith}
+use Rattle.std.proofs.Common.{inl, inr, refl, ◌∙◌, arith}
 use Rattle.front_scope.proofs.Counting.{counted_exactly, counted_too_many}
-use Rattle.front_scope.proofs.Keeping.{given_whole, few_at, are_many, are_few}
+use Rattle.front_scope.proofs.Keeping.{begun_here, given_whole, few_at, are_many, are_few}
 use Rattle.front_scope.proofs.scope.take_form.Goals as goal
 
 pub returns-then-nodes-gt-MOST_NODES-clause-stop : goal.returns-then-nodes-gt-MOST_NODES-clause-stop
-returns-then-nodes-gt-MOST_NODES-clause-stop c =
-    rw c.too_large.ensures (
+returns-then-nodes-gt-MOST_NODES-clause-stop g c =
+    rw c.refused.ensures (
     inr (
     inl (
       record {
         tables = c.judge_top.new.tables;
         given = c.in_ok-judge_top.ensures.given;
-        large = counted_too_many c.args.tables.now c.judge_top.new.tables c.args.mark.now c.args.nodes _ c.in_ok-judge_top.ensures.grows c.requires.mark c.requires.nodes
+        large = counted_too_many c.args.tables.now c.judge_top.new.tables c.judge_top.new.tables.before c.args.nodes _ c.in_ok-judge_top.ensures.grows (c.in_ok-judge_top.ensures.grows.before ∙ c.requires.mark) c.requires.nodes
             c.with_added-nodes.ensures (omega (arith, c.if-nodes-gt-MOST_NODES.true));
       },
       refl,
@@ -21,15 +21,15 @@ returns-then-nodes-gt-MOST_NODES-clause-stop c =
     )
 
 pub has_too_many_cells-requires : goal.has_too_many_cells-requires
-has_too_many_cells-requires c = record {
-  few = few_at c.args.tables.now c.judge_top.new.tables c.args.mark.now c.in_ok-judge_top.ensures.grows c.requires.mark c.requires.whole.few;
+has_too_many_cells-requires g c = record {
+  few = few_at c.args.tables.now c.judge_top.new.tables c.judge_top.new.tables.before c.in_ok-judge_top.ensures.grows (c.in_ok-judge_top.ensures.grows.before ∙ c.requires.mark) c.requires.whole.few;
 }
 
 pub returns-then-branch-clause-stop : goal.returns-then-branch-clause-stop
-returns-then-branch-clause-stop c =
-    let same = counted_exactly c.args.tables.now c.judge_top.new.tables c.args.mark.now c.args.nodes _ c.in_ok-judge_top.ensures.grows c.requires.mark c.requires.nodes
+returns-then-branch-clause-stop g c =
+    let same = counted_exactly c.args.tables.now c.judge_top.new.tables c.judge_top.new.tables.before c.args.nodes _ c.in_ok-judge_top.ensures.grows (c.in_ok-judge_top.ensures.grows.before ∙ c.requires.mark) c.requires.nodes
     c.with_added-nodes.ensures (omega (arith, c.if-nodes-gt-MOST_NODES.false)) in
-    rw c.too_large-then-branch.ensures (
+    rw c.refused-then-branch.ensures (
     inr (
     inr (
       record {
@@ -44,8 +44,8 @@ returns-then-branch-clause-stop c =
     )
 
 pub returns-clause-taken : goal.returns-clause-taken
-returns-clause-taken c =
-    let same = counted_exactly c.args.tables.now c.judge_top.new.tables c.args.mark.now c.args.nodes _ c.in_ok-judge_top.ensures.grows c.requires.mark c.requires.nodes
+returns-clause-taken g c =
+    let same = counted_exactly c.args.tables.now c.judge_top.new.tables c.judge_top.new.tables.before c.args.nodes _ c.in_ok-judge_top.ensures.grows (c.in_ok-judge_top.ensures.grows.before ∙ c.requires.mark) c.requires.nodes
     c.with_added-nodes.ensures (omega (arith, c.if-nodes-gt-MOST_NODES.false)) in
     record {
       given = c.in_ok-judge_top.ensures.given;
@@ -54,9 +54,9 @@ returns-clause-taken c =
     }
 
 pub returns-clause-whole : goal.returns-clause-whole
-returns-clause-whole c =
+returns-clause-whole g c =
     let laws = c.law_top_forms.ensures in
-    let same = counted_exactly c.args.tables.now c.judge_top.new.tables c.args.mark.now c.args.nodes _ c.in_ok-judge_top.ensures.grows c.requires.mark c.requires.nodes
+    let same = counted_exactly c.args.tables.now c.judge_top.new.tables c.judge_top.new.tables.before c.args.nodes _ c.in_ok-judge_top.ensures.grows (c.in_ok-judge_top.ensures.grows.before ∙ c.requires.mark) c.requires.nodes
     c.with_added-nodes.ensures (omega (arith, c.if-nodes-gt-MOST_NODES.false)) in
     record {
       between = given_whole (record { first = laws.first; file = laws.file; prelude = laws.prelude }) c.args.names.now c.judge_top.new.names c.args.origin c.args.tables.now c.args.datum.now
@@ -66,6 +66,9 @@ returns-clause-whole c =
     }
 
 pub returns-clause-nodes : goal.returns-clause-nodes
-returns-clause-nodes c =
-    counted_exactly c.args.tables.now c.judge_top.new.tables c.args.mark.now c.args.nodes _ c.in_ok-judge_top.ensures.grows c.requires.mark c.requires.nodes
+returns-clause-nodes g c =
+    counted_exactly c.args.tables.now c.judge_top.new.tables c.judge_top.new.tables.before c.args.nodes _ c.in_ok-judge_top.ensures.grows (c.in_ok-judge_top.ensures.grows.before ∙ c.requires.mark) c.requires.nodes
     c.with_added-nodes.ensures (omega (arith, c.if-nodes-gt-MOST_NODES.false))
+
+pub judge_top-requires-clause-begun : goal.judge_top-requires-clause-begun
+judge_top-requires-clause-begun g c = begun_here c.args.tables.now c.requires.mark c.requires.whole

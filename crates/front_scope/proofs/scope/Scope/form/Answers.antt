@@ -1,24 +1,51 @@
--- After a stop the tables are as they were.
-use Rattle.std.proofs.Common.{◌≡◌, ap, subst, sym, ◌∙◌}
+-- Where a form begins the tables are as whole as in front of it, and after a stop they are as they were.
+use Rattle.std.proofs.Common.{◌≡◌, refl, ap, subst, sym, ◌∙◌, arith}
+use Rattle.front_profile.specs.declared.mark.Mark.{Mark}
 use Rattle.front_profile.specs.declared.tables.Tables.{Tables}
-use Rattle.front_scope.specs.Cuts.{cut_to}
+use Rattle.front_profile.specs.Marks.{TablesGrow}
+use Rattle.front_profile.specs.Cuts.{mark_of, ReachesMark, opened}
+use Rattle.front_profile.specs.bridge.Cutting.{grown_reaches, closed_grown}
 use Rattle.front_scope.specs.Scopes.{nodes_of, IsWhole}
-use Rattle.front_scope.proofs.Cutting.{grown_reaches, cut_grown}
+use Rattle.front_scope.proofs.Keeping.{opened_whole}
 use Rattle.front_scope.proofs.scope.Scope.form.Goals as goal
 
+pub take_form-requires-clause-mark : goal.take_form-requires-clause-mark
+take_form-requires-clause-mark g c = subst (λ (t : Tables). t.before ≡ mark_of t) (sym c.in_ok-before.ensures.opened) refl
+
+pub take_form-requires-clause-nodes : goal.take_form-requires-clause-nodes
+take_form-requires-clause-nodes g c =
+    subst (λ (t : Tables). c.self.inside.nodes ≡ nodes_of t) (sym c.in_ok-before.ensures.opened) c.self.invariant.0
+
+pub take_form-requires-clause-whole : goal.take_form-requires-clause-whole
+take_form-requires-clause-whole g c =
+    subst (λ (t : Tables). IsWhole t) (sym c.in_ok-before.ensures.opened) (opened_whole c.self.inside.tables c.self.invariant.1)
+
+pub close-requires-clause-built_in : goal.close-requires-clause-built_in
+close-requires-clause-built_in g c =
+    let grown : TablesGrow (opened c.self.inside.tables) c.take_form.new.tables =
+    subst (λ (t : Tables). TablesGrow t c.take_form.new.tables) c.in_ok-before.ensures.opened c.take_form.ensures.grows in
+    omega (arith, ap (λ (m : Mark). m.classes) grown.before, c.self.invariant.1.between.whole.sound.classes.hierarchy.enough)
+
+pub close-requires-clause-reaches : goal.close-requires-clause-reaches
+close-requires-clause-reaches g c =
+    let grown : TablesGrow (opened c.self.inside.tables) c.take_form.new.tables =
+    subst (λ (t : Tables). TablesGrow t c.take_form.new.tables) c.in_ok-before.ensures.opened c.take_form.ensures.grows in
+    subst (λ (m : Mark). ReachesMark m c.take_form.new.tables) (sym grown.before) (grown_reaches (opened c.self.inside.tables) c.take_form.new.tables grown)
+
 pub invariant_of-self-in-Err : goal.invariant_of-self-in-Err
-invariant_of-self-in-Err c =
-    let same : c.cut_to.new.tables ≡ c.self.inside.tables =
-    c.cut_to.ensures ∙ ap (λ m. cut_to m c.take_form.new.tables) c.in_ok-mark.ensures ∙ cut_grown c.self.inside.tables c.take_form.new.tables c.take_form.ensures.grows c.self.invariant.1.between.whole.sound.classes.hierarchy.classes.paired in
+invariant_of-self-in-Err g c =
+    let grown : TablesGrow (opened c.self.inside.tables) c.take_form.new.tables =
+    subst (λ (t : Tables). TablesGrow t c.take_form.new.tables) c.in_ok-before.ensures.opened c.take_form.ensures.grows in
+    let same : c.close.new.tables ≡ c.self.inside.tables =
+    c.close.ensures
+    ∙ closed_grown c.self.inside.tables c.take_form.new.tables _ grown c.self.invariant.1.between.whole.sound.classes.hierarchy.classes.paired c.in_ok-before.ensures.before in
     subst (λ (t : Tables). (c.self.inside.nodes ≡ nodes_of t) × IsWhole t) (sym same) c.self.invariant
 
-pub cut_to-requires-clause-reaches : goal.cut_to-requires-clause-reaches
-cut_to-requires-clause-reaches c =
-    rw c.in_ok-mark.ensures (grown_reaches c.self.inside.tables c.take_form.new.tables c.take_form.ensures.grows)
-
-pub returns-clause-unchanged : goal.returns-clause-unchanged
-returns-clause-unchanged c =
-    let same : c.cut_to.new.tables ≡ c.self.inside.tables =
-    c.cut_to.ensures ∙ ap (λ m. cut_to m c.take_form.new.tables) c.in_ok-mark.ensures
-    ∙ cut_grown c.self.inside.tables c.take_form.new.tables c.take_form.ensures.grows c.self.invariant.1.between.whole.sound.classes.hierarchy.classes.paired in
+pub returns-in-Err-clause-unchanged : goal.returns-in-Err-clause-unchanged
+returns-in-Err-clause-unchanged g c =
+    let grown : TablesGrow (opened c.self.inside.tables) c.take_form.new.tables =
+    subst (λ (t : Tables). TablesGrow t c.take_form.new.tables) c.in_ok-before.ensures.opened c.take_form.ensures.grows in
+    let same : c.close.new.tables ≡ c.self.inside.tables =
+    c.close.ensures
+    ∙ closed_grown c.self.inside.tables c.take_form.new.tables _ grown c.self.invariant.1.between.whole.sound.classes.hierarchy.classes.paired c.in_ok-before.ensures.before in
     same ∙ c.self.view_is

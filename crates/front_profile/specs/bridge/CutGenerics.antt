@@ -4,7 +4,7 @@ use Rattle.std.proofs.lemmas.List.{length-map, length-take}
 use Rattle.lang_meaning.specs.declared.program.GenericRow.{GenericRow}
 use Rattle.lang_dispatch.specs.Methods.{methods_at, with_first_methods}
 use Rattle.front_profile.specs.Marks.{StandsFirst, HasMore, AreThere}
-use Rattle.front_scope.specs.Cuts.{method_counts, ReachMethods, cut_generics}
+use Rattle.front_profile.specs.Cuts.{method_counts, ReachMethods, cut_generics}
 
 -- the first so many are cut, and the others as they were
 abbrev pub cut_first : ℕ → List ℕ → List GenericRow → List GenericRow

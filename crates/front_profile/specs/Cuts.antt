@@ -1,10 +1,10 @@
--- The way back: how long the lists of the tables were, and the tables cut to that.
+-- The way back: how long the lists of the tables were, and the tables cut to that; and the tables where a top-level form begins.
 use Rattle.std.specs.Prelude.{ℕ, ◌+◌, ◌-◌, ◌*◌, ◌≤◌, List, [], ◌∷◌, length, map, take, drop}
 use Rattle.std.specs.List.{sum_by}
 use Rattle.lang_meaning.specs.Counts.{all_nodes}
 use Rattle.lang_meaning.specs.ProgramCounts.{row_nodes, procedure_nodes, class_nodes}
 use Rattle.lang_meaning.specs.declared.program.GenericRow.{GenericRow}
-use Rattle.front_scope.specs.declared.mark.Mark.{Mark}
+use Rattle.front_profile.specs.declared.mark.Mark.{Mark}
 use Rattle.front_profile.specs.declared.tables.Tables.{Tables}
 
 -- how many methods each generic function has
@@ -16,6 +16,7 @@ mark_of s = record {
   literals = length s.literals;
   procedures = length s.procedures;
   functions = length s.functions;
+  macros = length s.macros;
   prelude = length s.prelude;
   classes = length s.classes.rows;
   prelude_classes = s.prelude_classes;
@@ -28,6 +29,7 @@ mark_of s = record {
   main = length s.main;
   variables = s.variables;
   exits = s.exits;
+  expansions = s.expansions;
 }
 
 -- there are at least so many generic functions, and each has at least so many methods
@@ -41,6 +43,7 @@ pub record ReachesMark (mark : Mark) (t : Tables) : Type 0 where
   pub literals : mark.literals ≤ length t.literals
   pub procedures : mark.procedures ≤ length t.procedures
   pub functions : mark.functions ≤ length t.functions
+  pub macros : mark.macros ≤ length t.macros
   pub prelude : mark.prelude ≤ length t.prelude
   pub classes : mark.classes ≤ length t.classes.rows
   pub methods : ReachMethods mark.methods t.generics
@@ -62,6 +65,7 @@ cut_to mark t = record t {
   literals = take mark.literals t.literals;
   procedures = take mark.procedures t.procedures;
   functions = take mark.functions t.functions;
+  macros = take mark.macros t.macros;
   prelude = take mark.prelude t.prelude;
   classes = record { rows = take mark.classes t.classes.rows; own = take mark.classes t.classes.own };
   prelude_classes = mark.prelude_classes;
@@ -74,7 +78,16 @@ cut_to mark t = record t {
   main = take mark.main t.main;
   variables = mark.variables;
   exits = mark.exits;
+  expansions = mark.expansions;
 }
+
+-- the tables where a top-level form begins
+abbrev pub opened : Tables → Tables
+opened s = record s { before = mark_of s }
+
+-- the tables as they were where it began, and of the mark that they had then
+abbrev pub closed : Mark → Tables → Tables
+closed before t = record (cut_to t.before t) { before = before }
 
 -- the nodes of what stands behind the mark
 abbrev pub nodes_behind : Mark → Tables → ℕ

@@ -3,8 +3,9 @@ use Rattle.std.proofs.Common.{◌≡◌, ◌∙◌, ◌≤◌, List, length, tak
 use Rattle.std.proofs.lemmas.List.{length-take}
 use Rattle.front_profile.specs.declared.tables.Tables.{Tables}
 use Rattle.front_profile.specs.Marks.{StandsFirst, TablesGrow}
-use Rattle.front_scope.specs.Cuts.{mark_of, ReachesMark, cut_to}
-use Rattle.front_scope.proofs.CutGenerics.{there_reach, there_cut}
+use Rattle.front_profile.specs.declared.mark.Mark.{Mark}
+use Rattle.front_profile.specs.Cuts.{mark_of, ReachesMark, cut_to, opened, closed}
+use Rattle.front_profile.specs.bridge.CutGenerics.{there_reach, there_cut}
 
 reaches : {X : Type 0} (xs ys : List X) → StandsFirst xs ys → length xs ≤ length ys
 reaches xs ys h = omega (arith, ap length h, length-take (length xs) ys)
@@ -14,6 +15,7 @@ grown_reaches s t g = record {
   literals = reaches s.literals t.literals g.literals;
   procedures = reaches s.procedures t.procedures g.procedures;
   functions = reaches s.functions t.functions g.functions;
+  macros = reaches s.macros t.macros g.macros;
   prelude = reaches s.prelude t.prelude g.prelude;
   classes = reaches s.classes.rows t.classes.rows g.classes;
   methods = there_reach s.generics t.generics g.generics;
@@ -39,6 +41,7 @@ cut_grown s t g paired =
       g.literals,
       g.procedures,
       g.functions,
+      g.macros,
       g.prelude,
       g.globals,
       g.set,
@@ -46,4 +49,12 @@ cut_grown s t g paired =
       g.sites,
       g.fresh,
       g.main,
+      g.before,
     ) refl
+
+-- where a form stops, the tables are as they were in front of it
+pub closed_grown : (s t : Tables) (before : Mark) → TablesGrow (opened s) t → length s.classes.own ≡ length s.classes.rows → before ≡ s.before → closed before t ≡ s
+closed_grown s t before g paired same =
+    ap (λ m. record (cut_to m t) { before = before }) g.before
+    ∙ ap (λ (u : Tables). record u { before = before }) (cut_grown (opened s) t g paired)
+    ∙ ap (λ m. record s { before = m }) same

@@ -1,0 +1,6 @@
+-- What is passed is copied.
+use Rattle.std.proofs.Common.{◌≡◌, take}
+use Rattle.front_programs.proofs.program.methods.Given as goal
+
+abbrev pub invariant-loop-row : goal.invariant-loop-row
+invariant-loop-row l = l.copied ≡ take l.row-index l.list
