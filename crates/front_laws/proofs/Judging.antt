@@ -2,7 +2,7 @@
 use Rattle.std.specs.Prelude.{ℕ, ◌+◌, List, length}
 use Rattle.base.specs.declared.place.Place.{Place}
 use Rattle.base.specs.declared.reason.Reason.{Reason}
-use Rattle.base.specs.Data.{Item, place_of}
+use Rattle.base.specs.Data.{Item}
 use Rattle.base.specs.AllOf.{AllOf}
 use Rattle.front_profile.specs.declared.elaboration.ElaboratedPart.{ElaboratedPart}
 use Rattle.front_profile.specs.declared.elaboration.Made.{Made}
