@@ -1,8 +1,6 @@
 -- Steps and expansions lead on: from a form to what is judged in its place.
-use Rattle.std.proofs.Common.{◌≡◌, ◌≤◌, ◌<◌, ◌+◌, ◌∙◌, ℕ, nat_le, Bool, true, false, List, Option, Some, None, length, if◌then◌else◌, refl, sym, ap, subst, arith}
-use Rattle.std.proofs.lemmas.Bool.{le-leb, lt-leb}
-use Rattle.base.specs.declared.place.Place.{Place}
-use Rattle.base.specs.declared.reason.Reason.{Reason}
+use Rattle.std.proofs.Common.{◌≡◌, ◌<◌, ◌+◌, ◌∙◌, ℕ, nat_le, true, false, List, Some, None, length, refl, sym, ap, subst, arith}
+use Rattle.std.proofs.lemmas.Bool.{lt-leb}
 use Rattle.base.specs.declared.reason.Reason.TheVariants.{TooManyExpansions, ExpansionDepth}
 use Rattle.base.specs.declared.reason.Refusal.{Refusal}
 use Rattle.base.specs.declared.reason.Stop.{Stop}
@@ -18,9 +16,9 @@ use Rattle.lang_taken.specs.Taken.{greatest_depth, greatest_size}
 use Rattle.front_profile.specs.Expansions.{expander_means, Expands, ExpansionStops}
 use Rattle.front_profile.specs.Known.{KnownTables}
 use Rattle.front_profile.specs.Marks.{TablesGrow}
-use Rattle.front_profile.specs.Nodes.{StaticContext, Node, offends, calls, refused, Verdict, ended}
+use Rattle.front_profile.specs.Nodes.{StaticContext, Node, offends, calls, refused, ended}
 use Rattle.front_profile.specs.Judged.{with_expansion, again, Elaborates, offence, expanded, expansion_stops}
-use Rattle.front_profile.specs.Promises.{FormComes, FormStops, Settles, StepsStop}
+use Rattle.front_profile.specs.Promises.{FormStops, Settles}
 use Rattle.front_profile.specs.Rows.{node, plain_node, macro_called, most_expansions, most_in_row, called_as, called_or, settled_node}
 use Rattle.front_profile.specs.bridge.Growing.{tables_grow_reflexive, tables_grow_transitive}
 use Rattle.front_profile.specs.bridge.Later.{macro_later}
@@ -28,7 +26,7 @@ use Rattle.front_profile.specs.bridge.LaterExpansions.{expands_later, stops_late
 use Rattle.front_forms.specs.Settled.{with_symbols}
 use Rattle.front_scope.proofs.Judging.{symbols_known}
 use Rattle.front_programs.specs.Calls.{Begun}
-use Rattle.front_scope.specs.Calls.{Leads, Ends, NodeEnds, Calls, Settled, Expansion}
+use Rattle.front_scope.specs.Calls.{Leads, NodeEnds, Calls, Settled, Expansion}
 
 pub begun_grows : (s t : Tables) → TablesGrow s t → Begun s → Begun t
 begun_grows s t g b = record {

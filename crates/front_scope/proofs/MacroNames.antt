@@ -1,5 +1,5 @@
 -- The first of so many macros that has a name, as far as they were looked through; the macro that is called is one of those that apply.
-use Rattle.std.proofs.Common.{◌≡◌, ◌≤◌, ◌<◌, ◌∙◌, ◌+◌, ◌||◌, is_some, ℕ, zero, suc, Bool, true, false, List, [], ◌∷◌, Option, Some, None, option_map, take, drop, length, slice_get, get_or, if◌then◌else◌, refl, ap, arith}
+use Rattle.std.proofs.Common.{◌≡◌, ◌≤◌, ◌<◌, ◌∙◌, ◌+◌, ◌||◌, is_some, ℕ, suc, Bool, true, false, List, [], ◌∷◌, Option, Some, None, option_map, take, drop, length, slice_get, get_or, if◌then◌else◌, refl, ap, arith}
 use Rattle.std.proofs.lemmas.List.{drop_more, drop_all, get_or-take, length-take}
 use Rattle.std.proofs.lemmas.Option.{slice_get_within, get_or_from_slice_get}
 use Rattle.base.specs.declared.datum.Name.{Name}

@@ -1,5 +1,5 @@
 -- This macro has the name, or another one has.
-use Rattle.std.proofs.Common.{sym, ◌∙◌, eq-eqb, arith}
+use Rattle.std.proofs.Common.{sym, ◌∙◌, eq-eqb}
 use Rattle.std.proofs.lemmas.Bool.{eqb-true}
 use Rattle.front_scope.proofs.MacroNames.{named_here, named_behind}
 use Rattle.front_scope.proofs.calls.macro_named.Goals as goal

@@ -1,5 +1,5 @@
 -- Each turn leads on, and the last one ends where the form is settled.
-use Rattle.std.proofs.Common.{◌≡◌, ◌∙◌, ◌+◌, Option, Some, None, refl, ap, subst}
+use Rattle.std.proofs.Common.{◌∙◌, ◌+◌, Option, Some, None, refl, ap, subst}
 use Rattle.std.proofs.lemmas.Result.{err_from_is_err_and}
 use Rattle.base.specs.Data.{Item}
 use Rattle.base.specs.Names.{Extends-then}
@@ -82,8 +82,7 @@ turns-preserved g c =
     let P : Turn → Type 0 = λ w. TurnGives names b c.turns.tables c.last_datum-last.result.now c.take_turn.new.tables w in
     let more : P (Expanded c.in-Expanded.expansion) = subst P c.in-Expanded.is c.in_ok-take_turn.ensures.gives in
     let there : Expansion names b c.turns.tables d c.take_turn.new.tables c.in-Expanded.expansion =
-    subst (λ (e : Item). Expansion names b c.turns.tables e c.take_turn.new.tables c.in-Expanded.expansion) c.last_datum-last.ensures more in
-    (
+    subst (λ (e : Item). Expansion names b c.turns.tables e c.take_turn.new.tables c.in-Expanded.expansion) c.last_datum-last.ensures more in (
       going_more _ _ _ _ _ _ _ _ _ _ _ c.turns.invariant.0 c.in_ok-take_turn.ensures.names c.in_ok-take_turn.ensures.grows there,
       ap (λ (x : Spot). record x { in_row = c.turns.here.in_row + 1 }) c.turns.invariant.1,
     )
