@@ -10,8 +10,9 @@ ghost use Rattle.front_files.specs.bridge.Stopping.{FormStops, JudgesStop};
 use crate::mode::Mode;
 use crate::shown::form_of;
 use base::{Datum, Names, Origin, Stop};
+use front_programs::Expanding;
 use front_reader::Reader;
-use front_scope::{Expanding, Scope};
+use front_scope::Scope;
 use std::alloc::Global;
 
 // Judges a datum, behind which the reader stands.

@@ -13,14 +13,14 @@ ghost use Rattle.front_files.specs.Verdicts.{FileVerdict, accepted, refused, Ver
 use front_profile::laws::{law_macros, law_one_verdict as law_one_verdict_of_a_form};
 use front_reader::laws::{law_end, law_next_or_stops, law_one_datum, law_one_stop};
 
-/// A prelude and a text have at most one verdict in each mode, where names are numbered by one table: as long as no form
-/// defines a macro; and with macros, of verdicts that are not given for want of words or of instructions of an expander,
-/// where calls of macros have one expansion.
+/// A prelude and a text have at most one verdict in each mode, where names are numbered by one table: as long as no
+/// form defines a macro; and with macros, of verdicts that are not given for want of words or of instructions of an
+/// expander, where calls of macros have one expansion.
 pub fn law_one_verdict()
-    ensures without { (names : List (List ℕ)) (prelude text : List ℕ) (mode : mode_of) (v w : FileVerdict) → IsTable names →
-        Verdict names prelude text mode v → Verdict names prelude text mode w → v ≡ w }
-    ensures exact { (names : List (List ℕ)) (prelude text : List ℕ) (mode : mode_of) (v w : FileVerdict) → IsTable names → OneExpansion names →
-        IsExactVerdict v → IsExactVerdict w →
+    ensures without { (names : List (List ℕ)) (prelude text : List ℕ) (mode : mode_of) (v w : FileVerdict) →
+        IsTable names → Verdict names prelude text mode v → Verdict names prelude text mode w → v ≡ w }
+    ensures exact { (names : List (List ℕ)) (prelude text : List ℕ) (mode : mode_of) (v w : FileVerdict) →
+        IsTable names → OneExpansion names → IsExactVerdict v → IsExactVerdict w →
         Verdict names prelude text mode v → Verdict names prelude text mode w → v ≡ w }
 {
     law_one_verdict_of_a_form();
@@ -31,15 +31,18 @@ pub fn law_one_verdict()
     law_end();
 }
 
-/// A prelude that is accepted in front of the empty file refuses no file: what refuses a file is its length, or stands in
-/// it. So it is as long as no form defines a macro; and with macros, of refusals that are not for want of words or of
+/// A prelude that is accepted in front of the empty file refuses no file: what refuses a file is its length, or stands
+/// in it. So it is as long as no form defines a macro; and with macros, of refusals that are not for want of words or of
 /// instructions of an expander, where calls of macros have one expansion.
 pub fn law_prelude()
-    ensures without { (names : List (List ℕ)) (prelude text : List ℕ) (mode : mode_of) (program : program_rows) (r : refusal) → IsTable names →
-        Verdict names prelude [] Run (accepted program) → Verdict names prelude text mode (refused r) → IsOfFile names text mode r }
-    ensures exact { (names : List (List ℕ)) (prelude text : List ℕ) (mode : mode_of) (program : program_rows) (r : refusal) → IsTable names → OneExpansion names →
-        IsExactRefusal r →
-        Verdict names prelude [] Run (accepted program) → Verdict names prelude text mode (refused r) → IsOfFile names text mode r }
+    ensures without { (names : List (List ℕ)) (prelude text : List ℕ) (mode : mode_of) (program : program_rows)
+        (r : refusal) → IsTable names →
+        Verdict names prelude [] Run (accepted program) → Verdict names prelude text mode (refused r) →
+        IsOfFile names text mode r }
+    ensures exact { (names : List (List ℕ)) (prelude text : List ℕ) (mode : mode_of) (program : program_rows)
+        (r : refusal) → IsTable names → OneExpansion names → IsExactRefusal r →
+        Verdict names prelude [] Run (accepted program) → Verdict names prelude text mode (refused r) →
+        IsOfFile names text mode r }
 {
     law_one_verdict_of_a_form();
     law_macros();

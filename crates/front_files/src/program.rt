@@ -9,7 +9,8 @@ ghost use Rattle.front_files.specs.bridge.Stopping.{VerdictStops, BothTaken, Bot
 use crate::forms::judge_text;
 use crate::mode::Mode;
 use base::{LONGEST_TEXT, Names, Origin, Place, Reason, Refusal, Stop};
-use front_scope::{Expanding, NoExpander, Scope};
+use front_programs::{Expanding, NoExpander};
+use front_scope::Scope;
 use lang_meaning::Program;
 use std::alloc::Global;
 

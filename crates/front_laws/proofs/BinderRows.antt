@@ -8,6 +8,7 @@ use Rattle.base.specs.AllOf.{AllOf}
 use Rattle.front_profile.specs.declared.bound.Bound.{Bound}
 use Rattle.front_profile.specs.declared.parameters.Parameters.{Parameters}
 use Rattle.front_profile.specs.declared.tables.Tables.{Tables}
+use Rattle.front_profile.specs.declared.elaboration.DefinedAs.{DefinedAs}
 use Rattle.front_profile.specs.Nodes.{StaticContext, Node}
 use Rattle.front_profile.specs.Shapes.{Pair, pairs_in, parameters_in, symbol_of}
 use Rattle.front_profile.specs.RowWords.{each_bound, each_inner, each_below}
@@ -110,19 +111,19 @@ module _ (P : Place → Type 0) where
   defdynamic_in a s p (d ∷ []) q g = q
   defdynamic_in a s p (d ∷ x ∷ e ∷ ds) q g = q
 
-  defun_with_in : (a : StaticContext) (s : Tables) (name : Name) (d l : Item) (fs : List Item) (ps : Option Parameters) → AllPlaces P l → AllOf (AllPlaces P) fs →
-      PlacesOfNode P (defun_with a s name d l fs ps)
-  defun_with_in a s name d l fs None b g = its_place P l b
-  defun_with_in a s name d l fs (Some ps) b g = function_too P ps fs g
+  defun_with_in : (k : DefinedAs) (a : StaticContext) (s : Tables) (name : Name) (d l : Item) (fs : List Item) (ps : Option Parameters) → AllPlaces P l → AllOf (AllPlaces P) fs →
+      PlacesOfNode P (defun_with k a s name d l fs ps)
+  defun_with_in k a s name d l fs None b g = its_place P l b
+  defun_with_in k a s name d l fs (Some ps) b g = function_too P ps fs g
 
-  defun_as_in : (kept : Bool) (a : StaticContext) (s : Tables) (p : Place) (d l : Item) (fs : List Item) (name : Option Name) → P p → AllPlaces P l → AllOf (AllPlaces P) fs →
-      PlacesOfNode P (defun_as kept a s p d l fs name)
-  defun_as_in kept a s p d l fs None q b g = q
-  defun_as_in kept a s p d l fs (Some name) q b g =
+  defun_as_in : (k : DefinedAs) (kept : Bool) (a : StaticContext) (s : Tables) (p : Place) (d l : Item) (fs : List Item) (name : Option Name) → P p → AllPlaces P l → AllOf (AllPlaces P) fs →
+      PlacesOfNode P (defun_as k kept a s p d l fs name)
+  defun_as_in k kept a s p d l fs None q b g = q
+  defun_as_in k kept a s p d l fs (Some name) q b g =
       defining_in a p (is_taken a.spot.sited s name) (is_reserved kept a s name) _ q
-      (within P 1 a p _ q (defun_with_in a s name d l fs (parameters_in s.words l) b g))
+      (within P 1 a p _ q (defun_with_in k a s name d l fs (parameters_in s.words l) b g))
 
-  pub defun_in : (kept : Bool) (a : StaticContext) (s : Tables) (p : Place) (ds : List Item) → P p → AllOf (AllPlaces P) ds → PlacesOfNode P (defun_row kept a s p ds)
-  defun_in kept a s p [] q g = q
-  defun_in kept a s p (d ∷ []) q g = q
-  defun_in kept a s p (d ∷ l ∷ fs) q g = defun_as_in kept a s p d l fs (named (symbol_of d)) q g.1.0 g.1.1
+  pub defun_in : (k : DefinedAs) (kept : Bool) (a : StaticContext) (s : Tables) (p : Place) (ds : List Item) → P p → AllOf (AllPlaces P) ds → PlacesOfNode P (defun_row k kept a s p ds)
+  defun_in k kept a s p [] q g = q
+  defun_in k kept a s p (d ∷ []) q g = q
+  defun_in k kept a s p (d ∷ l ∷ fs) q g = defun_as_in k kept a s p d l fs (named (symbol_of d)) q g.1.0 g.1.1

@@ -11,6 +11,7 @@ use Rattle.base.specs.declared.datum.Name.{Name}
 use Rattle.base.specs.Data.{Item, place_of}
 use Rattle.base.specs.Names.{Extends-same}
 use Rattle.front_profile.specs.declared.tables.Tables.{Tables}
+use Rattle.front_profile.specs.Cuts.{opened}
 use Rattle.front_reader.specs.Characters.{place_after}
 use Rattle.front_reader.specs.Readers.{first_place}
 use Rattle.front_scope.specs.Scopes.{top, IsFormStopped, IsRefusedWhole, at_form}
@@ -63,7 +64,7 @@ module _ (P : Place → Type 0) (onward : (p : Place) (b : ℕ) → P p → P (p
   judged_in names origin mode _ _ _ _ h (form_taken s text p d after t j r f rest) =
       judged_in names origin mode t after _ j (bytes_in P onward _ r.bytes (bytes_in P onward p r.gap h)) rest
   judged_in names origin mode _ _ _ _ h (form_refused s text p d after r reads f) =
-      stopped_in names origin s f.form r (form_in names mode d after f.form (next_in P onward names text p d after h reads) f.is_form) f.refused
+      stopped_in names origin (opened s) f.form r (form_in names mode d after f.form (next_in P onward names text p d after h reads) f.is_form) f.refused
   judged_in names origin mode _ _ _ _ h (text_stops s text p r x) = stop_in P onward p text r.place r.reason h x.stops
 
 -- ---- a file, and a prelude

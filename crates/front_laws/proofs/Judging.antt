@@ -7,15 +7,16 @@ use Rattle.base.specs.AllOf.{AllOf}
 use Rattle.front_profile.specs.declared.elaboration.ElaboratedPart.{ElaboratedPart}
 use Rattle.front_profile.specs.declared.elaboration.Made.{Made}
 use Rattle.front_profile.specs.declared.tables.Tables.{Tables}
-use Rattle.front_profile.specs.Nodes.{StaticContext, Part, form, below, inner, bind, parameter, wrong, function, Written, initform, accessor, method, Node, EarlyEnd, refused, wants_expansion, Verdict, stands, ended, behind, recorded}
+use Rattle.front_profile.specs.Nodes.{StaticContext, Part, form, below, inner, bind, parameter, wrong, function, Written, initform, accessor, method, Node, EarlyEnd, refused, Verdict, stands, ended, behind, recorded}
 use Rattle.front_profile.specs.RowWords.{deeper}
 use Rattle.front_profile.specs.FunctionNodes.{function_node}
 use Rattle.front_profile.specs.Rows.{node}
-use Rattle.front_profile.specs.Judged.{with_fresh, with_variable, subject, Verdicts, all_stand, one_ended, in_front, made_verdict, Elaborates, offence, step, made, ElaboratesAll, ends, goes, stops}
+use Rattle.front_profile.specs.Judged.{with_fresh, with_expansion, again, with_variable, subject, Verdicts, all_stand, one_ended, in_front, made_verdict, Elaborates, offence, step, expanded, expansion_stops, made, ElaboratesAll, ends, goes, stops}
 use Rattle.front_laws.specs.Places.{IsPlaceIn}
 use Rattle.front_laws.proofs.AllPlaces.{AllPlaces}
-use Rattle.front_laws.proofs.Parts.{each_then_all}
+use Rattle.front_laws.proofs.Parts.{its_place, each_then_all}
 use Rattle.front_laws.proofs.Steps.{step_too}
+use Rattle.front_laws.proofs.Expanded.{expansion_too}
 use Rattle.front_laws.proofs.Nodes.{PlacesOfFunction, PlacesOfPart, PlacesOfNode, function_too}
 use Rattle.front_laws.proofs.Rows.{node_in}
 
@@ -23,7 +24,6 @@ module _ (P : Place → Type 0) where
   -- it holds of the place of an offence
   abbrev PlaceOfEnd : EarlyEnd → Type 0
   PlaceOfEnd (refused p r) = P p
-  PlaceOfEnd (wants_expansion d) = Unit {0}
 
   abbrev pub PlaceOfVerdict : Verdict → Type 0
   PlaceOfVerdict (stands m) = Unit {0}
@@ -61,6 +61,10 @@ module _ (P : Place → Type 0) where
     verdict_in names _ _ (step a s d d2 n v x e) g =
         verdict_in names (node names a (with_fresh n s) d2) v e
         (node_in P names a (with_fresh n s) d2 (step_too P names d (length s.fresh) d2 (length s.fresh + n) g x))
+    verdict_in names _ _ (expanded a s m d e v x c) g =
+        verdict_in names (node names (again a) (with_expansion s) e) v c
+        (node_in P names (again a) (with_expansion s) e (expansion_too P names s m d (s.expansions + 1) e (its_place P d g) x))
+    verdict_in names _ _ (expansion_stops a s m d r x) g = its_place P d g
     verdict_in names _ _ (made o i s xs m w e) g = made_in m w (verdicts_in names o i s xs w e g)
 
     verdicts_in : (names : List (List ℕ)) (o i : StaticContext) (s : Tables) (xs : List Part) (w : Verdicts) → ElaboratesAll names o i s xs w → AllOf (PlacesOfPart P) xs →

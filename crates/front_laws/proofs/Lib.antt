@@ -1,6 +1,7 @@
 pub mod AllPlaces
 pub mod Parts
 pub mod Steps
+pub mod Expanded
 pub mod Nodes
 pub mod FormRows
 pub mod BinderRows
@@ -24,6 +25,7 @@ pub mod RenamedHierarchies
 pub mod RenamedClasses
 pub mod RenamedRows
 pub mod RenamedMakings
+pub mod WithoutCalls
 pub mod RenamedJudging
 pub mod RenamedLater
 pub mod RenamedCounts

@@ -10,7 +10,7 @@ use Rattle.lang_meaning.specs.declared.program.LiteralRow.{LiteralRow}
 use Rattle.front_profile.specs.declared.elaboration.Leaf.{Leaf}
 use Rattle.front_profile.specs.declared.parameters.Parameters.{Parameters}
 use Rattle.front_profile.specs.declared.tables.Tables.{Tables}
-use Rattle.front_profile.specs.Nodes.{StaticContext, Part, form, below, inner, bind, parameter, wrong, function, Written, initform, accessor, method, Node, offends, unnamed, steps, whole}
+use Rattle.front_profile.specs.Nodes.{StaticContext, Part, form, below, inner, bind, parameter, wrong, function, Written, initform, accessor, method, Node, offends, unnamed, steps, calls, whole}
 use Rattle.front_profile.specs.FunctionNodes.{function_parts}
 use Rattle.front_profile.specs.Shapes.{Pair, all_symbols}
 use Rattle.front_profile.specs.RowWords.{within_depth, made_at_once, unsited, literal_node, each_form, each_below, each_inner, each_bound, each_parameter, no_such}
@@ -37,6 +37,7 @@ module _ (P : Place → Type 0) where
   PlacesOfNode (offends p r) = P p
   PlacesOfNode unnamed = Unit {0}
   PlacesOfNode (steps a s d) = AllPlaces P d
+  PlacesOfNode (calls a s m d) = AllPlaces P d
   PlacesOfNode (whole o i s xs m) = AllOf PlacesOfPart xs
 
   -- ---- tests

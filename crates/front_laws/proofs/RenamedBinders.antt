@@ -12,6 +12,7 @@ use Rattle.lang_meaning.specs.declared.capture.Capture.{Capture}
 use Rattle.front_profile.specs.declared.bound.Bound.{Bound}
 use Rattle.front_profile.specs.declared.parameters.Parameters.{Parameters}
 use Rattle.front_profile.specs.declared.tables.Tables.{Tables}
+use Rattle.front_profile.specs.declared.elaboration.DefinedAs.{DefinedAs}
 use Rattle.front_profile.specs.declared.elaboration.One.TheVariants.{DefineGlobal, DefineDynamic}
 use Rattle.front_profile.specs.declared.elaboration.Elaboration.TheVariants.{OfVariables, OfDynamics, OfFunction, InSequence, OfFunctionNamed}
 use Rattle.front_profile.specs.Names.{parts_around}
@@ -24,7 +25,7 @@ use Rattle.front_profile.specs.DefiningRows.{named, is_that, counts, has_global,
 use Rattle.front_profile.specs.ValueRows.{one_part}
 use Rattle.lang_renamed.specs.Renaming.{name_by, names_by, symbol_by, item_by, function_by}
 use Rattle.front_laws.specs.Renaming.{Renames}
-use Rattle.front_laws.proofs.RenamedTables.{data_by, global_by, dynamic_by, bound_by, context_by, tables_by, parameters_by, part_by, parts_by, node_by}
+use Rattle.front_laws.proofs.RenamedTables.{data_by, global_by, dynamic_by, macro_by, bound_by, context_by, tables_by, parameters_by, part_by, parts_by, node_by}
 use Rattle.lang_renamed.proofs.Lists.{both, three, if_by, and_same, or_same, any_by, length_by, map_by}
 use Rattle.front_laws.proofs.RenamedData.{symbol_of_by, name_of_by, same_number}
 use Rattle.front_laws.proofs.RenamedShapes.{pair_by, pairs_by, variable_of_by, around_by, pairs_in_by, parameters_in_by}
@@ -148,7 +149,7 @@ module _ (r : ℕ → ℕ) (old new : List (List ℕ)) (w : Renames r old new) w
   pub named_at : (d : Item) → named (symbol_of (item_by r d)) ≡ option_map (name_by r) (named (symbol_of d))
   named_at d = ap named (symbol_of_by r d) ∙ named_by (symbol_of d)
 
-  that_by : (m n : Name) → is_that (name_by r m) (name_by r n) ≡ is_that m n
+  pub that_by : (m n : Name) → is_that (name_by r m) (name_by r n) ≡ is_that m n
   that_by m n = same_number r old new w m.0 n.0
 
   has_global_by : (of_file : Bool) (s : Tables) (n : Name) → has_global of_file (tables_by r s) (name_by r n) ≡ has_global of_file s n
@@ -165,7 +166,9 @@ module _ (r : ℕ → ℕ) (old new : List (List ℕ)) (w : Renames r old new) w
   prelude_by s n = any_by (name_by r) (is_that (name_by r n)) (is_that n) (that_by n) s.prelude
 
   pub has_function_by : (s : Tables) (n : Name) → has_function (tables_by r s) (name_by r n) ≡ has_function s n
-  has_function_by s n = any_by (function_by r) (λ f. is_that (name_by r n) f.name) (λ f. is_that n f.name) (λ f. that_by n f.name) s.functions
+  has_function_by s n =
+      or_same _ _ _ _ (any_by (function_by r) (λ f. is_that (name_by r n) f.name) (λ f. is_that n f.name) (λ f. that_by n f.name) s.functions)
+      (any_by (macro_by r) (λ m. is_that (name_by r n) m.name) (λ m. is_that n m.name) (λ m. that_by n m.name) s.macros)
 
   pub is_taken_by : (of_file : Bool) (s : Tables) (n : Name) → is_taken of_file (tables_by r s) (name_by r n) ≡ is_taken of_file s n
   is_taken_by of_file s n = and_same _ _ _ _ (has_function_by s n) (ap (λ b. not (of_file && b)) (prelude_by s n))
@@ -217,34 +220,36 @@ module _ (r : ℕ → ℕ) (old new : List (List ℕ)) (w : Renames r old new) w
 
   -- ---- definitions of functions
 
-  defun_of_by : (a : StaticContext) (s : Tables) (n : Name) (d : Item) (fs : List Item) (ps : Parameters) →
-      defun_of (context_by r a) (tables_by r s) (name_by r n) (item_by r d) (data_by r fs) (parameters_by r ps) ≡ node_by r (defun_of a s n d fs ps)
-  defun_of_by a s n d fs ps =
+  defun_of_by : (k : DefinedAs) (a : StaticContext) (s : Tables) (n : Name) (d : Item) (fs : List Item) (ps : Parameters) →
+      defun_of k (context_by r a) (tables_by r s) (name_by r n) (item_by r d) (data_by r fs) (parameters_by r ps) ≡ node_by r (defun_of k a s n d fs ps)
+  defun_of_by k a s n d fs ps =
       alone_by r false a _ (with_name a.spot.sited d s) _ (function_parts ps fs) _
-      (OfFunctionNamed n (length ps.required) (is_some ps.rest) a.spot.sited (named_form a.spot.sited s))
+      (OfFunctionNamed k n (length ps.required) (is_some ps.rest) a.spot.sited (named_form a.spot.sited s))
       (with_name_by r a.spot.sited d s) (function_parts_by r old new w ps fs)
-      (three (λ (i : ℕ) (b : Bool) l. OfFunctionNamed (name_by r n) i b a.spot.sited l) _ _ _ _ _ _
+      (three (λ (i : ℕ) (b : Bool) l. OfFunctionNamed k (name_by r n) i b a.spot.sited l) _ _ _ _ _ _
       (length_by (symbol_by r) ps.required) (some_same (symbol_by r) ps.rest) (named_form_by r a.spot.sited s))
 
-  defun_with_by : (a : StaticContext) (s : Tables) (n : Name) (d l : Item) (fs : List Item) (ps : Option Parameters) →
-      defun_with (context_by r a) (tables_by r s) (name_by r n) (item_by r d) (item_by r l) (data_by r fs) (option_map (parameters_by r) ps) ≡ node_by r (defun_with a s n d l fs ps)
-  defun_with_by a s n d l fs None = bad_binding_by r l
-  defun_with_by a s n d l fs (Some ps) = defun_of_by a s n d fs ps
+  defun_with_by : (k : DefinedAs) (a : StaticContext) (s : Tables) (n : Name) (d l : Item) (fs : List Item) (ps : Option Parameters) →
+      defun_with k (context_by r a) (tables_by r s) (name_by r n) (item_by r d) (item_by r l) (data_by r fs) (option_map (parameters_by r) ps)
+      ≡ node_by r (defun_with k a s n d l fs ps)
+  defun_with_by k a s n d l fs None = bad_binding_by r l
+  defun_with_by k a s n d l fs (Some ps) = defun_of_by k a s n d fs ps
 
   pub reserved_by : (kept : Bool) (a : StaticContext) (s : Tables) (n : Name) → is_reserved kept (context_by r a) (tables_by r s) (name_by r n) ≡ is_reserved kept a s n
   reserved_by kept a s n = or_same _ _ _ _ (truth_by a s n) (ap (λ b. a.spot.sited && (kept || b)) (prelude_by s n))
 
-  defun_as_by : (kept : Bool) (a : StaticContext) (s : Tables) (p : Place) (d l : Item) (fs : List Item) (o : Option Name) →
-      defun_as kept (context_by r a) (tables_by r s) p (item_by r d) (item_by r l) (data_by r fs) (option_map (name_by r) o) ≡ node_by r (defun_as kept a s p d l fs o)
-  defun_as_by kept a s p d l fs None = refl
-  defun_as_by kept a s p d l fs (Some n) =
+  defun_as_by : (k : DefinedAs) (kept : Bool) (a : StaticContext) (s : Tables) (p : Place) (d l : Item) (fs : List Item) (o : Option Name) →
+      defun_as k kept (context_by r a) (tables_by r s) p (item_by r d) (item_by r l) (data_by r fs) (option_map (name_by r) o) ≡ node_by r (defun_as k kept a s p d l fs o)
+  defun_as_by k kept a s p d l fs None = refl
+  defun_as_by k kept a s p d l fs (Some n) =
       defining_by a p _ _ _ _ _ _ (is_taken_by a.spot.sited s n) (reserved_by kept a s n)
-      (within_by r 1 a p _ (defun_with a s n d l fs (parameters_in s.words l))
-      (ap (defun_with (context_by r a) (tables_by r s) (name_by r n) (item_by r d) (item_by r l) (data_by r fs)) (parameters_in_by r old new w s.words l)
-      ∙ defun_with_by a s n d l fs (parameters_in s.words l)))
+      (within_by r 1 a p _ (defun_with k a s n d l fs (parameters_in s.words l))
+      (ap (defun_with k (context_by r a) (tables_by r s) (name_by r n) (item_by r d) (item_by r l) (data_by r fs)) (parameters_in_by r old new w s.words l)
+      ∙ defun_with_by k a s n d l fs (parameters_in s.words l)))
 
-  pub defun_by : (kept : Bool) (a : StaticContext) (s : Tables) (p : Place) (ds : List Item) → defun_row kept (context_by r a) (tables_by r s) p (data_by r ds) ≡ node_by r (defun_row kept a s p ds)
-  defun_by kept a s p [] = refl
-  defun_by kept a s p (d ∷ []) = refl
-  defun_by kept a s p (d ∷ l ∷ fs) =
-      ap (defun_as kept (context_by r a) (tables_by r s) p (item_by r d) (item_by r l) (data_by r fs)) (named_at d) ∙ defun_as_by kept a s p d l fs (named (symbol_of d))
+  pub defun_by : (k : DefinedAs) (kept : Bool) (a : StaticContext) (s : Tables) (p : Place) (ds : List Item) →
+      defun_row k kept (context_by r a) (tables_by r s) p (data_by r ds) ≡ node_by r (defun_row k kept a s p ds)
+  defun_by k kept a s p [] = refl
+  defun_by k kept a s p (d ∷ []) = refl
+  defun_by k kept a s p (d ∷ l ∷ fs) =
+      ap (defun_as k kept (context_by r a) (tables_by r s) p (item_by r d) (item_by r l) (data_by r fs)) (named_at d) ∙ defun_as_by k kept a s p d l fs (named (symbol_of d))

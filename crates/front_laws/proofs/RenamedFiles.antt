@@ -1,5 +1,5 @@
 -- A verdict on a file, under a table that has the same texts in another order: the renamed verdict.
-use Rattle.std.specs.Prelude.{◌≡◌, ℕ, ◌<◌, ◌≤◌, List, [], ◌∷◌, ◌++◌, refl}
+use Rattle.std.specs.Prelude.{◌≡◌, ℕ, ◌<◌, ◌≤◌, List, [], ◌∷◌, ◌++◌, length, map, refl}
 use Rattle.std.proofs.Common.{ap, sym, ◌∙◌, subst, inl, inr}
 use Rattle.std.proofs.lemmas.List.{map-append}
 use Rattle.base.specs.declared.origin.Origin.{Origin}
@@ -11,7 +11,10 @@ use Rattle.base.specs.declared.reason.Stop.TheVariants.{Refused}
 use Rattle.base.specs.Names.{IsTable}
 use Rattle.base.specs.Data.{Item, item, integer, character, symbol, string, vector, nil, list, Items, no_item, item_and}
 use Rattle.lang_meaning.specs.Form.{Form}
+use Rattle.lang_meaning.specs.declared.program.GenericRow.{GenericRow}
+use Rattle.front_profile.specs.declared.mark.Mark.{Mark}
 use Rattle.front_profile.specs.declared.tables.Tables.{Tables}
+use Rattle.front_profile.specs.Cuts.{method_counts, mark_of, opened}
 use Rattle.front_profile.specs.Nodes.{StaticContext, Verdict}
 use Rattle.front_profile.specs.Rows.{node}
 use Rattle.front_profile.specs.Judged.{Elaborates}
@@ -23,11 +26,15 @@ use Rattle.front_files.specs.declared.mode.Mode.TheVariants.{Run}
 use Rattle.front_files.specs.Shown.{first_text, head_text, is_among, not_shown, stays, printing_at, IsPrinting, IsForm, runs, not_last, last_stays, last_shown}
 use Rattle.front_files.specs.Verdicts.{Judgement, all_taken, one_refused, Judges, at_end, form_taken, form_refused, text_stops, FileVerdict, BehindPrelude, source_too_long, prelude_refused, file_refused, file_accepted}
 use Rattle.front_files.specs.Verdicts.{Verdict as FileIs}
-use Rattle.lang_renamed.specs.Renaming.{name_by, item_by, items_by, form_by}
+use Rattle.front_profile.proofs.Macros.{form_keeps_macros}
+use Rattle.front_files.proofs.Told.{WithoutMacros, first_without, given_without}
+use Rattle.lang_renamed.specs.Renaming.{name_by, symbol_by, item_by, items_by, form_by, literal_by, procedure_by, function_by, class_by, generic_by}
+use Rattle.lang_renamed.proofs.Lists.{length_by}
 use Rattle.front_laws.specs.Renaming.{Renames, file_verdict_by}
-use Rattle.front_laws.proofs.RenamedTables.{context_by, tables_by, verdict_by}
+use Rattle.front_laws.proofs.RenamedTables.{context_by, global_by, dynamic_by, macro_by, tables_by, verdict_by}
 use Rattle.front_laws.proofs.RenamedData.{place_by, text_of_by}
 use Rattle.front_laws.proofs.RenamedTexts.{FindsNames, number_of_by, next_by}
+use Rattle.front_laws.proofs.WithoutCalls.{NoneApplies}
 use Rattle.front_laws.proofs.RenamedLater.{renames_later, finds_later}
 use Rattle.front_laws.proofs.RenamedJudging.{form_elaborates_by}
 use Rattle.front_laws.proofs.RenamedCounts.{nodes_by, cells_by}
@@ -41,6 +48,31 @@ module _ (r : ℕ → ℕ) where
   main_by : (origin : Origin) (f : Form) (t : Tables) → with_main origin (form_by r f) (tables_by r t) ≡ tables_by r (with_main origin f t)
   main_by Prelude f t = refl
   main_by File f t = ap (λ (fs : List Form). record (tables_by r t) { main = fs }) (sym (map-append (form_by r) t.main (f ∷ [])))
+
+  -- where a top-level form begins
+
+  counts_by : (gs : List GenericRow) → method_counts (map (generic_by r) gs) ≡ method_counts gs
+  counts_by [] = refl
+  counts_by (g ∷ gs) = ap (λ ns. length g.methods ∷ ns) (counts_by gs)
+
+  mark_by : (s : Tables) → mark_of (tables_by r s) ≡ mark_of s
+  mark_by s =
+      let literals = length_by (literal_by r) s.literals in
+      let procedures = length_by (procedure_by r) s.procedures in
+      let functions = length_by (function_by r) s.functions in
+      let macros = length_by (macro_by r) s.macros in
+      let prelude = length_by (name_by r) s.prelude in
+      let classes = length_by (class_by r) s.classes.rows in
+      let methods = counts_by s.generics in
+      let globals = length_by (global_by r) s.globals in
+      let set = length_by (name_by r) s.set in
+      let dynamics = length_by (dynamic_by r) s.dynamics in
+      let fresh = length_by (symbol_by r) s.fresh in
+      let main = length_by (form_by r) s.main in
+      cc
+
+  opened_by : (s : Tables) → tables_by r (opened s) ≡ opened (tables_by r s)
+  opened_by s = ap (λ (m : Mark). record (tables_by r s) { before = m }) (sym (mark_by s))
 
   nodes_same : (t : Tables) → nodes_of (tables_by r t) ≡ nodes_of t
   nodes_same t = nodes_by r (rows_of t)
@@ -57,52 +89,68 @@ module _ (r : ℕ → ℕ) (old new : List (List ℕ)) (w : Renames r old new) (
 
   -- ---- a form
 
-  comes_by : (a : StaticContext) (s : Tables) (d : Item) (v : Verdict) → FormComes old a s d v → FormComes new (context_by r a) (tables_by r s) (item_by r d) (verdict_by r v)
-  comes_by a s d v x = record {
+  comes_by : (a : StaticContext) (s : Tables) (d : Item) (v : Verdict) → NoneApplies s → FormComes old a s d v → FormComes new (context_by r a) (tables_by r s) (item_by r d) (verdict_by r v)
+  comes_by a s d v none x = record {
     under = λ later e.
         let P : List (List ℕ) → Type 0 = λ names. Elaborates names (node names (context_by r a) (tables_by r s) (item_by r d)) (verdict_by r v) in
         subst P (sym e.begins)
         (form_elaborates_by r (old ++ e.added) (new ++ e.added) (renames_later r old new w e.added) (finds_later r old new w e.added finds) a s d v
-        (x.under (old ++ e.added) (record { added = e.added; begins = refl })));
+        (x.under (old ++ e.added) (record { added = e.added; begins = refl })) none);
   }
 
-  elaborated_by : (origin : Origin) (s : Tables) (d : Item) (t : Tables) → IsElaborated old origin s d t → IsElaborated new origin (tables_by r s) (item_by r d) (tables_by r t)
-  elaborated_by origin s d t x = record {
+  elaborated_by : (origin : Origin) (s : Tables) (d : Item) (t : Tables) → NoneApplies s → IsElaborated old origin s d t → IsElaborated new origin (tables_by r s) (item_by r d) (tables_by r t)
+  elaborated_by origin s d t none x = record {
     form = form_by r x.form;
     found = tables_by r x.found;
-    comes = comes_by (top origin) s d _ x.comes;
+    comes = comes_by (top origin) s d _ none x.comes;
     now = ap (tables_by r) x.now ∙ sym (main_by r origin x.form x.found);
   }
 
-  taken_by : (origin : Origin) (s : Tables) (d : Item) (t : Tables) → IsTaken old origin s d t → IsTaken new origin (tables_by r s) (item_by r d) (tables_by r t)
-  taken_by origin s d t x = record {
-    given = elaborated_by origin s d t x.given;
+  taken_by : (origin : Origin) (s : Tables) (d : Item) (t : Tables) → NoneApplies s → IsTaken old origin s d t → IsTaken new origin (tables_by r s) (item_by r d) (tables_by r t)
+  taken_by origin s d t none x = record {
+    given = elaborated_by origin s d t none x.given;
     small = subst (λ (n : ℕ). n ≤ most_nodes) (sym (nodes_same r t)) x.small;
     few = subst (λ (n : ℕ). n ≤ most_cells) (sym (cells_same r t)) x.few;
   }
 
-  large_by : (origin : Origin) (s : Tables) (d : Item) → IsTooLarge old origin s d → IsTooLarge new origin (tables_by r s) (item_by r d)
-  large_by origin s d x = record {
+  large_by : (origin : Origin) (s : Tables) (d : Item) → NoneApplies s → IsTooLarge old origin s d → IsTooLarge new origin (tables_by r s) (item_by r d)
+  large_by origin s d none x = record {
     tables = tables_by r x.tables;
-    given = elaborated_by origin s d x.tables x.given;
+    given = elaborated_by origin s d x.tables none x.given;
     large = subst (λ (n : ℕ). most_nodes < n) (sym (nodes_same r x.tables)) x.large;
   }
 
-  many_by : (origin : Origin) (s : Tables) (d : Item) → HasManyCells old origin s d → HasManyCells new origin (tables_by r s) (item_by r d)
-  many_by origin s d x = record {
+  many_by : (origin : Origin) (s : Tables) (d : Item) → NoneApplies s → HasManyCells old origin s d → HasManyCells new origin (tables_by r s) (item_by r d)
+  many_by origin s d none x = record {
     tables = tables_by r x.tables;
-    given = elaborated_by origin s d x.tables x.given;
+    given = elaborated_by origin s d x.tables none x.given;
     small = subst (λ (n : ℕ). n ≤ most_nodes) (sym (nodes_same r x.tables)) x.small;
     many = subst (λ (n : ℕ). most_cells < n) (sym (cells_same r x.tables)) x.many;
   }
 
-  whole_by : (origin : Origin) (s : Tables) (d : Item) (x : Refusal) → IsRefusedWhole old origin s d x → IsRefusedWhole new origin (tables_by r s) (item_by r d) x
-  whole_by origin s d x (inl y) = inl (large_by origin s d y.0, y.1 ∙ sym (at_form_by r d _))
-  whole_by origin s d x (inr y) = inr (many_by origin s d y.0, y.1 ∙ sym (at_form_by r d _))
+  whole_by : (origin : Origin) (s : Tables) (d : Item) (x : Refusal) → NoneApplies s → IsRefusedWhole old origin s d x → IsRefusedWhole new origin (tables_by r s) (item_by r d) x
+  whole_by origin s d x none (inl y) = inl (large_by origin s d none y.0, y.1 ∙ sym (at_form_by r d _))
+  whole_by origin s d x none (inr y) = inr (many_by origin s d none y.0, y.1 ∙ sym (at_form_by r d _))
 
-  stopped_by : (origin : Origin) (s : Tables) (d : Item) (x : Refusal) → IsFormStopped old origin s d (Refused x) → IsFormStopped new origin (tables_by r s) (item_by r d) (Refused x)
-  stopped_by origin s d x (inl y) = inl (comes_by (top origin) s d _ y)
-  stopped_by origin s d x (inr y) = inr (whole_by origin s d x y)
+  stopped_by : (origin : Origin) (s : Tables) (d : Item) (x : Refusal) → NoneApplies s → IsFormStopped old origin s d (Refused x) → IsFormStopped new origin (tables_by r s) (item_by r d) (Refused x)
+  stopped_by origin s d x none (inl y) = inl (comes_by (top origin) s d _ none y)
+  stopped_by origin s d x none (inr y) = inr (whole_by origin s d x none y)
+
+  -- as a top-level form, behind tables without macros
+
+  next_taken : (origin : Origin) (s : Tables) (d : Item) (t : Tables) → WithoutMacros s → IsTaken old origin (opened s) d t →
+      IsTaken new origin (opened (tables_by r s)) (item_by r d) (tables_by r t)
+  next_taken origin s d t none x =
+      subst (λ (u : Tables). IsTaken new origin u (item_by r d) (tables_by r t)) (opened_by r s) (taken_by origin (opened s) d t (ap length none) x)
+
+  next_stopped : (origin : Origin) (s : Tables) (d : Item) (x : Refusal) → WithoutMacros s → IsFormStopped old origin (opened s) d (Refused x) →
+      IsFormStopped new origin (opened (tables_by r s)) (item_by r d) (Refused x)
+  next_stopped origin s d x none y =
+      subst (λ (u : Tables). IsFormStopped new origin u (item_by r d) (Refused x)) (opened_by r s) (stopped_by origin (opened s) d x (ap length none) y)
+
+  -- there are none behind one that is taken
+  none_then : (origin : Origin) (s : Tables) (d : Item) (t : Tables) → WithoutMacros s → IsTaken old origin (opened s) d t → WithoutMacros t
+  none_then origin s d t none x = given_without form_keeps_macros old origin s d t none x.given
 
   -- ---- the form that is judged for a datum
 
@@ -140,31 +188,46 @@ module _ (r : ℕ → ℕ) (old new : List (List ℕ)) (w : Renames r old new) (
 
   -- ---- a text
 
-  judges_by : (origin : Origin) (mode : Mode) (s : Tables) (text : List ℕ) (p : Place) (j : Judgement) → Judges old origin mode s text p j →
+  judges_by : (origin : Origin) (mode : Mode) (s : Tables) (text : List ℕ) (p : Place) (j : Judgement) → WithoutMacros s → Judges old origin mode s text p j →
       Judges new origin mode (tables_by r s) text p (judgement_by r j)
-  judges_by origin mode _ _ _ _ (at_end s text p g) = at_end (tables_by r s) text p g
-  judges_by origin mode _ _ _ _ (form_taken s text p d after t j x f rest) =
+  judges_by origin mode _ _ _ _ none (at_end s text p g) = at_end (tables_by r s) text p g
+  judges_by origin mode _ _ _ _ none (form_taken s text p d after t j x f rest) =
       form_taken (tables_by r s) text p (item_by r d) after (tables_by r t) (judgement_by r j) (next_by r old new w table text p d after x)
-      (record { form = item_by r f.form; is_form = judged_form_by mode d after f.form f.is_form; taken = taken_by origin s f.form t f.taken })
-      (judges_by origin mode t after _ j rest)
-  judges_by origin mode _ _ _ _ (form_refused s text p d after y x f) =
+      (record { form = item_by r f.form; is_form = judged_form_by mode d after f.form f.is_form; taken = next_taken origin s f.form t none f.taken })
+      (judges_by origin mode t after _ j (none_then origin s f.form t none f.taken) rest)
+  judges_by origin mode _ _ _ _ none (form_refused s text p d after y x f) =
       form_refused (tables_by r s) text p (item_by r d) after y (next_by r old new w table text p d after x)
-      (record { form = item_by r f.form; is_form = judged_form_by mode d after f.form f.is_form; refused = stopped_by origin s f.form y f.refused })
-  judges_by origin mode _ _ _ _ (text_stops s text p y x) = text_stops (tables_by r s) text p y x
+      (record { form = item_by r f.form; is_form = judged_form_by mode d after f.form f.is_form; refused = next_stopped origin s f.form y none f.refused })
+  judges_by origin mode _ _ _ _ none (text_stops s text p y x) = text_stops (tables_by r s) text p y x
 
   prelude_by : (prelude : List ℕ) (j : Judgement) → BehindPrelude old prelude j → BehindPrelude new prelude (judgement_by r j)
   prelude_by prelude j x = record {
     first = tables_by r x.first;
     is_first = first_from r old new w x.first x.is_first;
-    judges = judges_by Prelude Run x.first prelude (first_place Prelude) j x.judges;
+    judges = judges_by Prelude Run x.first prelude (first_place Prelude) j (first_without old x.first x.is_first) x.judges;
   }
 
   -- ---- a file
+
+  abbrev BehindWithout : Judgement → Type 0
+  BehindWithout (all_taken t) = WithoutMacros t
+  BehindWithout (one_refused x) = Unit {0}
+
+  judges_without : (origin : Origin) (mode : Mode) (s : Tables) (text : List ℕ) (p : Place) (j : Judgement) → WithoutMacros s → Judges old origin mode s text p j →
+      BehindWithout j
+  judges_without origin mode _ _ _ _ none (at_end s text p g) = none
+  judges_without origin mode _ _ _ _ none (form_taken s text p d after t j x f rest) =
+      judges_without origin mode t after _ j (none_then origin s f.form t none f.taken) rest
+  judges_without origin mode _ _ _ _ none (form_refused s text p d after y x f) = tt
+  judges_without origin mode _ _ _ _ none (text_stops s text p y x) = tt
+
+  behind_without : (prelude : List ℕ) (t : Tables) → BehindPrelude old prelude (all_taken t) → WithoutMacros t
+  behind_without prelude t x = judges_without Prelude Run x.first prelude (first_place Prelude) (all_taken t) (first_without old x.first x.is_first) x.judges
 
   pub file_by : (prelude text : List ℕ) (mode : Mode) (v : FileVerdict) → FileIs old prelude text mode v → FileIs new prelude text mode (file_verdict_by r v)
   file_by prelude text mode _ (source_too_long l) = source_too_long l
   file_by prelude text mode _ (prelude_refused x l b) = prelude_refused x l (prelude_by prelude (one_refused x) b)
   file_by prelude text mode _ (file_refused t x l b h) =
-      file_refused (tables_by r t) x l (prelude_by prelude (all_taken t) b) (judges_by File mode t text (first_place File) (one_refused x) h)
+      file_refused (tables_by r t) x l (prelude_by prelude (all_taken t) b) (judges_by File mode t text (first_place File) (one_refused x) (behind_without prelude t b) h)
   file_by prelude text mode _ (file_accepted t u l b h) =
-      file_accepted (tables_by r t) (tables_by r u) l (prelude_by prelude (all_taken t) b) (judges_by File mode t text (first_place File) (all_taken u) h)
+      file_accepted (tables_by r t) (tables_by r u) l (prelude_by prelude (all_taken t) b) (judges_by File mode t text (first_place File) (all_taken u) (behind_without prelude t b) h)

@@ -11,7 +11,7 @@ use Rattle.lang_classes.specs.InheritedClasses.{Hierarchy, class_named, slot_lim
 use Rattle.lang_classes.specs.InheritedBuiltIn.{built_in_own, own_initarg, texts_of, SaysSlots, AreNamed}
 use Rattle.front_profile.specs.declared.tables.ReservedWords.{ReservedWords}
 use Rattle.front_profile.specs.declared.tables.Tables.{Tables}
-use Rattle.front_scope.specs.Scopes.{AreWords, first_tables, AreInitialTables}
+use Rattle.front_scope.specs.Scopes.{AreWords, first_mark, first_tables, AreInitialTables}
 use Rattle.lang_renamed.specs.Renaming.{name_by, names_by, slot_by, slots_by, class_by}
 use Rattle.front_laws.specs.Renaming.{Renames}
 use Rattle.front_laws.proofs.RenamedTables.{hierarchy_by, words_by, tables_by}
@@ -26,6 +26,11 @@ some_got f (Some x) y e = (x, (refl, cc))
 
 got : {X Y : Type 0} (f : X → Y) (xs : List X) (i : ℕ) (y : Y) → slice_get (map f xs) i ≡ Some y → (x : X) × ((slice_get xs i ≡ Some x) × (f x ≡ y))
 got f xs i y e = some_got f (slice_get xs i) y (sym (get_by f xs i) ∙ e)
+
+-- the first tables, with that number of classes
+abbrev with_counts : ReservedWords → Hierarchy → ℕ → Tables
+with_counts words classes n =
+    record (first_tables words classes) { prelude_classes = n; before = record (first_mark classes) { classes = n; prelude_classes = n } }
 
 module _ (r : ℕ → ℕ) (old new : List (List ℕ)) (w : Renames r old new) where
   inherited_from : (rows : List ClassRow) (c : ℕ) (ds : List ℕ) → IsInherited rows c ds → IsInherited (map (class_by r) rows) c ds
@@ -106,5 +111,5 @@ module _ (r : ℕ → ℕ) (old new : List (List ℕ)) (w : Renames r old new) w
     };
     nothing_else =
         ap (tables_by r) x.nothing_else
-        ∙ ap (λ (n : ℕ). record (first_tables (words_by r s.words) (hierarchy_by r s.classes)) { prelude_classes = n }) (sym (length_by (class_by r) s.classes.rows));
+        ∙ ap (λ (n : ℕ). with_counts (words_by r s.words) (hierarchy_by r s.classes) n) (sym (length_by (class_by r) s.classes.rows));
   }

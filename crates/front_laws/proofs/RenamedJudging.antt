@@ -1,4 +1,4 @@
--- What a node comes to, the renamed node comes to, renamed: by induction over the derivation.
+-- What a node comes to where no macro applies, the renamed node comes to, renamed: by induction over the derivation.
 use Rattle.std.specs.Prelude.{◌≡◌, ℕ, zero, suc, ◌+◌, Bool, List, [], ◌∷◌, ◌++◌, Some, None, length, is_some, map, refl}
 use Rattle.std.proofs.Common.{ap, sym, ◌∙◌, subst}
 use Rattle.std.proofs.lemmas.List.{map-append}
@@ -18,9 +18,10 @@ use Rattle.front_profile.specs.Nodes.{StaticContext, Part, form, below, inner, b
 use Rattle.front_profile.specs.RowWords.{deeper}
 use Rattle.front_profile.specs.FunctionNodes.{variables_of, function_parts, function_node}
 use Rattle.front_profile.specs.Rows.{node}
-use Rattle.front_profile.specs.Judged.{with_fresh, with_variable, subject, AllFound, Verdicts, all_stand, one_ended, in_front, made_verdict, Elaborates, offence, step, made, ElaboratesAll, ends, goes, stops}
+use Rattle.front_profile.specs.Judged.{with_fresh, with_variable, subject, AllFound, Verdicts, all_stand, one_ended, in_front, made_verdict, Elaborates, offence, step, expanded, expansion_stops, made, ElaboratesAll, ends, goes, stops}
 use Rattle.lang_renamed.specs.Renaming.{name_by, symbol_by, item_by, form_by, literal_by}
 use Rattle.front_laws.specs.Renaming.{Renames}
+use Rattle.front_laws.proofs.WithoutCalls.{NoneApplies, IsWithoutCalls, node_without, subject_without, none_behind}
 use Rattle.front_laws.proofs.RenamedTables.{bound_by, context_by, tables_by, written_by, part_by, parts_by, made_by, found_by, node_by, end_by, standing_by, verdict_by}
 use Rattle.lang_renamed.proofs.Lists.{both, length_by}
 use Rattle.front_laws.proofs.RenamedTexts.{FindsNames}
@@ -107,32 +108,35 @@ module _ (r : ℕ → ℕ) (old new : List (List ℕ)) (w : Renames r old new) (
       subst P (sym (fresh_by r s)) (step_by r old new w d (length s.fresh) d2 (length s.fresh + n) x)
 
   mutual
-    pub elaborates_by : (x : Node) (v : Verdict) → Elaborates old x v → Elaborates new (node_by r x) (verdict_by r v)
-    elaborates_by _ _ (offence p why) = offence p why
-    elaborates_by _ _ (step a s d d2 n v x e) =
+    pub elaborates_by : (x : Node) (v : Verdict) → Elaborates old x v → IsWithoutCalls x → Elaborates new (node_by r x) (verdict_by r v)
+    elaborates_by _ _ (offence p why) none = offence p why
+    elaborates_by _ _ (step a s d d2 n v x e) none =
         step (context_by r a) (tables_by r s) (item_by r d) (item_by r d2) n (verdict_by r v) (derives_by s d d2 n x)
         (subst (λ t. Elaborates new (node new (context_by r a) t (item_by r d2)) (verdict_by r v)) (sym (with_fresh_by r n s))
-        (subst (λ y. Elaborates new y (verdict_by r v)) (sym (node_by_names r old new w finds a (with_fresh n s) d2)) (elaborates_by (node old a (with_fresh n s) d2) v e)))
-    elaborates_by _ _ (made o i s xs m v e) =
+        (subst (λ y. Elaborates new y (verdict_by r v)) (sym (node_by_names r old new w finds a (with_fresh n s) d2))
+        (elaborates_by (node old a (with_fresh n s) d2) v e (node_without old a (with_fresh n s) d2 none))))
+    elaborates_by _ _ (expanded a s m d e v x c) none = absurd none
+    elaborates_by _ _ (expansion_stops a s m d why x) none = absurd none
+    elaborates_by _ _ (made o i s xs m v e) none =
         subst (Elaborates new (node_by r (whole o i s xs m))) (made_verdict_by m v)
-        (made (context_by r o) (context_by r i) (tables_by r s) (parts_by r xs) (made_by r m) (verdicts_by r v) (all_elaborate_by o i s xs v e))
+        (made (context_by r o) (context_by r i) (tables_by r s) (parts_by r xs) (made_by r m) (verdicts_by r v) (all_elaborate_by o i s xs v e none))
 
-    all_elaborate_by : (o i : StaticContext) (s : Tables) (xs : List Part) (v : Verdicts) → ElaboratesAll old o i s xs v →
+    all_elaborate_by : (o i : StaticContext) (s : Tables) (xs : List Part) (v : Verdicts) → ElaboratesAll old o i s xs v → NoneApplies s →
         ElaboratesAll new (context_by r o) (context_by r i) (tables_by r s) (parts_by r xs) (verdicts_by r v)
-    all_elaborate_by _ _ _ _ _ (ends o i s) = ends (context_by r o) (context_by r i) (tables_by r s)
-    all_elaborate_by _ _ _ _ _ (goes o i s x xs m v e rest) =
+    all_elaborate_by _ _ _ _ _ (ends o i s) none = ends (context_by r o) (context_by r i) (tables_by r s)
+    all_elaborate_by _ _ _ _ _ (goes o i s x xs m v e rest) none =
         subst (ElaboratesAll new (context_by r o) (context_by r i) (tables_by r s) (part_by r x ∷ parts_by r xs))
         (ap (λ y. in_front y (verdicts_by r v)) (recorded_by r s x m.form) ∙ in_front_by r (recorded s x m.form) v)
         (goes (context_by r o) (context_by r i) (tables_by r s) (part_by r x) (parts_by r xs) (standing_by r m) (verdicts_by r v)
-        (subst (λ y. Elaborates new y (stands (standing_by r m))) (sym (subject_by o i s x)) (elaborates_by (subject old o i s x) (stands m) e))
+        (subst (λ y. Elaborates new y (stands (standing_by r m))) (sym (subject_by o i s x)) (elaborates_by (subject old o i s x) (stands m) e (subject_without old o i s x none)))
         (subst (λ j. ElaboratesAll new (context_by r o) j (tables_by r m.tables) (parts_by r xs) (verdicts_by r v)) (sym (behind_by r i s x))
-        (all_elaborate_by o (behind i s x) m.tables xs v rest)))
-    all_elaborate_by _ _ _ _ _ (stops o i s x xs e end) =
+        (all_elaborate_by o (behind i s x) m.tables xs v rest (none_behind old o i s x m e none))))
+    all_elaborate_by _ _ _ _ _ (stops o i s x xs e end) none =
         stops (context_by r o) (context_by r i) (tables_by r s) (part_by r x) (parts_by r xs) (end_by r e)
-        (subst (λ y. Elaborates new y (ended (end_by r e))) (sym (subject_by o i s x)) (elaborates_by (subject old o i s x) (ended e) end))
+        (subst (λ y. Elaborates new y (ended (end_by r e))) (sym (subject_by o i s x)) (elaborates_by (subject old o i s x) (ended e) end (subject_without old o i s x none)))
 
   -- a form where it stands
-  pub form_elaborates_by : (a : StaticContext) (s : Tables) (d : Item) (v : Verdict) → Elaborates old (node old a s d) v →
+  pub form_elaborates_by : (a : StaticContext) (s : Tables) (d : Item) (v : Verdict) → Elaborates old (node old a s d) v → NoneApplies s →
       Elaborates new (node new (context_by r a) (tables_by r s) (item_by r d)) (verdict_by r v)
-  form_elaborates_by a s d v e =
-      subst (λ y. Elaborates new y (verdict_by r v)) (sym (node_by_names r old new w finds a s d)) (elaborates_by (node old a s d) v e)
+  form_elaborates_by a s d v e none =
+      subst (λ y. Elaborates new y (verdict_by r v)) (sym (node_by_names r old new w finds a s d)) (elaborates_by (node old a s d) v e (node_without old a s d none))

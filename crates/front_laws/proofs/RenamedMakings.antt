@@ -22,6 +22,9 @@ use Rattle.lang_dispatch.specs.Methods.{new_row, with_method}
 use Rattle.front_profile.specs.declared.tables.Tables.{Tables}
 use Rattle.front_profile.specs.declared.tables.GlobalRow.{GlobalRow}
 use Rattle.front_profile.specs.declared.tables.DynamicRow.{DynamicRow}
+use Rattle.front_profile.specs.declared.tables.MacroRow.{MacroRow}
+use Rattle.front_profile.specs.declared.elaboration.DefinedAs.{DefinedAs}
+use Rattle.front_profile.specs.declared.elaboration.DefinedAs.TheVariants.{Function, Macro}
 use Rattle.front_profile.specs.declared.elaboration.ElaboratedPart.{ElaboratedPart}
 use Rattle.front_profile.specs.declared.elaboration.ElaboratedPart.TheVariants.{Value, Binding, Parameter}
 use Rattle.front_profile.specs.declared.elaboration.Leaf.{Leaf}
@@ -39,10 +42,10 @@ use Rattle.front_profile.specs.declared.elaboration.NewClass.{NewClass}
 use Rattle.front_profile.specs.declared.elaboration.Elaboration.{Elaboration}
 use Rattle.front_profile.specs.declared.elaboration.Elaboration.TheVariants.{Ready, OfOne, OfTwo, OfBody, InSequence, CallOf, CallOfValue, CallOfLocal, CallOfPrimitive, OfClauses, OfVariables, OfDynamics, OfFunction, OfBlock, OfSegments, OfFunctionNamed, OfProcedure, OfAccessor, OfMethods, OfClass}
 use Rattle.front_profile.specs.declared.elaboration.Made.{Made}
-use Rattle.front_profile.specs.Elaborations.{leaf_form, form_found, variable_found, forms_found, variables_found, bindings_found, body_of, one_of, two_of, make_one, make_two, make_with_body, clause_body, behind_clause, make_clauses, make_segments, make_dynamics, behind_dynamics, rest_found, make_function, elaborate, at_site, made_form, prelude_with, with_procedure, with_callee, with_function, procedure_found, accessor_procedure, with_generic, with_method_at, with_methods, finish_methods, generic_named, accessor_head, arguments_of, with_accessor_in, with_slot_function, with_slot_functions, prelude_count, with_new_class, finish_class, finish_one, finish, finished}
+use Rattle.front_profile.specs.Elaborations.{leaf_form, form_found, variable_found, forms_found, variables_found, bindings_found, body_of, one_of, two_of, make_one, make_two, make_with_body, clause_body, behind_clause, make_clauses, make_segments, make_dynamics, behind_dynamics, rest_found, make_function, elaborate, at_site, made_form, prelude_with, with_procedure, with_callee, with_macro, with_name_of, with_defined, procedure_found, accessor_procedure, with_generic, with_method_at, with_methods, finish_methods, generic_named, accessor_head, arguments_of, with_accessor_in, with_slot_function, with_slot_functions, prelude_count, with_new_class, finish_class, finish_one, finish, finished}
 use Rattle.lang_renamed.specs.Renaming.{name_by, names_by, form_by, forms_by, clauses_by, body_by, bindings_by, dynamics_by, procedure_by, function_by, class_by, generic_by}
 use Rattle.front_laws.specs.Renaming.{Renames}
-use Rattle.front_laws.proofs.RenamedTables.{hierarchy_by, global_by, dynamic_by, tables_by, leaf_by, one_by, taker_by, slot_function_by, new_class_by, making_by, made_by, found_by}
+use Rattle.front_laws.proofs.RenamedTables.{hierarchy_by, global_by, dynamic_by, macro_by, tables_by, leaf_by, one_by, taker_by, slot_function_by, new_class_by, making_by, made_by, found_by}
 use Rattle.lang_renamed.proofs.Walks.{mentions_by}
 use Rattle.lang_renamed.proofs.Lists.{both, length_by, take_by, drop_by, chosen_by}
 use Rattle.front_laws.proofs.RenamedTexts.{FindsNames}
@@ -178,7 +181,7 @@ module _ (r : ℕ → ℕ) where
       ∙ function_made_by n rest ps (variables_found xs) (body_of (forms_found xs))
   elaborate_by (OfBlock x) xs = ap (λ f. block x f) (ap body_of (forms_found_by xs) ∙ body_of_by (forms_found xs))
   elaborate_by (OfSegments x ns) xs = ap (λ fs. tagbody x fs) (ap (make_segments ns) (forms_found_by xs) ∙ make_segments_by ns (forms_found xs))
-  elaborate_by (OfFunctionNamed name n rest of_file l) xs = leaf_form_by l
+  elaborate_by (OfFunctionNamed k name n rest of_file l) xs = leaf_form_by l
   elaborate_by (OfProcedure name n rest) xs = refl
   elaborate_by (OfAccessor name k v l) xs = refl
   elaborate_by (OfMethods t hs p of_file l) xs = leaf_form_by l
@@ -205,11 +208,20 @@ module _ (r : ℕ → ℕ) where
       both (λ (fs : List FunctionRow) (ns : List Name). record (tables_by r s) { functions = fs; prelude = ns }) _ _ _ _
       (sym (map-append (function_by r) s.functions (record { name = n; callee = c } ∷ []))) (prelude_with_by of_file n s.prelude)
 
-  with_function_by : (n : Name) (p : Procedure) (of_file : Bool) (s : Tables) →
-      with_function (name_by r n) (procedure_by r p) of_file (tables_by r s) ≡ tables_by r (with_function n p of_file s)
-  with_function_by n p of_file s =
-      both (λ (i : ℕ) t. with_callee (name_by r n) (callee.Procedure i) of_file t) _ _ _ _ (length_by (procedure_by r) s.procedures) (with_procedure_by p s)
-      ∙ with_callee_by n (callee.Procedure (length s.procedures)) of_file (with_procedure p s)
+  with_macro_by : (m : MacroRow) (of_file : Bool) (s : Tables) → with_macro (macro_by r m) of_file (tables_by r s) ≡ tables_by r (with_macro m of_file s)
+  with_macro_by m of_file s =
+      both (λ (ms : List MacroRow) (ns : List Name). record (tables_by r s) { macros = ms; prelude = ns }) _ _ _ _
+      (sym (map-append (macro_by r) s.macros (m ∷ []))) (prelude_with_by of_file m.name s.prelude)
+
+  with_name_of_by : (k : DefinedAs) (n : Name) (i : ℕ) (of_file : Bool) (s : Tables) → with_name_of k (name_by r n) i of_file (tables_by r s) ≡ tables_by r (with_name_of k n i of_file s)
+  with_name_of_by Function n i of_file s = with_callee_by n (callee.Procedure i) of_file s
+  with_name_of_by Macro n i of_file s = with_macro_by (record { name = n; procedure = i }) of_file s
+
+  with_defined_by : (k : DefinedAs) (n : Name) (p : Procedure) (of_file : Bool) (s : Tables) →
+      with_defined k (name_by r n) (procedure_by r p) of_file (tables_by r s) ≡ tables_by r (with_defined k n p of_file s)
+  with_defined_by k n p of_file s =
+      both (λ (i : ℕ) t. with_name_of k (name_by r n) i of_file t) _ _ _ _ (length_by (procedure_by r) s.procedures) (with_procedure_by p s)
+      ∙ with_name_of_by k n (length s.procedures) of_file (with_procedure p s)
 
   procedure_found_by : (name : Option Name) (n : ℕ) (rest : Bool) (xs : List ElaboratedPart) →
       procedure_found (option_map (name_by r) name) n rest (map (found_by r) xs) ≡ procedure_by r (procedure_found name n rest xs)
@@ -296,8 +308,9 @@ module _ (r : ℕ → ℕ) (old new : List (List ℕ)) (w : Renames r old new) (
 
   finish_by : (m : Elaboration) (xs : List ElaboratedPart) (s : Tables) → finish (making_by r m) (map (found_by r) xs) (tables_by r s) ≡ tables_by r (finish m xs s)
   finish_by (OfOne k) xs s = finish_one_by r k s
-  finish_by (OfFunctionNamed name n rest of_file l) xs s =
-      ap (λ p. with_function (name_by r name) p of_file (tables_by r s)) (procedure_found_by r (Some name) n rest xs) ∙ with_function_by r name (procedure_found (Some name) n rest xs) of_file s
+  finish_by (OfFunctionNamed k name n rest of_file l) xs s =
+      ap (λ p. with_defined k (name_by r name) p of_file (tables_by r s)) (procedure_found_by r (Some name) n rest xs)
+      ∙ with_defined_by r k name (procedure_found (Some name) n rest xs) of_file s
   finish_by (OfProcedure name n rest) xs s =
       ap (λ p. with_procedure p (tables_by r s)) (procedure_found_by r name n rest xs) ∙ with_procedure_by r (procedure_found name n rest xs) s
   finish_by (OfAccessor name k v l) xs s = ap (λ p. with_procedure p (tables_by r s)) (accessor_by r name k v l) ∙ with_procedure_by r (accessor_procedure name k v l) s

@@ -1,12 +1,12 @@
 -- Each datum is where it stands what the renamed datum is there: the renamed node.
-use Rattle.std.specs.Prelude.{◌≡◌, ℕ, true, false, List, [], ◌∷◌, Option, Some, None, length, is_some, map, option_map, codes, refl}
+use Rattle.std.specs.Prelude.{◌≡◌, ℕ, ◌+◌, nat_le, true, false, List, [], ◌∷◌, Option, Some, None, length, is_some, map, take, option_map, codes, refl}
 use Rattle.std.proofs.Common.{ap, ◌∙◌}
 use Rattle.base.specs.declared.place.Place.{Place}
 use Rattle.base.specs.declared.datum.Symbol.{Symbol}
 use Rattle.base.specs.declared.datum.Symbol.TheVariants.{Named, Fresh}
-use Rattle.base.specs.declared.reason.Reason.TheVariants.{NotAForm, LeftOut, UnknownClass}
+use Rattle.base.specs.declared.reason.Reason.TheVariants.{NotAForm, LeftOut, UnknownClass, TooManyExpansions, ExpansionDepth}
 use Rattle.base.specs.declared.reason.Refusal.{Refusal}
-use Rattle.base.specs.Data.{Item, item, integer, character, symbol, string, vector, nil, list, items_list, Tail, no_tail, dotted}
+use Rattle.base.specs.Data.{Item, item, integer, character, symbol, string, vector, nil, list, items_list, Tail, no_tail, dotted, place_of}
 use Rattle.base.specs.DataNames.{symbol_text}
 use Rattle.lang_meaning.specs.declared.program.LiteralRow.TheVariants as row
 use Rattle.lang_meaning.specs.declared.primitive.Primitive.{Primitive}
@@ -14,32 +14,34 @@ use Rattle.lang_meaning.specs.declared.kinds.OverTwo.TheVariants.{Apply, While, 
 use Rattle.lang_derived.specs.Asked.{list_items}
 use Rattle.lang_derived.specs.Derived.{Derivation, plain, unfit, becomes, derivation}
 use Rattle.front_profile.specs.declared.elaboration.Leaf.TheVariants.{NextMethod, HasNext}
+use Rattle.front_profile.specs.declared.elaboration.DefinedAs.TheVariants.{Function}
 use Rattle.front_profile.specs.declared.elaboration.Elaboration.TheVariants.{OfTwo, CallOfValue}
 use Rattle.front_profile.specs.declared.special.Special.{Special}
 use Rattle.front_profile.specs.declared.special.Special.TheVariants as name
 use Rattle.front_profile.specs.declared.tables.Tables.{Tables}
+use Rattle.front_profile.specs.declared.tables.MacroRow.{MacroRow}
 use Rattle.base.specs.declared.datum.Name.{Name}
 use Rattle.front_profile.specs.Primitives.{primitive_called}
 use Rattle.front_profile.specs.Words.{is_left_out}
 use Rattle.front_profile.specs.Names.{function_of}
-use Rattle.front_profile.specs.Nodes.{StaticContext, Node, offends}
+use Rattle.front_profile.specs.Nodes.{StaticContext, Node, offends, calls}
 use Rattle.front_profile.specs.Shapes.{symbol_of}
 use Rattle.front_profile.specs.RowWords.{bad_shape}
 use Rattle.front_profile.specs.BindingRows.{with_functions_row}
 use Rattle.front_profile.specs.DefiningRows.{defun_row}
 use Rattle.front_profile.specs.CallRows.{all_parts, named_making, is_value_call, is_pair_call, call_making, named_call}
-use Rattle.front_profile.specs.Rows.{kept_text, reserved_text, first_reserved, first_kept, some_kept, functions_kept, special_row, special_node, without_dot, call_symbol, call_as, special_of, headed_as, is_lambda_name, is_lambda_items, is_lambda, headed_by_form, headed_by, list_node, plain_node, class_offence, class_refusal, class_in_front, unless_refused, derived_as, node}
+use Rattle.front_profile.specs.Rows.{kept_text, reserved_text, first_reserved, first_kept, some_kept, functions_kept, special_row, special_node, without_dot, call_symbol, call_as, special_of, headed_as, is_lambda_name, is_lambda_items, is_lambda, headed_by_form, headed_by, list_node, plain_node, class_offence, class_refusal, class_in_front, unless_refused, macro_named, macro_of_symbol, macro_of_items, macro_called, most_expansions, most_in_row, called_as, called_or, derived_as, node}
 use Rattle.lang_renamed.specs.Renaming.{name_by, symbol_by, item_by, tail_by}
 use Rattle.front_laws.specs.Renaming.{Renames}
-use Rattle.front_laws.proofs.RenamedTables.{data_by, context_by, tables_by, making_by, node_by}
-use Rattle.lang_renamed.proofs.Lists.{both, if_by, if_same, any_by, length_by}
+use Rattle.front_laws.proofs.RenamedTables.{data_by, macro_by, context_by, tables_by, making_by, node_by}
+use Rattle.lang_renamed.proofs.Lists.{both, if_by, if_same, or_same, any_by, length_by, take_by}
 use Rattle.front_laws.proofs.RenamedData.{place_by, symbol_of_by, list_items_by, listed_by, symbol_text_by, text_of_by, word_by}
 use Rattle.front_laws.proofs.RenamedSteps.{derivation_by, derivation_same}
 use Rattle.front_laws.proofs.RenamedTexts.{FindsNames}
 use Rattle.front_laws.proofs.RenamedShapes.{function_of_by}
 use Rattle.front_laws.proofs.RenamedNodes.{literal_node_by}
 use Rattle.front_laws.proofs.RenamedForms.{symbol_node_by, quote_by, setq_by, progn_by, cond_by, two_by, body_row_by, dynamic_row_by, set_dynamic_by, function_row_by, method_row_by, class_named_by, class_row_by, block_by, return_from_by, tagbody_by, go_by, all_parts_by, local_call_by}
-use Rattle.front_laws.proofs.RenamedBinders.{let_by, dynamic_let_by, lambda_by, with_functions_by, global_row_by, defdynamic_by, defun_by}
+use Rattle.front_laws.proofs.RenamedBinders.{that_by, let_by, dynamic_let_by, lambda_by, with_functions_by, global_row_by, defdynamic_by, defun_by}
 use Rattle.front_laws.proofs.RenamedMethods.{defgeneric_by, defmethod_by}
 use Rattle.front_laws.proofs.RenamedClasses.{defclass_by}
 
@@ -96,7 +98,7 @@ module _ (r : ℕ → ℕ) (old new : List (List ℕ)) (w : Renames r old new) (
   special_by name.Defconstant a s p ds = global_row_by r old new w true a s p ds
   special_by name.Defdynamic a s p ds = defdynamic_by r old new w a s p ds
   special_by name.Defun a s p ds =
-      ap (λ kept. defun_row kept (context_by r a) (tables_by r s) p (data_by r ds)) (first_reserved_by ds) ∙ defun_by r old new w (first_reserved old ds) a s p ds
+      ap (λ kept. defun_row Function kept (context_by r a) (tables_by r s) p (data_by r ds)) (first_reserved_by ds) ∙ defun_by r old new w Function (first_reserved old ds) a s p ds
   special_by name.Defmacro a s p ds = refl
   special_by name.Defclass a s p ds = defclass_by r old new w table a s p ds
   special_by name.Defgeneric a s p ds = defgeneric_by r old new w table a s p ds
@@ -215,9 +217,48 @@ module _ (r : ℕ → ℕ) (old new : List (List ℕ)) (w : Renames r old new) (
   unless_refused_by None x y e = e
   unless_refused_by (Some z) x y e = refl
 
+  -- ---- calls of macros
+
+  macro_named_by : (ms : List MacroRow) (n : Name) → macro_named (map (macro_by r) ms) (name_by r n) ≡ macro_named ms n
+  macro_named_by [] n = refl
+  macro_named_by (m ∷ ms) n = if_same _ _ _ _ _ _ (that_by r old new w n m.name) refl (ap (option_map (λ (i : ℕ). i + 1)) (macro_named_by ms n))
+
+  macro_symbol_by : (a : StaticContext) (s : Tables) (x : Option Symbol) →
+      macro_of_symbol new (context_by r a) (tables_by r s) (option_map (symbol_by r) x) ≡ macro_of_symbol old a s x
+  macro_symbol_by a s None = refl
+  macro_symbol_by a s (Some (Fresh e serial)) = refl
+  macro_symbol_by a s (Some (Named n)) =
+      if_same _ _ None _ None _
+      (or_same _ _ _ _ (ap (λ text. is_some (special_of text)) (symbol_text_by r old new w (Named n))) (ap (λ (o : Option ℕ). is_some o) (function_of_by r old new w a.bound (Named n))))
+      refl
+      (ap (λ ms. macro_named ms (name_by r n)) (take_by (macro_by r) s.before.macros s.macros) ∙ macro_named_by (take s.before.macros s.macros) n)
+
+  macro_items_by : (a : StaticContext) (s : Tables) (ds : Option (List Item)) →
+      macro_of_items new (context_by r a) (tables_by r s) (option_map (data_by r) ds) ≡ macro_of_items old a s ds
+  macro_items_by a s None = refl
+  macro_items_by a s (Some []) = refl
+  macro_items_by a s (Some (h ∷ ds)) = ap (macro_of_symbol new (context_by r a) (tables_by r s)) (symbol_of_by r h) ∙ macro_symbol_by a s (symbol_of h)
+
+  macro_called_by : (a : StaticContext) (s : Tables) (d : Item) → macro_called new (context_by r a) (tables_by r s) (item_by r d) ≡ macro_called old a s d
+  macro_called_by a s d = ap (macro_of_items new (context_by r a) (tables_by r s)) (list_items_by r d) ∙ macro_items_by a s (list_items d)
+
+  called_as_by : (m : ℕ) (a : StaticContext) (s : Tables) (d : Item) → called_as m (context_by r a) (tables_by r s) (item_by r d) ≡ node_by r (called_as m a s d)
+  called_as_by m a s d =
+      if_by (node_by r) (nat_le most_expansions s.expansions) (nat_le most_expansions s.expansions) _ _ (offends (place_of d) TooManyExpansions) _ refl
+      (ap (λ p. offends p TooManyExpansions) (place_by r d))
+      (if_by (node_by r) (nat_le most_in_row a.spot.in_row) (nat_le most_in_row a.spot.in_row) _ _ (offends (place_of d) ExpansionDepth) (calls a s m d) refl
+      (ap (λ p. offends p ExpansionDepth) (place_by r d)) refl)
+
+  called_or_by : (o : Option ℕ) (a : StaticContext) (s : Tables) (d : Item) (x y : Node) → x ≡ node_by r y →
+      called_or o (context_by r a) (tables_by r s) (item_by r d) x ≡ node_by r (called_or o a s d y)
+  called_or_by None a s d x y e = e
+  called_or_by (Some m) a s d x y e = called_as_by m a s d
+
   derived_by : (x : Derivation) (a : StaticContext) (s : Tables) (d : Item) →
       derived_as new (derivation_by r x) (context_by r a) (tables_by r s) (item_by r d) ≡ node_by r (derived_as old x a s d)
-  derived_by plain a s d = plain_by a s d
+  derived_by plain a s d =
+      ap (λ o. called_or o (context_by r a) (tables_by r s) (item_by r d) (plain_node new (context_by r a) (tables_by r s) (item_by r d))) (macro_called_by a s d)
+      ∙ called_or_by (macro_called old a s d) a s d _ (plain_node old a s d) (plain_by a s d)
   derived_by unfit a s d = ap (λ p. bad_shape p) (place_by r d)
   derived_by (becomes x) a s d = refl
 

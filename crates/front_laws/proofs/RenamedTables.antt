@@ -9,6 +9,7 @@ use Rattle.front_profile.specs.declared.parameters.Parameters.{Parameters}
 use Rattle.front_profile.specs.declared.tables.ReservedWords.{ReservedWords}
 use Rattle.front_profile.specs.declared.tables.GlobalRow.{GlobalRow}
 use Rattle.front_profile.specs.declared.tables.DynamicRow.{DynamicRow}
+use Rattle.front_profile.specs.declared.tables.MacroRow.{MacroRow}
 use Rattle.front_profile.specs.declared.tables.Tables.{Tables}
 use Rattle.front_profile.specs.declared.elaboration.Leaf.{Leaf}
 use Rattle.front_profile.specs.declared.elaboration.Leaf.TheVariants as leaf
@@ -24,7 +25,7 @@ use Rattle.front_profile.specs.declared.elaboration.Elaboration.TheVariants.{Rea
 use Rattle.front_profile.specs.declared.elaboration.Made.{Made}
 use Rattle.front_profile.specs.declared.elaboration.ElaboratedPart.{ElaboratedPart}
 use Rattle.front_profile.specs.declared.elaboration.ElaboratedPart.TheVariants as found
-use Rattle.front_profile.specs.Nodes.{StaticContext, Part, form, below, inner, bind, parameter, wrong, function, Written, initform, accessor, method, Node, offends, unnamed, steps, whole, EarlyEnd, refused, wants_expansion, Standing, Verdict, stands, ended}
+use Rattle.front_profile.specs.Nodes.{StaticContext, Part, form, below, inner, bind, parameter, wrong, function, Written, initform, accessor, method, Node, offends, unnamed, steps, calls, whole, EarlyEnd, refused, Standing, Verdict, stands, ended}
 use Rattle.lang_renamed.specs.Renaming.{name_by, names_by, symbol_by, item_by, form_by, literal_by, procedure_by, function_by, slots_by, class_by, generic_by}
 
 module _ (r : ℕ → ℕ) where
@@ -45,12 +46,16 @@ module _ (r : ℕ → ℕ) where
   abbrev pub dynamic_by : DynamicRow → DynamicRow
   dynamic_by v = record { name = name_by r v.name; of_file = v.of_file }
 
+  abbrev pub macro_by : MacroRow → MacroRow
+  macro_by m = record { name = name_by r m.name; procedure = m.procedure }
+
   abbrev pub tables_by : Tables → Tables
   tables_by s = record {
     words = words_by s.words;
     literals = map (literal_by r) s.literals;
     procedures = map (procedure_by r) s.procedures;
     functions = map (function_by r) s.functions;
+    macros = map macro_by s.macros;
     prelude = names_by r s.prelude;
     classes = hierarchy_by s.classes;
     prelude_classes = s.prelude_classes;
@@ -63,6 +68,8 @@ module _ (r : ℕ → ℕ) where
     variables = s.variables;
     exits = s.exits;
     main = map (form_by r) s.main;
+    expansions = s.expansions;
+    before = s.before;
   }
 
   -- ---- what is judged, and what it comes to
@@ -150,7 +157,7 @@ module _ (r : ℕ → ℕ) where
   making_by (OfFunction n rest parts) = OfFunction n rest parts
   making_by (OfBlock x) = OfBlock x
   making_by (OfSegments x ns) = OfSegments x ns
-  making_by (OfFunctionNamed name n rest of_file l) = OfFunctionNamed (name_by r name) n rest of_file (leaf_by l)
+  making_by (OfFunctionNamed k name n rest of_file l) = OfFunctionNamed k (name_by r name) n rest of_file (leaf_by l)
   making_by (OfProcedure name n rest) = OfProcedure (option_map (name_by r) name) n rest
   making_by (OfAccessor name k v l) = OfAccessor (name_by r name) k v l
   making_by (OfMethods t hs p of_file l) = OfMethods (taker_by t) hs p of_file (leaf_by l)
@@ -168,11 +175,11 @@ module _ (r : ℕ → ℕ) where
   node_by (offends p why) = offends p why
   node_by unnamed = unnamed
   node_by (steps a s d) = steps (context_by a) (tables_by s) (item_by r d)
+  node_by (calls a s m d) = calls (context_by a) (tables_by s) m (item_by r d)
   node_by (whole o i s xs m) = whole (context_by o) (context_by i) (tables_by s) (parts_by xs) (made_by m)
 
   abbrev pub end_by : EarlyEnd → EarlyEnd
   end_by (refused p why) = refused p why
-  end_by (wants_expansion d) = wants_expansion (item_by r d)
 
   abbrev pub standing_by : Standing → Standing
   standing_by m = record { form = form_by r m.form; tables = tables_by m.tables }

@@ -1,5 +1,5 @@
 -- Whatever a datum is where it stands, it offends at a place of the datum, and so are the places of its parts.
-use Rattle.std.specs.Prelude.{ℕ, Bool, true, false, List, [], ◌∷◌, Option, Some, None, if◌then◌else◌, length, codes}
+use Rattle.std.specs.Prelude.{ℕ, nat_le, Bool, true, false, List, [], ◌∷◌, Option, Some, None, if◌then◌else◌, length, codes}
 use Rattle.base.specs.declared.place.Place.{Place}
 use Rattle.base.specs.declared.datum.Symbol.{Symbol}
 use Rattle.base.specs.declared.datum.Symbol.TheVariants.{Named, Fresh}
@@ -12,6 +12,7 @@ use Rattle.lang_meaning.specs.declared.kinds.OverTwo.TheVariants.{Apply, While, 
 use Rattle.lang_derived.specs.Asked.{list_items, is_word}
 use Rattle.lang_derived.specs.Derived.{Derivation, plain, unfit, becomes, derivation}
 use Rattle.front_profile.specs.declared.elaboration.Leaf.TheVariants.{NextMethod, HasNext}
+use Rattle.front_profile.specs.declared.elaboration.DefinedAs.TheVariants.{Function}
 use Rattle.front_profile.specs.declared.elaboration.Elaboration.TheVariants.{CallOfValue}
 use Rattle.front_profile.specs.declared.special.Special.{Special}
 use Rattle.front_profile.specs.declared.special.Special.TheVariants as name
@@ -21,7 +22,7 @@ use Rattle.front_profile.specs.Names.{function_of}
 use Rattle.front_profile.specs.Nodes.{StaticContext, Node}
 use Rattle.front_profile.specs.Shapes.{symbol_of}
 use Rattle.front_profile.specs.CallRows.{call_making}
-use Rattle.front_profile.specs.Rows.{first_reserved, functions_kept, special_row, special_node, without_dot, call_symbol, call_as, special_of, headed_as, is_lambda, headed_by_form, headed_by, list_node, plain_node, class_offence, class_refusal, class_in_front, unless_refused, derived_as, node}
+use Rattle.front_profile.specs.Rows.{first_reserved, functions_kept, special_row, special_node, without_dot, call_symbol, call_as, special_of, headed_as, is_lambda, headed_by_form, headed_by, list_node, plain_node, class_offence, class_refusal, class_in_front, unless_refused, macro_called, most_expansions, most_in_row, called_as, called_or, derived_as, node}
 use Rattle.front_laws.proofs.AllPlaces.{AllPlaces}
 use Rattle.front_laws.proofs.Parts.{its_place, items_all, MaybeAll, list_all_places}
 use Rattle.front_laws.proofs.Nodes.{PlacesOfNode, either, a_literal}
@@ -60,7 +61,7 @@ module _ (P : Place → Type 0) where
   special_in names name.Defglobal a s p ds q g = global_in P false a s p ds q g
   special_in names name.Defconstant a s p ds q g = global_in P true a s p ds q g
   special_in names name.Defdynamic a s p ds q g = defdynamic_in P a s p ds q g
-  special_in names name.Defun a s p ds q g = defun_in P (first_reserved names ds) a s p ds q g
+  special_in names name.Defun a s p ds q g = defun_in P Function (first_reserved names ds) a s p ds q g
   special_in names name.Defmacro a s p ds q g = q
   special_in names name.Defclass a s p ds q g = defclass_in P names a s p ds q g
   special_in names name.Defgeneric a s p ds q g = defgeneric_in P names a s p ds q g
@@ -147,8 +148,18 @@ module _ (P : Place → Type 0) where
   unless_refused_in None x q g = g
   unless_refused_in (Some r) x q g = q
 
+  -- a call of a macro, which is there for what it expands to
+
+  called_as_in : (m : ℕ) (a : StaticContext) (s : Tables) (d : Item) → AllPlaces P d → PlacesOfNode P (called_as m a s d)
+  called_as_in m a s d g =
+      either P (nat_le most_expansions s.expansions) _ _ (its_place P d g) (either P (nat_le most_in_row a.spot.in_row) _ _ (its_place P d g) g)
+
+  called_or_in : (m : Option ℕ) (a : StaticContext) (s : Tables) (d : Item) (x : Node) → AllPlaces P d → PlacesOfNode P x → PlacesOfNode P (called_or m a s d x)
+  called_or_in None a s d x g h = h
+  called_or_in (Some m) a s d x g h = called_as_in m a s d g
+
   derived_in : (names : List (List ℕ)) (r : Derivation) (a : StaticContext) (s : Tables) (d : Item) → AllPlaces P d → PlacesOfNode P (derived_as names r a s d)
-  derived_in names plain a s d g = plain_in names a s d g
+  derived_in names plain a s d g = called_or_in (macro_called names a s d) a s d (plain_node names a s d) g (plain_in names a s d g)
   derived_in names unfit a s d g = its_place P d g
   derived_in names (becomes r) a s d g = g
 

@@ -8,6 +8,7 @@ use Rattle.lang_derived.specs.Derived.{derivation}
 use Rattle.lang_derived.specs.Table.{is_derived, table, conditional_rows, binding_rows, case_rows, case_using_rows, loop_rows, place_rows, function_rows, condition_rows, class_rows, quotation_rows}
 use Rattle.lang_meaning.specs.Form.{sequence, no_form}
 use Rattle.front_profile.specs.declared.tables.Tables.{Tables}
+use Rattle.front_profile.specs.Cuts.{opened}
 use Rattle.front_profile.specs.Nodes.{stands}
 use Rattle.front_profile.specs.Rows.{node}
 use Rattle.front_reader.specs.Characters.{is_blank, is_token, folded, digit_value, place_after}
@@ -62,7 +63,7 @@ reads_second = next library_names nowhere (10 ∷ []) second_definition [] refl 
 -- what it comes to
 
 abbrev found_first : Tables
-found_first = record first {
+found_first = record (opened first) {
   procedures = take 1 library_procedures;
   functions = take 1 library_functions;
   prelude = name 43 ∷ [];
@@ -70,18 +71,18 @@ found_first = record first {
 }
 
 abbrev pub behind_library : Tables
-behind_library = record first {
+behind_library = record (opened found_first) {
   procedures = library_procedures;
   functions = library_functions;
   prelude = name 43 ∷ name 46 ∷ [];
   variables = 2;
 }
 
-first_found : ComesByTest library_names (top Prelude) first first_datum (stands (record { form = sequence no_form; tables = found_first }))
+first_found : ComesByTest library_names (top Prelude) (opened first) first_datum (stands (record { form = sequence no_form; tables = found_first }))
 unfolding node derivation number_in folded is_derived table conditional_rows binding_rows case_rows case_using_rows loop_rows place_rows function_rows condition_rows class_rows quotation_rows place_after behind behind_all
 first_found more = refl
 
-second_found : ComesByTest library_names (top Prelude) found_first second_datum (stands (record { form = sequence no_form; tables = behind_library }))
+second_found : ComesByTest library_names (top Prelude) (opened found_first) second_datum (stands (record { form = sequence no_form; tables = behind_library }))
 unfolding node derivation number_in folded is_derived table conditional_rows binding_rows case_rows case_using_rows loop_rows place_rows function_rows condition_rows class_rows quotation_rows place_after behind behind_all
 second_found more = refl
 

@@ -9,6 +9,7 @@ use Rattle.lang_derived.specs.Table.{is_derived, table, conditional_rows, bindin
 use Rattle.lang_meaning.specs.Form.{literal}
 use Rattle.lang_meaning.specs.Meaning.{meaning, mean, meaning_at}
 use Rattle.front_profile.specs.declared.tables.Tables.{Tables}
+use Rattle.front_profile.specs.Cuts.{opened}
 use Rattle.front_profile.specs.Nodes.{stands}
 use Rattle.front_profile.specs.Rows.{node}
 use Rattle.front_reader.specs.Characters.{is_blank, is_token, folded, digit_value, place_after}
@@ -76,7 +77,7 @@ reads_call = next program_names (at 5 44) (10 ∷ []) calling [] refl refl refl
 -- what it comes to
 
 abbrev found_definition : Tables
-found_definition = record first {
+found_definition = record (opened first) {
   literals = take 2 program_literals;
   procedures = program_procedures;
   functions = program_functions;
@@ -89,13 +90,13 @@ abbrev tables_behind : Tables
 tables_behind = with_main File (literal 0) found_definition
 
 abbrev found_call : Tables
-found_call = record tables_behind { literals = program_literals; sites = program.sites }
+found_call = record (opened tables_behind) { literals = program_literals; sites = program.sites }
 
-definition_found : ComesByTest program_names (top File) first the_definition (stands (record { form = literal 0; tables = found_definition }))
+definition_found : ComesByTest program_names (top File) (opened first) the_definition (stands (record { form = literal 0; tables = found_definition }))
 unfolding node derivation number_in folded is_derived table conditional_rows binding_rows case_rows case_using_rows loop_rows place_rows function_rows condition_rows class_rows quotation_rows place_after behind behind_all
 definition_found more = refl
 
-call_found : ComesByTest program_names (top File) tables_behind the_call (stands (record { form = program_call; tables = found_call }))
+call_found : ComesByTest program_names (top File) (opened tables_behind) the_call (stands (record { form = program_call; tables = found_call }))
 unfolding node derivation number_in folded magnitude digit_value is_derived table conditional_rows binding_rows case_rows case_using_rows loop_rows place_rows function_rows condition_rows class_rows quotation_rows place_after behind behind_all
 call_found more = refl
 

@@ -8,6 +8,7 @@ use Rattle.lang_derived.specs.Table.{is_derived, table, conditional_rows, bindin
 use Rattle.lang_meaning.specs.declared.program.Procedure.{Procedure}
 use Rattle.lang_meaning.specs.Form.{literal, local}
 use Rattle.front_profile.specs.declared.tables.Tables.{Tables}
+use Rattle.front_profile.specs.Cuts.{opened}
 use Rattle.front_profile.specs.Nodes.{stands, ended, refused}
 use Rattle.front_profile.specs.Rows.{node}
 use Rattle.front_reader.specs.Characters.{is_blank, is_token, folded, digit_value, place_after}
@@ -63,7 +64,7 @@ abbrev procedure : Procedure
 procedure = record { name = Some (name 43); required = 0 ∷ []; rest = None; body = body (local 0 ∷ []) }
 
 abbrev found_definition : Tables
-found_definition = record first {
+found_definition = record (opened first) {
   literals = a_symbol (at 1 8) 43 ∷ [];
   procedures = procedure ∷ [];
   functions = a_function 43 0 ∷ [];
@@ -73,11 +74,11 @@ found_definition = record first {
 abbrev tables_behind : Tables
 tables_behind = with_main File (literal 0) found_definition
 
-definition_found : ComesByTest names (top File) first the_definition (stands (record { form = literal 0; tables = found_definition }))
+definition_found : ComesByTest names (top File) (opened first) the_definition (stands (record { form = literal 0; tables = found_definition }))
 unfolding node derivation number_in folded is_derived table conditional_rows binding_rows case_rows case_using_rows loop_rows place_rows function_rows condition_rows class_rows quotation_rows place_after behind behind_all
 definition_found more = refl
 
-call_found : ComesByTest names (top File) tables_behind the_call (ended (refused (at 2 4) UnknownBlock))
+call_found : ComesByTest names (top File) (opened tables_behind) the_call (ended (refused (at 2 4) UnknownBlock))
 unfolding node derivation number_in folded magnitude digit_value is_derived table conditional_rows binding_rows case_rows case_using_rows loop_rows place_rows function_rows condition_rows class_rows quotation_rows place_after behind behind_all
 call_found more = refl
 
@@ -111,7 +112,7 @@ reads_defining : ReadsNext library_names library_name_text (at 1 1) the_defining
 unfolding is_blank is_token digit_value is_float spelled folded number_in
 reads_defining = next library_names (at 1 1) [] defining [] refl refl refl
 
-defining_found : ComesByTest library_names (top File) behind_library the_defining (ended (refused (at 1 1) ReservedName))
+defining_found : ComesByTest library_names (top File) (opened behind_library) the_defining (ended (refused (at 1 1) ReservedName))
 unfolding node derivation number_in folded is_derived table conditional_rows binding_rows case_rows case_using_rows loop_rows place_rows function_rows condition_rows class_rows quotation_rows place_after behind behind_all
 defining_found more = refl
 

@@ -3,7 +3,7 @@ use Rattle.std.proofs.Common.{◌≡◌, ℕ, zero, suc, List, [], ◌∷◌, Op
 use Rattle.front_profile.specs.declared.elaboration.ElaboratedPart.{ElaboratedPart}
 use Rattle.front_profile.specs.declared.elaboration.Made.{Made}
 use Rattle.front_profile.specs.declared.tables.Tables.{Tables}
-use Rattle.front_profile.specs.Nodes.{StaticContext, Part, Node, offends, unnamed, steps, whole, refused, Standing, Verdict, stands, ended, behind, recorded}
+use Rattle.front_profile.specs.Nodes.{StaticContext, Part, Node, offends, unnamed, steps, calls, whole, refused, Standing, Verdict, stands, ended, behind, recorded}
 use Rattle.front_profile.specs.Judged.{subject, Verdicts, all_stand, one_ended, in_front, made_verdict, Elaborates, offence, made, ElaboratesAll, ends, goes, stops}
 
 abbrev pub made_from : Made → Option Verdicts → Option Verdict
@@ -19,13 +19,14 @@ go_on more None = None
 go_on more (Some (ended e)) = Some (one_ended e)
 go_on more (Some (stands m)) = more m
 
--- none where it is a derived form, and where the levels do not suffice
+-- none where it is a derived form or a call of a macro, and where the levels do not suffice
 abbrev mutual
   pub comes_to : ℕ → List (List ℕ) → Node → Option Verdict
   comes_to zero names x = None
   comes_to (suc n) names (offends p r) = Some (ended (refused p r))
   comes_to (suc n) names unnamed = None
   comes_to (suc n) names (steps a s d) = None
+  comes_to (suc n) names (calls a s m d) = None
   comes_to (suc n) names (whole o i s xs m) = made_from m (all_come_to n names o i s xs)
 
   pub all_come_to : ℕ → List (List ℕ) → StaticContext → StaticContext → Tables → List Part → Option Verdicts
@@ -69,6 +70,7 @@ mutual
       let e : ended (refused p r) ≡ v = cc in subst (λ u. Elaborates names (offends p r) u) e (offence p r)
   comes (suc n) names unnamed v h = absurd (cc)
   comes (suc n) names (steps a s d) v h = absurd (cc)
+  comes (suc n) names (calls a s m d) v h = absurd (cc)
   comes (suc n) names (whole o i s xs m) v h =
       whole_comes names o i s xs m v (all_come_to n names o i s xs) (λ w e. all_come n names o i s xs w e) h
 

@@ -6,6 +6,7 @@ use Rattle.base.specs.declared.reason.Reason.{Reason}
 use Rattle.base.specs.Data.{Item}
 use Rattle.lang_meaning.specs.Form.{Form}
 use Rattle.front_profile.specs.declared.tables.Tables.{Tables}
+use Rattle.front_profile.specs.Cuts.{opened}
 use Rattle.front_profile.specs.Nodes.{StaticContext, refused, Verdict, stands, ended}
 use Rattle.front_profile.specs.Rows.{node}
 use Rattle.front_profile.specs.Judged.{Elaborates}
@@ -27,23 +28,23 @@ form_comes names a s d v found = record {
 }
 
 pub taken : (names : List (List ℕ)) (origin : Origin) (s : Tables) (d : Item) (after : List ℕ) (f : Form) (t : Tables) →
-    ComesByTest names (top origin) s d (stands (record { form = f; tables = t })) →
+    ComesByTest names (top origin) (opened s) d (stands (record { form = f; tables = t })) →
     nat_le (nodes_of (with_main origin f t)) most_nodes ≡ true → nat_le (cells_of (with_main origin f t)) most_cells ≡ true →
     FormTaken names origin Run s d after (with_main origin f t)
 taken names origin s d after f t found small few = record {
   form = d;
   is_form = runs d after;
   taken = record {
-    given = record { form = f; found = t; comes = form_comes names (top origin) s d _ found; now = refl };
+    given = record { form = f; found = t; comes = form_comes names (top origin) (opened s) d _ found; now = refl };
     small = leb-true (nodes_of (with_main origin f t)) most_nodes small;
     few = leb-true (cells_of (with_main origin f t)) most_cells few;
   };
 }
 
 pub is_refused : (names : List (List ℕ)) (origin : Origin) (s : Tables) (d : Item) (after : List ℕ) (p : Place) (r : Reason) →
-    ComesByTest names (top origin) s d (ended (refused p r)) → FormRefused names origin Run s d after (record { place = p; reason = r })
+    ComesByTest names (top origin) (opened s) d (ended (refused p r)) → FormRefused names origin Run s d after (record { place = p; reason = r })
 is_refused names origin s d after p r found = record {
   form = d;
   is_form = runs d after;
-  refused = inl (form_comes names (top origin) s d _ found);
+  refused = inl (form_comes names (top origin) (opened s) d _ found);
 }
